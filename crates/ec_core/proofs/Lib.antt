@@ -1,0 +1,6 @@
+pub mod Answering
+pub mod Places
+pub mod Stepping
+pub mod Totals
+pub mod Moments
+pub mod Silences

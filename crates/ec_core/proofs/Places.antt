@@ -1,0 +1,69 @@
+-- Elements by place, after a write at one place.
+use Rattle.std.proofs.Common.{◌≡◌, ◌≢◌, ℕ, zero, suc, ◌<◌, true, false, ◌&&◌, List, [], ◌∷◌, length, Option, Some, None, refl, ap, sym, ◌∙◌, arith, cond, slice_get, slice_set, ◌==◌}
+use Rattle.std.specs.Option.{option_map, option_map_or, option_and_then}
+use Rattle.std.proofs.lemmas.Bool.{eqb-true, eqb-false}
+use Rattle.std.proofs.lemmas.Option.{slice_get_within}
+use Rattle.ec_count.specs.Counted.{Counted}
+use Rattle.ec_core.specs.Fields.{changed_at}
+use Rattle.ec_core.specs.Standing.{count_at}
+
+get_same : {X : Type 0} (xs : List X) (i : ℕ) (y : X) → i < length xs → slice_get (slice_set xs i y) i ≡ Some y
+get_same [] i y h = absurd (omega arith)
+get_same (x ∷ xs) zero y h = refl
+get_same (x ∷ xs) (suc i) y h = get_same xs i y (omega arith)
+
+get_other : {X : Type 0} (xs : List X) (i j : ℕ) (y : X) → i ≢ j → slice_get (slice_set xs i y) j ≡ slice_get xs j
+get_other [] i j y h = refl
+get_other (x ∷ xs) zero zero y h = absurd (h refl)
+get_other (x ∷ xs) zero (suc j) y h = refl
+get_other (x ∷ xs) (suc i) zero y h = refl
+get_other (x ∷ xs) (suc i) (suc j) y h = get_other xs i j y (λ e. h (ap suc e))
+
+-- what stands at j after a write at i
+pub get_set : {X : Type 0} (xs : List X) (i j : ℕ) (y : X) → i < length xs → slice_get (slice_set xs i y) j ≡ cond (i == j) (Some y) (slice_get xs j)
+get_set xs i j y h =
+    elim (i == j) as (λ b. (i == j) ≡ b → slice_get (slice_set xs i y) j ≡ cond b (Some y) (slice_get xs j)) [
+      | true ↦ λ e. (let same : i ≡ j = eqb-true i j e in ap (λ k. slice_get (slice_set xs i y) k) (sym same) ∙ get_same xs i y h)
+      | false ↦ λ e. get_other xs i j y (eqb-false i j e)
+    ] refl
+
+-- what stands at j after a change at i
+pub get_changed : {X : Type 0} (f : X → X) (xs : List X) (i j : ℕ) → slice_get (changed_at f xs i) j ≡ cond (i == j) (option_map f (slice_get xs j)) (slice_get xs j)
+get_changed {X} f xs i j =
+    elim (slice_get xs i) as (λ o. slice_get xs i ≡ o → slice_get (option_map_or (λ x. slice_set xs i (f x)) o xs) j ≡ cond (i == j) (option_map f (slice_get xs j)) (slice_get xs j)) [
+      | None ↦ λ e.
+          (elim (i == j) as (λ b. (i == j) ≡ b → slice_get xs j ≡ cond b (option_map f (slice_get xs j)) (slice_get xs j)) [
+            | true ↦ λ t. (let same : i ≡ j = eqb-true i j t in
+                let none : slice_get xs j ≡ None = ap (slice_get xs) (sym same) ∙ e in
+                none ∙ sym (ap (option_map f) none))
+            | false ↦ λ t. refl
+          ] refl)
+      | Some x ↦ λ e.
+          (get_set xs i j (f x) (slice_get_within xs i x e)
+          ∙ (elim (i == j) as (λ b. (i == j) ≡ b → cond b (Some (f x)) (slice_get xs j) ≡ cond b (option_map f (slice_get xs j)) (slice_get xs j)) [
+            | true ↦ λ t. (let same : i ≡ j = eqb-true i j t in
+                let some : slice_get xs j ≡ Some x = ap (slice_get xs) (sym same) ∙ e in
+                sym (ap (option_map f) some))
+            | false ↦ λ t. refl
+          ] refl))
+    ] refl
+
+inner : (f : Counted → Counted) (o : Option (List Counted)) (c d : ℕ)
+    → option_and_then (λ (row : List Counted). slice_get row d) (option_map (λ row. changed_at f row c) o)
+    ≡ cond (c == d) (option_map f (option_and_then (λ (row : List Counted). slice_get row d) o)) (option_and_then (λ (row : List Counted). slice_get row d) o)
+inner f None c d =
+    let none : Option Counted = None in
+    elim (c == d) as (λ b. none ≡ cond b none none) [ true ↦ refl | false ↦ refl ]
+inner f (Some row) c d = get_changed f row c d
+
+-- the count at (p, q) after a change at (e, c)
+pub count_changed : (f : Counted → Counted) (counts : List (List Counted)) (e c p q : ℕ)
+    → count_at (changed_at (λ row. changed_at f row c) counts e) p q
+    ≡ cond ((e == p) && (c == q)) (option_map f (count_at counts p q)) (count_at counts p q)
+count_changed f counts e c p q =
+    ap (option_and_then (λ (row : List Counted). slice_get row q)) (get_changed (λ row. changed_at f row c) counts e p)
+    ∙ (elim (e == p) as (λ b. option_and_then (λ (row : List Counted). slice_get row q) (cond b (option_map (λ row. changed_at f row c) (slice_get counts p)) (slice_get counts p))
+    ≡ cond (b && (c == q)) (option_map f (count_at counts p q)) (count_at counts p q)) [
+      | true ↦ inner f (slice_get counts p) c q
+      | false ↦ refl
+    ])

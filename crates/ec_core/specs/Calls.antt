@@ -1,0 +1,35 @@
+-- Calls under way. A worker's entries are cut, in order, into calls: a read or an await goes on with that
+-- worker's following goes, up to its first entry whose reply is not Pending; every other act is a call of one entry.
+use Rattle.std.specs.Prelude.{ℕ, Bool, true, false, ◌==◌, List, [], ◌∷◌, Option, Some, None, if◌then◌else◌}
+use Rattle.ec_core.specs.declared.act.Act.{Act}
+use Rattle.ec_core.specs.declared.act.Act.TheVariants.{Advance, Read, Await, Go, Ticket, Put, Get}
+use Rattle.ec_core.specs.declared.act.Reply.{Reply}
+use Rattle.ec_core.specs.declared.act.Reply.TheVariants.{Done, Number, Pending}
+use Rattle.ec_core.specs.declared.act.Entry.{Entry}
+
+abbrev pub is_pending : Reply → Bool
+is_pending Pending = true
+is_pending _ = false
+
+abbrev pub is_go : Act → Bool
+is_go Go = true
+is_go _ = false
+
+-- a call so far: the act that began it, and the past of each of its entries, the newest first
+pub record CallSoFar : Type 0 where
+  pub op : Act
+  pub moments : List (List Entry)
+
+-- the call after an act at the end of a past: a go goes on with the call, and any other act begins one
+abbrev pub gone_on : Act → List Entry → Option CallSoFar → Option CallSoFar
+gone_on Go past None = None
+gone_on Go past (Some call) = Some (record { op = call.op; moments = past ∷ call.moments })
+gone_on act past call = Some (record { op = act; moments = past ∷ [] })
+
+-- the call of w that is under way after a past: none where its latest entry was told more than Pending
+unfoldable pub under_way : ℕ → List Entry → Option CallSoFar
+under_way w [] = None
+under_way w (x ∷ past) =
+    if x.worker == w
+    then (if is_pending x.reply then gone_on x.act past (under_way w past) else None)
+    else under_way w past

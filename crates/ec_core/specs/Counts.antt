@@ -1,0 +1,63 @@
+-- The counts of a history. A past is the list of the entries before a moment, the newest first, so that each
+-- entry stands before its own past: the past at moment k is the first k entries, turned round. (Reed and
+-- Kanodia: the value of an eventcount is the number of its advances.)
+use Rattle.std.specs.Prelude.{ℕ, ◌+◌, Bool, true, false, ◌==◌, ◌&&◌, List, [], ◌∷◌, zero, suc, reverse, take, Option, Some, None, if◌then◌else◌, unwrap_or}
+use Rattle.ec_count.specs.Tables.{Tables, signallers}
+use Rattle.ec_count.specs.Members.{place_of}
+use Rattle.ec_core.specs.declared.act.Act.{Act}
+use Rattle.ec_core.specs.declared.act.Act.TheVariants.{Advance, Read, Await, Go, Ticket, Put, Get}
+use Rattle.ec_core.specs.declared.act.Entry.{Entry}
+
+-- the past at moment k of a history, which is in natural order
+abbrev pub past_at : ℕ → List Entry → List Entry
+past_at k h = reverse (take k h)
+
+abbrev pub is_advance : ℕ → Act → Bool
+is_advance e (Advance f) = f == e
+is_advance e _ = false
+
+abbrev pub is_ticket : ℕ → Act → Bool
+is_ticket q (Ticket r) = r == q
+is_ticket q _ = false
+
+-- the total of e: its advances
+unfoldable pub total : ℕ → List Entry → ℕ
+total e [] = 0
+total e (x ∷ past) = (if is_advance e x.act then 1 else 0) + total e past
+
+-- the signallers of e at the end of a past, in order of component: those that were declared
+abbrev pub signallers_at : Tables → ℕ → List Entry → List ℕ
+signallers_at t e past = signallers t e
+
+-- the component of e that w signals then
+abbrev pub component_at : Tables → ℕ → List Entry → ℕ → Option ℕ
+component_at t e past w = place_of w (signallers_at t e past)
+
+abbrev pub is_place : ℕ → Option ℕ → Bool
+is_place c None = false
+is_place c (Some d) = d == c
+
+-- component c of e: the advances of e made by the signaller of c at their own moment
+unfoldable pub component_total : Tables → ℕ → ℕ → List Entry → ℕ
+component_total t e c [] = 0
+component_total t e c (x ∷ past) = (if is_advance e x.act && is_place c (component_at t e past x.worker) then 1 else 0) + component_total t e c past
+
+-- the tickets of q that were drawn
+unfoldable pub issued : ℕ → List Entry → ℕ
+issued q [] = 0
+issued q (x ∷ past) = (if is_ticket q x.act then 1 else 0) + issued q past
+
+-- the value that an act puts into cell x
+abbrev pub put_in : ℕ → Act → Option ℕ
+put_in x (Put y v) = if y == x then Some v else None
+put_in x _ = None
+
+-- the value last put into cell x; 0 where there is none
+unfoldable pub cell_value : ℕ → List Entry → ℕ
+cell_value x [] = 0
+cell_value x (y ∷ past) = unwrap_or (put_in x y.act) (cell_value x past)
+
+-- f 0 + .. + f (n - 1)
+unfoldable pub sum_to : (ℕ → ℕ) → ℕ → ℕ
+sum_to f zero = 0
+sum_to f (suc n) = f n + sum_to f n

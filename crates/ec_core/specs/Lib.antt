@@ -1,0 +1,10 @@
+pub mod Counts
+pub mod Calls
+pub mod Rounds
+pub mod Acceptance
+pub mod Silence
+pub mod Progress
+pub mod Standing
+pub mod Fields
+pub mod Recorded
+pub mod Faults

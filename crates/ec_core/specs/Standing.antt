@@ -1,0 +1,49 @@
+-- What a world is, as a contract sees it, and which histories it stands for.
+use Rattle.std.specs.Prelude.{◌≡◌, ℕ, ◌+◌, ◌<◌, Bool, false, ◌==◌, nat_le, List, Option, Some, None, is_some, if◌then◌else◌, slice_get, slice_set, slice_index, Result, reverse, unwrap_or}
+use Rattle.std.specs.Option.{option_map, option_map_or, option_and_then}
+use Rattle.ec_count.specs.Tables.{Tables, component_of, IsDeclared}
+use Rattle.ec_count.specs.Counted.{Counted, raised}
+use Rattle.ec_core.specs.declared.act.Act.{Act}
+use Rattle.ec_core.specs.declared.act.Act.TheVariants.{Advance, Read, Await, Go, Ticket, Put, Get}
+use Rattle.ec_core.specs.declared.act.Reply.{Reply}
+use Rattle.ec_core.specs.declared.act.Reply.TheVariants.{Done, Number, Pending}
+use Rattle.ec_core.specs.declared.act.Entry.{Entry}
+use Rattle.ec_core.specs.declared.act.Refusal.{Refusal}
+use Rattle.ec_core.specs.Progress.{Progress}
+use Rattle.ec_core.specs.Counts.{component_total, issued, cell_value}
+use Rattle.ec_core.specs.Calls.{CallSoFar, under_way}
+use Rattle.ec_core.specs.Rounds.{event_or, width, sum_read, next_component, round_reply}
+use Rattle.ec_core.specs.Acceptance.{IsAccepted, refused_or, refusal_in, has_right}
+
+pub record State : Type 0 where
+  pub setup : Tables
+  pub counts : List (List Counted)
+  pub issued : List Counted
+  pub cells : List ℕ
+  pub calls : List (Option Progress)
+
+abbrev pub count_at : List (List Counted) → ℕ → ℕ → Option Counted
+count_at counts e c = option_and_then (λ (row : List Counted). slice_get row c) (slice_get counts e)
+
+-- what is kept of a call under way
+abbrev pub shown : Tables → CallSoFar → Progress
+shown t call =
+    let e = event_or call.op in
+    let c = next_component t e call.moments in
+    record { op = call.op; index = c; sum = sum_read t e c call.moments }
+
+abbrev pub progress_of : Tables → ℕ → List Entry → Option Progress
+progress_of t w past = option_map (shown t) (under_way w past)
+
+-- the state is that after a past
+pub record Stands (s : State) (past : List Entry) : Type 0 where
+  pub declared : IsDeclared s.setup
+  pub accepted : IsAccepted s.setup past
+  pub counts : (e c : ℕ) → e < 32 → c < 16 → count_at s.counts e c ≡ Some (record { value = component_total s.setup e c past; limit = s.setup.limit })
+  pub issued : (q : ℕ) → q < 32 → slice_get s.issued q ≡ Some (record { value = issued q past; limit = s.setup.limit })
+  pub cells : (x : ℕ) → x < 256 → slice_get s.cells x ≡ Some (cell_value x past)
+  pub calls : (w : ℕ) → w < 16 → slice_get s.calls w ≡ Some (progress_of s.setup w past)
+
+-- the state is that after a history
+abbrev pub StandsFor : State → List Entry → Type 0
+StandsFor s h = Stands s (reverse h)
