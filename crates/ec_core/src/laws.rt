@@ -1,12 +1,14 @@
 //! What the definitions mean, in order of time: each function says a law and does nothing.
 ghost use Rattle.ec_core.specs.Laws.{TotalsCountAdvances, ComponentsCountAdvances, IssuedCountsTickets, CellsHoldTheLastPut, ComponentsAddUp, TotalsRiseByOne, CountsKeepTheLimit, RoundsLieBetween, RoundsOfCallsLieBetween, BeginningsAreAccepted, EntriesAreAnswers, NumbersAreSmall, OthersStand};
 
-/// The total of an eventcount at a moment is the number of its advances before it (Reed and Kanodia's value).
+/// The total of an eventcount at a moment is the number of its advances before it (Reed and
+/// Kanodia's value).
 pub fn totals_count_advances()
     ensures { TotalsCountAdvances }
 {}
 
-/// A component is the number of advances before the moment that were made by its signaller at their own moments.
+/// A component is the number of advances before the moment that were made by its signaller at their
+/// own moments.
 pub fn components_count_advances()
     ensures { ComponentsCountAdvances }
 {}
@@ -36,14 +38,14 @@ pub fn counts_keep_the_limit()
     ensures { CountsKeepTheLimit }
 {}
 
-/// The sum of components read one after another is at least the total before the first of the readings and at most the
-/// total after the last.
+/// The sum of components read one after another is at least the total before the first of the
+/// readings and at most the total after the last.
 pub fn rounds_lie_between()
     ensures { RoundsLieBetween }
 {}
 
-/// The same of a round of a read or await: its sum is at least the total at the round's start and at most the total at
-/// its last entry.
+/// The same of a round of a read or await: its sum is at least the total at the round's start and
+/// at most the total at its last entry.
 pub fn rounds_of_calls_lie_between()
     ensures { RoundsOfCallsLieBetween }
 {}
@@ -63,7 +65,8 @@ pub fn numbers_are_small()
     ensures { NumbersAreSmall }
 {}
 
-/// An accepted history without some silent workers is accepted, and what the others were told stands as it was.
+/// An accepted history without some silent workers is accepted, and what the others were told
+/// stands as it was.
 pub fn others_stand()
     ensures { OthersStand }
 {}
