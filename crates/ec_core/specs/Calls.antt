@@ -2,9 +2,9 @@
 -- worker's following goes, up to its first entry whose reply is not Pending; every other act is a call of one entry.
 use Rattle.std.specs.Prelude.{ℕ, Bool, true, false, ◌==◌, List, [], ◌∷◌, Option, Some, None, if◌then◌else◌}
 use Rattle.ec_core.specs.declared.act.Act.{Act}
-use Rattle.ec_core.specs.declared.act.Act.TheVariants.{Advance, Read, Await, Go, Ticket, Put, Get}
+use Rattle.ec_core.specs.declared.act.Act.TheVariants.{Go}
 use Rattle.ec_core.specs.declared.act.Reply.{Reply}
-use Rattle.ec_core.specs.declared.act.Reply.TheVariants.{Done, Number, Pending}
+use Rattle.ec_core.specs.declared.act.Reply.TheVariants.{Pending}
 use Rattle.ec_core.specs.declared.act.Entry.{Entry}
 
 abbrev pub is_pending : Reply → Bool
@@ -33,3 +33,7 @@ under_way w (x ∷ past) =
     if x.worker == w
     then (if is_pending x.reply then gone_on x.act past (under_way w past) else None)
     else under_way w past
+
+-- the call so far that an entry at the end of a past belongs to, with this entry
+abbrev pub call_with : Entry → List Entry → Option CallSoFar
+call_with x past = gone_on x.act past (under_way x.worker past)
