@@ -1,7 +1,8 @@
 //! A table of bytes in front of a writer.
-ghost use Rattle.std.specs.Prelude.{◌≡◌, ◌∷◌, [], Option, List, ℕ, false, OnOk, OnErr, MatchBool, decimal, ◌++◌};
+ghost use Rattle.std.specs.Prelude.{◌≡◌, ◌∷◌, [], Option, List, ℕ, false, OnOk, OnErr, IsTrue, decimal};
+ghost use Rattle.std.specs.List.{flat_map};
 ghost use Rattle.std.specs.Io.KnownBytes.{Appends};
-ghost use Rattle.ec_text.specs.Puts.{Puts, HasWritten, HasWrittenPrefix, nothing_held, with_bytes};
+ghost use Rattle.ec_text.specs.Puts.{Puts, AppendsPrefix, nothing_held};
 
 use crate::digits::decimal;
 use crate::writing::{WriteFault, write_out};
@@ -42,16 +43,16 @@ impl Buffered {
         self.failed
     }
 
-    /// Takes the bytes in, where there is room for all of them.
-    fn hold(&mut self, bytes: &[u8]) -> bool
-        ensures { MatchBool result (self.new ≡ with_bytes self.old bytes.now) (self.new ≡ self.old) }
+    /// Takes the bytes in where there is room for all of them, and lets them go after a failure: else they must be written.
+    fn take_in(&mut self, bytes: &[u8]) -> bool
+        ensures puts { IsTrue result → (now : Option (List ℕ)) → Puts now self.old now self.new bytes.now }
+        ensures full { result ≡ false → (self.new ≡ self.old) × (self.old.failed ≡ false) }
     {
-        self.bytes.try_extend_from_slice(bytes).is_ok()
+        self.failed || self.bytes.try_extend_from_slice(bytes).is_ok()
     }
 }
 
 /// Writes what is held, and holds nothing then. A failure shows at `finish`.
-#[tactic(auto, using(crate::proofs::PutLemmas::puts_flushed))]
 pub fn flush<W: Write>(writer: &mut W, buffered: &mut Buffered)
     ensures puts { Puts (W.contents writer.old) buffered.old (W.contents writer.new) buffered.new [] }
     ensures empty { buffered.new.failed ≡ false → buffered.new ≡ nothing_held }
@@ -69,11 +70,11 @@ pub fn flush<W: Write>(writer: &mut W, buffered: &mut Buffered)
 pub fn put<W: Write>(writer: &mut W, buffered: &mut Buffered, bytes: &[u8])
     ensures { Puts (W.contents writer.old) buffered.old (W.contents writer.new) buffered.new bytes.now }
 {
-    if buffered.has_failed() || buffered.hold(bytes) {
+    if buffered.take_in(bytes) {
         return;
     }
     flush(writer, buffered);
-    if buffered.has_failed() || buffered.hold(bytes) {
+    if buffered.take_in(bytes) {
         return;
     }
     put_long(writer, buffered, bytes);
@@ -106,8 +107,8 @@ pub fn put_number<W: Write>(writer: &mut W, buffered: &mut Buffered, n: u64)
 
 /// Writes what is held, and says whether all that was put stands in the writer: after an error a front of it does.
 pub fn finish<W: Write>(writer: &mut W, buffered: Buffered) -> Result<(), WriteFault>
-    ensures ok { OnOk result (HasWritten (W.contents writer.old) buffered (W.contents writer.new)) }
-    ensures err { OnErr result (HasWrittenPrefix (W.contents writer.old) buffered (W.contents writer.new)) }
+    ensures ok { (start : Option (List ℕ)) (all : List ℕ) → Puts start nothing_held (W.contents writer.old) buffered all → OnOk result (Appends start (W.contents writer.new) all) }
+    ensures err { (start : Option (List ℕ)) (all : List ℕ) → Puts start nothing_held (W.contents writer.old) buffered all → OnErr result (AppendsPrefix start (W.contents writer.new) all) }
 {
     let mut buffered = buffered;
     flush(writer, &mut buffered);
@@ -115,5 +116,14 @@ pub fn finish<W: Write>(writer: &mut W, buffered: Buffered) -> Result<(), WriteF
         Err(WriteFault)
     } else {
         Ok(())
+    }
+}
+
+/// Puts pieces, one behind the other.
+pub fn put_all<W: Write>(writer: &mut W, buffered: &mut Buffered, pieces: &[&[u8]])
+    ensures { Puts (W.contents writer.old) buffered.old (W.contents writer.new) buffered.new (flat_map (λ p. p.now) pieces.now) }
+{
+    for piece in pieces {
+        put(writer, buffered, piece);
     }
 }
