@@ -1,8 +1,8 @@
 //! A table of bytes in front of a writer.
-ghost use Rattle.std.specs.Prelude.{◌≡◌, ◌∷◌, [], Option, List, ℕ, false, OnOk, OnErr, IsTrue, decimal};
+ghost use Rattle.std.specs.Prelude.{◌≡◌, ◌∷◌, [], Option, List, ℕ, false, IsOk, IsErr, OnOk, OnErr, IsTrue, decimal, length, ◌+◌, ◌≤◌, true};
 ghost use Rattle.std.specs.List.{flat_map};
 ghost use Rattle.std.specs.Io.KnownBytes.{Appends};
-ghost use Rattle.ec_text.specs.Puts.{Puts, AppendsPrefix, nothing_held};
+ghost use Rattle.ec_text.specs.Puts.{Puts, with_bytes, AppendsPrefix, nothing_held};
 
 use crate::digits::decimal;
 use crate::writing::{WriteFault, write_out};
@@ -47,6 +47,9 @@ impl Buffered {
     fn take_in(&mut self, bytes: &[u8]) -> bool
         ensures puts { IsTrue result → (now : Option (List ℕ)) → Puts now self.old now self.new bytes.now }
         ensures full { result ≡ false → (self.new ≡ self.old) × (self.old.failed ≡ false) }
+        ensures stays { self.old.failed ≡ true → (result ≡ true) × (self.new ≡ self.old) }
+        ensures room { self.old.failed ≡ false → length self.old.bytes + length bytes.now ≤ 8192
+            → (result ≡ true) × (self.new ≡ with_bytes self.old bytes.now) }
     {
         self.failed || self.bytes.try_extend_from_slice(bytes).is_ok()
     }
@@ -56,6 +59,8 @@ impl Buffered {
 pub fn flush<W: Write>(writer: &mut W, buffered: &mut Buffered)
     ensures puts { Puts (W.contents writer.old) buffered.old (W.contents writer.new) buffered.new [] }
     ensures empty { buffered.new.failed ≡ false → buffered.new ≡ nothing_held }
+    ensures nothing { buffered.old ≡ nothing_held → (writer.new ≡ writer.old) × (buffered.new ≡ nothing_held) }
+    ensures stays { buffered.old.failed ≡ true → (writer.new ≡ writer.old) × (buffered.new ≡ buffered.old) }
 {
     if buffered.failed {
         return;
@@ -68,7 +73,10 @@ pub fn flush<W: Write>(writer: &mut W, buffered: &mut Buffered)
 /// Puts bytes behind those that are held. A failure shows at `finish`.
 #[tactic(auto, using(crate::proofs::PutLemmas::puts_after_flush))]
 pub fn put<W: Write>(writer: &mut W, buffered: &mut Buffered, bytes: &[u8])
-    ensures { Puts (W.contents writer.old) buffered.old (W.contents writer.new) buffered.new bytes.now }
+    ensures puts { Puts (W.contents writer.old) buffered.old (W.contents writer.new) buffered.new bytes.now }
+    ensures room { buffered.old.failed ≡ false → length buffered.old.bytes + length bytes.now ≤ 8192
+        → (writer.new ≡ writer.old) × (buffered.new ≡ with_bytes buffered.old bytes.now) }
+    ensures stays { buffered.old.failed ≡ true → (writer.new ≡ writer.old) × (buffered.new ≡ buffered.old) }
 {
     if buffered.take_in(bytes) {
         return;
@@ -92,14 +100,20 @@ fn put_long<W: Write>(writer: &mut W, buffered: &mut Buffered, bytes: &[u8])
 
 /// Puts one byte.
 pub fn put_byte<W: Write>(writer: &mut W, buffered: &mut Buffered, byte: u8)
-    ensures { Puts (W.contents writer.old) buffered.old (W.contents writer.new) buffered.new (byte ∷ []) }
+    ensures puts { Puts (W.contents writer.old) buffered.old (W.contents writer.new) buffered.new (byte ∷ []) }
+    ensures room { buffered.old.failed ≡ false → length buffered.old.bytes + 1 ≤ 8192
+        → (writer.new ≡ writer.old) × (buffered.new ≡ with_bytes buffered.old (byte ∷ [])) }
+    ensures stays { buffered.old.failed ≡ true → (writer.new ≡ writer.old) × (buffered.new ≡ buffered.old) }
 {
     put(writer, buffered, &[byte]);
 }
 
 /// Puts the decimal digits of a number.
 pub fn put_number<W: Write>(writer: &mut W, buffered: &mut Buffered, n: u64)
-    ensures { Puts (W.contents writer.old) buffered.old (W.contents writer.new) buffered.new (decimal n) }
+    ensures puts { Puts (W.contents writer.old) buffered.old (W.contents writer.new) buffered.new (decimal n) }
+    ensures room { buffered.old.failed ≡ false → length buffered.old.bytes + length (decimal n) ≤ 8192
+        → (writer.new ≡ writer.old) × (buffered.new ≡ with_bytes buffered.old (decimal n)) }
+    ensures stays { buffered.old.failed ≡ true → (writer.new ≡ writer.old) × (buffered.new ≡ buffered.old) }
 {
     let digits = decimal(n);
     put(writer, buffered, digits.as_slice());
@@ -109,6 +123,8 @@ pub fn put_number<W: Write>(writer: &mut W, buffered: &mut Buffered, n: u64)
 pub fn finish<W: Write>(writer: &mut W, buffered: Buffered) -> Result<(), WriteFault>
     ensures ok { (start : Option (List ℕ)) (all : List ℕ) → Puts start nothing_held (W.contents writer.old) buffered all → OnOk result (Appends start (W.contents writer.new) all) }
     ensures err { (start : Option (List ℕ)) (all : List ℕ) → Puts start nothing_held (W.contents writer.old) buffered all → OnErr result (AppendsPrefix start (W.contents writer.new) all) }
+    ensures nothing { buffered ≡ nothing_held → IsOk result × (writer.new ≡ writer.old) }
+    ensures failed { buffered.failed ≡ true → IsErr result × (writer.new ≡ writer.old) }
 {
     let mut buffered = buffered;
     flush(writer, &mut buffered);
@@ -121,7 +137,10 @@ pub fn finish<W: Write>(writer: &mut W, buffered: Buffered) -> Result<(), WriteF
 
 /// Puts pieces, one behind the other.
 pub fn put_all<W: Write>(writer: &mut W, buffered: &mut Buffered, pieces: &[&[u8]])
-    ensures { Puts (W.contents writer.old) buffered.old (W.contents writer.new) buffered.new (flat_map (λ p. p.now) pieces.now) }
+    ensures puts { Puts (W.contents writer.old) buffered.old (W.contents writer.new) buffered.new (flat_map (λ p. p.now) pieces.now) }
+    ensures room { buffered.old.failed ≡ false → length buffered.old.bytes + length (flat_map (λ p. p.now) pieces.now) ≤ 8192
+        → (writer.new ≡ writer.old) × (buffered.new ≡ with_bytes buffered.old (flat_map (λ p. p.now) pieces.now)) }
+    ensures stays { buffered.old.failed ≡ true → (writer.new ≡ writer.old) × (buffered.new ≡ buffered.old) }
 {
     for piece in pieces {
         put(writer, buffered, piece);
