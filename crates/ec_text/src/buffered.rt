@@ -10,7 +10,11 @@ use arrayvec::ArrayVec;
 use std::io::Write;
 use std::marker::Model;
 
-/// At most 8192 bytes that wait for their writer, and whether a write has failed. After a failed or empty write nothing more is written.
+/// At most 8192 bytes that wait for their writer, and whether a write has failed.
+///
+/// After a write that failed or took no byte nothing more is written, so that what the writer has is a front of what was put.
+/// A caller makes a table, puts, and ends with `finish`: the clauses `puts` of the calls between add up by themselves, up to
+/// about five in one function.
 #[derive(Drop)]
 pub struct Buffered {
     bytes: ArrayVec<u8, 8192>,
@@ -51,11 +55,19 @@ impl Buffered {
         ensures room { self.old.failed ≡ false → length self.old.bytes + length bytes.now ≤ 8192
             → (result ≡ true) × (self.new ≡ with_bytes self.old bytes.now) }
     {
-        self.failed || self.bytes.try_extend_from_slice(bytes).is_ok()
+        self.has_failed() || self.bytes.try_extend_from_slice(bytes).is_ok()
     }
 }
 
-/// Writes what is held, and holds nothing then. A failure shows at `finish`.
+impl Default for Buffered {
+    ghost is_default = { λ b. b ≡ nothing_held };
+
+    fn default() -> Self {
+        Buffered::new()
+    }
+}
+
+/// Writes what is held, and holds nothing then. It doesn't call the writer's own `flush`. A failure shows at `finish`.
 pub fn flush<W: Write>(writer: &mut W, buffered: &mut Buffered)
     ensures puts { Puts (W.contents writer.old) buffered.old (W.contents writer.new) buffered.new [] }
     ensures empty { buffered.new.failed ≡ false → buffered.new ≡ nothing_held }
@@ -94,8 +106,7 @@ fn put_long<W: Write>(writer: &mut W, buffered: &mut Buffered, bytes: &[u8])
     requires { buffered.old ≡ nothing_held }
     ensures { Puts (W.contents writer.old) buffered.old (W.contents writer.new) buffered.new bytes.now }
 {
-    let done = write_out(writer, bytes);
-    buffered.failed = done.is_err();
+    buffered.failed = write_out(writer, bytes).is_err();
 }
 
 /// Puts one byte.
@@ -119,10 +130,26 @@ pub fn put_number<W: Write>(writer: &mut W, buffered: &mut Buffered, n: u64)
     put(writer, buffered, digits.as_slice());
 }
 
-/// Writes what is held, and says whether all that was put stands in the writer: after an error a front of it does.
+/// Puts pieces, one behind the other.
+pub fn put_all<W: Write>(writer: &mut W, buffered: &mut Buffered, pieces: &[&[u8]])
+    ensures puts { Puts (W.contents writer.old) buffered.old (W.contents writer.new) buffered.new
+        (flat_map (λ p. p.now) pieces.now) }
+    ensures room { buffered.old.failed ≡ false
+        → length buffered.old.bytes + length (flat_map (λ p. p.now) pieces.now) ≤ 8192
+        → (writer.new ≡ writer.old) × (buffered.new ≡ with_bytes buffered.old (flat_map (λ p. p.now) pieces.now)) }
+    ensures stays { buffered.old.failed ≡ true → (writer.new ≡ writer.old) × (buffered.new ≡ buffered.old) }
+{
+    for piece in pieces {
+        put(writer, buffered, piece);
+    }
+}
+
+/// Writes what is held. With `Ok` all that was put since the table was made stands in the writer, with an error a front of it.
 pub fn finish<W: Write>(writer: &mut W, buffered: Buffered) -> Result<(), WriteFault>
-    ensures ok { (start : Option (List ℕ)) (all : List ℕ) → Puts start nothing_held (W.contents writer.old) buffered all → OnOk result (Appends start (W.contents writer.new) all) }
-    ensures err { (start : Option (List ℕ)) (all : List ℕ) → Puts start nothing_held (W.contents writer.old) buffered all → OnErr result (AppendsPrefix start (W.contents writer.new) all) }
+    ensures ok { (start : Option (List ℕ)) (all : List ℕ) → Puts start nothing_held (W.contents writer.old) buffered all
+        → OnOk result (Appends start (W.contents writer.new) all) }
+    ensures err { (start : Option (List ℕ)) (all : List ℕ) → Puts start nothing_held (W.contents writer.old) buffered all
+        → OnErr result (AppendsPrefix start (W.contents writer.new) all) }
     ensures nothing { buffered ≡ nothing_held → IsOk result × (writer.new ≡ writer.old) }
     ensures failed { buffered.failed ≡ true → IsErr result × (writer.new ≡ writer.old) }
 {
@@ -132,17 +159,5 @@ pub fn finish<W: Write>(writer: &mut W, buffered: Buffered) -> Result<(), WriteF
         Err(WriteFault)
     } else {
         Ok(())
-    }
-}
-
-/// Puts pieces, one behind the other.
-pub fn put_all<W: Write>(writer: &mut W, buffered: &mut Buffered, pieces: &[&[u8]])
-    ensures puts { Puts (W.contents writer.old) buffered.old (W.contents writer.new) buffered.new (flat_map (λ p. p.now) pieces.now) }
-    ensures room { buffered.old.failed ≡ false → length buffered.old.bytes + length (flat_map (λ p. p.now) pieces.now) ≤ 8192
-        → (writer.new ≡ writer.old) × (buffered.new ≡ with_bytes buffered.old (flat_map (λ p. p.now) pieces.now)) }
-    ensures stays { buffered.old.failed ≡ true → (writer.new ≡ writer.old) × (buffered.new ≡ buffered.old) }
-{
-    for piece in pieces {
-        put(writer, buffered, piece);
     }
 }
