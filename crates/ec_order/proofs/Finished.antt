@@ -181,30 +181,41 @@ parts_alone t whole c k p q in_p in_q at_p at_q same =
       first = same_past p q whole p_in q_in (at_p ∙ sym same ∙ sym at_q);
     }
 
-parts_more : (t : Tables) (whole : List Entry) (c : Call) (k : IsFinishedCall t (reverse whole) c) (p q : List Entry) → IsPastOf (k.closing ∷ p) whole → IsPastOf (k.opening ∷ q) whole
-    → length p ≡ c.last → length q ≡ c.first → c.first < c.last → Parts c k.closing p q
-parts_more t whole c k p q in_p in_q at_p at_q less =
-    let x = k.closing in
-    let w = c.worker in
-    let p_in : IsPastOf p whole = past_trans p (x ∷ p) whole (past_next x p p (past_itself p)) in_p in
-    let both : IsPastOf (k.opening ∷ q) p = past_of_both (k.opening ∷ q) p whole in_q p_in (omega arith) in
-    let s = both.since in
-    let told : k.opening.reply ≡ Pending = k.pending c.first k.opening (omega arith) less k.opens k.opener in
-    let here : (i : ℕ) (y : Entry) → entry_at p i ≡ Some y → (i < length p) × (slice_get (reverse whole) i ≡ Some y) =
-    λ i y at. (let low : i < length p = entry_within p i y at in (low, ap (λ l. entry_at l i) p_in.is ∙ entry_since p_in.since p i low ∙ at)) in
-    let goes : (i : ℕ) (y : Entry) → length q < i → entry_at (s ++ k.opening ∷ q) i ≡ Some y → y.worker ≡ w → (y.act ≡ Go) × (y.reply ≡ Pending) =
-    λ i y lt at mine.
-    (let g = here i y (ap (λ l. entry_at l i) both.is ∙ at) in
-    let low : i < length p = g.0 in
-    (k.goes i y (omega arith) (omega arith) g.1 mine, k.pending i y (omega arith) (omega arith) g.1 mine)) in
-    let r : IsUnderWay w c.op (s ++ k.opening ∷ q) q = under_way_is w c.op s q k.opening k.opener k.opening_act told k.begins goes in
-    let way : under_way x.worker p ≡ Some (call_with c.op r.rest) = ap (λ v. under_way v p) k.closer ∙ ap (under_way w) both.is ∙ r.is in
-    let go : x.act ≡ Go = k.goes c.last x less (omega arith) k.closes k.closer in
+past_entry : (p whole : List Entry) (i : ℕ) (y : Entry) → IsPastOf p whole → entry_at p i ≡ Some y → (i < length p) × (slice_get (reverse whole) i ≡ Some y)
+past_entry p whole i y in' at =
+    let low : i < length p = entry_within p i y at in
+    (low, ap (λ l. entry_at l i) in'.is ∙ entry_since in'.since p i low ∙ at)
+
+entry_of : (q s p : List Entry) (i : ℕ) (y : Entry) → p ≡ s ++ q → entry_at (s ++ q) i ≡ Some y → entry_at p i ≡ Some y
+entry_of q s p i y is at = ap (λ l. entry_at l i) is ∙ at
+
+parts_of : (c : Call) (x : Entry) (p late q : List Entry) → p ≡ late → x.worker ≡ c.worker → x.act ≡ Go → IsUnderWay c.worker c.op late q → Parts c x p q
+parts_of c x p late q is mine go r =
+    let way : under_way x.worker p ≡ Some (call_with c.op r.rest) = ap (λ v. under_way v p) mine ∙ ap (under_way c.worker) is ∙ r.is in
     record {
       rest = r.rest;
       gone = ap (λ a. gone_on a p (under_way x.worker p)) go ∙ ap (gone_on Go p) way;
-      first = first_more p (s ++ k.opening ∷ q) w c.op r.rest r.own ∙ r.first;
+      first = first_more p late c.worker c.op r.rest r.own ∙ r.first;
     }
+
+parts_from : (t : Tables) (whole : List Entry) (c : Call) (k : IsFinishedCall t (reverse whole) c) (p q s : List Entry) → IsPastOf p whole → p ≡ s ++ k.opening ∷ q
+    → length p ≡ c.last → length q ≡ c.first → c.first < c.last → Parts c k.closing p q
+parts_from t whole c k p q s p_in is at_p at_q less =
+    let told : k.opening.reply ≡ Pending = k.pending c.first k.opening (omega arith) less k.opens k.opener in
+    let goes : (i : ℕ) (y : Entry) → length q < i → entry_at (s ++ k.opening ∷ q) i ≡ Some y → y.worker ≡ c.worker → (y.act ≡ Go) × (y.reply ≡ Pending) =
+    λ i y lt at mine.
+    (let g = past_entry p whole i y p_in (entry_of (k.opening ∷ q) s p i y is at) in
+    let low : i < length p = g.0 in
+    (k.goes i y (omega arith) (omega arith) g.1 mine, k.pending i y (omega arith) (omega arith) g.1 mine)) in
+    parts_of c k.closing p (s ++ k.opening ∷ q) q is k.closer (k.goes c.last k.closing less (omega arith) k.closes k.closer)
+    (under_way_is c.worker c.op s q k.opening k.opener k.opening_act told k.begins goes)
+
+parts_more : (t : Tables) (whole : List Entry) (c : Call) (k : IsFinishedCall t (reverse whole) c) (p q : List Entry) → IsPastOf (k.closing ∷ p) whole → IsPastOf (k.opening ∷ q) whole
+    → length p ≡ c.last → length q ≡ c.first → c.first < c.last → Parts c k.closing p q
+parts_more t whole c k p q in_p in_q at_p at_q less =
+    let p_in : IsPastOf p whole = past_trans p (k.closing ∷ p) whole (past_next k.closing p p (past_itself p)) in_p in
+    let both : IsPastOf (k.opening ∷ q) p = past_of_both (k.opening ∷ q) p whole in_q p_in (omega arith) in
+    parts_from t whole c k p q both.since p_in both.is at_p at_q less
 
 call_is : (a b : Call) → a.worker ≡ b.worker → a.op ≡ b.op → a.reply ≡ b.reply → a.first ≡ b.first → a.round ≡ b.round → a.last ≡ b.last → a ≡ b
 call_is a b w o r f d l =
