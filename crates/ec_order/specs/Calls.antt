@@ -1,0 +1,46 @@
+-- Finished calls. A worker's entries are cut, in order, into calls: a read or an await goes on with that worker's
+-- following goes, up to its first entry whose reply is not Pending; every other act is a call of one entry. A call is
+-- finished where its last reply is not Pending. A past is the list of the entries before a moment, the newest first.
+use Rattle.std.specs.Prelude.{ℕ, ◌-◌, Bool, true, false, List, [], ◌∷◌, ◌++◌, length, Option, Some, None, if◌then◌else◌}
+use Rattle.ec_count.specs.Tables.{Tables}
+use Rattle.ec_core.specs.declared.act.Act.{Act}
+use Rattle.ec_core.specs.declared.act.Act.TheVariants.{Read, Await}
+use Rattle.ec_core.specs.declared.act.Reply.{Reply}
+use Rattle.ec_core.specs.declared.act.Reply.TheVariants.{Number}
+use Rattle.ec_core.specs.declared.act.Entry.{Entry}
+use Rattle.ec_core.specs.Calls.{CallSoFar, under_way, gone_on, is_pending}
+use Rattle.ec_core.specs.Rounds.{event_or, position_of, round_start}
+use Rattle.ec_order.specs.declared.call.Call.{Call}
+
+-- whether an act is a read or an await
+abbrev pub is_reading : Act → Bool
+is_reading (Read e) = true
+is_reading (Await e v) = true
+is_reading _ = false
+
+-- the number that a reply tells; 0 where it tells none
+abbrev pub number_of : Reply → ℕ
+number_of (Number n) = n
+number_of _ = 0
+
+-- the call whose last entry is x, begun by op, where the pasts of its entries are these, the newest first. An entry
+-- stands at the position that is the length of its past
+abbrev pub call_of_entries : Tables → Entry → Act → List (List Entry) → Call
+call_of_entries t x op moments = record {
+  worker = x.worker;
+  op = op;
+  reply = x.reply;
+  first = position_of moments (length moments - 1);
+  round = round_start t (event_or op) moments;
+  last = position_of moments 0;
+}
+
+-- the call that x ends, where this is the call of its worker with x: none where it is told Pending
+abbrev pub ended_by : Tables → Entry → Option CallSoFar → List Call
+ended_by t x None = []
+ended_by t x (Some call) = if is_pending x.reply then [] else call_of_entries t x call.op call.moments ∷ []
+
+-- the finished calls of a past, in order of their last entries
+unfoldable pub finished_calls : Tables → List Entry → List Call
+finished_calls t [] = []
+finished_calls t (x ∷ past) = finished_calls t past ++ ended_by t x (gone_on x.act past (under_way x.worker past))

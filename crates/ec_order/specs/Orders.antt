@@ -1,0 +1,24 @@
+-- Which orders of the finished calls are legal.
+use Rattle.std.specs.Prelude.{◌<◌, List, map}
+use Rattle.std.specs.List.{AllPairs}
+use Rattle.std.specs.List.Sorted.{IsPermutation}
+use Rattle.ec_count.specs.Tables.{Tables}
+use Rattle.ec_core.specs.declared.act.Entry.{Entry}
+use Rattle.ec_order.specs.declared.call.Call.{Call}
+use Rattle.ec_order.specs.declared.placed.Placed.{Placed}
+use Rattle.ec_order.specs.Calls.{finished_calls}
+use Rattle.ec_order.specs.Sequential.{zero_state, IsSequentialRun}
+
+-- a ended before b began
+abbrev pub FinishedBefore : Call → Call → Type 0
+FinishedBefore a b = a.last < b.first
+
+-- the finished calls, each once and no others; none stands after one that it finished before; and they are a run of
+-- the sequential object with the replies that were given
+pub record IsLegalOrder (t : Tables) (past : List Entry) (cs : List Call) : Type 0 where
+  pub each_once : IsPermutation (finished_calls t past) cs
+  pub in_order : AllPairs (λ a b. FinishedBefore b a → ⊥) cs
+  pub run : IsSequentialRun zero_state cs
+
+abbrev pub calls_in : List Placed → List Call
+calls_in ps = map (λ (p : Placed). p.call) ps

@@ -1,0 +1,108 @@
+//! The check of an order.
+ghost use Rattle.std.specs.Prelude.{◌≡◌, ◌<◌, true, false, Some, length, reverse, slice_get, IfOk, MatchOption};
+ghost use Rattle.std.specs.List.{All, AllPairs, Contains};
+ghost use Rattle.std.specs.Bool.{Decides};
+ghost use Rattle.ec_order.specs.Verdicts.{IsGood, IsVerdict};
+
+use crate::index::{index, point};
+use crate::numbers::Numbers;
+use crate::{Call, Placed, Verdict, calls};
+use ec_core::Run;
+use std::alloc::{AllocError, Global};
+
+fn same_call(a: &Call, b: &Call) -> bool
+    ensures { Decides result (a.now ≡ b.now) }
+{
+    *a == *b
+}
+
+/// The place of a call among calls that go by their last entries.
+fn find(calls: &[Call], call: &Call) -> Option<usize>
+    requires { AllPairs (λ (a b : Call). a.last < b.last) calls.now }
+    ensures { MatchOption result (Contains calls.now call.now → ⊥)
+        (λ j. slice_get calls.now j ≡ Some call.now) }
+{
+    match calls.binary_search_by_key(&call.last, |c| c.last) {
+        Ok(j) => {
+            if same_call(&calls[j], call) {
+                Some(j)
+            } else {
+                None
+            }
+        }
+        Err(_) => None,
+    }
+}
+
+/// Marks that are not set.
+fn unset(alloc: Global, n: usize) -> Result<Vec<bool>, AllocError>
+    ensures { IfOk result (λ v. (length v.items ≡ n) × All (λ m. m ≡ false) v.items) }
+{
+    vec![in alloc; false; n]
+}
+
+/// The first place of a mark that is not set.
+fn first_unset(marks: &[bool]) -> Option<usize>
+    ensures { MatchOption result (All (λ m. m ≡ true) marks.now)
+        (λ j. slice_get marks.now j ≡ Some false) }
+{
+    for (j, mark) in marks.iter().enumerate() {
+        if !*mark {
+            return Some(j);
+        }
+    }
+    None
+}
+
+/// The first fault, by one walk over the places: the calls at them are looked up among the finished calls by their
+/// last entries, marked when they are met, and run on the sequential object.
+fn judge(alloc: Global, run: &Run, placed: &[Placed]) -> Result<Verdict, AllocError>
+    ensures { IfOk result (λ v.
+        IsVerdict run.now.setup (reverse run.now.entries) placed.now v) }
+{
+    run.known();
+    let calls = calls(alloc, run)?;
+    let lists = index(alloc, run)?;
+    let mut seen = unset(alloc, calls.len())?;
+    let mut latest = 0;
+    let mut numbers = Numbers::zeros();
+    for i in 0..placed.len() {
+        let place = placed[i];
+        let call = place.call;
+        let Some(j) = find(&calls, &call) else {
+            return Ok(Verdict::Missing(i));
+        };
+        if seen[j] {
+            return Ok(Verdict::Repeated(i));
+        }
+        if call.last < latest {
+            return Ok(Verdict::OutOfOrder(i));
+        }
+        if !numbers.is_answer(&call) {
+            return Ok(Verdict::WrongReply(i));
+        }
+        if place.point != point(&lists, &call) {
+            return Ok(Verdict::WrongPoint(i));
+        }
+        seen[j] = true;
+        latest = latest.max(call.first);
+        numbers.take_in(call.op, i);
+    }
+    match first_unset(&seen) {
+        Some(_) => Ok(Verdict::Missing(placed.len())),
+        None => Ok(Verdict::Good),
+    }
+}
+
+/// Whether a list is a legal order of the finished calls of a run, each with its point, and else what is first wrong.
+/// The run is as before, with want of memory too.
+pub fn verify(alloc: Global, run: &Run, placed: &[Placed]) -> Result<Verdict, AllocError>
+    ensures verdict { IfOk result (λ v.
+        IsVerdict run.now.setup (reverse run.now.entries) placed.now v) }
+    ensures only { IfOk result (λ v.
+        IsGood run.now.setup (reverse run.now.entries) placed.now → v ≡ Verdict.Good) }
+{
+    run.known();
+    let verdict = judge(alloc, run, placed)?;
+    Ok(verdict)
+}

@@ -1,0 +1,20 @@
+//! Why no order was given.
+ghost use Rattle.std.specs.Prelude.{◌≡◌};
+ghost use Rattle.ec_order.specs.declared.fault.OrderFault.TheVariants.{Memory};
+
+use std::alloc::AllocError;
+
+/// Why `order` gave no order: want of memory, and nothing else, for every run has one.
+#[derive(Clone, Copy, Debug, PartialEq, Eq)]
+pub enum OrderFault {
+    /// Memory was refused. The run is as before.
+    Memory,
+}
+
+impl From<AllocError> for OrderFault {
+    ghost from_gives = { λ _ fault. fault ≡ Memory };
+
+    fn from(_: AllocError) -> Self {
+        OrderFault::Memory
+    }
+}

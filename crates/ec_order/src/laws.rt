@@ -1,0 +1,20 @@
+//! Laws of every accepted history, each the contract of a function that does nothing.
+ghost use Rattle.ec_order.specs.Laws.{CallsAreCutInOrder, PointsExist, EveryAcceptedHistoryHasAnOrder};
+
+/// The finished calls are exactly what the workers' entries are cut into: each begins with an act that is no go, goes on
+/// with its worker's goes, and ends with the first reply that is not Pending. They go by their last entries.
+pub fn calls_are_cut_in_order()
+    ensures { CallsAreCutInOrder }
+{}
+
+/// Every finished call has its point; for a read or an await it is the least moment, from the start of its last round
+/// to its last entry, at which the total was its answer.
+pub fn points_exist()
+    ensures { PointsExist }
+{}
+
+/// The finished calls of every accepted history stand in an order that keeps every finished-before pair and is a run
+/// of the sequential object, and each finished read's total stood at a moment between its first and last steps.
+pub fn every_accepted_history_has_an_order()
+    ensures { EveryAcceptedHistoryHasAnOrder }
+{}
