@@ -1,0 +1,5 @@
+pub mod AppendLemmas
+pub mod DecimalLemmas
+pub mod NumberLemmas
+pub mod PutLemmas
+pub mod WordLemmas

@@ -1,0 +1,99 @@
+-- Numbers and their digits.
+use Rattle.std.proofs.Common.{◌≡◌, ℕ, ◌+◌, ◌*◌, ◌-◌, ◌<◌, ◌≤◌, ◌^◌, List, [], ◌∷◌, length, drop, get_or, cond, Bool, true, false, ltb, eqb, not, ◌&&◌, Option, None, Some, refl, sym, ap, ◌∙◌, arith, rules, add-one, drop-cons, decimal, lt-ltb, ltb-true, inl, inr}
+use Rattle.std.specs.Char.{is_ascii_digit}
+use Rattle.std.specs.Str.{all_ascii_digits}
+use Rattle.std.proofs.lemmas.Str.Parse.{IsNumeralModel, numerals_by_fold}
+use Rattle.std.proofs.lemmas.Fmt.{decimal-digits_value, digits_decimal, digits_value-decimal, first_decimal, decimal_nonempty, decimal_digit}
+use Rattle.std.proofs.lemmas.Bool.{cond-true, and_parts, and_from, or_cases, or_right, eqb-true, eqb-false, ne_eqb, not-true, not_from_false, cases_lt}
+use Rattle.std.proofs.lemmas.List.{drop_all}
+use Rattle.ec_text.specs.Words.{digits_from, number_of, has_form}
+
+pub digits_from_step : (n i : ℕ) (word : List ℕ) → i < length word → digits_from n (drop i word) ≡ cond (is_ascii_digit (get_or word i 0) && ltb n 100000000000000000) (digits_from (10 * n + (get_or word i 0 - 48)) (drop (i + 1) word)) None
+unfolding digits_from
+digits_from_step n i word h =
+    let e : drop i word ≡ get_or word i 0 ∷ drop (i + 1) word = rw (add-one, drop-cons word i 0) refl in
+    rw e refl
+
+pub digits_from_end : (n i : ℕ) (word : List ℕ) → length word ≤ i → digits_from n (drop i word) ≡ Some n
+unfolding digits_from
+digits_from_end n i word h = let e : drop i word ≡ [] = drop_all i word h in rw e refl
+
+pub ruleset digits_steps = (digits_from_step, digits_from_end)
+
+pub guarded : {X : Type 0} (b : Bool) (x : Option X) (m : X) → cond b x None ≡ Some m → (b ≡ true) × (x ≡ Some m)
+guarded true x m e = (refl, e)
+guarded false x m e = cc
+
+-- the number that digits spell
+abbrev pub value_from : ℕ → List ℕ → ℕ
+value_from n [] = n
+value_from n (c ∷ cs) = value_from (10 * n + (c - 48)) cs
+
+pub own : IsNumeralModel (λ ds. all_ascii_digits ds ≡ true) (value_from 0)
+own = numerals_by_fold _ (search rules) value_from (search rules)
+
+value_from-ge : (n : ℕ) (w : List ℕ) → n ≤ value_from n w
+value_from-ge n [] = omega arith
+value_from-ge n (c ∷ w) = omega (arith, value_from-ge (10 * n + (c - 48)) w)
+
+-- what is read is spelled so
+reads : (n m : ℕ) (w : List ℕ) → n < 1000000000000000000 → digits_from n w ≡ Some m → (all_ascii_digits w ≡ true) × (m ≡ value_from n w) × (m < 1000000000000000000)
+unfolding digits_from
+reads n m [] small e = let same : m ≡ n = cc in (refl, same, omega arith)
+reads n m (c ∷ w) small e =
+    let g = guarded (is_ascii_digit c && ltb n 100000000000000000) _ m e in
+    let p = and_parts (is_ascii_digit c) (ltb n 100000000000000000) g.0 in
+    let low : n < 100000000000000000 = ltb-true _ _ p.1 in
+    let digit : c ≤ 57 = search (rules, p.0) in
+    let r = reads (10 * n + (c - 48)) m w (omega arith) g.1 in
+    (and_from _ _ p.0 r.0, r.1, r.2)
+
+-- what is spelled so is read
+spelled : (n : ℕ) (w : List ℕ) → all_ascii_digits w ≡ true → value_from n w < 1000000000000000000 → digits_from n w ≡ Some (value_from n w)
+unfolding digits_from
+spelled n [] d small = refl
+spelled n (c ∷ w) d small =
+    let p = and_parts (is_ascii_digit c) (all_ascii_digits w) d in
+    let l : ltb n 100000000000000000 ≡ true = lt-ltb _ _ (omega (arith, value_from-ge (10 * n + (c - 48)) w)) in
+    rw (p.0, l) (spelled (10 * n + (c - 48)) w p.1 small)
+
+model : IsNumeralModel (λ ds. all_ascii_digits ds ≡ true) (value_from 0)
+model = own
+
+has_form_parts : (w : List ℕ) → has_form w ≡ true → (0 < length w) × (get_or w 0 0 ≡ 48 → length w ≡ 1)
+has_form_parts w e = elim (or_cases (eqb (length w) 1) (ltb 0 (length w) && not (eqb (get_or w 0 0) 48)) e) [
+  | inl one ↦ let l : length w ≡ 1 = eqb-true _ _ one in (omega arith, λ _. l)
+  | inr two ↦
+      let p = and_parts (ltb 0 (length w)) (not (eqb (get_or w 0 0) 48)) two in
+      let other : get_or w 0 0 ≡ 48 → ⊥ = eqb-false _ _ (not-true _ p.1) in
+      (ltb-true _ _ p.0, λ is. absurd (other is))
+]
+
+-- what a number word says, and only what is spelled so
+pub number_takes : (w : List ℕ) (n : ℕ) → number_of w ≡ Some n → (w ≡ decimal n) × (n < 1000000000000000000)
+number_takes w n e =
+    let g = guarded (has_form w) _ n e in
+    let r = reads 0 n w (omega arith) g.1 in
+    let f = has_form_parts w g.0 in
+    let small : value_from 0 w < 2 ^ 64 = omega (arith, r.1, r.2) in
+    let d : decimal (value_from 0 w) ≡ w = decimal-digits_value own w r.0 f.0 f.1 small in
+    (sym d ∙ ap decimal (sym r.1), r.2)
+
+has_form_decimal : (n : ℕ) → n < 1000000000000000000 → has_form (decimal n) ≡ true
+has_form_decimal n small = elim (cases_lt 0 n) [
+  | inl some ↦
+      let head : 48 < get_or (decimal n) 0 0 = first_decimal n some (omega arith) in
+      let long : ltb 0 (length (decimal n)) ≡ true = lt-ltb _ _ (decimal_nonempty n (omega arith)) in
+      let other : not (eqb (get_or (decimal n) 0 0) 48) ≡ true = not_from_false _ (ne_eqb _ _ (λ is. omega arith)) in
+      or_right _ _ (and_from _ _ long other)
+  | inr none ↦
+      let zero : n ≡ 0 = omega arith in
+      let d : decimal n ≡ 48 ∷ [] = ap decimal zero ∙ decimal_digit 0 (omega arith) in
+      ap has_form d
+]
+
+pub number_again : (n : ℕ) → n < 1000000000000000000 → number_of (decimal n) ≡ Some n
+number_again n small =
+    let d : all_ascii_digits (decimal n) ≡ true = digits_decimal own n (omega arith) in
+    let v : value_from 0 (decimal n) ≡ n = digits_value-decimal own n (omega arith) in
+    cond-true _ _ _ (has_form_decimal n small) ∙ spelled 0 (decimal n) d (omega (arith, v)) ∙ ap Some v

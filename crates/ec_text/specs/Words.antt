@@ -1,0 +1,32 @@
+-- The words of a line, and which of them are numbers.
+use Rattle.std.specs.Prelude.{◌≡◌, ◌+◌, ◌*◌, ◌-◌, ℕ, List, [], ◌∷◌, length, Bool, false, Option, Some, None, ◌==◌, ◌&&◌, ◌||◌, if◌then◌else◌, nat_lt, not, slice_index}
+use Rattle.std.specs.List.{slice_split, list_all, All, AllByRecursion}
+use Rattle.std.specs.Char.{is_ascii_digit}
+
+-- words are what lies between single spaces
+abbrev pub words_of : List ℕ → List (List ℕ)
+words_of line = slice_split (λ b. b == 32) line
+
+-- no space stands in it
+abbrev pub IsWord : List ℕ → Type 0
+IsWord w = All (λ b. (b == 32) ≡ false) w
+
+abbrev pub AreWords : List (List ℕ) → Type 0
+AreWords ws = AllByRecursion IsWord ws
+
+-- more digits, after the number n, up to 18 in all
+unfoldable pub digits_from : ℕ → List ℕ → Option ℕ
+digits_from n [] = Some n
+digits_from n (c ∷ cs) = if is_ascii_digit c && nat_lt n 100000000000000000 then digits_from (10 * n + (c - 48)) cs else None
+
+-- one byte, or several of which the first is not the digit 0
+abbrev pub has_form : List ℕ → Bool
+has_form w = (length w == 1) || (nat_lt 0 (length w) && not (slice_index w 0 == 48))
+
+-- the number that a word spells, where it is at most 18 digits without a leading zero
+abbrev pub number_of : List ℕ → Option ℕ
+number_of w = if has_form w then digits_from 0 w else None
+
+-- digits of any count without a leading zero
+abbrev pub is_number_form : List ℕ → Bool
+is_number_form w = has_form w && list_all is_ascii_digit w

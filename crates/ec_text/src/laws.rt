@@ -1,0 +1,31 @@
+//! Laws of words and numbers. Each is the contract of a function that does nothing.
+ghost use Rattle.ec_text.specs.Spelling.{JoinIsUndone, SplitIsUndone, WordsHaveNoSpace, NumberHasOneSpelling, NumberIsReadBack};
+
+/// Words without spaces, joined by single spaces, are found again by the split at spaces.
+#[tactic(auto, using(crate::proofs::WordLemmas::words_join))]
+pub fn join_is_undone()
+    ensures { JoinIsUndone }
+{}
+
+/// The words of a line, joined by single spaces, are the line.
+#[tactic(auto, using(crate::proofs::WordLemmas::split_join))]
+pub fn split_is_undone()
+    ensures { SplitIsUndone }
+{}
+
+/// No word of a line has a space in it.
+#[tactic(auto, using(crate::proofs::WordLemmas::are_words))]
+pub fn words_have_no_space()
+    ensures { WordsHaveNoSpace }
+{}
+
+/// What is read as a number is its decimal digits and nothing else, and is below 10^18.
+pub fn number_has_one_spelling()
+    ensures { NumberHasOneSpelling }
+{}
+
+/// The decimal digits of a number below 10^18 are read as that number.
+#[tactic(auto, using(crate::proofs::NumberLemmas::number_again))]
+pub fn number_is_read_back()
+    ensures { NumberIsReadBack }
+{}

@@ -1,0 +1,19 @@
+//! Texts: the words of a line, numbers and their digits, and bytes on their way to a writer.
+#![tactic(auto)]
+
+mod buffered;
+mod digits;
+mod laws;
+mod numbers;
+mod words;
+mod writing;
+
+pub use buffered::{Buffered, finish, flush, put, put_byte, put_number};
+pub use digits::{decimal, push_decimal};
+pub use laws::{
+    join_is_undone, number_has_one_spelling, number_is_read_back, split_is_undone,
+    words_have_no_space,
+};
+pub use numbers::{is_number_form, number};
+pub use words::cut_word;
+pub use writing::{WriteFault, write_out};
