@@ -1,0 +1,132 @@
+-- A look-up in the table is a look-up by bytes, and what a table of names keeps.
+use Rattle.std.proofs.Common.{◌≡◌, ℕ, zero, suc, ◌+◌, ◌<◌, List, [], ◌∷◌, ◌++◌, length, get_or, slice_get, drop, cond, true, false, not, ◌&&◌, Option, None, Some, is_some, refl, sym, ap, subst, ◌∙◌, true≢false, arith, add-one, nat_le}
+use Rattle.std.specs.Prelude.{bytes_eq, IsTrue, ◌≢◌, MatchOption}
+use Rattle.std.specs.List.{list_all}
+use Rattle.std.specs.Map.{lookup}
+use Rattle.std.specs.Global.{Vec}
+use Rattle.std.specs.Str.{IsAscii, IsUtf8}
+use Rattle.std.specs.Char.{is_ascii_alphabetic}
+use Rattle.std.specs.Option.{option_and_then}
+use Rattle.std.proofs.lemmas.Str.{IsUtf8-from_ascii}
+use Rattle.std.proofs.lemmas.Bool.{and_parts}
+use Rattle.std.proofs.lemmas.Bool.Decides.{nat_tests}
+use Rattle.std.proofs.lemmas.Slice.Eq.{bytes_eq-Decides}
+use Rattle.std.proofs.lemmas.Option.{slice_get_within, get_or_from_slice_get}
+use Rattle.std.proofs.lemmas.List.Elements.{All-push}
+use Rattle.std.proofs.lemmas.List.Quantifiers.{all_pairs_push}
+use Rattle.ec_count.specs.declared.target.Target.{Target}
+use Rattle.ec_count.specs.Names.{AreNames, by_bytes, find_name, name_for, name_of, same_target, name_fault}
+use Rattle.ec_count.specs.Tables.{first_that}
+use Rattle.ec_count.specs.declared.names.NameFault.TheVariants.{BadName, NameTaken}
+use Rattle.ec_count.specs.Reserved.{is_name, is_name_byte, is_reserved}
+
+pub find_lookup : (name : List ℕ) (es : List (Vec ℕ × Target)) → find_name name (by_bytes es) ≡ lookup (λ k. bytes_eq name k.items) es
+find_lookup name [] = refl
+find_lookup name (e ∷ es) = ap (λ (r : Option Target). cond (bytes_eq name e.0.items) (Some e.1) r) (find_lookup name es)
+
+pub by_bytes-append : (es : List (Vec ℕ × Target)) (k : Vec ℕ) (t : Target) → by_bytes (es ++ (k, t) ∷ []) ≡ by_bytes es ++ (k.items, t) ∷ []
+by_bytes-append [] k t = refl
+by_bytes-append (e ∷ es) k t = ap (λ (r : List (List ℕ × Target)). (e.0.items, e.1) ∷ r) (by_bytes-append es k t)
+
+-- each byte of a name is below 128
+letter_ascii : (b : ℕ) → is_ascii_alphabetic b ≡ true → b < 128
+letter_ascii b h = grind (arith, nat_tests)
+
+byte_ascii : (b : ℕ) → is_name_byte b ≡ true → b < 128
+byte_ascii b h = grind (arith, nat_tests)
+
+cons_ascii : (b : ℕ) (bs : List ℕ) → b < 128 → IsAscii bs → IsAscii (b ∷ bs)
+cons_ascii b bs h rest zero = h
+cons_ascii b bs h rest (suc i) = rest i
+
+rest_ascii : (bs : List ℕ) → list_all is_name_byte bs ≡ true → IsAscii bs
+rest_ascii [] h = λ i. omega arith
+rest_ascii (b ∷ bs) h = let p = and_parts (is_name_byte b) (list_all is_name_byte bs) h in cons_ascii b bs (byte_ascii b p.0) (rest_ascii bs p.1)
+
+pub name_utf8 : (word : List ℕ) → is_name word ≡ true → IsUtf8 word
+unfolding is_name
+name_utf8 [] h = absurd (true≢false (sym h))
+name_utf8 (b ∷ bs) h =
+    let p = and_parts (is_ascii_alphabetic b && nat_le (length bs) 15 && list_all is_name_byte bs) (not (is_reserved (b ∷ bs))) h in
+    let q = and_parts (is_ascii_alphabetic b && nat_le (length bs) 15) (list_all is_name_byte bs) p.0 in
+    let r = and_parts (is_ascii_alphabetic b) (nat_le (length bs) 15) q.0 in
+    IsUtf8-from_ascii (b ∷ bs) (cons_ascii b bs (letter_ascii b r.0) (rest_ascii bs q.1))
+
+pub by_bytes_at : (es : List (Vec ℕ × Target)) (i : ℕ) (e : Vec ℕ × Target) → slice_get es i ≡ Some e → slice_get (by_bytes es) i ≡ Some (e.0.items, e.1)
+by_bytes_at [] i e at = cc
+by_bytes_at (x ∷ es) zero e at = (let q : x ≡ e = cc in ap (λ (y : Vec ℕ × Target). Some (y.0.items, y.1)) q)
+by_bytes_at (x ∷ es) (suc i) e at = by_bytes_at es i e at
+
+-- the entry at a place has a name
+pub name_at : (names : List (List ℕ × Target)) (i : ℕ) (e : List ℕ × Target) → AreNames names → slice_get names i ≡ Some e → is_name e.0 ≡ true
+name_at names i e h at =
+    subst (λ (d : List ℕ × Target). is_name d.0 ≡ true) (get_or_from_slice_get names i e e at) (h.each i e (slice_get_within names i e at))
+
+-- a name that was not added before joins the others
+none_from_test : {A : Type 0} (o : Option A) → is_some o ≡ false → o ≡ None
+none_from_test None e = refl
+none_from_test (Some x) e = absurd (true≢false e)
+
+pub none_left : {A : Type 0} (o : Option A) → ((x : A) → o ≡ Some x → ⊥) → o ≡ None
+none_left None h = refl
+none_left (Some x) h = absurd (h x refl)
+
+pub no_fault : (name : List ℕ) (names : List (List ℕ × Target)) → name_fault name names ≡ None → (is_name name ≡ true) × (find_name name names ≡ None)
+no_fault name names =
+    elim (is_name name) as (λ b. b ≡ is_name name → first_that ((not b, BadName) ∷ (is_some (find_name name names), NameTaken) ∷ []) ≡ None → (is_name name ≡ true) × (find_name name names ≡ None)) [
+      | true ↦ λ q g. (sym q, free (find_name name names) g)
+      | false ↦ λ q g. (cc)
+    ] refl
+  where
+    free : (o : Option Target) → first_that ((false, BadName) ∷ (is_some o, NameTaken) ∷ []) ≡ None → o ≡ None
+    free None g = refl
+    free (Some t) g = cc
+
+apart : (name : List ℕ) (names : List (List ℕ × Target)) → find_name name names ≡ None → (k : ℕ) (d : List ℕ × Target) → k < length names → (get_or names k d).0 ≢ name
+apart name [] h = λ k d lt. absurd (omega arith)
+apart name (e ∷ es) h =
+    elim (bytes_eq name e.0) as (λ b. bytes_eq name e.0 ≡ b → cond b (Some e.1) (find_name name es) ≡ None → (k : ℕ) (d : List ℕ × Target) → k < length (e ∷ es) → (get_or (e ∷ es) k d).0 ≢ name) [
+      | true ↦ λ q g. (cc)
+      | false ↦ λ q g. at q (apart name es g)
+    ] refl h
+  where
+    at : bytes_eq name e.0 ≡ false → ((k : ℕ) (d : List ℕ × Target) → k < length es → (get_or es k d).0 ≢ name) → (k : ℕ) (d : List ℕ × Target) → k < length (e ∷ es) → (get_or (e ∷ es) k d).0 ≢ name
+    at q rest zero d lt same = true≢false (sym ((bytes_eq-Decides name e.0).1 (sym same)) ∙ q)
+    at q rest (suc k) d lt same = rest k d (omega arith) same
+
+pub AreNames-push : (names : List (List ℕ × Target)) (name : List ℕ) (target : Target) → AreNames names → name_fault name names ≡ None → AreNames (names ++ (name, target) ∷ [])
+AreNames-push names name target h free =
+    let tests = no_fault name names free in
+    record {
+      each = All-push (λ e. IsTrue (is_name e.0)) names (name, target) h.each tests.0;
+      differ = all_pairs_push (λ d e. d.0 ≢ e.0) names (name, target) h.differ (apart name names tests.1);
+    }
+
+more : (x : List ℕ × Target) (xs : List (List ℕ × Target)) (i : ℕ) → drop (suc i + 1) (x ∷ xs) ≡ drop (i + 1) xs
+more x xs i = rw add-one (rw add-one refl)
+
+nothing_left : (i : ℕ) → ◌≡◌ {A = List (List ℕ × Target)} (drop i []) []
+nothing_left zero = refl
+nothing_left (suc i) = refl
+
+-- a search by target ends at a place or goes on
+at_place : (target : Target) (names : List (List ℕ × Target)) (i : ℕ)
+    → MatchOption (option_and_then (name_for target) (slice_get names i)) (name_of target (drop i names) ≡ name_of target (drop (i + 1) names)) (λ name. name_of target (drop i names) ≡ Some name)
+at_place target [] i = ap (name_of target) (nothing_left i ∙ sym (nothing_left (i + 1)))
+at_place target (x ∷ xs) zero =
+    elim (same_target x.1 target) as (λ b. MatchOption (cond b (Some x.0) None) (cond b (Some x.0) (name_of target xs) ≡ name_of target xs) (λ name. cond b (Some x.0) (name_of target xs) ≡ Some name)) [
+      | true ↦ refl
+      | false ↦ refl
+    ]
+at_place target (x ∷ xs) (suc i) =
+    subst (λ (rest : List (List ℕ × Target)). MatchOption (option_and_then (name_for target) (slice_get xs i)) (name_of target (drop i xs) ≡ name_of target rest) (λ name. name_of target (drop i xs) ≡ Some name)) (sym (more x xs i)) (at_place target xs i)
+
+pub name_here : (target : Target) (names : List (List ℕ × Target)) (i : ℕ) (name : List ℕ) → Some name ≡ option_and_then (name_for target) (slice_get names i) → name_of target (drop i names) ≡ Some name
+name_here target names i name at =
+    let P = λ (o : Option (List ℕ)). MatchOption o (name_of target (drop i names) ≡ name_of target (drop (i + 1) names)) (λ found. name_of target (drop i names) ≡ Some found) in
+    subst P (sym at) (at_place target names i)
+
+pub name_later : (target : Target) (names : List (List ℕ × Target)) (i : ℕ) → None ≡ option_and_then (name_for target) (slice_get names i) → name_of target (drop i names) ≡ name_of target (drop (i + 1) names)
+name_later target names i at =
+    let P = λ (o : Option (List ℕ)). MatchOption o (name_of target (drop i names) ≡ name_of target (drop (i + 1) names)) (λ found. name_of target (drop i names) ≡ Some found) in
+    subst P (sym at) (at_place target names i)

@@ -1,0 +1,177 @@
+//! Names, in the order in which they were added.
+ghost use Rattle.ec_count.specs.Names.{AreNames, find_name, name_fault, name_for, name_of, same_target};
+ghost use Rattle.std.specs.Option.{option_and_then};
+ghost use Rattle.ec_count.specs.Reserved.{is_name};
+ghost use Rattle.std.specs.Prelude.{◌≡◌, ◌++◌, ◌∷◌, [], true, length, IfErr, IfOk, IfSome, OnErr, OnOk, MatchOption, option_map, slice_get};
+
+use crate::Target;
+use crate::reserved::is_name;
+use indexmap::IndexMap;
+use std::alloc::{AllocError, Global};
+use std::marker::Model;
+use std::str::from_utf8;
+
+/// Why a name can't be added: the first that holds.
+#[derive(Clone, Copy, Debug, PartialEq, Eq)]
+pub enum NameFault {
+    /// The word is no name.
+    BadName,
+    /// The name was added before.
+    NameTaken,
+    /// Memory was refused.
+    Memory,
+}
+
+/// Different names and what each stands for, in the order in which they were added.
+#[derive(Drop)]
+pub struct Names {
+    table: IndexMap<Vec<u8>, Target>,
+}
+
+impl Model for Names {
+    ghost use Rattle.std.specs.Prelude.{ℕ, List};
+    ghost use Rattle.ec_count.specs.declared.target.Target.{Target};
+
+    ghost Value = { List (List ℕ × Target) };
+
+    ghost use Rattle.ec_count.specs.Names.{AreNames, by_bytes};
+
+    ghost view = { λ n. by_bytes n.table.entries };
+
+    ghost invariant = { λ n. AreNames (by_bytes n.table.entries) };
+}
+
+impl Names {
+    /// No names, with room for a few.
+    pub fn new(alloc: Global) -> Result<Self, AllocError>
+        ensures { IfOk result (λ names. names ≡ []) }
+    {
+        let table = IndexMap::with_capacity(alloc, 16)?;
+        Ok(Names { table })
+    }
+
+    /// What is true of the names.
+    pub fn known(&self)
+        ensures { AreNames self.now }
+    {
+        let _table = &self.table;
+    }
+
+    /// How many names were added.
+    pub fn len(&self) -> usize
+        ensures { result ≡ length self.now }
+    {
+        self.table.len()
+    }
+
+    /// What the name stands for.
+    pub fn find(&self, name: &str) -> Option<Target>
+        ensures { result ≡ find_name name.now self.now }
+    {
+        self.find_bytes(name.as_bytes())
+    }
+
+    /// What the name of these bytes stands for.
+    pub fn find_bytes(&self, name: &[u8]) -> Option<Target>
+        ensures { result ≡ find_name name.now self.now }
+    {
+        self.table.get(name).copied()
+    }
+
+    fn fault(&self, name: &[u8]) -> Option<NameFault>
+        ensures { result ≡ name_fault name.now self.now }
+    {
+        if !is_name(name) {
+            return Some(NameFault::BadName);
+        }
+        if self.find_bytes(name).is_some() {
+            return Some(NameFault::NameTaken);
+        }
+        None
+    }
+
+    /// Adds a name at the end.
+    pub fn add(&mut self, name: &str, target: Target) -> Result<(), NameFault>
+        ensures fault { MatchOption (name_fault name.now self.old) (IfErr result (λ fault. fault ≡ NameFault.Memory)) (λ fault. result ≡ Err fault) }
+        ensures ok { OnOk result (self.new ≡ self.old ++ (name.now, target) ∷ []) }
+        ensures err { OnErr result (self.new ≡ self.old) }
+    {
+        let bytes = name.as_bytes();
+        if let Some(fault) = self.fault(bytes) {
+            return Err(fault);
+        }
+        let Ok(key) = Vec::from_slice(*self.table.allocator(), bytes) else {
+            return Err(NameFault::Memory);
+        };
+        let Ok(_) = self.table.insert(key, target) else {
+            return Err(NameFault::Memory);
+        };
+        Ok(())
+    }
+
+    fn entry(&self, place: usize) -> Option<(&[u8], Target)>
+        ensures value { option_map (λ e. (e.0.now, e.1)) result ≡ slice_get self.now place }
+        ensures named { IfSome result (λ e. is_name e.0.now ≡ true) }
+    {
+        match self.table.get_index(place) {
+            None => None,
+            Some((name, target)) => Some((name.as_slice(), *target)),
+        }
+    }
+
+    /// The name at a place, and what it stands for.
+    pub fn at(&self, place: usize) -> Option<(&str, Target)>
+        ensures { option_map (λ e. (e.0.now, e.1)) result ≡ slice_get self.now place }
+    {
+        match self.entry(place) {
+            None => None,
+            Some((name, target)) => Some((text_of(name), target)),
+        }
+    }
+
+    /// The name at a place, where it stands for the target.
+    fn name_for(&self, place: usize, target: &Target) -> Option<&str>
+        ensures { option_map (λ name. name.now) result ≡ option_and_then (name_for target.now) (slice_get self.now place) }
+    {
+        match self.entry(place) {
+            None => None,
+            Some((name, found)) => {
+                if is_same_target(&found, target) {
+                    Some(text_of(name))
+                } else {
+                    None
+                }
+            }
+        }
+    }
+
+    /// The first name that was added for the target.
+    pub fn name_of(&self, target: Target) -> Option<&str>
+        ensures { option_map (λ name. name.now) result ≡ name_of target self.now }
+    {
+        for place in 0..self.len() {
+            if let Some(name) = self.name_for(place, &target) {
+                return Some(name);
+            }
+        }
+        None
+    }
+}
+
+/// Whether two targets are the same.
+fn is_same_target(found: &Target, target: &Target) -> bool
+    ensures { result ≡ same_target found.now target.now }
+{
+    found == target
+}
+
+/// The text of a name.
+fn text_of(name: &[u8]) -> &str
+    requires { is_name name.now ≡ true }
+    ensures { result.now ≡ name.now }
+{
+    match from_utf8(name) {
+        Ok(text) => text,
+        Err(_) => unreachable!(),
+    }
+}
