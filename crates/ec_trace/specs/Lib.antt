@@ -1,0 +1,6 @@
+pub mod Sorts
+pub mod Headed
+pub mod Outline
+pub mod Spelling
+pub mod Grammar
+pub mod Heading

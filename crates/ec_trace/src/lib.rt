@@ -1,0 +1,10 @@
+//! Headings and traces: read exactly, written exactly.
+#![tactic(auto)]
+
+mod heading;
+mod read;
+mod sort;
+
+pub use heading::{HeadFault, Heading};
+pub use read::TRACE_MAX;
+pub use sort::Sort;
