@@ -3,4 +3,8 @@ pub mod Headed
 pub mod Outline
 pub mod Spelling
 pub mod Grammar
+pub mod Lists
+pub mod Form
+pub mod Kinds
 pub mod Heading
+pub mod HeadingLaws

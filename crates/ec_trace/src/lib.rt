@@ -1,7 +1,9 @@
 //! Headings and traces: read exactly, written exactly.
 #![tactic(auto)]
 
+mod form;
 mod heading;
+mod lists;
 mod read;
 mod sort;
 
