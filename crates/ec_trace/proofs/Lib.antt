@@ -1,1 +1,4 @@
+pub mod Declarable
+pub mod Listed
+pub mod Phrases
 pub mod Stops

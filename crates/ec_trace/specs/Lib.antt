@@ -1,6 +1,7 @@
 pub mod Sorts
 pub mod Headed
 pub mod Outline
+pub mod Outlined
 pub mod Spelling
 pub mod Grammar
 pub mod Lists

@@ -3,6 +3,7 @@
 
 mod form;
 mod heading;
+mod kinds;
 mod lists;
 mod read;
 mod sort;
