@@ -56,10 +56,10 @@ no_worker_there sorts.Cells t n = refl
 
 pub heads_more : (ws : List (List ℕ)) (h : Headed) (d : Declaration) → Heads ws h → Heads ws (declared_by h d)
 heads_more ws h d heads = record {
-    count = keeps_workers d.sort h.setup d.number d.first d.second ∙ heads.count;
-    others = heads.others ++ (d.name, target_of d.sort h.setup d.number) ∷ [];
-    names = ap (λ (ns : Named). ns ++ (d.name, target_of d.sort h.setup d.number) ∷ []) heads.names ∙ append_assoc (numbered 0 ws) heads.others ((d.name, target_of d.sort h.setup d.number) ∷ []);
-    none = no_worker-append heads.others ((d.name, target_of d.sort h.setup d.number) ∷ []) heads.none (no_worker_there d.sort h.setup d.number, tt);
+  count = keeps_workers d.sort h.setup d.number d.first d.second ∙ heads.count;
+  others = heads.others ++ (d.name, target_of d.sort h.setup d.number) ∷ [];
+  names = ap (λ (ns : Named). ns ++ (d.name, target_of d.sort h.setup d.number) ∷ []) heads.names ∙ append_assoc (numbered 0 ws) heads.others ((d.name, target_of d.sort h.setup d.number) ∷ []);
+  none = no_worker-append heads.others ((d.name, target_of d.sort h.setup d.number) ∷ []) heads.none (no_worker_there d.sort h.setup d.number, tt);
 }
 
 pub heads_all : (ws : List (List ℕ)) (h : Headed) (ds : List Declaration) → Heads ws h → Heads ws (declared_all h ds)
@@ -142,18 +142,28 @@ has_room sorts.EventCount t n first second form e =
     let u = or_parts (unknown t first) (unknown t second) p.1 in
     let r = or_parts (has_repeat first) (has_repeat second) p.2 in
     record {
-      room = room_32 _ b.0; few_first = b.1; few_second = a.1;
-      known_first = below_known t.workers first u.0; known_second = below_known t.workers second u.1;
-      once_first = r.0; once_second = r.1; some = p.3;
+      room = room_32 _ b.0;
+      few_first = b.1;
+      few_second = a.1;
+      known_first = below_known t.workers first u.0;
+      known_second = below_known t.workers second u.1;
+      once_first = r.0;
+      once_second = r.1;
+      some = p.3;
     }
 has_room sorts.Sequencer t n first second form e =
     let p = from_four (nat_le 32 (length t.takers) || long first) (unknown t first) (has_repeat first) (empty first) setups.TooMany setups.UnknownWorker setups.Repeated setups.Empty e in
     let b = or_parts (nat_le 32 (length t.takers)) (long first) p.0 in
     let none : second ≡ [] = none_listed second form in
     record {
-      room = room_32 _ b.0; few_first = b.1; few_second = ap long none;
-      known_first = below_known t.workers first p.1; known_second = subst (AreBelow t.workers) (sym none) tt;
-      once_first = p.2; once_second = ap has_repeat none; some = p.3;
+      room = room_32 _ b.0;
+      few_first = b.1;
+      few_second = ap long none;
+      known_first = below_known t.workers first p.1;
+      known_second = subst (AreBelow t.workers) (sym none) tt;
+      once_first = p.2;
+      once_second = ap has_repeat none;
+      some = p.3;
     }
 has_room sorts.Cells t n first second form e =
     let p = from_four (nat_lt 256 (length t.cells + n) || long first || long second) (unknown t first || unknown t second) (has_repeat first || has_repeat second) (eqb n 0 || empty first) setups.TooMany setups.UnknownWorker setups.Repeated setups.Empty e in
@@ -163,9 +173,14 @@ has_room sorts.Cells t n first second form e =
     let r = or_parts (has_repeat first) (has_repeat second) p.2 in
     let l = or_parts (eqb n 0) (empty first) p.3 in
     record {
-      room = b.0; few_first = b.1; few_second = a.1;
-      known_first = below_known t.workers first u.0; known_second = below_known t.workers second u.1;
-      once_first = r.0; once_second = r.1; some = l.1;
+      room = b.0;
+      few_first = b.1;
+      few_second = a.1;
+      known_first = below_known t.workers first u.0;
+      known_second = below_known t.workers second u.1;
+      once_first = r.0;
+      once_second = r.1;
+      some = l.1;
     }
 
 -- THE TESTS OF A LINE
@@ -207,10 +222,14 @@ clean t names p d e =
     record {
       word = not-false _ p1.0;
       new = is_none_from (find_name d.name names) taken.0;
-      once_first = once.0; once_second = once.1;
-      known_first = known.0; known_second = known.1;
+      once_first = once.0;
+      once_second = once.1;
+      known_first = known.0;
+      known_second = known.1;
       number = p4.0;
-      few_first = few.0; few_second = few.1; room = many.1;
+      few_first = few.0;
+      few_second = few.1;
+      room = many.1;
     }
 
 no_roles : (d : Declaration) → has_two_roles d ≡ false
@@ -273,9 +292,13 @@ may_declare ws h words p heads is none =
       range = range;
       form = second_form (needs_other p.sort) (other p.sort) h.names p.second is.second;
       taken = objects_taken p.sort h.setup (size_in p) (ids_in h.names p.first) (ids_in h.names (second_list p)) range (record {
-        room = c.room; few_first = c.few_first; few_second = c.few_second;
-        known_first = ids_within ws h p.first heads; known_second = ids_within ws h (second_list p) heads;
-        once_first = c.once_first; once_second = c.once_second;
+        room = c.room;
+        few_first = c.few_first;
+        few_second = c.few_second;
+        known_first = ids_within ws h p.first heads;
+        known_second = ids_within ws h (second_list p) heads;
+        once_first = c.once_first;
+        once_second = c.once_second;
         some = first_some h.names p.first is.first c.known_first;
       });
     }
@@ -285,9 +308,14 @@ pub is_clean : (h : Headed) (p : Phrase) (d : Declaration) → IsDeclarable h d 
 is_clean h p d may first second =
     let r : HasRoom d.sort h.setup d.number d.first d.second = has_room d.sort h.setup d.number d.first d.second may.form may.taken in
     record {
-      word = may.word; new = may.new;
-      once_first = r.once_first; once_second = r.once_second;
-      known_first = first; known_second = second;
+      word = may.word;
+      new = may.new;
+      once_first = r.once_first;
+      once_second = r.once_second;
+      known_first = first;
+      known_second = second;
       number = range_good d.sort d.number may.range;
-      few_first = r.few_first; few_second = r.few_second; room = r.room;
+      few_first = r.few_first;
+      few_second = r.few_second;
+      room = r.room;
     }

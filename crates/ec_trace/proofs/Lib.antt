@@ -1,4 +1,6 @@
 pub mod Declarable
 pub mod Listed
 pub mod Phrases
+pub mod Standing
 pub mod Stops
+pub mod WorkersLine

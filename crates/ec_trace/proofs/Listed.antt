@@ -40,10 +40,10 @@ pub record IsAt (ws : List (List ℕ)) (n : ℕ) (w : List ℕ) (i : ℕ) : Type
 
 next : (v : List ℕ) (ws : List (List ℕ)) (n : ℕ) (w : List ℕ) (i : ℕ) → IsAt ws (n + 1) w i → IsAt (v ∷ ws) n w i
 next v ws n w i at = record {
-    place = suc at.place;
-    number = omega (arith, at.number);
-    within = omega (arith, at.within);
-    name = at.name;
+  place = suc at.place;
+  number = omega (arith, at.number);
+  within = omega (arith, at.within);
+  name = at.name;
 }
 
 pub worker_found : (ws : List (List ℕ)) (n : ℕ) (es : Named) (w : List ℕ) (i : ℕ) → HasNoWorker es → worker_in (numbered n ws ++ es) w ≡ Some i → IsAt ws n w i
@@ -60,10 +60,10 @@ worker_found (v ∷ ws) n es w i h e =
 abbrev pub Differ : List (List ℕ) → Type 0
 Differ ws = AllPairs (λ v w. v ≢ w) ws
 
-tail_differs : (v : List ℕ) (ws : List (List ℕ)) → Differ (v ∷ ws) → Differ ws
+pub tail_differs : (v : List ℕ) (ws : List (List ℕ)) → Differ (v ∷ ws) → Differ ws
 tail_differs v ws h = λ i j d lt within. h (suc i) (suc j) d (omega arith) (omega arith)
 
-head_differs : (v : List ℕ) (ws : List (List ℕ)) (k : ℕ) → Differ (v ∷ ws) → k < length ws → get_or ws k [] ≢ v
+pub head_differs : (v : List ℕ) (ws : List (List ℕ)) (k : ℕ) → Differ (v ∷ ws) → k < length ws → get_or ws k [] ≢ v
 head_differs v ws k h within = λ e. h 0 (suc k) [] (omega arith) (omega arith) (sym e)
 
 pub finds_worker : (ws : List (List ℕ)) (n : ℕ) (es : Named) (k : ℕ) → Differ ws → k < length ws → worker_in (numbered n ws ++ es) (get_or ws k []) ≡ Some (n + k)
@@ -122,11 +122,11 @@ ids_spelled ws es [] h known = refl
 ids_spelled ws es (v ∷ vs) h known =
     let p = or_parts (is_none (worker_in (with_others ws es) v)) (has_unknown (with_others ws es) vs) known in
     none_cases (worker_in (with_others ws es) v) p.0 (λ i found.
-        let at : IsAt ws 0 v i = worker_found ws 0 es v i h found in
-        let place : i ≡ at.place = omega (arith, at.number) in
-        ap (λ (o : Option ℕ). list_words ws (option_map_or (λ j. j ∷ ids_in (with_others ws es) vs) o (ids_in (with_others ws es) vs))) found
-        ∙ ap (λ (w : List ℕ). w ∷ list_words ws (ids_in (with_others ws es) vs)) (ap (λ (k : ℕ). get_or ws k []) place ∙ at.name)
-        ∙ ap (λ (us : List (List ℕ)). v ∷ us) (ids_spelled ws es vs h p.1))
+    let at : IsAt ws 0 v i = worker_found ws 0 es v i h found in
+    let place : i ≡ at.place = omega (arith, at.number) in
+    ap (λ (o : Option ℕ). list_words ws (option_map_or (λ j. j ∷ ids_in (with_others ws es) vs) o (ids_in (with_others ws es) vs))) found
+    ∙ ap (λ (w : List ℕ). w ∷ list_words ws (ids_in (with_others ws es) vs)) (ap (λ (k : ℕ). get_or ws k []) place ∙ at.name)
+    ∙ ap (λ (us : List (List ℕ)). v ∷ us) (ids_spelled ws es vs h p.1))
 
 below_more : (n : ℕ) (o : Option ℕ) (ids : List ℕ) → ((i : ℕ) → o ≡ Some i → i < n) → AreBelow n ids → AreBelow n (option_map_or (λ j. j ∷ ids) o ids)
 below_more n None ids h below = below
@@ -142,4 +142,4 @@ pub ids_some : (names : Named) (v : List ℕ) (vs : List (List ℕ)) → has_unk
 ids_some names v vs known =
     let p = or_parts (is_none (worker_in names v)) (has_unknown names vs) known in
     none_cases (worker_in names v) p.0 (λ i found.
-        ap (λ (o : Option ℕ). eqb (length (option_map_or (λ j. j ∷ ids_in names vs) o (ids_in names vs))) 0) found ∙ ne_eqb _ _ (λ e. (omega (arith, e))))
+    ap (λ (o : Option ℕ). eqb (length (option_map_or (λ j. j ∷ ids_in names vs) o (ids_in names vs))) 0) found ∙ ne_eqb _ _ (λ e. (omega (arith, e))))

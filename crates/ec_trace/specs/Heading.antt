@@ -51,6 +51,9 @@ abbrev pub FailsAs : HeadFault → Result Headed HeadFault → Type 0
 FailsAs faults.Memory stepped = IsOk stepped
 FailsAs fault stepped = stepped ≡ Err fault
 
+abbrev pub Steps : Result (Unit {0}) HeadFault → Headed → Headed → Result Headed HeadFault → Type 0
+Steps (Ok x) old new stepped = stepped ≡ Ok new
+Steps (Err fault) old new stepped = (new ≡ old) × FailsAs fault stepped
+
 abbrev pub Lines : Result (Unit {0}) HeadFault → Headed → Headed → List ℕ → Type 0
-Lines (Ok x) old new line = head_step old line ≡ Ok new
-Lines (Err fault) old new line = (new ≡ old) × FailsAs fault (head_step old line)
+Lines result old new line = Steps result old new (head_step old line)

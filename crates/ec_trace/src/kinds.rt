@@ -134,7 +134,11 @@ fn has_two_roles(names: &Names, parts: &Parts<'_>) -> bool
 }
 
 /// The least fault of a line of one of the forms.
-pub(crate) fn declaration_fault(setup: &Setup, names: &Names, parts: &Parts<'_>) -> Option<HeadFault>
+pub(crate) fn declaration_fault(
+    setup: &Setup,
+    names: &Names,
+    parts: &Parts<'_>,
+) -> Option<HeadFault>
     ensures { result ≡ declaration_fault setup.now names.now (shown parts.now) }
 {
     if !is_name(parts.name) {
