@@ -1,3 +1,5 @@
+pub mod Blocks
+pub mod Bytes
 pub mod Declarable
 pub mod Listed
 pub mod Phrases

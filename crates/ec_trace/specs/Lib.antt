@@ -9,3 +9,4 @@ pub mod Form
 pub mod Kinds
 pub mod Heading
 pub mod HeadingLaws
+pub mod Spelled

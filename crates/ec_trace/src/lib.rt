@@ -7,6 +7,7 @@ mod kinds;
 mod lists;
 mod read;
 mod sort;
+mod spelled;
 
 pub use heading::{HeadFault, Heading};
 pub use read::TRACE_MAX;
