@@ -1,8 +1,11 @@
 pub mod Blocks
 pub mod Bytes
 pub mod Declarable
+pub mod LineWords
 pub mod Listed
+pub mod NameWords
 pub mod Phrases
+pub mod ReadLines
 pub mod Standing
 pub mod Stops
 pub mod WorkersLine
