@@ -6,6 +6,7 @@ pub mod Listed
 pub mod NameWords
 pub mod Phrases
 pub mod ReadLines
+pub mod SpelledLines
 pub mod Standing
 pub mod Stops
 pub mod WorkersLine
