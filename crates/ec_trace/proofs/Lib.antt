@@ -1,6 +1,7 @@
 pub mod Blocks
 pub mod Bytes
 pub mod Declarable
+pub mod LeadLines
 pub mod LineWords
 pub mod Listed
 pub mod NameWords
