@@ -1,0 +1,14 @@
+-- The grammar of traces: which bytes spell which heading and which accepted history. It says nothing of reading or writing.
+use Rattle.std.specs.Prelude.{◌≡◌, ℕ, ◌≤◌, List, length, reverse}
+use Rattle.ec_core.specs.declared.act.Entry.{Entry}
+use Rattle.ec_core.specs.Acceptance.{IsAccepted}
+use Rattle.ec_trace.specs.Outline.{Outline, IsOutline, headed}
+use Rattle.ec_trace.specs.Spelling.{trace_text}
+use Rattle.ec_trace.specs.declared.read.TheConstants.{TRACE_MAX}
+
+-- the bytes are the trace of this heading and this history
+pub record IsTrace (bytes : List ℕ) (o : Outline) (entries : List Entry) : Type 0 where
+  pub heading : IsOutline o
+  pub accepted : IsAccepted (headed o).setup (reverse entries)
+  pub text : bytes ≡ trace_text o entries
+  pub within : length bytes ≤ TRACE_MAX

@@ -1,0 +1,12 @@
+pub mod Sorts
+pub mod Headed
+pub mod Outline
+pub mod Outlined
+pub mod Spelling
+pub mod Grammar
+pub mod Lists
+pub mod Form
+pub mod Kinds
+pub mod Heading
+pub mod HeadingLaws
+pub mod Spelled

@@ -1,0 +1,19 @@
+//! Headings and traces: read exactly, written exactly.
+#![tactic(auto)]
+
+mod form;
+mod heading;
+mod kinds;
+mod laws;
+mod lists;
+mod read;
+mod sort;
+mod spelled;
+
+pub use heading::{HeadFault, Heading};
+pub use laws::{
+    lines_have_an_outline, outline_lines_lead, read_declaration_is_spelled,
+    read_workers_are_spelled, spelled_declaration_is_read, spelled_workers_are_read,
+};
+pub use read::TRACE_MAX;
+pub use sort::Sort;
