@@ -1,4 +1,4 @@
-pub mod EntryLemmas
-pub mod ListLemmas
+pub mod EntryParts
+pub mod Places
 pub mod SpelledLemmas
 pub mod WrittenLemmas
