@@ -2,3 +2,8 @@ pub mod EntryParts
 pub mod Places
 pub mod SpelledLemmas
 pub mod WrittenLemmas
+pub mod LineParts
+pub mod OutlineGrows
+pub mod OutlineNames
+pub mod OutlineFound
+pub mod TraceText

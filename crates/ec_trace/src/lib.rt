@@ -6,9 +6,10 @@ mod read;
 mod sort;
 mod spell;
 mod write;
+mod write_heading;
 
 pub use heading::{HeadFault, Heading};
 pub use read::TRACE_MAX;
 pub use sort::Sort;
 pub use spell::Spellings;
-pub use write::{put_act, put_cell, put_entry, put_reply, write_entry};
+pub use write::{put_cell, put_entry, write_entry, write_trace};
