@@ -11,3 +11,12 @@ pub mod SpelledLines
 pub mod Standing
 pub mod Stops
 pub mod WorkersLine
+pub mod EntryParts
+pub mod Places
+pub mod SpelledLemmas
+pub mod WrittenLemmas
+pub mod LineParts
+pub mod OutlineGrows
+pub mod OutlineNames
+pub mod OutlineFound
+pub mod TraceText

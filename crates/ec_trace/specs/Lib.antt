@@ -9,4 +9,6 @@ pub mod Form
 pub mod Kinds
 pub mod Heading
 pub mod HeadingLaws
+pub mod Recalled
 pub mod Spelled
+pub mod WordTables

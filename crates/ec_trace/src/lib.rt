@@ -9,6 +9,9 @@ mod lists;
 mod read;
 mod sort;
 mod spelled;
+mod spell;
+mod write;
+mod write_heading;
 
 pub use heading::{HeadFault, Heading};
 pub use laws::{
@@ -17,3 +20,5 @@ pub use laws::{
 };
 pub use read::TRACE_MAX;
 pub use sort::Sort;
+pub use spell::Spellings;
+pub use write::{put_cell, put_entry, write_entry, write_trace};
