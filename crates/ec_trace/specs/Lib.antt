@@ -4,3 +4,5 @@ pub mod Outline
 pub mod Spelling
 pub mod Grammar
 pub mod Heading
+pub mod Named
+pub mod Entries

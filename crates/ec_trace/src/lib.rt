@@ -1,7 +1,9 @@
 //! Headings and traces: read exactly, written exactly.
 #![tactic(auto)]
 
+mod entry;
 mod heading;
+mod named;
 mod read;
 mod sort;
 
