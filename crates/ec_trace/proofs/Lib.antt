@@ -1,2 +1,4 @@
 pub mod CellLemmas
 pub mod EntryLemmas
+pub mod Goes
+pub mod Stood

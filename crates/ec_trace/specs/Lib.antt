@@ -6,3 +6,6 @@ pub mod Grammar
 pub mod Heading
 pub mod Named
 pub mod Entries
+pub mod Recounted
+pub mod Step
+pub mod Outcome

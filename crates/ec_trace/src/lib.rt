@@ -2,11 +2,18 @@
 #![tactic(auto)]
 
 mod entry;
+mod fault;
 mod heading;
 mod named;
+mod progress;
 mod read;
 mod sort;
+mod stage;
+mod traced;
 
+pub use fault::TraceFault;
 pub use heading::{HeadFault, Heading};
-pub use read::TRACE_MAX;
+pub use progress::LINE_MAX;
+pub use read::{TRACE_MAX, read_trace};
 pub use sort::Sort;
+pub use traced::Traced;
