@@ -4,3 +4,6 @@ pub mod Stepping
 pub mod Totals
 pub mod Moments
 pub mod Silences
+pub mod Pasts
+pub mod Bounds
+pub mod Joining
