@@ -1,9 +1,10 @@
 //! What the lines of a trace so far have built.
-ghost use Rattle.std.specs.Prelude.{◌≡◌, true};
+ghost use Rattle.std.specs.Prelude.{◌≡◌, true, Ok};
 ghost use Rattle.ec_trace.specs.Heading.{Lines};
 ghost use Rattle.ec_trace.specs.Step.{Steps, step, limit_of, is_ended, is_declaring, run_on, ended_on};
+ghost use Rattle.ec_trace.specs.Outcome.{traced_in};
 
-use crate::fault::{LineFault, StageFault};
+use crate::fault::{LineFault, StageFault, TraceFault};
 use crate::heading::{HeadFault, Heading};
 use crate::traced::Traced;
 use ec_count::Limit;
@@ -115,8 +116,7 @@ impl Stage {
             return Err(StageFault::Line(LineFault::Bad));
         };
         if line == b"run".as_slice() && heading.setup().workers() > 0 {
-            self.run(alloc);
-            return Ok(());
+            return self.run(alloc);
         }
         match declare(heading, line) {
             Ok(()) => Ok(()),
@@ -125,16 +125,20 @@ impl Stage {
         }
     }
 
-    /// Begins the run.
+    /// Begins the run. Without memory for it the stage is left at its opening.
     #[cold]
     #[inline(never)]
-    fn run(&mut self, alloc: Global)
-        ensures { self.new ≡ run_on self.old }
+    fn run(&mut self, alloc: Global) -> Result<(), StageFault>
+        ensures { Steps result (Ok (run_on self.old)) self.new }
     {
-        *self = match mem::replace(self, Stage::Opening) {
-            Stage::Declaring(heading) => Stage::Running(Traced::open(alloc, heading)),
-            other => other,
+        let Stage::Declaring(heading) = mem::replace(self, Stage::Opening) else {
+            return Err(StageFault::Memory);
         };
+        let Ok(traced) = Traced::open(alloc, heading) else {
+            return Err(StageFault::Memory);
+        };
+        *self = Stage::Running(traced);
+        Ok(())
     }
 
     /// Ends the trace.
@@ -147,6 +151,18 @@ impl Stage {
             Stage::Running(traced) => Stage::Ended(traced),
             other => other,
         };
+    }
+
+    /// The trace, where its last line came.
+    pub(crate) fn finish(self) -> Result<Traced, TraceFault>
+        ensures { result ≡ traced_in self }
+    {
+        match self {
+            Stage::Ended(traced) => Ok(traced),
+            Stage::Opening | Stage::Limiting | Stage::Declaring(_) | Stage::Running(_) => {
+                Err(TraceFault::Unfinished)
+            }
+        }
     }
 
     /// Whether the last line came.

@@ -1,11 +1,11 @@
 //! A heading and a run on it.
-ghost use Rattle.std.specs.Prelude.{◌≡◌, []};
+ghost use Rattle.std.specs.Prelude.{◌≡◌, [], IfOk};
 
 use crate::entry::read_entry;
 use crate::fault::{LineFault, StageFault};
 use crate::heading::Heading;
 use ec_core::{Run, StepFault};
-use std::alloc::Global;
+use std::alloc::{AllocError, Global};
 use std::marker::Model;
 
 /// A trace that was read: a heading, and a run on what it declares.
@@ -30,11 +30,11 @@ impl Traced {
     ghost use Rattle.ec_trace.specs.Step.{Steps, entry_step};
 
     /// A heading, and no entry yet.
-    pub(crate) fn open(alloc: Global, heading: Heading) -> Traced
-        ensures { result ≡ record { heading = heading; entries = [] } }
+    pub(crate) fn open(alloc: Global, heading: Heading) -> Result<Traced, AllocError>
+        ensures { IfOk result (λ traced. traced ≡ record { heading = heading; entries = [] }) }
     {
-        let run = Run::open(alloc, heading.setup().copy());
-        Traced { run, heading }
+        let run = Run::open(alloc, heading.setup().copy())?;
+        Ok(Traced { run, heading })
     }
 
     /// What the trace declares.
