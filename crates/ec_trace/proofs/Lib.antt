@@ -2,3 +2,9 @@ pub mod CellLemmas
 pub mod EntryLemmas
 pub mod Goes
 pub mod Stood
+pub mod Declarable
+pub mod Listed
+pub mod Phrases
+pub mod Standing
+pub mod Stops
+pub mod WorkersLine

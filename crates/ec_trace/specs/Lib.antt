@@ -1,11 +1,16 @@
 pub mod Sorts
 pub mod Headed
 pub mod Outline
+pub mod Outlined
 pub mod Spelling
 pub mod Grammar
+pub mod Lists
+pub mod Form
+pub mod Kinds
 pub mod Heading
 pub mod Named
 pub mod Entries
 pub mod Recounted
 pub mod Step
 pub mod Outcome
+pub mod HeadingLaws
