@@ -1,5 +1,6 @@
-pub mod CellLemmas
-pub mod EntryLemmas
+pub mod ReadNames
+pub mod ReadCells
+pub mod ReadEntries
 pub mod Goes
 pub mod Stood
 pub mod Declarable

@@ -8,7 +8,7 @@ pub mod Lists
 pub mod Form
 pub mod Kinds
 pub mod Heading
-pub mod Named
+pub mod Spelled
 pub mod Entries
 pub mod Recounted
 pub mod Step

@@ -89,7 +89,7 @@ fn entry_by(
 }
 
 /// The entry of four words and those of the rest.
-#[tactic(auto, using(crate::proofs::EntryLemmas::too_many), unfolding(crate::specs::Entries::entry_in))]
+#[tactic(auto, using(crate::proofs::ReadEntries::too_many), unfolding(crate::specs::Entries::entry_in))]
 fn read_objects(
     heading: &Heading,
     name: &[u8],

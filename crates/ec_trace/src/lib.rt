@@ -3,13 +3,12 @@
 
 mod entry;
 mod fault;
-mod heading;
-mod named;
-mod progress;
 mod form;
 mod heading;
 mod kinds;
 mod lists;
+mod named;
+mod progress;
 mod read;
 mod sort;
 mod stage;
