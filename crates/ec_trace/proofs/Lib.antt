@@ -3,6 +3,8 @@ pub mod ReadCells
 pub mod ReadEntries
 pub mod Goes
 pub mod Stood
+pub mod Blocks
+pub mod Bytes
 pub mod Declarable
 pub mod Listed
 pub mod Phrases

@@ -13,6 +13,7 @@ mod read;
 mod sort;
 mod stage;
 mod traced;
+mod spelled;
 
 pub use fault::TraceFault;
 pub use heading::{HeadFault, Heading};
