@@ -14,4 +14,3 @@ pub mod Recounted
 pub mod Step
 pub mod Outcome
 pub mod HeadingLaws
-pub mod Spelled

@@ -7,7 +7,6 @@ mod form;
 mod heading;
 mod kinds;
 mod lists;
-mod named;
 mod progress;
 mod read;
 mod sort;
