@@ -6,8 +6,13 @@ pub mod Stood
 pub mod Blocks
 pub mod Bytes
 pub mod Declarable
+pub mod LeadLines
+pub mod LineWords
 pub mod Listed
+pub mod NameWords
 pub mod Phrases
+pub mod ReadLines
+pub mod SpelledLines
 pub mod Standing
 pub mod Stops
 pub mod WorkersLine

@@ -6,6 +6,7 @@ mod fault;
 mod form;
 mod heading;
 mod kinds;
+mod laws;
 mod lists;
 mod progress;
 mod read;
@@ -18,5 +19,10 @@ pub use fault::TraceFault;
 pub use heading::{HeadFault, Heading};
 pub use progress::LINE_MAX;
 pub use read::{TRACE_MAX, read_trace};
+pub use laws::{
+    lines_have_an_outline, outline_lines_lead, read_declaration_is_spelled,
+    read_workers_are_spelled, spelled_declaration_is_read, spelled_workers_are_read,
+};
+pub use read::TRACE_MAX;
 pub use sort::Sort;
 pub use traced::Traced;
