@@ -11,18 +11,17 @@ mod lists;
 mod progress;
 mod read;
 mod sort;
+mod spelled;
 mod stage;
 mod traced;
-mod spelled;
 
 pub use fault::TraceFault;
 pub use heading::{HeadFault, Heading};
-pub use progress::LINE_MAX;
-pub use read::{TRACE_MAX, read_trace};
 pub use laws::{
     lines_have_an_outline, outline_lines_lead, read_declaration_is_spelled,
     read_workers_are_spelled, spelled_declaration_is_read, spelled_workers_are_read,
 };
-pub use read::TRACE_MAX;
+pub use progress::LINE_MAX;
+pub use read::{TRACE_MAX, read_trace};
 pub use sort::Sort;
 pub use traced::Traced;
