@@ -1,3 +1,9 @@
+pub mod ReadNames
+pub mod ReadCells
+pub mod ReadEntries
+pub mod ReadHeadings
+pub mod Goes
+pub mod Stood
 pub mod Blocks
 pub mod Bytes
 pub mod Declarable

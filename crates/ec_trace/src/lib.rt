@@ -1,24 +1,32 @@
 //! Headings and traces: read exactly, written exactly.
 #![tactic(auto)]
 
+mod entry;
+mod fault;
 mod form;
 mod heading;
 mod kinds;
 mod laws;
 mod lists;
+mod progress;
 mod read;
 mod sort;
 mod spelled;
 mod spell;
 mod write;
 mod write_heading;
+mod stage;
+mod traced;
 
+pub use fault::TraceFault;
 pub use heading::{HeadFault, Heading};
 pub use laws::{
     lines_have_an_outline, outline_lines_lead, read_declaration_is_spelled,
     read_workers_are_spelled, spelled_declaration_is_read, spelled_workers_are_read,
 };
-pub use read::TRACE_MAX;
+pub use progress::LINE_MAX;
+pub use read::{TRACE_MAX, read_trace};
 pub use sort::Sort;
 pub use spell::Spellings;
 pub use write::{put_cell, put_entry, write_entry, write_trace};
+pub use traced::Traced;

@@ -1,0 +1,165 @@
+//! What the lines of a trace so far have built.
+ghost use Rattle.std.specs.Prelude.{◌≡◌, true, Ok};
+ghost use Rattle.ec_trace.specs.Step.{Steps, step, limit_of, is_ended, is_declaring, run_on, ended_on};
+ghost use Rattle.ec_trace.specs.Outcome.{traced_in};
+
+use crate::fault::{LineFault, StageFault, TraceFault};
+use crate::heading::{HeadFault, Heading};
+use crate::traced::Traced;
+use ec_count::Limit;
+use ec_text::{cut_word, number};
+use std::alloc::Global;
+use std::mem;
+
+/// What the lines so far have built.
+#[derive(Drop)]
+pub enum Stage {
+    /// Nothing.
+    Opening,
+    /// The first line came.
+    Limiting,
+    /// The limit came, and declarations may.
+    Declaring(Heading),
+    /// Entries may come.
+    Running(Traced),
+    /// The last line came.
+    Ended(Traced),
+}
+
+/// The limit that a line gives, if it gives one.
+#[tactic(auto, using(crate::proofs::ReadEntries::third_word), unfolding(crate::specs::Step::limit_of))]
+fn limit_of(line: &[u8]) -> Option<Limit>
+    ensures { result ≡ limit_of line.now }
+{
+    let (word, Some(rest)) = cut_word(line) else {
+        return None;
+    };
+    let (digits, None) = cut_word(rest) else {
+        return None;
+    };
+    if word != b"limit".as_slice() {
+        return None;
+    }
+    Limit::new(number(digits)?)
+}
+
+impl Stage {
+    /// Takes the next line, without its LF.
+    #[tactic(auto, unfolding(crate::specs::Step::step))]
+    pub(crate) fn line(&mut self, alloc: Global, line: &[u8]) -> Result<(), StageFault>
+        ensures { Steps result (step self.old line.now) self.new }
+    {
+        match self {
+            Stage::Running(traced) => {
+                if line == b"end".as_slice() {
+                    self.end();
+                    return Ok(());
+                }
+                traced.line(line)
+            }
+            Stage::Ended(_) => Err(StageFault::Line(LineFault::Bad)),
+            Stage::Opening => self.open(line),
+            Stage::Limiting => self.limit(alloc, line),
+            Stage::Declaring(_) => self.declare(alloc, line),
+        }
+    }
+
+    /// Takes the first line.
+    #[tactic(auto, unfolding(crate::specs::Step::step))]
+    fn open(&mut self, line: &[u8]) -> Result<(), StageFault>
+        requires { self.old ≡ Stage.Opening }
+        ensures { Steps result (step self.old line.now) self.new }
+    {
+        if line == b"evc-trace 1".as_slice() {
+            *self = Stage::Limiting;
+            Ok(())
+        } else {
+            Err(StageFault::Line(LineFault::Bad))
+        }
+    }
+
+    /// Takes the line of the limit.
+    #[cold]
+    #[inline(never)]
+    #[tactic(auto, unfolding(crate::specs::Step::step))]
+    fn limit(&mut self, alloc: Global, line: &[u8]) -> Result<(), StageFault>
+        requires { self.old ≡ Stage.Limiting }
+        ensures { Steps result (step self.old line.now) self.new }
+    {
+        let Some(limit) = limit_of(line) else {
+            return Err(StageFault::Line(LineFault::Bad));
+        };
+        let Ok(heading) = Heading::new(alloc, limit) else {
+            return Err(StageFault::Memory);
+        };
+        *self = Stage::Declaring(heading);
+        Ok(())
+    }
+
+    /// Takes a line behind the limit: of workers, of a declaration, or `run`.
+    #[tactic(auto, unfolding(crate::specs::Step::step))]
+    fn declare(&mut self, alloc: Global, line: &[u8]) -> Result<(), StageFault>
+        requires { is_declaring self.old ≡ true }
+        ensures { Steps result (step self.old line.now) self.new }
+    {
+        let Stage::Declaring(heading) = self else {
+            return Err(StageFault::Line(LineFault::Bad));
+        };
+        if line == b"run".as_slice() && heading.setup().workers() > 0 {
+            return self.run(alloc);
+        }
+        match heading.line(line) {
+            Ok(()) => Ok(()),
+            Err(HeadFault::Memory) => Err(StageFault::Memory),
+            Err(_) => Err(StageFault::Line(LineFault::Bad)),
+        }
+    }
+
+    /// Begins the run. Without memory for it the stage is left at its opening.
+    #[cold]
+    #[inline(never)]
+    fn run(&mut self, alloc: Global) -> Result<(), StageFault>
+        ensures { Steps result (Ok (run_on self.old)) self.new }
+    {
+        let Stage::Declaring(heading) = mem::replace(self, Stage::Opening) else {
+            return Err(StageFault::Memory);
+        };
+        let Ok(traced) = Traced::open(alloc, heading) else {
+            return Err(StageFault::Memory);
+        };
+        *self = Stage::Running(traced);
+        Ok(())
+    }
+
+    /// Ends the trace.
+    #[cold]
+    #[inline(never)]
+    fn end(&mut self)
+        ensures { self.new ≡ ended_on self.old }
+    {
+        *self = match mem::replace(self, Stage::Opening) {
+            Stage::Running(traced) => Stage::Ended(traced),
+            other => other,
+        };
+    }
+
+    /// The trace, where its last line came.
+    pub(crate) fn finish(self) -> Result<Traced, TraceFault>
+        ensures { result ≡ traced_in self }
+    {
+        match self {
+            Stage::Ended(traced) => Ok(traced),
+            Stage::Opening | Stage::Limiting | Stage::Declaring(_) | Stage::Running(_) => {
+                Err(TraceFault::Unfinished)
+            }
+        }
+    }
+
+    /// Whether the last line came.
+    #[tactic(auto, unfolding(crate::specs::Step::is_ended))]
+    pub(crate) fn is_ended(&self) -> bool
+        ensures { result ≡ is_ended self.now }
+    {
+        matches!(self, Stage::Ended(_))
+    }
+}
