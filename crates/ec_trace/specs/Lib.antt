@@ -12,9 +12,7 @@ pub mod HeadingLaws
 pub mod Recalled
 pub mod Spelled
 pub mod WordTables
-pub mod Spelled
 pub mod Entries
 pub mod Recounted
 pub mod Step
 pub mod Outcome
-pub mod HeadingLaws
