@@ -1,0 +1,163 @@
+-- What each entry of an accepted history ends.
+use Rattle.std.proofs.Common.{◌≡◌, ℕ, suc, ◌+◌, ◌%◌, ◌<◌, ◌≤◌, ◌⊎◌, inl, inr, true, false, List, [], ◌∷◌, length, Option, Some, None, refl, ap, sym, ◌∙◌, arith, cond, nat_le}
+use Rattle.std.proofs.lemmas.Bool.{leb-true, leb-false}
+use Rattle.std.proofs.lemmas.Nat.{mod_below}
+use Rattle.ec_count.specs.Tables.{Tables, IsDeclared}
+use Rattle.ec_core.specs.declared.act.Act.{Act}
+use Rattle.ec_core.specs.declared.act.Act.TheVariants.{Advance, Read, Await, Go, Ticket, Put, Get}
+use Rattle.ec_core.specs.declared.act.Reply.{Reply}
+use Rattle.ec_core.specs.declared.act.Reply.TheVariants.{Number, Pending}
+use Rattle.ec_core.specs.declared.act.Entry.{Entry}
+use Rattle.ec_core.specs.Counts.{total, issued, cell_value}
+use Rattle.ec_core.specs.Calls.{CallSoFar as UnderWay, under_way, gone_on, is_pending}
+use Rattle.ec_core.specs.Rounds.{event_or, width, sum_read, round_reply, read_reply, go_reply}
+use Rattle.ec_core.specs.Acceptance.{reply_of, IsAccepted}
+use Rattle.ec_core.proofs.Answering.{allowed, IsAllowed, IsReading, IsReadingCall, call_reads, reading_event, width_some}
+use Rattle.ec_order.specs.Calls.{made, ended, is_reading, number_of}
+use Rattle.ec_order.specs.Object.{Object, told, after}
+use Rattle.ec_order.proofs.Chains.{IsChain, IsChained, call_chain}
+
+-- the numbers are those of a past
+pub record Shows (o : Object) (past : List Entry) : Type 0 where
+  pub events : (e : ℕ) → o.events e ≡ total e past
+  pub sequencers : (q : ℕ) → o.sequencers q ≡ issued q past
+  pub cells : (x : ℕ) → o.cells x ≡ cell_value x past
+
+-- where the number is the one answered, the sequential object answers so
+abbrev pub IsTold : Act → Reply → Type 0
+IsTold op reply = (o : Object) → o.events (event_or op) ≡ number_of reply → told o op ≡ Some reply
+
+-- what an entry of a read or an await that ends it tells: a round is whole, and its sum is answered
+pub record EndsRound (t : Tables) (op : Act) (past : List Entry) (rest : List (List Entry)) (reply : Reply) : Type 0 where
+  pub whole : suc (length rest % width t (event_or op)) ≡ width t (event_or op)
+  pub number : number_of reply ≡ sum_read t (event_or op) (width t (event_or op)) (past ∷ rest)
+  pub told : IsTold op reply
+
+number_told : (n : ℕ) (reply : Reply) → Number n ≡ reply → (m : ℕ) → m ≡ number_of reply → Some (Number m) ≡ Some reply
+number_told n reply h m e = ap (λ k. Some (Number k)) (e ∙ ap number_of (sym h)) ∙ ap Some h
+
+round_told : (op : Act) (s : ℕ) (reply : Reply) → is_reading op ≡ true → round_reply op s ≡ reply → is_pending reply ≡ false
+    → (number_of reply ≡ s) × IsTold op reply
+round_told (Read e) s reply r h p = (ap number_of (sym h), λ o k. number_told s reply h (o.events e) k)
+round_told (Await e v) s reply r h p =
+    elim (nat_le v s) as (λ b. nat_le v s ≡ b → cond b (Number s) Pending ≡ reply → (number_of reply ≡ s) × IsTold (Await e v) reply) [
+      | true ↦ λ le g. (
+        ap number_of (sym g),
+        λ o k.
+            (let same : o.events e ≡ s = k ∙ ap number_of (sym g) in
+            ap (λ n. cond (nat_le v n) (Some (Number (o.events e))) None) same ∙ ap (λ b. cond b (Some (Number (o.events e))) None) le ∙ number_told s reply g (o.events e) k),
+      )
+      | false ↦ λ le g. cc
+    ] refl h
+round_told (Advance e) s reply r h p = cc
+round_told Go s reply r h p = cc
+round_told (Ticket q) s reply r h p = cc
+round_told (Put x v) s reply r h p = cc
+round_told (Get x) s reply r h p = cc
+
+read_told : (t : Tables) (op : Act) (past : List Entry) (rest : List (List Entry)) (reply : Reply) → 0 < width t (event_or op) → is_reading op ≡ true
+    → read_reply t op past rest ≡ reply → is_pending reply ≡ false → EndsRound t op past rest reply
+unfolding read_reply
+read_told t op past rest reply some r h p =
+    let n = width t (event_or op) in
+    let c = length rest % n in
+    elim (nat_le n (c + 1)) as (λ b. nat_le n (c + 1) ≡ b → cond b (round_reply op (sum_read t (event_or op) (suc c) (past ∷ rest))) Pending ≡ reply → EndsRound t op past rest reply) [
+      | true ↦ λ e g.
+          (let le : n ≤ c + 1 = leb-true n (c + 1) e in
+          let lt : c < n = mod_below (length rest) n some in
+          let whole : suc c ≡ n = omega arith in
+          let k = round_told op (sum_read t (event_or op) (suc c) (past ∷ rest)) reply r g p in
+          record { whole = whole; number = k.0 ∙ ap (λ i. sum_read t (event_or op) i (past ∷ rest)) whole; told = k.1 })
+      | false ↦ λ e g. cc
+    ] refl h
+
+-- WHAT AN ENTRY ENDS, where o is the call of its worker that was under way
+
+abbrev pub IsQuiet : Act → Type 0
+IsQuiet act = (o : Object) → after o act ≡ o
+
+pub record EndsNothing (t : Tables) (x : Entry) (past : List Entry) (o : Option UnderWay) : Type 0 where
+  pub is : ended t x (gone_on x.act past o) ≡ []
+  pub quiet : IsQuiet x.act
+
+pub record EndsReading (t : Tables) (x : Entry) (past : List Entry) (o : Option UnderWay) : Type 0 where
+  pub op : Act
+  pub rest : List (List Entry)
+  pub is : ended t x (gone_on x.act past o) ≡ made t x op (past ∷ rest) ∷ []
+  pub quiet : IsQuiet x.act
+  pub reading : is_reading op ≡ true
+  pub known : event_or op < 32
+  pub chain : IsChain past rest
+  pub round : EndsRound t op past rest x.reply
+
+pub record EndsActing (t : Tables) (x : Entry) (past : List Entry) (o : Option UnderWay) : Type 0 where
+  pub is : ended t x (gone_on x.act past o) ≡ made t x x.act (past ∷ []) ∷ []
+  pub acting : is_reading x.act ≡ false
+  pub told : (s : Object) → Shows s past → told s x.act ≡ Some x.reply
+
+abbrev pub Ends : Tables → Entry → List Entry → Option UnderWay → Type 0
+Ends t x past o = EndsNothing t x past o ⊎ (EndsReading t x past o ⊎ EndsActing t x past o)
+
+abbrev entry : ℕ → Act → Reply → Entry
+entry w act reply = record { worker = w; act = act; reply = reply }
+
+reading_ends : (t : Tables) (past : List Entry) (w : ℕ) (act op : Act) (reply : Reply) (rest : List (List Entry)) (o : Option UnderWay)
+    → gone_on act past o ≡ Some (record { op = op; moments = past ∷ rest }) → IsQuiet act → is_reading op ≡ true → event_or op < 32 → IsChain past rest
+    → 0 < width t (event_or op) → read_reply t op past rest ≡ reply → Ends t (entry w act reply) past o
+reading_ends t past w act op reply rest o gone quiet r known chain some h =
+    elim (is_pending reply) as (λ b. is_pending reply ≡ b → Ends t (entry w act reply) past o) [
+      | true ↦ λ e. inl (record { is = ap (ended t (entry w act reply)) gone ∙ ap (λ b. cond b [] (made t (entry w act reply) op (past ∷ rest) ∷ [])) e; quiet = quiet })
+      | false ↦ λ e.
+          (inr (inl (record {
+            op = op;
+            rest = rest;
+            is = ap (ended t (entry w act reply)) gone ∙ ap (λ b. cond b [] (made t (entry w act reply) op (past ∷ rest) ∷ [])) e;
+            quiet = quiet;
+            reading = r;
+            known = known;
+            chain = chain;
+            round = read_told t op past rest reply some r h e;
+          })))
+    ] refl
+
+acting_ends : (t : Tables) (past : List Entry) (w : ℕ) (act : Act) (reply : Reply) (o : Option UnderWay)
+    → gone_on act past o ≡ Some (record { op = act; moments = past ∷ [] }) → is_pending reply ≡ false → is_reading act ≡ false
+    → ((s : Object) → Shows s past → told s act ≡ Some reply) → Ends t (entry w act reply) past o
+acting_ends t past w act reply o gone p r h =
+    inr (inr (record { is = ap (ended t (entry w act reply)) gone ∙ ap (λ b. cond b [] (made t (entry w act reply) act (past ∷ []) ∷ [])) p; acting = r; told = h }))
+
+op_reads : (t : Tables) (op : Act) → IsReading t op → is_reading op ≡ true
+op_reads t (Read e) h = refl
+op_reads t (Await e v) h = refl
+op_reads t (Advance e) h = absurd h
+op_reads t Go h = absurd h
+op_reads t (Ticket q) h = absurd h
+op_reads t (Put x v) h = absurd h
+op_reads t (Get x) h = absurd h
+
+go_ends : (t : Tables) (past : List Entry) (w : ℕ) (reply : Reply) (o : Option UnderWay) → IsDeclared t → IsChained past o → IsReadingCall t o
+    → go_reply t past o ≡ reply → Ends t (entry w Go reply) past o
+go_ends t past w reply None d chain reads h = inl (record { is = refl; quiet = λ s. refl })
+go_ends t past w reply (Some call) d chain reads h =
+    reading_ends t past w Go call.op reply call.moments (Some call) refl (λ s. refl) (op_reads t call.op reads) (let few : length t.events ≤ 32 = d.few in let e : event_or call.op < length t.events = reading_event t call.op reads in omega arith) chain
+    (width_some t (event_or call.op) d (reading_event t call.op reads)) h
+
+-- what an accepted entry ends
+pub ends_at : (t : Tables) (past : List Entry) (w : ℕ) (act : Act) (reply : Reply) → IsDeclared t → IsAccepted t past → IsAllowed t past w act → reply_of t past w act ≡ reply
+    → Ends t (entry w act reply) past (under_way w past)
+ends_at t past w (Advance e) reply d acc a h = acting_ends t past w (Advance e) reply (under_way w past) refl (ap is_pending (sym h)) refl (λ s k. ap Some h)
+ends_at t past w (Read e) reply d acc a h =
+    reading_ends t past w (Read e) (Read e) reply [] (under_way w past) refl (λ s. refl) refl (let few : length t.events ≤ 32 = d.few in let k : e < length t.events = leb-false (length t.events) e a.known in omega arith) tt (width_some t e d (leb-false (length t.events) e a.known)) h
+ends_at t past w (Await e v) reply d acc a h =
+    reading_ends t past w (Await e v) (Await e v) reply [] (under_way w past) refl (λ s. refl) refl (let few : length t.events ≤ 32 = d.few in let k : e < length t.events = leb-false (length t.events) e a.known in omega arith) tt (width_some t e d (leb-false (length t.events) e a.known)) h
+ends_at t past w Go reply d acc a h = go_ends t past w reply (under_way w past) d (call_chain w past) (call_reads t past w acc) h
+ends_at t past w (Ticket q) reply d acc a h =
+    acting_ends t past w (Ticket q) reply (under_way w past) refl (ap is_pending (sym h)) refl (λ s k. ap (λ n. Some (Number n)) (k.sequencers q) ∙ ap Some h)
+ends_at t past w (Put x v) reply d acc a h = acting_ends t past w (Put x v) reply (under_way w past) refl (ap is_pending (sym h)) refl (λ s k. ap Some h)
+ends_at t past w (Get x) reply d acc a h =
+    acting_ends t past w (Get x) reply (under_way w past) refl (ap is_pending (sym h)) refl (λ s k. ap (λ n. Some (Number n)) (k.cells x) ∙ ap Some h)
+
+pub ends : (t : Tables) (x : Entry) (past : List Entry) → IsDeclared t → IsAccepted t (x ∷ past) → Ends t x past (under_way x.worker past)
+ends t x past d acc =
+    let k = allowed t past x.worker x.act x.reply acc.0 in
+    ends_at t past x.worker x.act x.reply d acc.1 k.0 k.1

@@ -1,0 +1,52 @@
+-- Points by an index of the advances.
+use Rattle.std.specs.Prelude.{◌≡◌, ℕ, ◌+◌, ◌<◌, Bool, not, max, List, zero, suc, [], ◌∷◌, ◌++◌, length, map, Option, Some, None, if◌then◌else◌, slice_index, slice_index_or, Vec}
+use Rattle.std.specs.declared.alloc.Global.{Global}
+use Rattle.std.specs.List.{filter}
+use Rattle.ec_core.specs.declared.act.Act.{Act}
+use Rattle.ec_core.specs.declared.act.Act.TheVariants.{Advance}
+use Rattle.ec_core.specs.declared.act.Entry.{Entry}
+use Rattle.ec_core.specs.Counts.{is_advance}
+use Rattle.ec_core.specs.Rounds.{event_or}
+use Rattle.ec_order.specs.declared.call.Call.{Call}
+use Rattle.ec_order.specs.declared.call.Placed.{Placed}
+use Rattle.ec_order.specs.Calls.{is_reading, number_of}
+
+-- the moments after the advances of e
+unfoldable pub advanced : ℕ → List Entry → List ℕ
+advanced e [] = []
+advanced e (x ∷ past) = advanced e past ++ (if is_advance e x.act then (length past + 1) ∷ [] else [])
+
+-- the moment after the r-th advance, and moment 0 for r = 0
+abbrev pub moment_of : List ℕ → ℕ → ℕ
+moment_of moments zero = 0
+moment_of moments (suc r) = slice_index moments r
+
+-- the moments of e in an index of them
+abbrev pub moments_in : List (Vec ℕ Global) → ℕ → List ℕ
+moments_in lists e = slice_index_or (map (λ v. v.items) lists) e []
+
+abbrev pub IsIndex : List Entry → List (Vec ℕ Global) → Type 0
+IsIndex past lists = (e : ℕ) → e < 32 → moments_in lists e ≡ advanced e past
+
+-- the point of a call, where these are the moments after the advances of its eventcount
+abbrev pub point_by : List ℕ → Call → ℕ
+point_by moments c = if is_reading c.op then max c.round (moment_of moments (number_of c.reply)) else c.last
+
+abbrev pub point_in : List (Vec ℕ Global) → Call → ℕ
+point_in lists c = point_by (moments_in lists (event_or c.op)) c
+
+abbrev pub placed_in : List (Vec ℕ Global) → Call → Placed
+placed_in lists c = record { call = c; point = point_in lists c }
+
+-- the reads and awaits, and then the others
+abbrev pub reads_first : List Placed → List Placed
+reads_first ps = filter (λ (p : Placed). is_reading p.call.op) ps ++ filter (λ (p : Placed). not (is_reading p.call.op)) ps
+
+-- whether a call is a read or an await, or neither, as is asked
+abbrev pub has_kind : Bool → Call → Bool
+has_kind reading c = if is_reading c.op then reading else not reading
+
+-- the eventcount that an act advances
+abbrev pub raised_by : Act → Option ℕ
+raised_by (Advance e) = Some e
+raised_by _ = None

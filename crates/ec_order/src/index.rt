@@ -1,0 +1,100 @@
+//! Points by an index of the advances.
+ghost use Rattle.std.specs.Prelude.{◌≡◌, ℕ, ◌<◌, ◌+◌, [], ◌∷◌, ◌++◌, length, reverse, slice_set, slice_index_or, IfOk, OnOk, IfSome};
+ghost use Rattle.ec_core.specs.Rounds.{event_or};
+ghost use Rattle.ec_order.specs.Calls.{is_reading, number_of};
+ghost use Rattle.ec_order.specs.Index.{moment_of, moments_in, IsIndex, point_in, raised_by};
+
+use crate::Call;
+use crate::scan::event_or;
+use ec_core::{Act, Reply, Run};
+use std::alloc::{AllocError, Global};
+
+pub(crate) fn is_reading(op: Act) -> bool
+    ensures { result ≡ is_reading op }
+{
+    match op {
+        Act::Read(_) | Act::Await(_, _) => true,
+        Act::Advance(_) | Act::Go | Act::Ticket(_) | Act::Put(_, _) | Act::Get(_) => false,
+    }
+}
+
+fn number_of(reply: Reply) -> u64
+    ensures { result ≡ number_of reply }
+{
+    match reply {
+        Reply::Number(n) => n,
+        Reply::Done | Reply::Pending => 0,
+    }
+}
+
+/// The eventcount that an act advances.
+fn advanced(act: Act) -> Option<usize>
+    ensures value { result ≡ raised_by act }
+    ensures small { IfSome result (λ e. e < 32) }
+{
+    match act {
+        Act::Advance(event) => Some(event.get()),
+        _ => None,
+    }
+}
+
+/// Adds a moment to those of eventcount e.
+fn note(lists: &mut Vec<Vec<usize>>, event: usize, moment: usize) -> Result<(), AllocError>
+    requires { event < length lists.old.items }
+    ensures { OnOk result ((v : _) × (v.items ≡ moments_in lists.old.items event ++ moment ∷ []) × (lists.new.items ≡ slice_set lists.old.items event v)) }
+{
+    let list = &mut lists[event];
+    list.push(moment)?;
+    Ok(())
+}
+
+/// An index with no moment.
+fn no_moments(alloc: Global) -> Result<Vec<Vec<usize>>, AllocError>
+    ensures long { IfOk result (λ ls. length ls.items ≡ 32) }
+    ensures value { IfOk result (λ ls. (e : ℕ) → moments_in ls.items e ≡ []) }
+{
+    let mut lists = Vec::new(alloc);
+    for _ in 0..32usize {
+        lists.push(Vec::new(alloc))?;
+    }
+    Ok(lists)
+}
+
+/// The moments after the advances of each eventcount.
+pub(crate) fn index(alloc: Global, run: &Run) -> Result<Vec<Vec<usize>>, AllocError>
+    ensures long { IfOk result (λ ls. length ls.items ≡ 32) }
+    ensures value { IfOk result (λ ls. IsIndex (reverse run.now.entries) ls.items) }
+{
+    let mut lists = no_moments(alloc)?;
+    for i in 0..run.len() {
+        if let Some(entry) = run.entry(i) {
+            if let Some(event) = advanced(entry.act) {
+                note(&mut lists, event, i + 1)?;
+            }
+        }
+    }
+    Ok(lists)
+}
+
+fn moment_of(moments: &[usize], r: u64) -> usize
+    ensures { result ≡ moment_of moments.now r }
+{
+    if r == 0 {
+        0
+    } else {
+        moments.get((r - 1) as usize).copied().unwrap_or(0)
+    }
+}
+
+/// The point of a call.
+pub(crate) fn point(lists: &[Vec<usize>], call: &Call) -> usize
+    requires { length lists.now ≡ 32 }
+    ensures { result ≡ point_in lists.now call.now }
+{
+    if is_reading(call.op) {
+        let moments = &lists[event_or(call.op)];
+        call.round.max(moment_of(moments, number_of(call.reply)))
+    } else {
+        call.last
+    }
+}
