@@ -4,3 +4,5 @@ pub mod Stepping
 pub mod Totals
 pub mod Moments
 pub mod Silences
+pub mod Pasts
+pub mod Bounds

@@ -1,5 +1,5 @@
 -- What silent workers did leaves no trace in what the others are told.
-use Rattle.std.proofs.Common.{◌≡◌, ℕ, zero, suc, ◌+◌, ◌%◌, Bool, true, false, not, ◌&&◌, List, [], ◌∷◌, length, Option, Some, None, is_some, Ok, unwrap_or, nat_le, refl, ap, sym, ◌∙◌, arith, subst, cond, ◌==◌, map}
+use Rattle.std.proofs.Common.{◌≡◌, ℕ, zero, suc, ◌+◌, ◌%◌, Bool, true, false, not, ◌&&◌, List, [], ◌∷◌, length, Option, Some, None, is_some, unwrap_or, nat_le, refl, ap, sym, ◌∙◌, cond, ◌==◌, map}
 use Rattle.std.specs.Option.{option_map, option_map_or}
 use Rattle.std.proofs.lemmas.Bool.{eqb-true}
 use Rattle.std.proofs.Math.Nat.{zero-add}
@@ -7,8 +7,7 @@ use Rattle.std.proofs.lemmas.List.{length-map}
 use Rattle.ec_count.specs.Tables.{Tables, may_take, may_write}
 use Rattle.ec_core.specs.declared.act.Act.{Act}
 use Rattle.ec_core.specs.declared.act.Act.TheVariants.{Advance, Read, Await, Go, Ticket, Put, Get}
-use Rattle.ec_core.specs.declared.act.Reply.{Reply}
-use Rattle.ec_core.specs.declared.act.Reply.TheVariants.{Done, Number, Pending}
+use Rattle.ec_core.specs.declared.act.Reply.TheVariants.{Number, Pending}
 use Rattle.ec_core.specs.declared.act.Entry.{Entry}
 use Rattle.ec_core.specs.Counts.{component_total, issued, cell_value, is_advance, is_ticket, is_place, put_in, component_at}
 use Rattle.ec_core.specs.Calls.{CallSoFar, under_way, gone_on, is_pending}
@@ -26,10 +25,10 @@ unfolding component_total
 comp_without t s e c [] silent = refl
 comp_without t s e c (x ∷ past) silent =
     elim (s x.worker) as (λ b. s x.worker ≡ b → component_total t e c (cond b (without s past) (x ∷ without s past)) ≡ cond (is_advance e x.act && is_place c (component_at t e past x.worker)) 1 0 + component_total t e c past) [
-      true ↦ λ h.
-        (let off : (is_advance e x.act && is_place c (component_at t e past x.worker)) ≡ false = ap (λ o. is_advance e x.act && is_place c o) ((silent x.worker h).signals e) ∙ never (is_advance e x.act) in
-         comp_without t s e c past silent ∙ sym (zero-add (component_total t e c past)) ∙ ap (λ b. cond b 1 0 + component_total t e c past) (sym off))
-    | false ↦ λ h. ap (λ n. cond (is_advance e x.act && is_place c (component_at t e past x.worker)) 1 0 + n) (comp_without t s e c past silent)
+      | true ↦ λ h.
+          (let off : (is_advance e x.act && is_place c (component_at t e past x.worker)) ≡ false = ap (λ o. is_advance e x.act && is_place c o) ((silent x.worker h).signals e) ∙ never (is_advance e x.act) in
+          comp_without t s e c past silent ∙ sym (zero-add (component_total t e c past)) ∙ ap (λ b. cond b 1 0 + component_total t e c past) (sym off))
+      | false ↦ λ h. ap (λ n. cond (is_advance e x.act && is_place c (component_at t e past x.worker)) 1 0 + n) (comp_without t s e c past silent)
     ] refl
 
 no_ticket : (t : Tables) (past : List Entry) (w q : ℕ) (act : Act) → not (has_right t past w act) ≡ false → IsSilent t w → is_ticket q act ≡ false
@@ -55,10 +54,10 @@ unfolding issued
 issued_without t s q [] acc silent = refl
 issued_without t s q (x ∷ past) acc silent =
     elim (s x.worker) as (λ b. s x.worker ≡ b → issued q (cond b (without s past) (x ∷ without s past)) ≡ cond (is_ticket q x.act) 1 0 + issued q past) [
-      true ↦ λ h.
-        (let off : is_ticket q x.act ≡ false = no_ticket t past x.worker q x.act (allowed t past x.worker x.act x.reply acc.0).0.right (silent x.worker h) in
-         issued_without t s q past acc.1 silent ∙ sym (zero-add (issued q past)) ∙ ap (λ b. cond b 1 0 + issued q past) (sym off))
-    | false ↦ λ h. ap (λ n. cond (is_ticket q x.act) 1 0 + n) (issued_without t s q past acc.1 silent)
+      | true ↦ λ h.
+          (let off : is_ticket q x.act ≡ false = no_ticket t past x.worker q x.act (allowed t past x.worker x.act x.reply acc.0).0.right (silent x.worker h) in
+          issued_without t s q past acc.1 silent ∙ sym (zero-add (issued q past)) ∙ ap (λ b. cond b 1 0 + issued q past) (sym off))
+      | false ↦ λ h. ap (λ n. cond (is_ticket q x.act) 1 0 + n) (issued_without t s q past acc.1 silent)
     ] refl
 
 cell_without : (t : Tables) (s : ℕ → Bool) (y : ℕ) (past : List Entry) → IsAccepted t past → ((w : ℕ) → s w ≡ true → IsSilent t w) → cell_value y (without s past) ≡ cell_value y past
@@ -66,10 +65,10 @@ unfolding cell_value
 cell_without t s y [] acc silent = refl
 cell_without t s y (x ∷ past) acc silent =
     elim (s x.worker) as (λ b. s x.worker ≡ b → cell_value y (cond b (without s past) (x ∷ without s past)) ≡ unwrap_or (put_in y x.act) (cell_value y past)) [
-      true ↦ λ h.
-        (let off : put_in y x.act ≡ None = no_put t past x.worker y x.act (allowed t past x.worker x.act x.reply acc.0).0.right (silent x.worker h) in
-         cell_without t s y past acc.1 silent ∙ ap (λ o. unwrap_or o (cell_value y past)) (sym off))
-    | false ↦ λ h. ap (unwrap_or (put_in y x.act)) (cell_without t s y past acc.1 silent)
+      | true ↦ λ h.
+          (let off : put_in y x.act ≡ None = no_put t past x.worker y x.act (allowed t past x.worker x.act x.reply acc.0).0.right (silent x.worker h) in
+          cell_without t s y past acc.1 silent ∙ ap (λ o. unwrap_or o (cell_value y past)) (sym off))
+      | false ↦ λ h. ap (unwrap_or (put_in y x.act)) (cell_without t s y past acc.1 silent)
     ] refl
 
 abbrev call_without : (ℕ → Bool) → CallSoFar → CallSoFar
@@ -94,18 +93,18 @@ unfolding under_way
 under_way_without s w [] h = refl
 under_way_without s w (x ∷ past) h =
     elim (s x.worker) as (λ b. s x.worker ≡ b → under_way w (cond b (without s past) (x ∷ without s past))
-        ≡ option_map (call_without s) (cond (x.worker == w) (cond (is_pending x.reply) (gone_on x.act past (under_way w past)) None) (under_way w past))) [
-      true ↦ λ k.
-        (elim (x.worker == w) as (λ b. (x.worker == w) ≡ b → under_way w (without s past) ≡ option_map (call_without s) (cond b (cond (is_pending x.reply) (gone_on x.act past (under_way w past)) None) (under_way w past))) [
-           true ↦ λ e. (let same : x.worker ≡ w = eqb-true x.worker w e in let yes : s w ≡ true = ap s (sym same) ∙ k in cc)
-         | false ↦ λ e. under_way_without s w past h
-         ] refl)
-    | false ↦ λ k.
-        (elim (x.worker == w) as (λ b. cond b (cond (is_pending x.reply) (gone_on x.act (without s past) (under_way w (without s past))) None) (under_way w (without s past)) ≡ option_map (call_without s) (cond b (cond (is_pending x.reply) (gone_on x.act past (under_way w past)) None) (under_way w past))) [
-           true ↦ ap (λ o. cond (is_pending x.reply) (gone_on x.act (without s past) o) None) (under_way_without s w past h)
-                  ∙ ap (λ o. cond (is_pending x.reply) o None) (gone_without s x.act past (under_way w past)) ∙ if_without s (is_pending x.reply) (gone_on x.act past (under_way w past))
-         | false ↦ under_way_without s w past h
-         ])
+    ≡ option_map (call_without s) (cond (x.worker == w) (cond (is_pending x.reply) (gone_on x.act past (under_way w past)) None) (under_way w past))) [
+      | true ↦ λ k.
+          (elim (x.worker == w) as (λ b. (x.worker == w) ≡ b → under_way w (without s past) ≡ option_map (call_without s) (cond b (cond (is_pending x.reply) (gone_on x.act past (under_way w past)) None) (under_way w past))) [
+            | true ↦ λ e. (let same : x.worker ≡ w = eqb-true x.worker w e in let yes : s w ≡ true = ap s (sym same) ∙ k in cc)
+            | false ↦ λ e. under_way_without s w past h
+          ] refl)
+      | false ↦ λ k.
+          (elim (x.worker == w) as (λ b. cond b (cond (is_pending x.reply) (gone_on x.act (without s past) (under_way w (without s past))) None) (under_way w (without s past)) ≡ option_map (call_without s) (cond b (cond (is_pending x.reply) (gone_on x.act past (under_way w past)) None) (under_way w past))) [
+            | true ↦ ap (λ o. cond (is_pending x.reply) (gone_on x.act (without s past) o) None) (under_way_without s w past h)
+                ∙ ap (λ o. cond (is_pending x.reply) o None) (gone_without s x.act past (under_way w past)) ∙ if_without s (is_pending x.reply) (gone_on x.act past (under_way w past))
+            | false ↦ under_way_without s w past h
+          ])
     ] refl
 
 is_some_without : (s : ℕ → Bool) (o : Option CallSoFar) → is_some (option_map (call_without s) o) ≡ is_some o
@@ -181,6 +180,6 @@ pub accepted_without : (t : Tables) (s : ℕ → Bool) (past : List Entry) → I
 accepted_without t s [] acc silent = tt
 accepted_without t s (x ∷ past) acc silent =
     elim (s x.worker) as (λ b. s x.worker ≡ b → IsAccepted t (cond b (without s past) (x ∷ without s past))) [
-      true ↦ λ h. accepted_without t s past acc.1 silent
-    | false ↦ λ h. (answer_without t s past x.worker x.act acc.1 silent h ∙ acc.0, accepted_without t s past acc.1 silent)
+      | true ↦ λ h. accepted_without t s past acc.1 silent
+      | false ↦ λ h. (answer_without t s past x.worker x.act acc.1 silent h ∙ acc.0, accepted_without t s past acc.1 silent)
     ] refl

@@ -88,7 +88,7 @@ unfolding component_total
 comp_grows t e c [] early = omega arith
 comp_grows t e c (x ∷ since) early = (let rest : component_total t e c early ≤ component_total t e c (since ++ early) = comp_grows t e c since early in omega arith)
 
-comp_later : (t : Tables) (e c : ℕ) (early late : List Entry) → IsPastOf early late → component_total t e c early ≤ component_total t e c late
+pub comp_later : (t : Tables) (e c : ℕ) (early late : List Entry) → IsPastOf early late → component_total t e c early ≤ component_total t e c late
 comp_later t e c early late p = rw p.is (comp_grows t e c p.since early)
 
 sum_low : (t : Tables) (e n : ℕ) (early : List Entry) (moments : List (List Entry)) → length moments ≡ n → IsPastOfEach early moments

@@ -1,11 +1,11 @@
 -- The counts of a history. A past is the list of the entries before a moment, the newest first, so that each
 -- entry stands before its own past: the past at moment k is the first k entries, turned round. (Reed and
 -- Kanodia: the value of an eventcount is the number of its advances.)
-use Rattle.std.specs.Prelude.{ℕ, ◌+◌, Bool, true, false, ◌==◌, ◌&&◌, List, [], ◌∷◌, zero, suc, reverse, take, Option, Some, None, if◌then◌else◌, unwrap_or}
+use Rattle.std.specs.Prelude.{ℕ, ◌+◌, Bool, false, ◌==◌, ◌&&◌, List, [], ◌∷◌, zero, suc, reverse, take, Option, Some, None, if◌then◌else◌, unwrap_or}
 use Rattle.ec_count.specs.Tables.{Tables, signallers}
 use Rattle.ec_count.specs.Members.{place_of}
 use Rattle.ec_core.specs.declared.act.Act.{Act}
-use Rattle.ec_core.specs.declared.act.Act.TheVariants.{Advance, Read, Await, Go, Ticket, Put, Get}
+use Rattle.ec_core.specs.declared.act.Act.TheVariants.{Advance, Ticket, Put}
 use Rattle.ec_core.specs.declared.act.Entry.{Entry}
 
 -- the past at moment k of a history, which is in natural order

@@ -1,7 +1,7 @@
 -- What a step does to the fields of a world: plain functions of them, below the definitions over a history.
-use Rattle.std.specs.Prelude.{◌≡◌, ℕ, ◌+◌, ◌<◌, Bool, false, ◌==◌, nat_le, List, Option, Some, None, is_some, if◌then◌else◌, slice_get, slice_set, slice_index, Result, reverse, unwrap_or}
-use Rattle.std.specs.Option.{option_map, option_map_or, option_and_then}
-use Rattle.ec_count.specs.Tables.{Tables, component_of, IsDeclared}
+use Rattle.std.specs.Prelude.{ℕ, ◌+◌, ◌<◌, Bool, false, ◌==◌, nat_le, List, Option, Some, None, is_some, if◌then◌else◌, slice_get, slice_set, slice_index, Result, unwrap_or}
+use Rattle.std.specs.Option.{option_map_or}
+use Rattle.ec_count.specs.Tables.{component_of}
 use Rattle.ec_count.specs.Counted.{Counted, raised}
 use Rattle.ec_core.specs.declared.act.Act.{Act}
 use Rattle.ec_core.specs.declared.act.Act.TheVariants.{Advance, Read, Await, Go, Ticket, Put, Get}
@@ -10,10 +10,8 @@ use Rattle.ec_core.specs.declared.act.Reply.TheVariants.{Done, Number, Pending}
 use Rattle.ec_core.specs.declared.act.Entry.{Entry}
 use Rattle.ec_core.specs.declared.act.Refusal.{Refusal}
 use Rattle.ec_core.specs.Progress.{Progress}
-use Rattle.ec_core.specs.Counts.{component_total, issued, cell_value}
-use Rattle.ec_core.specs.Calls.{CallSoFar, under_way}
-use Rattle.ec_core.specs.Rounds.{event_or, width, sum_read, next_component, round_reply}
-use Rattle.ec_core.specs.Acceptance.{IsAccepted, refused_or, refusal_in, has_right}
+use Rattle.ec_core.specs.Rounds.{event_or, width, round_reply}
+use Rattle.ec_core.specs.Acceptance.{refused_or, refusal_in, has_right}
 use Rattle.ec_core.specs.Standing.{State, count_at}
 
 abbrev pub is_full : Option Counted → Bool

@@ -8,3 +8,5 @@ pub mod Standing
 pub mod Fields
 pub mod Recorded
 pub mod Faults
+pub mod Refusals
+pub mod Values

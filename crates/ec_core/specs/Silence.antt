@@ -1,5 +1,5 @@
 -- Silent workers, and a history without them.
-use Rattle.std.specs.Prelude.{◌≡◌, ℕ, ◌<◌, Bool, true, false, List, [], ◌∷◌, Option, None, if◌then◌else◌}
+use Rattle.std.specs.Prelude.{◌≡◌, ℕ, Bool, false, List, [], ◌∷◌, None, if◌then◌else◌}
 use Rattle.ec_count.specs.Tables.{Tables, may_take, may_write}
 use Rattle.ec_core.specs.declared.act.Entry.{Entry}
 use Rattle.ec_core.specs.Counts.{component_at}

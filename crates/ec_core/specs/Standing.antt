@@ -1,19 +1,14 @@
 -- What a world is, as a contract sees it, and which histories it stands for.
-use Rattle.std.specs.Prelude.{◌≡◌, ℕ, ◌+◌, ◌<◌, Bool, false, ◌==◌, nat_le, List, Option, Some, None, is_some, if◌then◌else◌, slice_get, slice_set, slice_index, Result, reverse, unwrap_or}
-use Rattle.std.specs.Option.{option_map, option_map_or, option_and_then}
-use Rattle.ec_count.specs.Tables.{Tables, component_of, IsDeclared}
-use Rattle.ec_count.specs.Counted.{Counted, raised}
-use Rattle.ec_core.specs.declared.act.Act.{Act}
-use Rattle.ec_core.specs.declared.act.Act.TheVariants.{Advance, Read, Await, Go, Ticket, Put, Get}
-use Rattle.ec_core.specs.declared.act.Reply.{Reply}
-use Rattle.ec_core.specs.declared.act.Reply.TheVariants.{Done, Number, Pending}
+use Rattle.std.specs.Prelude.{◌≡◌, ℕ, ◌<◌, List, Option, Some, slice_get, reverse}
+use Rattle.std.specs.Option.{option_map, option_and_then}
+use Rattle.ec_count.specs.Tables.{Tables, IsDeclared}
+use Rattle.ec_count.specs.Counted.{Counted}
 use Rattle.ec_core.specs.declared.act.Entry.{Entry}
-use Rattle.ec_core.specs.declared.act.Refusal.{Refusal}
 use Rattle.ec_core.specs.Progress.{Progress}
 use Rattle.ec_core.specs.Counts.{component_total, issued, cell_value}
 use Rattle.ec_core.specs.Calls.{CallSoFar, under_way}
-use Rattle.ec_core.specs.Rounds.{event_or, width, sum_read, next_component, round_reply}
-use Rattle.ec_core.specs.Acceptance.{IsAccepted, refused_or, refusal_in, has_right}
+use Rattle.ec_core.specs.Rounds.{event_or, sum_read, next_component}
+use Rattle.ec_core.specs.Acceptance.{IsAccepted}
 
 pub record State : Type 0 where
   pub setup : Tables

@@ -3,9 +3,10 @@ ghost use Rattle.std.specs.Prelude.{◌≡◌, ℕ, ◌<◌, List, [], ◌∷◌
 ghost use Rattle.ec_count.specs.Tables.{IsDeclared};
 ghost use Rattle.ec_core.specs.declared.act.Entry.{Entry};
 ghost use Rattle.ec_core.specs.Acceptance.{answer_of, IsAccepted};
+ghost use Rattle.ec_core.specs.Values.{TellsAtMost};
 ghost use Rattle.ec_core.specs.Recorded.{Recorded};
 
-use crate::{Act, Entry, Refusal, Reply, World};
+use crate::{Act, Entry, Refusal, Reply, VALUE_MAX, World};
 use ec_count::{Setup, WorkerId};
 use std::alloc::{AllocError, AllocFailed, Global};
 use std::marker::Model;
@@ -81,6 +82,7 @@ impl Run {
             (λ reply. answer_of self.old.setup (reverse self.old.entries) worker act ≡ Ok reply)
             (λ fault. IsFaultOf fault (answer_of self.old.setup (reverse self.old.entries) worker act)) }
         ensures ok { IfOk result (λ reply. self.new ≡ record self.old { entries = self.old.entries ++ record { worker = worker; act = act; reply = reply } ∷ [] }) }
+        ensures small { IfOk result (TellsAtMost VALUE_MAX) }
         ensures err { OnErr result (self.new ≡ self.old) }
     {
         let reply = match self.world.answer(worker, &act) {

@@ -1,72 +1,21 @@
 //! The state of a kernel.
-ghost use Rattle.std.specs.Prelude.{reverse, if◌then◌else◌, nat_lt, ◌≡◌, ℕ, ◌+◌, ◌-◌, ◌*◌, ◌^◌, ◌<◌, ◌≤◌, Bool, true, false, List, [], ◌∷◌, ◌++◌, length, Option, Some, None, Ok, is_some, is_none, slice_get, IfSome, IfOk, OnOk, OnErr, IsSome, unwrap_or, replicate};
-ghost use Rattle.ec_count.specs.Tables.{Tables};
-ghost use Rattle.ec_count.specs.Counted.{raised};
+ghost use Rattle.std.specs.Prelude.{reverse, if◌then◌else◌, nat_lt, ◌≡◌, ◌+◌, ◌*◌, ◌^◌, ◌<◌, ◌≤◌, List, [], ◌∷◌, ◌++◌, length, Some, None, Ok, is_some, IfOk, OnErr};
 ghost use Rattle.ec_core.specs.declared.act.Entry.{Entry};
-ghost use Rattle.ec_core.specs.Acceptance.{has_right, names_unknown_object, refusal_in, answer_of, is_too_large};
-ghost use Rattle.ec_core.specs.Rounds.{event_or, width};
-ghost use Rattle.ec_core.specs.Counts.{total, sum_to};
-ghost use Rattle.ec_core.specs.Standing.{Stands, StandsFor, count_at};
-ghost use Rattle.ec_core.specs.Fields.{IsNamed, is_full, kept_call, is_full_for, value_of, one_read, after_read, begun, next_sum, next_reply, reply_in, next_progress, state_after, changed_at};
+ghost use Rattle.ec_core.specs.Acceptance.{has_right, refusal_in, answer_of};
+ghost use Rattle.ec_core.specs.Rounds.{width};
+ghost use Rattle.ec_core.specs.Counts.{total, component_total, issued, cell_value};
+ghost use Rattle.ec_core.specs.Standing.{StandsFor, progress_of};
+ghost use Rattle.ec_core.specs.Values.{TellsAtMost};
+ghost use Rattle.ec_core.specs.Fields.{kept_call, is_full_for, next_sum, next_reply, reply_in, next_progress, state_after};
 
-use crate::{Act, Entry, Refusal, Reply, VALUE_MAX};
-use ec_count::{Count, EventId, Limit, Setup, WorkerId};
+use crate::fields::{
+    all_alike, count_in, count_of, event_or, has_right, is_too_large, named, names_unknown_object,
+    raise_at, raise_in, sum_of,
+};
+use crate::under_way::{after_read, one_read};
+use crate::{Act, Entry, Refusal, Reply, UnderWay, VALUE_MAX};
+use ec_count::{CellId, Count, EventId, SeqId, Setup, WorkerId};
 use std::marker::Model;
-
-/// A call under way: the act that began it, the component that the next Go reads, and the sum of its round so far.
-#[derive(Clone, Copy, Debug, PartialEq, Eq)]
-pub struct UnderWay {
-    op: Act,
-    index: u8,
-    sum: u64,
-}
-
-impl Model for UnderWay {
-    ghost use Rattle.std.specs.Prelude.{◌*◌, ◌^◌, ◌<◌, ◌≤◌};
-    ghost use Rattle.ec_core.specs.Progress.{Progress};
-
-    ghost Value = { Progress };
-
-    ghost view = { λ u. record { op = u.op; index = u.index; sum = u.sum } };
-
-    ghost invariant = { λ u. (u.index < 16) × (u.sum ≤ u.index * 2 ^ 32) };
-
-    ghost inverse = { λ u. record { op = u.op; index = u.index; sum = u.sum } };
-}
-
-impl UnderWay {
-    fn begun(op: Act) -> Self
-        ensures { result ≡ begun op }
-    {
-        UnderWay {
-            op,
-            index: 0,
-            sum: 0,
-        }
-    }
-
-    pub fn op(&self) -> Act
-        ensures { result ≡ self.now.op }
-    {
-        self.op
-    }
-
-    pub fn index(&self) -> usize
-        ensures value { result ≡ self.now.index }
-        ensures small { result < 16 }
-    {
-        self.index as usize
-    }
-
-    pub fn sum(&self) -> u64
-        ensures value { result ≡ self.now.sum }
-        ensures small { result ≤ self.now.index * 2 ^ 32 }
-        ensures below { result ≤ 15 * 2 ^ 32 }
-    {
-        let _index = self.index;
-        self.sum
-    }
-}
 
 /// The state of a kernel: its counts, cells and calls under way.
 #[derive(Drop)]
@@ -86,147 +35,8 @@ impl Model for World {
     ghost view = { λ w. record { setup = w.setup; counts = w.counts; issued = w.issued; cells = w.cells; calls = w.calls } };
 }
 
-fn has_right(setup: &Setup, worker: WorkerId, act: &Act) -> bool
-    ensures { (past : List Entry) → result ≡ has_right setup.now past worker act.now }
-{
-    match *act {
-        Act::Advance(event) => setup.component_of(event, worker).is_some(),
-        Act::Read(event) | Act::Await(event, _) => setup.may_observe(event, worker),
-        Act::Go => true,
-        Act::Ticket(sequencer) => setup.may_take(sequencer, worker),
-        Act::Put(cell, _) => setup.may_write(cell, worker),
-        Act::Get(cell) => setup.may_read(cell, worker),
-    }
-}
-
-fn names_unknown_object(setup: &Setup, act: &Act) -> bool
-    ensures { result ≡ names_unknown_object setup.now act.now }
-{
-    match *act {
-        Act::Advance(event) | Act::Read(event) | Act::Await(event, _) => {
-            event.get() >= setup.events()
-        }
-        Act::Go => false,
-        Act::Ticket(sequencer) => sequencer.get() >= setup.sequencers(),
-        Act::Put(cell, _) | Act::Get(cell) => cell.get() >= setup.cells(),
-    }
-}
-
-fn is_too_large(act: &Act) -> bool
-    ensures { result ≡ is_too_large act.now }
-{
-    match *act {
-        Act::Await(_, value) | Act::Put(_, value) => value > VALUE_MAX,
-        Act::Advance(_) | Act::Read(_) | Act::Go | Act::Ticket(_) | Act::Get(_) => false,
-    }
-}
-
-/// The eventcount that an act names, or the first.
-fn event_or(op: Act) -> usize
-    ensures value { result ≡ event_or op }
-    ensures small { result < 32 }
-{
-    match op {
-        Act::Advance(event) | Act::Read(event) | Act::Await(event, _) => event.get(),
-        Act::Go | Act::Ticket(_) | Act::Put(_, _) | Act::Get(_) => 0,
-    }
-}
-
-fn one_read(op: Act, width: usize, index: usize, sum: u64) -> Reply
-    requires { index < 16 }
-    ensures { result ≡ one_read op width index sum }
-{
-    if index + 1 < width {
-        return Reply::Pending;
-    }
-    match op {
-        Act::Await(_, threshold) if sum < threshold => Reply::Pending,
-        _ => Reply::Number(sum),
-    }
-}
-
-fn after_read(op: Act, width: usize, index: usize, sum: u64) -> Option<UnderWay>
-    requires width { width ≤ 16 }
-    requires index { index < 16 }
-    requires sum { sum ≤ (index + 1) * 2 ^ 32 }
-    ensures { result ≡ after_read op width index sum }
-{
-    if index + 1 < width {
-        return Some(UnderWay {
-            op,
-            index: (index + 1) as u8,
-            sum,
-        });
-    }
-    match op {
-        Act::Await(_, threshold) if sum < threshold => Some(UnderWay {
-            op,
-            index: 0,
-            sum: 0,
-        }),
-        _ => None,
-    }
-}
-
-/// Component c of eventcount e.
-fn count_in(counts: &[[Count; 16]; 32], event: usize, component: usize) -> Count
-    requires event { event < 32 }
-    requires component { component < 16 }
-    ensures { count_at counts.now event component ≡ Some result }
-{
-    let row = &counts[event];
-    row[component]
-}
-
-/// One more at a place.
-fn raise_at(counts: &mut [Count], place: usize)
-    requires { place < length counts.old }
-    ensures { counts.new ≡ changed_at raised counts.old place }
-{
-    let count = &mut counts[place];
-    let _ = count.advance();
-}
-
-/// One more on component c of eventcount e.
-fn raise_in(counts: &mut [[Count; 16]; 32], event: usize, component: usize)
-    requires event { event < 32 }
-    requires component { component < 16 }
-    ensures { counts.new ≡ changed_at (λ row. changed_at raised row component) counts.old event }
-{
-    let row = &mut counts[event];
-    raise_at(row, component);
-}
-
-fn count_of(counts: &[Count; 32], sequencer: usize) -> Count
-    requires { sequencer < 32 }
-    ensures { slice_get counts.now sequencer ≡ Some result }
-{
-    counts[sequencer]
-}
-
-/// The sum of the first counts of an eventcount.
-fn sum_of(counts: &[[Count; 16]; 32], event: usize, width: usize) -> u64
-    requires event { event < 32 }
-    requires width { width ≤ 16 }
-    ensures { result ≡ sum_to (λ c. value_of (count_at counts.now event c)) width }
-{
-    let mut sum = 0u64;
-    for component in 0..width {
-        let count = count_in(counts, event, component);
-        sum += count.value();
-    }
-    sum
-}
-
-/// An array with the same element everywhere.
-fn all_alike<T: Copy, const N: usize>(x: T) -> [T; N]
-    ensures { (i : ℕ) → i < N → slice_get result i ≡ Some x }
-{
-    [x; N]
-}
-
 impl World {
-    /// The state before any step.
+    /// The state before any step, on these declarations. It takes no memory, nor does any other call of a world.
     pub fn open(setup: Setup) -> Self
         ensures history { StandsFor result [] }
         ensures setup { result.setup ≡ setup }
@@ -242,13 +52,14 @@ impl World {
         }
     }
 
+    /// The declarations that the world is on.
     pub fn setup(&self) -> &Setup
         ensures { result.now ≡ self.now.setup }
     {
         &self.setup
     }
 
-    /// How many advances of an eventcount there were, if it is declared.
+    /// The total of an eventcount: how many advances of it there were. None where it is not declared.
     pub fn total(&self, event: EventId) -> Option<u64>
         ensures { (h : List Entry) → StandsFor self.now h
             → result ≡ (if nat_lt event (length self.now.setup.events) then Some (total event (reverse h)) else None) }
@@ -259,6 +70,51 @@ impl World {
         let event = event.get();
         let width = self.width(event);
         Some(sum_of(&self.counts, event, width))
+    }
+
+    /// A component of an eventcount: how many advances its signaller made. None where there is no such component,
+    /// and so where the eventcount is not declared.
+    pub fn component(&self, event: EventId, component: usize) -> Option<u64>
+        ensures { (h : List Entry) → StandsFor self.now h
+            → result ≡ (if nat_lt component (width self.now.setup event) then Some (component_total self.now.setup event component (reverse h)) else None) }
+    {
+        let event = event.get();
+        if component >= self.width(event) {
+            return None;
+        }
+        let count = count_in(&self.counts, event, component);
+        Some(count.value())
+    }
+
+    /// How many tickets of a sequencer were drawn, which is the next ticket's number. None where it is not declared.
+    pub fn issued(&self, sequencer: SeqId) -> Option<u64>
+        ensures { (h : List Entry) → StandsFor self.now h
+            → result ≡ (if nat_lt sequencer (length self.now.setup.takers) then Some (issued sequencer (reverse h)) else None) }
+    {
+        if sequencer.get() >= self.setup.sequencers() {
+            return None;
+        }
+        let count = count_of(&self.issued, sequencer.get());
+        Some(count.value())
+    }
+
+    /// The value last put into a cell, 0 before any put. None where it is not declared.
+    pub fn cell(&self, cell: CellId) -> Option<u64>
+        ensures { (h : List Entry) → StandsFor self.now h
+            → result ≡ (if nat_lt cell (length self.now.setup.cells) then Some (cell_value cell (reverse h)) else None) }
+    {
+        if cell.get() >= self.setup.cells() {
+            return None;
+        }
+        Some(self.cells[cell.get()])
+    }
+
+    /// The worker's read or await that has not ended, if there is one.
+    pub fn under_way(&self, worker: WorkerId) -> Option<UnderWay>
+        ensures { (h : List Entry) → StandsFor self.now h → result ≡ progress_of self.now.setup worker (reverse h) }
+    {
+        let _worker = worker.get();
+        self.call(worker)
     }
 
     fn call(&self, worker: WorkerId) -> Option<UnderWay>
@@ -408,10 +264,12 @@ impl World {
         self.note(entry.worker, &entry.act);
     }
 
-    /// The refusal or the reply to an act, and no change.
+    /// What `step` would answer, and no change.
     pub fn answer(&self, worker: WorkerId, act: &Act) -> Result<Reply, Refusal>
-        ensures { (h : List Entry) → StandsFor self.now h → result ≡ answer_of self.now.setup (reverse h) worker act.now }
+        ensures answer { (h : List Entry) → StandsFor self.now h → result ≡ answer_of self.now.setup (reverse h) worker act.now }
+        ensures small { (h : List Entry) → StandsFor self.now h → IfOk result (TellsAtMost VALUE_MAX) }
     {
+        let _limit = self.setup.limit().get();
         named(act);
         let _worker = worker.get();
         if let Some(refusal) = self.refusal(worker, act) {
@@ -425,28 +283,12 @@ impl World {
         ensures answer { (h : List Entry) → StandsFor self.old h → result ≡ answer_of self.old.setup (reverse h) worker act }
         ensures after { (h : List Entry) → StandsFor self.old h
             → IfOk result (λ reply. StandsFor self.new (h ++ record { worker = worker; act = act; reply = reply } ∷ [])) }
+        ensures small { (h : List Entry) → StandsFor self.old h → IfOk result (TellsAtMost VALUE_MAX) }
         ensures setup { self.new.setup ≡ self.old.setup }
         ensures err { OnErr result (self.new ≡ self.old) }
     {
         let reply = self.answer(worker, &act)?;
         self.take_in(&Entry { worker, act, reply });
         Ok(reply)
-    }
-}
-
-fn named(act: &Act)
-    ensures { IsNamed act.now }
-{
-    match *act {
-        Act::Advance(event) | Act::Read(event) | Act::Await(event, _) => {
-            let _event = event.get();
-        }
-        Act::Go => {}
-        Act::Ticket(sequencer) => {
-            let _sequencer = sequencer.get();
-        }
-        Act::Put(cell, _) | Act::Get(cell) => {
-            let _cell = cell.get();
-        }
     }
 }

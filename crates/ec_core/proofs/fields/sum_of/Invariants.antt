@@ -2,7 +2,7 @@ use Rattle.std.proofs.Common.{◌≡◌, ◌*◌, ◌^◌, ◌≤◌}
 use Rattle.ec_core.specs.Counts.{sum_to}
 use Rattle.ec_core.specs.Fields.{value_of}
 use Rattle.ec_core.specs.Standing.{count_at}
-use Rattle.ec_core.proofs.world.sum_of.Given as goal
+use Rattle.ec_core.proofs.fields.sum_of.Given as goal
 
 abbrev pub invariant-loop-component : goal.invariant-loop-component
 invariant-loop-component l = record {

@@ -1,0 +1,137 @@
+//! What a step asks of a setup and of the arrays of a world, and what it does to them.
+ghost use Rattle.std.specs.Prelude.{◌≡◌, ℕ, ◌<◌, ◌≤◌, List, length, slice_get, Some};
+ghost use Rattle.ec_count.specs.Counted.{raised};
+ghost use Rattle.ec_core.specs.declared.act.Entry.{Entry};
+ghost use Rattle.ec_core.specs.Acceptance.{has_right, names_unknown_object, is_too_large};
+ghost use Rattle.ec_core.specs.Rounds.{event_or};
+ghost use Rattle.ec_core.specs.Counts.{sum_to};
+ghost use Rattle.ec_core.specs.Standing.{count_at};
+ghost use Rattle.ec_core.specs.Fields.{IsNamed, value_of, changed_at};
+
+use crate::{Act, VALUE_MAX};
+use ec_count::{Count, Setup, WorkerId};
+
+/// Whether the worker has the right that the act needs.
+pub(crate) fn has_right(setup: &Setup, worker: WorkerId, act: &Act) -> bool
+    ensures { (past : List Entry) → result ≡ has_right setup.now past worker act.now }
+{
+    match *act {
+        Act::Advance(event) => setup.component_of(event, worker).is_some(),
+        Act::Read(event) | Act::Await(event, _) => setup.may_observe(event, worker),
+        Act::Go => true,
+        Act::Ticket(sequencer) => setup.may_take(sequencer, worker),
+        Act::Put(cell, _) => setup.may_write(cell, worker),
+        Act::Get(cell) => setup.may_read(cell, worker),
+    }
+}
+
+/// Whether the act names something that is not declared.
+pub(crate) fn names_unknown_object(setup: &Setup, act: &Act) -> bool
+    ensures { result ≡ names_unknown_object setup.now act.now }
+{
+    match *act {
+        Act::Advance(event) | Act::Read(event) | Act::Await(event, _) => {
+            event.get() >= setup.events()
+        }
+        Act::Go => false,
+        Act::Ticket(sequencer) => sequencer.get() >= setup.sequencers(),
+        Act::Put(cell, _) | Act::Get(cell) => cell.get() >= setup.cells(),
+    }
+}
+
+/// Whether a put or a threshold is above the greatest value.
+pub(crate) fn is_too_large(act: &Act) -> bool
+    ensures { result ≡ is_too_large act.now }
+{
+    match *act {
+        Act::Await(_, value) | Act::Put(_, value) => value > VALUE_MAX,
+        Act::Advance(_) | Act::Read(_) | Act::Go | Act::Ticket(_) | Act::Get(_) => false,
+    }
+}
+
+/// The eventcount that an act names, or the first.
+pub(crate) fn event_or(op: Act) -> usize
+    ensures value { result ≡ event_or op }
+    ensures small { result < 32 }
+{
+    match op {
+        Act::Advance(event) | Act::Read(event) | Act::Await(event, _) => event.get(),
+        Act::Go | Act::Ticket(_) | Act::Put(_, _) | Act::Get(_) => 0,
+    }
+}
+
+/// Component c of eventcount e.
+pub(crate) fn count_in(counts: &[[Count; 16]; 32], event: usize, component: usize) -> Count
+    requires event { event < 32 }
+    requires component { component < 16 }
+    ensures { count_at counts.now event component ≡ Some result }
+{
+    let row = &counts[event];
+    row[component]
+}
+
+/// One more at a place.
+pub(crate) fn raise_at(counts: &mut [Count], place: usize)
+    requires { place < length counts.old }
+    ensures { counts.new ≡ changed_at raised counts.old place }
+{
+    let count = &mut counts[place];
+    let _ = count.advance();
+}
+
+/// One more on component c of eventcount e.
+pub(crate) fn raise_in(counts: &mut [[Count; 16]; 32], event: usize, component: usize)
+    requires event { event < 32 }
+    requires component { component < 16 }
+    ensures { counts.new ≡ changed_at (λ row. changed_at raised row component) counts.old event }
+{
+    let row = &mut counts[event];
+    raise_at(row, component);
+}
+
+/// The count of a sequencer.
+pub(crate) fn count_of(counts: &[Count; 32], sequencer: usize) -> Count
+    requires { sequencer < 32 }
+    ensures { slice_get counts.now sequencer ≡ Some result }
+{
+    counts[sequencer]
+}
+
+/// The sum of the first counts of an eventcount.
+pub(crate) fn sum_of(counts: &[[Count; 16]; 32], event: usize, width: usize) -> u64
+    requires event { event < 32 }
+    requires width { width ≤ 16 }
+    ensures { result ≡ sum_to (λ c. value_of (count_at counts.now event c)) width }
+{
+    let mut sum = 0u64;
+    for component in 0..width {
+        let count = count_in(counts, event, component);
+        sum += count.value();
+    }
+    sum
+}
+
+/// An array with the same element everywhere.
+pub(crate) fn all_alike<T: Copy, const N: usize>(x: T) -> [T; N]
+    ensures { (i : ℕ) → i < N → slice_get result i ≡ Some x }
+{
+    [x; N]
+}
+
+/// What is known of the ids that an act names.
+pub(crate) fn named(act: &Act)
+    ensures { IsNamed act.now }
+{
+    match *act {
+        Act::Advance(event) | Act::Read(event) | Act::Await(event, _) => {
+            let _event = event.get();
+        }
+        Act::Go => {}
+        Act::Ticket(sequencer) => {
+            let _sequencer = sequencer.get();
+        }
+        Act::Put(cell, _) | Act::Get(cell) => {
+            let _cell = cell.get();
+        }
+    }
+}
