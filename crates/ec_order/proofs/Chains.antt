@@ -4,7 +4,7 @@ use Rattle.ec_count.specs.Tables.{Tables}
 use Rattle.ec_core.specs.declared.act.Act.{Act}
 use Rattle.ec_core.specs.declared.act.Act.TheVariants.{Advance, Read, Await, Go, Ticket, Put, Get}
 use Rattle.ec_core.specs.declared.act.Entry.{Entry}
-use Rattle.ec_core.specs.Calls.{CallSoFar as UnderWay, under_way, gone_on, is_pending}
+use Rattle.ec_core.specs.Calls.{CallSoFar, under_way, gone_on, is_pending}
 use Rattle.ec_core.specs.Rounds.{sum_read, IsPastOf, IsPastOfEach, EachIsPastOf}
 use Rattle.ec_core.specs.Counts.{component_total}
 
@@ -58,16 +58,16 @@ sum_take t e (suc n) [] = refl
 sum_take t e (suc n) (p ∷ ps) = ap (λ s. component_total t e n p + s) (sum_take t e n ps)
 
 -- what is known of a call under way after a past
-abbrev pub IsChained : List Entry → Option UnderWay → Type 0
+abbrev pub IsChained : List Entry → Option CallSoFar → Type 0
 IsChained past None = Unit {0}
 IsChained past (Some call) = IsChain past call.moments
 
 -- what is known of a call after an entry with this past
-abbrev pub IsGone : List Entry → Option UnderWay → Type 0
+abbrev pub IsGone : List Entry → Option CallSoFar → Type 0
 IsGone past None = Unit {0}
 IsGone past (Some call) = (rest : List (List Entry)) × (call.moments ≡ past ∷ rest) × IsChain past rest
 
-pub gone_chain : (act : Act) (past : List Entry) (o : Option UnderWay) → IsChained past o → IsGone past (gone_on act past o)
+pub gone_chain : (act : Act) (past : List Entry) (o : Option CallSoFar) → IsChained past o → IsGone past (gone_on act past o)
 gone_chain (Advance e) past o h = ([], refl, tt)
 gone_chain (Read e) past o h = ([], refl, tt)
 gone_chain (Await e v) past o h = ([], refl, tt)
@@ -77,12 +77,12 @@ gone_chain (Ticket q) past o h = ([], refl, tt)
 gone_chain (Put x v) past o h = ([], refl, tt)
 gone_chain (Get x) past o h = ([], refl, tt)
 
-gone_kept : (x : Entry) (past : List Entry) (o : Option UnderWay) (b : Bool) → IsGone past o → IsChained (x ∷ past) (cond b o None)
+gone_kept : (x : Entry) (past : List Entry) (o : Option CallSoFar) (b : Bool) → IsGone past o → IsChained (x ∷ past) (cond b o None)
 gone_kept x past o false h = tt
 gone_kept x past None true h = tt
 gone_kept x past (Some call) true h = rw h.1 (past_next x past past (past_itself past), h.2)
 
-chained_later : (x : Entry) (past : List Entry) (o : Option UnderWay) → IsChained past o → IsChained (x ∷ past) o
+chained_later : (x : Entry) (past : List Entry) (o : Option CallSoFar) → IsChained past o → IsChained (x ∷ past) o
 chained_later x past None h = tt
 chained_later x past (Some call) h = chain_later past (x ∷ past) call.moments (past_next x past past (past_itself past)) h
 

@@ -9,23 +9,23 @@ use Rattle.ec_core.specs.declared.act.Reply.{Reply}
 use Rattle.ec_core.specs.declared.act.Reply.TheVariants.{Number, Pending}
 use Rattle.ec_core.specs.declared.act.Entry.{Entry}
 use Rattle.ec_core.specs.Counts.{total, issued, cell_value}
-use Rattle.ec_core.specs.Calls.{CallSoFar as UnderWay, under_way, gone_on, is_pending}
+use Rattle.ec_core.specs.Calls.{CallSoFar, under_way, gone_on, is_pending}
 use Rattle.ec_core.specs.Rounds.{event_or, width, sum_read, round_reply, read_reply, go_reply}
 use Rattle.ec_core.specs.Acceptance.{reply_of, IsAccepted}
 use Rattle.ec_core.proofs.Answering.{allowed, IsAllowed, IsReading, IsReadingCall, call_reads, reading_event, width_some}
-use Rattle.ec_order.specs.Calls.{made, ended, is_reading, number_of}
-use Rattle.ec_order.specs.Object.{Object, told, after}
+use Rattle.ec_order.specs.Calls.{call_of_entries, ended_by, is_reading, number_of}
+use Rattle.ec_order.specs.Sequential.{SequentialState, sequential_reply, sequential_after}
 use Rattle.ec_order.proofs.Chains.{IsChain, IsChained, call_chain}
 
 -- the numbers are those of a past
-pub record Shows (o : Object) (past : List Entry) : Type 0 where
+pub record Shows (o : SequentialState) (past : List Entry) : Type 0 where
   pub events : (e : ℕ) → o.events e ≡ total e past
   pub sequencers : (q : ℕ) → o.sequencers q ≡ issued q past
   pub cells : (x : ℕ) → o.cells x ≡ cell_value x past
 
 -- where the number is the one answered, the sequential object answers so
 abbrev pub IsTold : Act → Reply → Type 0
-IsTold op reply = (o : Object) → o.events (event_or op) ≡ number_of reply → told o op ≡ Some reply
+IsTold op reply = (o : SequentialState) → o.events (event_or op) ≡ number_of reply → sequential_reply o op ≡ Some reply
 
 -- what an entry of a read or an await that ends it tells: a round is whole, and its sum is answered
 pub record EndsRound (t : Tables) (op : Act) (past : List Entry) (rest : List (List Entry)) (reply : Reply) : Type 0 where
@@ -74,44 +74,44 @@ read_told t op past rest reply some r h p =
 -- WHAT AN ENTRY ENDS, where o is the call of its worker that was under way
 
 abbrev pub IsQuiet : Act → Type 0
-IsQuiet act = (o : Object) → after o act ≡ o
+IsQuiet act = (o : SequentialState) → sequential_after o act ≡ o
 
-pub record EndsNothing (t : Tables) (x : Entry) (past : List Entry) (o : Option UnderWay) : Type 0 where
-  pub is : ended t x (gone_on x.act past o) ≡ []
+pub record EndsNothing (t : Tables) (x : Entry) (past : List Entry) (o : Option CallSoFar) : Type 0 where
+  pub is : ended_by t x (gone_on x.act past o) ≡ []
   pub quiet : IsQuiet x.act
 
-pub record EndsReading (t : Tables) (x : Entry) (past : List Entry) (o : Option UnderWay) : Type 0 where
+pub record EndsReading (t : Tables) (x : Entry) (past : List Entry) (o : Option CallSoFar) : Type 0 where
   pub op : Act
   pub rest : List (List Entry)
-  pub is : ended t x (gone_on x.act past o) ≡ made t x op (past ∷ rest) ∷ []
+  pub is : ended_by t x (gone_on x.act past o) ≡ call_of_entries t x op (past ∷ rest) ∷ []
   pub quiet : IsQuiet x.act
   pub reading : is_reading op ≡ true
   pub known : event_or op < 32
   pub chain : IsChain past rest
   pub round : EndsRound t op past rest x.reply
 
-pub record EndsActing (t : Tables) (x : Entry) (past : List Entry) (o : Option UnderWay) : Type 0 where
-  pub is : ended t x (gone_on x.act past o) ≡ made t x x.act (past ∷ []) ∷ []
+pub record EndsActing (t : Tables) (x : Entry) (past : List Entry) (o : Option CallSoFar) : Type 0 where
+  pub is : ended_by t x (gone_on x.act past o) ≡ call_of_entries t x x.act (past ∷ []) ∷ []
   pub acting : is_reading x.act ≡ false
-  pub told : (s : Object) → Shows s past → told s x.act ≡ Some x.reply
+  pub told : (s : SequentialState) → Shows s past → sequential_reply s x.act ≡ Some x.reply
 
-abbrev pub Ends : Tables → Entry → List Entry → Option UnderWay → Type 0
+abbrev pub Ends : Tables → Entry → List Entry → Option CallSoFar → Type 0
 Ends t x past o = EndsNothing t x past o ⊎ (EndsReading t x past o ⊎ EndsActing t x past o)
 
 abbrev entry : ℕ → Act → Reply → Entry
 entry w act reply = record { worker = w; act = act; reply = reply }
 
-reading_ends : (t : Tables) (past : List Entry) (w : ℕ) (act op : Act) (reply : Reply) (rest : List (List Entry)) (o : Option UnderWay)
+reading_ends : (t : Tables) (past : List Entry) (w : ℕ) (act op : Act) (reply : Reply) (rest : List (List Entry)) (o : Option CallSoFar)
     → gone_on act past o ≡ Some (record { op = op; moments = past ∷ rest }) → IsQuiet act → is_reading op ≡ true → event_or op < 32 → IsChain past rest
     → 0 < width t (event_or op) → read_reply t op past rest ≡ reply → Ends t (entry w act reply) past o
 reading_ends t past w act op reply rest o gone quiet r known chain some h =
     elim (is_pending reply) as (λ b. is_pending reply ≡ b → Ends t (entry w act reply) past o) [
-      | true ↦ λ e. inl (record { is = ap (ended t (entry w act reply)) gone ∙ ap (λ b. cond b [] (made t (entry w act reply) op (past ∷ rest) ∷ [])) e; quiet = quiet })
+      | true ↦ λ e. inl (record { is = ap (ended_by t (entry w act reply)) gone ∙ ap (λ b. cond b [] (call_of_entries t (entry w act reply) op (past ∷ rest) ∷ [])) e; quiet = quiet })
       | false ↦ λ e.
           (inr (inl (record {
             op = op;
             rest = rest;
-            is = ap (ended t (entry w act reply)) gone ∙ ap (λ b. cond b [] (made t (entry w act reply) op (past ∷ rest) ∷ [])) e;
+            is = ap (ended_by t (entry w act reply)) gone ∙ ap (λ b. cond b [] (call_of_entries t (entry w act reply) op (past ∷ rest) ∷ [])) e;
             quiet = quiet;
             reading = r;
             known = known;
@@ -120,11 +120,11 @@ reading_ends t past w act op reply rest o gone quiet r known chain some h =
           })))
     ] refl
 
-acting_ends : (t : Tables) (past : List Entry) (w : ℕ) (act : Act) (reply : Reply) (o : Option UnderWay)
+acting_ends : (t : Tables) (past : List Entry) (w : ℕ) (act : Act) (reply : Reply) (o : Option CallSoFar)
     → gone_on act past o ≡ Some (record { op = act; moments = past ∷ [] }) → is_pending reply ≡ false → is_reading act ≡ false
-    → ((s : Object) → Shows s past → told s act ≡ Some reply) → Ends t (entry w act reply) past o
+    → ((s : SequentialState) → Shows s past → sequential_reply s act ≡ Some reply) → Ends t (entry w act reply) past o
 acting_ends t past w act reply o gone p r h =
-    inr (inr (record { is = ap (ended t (entry w act reply)) gone ∙ ap (λ b. cond b [] (made t (entry w act reply) act (past ∷ []) ∷ [])) p; acting = r; told = h }))
+    inr (inr (record { is = ap (ended_by t (entry w act reply)) gone ∙ ap (λ b. cond b [] (call_of_entries t (entry w act reply) act (past ∷ []) ∷ [])) p; acting = r; told = h }))
 
 op_reads : (t : Tables) (op : Act) → IsReading t op → is_reading op ≡ true
 op_reads t (Read e) h = refl
@@ -135,7 +135,7 @@ op_reads t (Ticket q) h = absurd h
 op_reads t (Put x v) h = absurd h
 op_reads t (Get x) h = absurd h
 
-go_ends : (t : Tables) (past : List Entry) (w : ℕ) (reply : Reply) (o : Option UnderWay) → IsDeclared t → IsChained past o → IsReadingCall t o
+go_ends : (t : Tables) (past : List Entry) (w : ℕ) (reply : Reply) (o : Option CallSoFar) → IsDeclared t → IsChained past o → IsReadingCall t o
     → go_reply t past o ≡ reply → Ends t (entry w Go reply) past o
 go_ends t past w reply None d chain reads h = inl (record { is = refl; quiet = λ s. refl })
 go_ends t past w reply (Some call) d chain reads h =

@@ -1,6 +1,6 @@
 -- Each finished call of an accepted history has its places in order, and a point between them.
-use Rattle.std.proofs.Common.{◌≡◌, ℕ, zero, suc, ◌+◌, ◌-◌, ◌%◌, ◌<◌, ◌≤◌, inl, inr, Bool, true, false, List, [], ◌∷◌, length, refl, ap, sym, ◌∙◌, arith, cond, subst, ◌==◌, take, get_or}
-use Rattle.std.specs.List.{All, Contains}
+use Rattle.std.proofs.Common.{◌≡◌, ◌≢◌, ℕ, zero, suc, ◌+◌, ◌-◌, ◌%◌, ◌<◌, ◌≤◌, inl, inr, Bool, true, false, List, [], ◌∷◌, length, refl, ap, sym, ◌∙◌, arith, cond, subst, ◌==◌, take, get_or}
+use Rattle.std.specs.List.{All}
 use Rattle.std.proofs.lemmas.Bool.{cases_eq, eqb-false}
 use Rattle.std.proofs.lemmas.List.{length-take-le}
 use Rattle.std.proofs.lemmas.List.Elements.{All-nil, All-cons, All-append, All-weaker, All-contains}
@@ -15,8 +15,9 @@ use Rattle.ec_core.specs.Acceptance.{IsAccepted}
 use Rattle.ec_core.proofs.Moments.{accepted_before}
 use Rattle.ec_core.proofs.Totals.{round_between}
 use Rattle.ec_order.specs.declared.call.Call.{Call}
-use Rattle.ec_order.specs.Calls.{made, ended, finished, is_reading, number_of, first_entries, first_moment, point_of, position_of}
-use Rattle.ec_order.specs.Orders.{IsPoint}
+use Rattle.ec_order.specs.Calls.{call_of_entries, ended_by, finished_calls, is_reading, number_of}
+use Rattle.ec_order.specs.Points.{first_entries, first_moment, point_of}
+use Rattle.ec_core.specs.Rounds.{position_of}
 use Rattle.ec_order.proofs.Chains.{past_itself, past_next, past_shorter, IsChain, chain_at, chain_between, chain_each, chain_of_each, sum_take}
 use Rattle.ec_order.proofs.Points.{first_next, first_of_past, total_step, first_is}
 use Rattle.ec_order.proofs.Ends.{IsTold, EndsRound, Ends, ends}
@@ -66,7 +67,7 @@ round_bounds t e i past rest acc chain whole in' =
     subst Q (sum_take t e (width t e) ms) b
 
 reading_fits : (t : Tables) (x : Entry) (past : List Entry) (op : Act) (rest : List (List Entry)) → IsAccepted t past → IsChain past rest → event_or op < 32
-    → EndsRound t op past rest x.reply → Fits (x ∷ past) (made t x op (past ∷ rest))
+    → EndsRound t op past rest x.reply → Fits (x ∷ past) (call_of_entries t x op (past ∷ rest))
 reading_fits t x past op rest acc chain known r =
     let ms = past ∷ rest in
     let n = width t (event_or op) in
@@ -86,7 +87,7 @@ reading_fits t x past op rest acc chain known r =
     let T : ℕ → Type 0 = λ k. Fits (x ∷ past) (record { worker = x.worker; op = op; reply = x.reply; first = position_of ms k; round = position_of ms (k % n); last = length past }) in
     subst T (sym one) (record { began = begun; round = ended'; last = omega arith; low = λ _. low; high = λ _. high; told = λ _. r.told; known = λ _. known })
 
-acting_fits : (t : Tables) (x : Entry) (past : List Entry) (op : Act) → is_reading op ≡ false → Fits (x ∷ past) (made t x op (past ∷ []))
+acting_fits : (t : Tables) (x : Entry) (past : List Entry) (op : Act) → is_reading op ≡ false → Fits (x ∷ past) (call_of_entries t x op (past ∷ []))
 acting_fits t x past op h =
     let n = width t (event_or op) in
     let zero_mod : 0 % n ≡ 0 = (let le : 0 % n ≤ 0 = mod-le 0 n in omega arith) in
@@ -94,17 +95,17 @@ acting_fits t x past op h =
     subst T (sym zero_mod) (record { began = omega arith; round = omega arith; last = omega arith; low = λ r. cc; high = λ r. cc; told = λ r. cc; known = λ r. cc })
 
 ended_fits : (t : Tables) (x : Entry) (past : List Entry) → IsAccepted t past → Ends t x past (under_way x.worker past)
-    → All (Fits (x ∷ past)) (ended t x (gone_on x.act past (under_way x.worker past)))
+    → All (Fits (x ∷ past)) (ended_by t x (gone_on x.act past (under_way x.worker past)))
 ended_fits t x past acc (inl n) = rw n.is (All-nil (Fits (x ∷ past)))
-ended_fits t x past acc (inr (inl r)) = rw r.is (All-cons (Fits (x ∷ past)) (made t x r.op (past ∷ r.rest)) [] (reading_fits t x past r.op r.rest acc r.chain r.known r.round) (All-nil (Fits (x ∷ past))))
-ended_fits t x past acc (inr (inr a)) = rw a.is (All-cons (Fits (x ∷ past)) (made t x x.act (past ∷ [])) [] (acting_fits t x past x.act a.acting) (All-nil (Fits (x ∷ past))))
+ended_fits t x past acc (inr (inl r)) = rw r.is (All-cons (Fits (x ∷ past)) (call_of_entries t x r.op (past ∷ r.rest)) [] (reading_fits t x past r.op r.rest acc r.chain r.known r.round) (All-nil (Fits (x ∷ past))))
+ended_fits t x past acc (inr (inr a)) = rw a.is (All-cons (Fits (x ∷ past)) (call_of_entries t x x.act (past ∷ [])) [] (acting_fits t x past x.act a.acting) (All-nil (Fits (x ∷ past))))
 
-pub all_fit : (t : Tables) (past : List Entry) → IsDeclared t → IsAccepted t past → All (Fits past) (finished t past)
-unfolding finished
+pub all_fit : (t : Tables) (past : List Entry) → IsDeclared t → IsAccepted t past → All (Fits past) (finished_calls t past)
+unfolding finished_calls
 all_fit t [] d acc = All-nil (Fits [])
 all_fit t (x ∷ past) d acc =
-    All-append (Fits (x ∷ past)) (finished t past) (ended t x (gone_on x.act past (under_way x.worker past)))
-    (All-weaker (Fits past) (Fits (x ∷ past)) (fits_later x past) (finished t past) (all_fit t past d acc.1))
+    All-append (Fits (x ∷ past)) (finished_calls t past) (ended_by t x (gone_on x.act past (under_way x.worker past)))
+    (All-weaker (Fits past) (Fits (x ∷ past)) (fits_later x past) (finished_calls t past) (all_fit t past d acc.1))
     (ended_fits t x past acc.1 (ends t x past d acc))
 
 -- the point of a finished read or await is between its last round's first entry and its last entry, and the total is its answer then
@@ -162,14 +163,9 @@ first_before test k (suc n) j low high =
           ])
     ] refl high
 
-pub point_exists : (t : Tables) (past : List Entry) (c : Call) → IsDeclared t → IsAccepted t past → Contains (finished t past) c → is_reading c.op ≡ true → IsPoint past c (point_of past c)
-point_exists t past c d acc h r =
-    let p = has_point past c (All-contains (Fits past) (finished t past) c (all_fit t past d acc) h) r in
+-- no moment between the last round's start and the point had that total
+pub point_least : (past : List Entry) (c : Call) → is_reading c.op ≡ true → (j : ℕ) → c.round ≤ j → j < point_of past c → total (event_or c.op) (first_entries j past) ≢ number_of c.reply
+point_least past c r j low below =
     let f : ℕ → Bool = λ k. total (event_or c.op) (first_entries k past) == number_of c.reply in
     let same : point_of past c ≡ first_moment f c.round (c.last - c.round) = ap (λ b. cond b (first_moment f c.round (c.last - c.round)) c.last) r in
-    record {
-      total_is = p.total;
-      low = p.low;
-      high = p.high;
-      least = λ j low below. eqb-false (total (event_or c.op) (first_entries j past)) (number_of c.reply) (first_before f c.round (c.last - c.round) j low (rw same at below));
-    }
+    eqb-false (total (event_or c.op) (first_entries j past)) (number_of c.reply) (first_before f c.round (c.last - c.round) j low (rw same at below))

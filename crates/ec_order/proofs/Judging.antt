@@ -14,14 +14,16 @@ use Rattle.ec_core.specs.Acceptance.{IsAccepted}
 use Rattle.ec_core.specs.Fields.{IsNamed}
 use Rattle.ec_core.proofs.Places.{get_set}
 use Rattle.ec_order.specs.declared.call.Call.{Call}
-use Rattle.ec_order.specs.declared.call.Placed.{Placed}
-use Rattle.ec_order.specs.declared.check.Numbers.{Numbers}
-use Rattle.ec_order.specs.declared.check.Verdict.TheVariants.{Good, Missing, Repeated, OutOfOrder, WrongReply, WrongPoint}
-use Rattle.ec_order.specs.Calls.{finished, point_of}
-use Rattle.ec_order.specs.Object.{Object, fresh, put_at, told, after, after_all}
+use Rattle.ec_order.specs.declared.placed.Placed.{Placed}
+use Rattle.ec_order.specs.declared.numbers.Numbers.{Numbers}
+use Rattle.ec_order.specs.declared.verdict.Verdict.TheVariants.{Good, Missing, Repeated, OutOfOrder, WrongReply, WrongPoint}
+use Rattle.ec_order.specs.Calls.{finished_calls}
+use Rattle.ec_order.specs.Points.{point_of}
+use Rattle.ec_order.specs.Sequential.{SequentialState, zero_state, put_at, sequential_reply, sequential_after, sequential_after_all}
 use Rattle.ec_order.specs.Orders.{calls_in}
 use Rattle.ec_order.specs.Index.{IsIndex, point_in}
-use Rattle.ec_order.specs.Verdicts.{IsSound, AreSound, IsVerdict, IsLate, told_in, after_in, AreFew}
+use Rattle.ec_order.specs.Verdicts.{IsSound, AreSound, IsVerdict, IsLate}
+use Rattle.ec_order.specs.Numbered.{reply_in, after_in, AreFew}
 use Rattle.ec_order.proofs.Fits.{Fits, all_fit}
 use Rattle.ec_order.proofs.Running.{after_append}
 use Rattle.ec_order.proofs.Arranging.{placed_is}
@@ -29,7 +31,7 @@ use Rattle.ec_order.proofs.Checking.{taken_more, calls_more, sound_good, EndsFir
 
 -- THE NUMBERS
 
-pub record IsShown (n : Numbers) (o : Object) : Type 0 where
+pub record IsShown (n : Numbers) (o : SequentialState) : Type 0 where
   pub events : (e : ℕ) → e < 32 → slice_index n.events e ≡ o.events e
   pub sequencers : (q : ℕ) → q < 32 → slice_index n.sequencers q ≡ o.sequencers q
   pub cells : (x : ℕ) → x < 256 → slice_index n.cells x ≡ o.cells x
@@ -37,7 +39,7 @@ pub record IsShown (n : Numbers) (o : Object) : Type 0 where
   pub long_sequencers : length n.sequencers ≡ 32
   pub long_cells : length n.cells ≡ 256
 
-told_same : (n : Numbers) (o : Object) (op : Act) → IsShown n o → IsNamed op → told_in n op ≡ told o op
+told_same : (n : Numbers) (o : SequentialState) (op : Act) → IsShown n o → IsNamed op → reply_in n op ≡ sequential_reply o op
 told_same n o (Advance e) s k = refl
 told_same n o (Read e) s k = ap (λ v. Some (Number v)) (s.events e k)
 told_same n o (Await e v) s k = ap (λ w. cond (nat_le v w) (Some (Number w)) None) (s.events e k)
@@ -53,7 +55,7 @@ put_same xs f n m v lt h =
       | false ↦ λ e. get_or-set_other xs n m v 0 (λ same. eqb-false n m e (sym same)) ∙ h
     ] refl
 
-shown_after : (n : Numbers) (o : Object) (op : Act) → IsShown n o → IsNamed op → IsShown (after_in n op) (after o op)
+shown_after : (n : Numbers) (o : SequentialState) (op : Act) → IsShown n o → IsNamed op → IsShown (after_in n op) (sequential_after o op)
 shown_after n o (Advance e) s k = record {
   events = λ f lt. put_same n.events o.events e f (slice_index n.events e + 1) (let l : length n.events ≡ 32 = s.long_events in omega arith) (s.events f lt) ∙ ap (λ v. put_at o.events e (v + 1) f) (s.events e k);
   sequencers = s.sequencers;
@@ -119,16 +121,16 @@ pub record IsChecked (t : Tables) (past : List Entry) (ps : List Placed) (i : �
   pub marks : Marks cs seen (take i ps)
   pub above : All (λ (a : Placed). a.call.first ≤ latest) (take i ps)
   pub reached : (latest ≡ 0) ⊎ Any (λ (a : Placed). a.call.first ≡ latest) (take i ps)
-  pub shown : IsShown n (after_all fresh (calls_in (take i ps)))
+  pub shown : IsShown n (sequential_after_all zero_state (calls_in (take i ps)))
   pub few : AreFew n i
 
 -- what is given
 pub record IsGiven (t : Tables) (past : List Entry) (cs : List Call) : Type 0 where
   pub declared : IsDeclared t
   pub accepted : IsAccepted t past
-  pub calls : cs ≡ finished t past
+  pub calls : cs ≡ finished_calls t past
 
-known_at : (t : Tables) (past : List Entry) (cs : List Call) (j : ℕ) (c : Call) → IsGiven t past cs → slice_get cs j ≡ Some c → Contains (finished t past) c
+known_at : (t : Tables) (past : List Entry) (cs : List Call) (j : ℕ) (c : Call) → IsGiven t past cs → slice_get cs j ≡ Some c → Contains (finished_calls t past) c
 known_at t past cs j c g at = subst (λ zs. Contains zs c) g.calls (j, slice_get_within cs j c at, get_or_from_slice_get cs j c c at)
 
 late_any : (before : List Placed) (p : Placed) (latest : ℕ) → ((latest ≡ 0) ⊎ Any (λ (a : Placed). a.call.first ≡ latest) before) → p.call.last < latest → IsLate before p
@@ -153,7 +155,7 @@ module _ (t : Tables) (past : List Entry) (ps : List Placed) (i : ℕ) (cs : Lis
   pub late_at : (j : ℕ) → slice_get cs j ≡ Some p.call → slice_get seen j ≡ Some false → p.call.last < latest → IsVerdict t past ps (OutOfOrder i)
   late_at j c m lt = record { sound = s.sound; place = p; at = at; fails = (known_at t past cs j p.call g c, (s.marks j p.call c).1 m, late_any (take i ps) p latest s.reached lt) }
 
-  pub wrong_reply_at : (j : ℕ) → slice_get cs j ≡ Some p.call → slice_get seen j ≡ Some false → latest ≤ p.call.last → IsNamed p.call.op → (told_in n p.call.op ≡ Some p.call.reply → ⊥)
+  pub wrong_reply_at : (j : ℕ) → slice_get cs j ≡ Some p.call → slice_get seen j ≡ Some false → latest ≤ p.call.last → IsNamed p.call.op → (reply_in n p.call.op ≡ Some p.call.reply → ⊥)
       → IsVerdict t past ps (WrongReply i)
   wrong_reply_at j c m le k h = record {
     sound = s.sound;
@@ -163,17 +165,17 @@ module _ (t : Tables) (past : List Entry) (ps : List Placed) (i : ℕ) (cs : Lis
       known_at t past cs j p.call g c,
       (s.marks j p.call c).1 m,
       not_late (take i ps) p latest s.above le,
-      λ e. h (told_same n (after_all fresh (calls_in (take i ps))) p.call.op s.shown k ∙ e),
+      λ e. h (told_same n (sequential_after_all zero_state (calls_in (take i ps))) p.call.op s.shown k ∙ e),
     );
   }
 
   point_same : (lists : List (Vec ℕ Global)) (j : ℕ) → IsIndex past lists → slice_get cs j ≡ Some p.call → point_in lists p.call ≡ point_of past p.call
   point_same lists j index c =
-      let f : Fits past p.call = All-contains (Fits past) (finished t past) p.call (all_fit t past g.declared g.accepted) (known_at t past cs j p.call g c) in
+      let f : Fits past p.call = All-contains (Fits past) (finished_calls t past) p.call (all_fit t past g.declared g.accepted) (known_at t past cs j p.call g c) in
       ap (λ (q : Placed). q.point) (placed_is past lists p.call index f)
 
   pub wrong_point_at : (lists : List (Vec ℕ Global)) (j : ℕ) → IsIndex past lists → slice_get cs j ≡ Some p.call → slice_get seen j ≡ Some false → latest ≤ p.call.last → IsNamed p.call.op
-      → told_in n p.call.op ≡ Some p.call.reply → (p.point ≡ point_in lists p.call → ⊥) → IsVerdict t past ps (WrongPoint i)
+      → reply_in n p.call.op ≡ Some p.call.reply → (p.point ≡ point_in lists p.call → ⊥) → IsVerdict t past ps (WrongPoint i)
   wrong_point_at lists j index c m le k r h = record {
     sound = s.sound;
     place = p;
@@ -182,18 +184,18 @@ module _ (t : Tables) (past : List Entry) (ps : List Placed) (i : ℕ) (cs : Lis
       known_at t past cs j p.call g c,
       (s.marks j p.call c).1 m,
       not_late (take i ps) p latest s.above le,
-      sym (told_same n (after_all fresh (calls_in (take i ps))) p.call.op s.shown k) ∙ r,
+      sym (told_same n (sequential_after_all zero_state (calls_in (take i ps))) p.call.op s.shown k) ∙ r,
       λ e. h (e ∙ sym (point_same lists j index c)),
     );
   }
 
   sound_here : (lists : List (Vec ℕ Global)) (j : ℕ) → IsIndex past lists → slice_get cs j ≡ Some p.call → slice_get seen j ≡ Some false → latest ≤ p.call.last → IsNamed p.call.op
-      → told_in n p.call.op ≡ Some p.call.reply → p.point ≡ point_in lists p.call → IsSound t past (take i ps) p
+      → reply_in n p.call.op ≡ Some p.call.reply → p.point ≡ point_in lists p.call → IsSound t past (take i ps) p
   sound_here lists j index c m le k r e = record {
     known = known_at t past cs j p.call g c;
     once = (s.marks j p.call c).1 m;
     in_time = not_late (take i ps) p latest s.above le;
-    right = sym (told_same n (after_all fresh (calls_in (take i ps))) p.call.op s.shown k) ∙ r;
+    right = sym (told_same n (sequential_after_all zero_state (calls_in (take i ps))) p.call.op s.shown k) ∙ r;
     there = e ∙ point_same lists j index c;
   }
 
@@ -282,7 +284,7 @@ sound_next t past ps i p s at here k q lt there =
     ]
 
 pub checked_start : (t : Tables) (past : List Entry) (ps : List Placed) (cs : List Call) (seen : List Bool) (n : Numbers) → length seen ≡ length cs → All (λ (b : Bool). b ≡ false) seen
-    → IsShown n fresh → AreFew n 0 → IsChecked t past ps 0 cs seen 0 n
+    → IsShown n zero_state → AreFew n 0 → IsChecked t past ps 0 cs seen 0 n
 checked_start t past ps cs seen n long none shown few = record {
   sound = λ k p lt. absurd (omega arith);
   long = long;
@@ -296,20 +298,20 @@ checked_start t past ps cs seen n long none shown few = record {
 pub checked_more : (t : Tables) (past : List Entry) (ps : List Placed) (i : ℕ) (cs : List Call) (seen : List Bool) (latest : ℕ) (n : Numbers) (p : Placed) (lists : List (Vec ℕ Global)) (j : ℕ)
     → IsGiven t past cs → IsChecked t past ps i cs seen latest n → slice_get ps i ≡ Some p
     → IsIndex past lists → slice_get cs j ≡ Some p.call → slice_get seen j ≡ Some false → latest ≤ p.call.last → IsNamed p.call.op
-    → told_in n p.call.op ≡ Some p.call.reply → p.point ≡ point_in lists p.call
+    → reply_in n p.call.op ≡ Some p.call.reply → p.point ≡ point_in lists p.call
     → IsChecked t past ps (i + 1) cs (slice_set seen j true) (max latest p.call.first) (after_in n p.call.op)
 checked_more t past ps i cs seen latest n p lists j g s at index c m le k r e =
     let more : take (i + 1) ps ≡ take i ps ++ p ∷ [] = taken_more ps i p at in
     let rise : AllPairs EndsFirst cs = subst (AllPairs EndsFirst) (sym g.calls) (ends_rise t past g.declared g.accepted) in
-    let o = after_all fresh (calls_in (take i ps)) in
-    let next : after_all fresh (calls_in (take i ps ++ p ∷ [])) ≡ after o p.call.op = ap (after_all fresh) (calls_more (take i ps) p) ∙ after_append fresh (calls_in (take i ps)) (p.call ∷ []) in
+    let o = sequential_after_all zero_state (calls_in (take i ps)) in
+    let next : sequential_after_all zero_state (calls_in (take i ps ++ p ∷ [])) ≡ sequential_after o p.call.op = ap (sequential_after_all zero_state) (calls_more (take i ps) p) ∙ after_append zero_state (calls_in (take i ps)) (p.call ∷ []) in
     record {
       sound = λ q x lt there. sound_next t past ps i p s.sound at (sound_here t past ps i cs seen latest n p g s at lists j index c m le k r e) q x lt there;
       long = length-set seen j true ∙ s.long;
       marks = subst (Marks cs (slice_set seen j true)) (sym more) (marked cs seen (take i ps) p j rise c (slice_get_within seen j false m) s.marks);
       above = subst (All (λ (a : Placed). a.call.first ≤ max latest p.call.first)) (sym more) (above_more (take i ps) p latest s.above);
       reached = subst (λ zs. (max latest p.call.first ≡ 0) ⊎ Any (λ (a : Placed). a.call.first ≡ max latest p.call.first) zs) (sym more) (reached_more (take i ps) p latest s.reached);
-      shown = subst (λ zs. IsShown (after_in n p.call.op) (after_all fresh (calls_in zs))) (sym more) (subst (IsShown (after_in n p.call.op)) (sym next) (shown_after n o p.call.op s.shown k));
+      shown = subst (λ zs. IsShown (after_in n p.call.op) (sequential_after_all zero_state (calls_in zs))) (sym more) (subst (IsShown (after_in n p.call.op)) (sym next) (shown_after n o p.call.op s.shown k));
       few = few_after n i p.call.op s.few;
     }
 
@@ -345,7 +347,7 @@ zeros xs n long at k =
     ]
 
 pub shown_fresh : (n : Numbers) → ((k : ℕ) → slice_index n.events k ≡ 0) → ((k : ℕ) → slice_index n.sequencers k ≡ 0) → ((k : ℕ) → slice_index n.cells k ≡ 0)
-    → (length n.events ≡ 32) × (length n.sequencers ≡ 32) × (length n.cells ≡ 256) → IsShown n fresh × AreFew n 0
+    → (length n.events ≡ 32) × (length n.sequencers ≡ 32) × (length n.cells ≡ 256) → IsShown n zero_state × AreFew n 0
 shown_fresh n a b c l = (
   record { events = λ e _. a e; sequencers = λ q _. b q; cells = λ x _. c x; long_events = l.0; long_sequencers = l.1; long_cells = l.2 },
   record { events = λ k. (let z : slice_index n.events k ≡ 0 = a k in omega arith); sequencers = λ k. (let z : slice_index n.sequencers k ≡ 0 = b k in omega arith) },

@@ -4,7 +4,7 @@ use Rattle.std.proofs.lemmas.Bool.{eqb-true, eqb-false, leb-true, leb-false, le-
 use Rattle.ec_core.specs.declared.act.Entry.{Entry}
 use Rattle.ec_core.specs.Counts.{total, is_advance}
 use Rattle.ec_core.specs.Rounds.{IsPastOf}
-use Rattle.ec_order.specs.Calls.{first_entries, first_moment}
+use Rattle.ec_order.specs.Points.{first_entries, first_moment}
 
 -- THE FIRST ENTRIES
 

@@ -6,7 +6,8 @@ use Rattle.ec_core.specs.declared.act.Entry.{Entry}
 use Rattle.ec_core.specs.Counts.{total, is_advance}
 use Rattle.ec_core.specs.Rounds.{event_or}
 use Rattle.ec_order.specs.declared.call.Call.{Call}
-use Rattle.ec_order.specs.Calls.{is_reading, number_of, first_entries, first_moment, point_of}
+use Rattle.ec_order.specs.Calls.{is_reading, number_of}
+use Rattle.ec_order.specs.Points.{first_entries, first_moment, point_of}
 use Rattle.ec_order.specs.Index.{advanced, moment_of, point_by}
 use Rattle.ec_order.proofs.Points.{first_at, first_next}
 use Rattle.ec_order.proofs.Fits.{Fits, acts_there}
@@ -20,7 +21,7 @@ total_upto e k (x ∷ past) =
       | false ↦ omega arith
     ]
 
-first_all : (k : ℕ) (past : List Entry) → length past ≤ k → first_entries k past ≡ past
+pub first_all : (k : ℕ) (past : List Entry) → length past ≤ k → first_entries k past ≡ past
 unfolding first_entries
 first_all k [] h = refl
 first_all k (x ∷ past) h = ap (λ b. cond b (first_entries k past) (x ∷ past)) (lt-leb k (length past) (omega arith))

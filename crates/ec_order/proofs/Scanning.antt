@@ -10,16 +10,17 @@ use Rattle.ec_core.specs.declared.act.Act.{Act}
 use Rattle.ec_core.specs.declared.act.Act.TheVariants.{Advance, Read, Await, Go, Ticket, Put, Get}
 use Rattle.ec_core.specs.declared.act.Reply.{Reply}
 use Rattle.ec_core.specs.declared.act.Entry.{Entry}
-use Rattle.ec_core.specs.Calls.{CallSoFar as UnderWay, under_way, gone_on, is_pending}
+use Rattle.ec_core.specs.Calls.{CallSoFar, under_way, gone_on, is_pending}
 use Rattle.ec_core.specs.Rounds.{event_or, width}
 use Rattle.ec_core.specs.Acceptance.{IsAccepted}
 use Rattle.ec_core.proofs.Answering.{IsReadingCall, call_reads, reading_event, width_some, mod_next}
 use Rattle.ec_core.proofs.Moments.{accepted_before}
 use Rattle.ec_core.proofs.Places.{get_set}
 use Rattle.ec_order.specs.declared.call.Call.{Call}
-use Rattle.ec_order.specs.declared.scan.Begun.{Begun}
-use Rattle.ec_order.specs.Calls.{made, ended, finished, position_of, into_round}
-use Rattle.ec_order.specs.Scan.{gone, more, kept, call_from, call_told, begun_at, shown, IsTable}
+use Rattle.ec_order.specs.declared.begun.Begun.{Begun}
+use Rattle.ec_order.specs.Calls.{call_of_entries, ended_by, finished_calls}
+use Rattle.ec_core.specs.Rounds.{position_of}
+use Rattle.ec_order.specs.Scan.{begun_after, read_on, begun_left, call_from, call_told, begun_at, begun_of, IsTable}
 use Rattle.ec_order.proofs.Chains.{IsGone, gone_chain, call_chain}
 
 -- PREFIXES
@@ -39,11 +40,11 @@ prefix_accepted t h i acc =
 
 -- CALLS UNDER WAY HAVE AN ENTRY
 
-abbrev HasMoment : Option UnderWay → Type 0
+abbrev HasMoment : Option CallSoFar → Type 0
 HasMoment None = Unit {0}
 HasMoment (Some call) = (l : ℕ) × (length call.moments ≡ suc l)
 
-gone_moment : (past : List Entry) (o : Option UnderWay) (b : Bool) → IsGone past o → HasMoment (cond b o None)
+gone_moment : (past : List Entry) (o : Option CallSoFar) (b : Bool) → IsGone past o → HasMoment (cond b o None)
 gone_moment past o false h = tt
 gone_moment past None true h = tt
 gone_moment past (Some call) true h = (length h.0, ap length h.1)
@@ -59,8 +60,12 @@ call_moment w (x ∷ past) =
 
 -- A STEP
 
+-- how many entries of a call there are in its last round before the last entry
+abbrev into_round : Tables → Act → List (List Entry) → ℕ
+into_round t op moments = (length moments - 1) % width t (event_or op)
+
 -- a call with its present entry
-abbrev entered : Tables → UnderWay → Begun
+abbrev entered : Tables → CallSoFar → Begun
 entered t call = record {
   op = call.op;
   first = position_of call.moments (length call.moments - 1);
@@ -83,8 +88,8 @@ some_begun op f r c = Some (record { op = op; first = f; round = r; read = c })
 begun_with : (op : Act) (f r c f' r' c' : ℕ) → f ≡ f' → r ≡ r' → c ≡ c' → some_begun op f r c ≡ some_begun op f' r' c'
 begun_with op f r c f' r' c' a b d = ap (λ x. some_begun op x r c) a ∙ ap (λ y. some_begun op f' y c) b ∙ ap (λ z. some_begun op f' r' z) d
 
-go_entered : (t : Tables) (past : List Entry) (call : UnderWay) → HasMoment (Some call) → 0 < width t (event_or call.op)
-    → gone Go (Some (shown t call)) (length past) ≡ Some (entered t (record { op = call.op; moments = past ∷ call.moments }))
+go_entered : (t : Tables) (past : List Entry) (call : CallSoFar) → HasMoment (Some call) → 0 < width t (event_or call.op)
+    → begun_after Go (Some (begun_of t call)) (length past) ≡ Some (entered t (record { op = call.op; moments = past ∷ call.moments }))
 go_entered t past call h some =
     let n = width t (event_or call.op) in
     let ms = call.moments in
@@ -105,12 +110,12 @@ first_entered t past op =
     let zero_mod : 0 % n ≡ 0 = (let le : 0 % n ≤ 0 = mod-le 0 n in omega arith) in
     begun_with op (length past) (length past) 0 (length past) (position_of (past ∷ []) (0 % n)) (0 % n) refl (sym (ap (position_of (past ∷ [])) zero_mod)) (sym zero_mod)
 
-abbrev IsWide : Tables → Option UnderWay → Type 0
+abbrev IsWide : Tables → Option CallSoFar → Type 0
 IsWide t None = Unit {0}
 IsWide t (Some call) = 0 < width t (event_or call.op)
 
-gone_entered : (t : Tables) (past : List Entry) (act : Act) (o : Option UnderWay) → HasMoment o → IsWide t o
-    → gone act (option_map (shown t) o) (length past) ≡ option_map (entered t) (gone_on act past o)
+gone_entered : (t : Tables) (past : List Entry) (act : Act) (o : Option CallSoFar) → HasMoment o → IsWide t o
+    → begun_after act (option_map (begun_of t) o) (length past) ≡ option_map (entered t) (gone_on act past o)
 gone_entered t past (Advance e) o h w = first_entered t past (Advance e)
 gone_entered t past (Read e) o h w = first_entered t past (Read e)
 gone_entered t past (Await e v) o h w = first_entered t past (Await e v)
@@ -121,18 +126,18 @@ gone_entered t past (Put x v) o h w = first_entered t past (Put x v)
 gone_entered t past (Get x) o h w = first_entered t past (Get x)
 
 -- the call that an entry ends
-told_ended : (t : Tables) (x : Entry) (past : List Entry) (g : Option UnderWay) → IsGone past g
-    → option_to_list (call_told x (length past) (option_map (entered t) g)) ≡ ended t x g
+told_ended : (t : Tables) (x : Entry) (past : List Entry) (g : Option CallSoFar) → IsGone past g
+    → option_to_list (call_told x (length past) (option_map (entered t) g)) ≡ ended_by t x g
 told_ended t x past None h = elim (is_pending x.reply) as (λ b. option_to_list (cond b None (option_map (call_from x (length past)) None)) ≡ []) [ true ↦ refl | false ↦ refl ]
 told_ended t x past (Some call) h =
     let last : position_of call.moments 0 ≡ length past = ap (λ ms. position_of ms 0) h.1 in
     let c : ℕ → Call = λ k. record { worker = x.worker; op = call.op; reply = x.reply; first = position_of call.moments (length call.moments - 1); round = position_of call.moments (into_round t call.op call.moments); last = k } in
-    elim (is_pending x.reply) as (λ b. option_to_list (cond b None (Some (c (length past)))) ≡ cond b [] (made t x call.op call.moments ∷ [])) [
+    elim (is_pending x.reply) as (λ b. option_to_list (cond b None (Some (c (length past)))) ≡ cond b [] (call_of_entries t x call.op call.moments ∷ [])) [
       | true ↦ refl
       | false ↦ ap (λ k. c k ∷ []) (sym last)
     ]
 
-more_shown : (t : Tables) (past : List Entry) (g : Option UnderWay) → IsGone past g → IsWide t g → option_map (more t) (option_map (entered t) g) ≡ option_map (shown t) g
+more_shown : (t : Tables) (past : List Entry) (g : Option CallSoFar) → IsGone past g → IsWide t g → option_map (read_on t) (option_map (entered t) g) ≡ option_map (begun_of t) g
 more_shown t past None h w = refl
 more_shown t past (Some call) h w =
     let n = width t (event_or call.op) in
@@ -144,15 +149,15 @@ more_shown t past (Some call) h w =
     (ap (λ k. cond (nat_le n (k % n + 1)) 0 (k % n + 1)) less ∙ sym (mod_next n (length h.0) w) ∙ sym (ap (λ k. k % n) long))
 
 -- the call that it leaves under way
-kept_shown : (t : Tables) (reply : Reply) (past : List Entry) (g : Option UnderWay) → IsGone past g → IsWide t (cond (is_pending reply) g None)
-    → kept t reply (option_map (entered t) g) ≡ option_map (shown t) (cond (is_pending reply) g None)
+kept_shown : (t : Tables) (reply : Reply) (past : List Entry) (g : Option CallSoFar) → IsGone past g → IsWide t (cond (is_pending reply) g None)
+    → begun_left t reply (option_map (entered t) g) ≡ option_map (begun_of t) (cond (is_pending reply) g None)
 kept_shown t reply past g h w =
-    elim (is_pending reply) as (λ b. IsWide t (cond b g None) → cond b (option_map (more t) (option_map (entered t) g)) None ≡ option_map (shown t) (cond b g None)) [
+    elim (is_pending reply) as (λ b. IsWide t (cond b g None) → cond b (option_map (read_on t) (option_map (entered t) g)) None ≡ option_map (begun_of t) (cond b g None)) [
       | true ↦ λ wide. more_shown t past g h wide
       | false ↦ λ wide. refl
     ] w
 
-reading_wide : (t : Tables) (o : Option UnderWay) → IsDeclared t → IsReadingCall t o → IsWide t o
+reading_wide : (t : Tables) (o : Option CallSoFar) → IsDeclared t → IsReadingCall t o → IsWide t o
 reading_wide t None d h = tt
 reading_wide t (Some call) d h = width_some t (event_or call.op) d (reading_event t call.op h)
 
@@ -162,31 +167,31 @@ own_call x past = ap (λ b. cond b (cond (is_pending x.reply) (gone_on x.act pas
 
 -- what the scan makes of an entry
 pub record Scans (t : Tables) (x : Entry) (past : List Entry) (table : List (Option Begun)) (i : ℕ) : Type 0 where
-  pub call : finished t (x ∷ past) ≡ finished t past ++ option_to_list (call_told x i (gone x.act (begun_at table x.worker) i))
-  pub kept : IsTable t (x ∷ past) (slice_set table x.worker (kept t x.reply (gone x.act (begun_at table x.worker) i)))
+  pub call : finished_calls t (x ∷ past) ≡ finished_calls t past ++ option_to_list (call_told x i (begun_after x.act (begun_at table x.worker) i))
+  pub kept : IsTable t (x ∷ past) (slice_set table x.worker (begun_left t x.reply (begun_after x.act (begun_at table x.worker) i)))
 
 pub scans : (t : Tables) (x : Entry) (past : List Entry) (table : List (Option Begun)) (i : ℕ) → IsDeclared t → IsAccepted t (x ∷ past) → i ≡ length past → length table ≡ 16 → x.worker < 16
     → IsTable t past table → Scans t x past table i
-unfolding finished under_way
+unfolding finished_calls under_way
 scans t x past table i d acc here long small h =
     let w = x.worker in
     let o = under_way w past in
     let g = gone_on x.act past o in
-    let at : begun_at table w ≡ option_map (shown t) o = ap (λ z. unwrap_or z None) (h w small) in
+    let at : begun_at table w ≡ option_map (begun_of t) o = ap (λ z. unwrap_or z None) (h w small) in
     let wide : IsWide t o = reading_wide t o d (call_reads t past w acc.1) in
-    let fresh : gone x.act (begun_at table w) i ≡ option_map (entered t) g =
-    ap (λ z. gone x.act z i) at ∙ ap (gone x.act (option_map (shown t) o)) here ∙ gone_entered t past x.act o (call_moment w past) wide in
+    let zero_state : begun_after x.act (begun_at table w) i ≡ option_map (entered t) g =
+    ap (λ z. begun_after x.act z i) at ∙ ap (begun_after x.act (option_map (begun_of t) o)) here ∙ gone_entered t past x.act o (call_moment w past) wide in
     let is_gone : IsGone past g = gone_chain x.act past o (call_chain w past) in
     let wide' : IsWide t (cond (is_pending x.reply) g None) = subst (IsWide t) (own_call x past) (reading_wide t (under_way w (x ∷ past)) d (call_reads t (x ∷ past) w acc)) in
-    let kept_is : kept t x.reply (gone x.act (begun_at table w) i) ≡ option_map (shown t) (cond (is_pending x.reply) g None) =
-    ap (kept t x.reply) fresh ∙ kept_shown t x.reply past g is_gone wide' in
+    let kept_is : begun_left t x.reply (begun_after x.act (begun_at table w) i) ≡ option_map (begun_of t) (cond (is_pending x.reply) g None) =
+    ap (begun_left t x.reply) zero_state ∙ kept_shown t x.reply past g is_gone wide' in
     record {
-      call = ap (λ zs. finished t past ++ zs) (sym (ap (λ z. option_to_list (call_told x i z)) fresh ∙ ap (λ k. option_to_list (call_told x k (option_map (entered t) g))) here ∙ told_ended t x past g is_gone));
+      call = ap (λ zs. finished_calls t past ++ zs) (sym (ap (λ z. option_to_list (call_told x i z)) zero_state ∙ ap (λ k. option_to_list (call_told x k (option_map (entered t) g))) here ∙ told_ended t x past g is_gone));
       kept = λ v lt.
-          get_set table w v (kept t x.reply (gone x.act (begun_at table w) i)) (omega arith)
-          ∙ (elim (w == v) as (λ b. (w == v) ≡ b → cond b (Some (kept t x.reply (gone x.act (begun_at table w) i))) (slice_get table v)
-          ≡ Some (option_map (shown t) (cond b (cond (is_pending x.reply) (gone_on x.act past (under_way v past)) None) (under_way v past)))) [
-            | true ↦ λ e. ap Some (kept_is ∙ ap (λ u. option_map (shown t) (cond (is_pending x.reply) (gone_on x.act past (under_way u past)) None)) (eqb-true w v e))
+          get_set table w v (begun_left t x.reply (begun_after x.act (begun_at table w) i)) (omega arith)
+          ∙ (elim (w == v) as (λ b. (w == v) ≡ b → cond b (Some (begun_left t x.reply (begun_after x.act (begun_at table w) i))) (slice_get table v)
+          ≡ Some (option_map (begun_of t) (cond b (cond (is_pending x.reply) (gone_on x.act past (under_way v past)) None) (under_way v past)))) [
+            | true ↦ λ e. ap Some (kept_is ∙ ap (λ u. option_map (begun_of t) (cond (is_pending x.reply) (gone_on x.act past (under_way u past)) None)) (eqb-true w v e))
             | false ↦ λ e. h v lt
           ] refl);
     }
@@ -199,16 +204,16 @@ prefix_long h i x at =
 -- the scan of one entry more
 pub scans_more : (t : Tables) (h : List Entry) (i : ℕ) (x : Entry) (table : List (Option Begun)) → IsDeclared t → IsAccepted t (reverse h) → slice_get h i ≡ Some x
     → length table ≡ 16 → x.worker < 16 → IsTable t (reverse (take i h)) table
-    → (finished t (reverse (take (i + 1) h)) ≡ finished t (reverse (take i h)) ++ option_to_list (call_told x i (gone x.act (begun_at table x.worker) i)))
-    × IsTable t (reverse (take (i + 1) h)) (slice_set table x.worker (kept t x.reply (gone x.act (begun_at table x.worker) i)))
+    → (finished_calls t (reverse (take (i + 1) h)) ≡ finished_calls t (reverse (take i h)) ++ option_to_list (call_told x i (begun_after x.act (begun_at table x.worker) i)))
+    × IsTable t (reverse (take (i + 1) h)) (slice_set table x.worker (begun_left t x.reply (begun_after x.act (begun_at table x.worker) i)))
 scans_more t h i x table d acc at long small tbl =
     let more : reverse (take (i + 1) h) ≡ x ∷ reverse (take i h) = prefix_more h i x at in
     let s = scans t x (reverse (take i h)) table i d (subst (IsAccepted t) more (prefix_accepted t h (i + 1) acc)) (prefix_long h i x at) long small tbl in
-    (ap (finished t) more ∙ s.call, subst (λ p. IsTable t p (slice_set table x.worker (kept t x.reply (gone x.act (begun_at table x.worker) i)))) (sym more) s.kept)
+    (ap (finished_calls t) more ∙ s.call, subst (λ p. IsTable t p (slice_set table x.worker (begun_left t x.reply (begun_after x.act (begun_at table x.worker) i)))) (sym more) s.kept)
 
 -- what is so after the scan of the first i entries
 pub record IsScanned (t : Tables) (h : List Entry) (i : ℕ) (cs : List Call) (table : List (Option Begun)) : Type 0 where
-  pub calls : cs ≡ finished t (reverse (take i h))
+  pub calls : cs ≡ finished_calls t (reverse (take i h))
   pub kept : IsTable t (reverse (take i h)) table
   pub long : length table ≡ 16
 
@@ -219,13 +224,13 @@ none_past (x ∷ h) (suc i) e lt = none_past h i e (omega arith)
 
 pub scanned : (t u : Tables) (h : List Entry) (i : ℕ) (x : Entry) (told : Option Call) (cs cs' : List Call) (table table' : List (Option Begun)) → IsDeclared t → IsAccepted t (reverse h)
     → Some x ≡ slice_get h i → x.worker < 16 → IsScanned t h i cs table → u ≡ t
-    → told ≡ call_told x i (gone x.act (begun_at table x.worker) i) → table' ≡ slice_set table x.worker (kept u x.reply (gone x.act (begun_at table x.worker) i)) → cs' ≡ cs ++ option_to_list told
+    → told ≡ call_told x i (begun_after x.act (begun_at table x.worker) i) → table' ≡ slice_set table x.worker (begun_left u x.reply (begun_after x.act (begun_at table x.worker) i)) → cs' ≡ cs ++ option_to_list told
     → IsScanned t h (i + 1) cs' table'
 scanned t u h i x told cs cs' table table' d acc at small s same a b' e =
-    let b : table' ≡ slice_set table x.worker (kept t x.reply (gone x.act (begun_at table x.worker) i)) = b' ∙ ap (λ z. slice_set table x.worker (kept z x.reply (gone x.act (begun_at table x.worker) i))) same in
+    let b : table' ≡ slice_set table x.worker (begun_left t x.reply (begun_after x.act (begun_at table x.worker) i)) = b' ∙ ap (λ z. slice_set table x.worker (begun_left z x.reply (begun_after x.act (begun_at table x.worker) i))) same in
     let k = scans_more t h i x table d acc (sym at) s.long small s.kept in
     record {
-      calls = e ∙ ap (λ z. z ++ option_to_list told) s.calls ∙ ap (λ z. finished t (reverse (take i h)) ++ option_to_list z) a ∙ sym k.0;
+      calls = e ∙ ap (λ z. z ++ option_to_list told) s.calls ∙ ap (λ z. finished_calls t (reverse (take i h)) ++ option_to_list z) a ∙ sym k.0;
       kept = subst (IsTable t (reverse (take (i + 1) h))) (sym b) k.1;
-      long = ap length b ∙ length-set table x.worker (kept t x.reply (gone x.act (begun_at table x.worker) i)) ∙ s.long;
+      long = ap length b ∙ length-set table x.worker (begun_left t x.reply (begun_after x.act (begun_at table x.worker) i)) ∙ s.long;
     }

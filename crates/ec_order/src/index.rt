@@ -5,7 +5,7 @@ ghost use Rattle.ec_order.specs.Calls.{is_reading, number_of};
 ghost use Rattle.ec_order.specs.Index.{moment_of, moments_in, IsIndex, point_in, raised_by};
 
 use crate::Call;
-use crate::scan::event_or;
+use crate::begun::event_or;
 use ec_core::{Act, Reply, Run};
 use std::alloc::{AllocError, Global};
 

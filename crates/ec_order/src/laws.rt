@@ -1,14 +1,14 @@
-//! Laws of calls and points.
-ghost use Rattle.std.specs.Prelude.{◌≡◌, List, true};
-ghost use Rattle.std.specs.List.{Contains};
-ghost use Rattle.ec_count.specs.Tables.{Tables, IsDeclared};
-ghost use Rattle.ec_core.specs.declared.act.Entry.{Entry};
-ghost use Rattle.ec_core.specs.Acceptance.{IsAccepted};
-ghost use Rattle.ec_order.specs.declared.call.Call.{Call};
-ghost use Rattle.ec_order.specs.Calls.{finished, is_reading, point_of};
-ghost use Rattle.ec_order.specs.Orders.{IsPoint};
+//! Laws of every accepted history, each the contract of a function that does nothing.
+ghost use Rattle.ec_order.specs.Laws.{PointsExist, EveryAcceptedHistoryHasAnOrder};
 
-/// Each finished read and await of an accepted history has a point.
+/// Every finished call has its point; for a read or an await it is the least moment, from the start of its last round
+/// to its last entry, at which the total was its answer.
 pub fn points_exist()
-    ensures { (t : Tables) (past : List Entry) (c : Call) → IsDeclared t → IsAccepted t past → Contains (finished t past) c → is_reading c.op ≡ true → IsPoint past c (point_of past c) }
+    ensures { PointsExist }
+{}
+
+/// The finished calls of every accepted history stand in an order that keeps every finished-before pair and is a run
+/// of the sequential object, and each finished read's total stood at a moment between its first and last steps.
+pub fn every_accepted_history_has_an_order()
+    ensures { EveryAcceptedHistoryHasAnOrder }
 {}

@@ -1,12 +1,12 @@
 use Rattle.std.proofs.Common.{arith, sym, ◌∙◌, Some, None, append-nil}
 use Rattle.ec_core.specs.Calls.{under_way}
-use Rattle.ec_order.specs.Calls.{finished}
+use Rattle.ec_order.specs.Calls.{finished_calls}
 use Rattle.ec_order.proofs.Scanning.{scanned, none_past}
 use Rattle.ec_order.proofs.scan.calls.Goals as goal
 use Rattle.ec_order.proofs.scan.calls.Goals.{in-Some+in-Some-take_in+in_ok-push, in-Some+in_default-take_in, in_default}
 
 pub loop-i-init : goal.loop-i-init
-unfolding finished under_way
+unfolding finished_calls under_way
 loop-i-init c = record { calls = c.new-calls.ensures.items; kept = c.all_alike-table.ensures.at; long = c.all_alike-table.ensures.long }
 
 pub loop-i-preserved : goal.loop-i-preserved

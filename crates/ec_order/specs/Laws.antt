@@ -1,0 +1,36 @@
+-- Laws of every accepted history, over the history in its natural order: the oldest entry first, so that `past_at k h`
+-- is moment k, at which the first k entries have happened.
+use Rattle.std.specs.Prelude.{◌≡◌, ℕ, ◌≤◌, true, List, reverse}
+use Rattle.std.specs.List.{Contains}
+use Rattle.ec_count.specs.Tables.{Tables, IsDeclared}
+use Rattle.ec_core.specs.declared.act.Entry.{Entry}
+use Rattle.ec_core.specs.Counts.{total, past_at}
+use Rattle.ec_core.specs.Rounds.{event_or}
+use Rattle.ec_core.specs.Acceptance.{IsAccepted}
+use Rattle.ec_order.specs.declared.call.Call.{Call}
+use Rattle.ec_order.specs.Calls.{finished_calls, is_reading, number_of}
+use Rattle.ec_order.specs.Orders.{IsLegalOrder}
+use Rattle.ec_order.specs.Points.{IsPoint, point_of}
+
+-- each finished call has its point
+abbrev pub PointsExist : Type 0
+PointsExist = (t : Tables) (h : List Entry) (c : Call) → IsDeclared t → IsAccepted t (reverse h)
+    → Contains (finished_calls t (reverse h)) c → IsPoint h c (point_of (reverse h) c)
+
+-- a moment between the first and the last step of a call at which the total of its eventcount was its answer
+pub record StoodBetween (h : List Entry) (c : Call) : Type 0 where
+  pub moment : ℕ
+  pub from_first : c.first ≤ moment
+  pub to_last : moment ≤ c.last
+  pub total_is : total (event_or c.op) (past_at moment h) ≡ number_of c.reply
+
+-- a list of the finished calls, each once, that keeps every finished-before pair and is a run of the sequential
+-- object; and for every finished read or await a moment at which the total was its answer
+pub record HasAnOrder (t : Tables) (h : List Entry) : Type 0 where
+  pub order : List Call
+  pub legal : IsLegalOrder t (reverse h) order
+  pub stood : (c : Call) → Contains (finished_calls t (reverse h)) c → is_reading c.op ≡ true → StoodBetween h c
+
+-- the headline: whatever the interleaving, every accepted history has an order
+abbrev pub EveryAcceptedHistoryHasAnOrder : Type 0
+EveryAcceptedHistoryHasAnOrder = (t : Tables) (h : List Entry) → IsDeclared t → IsAccepted t (reverse h) → HasAnOrder t h
