@@ -1,0 +1,2 @@
+pub mod Undeclared
+pub mod TotalLemmas

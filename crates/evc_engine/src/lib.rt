@@ -1,0 +1,7 @@
+//! What the program does with its input: texts out as a function of bytes in.
+#![tactic(auto)]
+
+mod status;
+mod totals;
+
+pub use status::Status;
