@@ -1,20 +1,22 @@
 -- A look-up in the table is a look-up by bytes, and what a table of names keeps.
-use Rattle.std.proofs.Common.{◌≡◌, ℕ, zero, suc, ◌+◌, ◌<◌, List, [], ◌∷◌, ◌++◌, length, get_or, slice_get, drop, cond, true, false, not, ◌&&◌, Option, None, Some, is_some, refl, sym, ap, subst, ◌∙◌, true≢false, arith, add-one, nat_le}
+use Rattle.std.proofs.Common.{◌==◌, ◌≡◌, ℕ, zero, suc, ◌+◌, ◌<◌, List, [], ◌∷◌, ◌++◌, length, get_or, slice_get, drop, cond, true, false, not, ◌&&◌, Option, None, Some, is_some, refl, sym, ap, subst, ◌∙◌, true≢false, arith, add-one, nat_le}
 use Rattle.std.specs.Prelude.{bytes_eq, IsTrue, ◌≢◌, MatchOption}
-use Rattle.std.specs.List.{list_all}
+use Rattle.std.specs.List.{AllPairs, list_all}
 use Rattle.std.specs.Map.{lookup}
 use Rattle.std.specs.Global.{Vec}
 use Rattle.std.specs.Str.{IsAscii, IsUtf8}
 use Rattle.std.specs.Char.{is_ascii_alphabetic}
 use Rattle.std.specs.Option.{option_and_then}
 use Rattle.std.proofs.lemmas.Str.{IsUtf8-from_ascii}
-use Rattle.std.proofs.lemmas.Bool.{and_parts}
+use Rattle.std.proofs.lemmas.Bool.{eqb-true, false_from_ne_true, and_parts}
 use Rattle.std.proofs.lemmas.Bool.Decides.{nat_tests}
 use Rattle.std.proofs.lemmas.Slice.Eq.{bytes_eq-Decides}
 use Rattle.std.proofs.lemmas.Option.{slice_get_within, get_or_from_slice_get}
 use Rattle.std.proofs.lemmas.List.Elements.{All-push}
 use Rattle.std.proofs.lemmas.List.Quantifiers.{all_pairs_push}
 use Rattle.ec_count.specs.declared.target.Target.{Target}
+use Rattle.ec_count.specs.declared.target.Target.TheVariants.{Worker, Event, Sequencer, Cells, Group}
+use Rattle.ec_count.specs.Laws.{NamesAreFound}
 use Rattle.ec_count.specs.Names.{AreNames, by_bytes, find_name, name_for, name_of, same_target, name_fault}
 use Rattle.ec_count.specs.Tables.{first_that}
 use Rattle.ec_count.specs.declared.names.NameFault.TheVariants.{BadName, NameTaken}
@@ -130,3 +132,42 @@ pub name_later : (target : Target) (names : List (List ℕ × Target)) (i : ℕ)
 name_later target names i at =
     let P = λ (o : Option (List ℕ)). MatchOption o (name_of target (drop i names) ≡ name_of target (drop (i + 1) names)) (λ found. name_of target (drop i names) ≡ Some found) in
     subst P (sym at) (at_place target names i)
+
+-- the same target
+target_is : (s t : Target) → same_target s t ≡ true → s ≡ t
+target_is (Worker v) (Worker w) h = ap Worker (eqb-true v w h)
+target_is (Event d) (Event e) h = ap Event (eqb-true d e h)
+target_is (Sequencer p) (Sequencer q) h = ap Sequencer (eqb-true p q h)
+target_is (Cells x m) (Cells y n) h = (let p = and_parts (x == y) (m == n) h in let a = eqb-true x y p.0 in let b = eqb-true m n p.1 in cc)
+target_is (Group i) (Group j) h = ap Group (eqb-true i j h)
+target_is _ _ h = cc
+
+-- an entry is found by its name
+differ_tail : (x : List ℕ × Target) (xs : List (List ℕ × Target)) → AllPairs (λ d e. d.0 ≢ e.0) (x ∷ xs) → AllPairs (λ d e. d.0 ≢ e.0) xs
+differ_tail x xs h i j d lt within = h (suc i) (suc j) d (omega arith) (omega arith)
+
+entry_found : (names : List (List ℕ × Target)) → AllPairs (λ d e. d.0 ≢ e.0) names → (i : ℕ) (e : List ℕ × Target) → slice_get names i ≡ Some e → find_name e.0 names ≡ Some e.1
+entry_found [] h i e at = cc
+entry_found (x ∷ xs) h zero e at =
+    let q : x ≡ e = cc in
+    let own : bytes_eq e.0 x.0 ≡ true = (bytes_eq-Decides e.0 x.0).1 (ap (λ (y : List ℕ × Target). y.0) (sym q)) in
+    ap (λ b. cond b (Some x.1) (find_name e.0 xs)) own ∙ ap (λ (y : List ℕ × Target). Some y.1) q
+entry_found (x ∷ xs) h (suc i) e at =
+    let other : x.0 ≡ e.0 → ⊥ = λ same. h zero (suc i) e (omega arith) (let k = slice_get_within xs i e at in omega arith) (same ∙ ap (λ (y : List ℕ × Target). y.0) (sym (get_or_from_slice_get xs i e e at))) in
+    let off : bytes_eq e.0 x.0 ≡ false = false_from_ne_true (bytes_eq e.0 x.0) (λ p. other (sym ((bytes_eq-Decides e.0 x.0).0 p))) in
+    ap (λ b. cond b (Some x.1) (find_name e.0 xs)) off ∙ entry_found xs (differ_tail x xs h) i e at
+
+-- the name that is given for a target stands beside it
+named_entry : (target : Target) (names : List (List ℕ × Target)) (name : List ℕ) → name_of target names ≡ Some name → (i : ℕ) × (slice_get names i ≡ Some (name, target))
+named_entry target [] name h = cc
+named_entry target (x ∷ xs) name h =
+    elim (same_target x.1 target) as (λ b. same_target x.1 target ≡ b → cond b (Some x.0) (name_of target xs) ≡ Some name → (i : ℕ) × (slice_get (x ∷ xs) i ≡ Some (name, target))) [
+      | true ↦ λ e g. (let p : x.0 ≡ name = cc in let q = target_is x.1 target e in let pair : (x.0, x.1) ≡ (name, target) = cc in (zero, ap Some pair))
+      | false ↦ λ e g. (let r = named_entry target xs name g in (suc r.0, r.1))
+    ] refl h
+
+pub names_found : NamesAreFound
+names_found names h = record {
+  entries = entry_found names h.differ;
+  targets = λ target name e. (let at = named_entry target names name e in entry_found names h.differ at.0 (name, target) at.1);
+}
