@@ -1,5 +1,5 @@
 -- The lines of totals, one after another.
-use Rattle.std.proofs.Common.{◌≡◌, ℕ, zero, suc, ◌+◌, List, [], ◌∷◌, ◌++◌, Option, refl, ap, sym, ◌∙◌, arith, add-one, append_assoc, append-nil, subst, codes, Some, take, slice_get}
+use Rattle.std.proofs.Common.{◌≡◌, ℕ, zero, suc, ◌+◌, List, [], ◌∷◌, ◌++◌, Option, refl, ap, sym, ◌∙◌, arith, add-one, append_assoc, append-nil, subst, codes, Some, take, slice_get, length, ◌≤◌}
 use Rattle.std.specs.List.{flat_map}
 use Rattle.std.proofs.lemmas.List.Concat.{flat_map-append}
 use Rattle.ec_count.specs.declared.target.Target.{Target}
@@ -8,8 +8,10 @@ use Rattle.ec_core.specs.declared.act.Entry.{Entry}
 use Rattle.ec_core.specs.Counts.{total, issued, cell_value}
 use Rattle.ec_text.specs.Puts.{Puts, Held}
 use Rattle.ec_text.proofs.PutLemmas.{puts_then}
+use Rattle.ec_trace.specs.Headed.{Headed}
+use Rattle.std.proofs.lemmas.List.{take_all}
 use Rattle.ec_trace.specs.Spelling.{Named, word_of, text_of, ended_line}
-use Rattle.evc_engine.specs.Texts.{cell_line, cell_lines, count_line, totals_of}
+use Rattle.evc_engine.specs.Texts.{cell_line, cell_lines, count_line, totals_of, totals_lines}
 
 take_more : {A : Type 0} (xs : List A) (k : ℕ) (x : A) → slice_get xs k ≡ Some x → take (suc k) xs ≡ take k xs ++ x ∷ []
 take_more [] k x h = cc
@@ -89,3 +91,12 @@ totals_put a b c x y z names past targets k target at before now =
     let text : text_of (flat_map (totals_of names past) (take (k + 1) targets)) ≡ text_of (flat_map (totals_of names past) (take k targets)) ++ text_of (totals_of names past target)
         = ap text_of lines ∙ flat_map-append ended_line (flat_map (totals_of names past) (take k targets)) (totals_of names past target) in
     subst (Puts a x c z) (sym text) (puts_then a b c x y z _ _ before now))
+
+-- all of them
+pub totals_all : (a b : Option (List ℕ)) (x y : Held) (names : Named) (past : List Entry) (targets : List Target) (k : ℕ) (heading : Headed) → length targets ≤ k
+    → names ≡ heading.names → targets ≡ heading.declarations → Puts a x b y (text_of (flat_map (totals_of names past) (take k targets)))
+    → Puts a x b y (text_of (totals_lines heading past))
+totals_all a b x y names past targets k heading far same all put =
+    subst (Puts a x b y)
+    (ap (λ ts. text_of (flat_map (totals_of names past) ts)) (take_all k targets far ∙ all) ∙ ap (λ ns. text_of (flat_map (totals_of ns past) heading.declarations)) same)
+    put
