@@ -6,3 +6,4 @@ pub mod Moments
 pub mod Silences
 pub mod Pasts
 pub mod Bounds
+pub mod Joining

@@ -7,6 +7,7 @@ pub mod Progress
 pub mod Standing
 pub mod Fields
 pub mod Recorded
+pub mod Segmented
 pub mod Faults
 pub mod Refusals
 pub mod Values

@@ -118,6 +118,13 @@ pub(crate) fn all_alike<T: Copy, const N: usize>(x: T) -> [T; N]
     [x; N]
 }
 
+/// The same array again.
+pub(crate) fn same_again<T: Copy, const N: usize>(xs: &[T; N]) -> [T; N]
+    ensures { result ≡ xs.now }
+{
+    *xs
+}
+
 /// What is known of the ids that an act names.
 pub(crate) fn named(act: &Act)
     ensures { IsNamed act.now }

@@ -1,28 +1,31 @@
 //! Recorded runs.
-ghost use Rattle.std.specs.Prelude.{◌≡◌, ℕ, ◌<◌, List, [], ◌∷◌, ◌++◌, length, reverse, slice_get, IfOk, OnOk, OnErr, MatchResult};
+ghost use Rattle.std.specs.Prelude.{◌≡◌, List, [], ◌∷◌, ◌++◌, length, reverse, slice_get, Ok, IfOk, OnErr, MatchResult};
 ghost use Rattle.ec_count.specs.Tables.{IsDeclared};
-ghost use Rattle.ec_core.specs.declared.act.Entry.{Entry};
 ghost use Rattle.ec_core.specs.Acceptance.{answer_of, IsAccepted};
+ghost use Rattle.ec_core.specs.Standing.{StandsFor};
 ghost use Rattle.ec_core.specs.Values.{TellsAtMost};
-ghost use Rattle.ec_core.specs.Recorded.{Recorded};
 
-use crate::{Act, Entry, Refusal, Reply, VALUE_MAX, World};
+use crate::segments::Segments;
+use crate::{Act, Entries, Entry, Refusal, Reply, VALUE_MAX, World};
 use ec_count::{Setup, WorkerId};
-use std::alloc::{AllocError, AllocFailed, Global};
+use std::alloc::{AllocError, Global};
 use std::marker::Model;
 
-/// Why a run made no step.
+/// Why a run made no step. After either everything is as before.
 #[derive(Clone, Copy, Debug, PartialEq, Eq)]
 pub enum StepFault {
+    /// The step is refused.
     Refused(Refusal),
+    /// The step is right, and there was no memory for its entry.
     Memory,
 }
 
-/// A world and the history that it stands for.
+/// A world and the history that it stands for: each entry was answered at its own moment as the definition of an
+/// accepted history says. The entries are kept in segments, so that recording a step never moves what stands there.
 #[derive(Drop)]
 pub struct Run {
     world: World,
-    entries: Vec<Entry>,
+    entries: Segments,
 }
 
 impl Model for Run {
@@ -32,24 +35,26 @@ impl Model for Run {
 
     ghost use Rattle.ec_core.specs.Standing.{StandsFor};
 
-    ghost view = { λ r. record { setup = r.world.setup; entries = r.entries.items } };
+    ghost view = { λ r. record { setup = r.world.setup; entries = r.entries } };
 
-    ghost invariant = { λ r. StandsFor r.world r.entries.items };
+    ghost invariant = { λ r. StandsFor r.world r.entries };
 }
 
 impl Run {
     ghost use Rattle.ec_core.specs.Faults.{IsFaultOf};
 
-    pub fn open(alloc: Global, setup: Setup) -> Self
-        ensures { result ≡ record { setup = setup; entries = [] } }
+    /// A run without entries on these declarations, which are dropped where there is no memory.
+    pub fn open(alloc: Global, setup: Setup) -> Result<Self, AllocError>
+        ensures { IfOk result (λ run. run ≡ record { setup = setup; entries = [] }) }
     {
-        Run {
+        let entries = Segments::open(alloc)?;
+        Ok(Run {
             world: World::open(setup),
-            entries: Vec::new(alloc),
-        }
+            entries,
+        })
     }
 
-    /// What is true of a run.
+    /// What is true of a run: it is on sound declarations, and its history is accepted.
     pub fn known(&self)
         ensures declared { IsDeclared self.now.setup }
         ensures accepted { IsAccepted self.now.setup (reverse self.now.entries) }
@@ -64,19 +69,48 @@ impl Run {
         self.world.setup()
     }
 
+    /// The state after its entries.
+    pub fn world(&self) -> &World
+        ensures stands { StandsFor result.now self.now.entries }
+        ensures setup { result.now.setup ≡ self.now.setup }
+    {
+        &self.world
+    }
+
+    /// How many entries it has.
     pub fn len(&self) -> usize
         ensures { result ≡ length self.now.entries }
     {
         self.entries.len()
     }
 
+    /// The entry at a place, counted from 0.
     pub fn entry(&self, i: usize) -> Option<Entry>
         ensures { result ≡ slice_get self.now.entries i }
     {
-        self.entries.get(i).copied()
+        self.entries.get(i)
     }
 
-    /// One step, which adds its entry, or a refusal, or want of memory, and no change.
+    /// Its entries in order.
+    pub fn entries(&self) -> Entries<'_>
+        ensures { result ≡ self.now.entries }
+    {
+        Entries::all(&self.entries)
+    }
+
+    /// The same run again: the same entries on the same declarations.
+    pub fn copy(&self) -> Result<Self, AllocError>
+        ensures { IfOk result (λ run. run ≡ self.now) }
+    {
+        let entries = self.entries.copy()?;
+        Ok(Run {
+            world: self.world.copy(),
+            entries,
+        })
+    }
+
+    /// One step, which adds its entry. It is refused as a step of its world is. Memory is wanted only where the
+    /// step is right, and taken before anything is changed.
     pub fn step(&mut self, worker: WorkerId, act: Act) -> Result<Reply, StepFault>
         ensures answer { MatchResult result
             (λ reply. answer_of self.old.setup (reverse self.old.entries) worker act ≡ Ok reply)

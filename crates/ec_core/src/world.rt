@@ -10,7 +10,7 @@ ghost use Rattle.ec_core.specs.Fields.{kept_call, is_full_for, next_sum, next_re
 
 use crate::fields::{
     all_alike, count_in, count_of, event_or, has_right, is_too_large, named, names_unknown_object,
-    raise_at, raise_in, sum_of,
+    raise_at, raise_in, same_again, sum_of,
 };
 use crate::under_way::{after_read, one_read};
 use crate::{Act, Entry, Refusal, Reply, UnderWay, VALUE_MAX};
@@ -57,6 +57,19 @@ impl World {
         ensures { result.now ≡ self.now.setup }
     {
         &self.setup
+    }
+
+    /// The same state again.
+    pub(crate) fn copy(&self) -> Self
+        ensures { result ≡ self.now }
+    {
+        World {
+            setup: self.setup.copy(),
+            counts: same_again(&self.counts),
+            issued: same_again(&self.issued),
+            cells: same_again(&self.cells),
+            calls: same_again(&self.calls),
+        }
     }
 
     /// The total of an eventcount: how many advances of it there were. None where it is not declared.
