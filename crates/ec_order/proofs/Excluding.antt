@@ -24,7 +24,7 @@ use Rattle.ec_order.proofs.Checking.{EndsFirst, ends_rise}
 abbrev same_end : Call → Call → Bool
 same_end a b = a.last == b.last
 
-swaps : (m n : ℕ) → (m == n) ≡ (n == m)
+pub swaps : (m n : ℕ) → (m == n) ≡ (n == m)
 swaps m n =
     elim (cases_order m n) [
       | inl same ↦ eq-eqb m n same ∙ sym (eq-eqb n m (sym same))

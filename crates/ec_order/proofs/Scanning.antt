@@ -1,9 +1,10 @@
 -- The scan of a history keeps what its calls under way are.
-use Rattle.std.proofs.Common.{◌≡◌, ℕ, zero, suc, ◌+◌, ◌-◌, ◌%◌, ◌<◌, ◌≤◌, Bool, true, false, List, [], ◌∷◌, ◌++◌, length, Option, Some, None, refl, ap, sym, ◌∙◌, arith, cond, subst, ◌==◌, nat_le, take, drop, reverse, slice_get, slice_set, unwrap_or, add-one}
+use Rattle.std.proofs.Common.{◌≡◌, ℕ, zero, suc, ◌+◌, ◌-◌, ◌%◌, ◌<◌, ◌≤◌, Bool, true, false, not, List, [], ◌∷◌, ◌++◌, length, map, Option, Some, None, refl, ap, sym, ◌∙◌, arith, cond, subst, ◌==◌, nat_le, take, drop, reverse, slice_get, slice_set, unwrap_or, add-one, get_or, count_by}
 use Rattle.std.specs.Option.{option_map, option_to_list}
 use Rattle.std.proofs.lemmas.Bool.{eqb-true, eq-eqb, ne_eqb}
-use Rattle.std.proofs.lemmas.List.{reverse-append, take-append-drop, take_more, length-set, length-reverse, length-take-le}
+use Rattle.std.proofs.lemmas.List.{map-append, reverse-append, take-append-drop, take_more, length-set, length-reverse, length-take-le}
 use Rattle.std.proofs.lemmas.Option.{slice_get_within, get_or_from_slice_get}
+use Rattle.std.proofs.lemmas.List.Sums.{count_by_more_no, count_by_more_yes}
 use Rattle.std.proofs.Math.Nat.{mod-le}
 use Rattle.ec_count.specs.Tables.{Tables, IsDeclared}
 use Rattle.ec_core.specs.declared.act.Act.{Act}
@@ -234,3 +235,40 @@ scanned t u h i x told cs cs' table table' d acc at small s same a b' e =
       kept = subst (IsTable t (reverse (take (i + 1) h))) (sym b) k.1;
       long = ap length b ∙ length-set table x.worker (begun_left t x.reply (begun_after x.act (begun_at table x.worker) i)) ∙ s.long;
     }
+
+-- the same, where f of each call is kept
+pub record IsPlacedScan {P : Type 0} (f : Call → P) (t : Tables) (h : List Entry) (i : ℕ) (ps : List P) (table : List (Option Begun)) : Type 0 where
+  pub calls : List Call
+  pub scan : IsScanned t h i calls table
+  pub placed : ps ≡ map f calls
+
+pub placed_start : {P : Type 0} (f : Call → P) (t : Tables) (h : List Entry) (ps : List P) (table : List (Option Begun)) → ps ≡ []
+    → ((w : ℕ) → w < 16 → slice_get table w ≡ Some None) → length table ≡ 16 → IsPlacedScan f t h 0 ps table
+unfolding finished_calls under_way
+placed_start f t h ps table none empty long = record { calls = []; scan = record { calls = refl; kept = empty; long = long }; placed = none }
+
+pub placed_scanned : {P : Type 0} (f : Call → P) (t u : Tables) (h : List Entry) (i : ℕ) (x : Entry) (told : Option Call) (ps ps' : List P) (table table' : List (Option Begun)) → IsDeclared t → IsAccepted t (reverse h)
+    → Some x ≡ slice_get h i → x.worker < 16 → IsPlacedScan f t h i ps table → u ≡ t
+    → told ≡ call_told x i (begun_after x.act (begun_at table x.worker) i) → table' ≡ slice_set table x.worker (begun_left u x.reply (begun_after x.act (begun_at table x.worker) i)) → ps' ≡ ps ++ map f (option_to_list told)
+    → IsPlacedScan f t h (i + 1) ps' table'
+placed_scanned f t u h i x told ps ps' table table' d acc at small s same a b e = record {
+  calls = s.calls ++ option_to_list told;
+  scan = scanned t u h i x told s.calls (s.calls ++ option_to_list told) table table' d acc at small s.scan same a b refl;
+  placed = e ∙ ap (λ z. z ++ map f (option_to_list told)) s.placed ∙ sym (map-append f s.calls (option_to_list told));
+}
+
+-- one entry more to be counted, or not
+abbrev ends_call : Entry → Bool
+ends_call x = not (is_pending x.reply)
+
+pub counted_yes : (h : List Entry) (i : ℕ) (x : Entry) (n : ℕ) → Some x ≡ slice_get h i → not (is_pending x.reply) ≡ true → n ≡ count_by ends_call (take i h) → n + 1 ≡ count_by ends_call (take (i + 1) h)
+counted_yes h i x n at told same =
+    let in' : i < length h = slice_get_within h i x (sym at) in
+    let here : ends_call (get_or h i x) ≡ true = ap ends_call (get_or_from_slice_get h i x x (sym at)) ∙ told in
+    ap (λ k. k + 1) same ∙ sym (count_by_more_yes ends_call h i x in' here)
+
+pub counted_no : (h : List Entry) (i : ℕ) (x : Entry) (n : ℕ) → Some x ≡ slice_get h i → not (is_pending x.reply) ≡ false → n ≡ count_by ends_call (take i h) → n ≡ count_by ends_call (take (i + 1) h)
+counted_no h i x n at told same =
+    let in' : i < length h = slice_get_within h i x (sym at) in
+    let here : ends_call (get_or h i x) ≡ false = ap ends_call (get_or_from_slice_get h i x x (sym at)) ∙ told in
+    same ∙ sym (count_by_more_no ends_call h i x in' here)

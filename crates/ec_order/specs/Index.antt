@@ -1,7 +1,6 @@
 -- Points by an index of the advances.
-use Rattle.std.specs.Prelude.{◌≡◌, ℕ, ◌+◌, ◌<◌, Bool, not, max, List, zero, suc, [], ◌∷◌, ◌++◌, length, map, Option, Some, None, if◌then◌else◌, slice_index, slice_index_or, Vec}
+use Rattle.std.specs.Prelude.{◌≡◌, ℕ, ◌+◌, ◌<◌, max, List, zero, suc, [], ◌∷◌, ◌++◌, length, map, Option, Some, None, if◌then◌else◌, slice_index, slice_index_or, Vec}
 use Rattle.std.specs.declared.alloc.Global.{Global}
-use Rattle.std.specs.List.{filter}
 use Rattle.ec_core.specs.declared.act.Act.{Act}
 use Rattle.ec_core.specs.declared.act.Act.TheVariants.{Advance}
 use Rattle.ec_core.specs.declared.act.Entry.{Entry}
@@ -37,14 +36,6 @@ point_in lists c = point_by (moments_in lists (event_or c.op)) c
 
 abbrev pub placed_in : List (Vec ℕ Global) → Call → Placed
 placed_in lists c = record { call = c; point = point_in lists c }
-
--- the reads and awaits, and then the others
-abbrev pub reads_first : List Placed → List Placed
-reads_first ps = filter (λ (p : Placed). is_reading p.call.op) ps ++ filter (λ (p : Placed). not (is_reading p.call.op)) ps
-
--- whether a call is a read or an await, or neither, as is asked
-abbrev pub has_kind : Bool → Call → Bool
-has_kind reading c = if is_reading c.op then reading else not reading
 
 -- the eventcount that an act advances
 abbrev pub raised_by : Act → Option ℕ

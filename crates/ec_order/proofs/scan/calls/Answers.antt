@@ -7,7 +7,7 @@ use Rattle.ec_order.proofs.scan.calls.Goals.{in-Some+in-Some-take_in+in_ok-push,
 
 pub loop-i-init : goal.loop-i-init
 unfolding finished_calls under_way
-loop-i-init c = record { calls = c.new-calls.ensures.items; kept = c.all_alike-table.ensures.at; long = c.all_alike-table.ensures.long }
+loop-i-init c = record { calls = c.in_ok-calls.ensures.items; kept = c.all_alike-table.ensures.at; long = c.all_alike-table.ensures.long }
 
 pub loop-i-preserved : goal.loop-i-preserved
 loop-i-preserved c =
