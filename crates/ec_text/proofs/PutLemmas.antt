@@ -1,36 +1,43 @@
 -- What each step of putting leaves.
-use Rattle.std.proofs.Common.{◌≡◌, ℕ, List, [], ◌++◌, Bool, true, false, Option, Result, Ok, Err, sym, ap, ◌∙◌, append_assoc, append-nil, subst}
+use Rattle.std.proofs.Common.{◌≡◌, ℕ, List, [], ◌++◌, Bool, true, false, Option, None, Some, refl, Result, Ok, Err, sym, ap, ◌∙◌, append_assoc, append-nil, subst}
 use Rattle.std.specs.Result.{is_err, OnOk, OnErr}
 use Rattle.std.specs.Io.KnownBytes.{Appends}
-use Rattle.ec_text.specs.Puts.{AppendsPrefix, HoldsAs, Holds, Puts, Held}
+use Rattle.ec_text.specs.Puts.{AppendsPrefix, HoldsAs, Holds, Puts, Held, nothing_held, with_bytes}
 use Rattle.ec_text.proofs.AppendLemmas.{appends_more, prefix_after, prefix_longer}
 
--- the same as Puts, over the parts
-abbrev pub PutsAs : Option (List ℕ) → Bool → List ℕ → Option (List ℕ) → Bool → List ℕ → List ℕ → Type 0
-PutsAs old failed held new failed' held' bytes = (start : Option (List ℕ)) (all : List ℕ) → HoldsAs start old failed held all → HoldsAs start new failed' held' (all ++ bytes)
-
 -- nothing is put after a failure
-pub puts_failed : (now : Option (List ℕ)) (held bytes : List ℕ) → PutsAs now true held now true held bytes
-puts_failed now held bytes = λ start all h. prefix_longer start now all bytes h
+pub puts_failed : (now : Option (List ℕ)) (held : Held) (bs : List ℕ) → held.failed ≡ true → Puts now held now held bs
+unfolding Holds
+puts_failed now held bs failed = λ start all h.
+    let h' : HoldsAs start now true held.bytes all = rw failed at h in
+    rw failed (prefix_longer start now all bs h')
 
--- bytes that are held
-pub puts_held : (now : Option (List ℕ)) (held bytes : List ℕ) → PutsAs now false held now false (held ++ bytes) bytes
-puts_held now held bytes = λ start all h. (h.0, ap (λ (r : List ℕ). r ++ bytes) h.1 ∙ append_assoc h.0 held bytes, h.2)
+-- bytes that wait
+pub puts_held : (now : Option (List ℕ)) (held : Held) (bs : List ℕ) → held.failed ≡ false → Puts now held now (with_bytes held bs) bs
+unfolding Holds
+puts_held now held bs good = λ start all h.
+    let h' : HoldsAs start now false held.bytes all = rw good at h in
+    rw good (h'.0, ap (λ (r : List ℕ). r ++ bs) h'.1 ∙ append_assoc h'.0 held.bytes bs, h'.2)
 
--- bytes that are written with those that are held
-wrote : {E : Type 0} (old new : Option (List ℕ)) (held bytes : List ℕ) (r : Result (Unit {0}) E) → OnOk r (Appends old new (held ++ bytes)) → OnErr r (AppendsPrefix old new (held ++ bytes)) → PutsAs old false held new (is_err r) [] bytes
-wrote old new held bytes (Ok x) ok err = λ start all h.
-    (h.0 ++ (held ++ bytes), ap (λ (r : List ℕ). r ++ bytes) h.1 ∙ append_assoc h.0 held bytes ∙ sym (append-nil (h.0 ++ (held ++ bytes))), appends_more start old new h.0 (held ++ bytes) h.2 ok)
-wrote old new held bytes (Err x) ok err = λ start all h.
-    subst (AppendsPrefix start new) (sym (ap (λ (r : List ℕ). r ++ bytes) h.1 ∙ append_assoc h.0 held bytes)) (prefix_after start old new h.0 (held ++ bytes) h.2 err)
+-- bytes that are written with those that waited
+wrote : {E : Type 0} (old new : Option (List ℕ)) (held : Held) (bs : List ℕ) (r : Result (Unit {0}) E) → held.failed ≡ false → OnOk r (Appends old new (held.bytes ++ bs)) → OnErr r (AppendsPrefix old new (held.bytes ++ bs))
+    → Puts old held new (record { bytes = []; failed = is_err r }) bs
+unfolding Holds
+wrote old new held bs (Ok x) good ok err = λ start all h.
+    let h' : HoldsAs start old false held.bytes all = rw good at h in
+    (h'.0 ++ (held.bytes ++ bs), ap (λ (r : List ℕ). r ++ bs) h'.1 ∙ append_assoc h'.0 held.bytes bs ∙ sym (append-nil (h'.0 ++ (held.bytes ++ bs))), appends_more start old new h'.0 (held.bytes ++ bs) h'.2 ok)
+wrote old new held bs (Err x) good ok err = λ start all h.
+    let h' : HoldsAs start old false held.bytes all = rw good at h in
+    subst (AppendsPrefix start new) (sym (ap (λ (r : List ℕ). r ++ bs) h'.1 ∙ append_assoc h'.0 held.bytes bs)) (prefix_after start old new h'.0 (held.bytes ++ bs) h'.2 err)
 
-pub puts_flushed : {E : Type 0} (old new : Option (List ℕ)) (held : List ℕ) (r : Result (Unit {0}) E) → OnOk r (Appends old new held) → OnErr r (AppendsPrefix old new held) → PutsAs old false held new (is_err r) [] []
-puts_flushed old new held r ok err =
-    let e : held ≡ held ++ [] = sym (append-nil held) in
-    wrote old new held [] r (subst (λ (k : List ℕ). OnOk r (Appends old new k)) e ok) (subst (λ (k : List ℕ). OnErr r (AppendsPrefix old new k)) e err)
+pub puts_flushed : {E : Type 0} (old new : Option (List ℕ)) (held : Held) (r : Result (Unit {0}) E) → held.failed ≡ false → OnOk r (Appends old new held.bytes) → OnErr r (AppendsPrefix old new held.bytes)
+    → Puts old held new (record { bytes = []; failed = is_err r }) []
+puts_flushed old new held r good ok err =
+    let e : held.bytes ≡ held.bytes ++ [] = sym (append-nil held.bytes) in
+    wrote old new held [] r good (subst (λ (k : List ℕ). OnOk r (Appends old new k)) e ok) (subst (λ (k : List ℕ). OnErr r (AppendsPrefix old new k)) e err)
 
-pub puts_written : {E : Type 0} (old new : Option (List ℕ)) (bytes : List ℕ) (r : Result (Unit {0}) E) → OnOk r (Appends old new bytes) → OnErr r (AppendsPrefix old new bytes) → PutsAs old false [] new (is_err r) [] bytes
-puts_written old new bytes r ok err = wrote old new [] bytes r ok err
+pub puts_written : {E : Type 0} (old new : Option (List ℕ)) (bs : List ℕ) (r : Result (Unit {0}) E) → OnOk r (Appends old new bs) → OnErr r (AppendsPrefix old new bs) → Puts old nothing_held new (record { bytes = []; failed = is_err r }) bs
+puts_written old new bs r ok err = wrote old new nothing_held bs r (λ i. false) ok err
 
 -- one after another
 pub puts_then : (a b c : Option (List ℕ)) (x y z : Held) (p q : List ℕ) → Puts a x b y p → Puts b y c z q → Puts a x c z (p ++ q)
@@ -38,3 +45,38 @@ puts_then a b c x y z p q one two = λ start all h. subst (Holds start c z) (app
 
 pub puts_after_flush : (a b c : Option (List ℕ)) (x y z : Held) (bs : List ℕ) → Puts a x b y [] → Puts b y c z bs → Puts a x c z bs
 puts_after_flush a b c x y z bs one two = λ start all h. two start all (subst (Holds start b y) (append-nil all) (one start all h))
+
+-- nothing was put before
+pub begins : (start : Option (List ℕ)) → Holds start start nothing_held []
+unfolding Holds
+begins None = ([], refl, tt)
+begins (Some xs) = ([], refl, sym (append-nil xs))
+
+-- after a flush, what stands there at the end
+pub ends_ok : (start now : Option (List ℕ)) (all : List ℕ) → Holds start now nothing_held all → Appends start now all
+unfolding Holds
+ends_ok start now all h = subst (Appends start now) (sym (h.1 ∙ append-nil h.0)) h.2
+
+pub ends_err : (start now : Option (List ℕ)) (held : Held) (all : List ℕ) → held.failed ≡ true → Holds start now held all → AppendsPrefix start now all
+unfolding Holds
+ends_err start now held all failed h = rw failed at h
+
+pub ends_flushed : (start old now : Option (List ℕ)) (held held' : Held) (all : List ℕ) → Puts old held now held' [] → held' ≡ nothing_held → Puts start nothing_held old held all → Appends start now all
+ends_flushed start old now held held' all flushed none puts =
+    let h0 : Holds start start nothing_held [] = begins start in
+    let h1 : Holds start now held' (all ++ []) = flushed start all (puts start [] h0) in
+    let h2 : Holds start now held' all = subst (Holds start now held') (append-nil all) h1 in
+    ends_ok start now all (subst (λ (k : Held). Holds start now k all) none h2)
+
+pub ends_failed : (start old now : Option (List ℕ)) (held held' : Held) (all : List ℕ) → Puts old held now held' [] → held'.failed ≡ true → Puts start nothing_held old held all → AppendsPrefix start now all
+ends_failed start old now held held' all flushed failed puts =
+    let h0 : Holds start start nothing_held [] = begins start in
+    let h1 : Holds start now held' (all ++ []) = flushed start all (puts start [] h0) in
+    let h2 : Holds start now held' all = subst (Holds start now held') (append-nil all) h1 in
+    ends_err start now held' all failed h2
+
+-- bytes that were added to those that wait
+pub puts_taken : (now : Option (List ℕ)) (held : Held) (bs waiting : List ℕ) (failed : Bool) → held.failed ≡ false → failed ≡ false → waiting ≡ held.bytes ++ bs → Puts now held now (record { bytes = waiting; failed = failed }) bs
+puts_taken now held bs waiting failed good same is =
+    let e : with_bytes held bs ≡ record { bytes = waiting; failed = failed } = cc in
+    subst (λ (k : Held). Puts now held now k bs) e (puts_held now held bs good)

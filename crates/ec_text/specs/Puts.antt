@@ -19,24 +19,16 @@ AppendsPrefix None new bs = ⊤
 AppendsPrefix (Some xs) None bs = ⊥
 AppendsPrefix (Some xs) (Some ys) bs = (front rest : List ℕ) × (bs ≡ front ++ rest) × (ys ≡ xs ++ front)
 
--- Holds, by whether a write has failed
+-- From the contents start the writer came to now, and all of these bytes were put: as long as no write failed they all stand there
+-- or wait, and after a failure a front of them stands there.
 abbrev pub HoldsAs : Option (List ℕ) → Option (List ℕ) → Bool → List ℕ → List ℕ → Type 0
 HoldsAs start now false waiting all = (written : List ℕ) × (all ≡ written ++ waiting) × Appends start now written
 HoldsAs start now true waiting all = AppendsPrefix start now all
 
--- From the contents start the writer came to now, and all of these bytes were put: as long as no write failed they all stand there
--- or wait, and after a failure a front of them stands there.
-abbrev pub Holds : Option (List ℕ) → Option (List ℕ) → Held → List ℕ → Type 0
+-- The same of a table. It does not unfold by itself, so that callers' proofs stay short: what they need are the clauses alone.
+unfoldable pub Holds : Option (List ℕ) → Option (List ℕ) → Held → List ℕ → Type 0
 Holds start now held all = HoldsAs start now held.failed held.bytes all
 
 -- The bytes were put, whatever had been put before.
 abbrev pub Puts : Option (List ℕ) → Held → Option (List ℕ) → Held → List ℕ → Type 0
 Puts old held new held' bs = (start : Option (List ℕ)) (all : List ℕ) → Holds start old held all → Holds start new held' (all ++ bs)
-
--- All that was put stands in the writer.
-abbrev pub HasWritten : Option (List ℕ) → Held → Option (List ℕ) → Type 0
-HasWritten old held new = (start : Option (List ℕ)) (all : List ℕ) → Holds start old held all → Appends start new all
-
--- A front of all that was put stands in the writer.
-abbrev pub HasWrittenPrefix : Option (List ℕ) → Held → Option (List ℕ) → Type 0
-HasWrittenPrefix old held new = (start : Option (List ℕ)) (all : List ℕ) → Holds start old held all → AppendsPrefix start new all

@@ -6,7 +6,7 @@ use arrayvec::ArrayVec;
 
 /// Appends the digits of a number, without leading zeros.
 #[tactic(auto, using(crate::proofs::DecimalLemmas::decimals))]
-pub fn push_decimal(out: &mut ArrayVec<u8, 20>, n: u64)
+fn push_decimal(out: &mut ArrayVec<u8, 20>, n: u64)
     requires { array_vec_len out.old + length (decimal n) ≤ 20 }
     ensures items { out.new.items ≡ out.old.items ++ decimal n }
     ensures len { array_vec_len out.new ≡ array_vec_len out.old + length (decimal n) }

@@ -1,5 +1,5 @@
 //! Laws of words and numbers. Each is the contract of a function that does nothing.
-ghost use Rattle.ec_text.specs.Spelling.{JoinIsUndone, SplitIsUndone, WordsHaveNoSpace, NumberHasOneSpelling, NumberIsReadBack};
+ghost use Rattle.ec_text.specs.Spelling.{JoinIsUndone, SplitIsUndone, WordsHaveNoSpace, NumberHasOneSpelling, NumberIsReadBack, NumbersAreShortForms};
 
 /// Words without spaces, joined by single spaces, are found again by the split at spaces.
 #[tactic(auto, using(crate::proofs::WordLemmas::words_join))]
@@ -28,4 +28,9 @@ pub fn number_has_one_spelling()
 #[tactic(auto, using(crate::proofs::NumberLemmas::number_again))]
 pub fn number_is_read_back()
     ensures { NumberIsReadBack }
+{}
+
+/// A word is read as a number exactly where it is digits without a leading zero, at most 18.
+pub fn numbers_are_short_forms()
+    ensures { NumbersAreShortForms }
 {}

@@ -1,5 +1,5 @@
 //! Bytes to a writer, with no partial success.
-ghost use Rattle.std.specs.Prelude.{OnOk, OnErr};
+ghost use Rattle.std.specs.Prelude.{◌≡◌, [], IsOk, OnOk, OnErr};
 ghost use Rattle.std.specs.Io.KnownBytes.{Appends};
 ghost use Rattle.ec_text.specs.Puts.{AppendsPrefix};
 
@@ -13,6 +13,7 @@ pub struct WriteFault;
 pub fn write_out<W: Write>(writer: &mut W, bytes: &[u8]) -> Result<(), WriteFault>
     ensures ok { OnOk result (Appends (W.contents writer.old) (W.contents writer.new) bytes.now) }
     ensures err { OnErr result (AppendsPrefix (W.contents writer.old) (W.contents writer.new) bytes.now) }
+    ensures nothing { bytes.now ≡ [] → IsOk result × (writer.new ≡ writer.old) }
 {
     let mut done = 0usize;
     while done < bytes.len() {
