@@ -1,0 +1,4 @@
+pub mod EntryLemmas
+pub mod ListLemmas
+pub mod SpelledLemmas
+pub mod WrittenLemmas

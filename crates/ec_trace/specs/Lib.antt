@@ -4,3 +4,4 @@ pub mod Outline
 pub mod Spelling
 pub mod Grammar
 pub mod Heading
+pub mod Spelled

@@ -1,0 +1,6 @@
+use Rattle.std.proofs.Common.{drop}
+use Rattle.ec_trace.specs.Spelled.{Spells}
+use Rattle.ec_trace.proofs.spell.Spellings.new.Given as goal
+
+abbrev pub invariant-loop-place : goal.invariant-loop-place
+invariant-loop-place l = Spells (drop l.place l.names) l.words

@@ -1,0 +1,167 @@
+//! The words of names, each found once.
+ghost use Rattle.std.specs.Prelude.{◌≡◌, ℕ, ◌+◌, ◌<◌, ◌-◌, ◌==◌, ◌&&◌, [], ◌∷◌, List, length, Some, slice_get, nat_le, nat_lt, if◌then◌else◌};
+ghost use Rattle.ec_trace.specs.Spelled.{Spells, word_at, cell_at, cell_name_bytes, with_block};
+ghost use Rattle.ec_trace.specs.Spelling.{Named, word_of, cell_word};
+ghost use Rattle.std.specs.Option.{option_map_or};
+ghost use Rattle.ec_count.specs.declared.target.Target.TheVariants.{Worker, Event, Sequencer};
+
+use ec_count::{CellId, EventId, Names, SeqId, Target, WorkerId};
+use std::marker::Model;
+
+/// A cell: the name of its block and its number there.
+#[derive(Clone, Copy)]
+pub(crate) struct CellName<'a> {
+    pub(crate) block: &'a [u8],
+    pub(crate) place: usize,
+}
+
+/// A word for each number of each sort; of no bytes where there is no name.
+#[derive(Clone, Copy)]
+pub(crate) struct Words<'a> {
+    pub(crate) workers: [&'a [u8]; 16],
+    pub(crate) events: [&'a [u8]; 32],
+    pub(crate) sequencers: [&'a [u8]; 32],
+    pub(crate) cells: [Option<CellName<'a>>; 256],
+}
+
+impl<'a> Words<'a> {
+    /// No words.
+    fn none() -> Self
+        ensures { Spells [] result }
+    {
+        let word = b"".as_slice();
+        Words {
+            workers: all_alike(word),
+            events: all_alike(word),
+            sequencers: all_alike(word),
+            cells: all_alike(None),
+        }
+    }
+
+    /// Takes in a name, before those that were taken in.
+    fn take_in(&mut self, name: &'a [u8], target: Target)
+        ensures { (names : Named) → Spells names self.old → Spells ((name.now, target) ∷ names) self.new }
+    {
+        match target {
+            Target::Worker(worker) => set_word(&mut self.workers, worker.get(), name),
+            Target::Event(event) => set_word(&mut self.events, event.get(), name),
+            Target::Sequencer(sequencer) => set_word(&mut self.sequencers, sequencer.get(), name),
+            Target::Cells(first, n) => set_cells(&mut self.cells, first.get(), n, name),
+            Target::Group(_) => {}
+        }
+    }
+}
+
+/// The words by which entries name things, each found once.
+#[derive(Drop)]
+pub struct Spellings<'a> {
+    names: &'a Names,
+    words: Words<'a>,
+}
+
+impl<'a> Model for Spellings<'a> {
+    ghost use Rattle.std.specs.Prelude.{ℕ, List};
+    ghost use Rattle.ec_count.specs.declared.target.Target.{Target};
+
+    ghost Value = { List (List ℕ × Target) };
+
+    ghost use Rattle.ec_trace.specs.Spelled.{Spells};
+
+    ghost view = { λ s. s.names.now };
+
+    ghost invariant = { λ s. Spells s.names.now s.words };
+}
+
+impl<'a> Spellings<'a> {
+    /// The words of these names. It takes no memory.
+    pub fn new(names: &'a Names) -> Self
+        ensures { result ≡ names.now }
+    {
+        let mut words = Words::none();
+        for place in (0..names.len()).rev() {
+            if let Some((name, target)) = names.at(place) {
+                words.take_in(name.as_bytes(), target);
+            }
+        }
+        Spellings { names, words }
+    }
+
+    /// The name of a worker, of no bytes where it has none.
+    pub fn worker(&self, worker: WorkerId) -> &'a [u8]
+        ensures { result.now ≡ word_of self.now (Worker worker) }
+    {
+        word_in(&self.words.workers, worker.get())
+    }
+
+    /// The name of an eventcount, of no bytes where it has none.
+    pub fn event(&self, event: EventId) -> &'a [u8]
+        ensures { result.now ≡ word_of self.now (Event event) }
+    {
+        word_in(&self.words.events, event.get())
+    }
+
+    /// The name of a sequencer, of no bytes where it has none.
+    pub fn sequencer(&self, sequencer: SeqId) -> &'a [u8]
+        ensures { result.now ≡ word_of self.now (Sequencer sequencer) }
+    {
+        word_in(&self.words.sequencers, sequencer.get())
+    }
+
+    /// The block that a cell stands in and its number there, where it has a name.
+    pub(crate) fn cell(&self, cell: CellId) -> Option<CellName<'a>>
+        ensures { option_map_or cell_name_bytes result [] ≡ cell_word self.now cell }
+    {
+        cell_in(&self.words.cells, cell.get())
+    }
+}
+
+/// An array with the same element everywhere.
+fn all_alike<T: Copy, const N: usize>(x: T) -> [T; N]
+    ensures { (i : ℕ) → i < N → slice_get result i ≡ Some x }
+{
+    [x; N]
+}
+
+/// The word at a place.
+fn word_in<'a>(words: &[&'a [u8]], place: usize) -> &'a [u8]
+    requires { place < length words.now }
+    ensures { result.now ≡ word_at words.now place }
+{
+    words[place]
+}
+
+/// The name of a cell.
+fn cell_in<'a>(cells: &[Option<CellName<'a>>], place: usize) -> Option<CellName<'a>>
+    requires { place < length cells.now }
+    ensures { option_map_or cell_name_bytes result [] ≡ cell_at cells.now place }
+{
+    cells[place]
+}
+
+/// Puts a word at a place.
+fn set_word<'a>(words: &mut [&'a [u8]], place: usize, word: &'a [u8])
+    requires { place < length words.old }
+    ensures { (i : ℕ) → word_at words.new i ≡ (if place == i then word.now else word_at words.old i) }
+{
+    words[place] = word;
+}
+
+/// Puts a name at the place of a cell.
+fn set_cell<'a>(cells: &mut [Option<CellName<'a>>], place: usize, name: CellName<'a>)
+    requires { place < length cells.old }
+    ensures { (x : ℕ) → cell_at cells.new x ≡ (if place == x then cell_name_bytes name.entry else cell_at cells.old x) }
+{
+    cells[place] = Some(name);
+}
+
+/// Puts the name of a block at each of its cells.
+fn set_cells<'a>(cells: &mut [Option<CellName<'a>>; 256], first: usize, n: usize, block: &'a [u8])
+    ensures { (x : ℕ) → x < 256 → cell_at cells.new x ≡ with_block block.now first n x (cell_at cells.old x) }
+{
+    for x in 0..256 {
+        if first <= x && x - first < n {
+            let place = x - first;
+            set_cell(cells, x, CellName { block, place });
+        }
+    }
+}

@@ -1,0 +1,115 @@
+//! Writes entries and traces.
+ghost use Rattle.std.specs.Prelude.{◌≡◌, OnOk, OnErr};
+ghost use Rattle.std.specs.Io.KnownBytes.{Appends};
+ghost use Rattle.std.specs.List.{join_with_byte};
+ghost use Rattle.ec_text.specs.Puts.{Puts, AppendsPrefix};
+ghost use Rattle.ec_trace.specs.Spelling.{cell_word, act_words, reply_word, entry_line};
+
+use crate::{Heading, Spellings};
+use ec_core::{Act, Entry, Reply};
+use ec_count::CellId;
+use ec_text::{Buffered, WriteFault, finish, put, put_byte, put_number};
+use std::io::Write;
+
+/// Puts the name of a cell.
+pub fn put_cell<W: Write>(
+    writer: &mut W,
+    buffered: &mut Buffered,
+    spellings: &Spellings<'_>,
+    cell: CellId,
+)
+    ensures { Puts (W.contents writer.old) buffered.old (W.contents writer.new) buffered.new (cell_word spellings.now cell) }
+{
+    if let Some(name) = spellings.cell(cell) {
+        put(writer, buffered, name.block);
+        put_byte(writer, buffered, b'[');
+        put_number(writer, buffered, name.place as u64);
+        put_byte(writer, buffered, b']');
+    }
+}
+
+/// Puts what a worker asks for.
+pub fn put_act<W: Write>(
+    writer: &mut W,
+    buffered: &mut Buffered,
+    spellings: &Spellings<'_>,
+    act: &Act,
+)
+    ensures { Puts (W.contents writer.old) buffered.old (W.contents writer.new) buffered.new (join_with_byte 32 (act_words spellings.now act.now)) }
+{
+    match *act {
+        Act::Advance(event) => {
+            put(writer, buffered, b"advance ");
+            put(writer, buffered, spellings.event(event));
+        }
+        Act::Read(event) => {
+            put(writer, buffered, b"read ");
+            put(writer, buffered, spellings.event(event));
+        }
+        Act::Await(event, threshold) => {
+            put(writer, buffered, b"await ");
+            put(writer, buffered, spellings.event(event));
+            put_byte(writer, buffered, b' ');
+            put_number(writer, buffered, threshold);
+        }
+        Act::Go => put(writer, buffered, b"go"),
+        Act::Ticket(sequencer) => {
+            put(writer, buffered, b"ticket ");
+            put(writer, buffered, spellings.sequencer(sequencer));
+        }
+        Act::Put(cell, value) => {
+            put(writer, buffered, b"put ");
+            put_cell(writer, buffered, spellings, cell);
+            put_byte(writer, buffered, b' ');
+            put_number(writer, buffered, value);
+        }
+        Act::Get(cell) => {
+            put(writer, buffered, b"get ");
+            put_cell(writer, buffered, spellings, cell);
+        }
+    }
+}
+
+/// Puts what a worker is told.
+pub fn put_reply<W: Write>(writer: &mut W, buffered: &mut Buffered, reply: &Reply)
+    ensures { Puts (W.contents writer.old) buffered.old (W.contents writer.new) buffered.new (reply_word reply.now) }
+{
+    match *reply {
+        Reply::Done => put(writer, buffered, b"done"),
+        Reply::Pending => put(writer, buffered, b"pending"),
+        Reply::Number(n) => put_number(writer, buffered, n),
+    }
+}
+
+/// Puts an entry, without LF.
+#[tactic(auto, using(crate::proofs::EntryLemmas::entry_parts))]
+pub fn put_entry<W: Write>(
+    writer: &mut W,
+    buffered: &mut Buffered,
+    spellings: &Spellings<'_>,
+    entry: &Entry,
+)
+    ensures { Puts (W.contents writer.old) buffered.old (W.contents writer.new) buffered.new (entry_line spellings.now entry.now) }
+{
+    put(writer, buffered, spellings.worker(entry.worker));
+    put_byte(writer, buffered, b' ');
+    put_act(writer, buffered, spellings, &entry.act);
+    put(writer, buffered, b" = ");
+    put_reply(writer, buffered, &entry.reply);
+}
+
+/// Writes an entry, without LF, as a trace has it. What has no name is spelled by no bytes.
+/// A WriteFault comes only where a write failed or wrote none of its bytes.
+pub fn write_entry<W: Write>(
+    entry: &Entry,
+    heading: &Heading,
+    writer: &mut W,
+) -> Result<(), WriteFault>
+    ensures ok { OnOk result (Appends (W.contents writer.old) (W.contents writer.new) (entry_line heading.now.names entry.now)) }
+    ensures err { OnErr result (AppendsPrefix (W.contents writer.old) (W.contents writer.new) (entry_line heading.now.names entry.now)) }
+{
+    let spellings = Spellings::new(heading.names());
+    let mut buffered = Buffered::new();
+    put_entry(writer, &mut buffered, &spellings, entry);
+    finish(writer, buffered)
+}
