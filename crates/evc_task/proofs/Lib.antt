@@ -1,0 +1,2 @@
+pub mod CommandMet
+pub mod PlainLines

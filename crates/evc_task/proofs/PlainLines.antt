@@ -1,0 +1,13 @@
+-- The plainest command lines, by computing what clap makes of them.
+use Rattle.std.proofs.Common.{refl}
+use Rattle.clap.proofs.OnLiterals.{clap_on_literals}
+use Rattle.evc_task.specs.CommandLine.{ReadsPlainLines}
+
+pub plain_lines_are_read : ReadsPlainLines
+unfolding clap_on_literals
+plain_lines_are_read = record {
+  check = λ program. (refl, refl);
+  help = λ program. refl;
+  none = λ program. refl;
+  unknown = λ program. refl;
+}

@@ -1,0 +1,15 @@
+use Rattle.evc_task.specs.CommandLine.{texts_of}
+use Rattle.evc_task.proofs.CommandMet.{matches_name_a_command}
+use Rattle.evc_task.proofs.line.task.Goals as goal
+
+pub unreachable-requires : goal.unreachable-requires
+unreachable-requires c =
+    let found = c.in_ok-matches.ensures in
+    let named = matches_name_a_command c.in_ok-matches.matches (texts_of c.args.words.now) found.faults found.found in
+    rw (← c.in_default.ensures) at named
+
+pub unreachable-requires-in_default-task_named : goal.unreachable-requires-in_default-task_named
+unreachable-requires-in_default-task_named c =
+    let found = c.in_ok-matches.ensures in
+    let named = matches_name_a_command c.in_ok-matches.matches (texts_of c.args.words.now) found.faults found.found in
+    c.in_default-task_named.ensures.unknown (rw (← c.in-Some.ensures) at named)

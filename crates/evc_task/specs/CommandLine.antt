@@ -1,0 +1,58 @@
+-- What the words of a command line ask for. The first word is the program's name.
+use Rattle.std.specs.Prelude.{◌≡◌, ◌⊎◌, ℕ, List, [], ◌∷◌, Some, String, true, codes, map, option_map}
+use Rattle.std.specs.Global.{Global}
+use Rattle.clap.specs.Words.{App, Kinds, Shape, Text, fault_of, new_app, subcommand_of, with_subcommand}
+use Rattle.clap.specs.declared.error.kind.ErrorKind.{ErrorKind}
+use Rattle.clap.specs.declared.error.kind.ErrorKind.TheVariants as kinds
+use Rattle.evc_task.specs.declared.choice.Task.{Task}
+use Rattle.evc_task.specs.declared.choice.Task.TheVariants as tasks
+
+-- the words as texts
+abbrev pub texts_of : List (String Global) → List Text
+texts_of = map (λ word. word.bytes.items)
+
+-- `evc` as clap knows it, without its commands: one of them has to be given
+abbrev pub bare_app : App
+bare_app = let new : App = new_app (codes "evc") in record new { top = record new.top { subcommand_required = true } }
+
+-- `evc` as clap knows it
+abbrev pub evc_app : App
+evc_app = with_subcommand bare_app (new_app (codes "check")).top
+
+-- the names of its commands
+abbrev pub command_names : List Text
+command_names = map (λ (s : Shape). s.name) evc_app.subs
+
+-- the name is one of these
+abbrev pub IsOneOf : List Text → Text → Type 0
+IsOneOf [] name = ⊥
+IsOneOf (x ∷ xs) name = (name ≡ x) ⊎ IsOneOf xs name
+
+-- the name of the command that asks for the task
+abbrev pub name_of : Task → Text
+name_of tasks.Check = codes "check"
+
+-- the words name the task: its command is the one that clap finds in them
+abbrev pub Names : List Text → Task → Type 0
+Names words t = option_map (λ found. found.0) (subcommand_of evc_app words) ≡ Some (name_of t)
+
+-- what is wrong with the words, by clap's rules, or what they ask for in place of a task: nothing
+-- where they are right
+abbrev pub faults_in : List Text → Kinds
+faults_in words = fault_of evc_app words
+
+-- the exit status for a kind of error: 0 where help was asked for, 4 where memory ran out, and 2
+-- where the words are wrong
+abbrev pub status_by : ErrorKind → ℕ
+status_by kinds.DisplayHelp = 0
+status_by kinds.DisplayVersion = 0
+status_by kinds.OutOfMemory = 4
+status_by _ = 2
+
+-- the plainest command lines, under any name of the program: `check` is right and names its task,
+-- `--help` asks for help, and no word and an unknown word are wrong
+pub record ReadsPlainLines : Type 0 where
+  pub check : (program : Text) → (faults_in (program ∷ codes "check" ∷ []) ≡ []) × Names (program ∷ codes "check" ∷ []) tasks.Check
+  pub help : (program : Text) → faults_in (program ∷ codes "--help" ∷ []) ≡ kinds.DisplayHelp ∷ []
+  pub none : (program : Text) → faults_in (program ∷ []) ≡ kinds.MissingSubcommand ∷ []
+  pub unknown : (program : Text) → faults_in (program ∷ codes "frobnicate" ∷ []) ≡ kinds.UnknownArgument ∷ kinds.InvalidSubcommand ∷ []

@@ -1,0 +1,8 @@
+//! What the program is asked to do.
+
+/// A task of the program, by the command that asks for it.
+#[derive(Clone, Copy, Debug, PartialEq, Eq)]
+pub enum Task {
+    /// `check`: read a trace, and write the totals of its objects.
+    Check,
+}
