@@ -1,4 +1,3 @@
 pub mod EntryLemmas
 pub mod ListLemmas
 pub mod SpelledLemmas
-pub mod WrittenLemmas

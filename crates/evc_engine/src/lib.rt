@@ -2,6 +2,7 @@
 #![tactic(auto)]
 
 mod status;
+mod text;
 mod totals;
 
 pub use status::Status;
