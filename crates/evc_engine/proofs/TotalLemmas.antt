@@ -1,5 +1,5 @@
 -- The lines of totals, one after another.
-use Rattle.std.proofs.Common.{◌≡◌, ℕ, zero, suc, ◌+◌, List, [], ◌∷◌, ◌++◌, Option, refl, ap, sym, ◌∙◌, arith, add-one, append_assoc, append-nil, subst, codes, Some, take, slice_get, length, ◌≤◌}
+use Rattle.std.proofs.Common.{◌≡◌, ℕ, zero, suc, ◌+◌, List, [], ◌∷◌, ◌++◌, Option, refl, ap, sym, ◌∙◌, arith, add-one, append_assoc, append-nil, subst, codes, Some, take, slice_get, length, ◌≤◌, map}
 use Rattle.std.specs.List.{flat_map}
 use Rattle.std.proofs.lemmas.List.Concat.{flat_map-append}
 use Rattle.ec_count.specs.declared.target.Target.{Target}
@@ -9,7 +9,7 @@ use Rattle.ec_core.specs.Counts.{total, issued, cell_value}
 use Rattle.ec_text.specs.Puts.{Puts, Held}
 use Rattle.ec_text.proofs.PutLemmas.{puts_then}
 use Rattle.ec_trace.specs.Headed.{Headed}
-use Rattle.std.proofs.lemmas.List.{take_all}
+use Rattle.std.proofs.lemmas.List.{take_all, map-append}
 use Rattle.ec_trace.specs.Spelling.{Named, word_of, text_of, ended_line}
 use Rattle.evc_engine.specs.Texts.{cell_line, cell_lines, count_line, totals_of, totals_lines}
 
@@ -100,3 +100,12 @@ totals_all a b x y names past targets k heading far same all put =
     subst (Puts a x b y)
     (ap (λ ts. text_of (flat_map (totals_of names past) ts)) (take_all k targets far ∙ all) ∙ ap (λ ns. text_of (flat_map (totals_of ns past) heading.declarations)) same)
     put
+
+-- one more line of a list
+pub line_put : {P : Type 0} (a b c : Option (List ℕ)) (x y z : Held) (f : P → List ℕ) (ps : List P) (k : ℕ) (p : P) → slice_get ps k ≡ Some p
+    → Puts a x b y (text_of (map f (take k ps))) → Puts b y c z (f p ++ 10 ∷ []) → Puts a x c z (text_of (map f (take (k + 1) ps)))
+line_put {P} a b c x y z f ps k p at before now =
+    (let lines : map f (take (k + 1) ps) ≡ map f (take k ps) ++ f p ∷ [] = ap (map f) (take_next ps k p at) ∙ map-append f (take k ps) (p ∷ []) in
+    let text : text_of (map f (take (k + 1) ps)) ≡ text_of (map f (take k ps)) ++ (f p ++ 10 ∷ [])
+        = ap text_of lines ∙ flat_map-append ended_line (map f (take k ps)) (f p ∷ []) ∙ ap (λ t. text_of (map f (take k ps)) ++ t) (append-nil (ended_line (f p))) in
+    subst (Puts a x c z) (sym text) (puts_then a b c x y z _ _ before now))
