@@ -1,23 +1,14 @@
--- The parts of an entry's line.
-use Rattle.std.proofs.Common.{◌≡◌, ℕ, List, [], ◌∷◌, ◌++◌, append_assoc, codes}
-use Rattle.std.specs.List.{join_with_byte}
-use Rattle.ec_count.specs.declared.target.Target.TheVariants.{Worker}
-use Rattle.ec_core.specs.declared.act.Act.{Act}
-use Rattle.ec_core.specs.declared.act.Act.TheVariants.{Advance, Read, Await, Go, Ticket, Put, Get}
-use Rattle.ec_core.specs.declared.act.Entry.{Entry}
-use Rattle.ec_trace.specs.Spelling.{Named, word_of, act_words, reply_word, entry_line}
+-- Entries are read from their spelling, and from nothing else.
+use Rattle.std.proofs.Common.{◌≡◌, ℕ, List, [], ◌∷◌, None, refl}
+use Rattle.ec_text.specs.Words.{words_of}
+use Rattle.ec_text.proofs.WordLemmas.{HasFirst, has_first}
+use Rattle.ec_trace.specs.Spelling.{Named}
+use Rattle.ec_trace.specs.Entries.{entry_in}
+use Rattle.ec_trace.specs.Step.{limit_in}
 
-around : (names : Named) (all w r : List ℕ) (a : Act)
-    → all ++ join_with_byte 32 (w ∷ act_words names a ++ codes "=" ∷ r ∷ []) ≡ ((((all ++ w) ++ 32 ∷ []) ++ join_with_byte 32 (act_words names a)) ++ codes " = ") ++ r
-around names all w r (Advance e) = simp append_assoc
-around names all w r (Read e) = simp append_assoc
-around names all w r (Await e v) = simp append_assoc
-around names all w r Go = simp append_assoc
-around names all w r (Ticket q) = simp append_assoc
-around names all w r (Put x v) = simp append_assoc
-around names all w r (Get x) = simp append_assoc
+pub too_many : (names : Named) (a b c d e f more : List ℕ) → entry_in names (a ∷ b ∷ c ∷ d ∷ e ∷ f ∷ words_of more) ≡ None
+unfolding entry_in
+too_many names a b c d e f more = let r : HasFirst more = has_first more in rw r.is refl
 
-pub entry_parts : (names : Named) (e : Entry) (all : List ℕ)
-    → all ++ entry_line names e ≡ ((((all ++ word_of names (Worker e.worker)) ++ 32 ∷ []) ++ join_with_byte 32 (act_words names e.act)) ++ codes " = ") ++ reply_word e.reply
-unfolding entry_line
-entry_parts names e all = around names all (word_of names (Worker e.worker)) (reply_word e.reply) e.act
+pub third_word : (a b more : List ℕ) → limit_in (a ∷ b ∷ words_of more) ≡ None
+third_word a b more = let r : HasFirst more = has_first more in rw r.is refl

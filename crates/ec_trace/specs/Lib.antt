@@ -5,3 +5,8 @@ pub mod Spelling
 pub mod Grammar
 pub mod Heading
 pub mod Spelled
+pub mod Named
+pub mod Entries
+pub mod Recounted
+pub mod Step
+pub mod Outcome

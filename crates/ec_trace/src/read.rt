@@ -1,4 +1,79 @@
-//! Reads a trace.
+//! A whole trace, from a reader.
+ghost use Rattle.std.specs.Prelude.{◌≡◌, ◌≤◌, ◌<◌, ◌+◌, ◌^◌, IfSome, length, take};
+ghost use Rattle.std.specs.Io.KnownBytes.{ReadConsumes};
+ghost use Rattle.std.specs.Io.{ReadsAtMost};
+ghost use Rattle.ec_trace.specs.Outcome.{Arrives, Moves, Tells, start};
+
+use crate::fault::TraceFault;
+use crate::progress::Progress;
+use crate::traced::Traced;
+use arrayvec::ArrayVec;
+use std::alloc::Global;
+use std::io;
+use std::io::Read;
 
 /// The most bytes that a trace may have.
 pub const TRACE_MAX: usize = 67_108_864;
+
+/// Reads the next piece into the front of the table, which stays full.
+fn read_piece<R: Read>(reader: &mut R, table: &mut ArrayVec<u8, 8192>) -> io::Result<usize>
+    ensures len { length table.new.items ≡ length table.old.items }
+    ensures bound { ReadsAtMost result table.new.items }
+    ensures bytes { ReadConsumes (R.remaining reader.old) (R.remaining reader.new) result table.new.items }
+{
+    reader.read(table.as_mut_slice())
+}
+
+/// Takes the front of the table.
+fn feed_front(
+    progress: &mut Progress,
+    table: &ArrayVec<u8, 8192>,
+    n: usize,
+) -> Result<(), TraceFault>
+    requires within { n ≤ length table.now.items }
+    requires room { progress.old.number + n < 2 ^ 63 }
+    ensures number { progress.new.number ≤ progress.old.number + length (take n table.now.items) }
+    ensures moves { Moves result progress.old progress.new (take n table.now.items) }
+{
+    let bytes = table.as_slice();
+    progress.feed(&bytes[..n])
+}
+
+/// Reads to the end of the input, up to the first fault of a line.
+fn read_lines<R: Read>(reader: &mut R, progress: &mut Progress) -> Result<(), TraceFault>
+    requires { progress.old ≡ start }
+    ensures { IfSome (R.remaining reader.old) (λ bytes. Arrives TRACE_MAX bytes result progress.new) }
+{
+    let mut table: ArrayVec<u8, 8192> = ArrayVec::from([0u8; 8192]);
+    let mut taken = 0usize;
+    loop {
+        let room = TRACE_MAX - taken;
+        match read_piece(reader, &mut table) {
+            Err(_) => {
+                progress.rest()?;
+                return Err(TraceFault::Read);
+            }
+            Ok(0) => return Ok(()),
+            Ok(n) => {
+                if n > room {
+                    feed_front(progress, &table, room)?;
+                    progress.rest()?;
+                    return Err(TraceFault::TooLarge);
+                }
+                feed_front(progress, &table, n)?;
+                taken += n;
+            }
+        }
+    }
+}
+
+/// Reads a trace to its end, in pieces of at most 8192 bytes, up to its first fault.
+///
+/// Nothing grows with the text but the heading and the run. A failed read is not tried again.
+pub fn read_trace<R: Read>(alloc: Global, reader: &mut R) -> Result<Traced, TraceFault>
+    ensures { IfSome (R.remaining reader.old) (λ bytes. Tells TRACE_MAX bytes result) }
+{
+    let mut progress = Progress::new(alloc);
+    read_lines(reader, &mut progress)?;
+    progress.finish()
+}

@@ -82,7 +82,7 @@ pub fn put_reply<W: Write>(writer: &mut W, buffered: &mut Buffered, reply: &Repl
 }
 
 /// Puts an entry, without LF.
-#[tactic(auto, using(crate::proofs::EntryLemmas::entry_parts))]
+#[tactic(auto, using(crate::proofs::EntryPutLemmas::entry_parts))]
 pub fn put_entry<W: Write>(
     writer: &mut W,
     buffered: &mut Buffered,

@@ -1,0 +1,109 @@
+-- How a text goes on from the line in progress.
+use Rattle.std.proofs.Common.{◌≡◌, ◌≢◌, ℕ, ◌+◌, ◌<◌, ◌≤◌, List, [], ◌∷◌, ◌++◌, length, cond, Bool, true, false, eqb, ltb, refl, sym, ap, ◌∙◌, arith, rules, Ok, Err, length-append, append-nil, lt-ltb, le-ltb, ◌&&◌, ◌||◌, inl, inr}
+use Rattle.std.specs.List.{onto_first, All, AllByRecursion}
+use Rattle.std.proofs.lemmas.List.Splits.{slice_split-cons_no}
+use Rattle.std.proofs.lemmas.List.Elements.{recursion_from_All, All-push, All-nil, All-cons}
+use Rattle.std.proofs.Math.Seq.{append_snoc}
+use Rattle.ec_trace.specs.declared.stage.Stage.{Stage}
+use Rattle.ec_trace.specs.declared.stage.Stage.TheVariants.{Opening, Limiting, Declaring, Running, Ended}
+use Rattle.ec_trace.specs.Step.{step, is_ended}
+use Rattle.ec_trace.specs.Outcome.{parts_of, goes, taken}
+use Rattle.ec_trace.specs.declared.fault.LineFault.TheVariants as line_fault
+use Rattle.std.proofs.lemmas.Bool.{cases_eq, cond-true, cond_both, or_right, and_from}
+use Rattle.ec_trace.specs.declared.fault.TraceFault.TheVariants.{BadLine}
+
+goes_long_first : (n : ℕ) (s : Stage) (line : List ℕ) (others : List (List ℕ)) → ltb 8192 (length line) ≡ true → goes n s (line ∷ others) ≡ Err (BadLine n)
+unfolding goes
+goes_long_first n s line [] long = rw long refl
+goes_long_first n s line (next ∷ others) long = rw long refl
+
+-- a list of parts has a first
+pub record HasFirst (bytes : List ℕ) : Type 0 where
+  pub first : List ℕ
+  pub others : List (List ℕ)
+  pub is : parts_of bytes ≡ first ∷ others
+
+onto_has : (b : ℕ) (parts : List (List ℕ)) → (first : List ℕ) × (others : List (List ℕ)) × (onto_first b parts ≡ first ∷ others)
+onto_has b [] = (b ∷ [], [], refl)
+onto_has b (part ∷ parts) = (b ∷ part, parts, refl)
+
+has_first : (bytes : List ℕ) → HasFirst bytes
+has_first [] = record { first = []; others = []; is = refl }
+has_first (b ∷ bytes) =
+    let P : Bool → Type 0 = λ t. (first : List ℕ) × (others : List (List ℕ)) × (cond t ([] ∷ parts_of bytes) (onto_first b (parts_of bytes)) ≡ first ∷ others) in
+    let w : P (eqb b 10) = elim (eqb b 10) as P [ true ↦ ([], parts_of bytes, refl) | false ↦ onto_has b (parts_of bytes) ] in
+    record { first = w.0; others = w.1; is = w.2 }
+
+-- bytes with no LF go onto the first part
+pub onto_part : (part more : List ℕ) (first : List ℕ) (others : List (List ℕ)) → AllByRecursion (λ b. b ≢ 10) part → parts_of more ≡ first ∷ others → parts_of (part ++ more) ≡ (part ++ first) ∷ others
+onto_part [] more first others none is = is
+onto_part (b ∷ part) more first others none is =
+    let no : eqb b 10 ≡ false = search (rules, none.0) in
+    slice_split-cons_no (λ b. eqb b 10) b (part ++ more) no ∙ ap (onto_first b) (onto_part part more first others none.1 is)
+
+no_lf : (part : List ℕ) → All (λ b. b ≢ 10) part → AllByRecursion (λ b. b ≢ 10) part
+no_lf part none = recursion_from_All (λ b. b ≢ 10) part none
+
+-- a line, and then the rest
+pub goes_line : (n : ℕ) (s : Stage) (part more : List ℕ) → All (λ b. b ≢ 10) part → goes n s (parts_of (part ++ 10 ∷ more)) ≡ cond (ltb 8192 (length part)) (Err (BadLine n)) (taken n (step s part) (λ t. goes (n + 1) t (parts_of more)))
+unfolding goes
+goes_line n s part more none =
+    let f : HasFirst more = has_first more in
+    let e : parts_of (part ++ 10 ∷ more) ≡ part ∷ parts_of more =
+    onto_part part (10 ∷ more) [] (parts_of more) (no_lf part none) refl ∙ ap (λ (x : List ℕ). x ∷ parts_of more) (append-nil part) in
+    rw (e, f.is) refl
+
+-- a line that is too long, whatever follows
+pub goes_long : (n : ℕ) (s : Stage) (part more : List ℕ) → All (λ b. b ≢ 10) part → 8192 < length part → goes n s (parts_of (part ++ more)) ≡ Err (BadLine n)
+goes_long n s part more none long =
+    let f : HasFirst more = has_first more in
+    let e : parts_of (part ++ more) ≡ (part ++ f.first) ∷ f.others = onto_part part more f.first f.others (no_lf part none) f.is in
+    let l : ltb 8192 (length (part ++ f.first)) ≡ true = lt-ltb _ _ (omega (arith, length-append part f.first)) in
+    ap (goes n s) e ∙ goes_long_first n s (part ++ f.first) f.others l
+
+-- a line that is full, and one byte more
+pub goes_full : (n : ℕ) (s : Stage) (part more : List ℕ) (b : ℕ) → All (λ b. b ≢ 10) part → 8192 ≤ length part → b ≢ 10 → goes n s (parts_of (part ++ b ∷ more)) ≡ Err (BadLine n)
+goes_full n s part more b none full other =
+    ap (λ (bytes : List ℕ). goes n s (parts_of bytes)) (sym (append_snoc part b more)) ∙
+    goes_long n s (part ++ b ∷ []) more (All-push (λ b. b ≢ 10) part b none other) (omega (arith, length-append part (b ∷ [])))
+
+-- the text ends in the line in progress
+pub goes_rest : (n : ℕ) (s : Stage) (part : List ℕ) → All (λ b. b ≢ 10) part → length part ≤ 8192 → goes n s (parts_of (part ++ [])) ≡ cond (is_ended s && ltb 0 (length part)) (Err (BadLine n)) (Ok (record { stage = s; number = n; part = part }))
+unfolding goes
+goes_rest n s part none short =
+    let e : parts_of (part ++ []) ≡ part ∷ [] = onto_part part [] [] [] (no_lf part none) refl ∙ ap (λ (x : List ℕ). x ∷ []) (append-nil part) in
+    let l : ltb 8192 (length part) ≡ false = le-ltb _ _ short in
+    rw e (rw l refl)
+
+after_end : (s : Stage) (line : List ℕ) → is_ended s ≡ true → step s line ≡ Err line_fault.Bad
+unfolding step is_ended
+after_end Opening line ended = cc
+after_end Limiting line ended = cc
+after_end (Declaring h) line ended = cc
+after_end (Running t) line ended = cc
+after_end (Ended t) line ended = refl
+
+goes_after_end_parts : (n : ℕ) (s : Stage) (line : List ℕ) (others : List (List ℕ)) → is_ended s ≡ true → 0 < length line → goes n s (line ∷ others) ≡ Err (BadLine n)
+unfolding goes
+goes_after_end_parts n s line [] ended some =
+    let l : ltb 0 (length line) ≡ true = lt-ltb _ _ some in
+    cond-true (ltb 8192 (length line) || (is_ended s && ltb 0 (length line))) _ _ (or_right _ _ (and_from _ _ ended l))
+goes_after_end_parts n s line (next ∷ others) ended some =
+    let e : taken n (step s line) (λ t. goes (n + 1) t (next ∷ others)) ≡ Err (BadLine n) = rw (after_end s line ended) refl in
+    cond_both (ltb 8192 (length line)) (Err (BadLine n)) (taken n (step s line) (λ t. goes (n + 1) t (next ∷ others))) (λ r. r ≡ Err (BadLine n)) (λ _. refl) (λ _. e)
+
+-- bytes after the last line, whatever follows
+pub goes_after_end : (n : ℕ) (s : Stage) (part more : List ℕ) → All (λ b. b ≢ 10) part → is_ended s ≡ true → 0 < length part → goes n s (parts_of (part ++ more)) ≡ Err (BadLine n)
+goes_after_end n s part more none ended some =
+    let f : HasFirst more = has_first more in
+    let e : parts_of (part ++ more) ≡ (part ++ f.first) ∷ f.others = onto_part part more f.first f.others (no_lf part none) f.is in
+    ap (goes n s) e ∙ goes_after_end_parts n s (part ++ f.first) f.others ended (omega (arith, length-append part f.first))
+
+pub ruleset endings = (goes_rest, goes_after_end)
+
+-- nothing may follow the last line
+pub goes_ended : (n : ℕ) (s : Stage) (b : ℕ) (more : List ℕ) → is_ended s ≡ true → goes n s (parts_of (b ∷ more)) ≡ Err (BadLine n)
+goes_ended n s b more ended = elim (cases_eq b 10) [
+  | inl lf ↦ ap (λ (c : ℕ). goes n s (parts_of (c ∷ more))) lf ∙ goes_line n s [] more (All-nil (λ b. b ≢ 10)) ∙ rw (after_end s [] ended) refl
+  | inr other ↦ goes_after_end n s (b ∷ []) more (All-cons (λ b. b ≢ 10) b [] other (All-nil (λ b. b ≢ 10))) ended (omega arith)
+]

@@ -1,0 +1,127 @@
+-- What a text comes to: a function of its bytes.
+use Rattle.std.specs.Prelude.{◌≡◌, ◌⊎◌, ◌≤◌, Option, Some, None, ℕ, ◌+◌, List, [], ◌∷◌, ◌++◌, length, take, Bool, Result, Ok, Err, if◌then◌else◌, ◌==◌, ◌&&◌, ◌||◌, nat_lt}
+use Rattle.std.specs.List.{slice_split}
+use Rattle.ec_trace.specs.declared.fault.LineFault.{LineFault}
+use Rattle.ec_trace.specs.declared.fault.LineFault.TheVariants as line
+use Rattle.ec_trace.specs.declared.fault.TraceFault.{TraceFault}
+use Rattle.ec_trace.specs.declared.fault.TraceFault.TheVariants.{BadLine, Refused, WrongReply, Unfinished, TooLarge, Read, Memory}
+use Rattle.ec_trace.specs.declared.stage.Stage.{Stage}
+use Rattle.ec_trace.specs.declared.stage.Stage.TheVariants.{Opening, Ended}
+use Rattle.ec_trace.specs.Recounted.{Recounted}
+use Rattle.ec_trace.specs.Step.{step, is_ended}
+
+-- where a text stands: what its whole lines built, the number of the line in progress, and that line so far
+pub record Place : Type 0 where
+  pub stage : Stage
+  pub number : ℕ
+  pub part : List ℕ
+
+-- the fault of a line, with its number
+abbrev pub numbered : ℕ → LineFault → TraceFault
+numbered n line.Bad = BadLine n
+numbered n (line.Refused r) = Refused n r
+numbered n (line.WrongReply r) = WrongReply n r
+
+-- the lines of a text: each part but the last ends in an LF
+abbrev pub parts_of : List ℕ → List (List ℕ)
+parts_of bytes = slice_split (λ b. b == 10) bytes
+
+-- the rest without LF is faulty in two cases
+abbrev pub is_bad_rest : Stage → List ℕ → Bool
+is_bad_rest s rest = nat_lt 8192 (length rest) || (is_ended s && nat_lt 0 (length rest))
+
+-- goes on where the line was taken
+abbrev pub taken : ℕ → Result Stage LineFault → (Stage → Result Place TraceFault) → Result Place TraceFault
+taken n (Ok s) others = others s
+taken n (Err f) others = Err (numbered n f)
+
+-- the lines in turn, from line n on in the stage s, up to the first fault
+unfoldable pub goes : ℕ → Stage → List (List ℕ) → Result Place TraceFault
+goes n s [] = Ok (record { stage = s; number = n; part = [] })
+goes n s (line ∷ []) = if is_bad_rest s line then Err (BadLine n) else Ok (record { stage = s; number = n; part = line })
+goes n s (line ∷ next ∷ others) = if nat_lt 8192 (length line) then Err (BadLine n) else taken n (step s line) (λ t. goes (n + 1) t (next ∷ others))
+
+-- what more bytes come to at a place
+abbrev pub goes_from : Place → List ℕ → Result Place TraceFault
+goes_from p more = goes p.number p.stage (parts_of (p.part ++ more))
+
+-- WHOLE TEXTS
+
+unfoldable pub start : Place
+start = record { stage = Opening; number = 1; part = [] }
+
+-- a text whose lines have no fault is whole where its last line came, with its LF
+abbrev pub ended_in : Stage → List ℕ → Result Recounted TraceFault
+ended_in (Ended t) [] = Ok t
+ended_in (Ended t) (b ∷ bs) = Err Unfinished
+ended_in _ part = Err Unfinished
+
+abbrev pub ended_at : Place → Result Recounted TraceFault
+ended_at p = ended_in p.stage p.part
+
+abbrev pub bounded : ℕ → List ℕ → Result Place TraceFault → Result Recounted TraceFault
+bounded max xs (Err f) = Err f
+bounded max xs (Ok p) = if nat_lt max (length xs) then Err TooLarge else ended_at p
+
+-- what an input comes to that is read to its end, where a text has at most max bytes
+unfoldable pub outcome : ℕ → List ℕ → Result Recounted TraceFault
+outcome max xs = bounded max xs (goes_from start (take max xs))
+
+-- what is known where a read failed: the lines that came before have no fault
+pub record HasNoFault (max : ℕ) (xs : List ℕ) : Type 0 where
+  pub given : List ℕ
+  pub rest : List ℕ
+  pub place : Place
+  pub whole : xs ≡ given ++ rest
+  pub within : length given ≤ max
+  pub goes : goes_from start given ≡ Ok place
+
+-- what was answered for an input that had these bytes left
+abbrev pub Tells : ℕ → List ℕ → Result Recounted TraceFault → Type 0
+Tells max xs (Ok t) = outcome max xs ≡ Ok t
+Tells max xs (Err Memory) = Unit {0}
+Tells max xs (Err Read) = HasNoFault max xs
+Tells max xs (Err fault) = outcome max xs ≡ Err fault
+
+-- STEPS OF THE READER
+
+-- what a call that was handed these bytes answered and left, whatever bytes follow
+abbrev pub FailsAs : TraceFault → Result Place TraceFault → Type 0
+FailsAs Memory r = Unit {0}
+FailsAs Read r = ⊥
+FailsAs fault r = r ≡ Err fault
+
+abbrev pub Moves : Result (Unit {0}) TraceFault → Place → Place → List ℕ → Type 0
+Moves (Ok x) old new bytes = (more : List ℕ) → goes_from new more ≡ goes_from old (bytes ++ more)
+Moves (Err e) old new bytes = (more : List ℕ) → FailsAs e (goes_from old (bytes ++ more))
+
+-- the line in progress ends the text, or nothing that follows helps
+abbrev pub Rests : Result (Unit {0}) TraceFault → Place → Type 0
+Rests (Ok x) p = goes_from p [] ≡ Ok p
+Rests (Err f) p = (more : List ℕ) → FailsAs f (goes_from p more)
+
+-- what was read of an input brought the text to this place
+pub record Brought (xs ys : List ℕ) (p : Place) (taken : ℕ) : Type 0 where
+  pub given : List ℕ
+  pub whole : xs ≡ given ++ ys
+  pub len : length given ≡ taken
+  pub goes : (more : List ℕ) → goes_from p more ≡ goes_from start (given ++ more)
+
+abbrev pub Stands : Option (List ℕ) → Option (List ℕ) → Place → ℕ → Type 0
+Stands None now p n = Unit {0}
+Stands (Some xs) None p n = ⊥
+Stands (Some xs) (Some ys) p n = Brought xs ys p n
+
+-- what the text comes to that ends at this place
+abbrev pub Finishes : Result Recounted TraceFault → Place → Type 0
+Finishes (Ok t) p = (goes_from p [] ≡ Ok p) × (ended_at p ≡ Ok t)
+Finishes (Err f) p = ((more : List ℕ) → FailsAs f (goes_from p more)) ⊎ ((f ≡ Unfinished) × (goes_from p [] ≡ Ok p) × (ended_at p ≡ Err Unfinished))
+
+-- the whole input brought the text to this place, or its fault is told
+pub record Arrived (max : ℕ) (xs : List ℕ) (p : Place) : Type 0 where
+  pub within : length xs ≤ max
+  pub goes : (more : List ℕ) → goes_from p more ≡ goes_from start (xs ++ more)
+
+abbrev pub Arrives : ℕ → List ℕ → Result (Unit {0}) TraceFault → Place → Type 0
+Arrives max xs (Ok x) p = Arrived max xs p
+Arrives max xs (Err f) p = Tells max xs (Err f)

@@ -1,0 +1,105 @@
+-- What one line of a trace does to what the lines before it have built.
+use Rattle.std.specs.Prelude.{◌≡◌, ℕ, ◌^◌, Bool, true, false, ◌==◌, ◌&&◌, nat_le, nat_lt, List, [], ◌∷◌, ◌++◌, Option, Some, None, option_and_then, Result, Ok, Err, if◌then◌else◌, bytes_eq, codes, reverse}
+use Rattle.ec_core.specs.Acceptance.{answer_of}
+use Rattle.ec_core.specs.declared.act.Reply.{Reply}
+use Rattle.ec_core.specs.declared.act.Reply.TheVariants.{Done, Number, Pending}
+use Rattle.ec_core.specs.declared.act.Entry.{Entry}
+use Rattle.ec_core.specs.declared.act.Refusal.{Refusal}
+use Rattle.ec_text.specs.Words.{words_of, number_of}
+use Rattle.ec_trace.specs.Headed.{Headed}
+use Rattle.ec_trace.specs.Outline.{opened}
+use Rattle.ec_trace.specs.Heading.{head_step}
+use Rattle.ec_trace.specs.Entries.{entry_of}
+use Rattle.ec_trace.specs.Recounted.{Recounted}
+use Rattle.ec_trace.specs.declared.heading.HeadFault.{HeadFault}
+use Rattle.ec_trace.specs.declared.fault.LineFault.{LineFault}
+use Rattle.ec_trace.specs.declared.fault.LineFault.TheVariants.{Bad, Refused, WrongReply}
+use Rattle.ec_trace.specs.declared.fault.StageFault.{StageFault}
+use Rattle.ec_trace.specs.declared.fault.StageFault.TheVariants as faults
+use Rattle.ec_trace.specs.declared.stage.Stage.{Stage}
+use Rattle.ec_trace.specs.declared.stage.Stage.TheVariants.{Opening, Limiting, Declaring, Running, Ended}
+
+-- THE LIMIT
+
+abbrev pub in_range : ℕ → Option ℕ
+in_range n = if nat_le 1 n && nat_lt n 4294967296 then Some n else None
+
+abbrev pub limit_in : List (List ℕ) → Option ℕ
+limit_in (w ∷ n ∷ []) = if bytes_eq w (codes "limit") then option_and_then in_range (number_of n) else None
+limit_in _ = None
+
+-- the limit that a line gives
+unfoldable pub limit_of : List ℕ → Option ℕ
+limit_of line = limit_in (words_of line)
+
+abbrev pub limited : Option ℕ → Result Stage LineFault
+limited None = Err Bad
+limited (Some n) = Ok (Declaring (opened n []))
+
+-- A DECLARATION
+
+abbrev pub declared : Result Headed HeadFault → Result Stage LineFault
+declared (Ok h) = Ok (Declaring h)
+declared (Err fault) = Err Bad
+
+-- AN ENTRY
+
+abbrev pub same_reply : Reply → Reply → Bool
+same_reply Done Done = true
+same_reply (Number m) (Number n) = m == n
+same_reply Pending Pending = true
+same_reply _ _ = false
+
+-- the entry that a line spells is answered: refused, or with the right reply
+abbrev pub answered : Recounted → Entry → Result Reply Refusal → Result Recounted LineFault
+answered t e (Err r) = Err (Refused r)
+answered t e (Ok right) = if same_reply right e.reply then Ok (record { heading = t.heading; entries = t.entries ++ e ∷ [] }) else Err (WrongReply right)
+
+abbrev pub entered : Recounted → Option Entry → Result Recounted LineFault
+entered t None = Err Bad
+entered t (Some e) = answered t e (answer_of t.heading.setup (reverse t.entries) e.worker e.act)
+
+-- one more entry, by its line
+unfoldable pub entry_step : Recounted → List ℕ → Result Recounted LineFault
+entry_step t line = entered t (entry_of t.heading.names line)
+
+abbrev pub ran_on : Result Recounted LineFault → Result Stage LineFault
+ran_on (Ok t) = Ok (Running t)
+ran_on (Err fault) = Err fault
+
+-- ANY LINE
+
+-- the stage after a line, or why the line is refused
+unfoldable pub step : Stage → List ℕ → Result Stage LineFault
+step Opening line = if bytes_eq line (codes "evc-trace 1") then Ok Limiting else Err Bad
+step Limiting line = limited (limit_of line)
+step (Declaring h) line =
+    if bytes_eq line (codes "run") && nat_lt 0 h.setup.workers then Ok (Running (record { heading = h; entries = [] })) else declared (head_step h line)
+step (Running t) line = if bytes_eq line (codes "end") then Ok (Ended t) else ran_on (entry_step t line)
+step (Ended t) line = Err Bad
+
+-- the run begins, and the trace ends
+abbrev pub run_on : Stage → Stage
+run_on (Declaring h) = Running (record { heading = h; entries = [] })
+run_on s = s
+
+abbrev pub ended_on : Stage → Stage
+ended_on (Running t) = Ended t
+ended_on s = s
+
+abbrev pub is_declaring : Stage → Bool
+is_declaring (Declaring h) = true
+is_declaring _ = false
+
+unfoldable pub is_ended : Stage → Bool
+is_ended (Ended t) = true
+is_ended _ = false
+
+-- what a call answered and left is what the step gives, unless memory ran out
+abbrev pub StepFails : {S : Type 0} → StageFault → Result S LineFault → Type 0
+StepFails faults.Memory stepped = Unit {0}
+StepFails (faults.Line f) stepped = stepped ≡ Err f
+
+abbrev pub Steps : {S : Type 0} → Result (Unit {0}) StageFault → Result S LineFault → S → Type 0
+Steps (Ok x) stepped new = stepped ≡ Ok new
+Steps (Err e) stepped new = StepFails e stepped

@@ -1,0 +1,133 @@
+//! The entry that a line spells.
+ghost use Rattle.std.specs.Prelude.{◌≡◌, ◌∷◌};
+ghost use Rattle.ec_trace.specs.Entries.{act_alone, act_on, act_with, reply_of, entry_by, entry_in, entry_of};
+ghost use Rattle.ec_text.specs.Words.{words_of};
+
+use crate::heading::Heading;
+use crate::named::{cell, event, sequencer, worker};
+use ec_core::{Act, Entry, Reply};
+use ec_text::{cut_word, number};
+
+/// The act of one word.
+#[tactic(auto, unfolding(crate::specs::Entries::act_alone))]
+fn act_alone(verb: &[u8]) -> Option<Act>
+    ensures { result ≡ act_alone verb.now }
+{
+    if verb == b"go".as_slice() {
+        Some(Act::Go)
+    } else {
+        None
+    }
+}
+
+/// The act of a word and an object.
+#[tactic(auto, unfolding(crate::specs::Entries::act_on))]
+fn act_on(heading: &Heading, verb: &[u8], object: &[u8]) -> Option<Act>
+    ensures { result ≡ act_on heading.now.names verb.now object.now }
+{
+    if verb == b"advance".as_slice() {
+        return Some(Act::Advance(event(heading, object)?));
+    }
+    if verb == b"read".as_slice() {
+        return Some(Act::Read(event(heading, object)?));
+    }
+    if verb == b"ticket".as_slice() {
+        return Some(Act::Ticket(sequencer(heading, object)?));
+    }
+    if verb == b"get".as_slice() {
+        return Some(Act::Get(cell(heading, object)?));
+    }
+    None
+}
+
+/// The act of a word, an object and a value.
+#[tactic(auto, unfolding(crate::specs::Entries::act_with))]
+fn act_with(heading: &Heading, verb: &[u8], object: &[u8], value: &[u8]) -> Option<Act>
+    ensures { result ≡ act_with heading.now.names verb.now object.now value.now }
+{
+    if verb == b"await".as_slice() {
+        return Some(Act::Await(event(heading, object)?, number(value)?));
+    }
+    if verb == b"put".as_slice() {
+        return Some(Act::Put(cell(heading, object)?, number(value)?));
+    }
+    None
+}
+
+/// What the word of a reply says.
+#[tactic(auto, unfolding(crate::specs::Entries::reply_of))]
+fn reply_of(word: &[u8]) -> Option<Reply>
+    ensures { result ≡ reply_of word.now }
+{
+    if word == b"done".as_slice() {
+        return Some(Reply::Done);
+    }
+    if word == b"pending".as_slice() {
+        return Some(Reply::Pending);
+    }
+    Some(Reply::Number(number(word)?))
+}
+
+/// The entry of a worker, an act, `=` and a reply.
+#[tactic(auto, unfolding(crate::specs::Entries::entry_by))]
+fn entry_by(
+    heading: &Heading,
+    name: &[u8],
+    act: Option<Act>,
+    equals: &[u8],
+    answer: &[u8],
+) -> Option<Entry>
+    ensures { result ≡ entry_by heading.now.names name.now act equals.now answer.now }
+{
+    let act = act?;
+    let worker = worker(heading, name)?;
+    if equals != b"=".as_slice() {
+        return None;
+    }
+    let reply = reply_of(answer)?;
+    Some(Entry { worker, act, reply })
+}
+
+/// The entry of four words and those of the rest.
+#[tactic(auto, using(crate::proofs::EntryLemmas::too_many), unfolding(crate::specs::Entries::entry_in))]
+fn read_objects(
+    heading: &Heading,
+    name: &[u8],
+    verb: &[u8],
+    third: &[u8],
+    fourth: &[u8],
+    rest: &[u8],
+) -> Option<Entry>
+    ensures { result ≡ entry_in heading.now.names (name.now ∷ verb.now ∷ third.now ∷ fourth.now ∷ words_of rest.now) }
+{
+    match cut_word(rest) {
+        (answer, None) => entry_by(heading, name, act_on(heading, verb, third), fourth, answer),
+        (fifth, Some(rest)) => {
+            let (answer, None) = cut_word(rest) else {
+                return None;
+            };
+            let act = act_with(heading, verb, third, fourth);
+            entry_by(heading, name, act, fifth, answer)
+        }
+    }
+}
+
+/// The entry that a line without its LF spells, if it spells one.
+#[tactic(auto, unfolding(crate::specs::Entries::entry_in, crate::specs::Entries::entry_of))]
+pub(crate) fn read_entry(heading: &Heading, line: &[u8]) -> Option<Entry>
+    ensures { result ≡ entry_of heading.now.names line.now }
+{
+    let (name, Some(rest)) = cut_word(line) else {
+        return None;
+    };
+    let (verb, Some(rest)) = cut_word(rest) else {
+        return None;
+    };
+    let (third, Some(rest)) = cut_word(rest) else {
+        return None;
+    };
+    match cut_word(rest) {
+        (answer, None) => entry_by(heading, name, act_alone(verb), third, answer),
+        (fourth, Some(rest)) => read_objects(heading, name, verb, third, fourth, rest),
+    }
+}

@@ -1,0 +1,37 @@
+//! Why a text is no trace.
+use ec_core::{Refusal, Reply};
+
+/// Why a line is refused.
+#[derive(Clone, Copy, Debug, PartialEq, Eq)]
+pub enum LineFault {
+    Bad,
+    Refused(Refusal),
+    WrongReply(Reply),
+}
+
+/// Why a line was not taken.
+#[derive(Clone, Copy, Debug, PartialEq, Eq)]
+pub enum StageFault {
+    Line(LineFault),
+    Memory,
+}
+
+/// Why no trace was read. Lines are numbered from 1.
+#[derive(Clone, Copy, Debug, PartialEq, Eq)]
+pub enum TraceFault {
+    /// This line has not the form that its place asks for, declares what can't be declared, has more
+    /// than 8192 bytes, or stands behind the last.
+    BadLine(u64),
+    /// The step of this line is refused.
+    Refused(u64, Refusal),
+    /// The step of this line has another reply than the line says: this one.
+    WrongReply(u64, Reply),
+    /// The input ended before the line `end` and its LF.
+    Unfinished,
+    /// The input has more than 67108864 bytes.
+    TooLarge,
+    /// A read failed. It was not tried again.
+    Read,
+    /// Memory was refused.
+    Memory,
+}

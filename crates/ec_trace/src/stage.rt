@@ -1,0 +1,164 @@
+//! What the lines of a trace so far have built.
+ghost use Rattle.std.specs.Prelude.{MatchResult, ◌≡◌, true};
+ghost use Rattle.ec_trace.specs.Heading.{Lines};
+ghost use Rattle.ec_trace.specs.Step.{Steps, step, limit_of, is_ended, is_declaring, run_on, ended_on};
+
+use crate::fault::{LineFault, StageFault};
+use crate::heading::{HeadFault, Heading};
+use crate::traced::Traced;
+use ec_count::Limit;
+use ec_text::{cut_word, number};
+use std::alloc::Global;
+use std::mem;
+
+/// What the lines so far have built.
+#[derive(Drop)]
+pub enum Stage {
+    /// Nothing.
+    Opening,
+    /// The first line came.
+    Limiting,
+    /// The limit came, and declarations may.
+    Declaring(Heading),
+    /// Entries may come.
+    Running(Traced),
+    /// The last line came.
+    Ended(Traced),
+}
+
+/// The limit that a line gives, if it gives one.
+#[tactic(auto, using(crate::proofs::EntryLemmas::third_word), unfolding(crate::specs::Step::limit_of))]
+fn limit_of(line: &[u8]) -> Option<Limit>
+    ensures { result ≡ limit_of line.now }
+{
+    let (word, Some(rest)) = cut_word(line) else {
+        return None;
+    };
+    let (digits, None) = cut_word(rest) else {
+        return None;
+    };
+    if word != b"limit".as_slice() {
+        return None;
+    }
+    Limit::new(number(digits)?)
+}
+
+/// Takes a line of the heading: a stand-in.
+#[tactic(auto, unfolding(crate::specs::Heading::head_step))]
+fn declare(heading: &mut Heading, line: &[u8]) -> Result<(), HeadFault>
+    ensures { Lines result heading.old heading.new line.now }
+{
+    let _ = line;
+    Err(HeadFault::BadLine)
+}
+
+impl Stage {
+    /// Takes the next line, without its LF.
+    #[tactic(auto, unfolding(crate::specs::Step::step))]
+    pub(crate) fn line(&mut self, alloc: Global, line: &[u8]) -> Result<(), StageFault>
+        ensures { Steps result (step self.old line.now) self.new }
+    {
+        match self {
+            Stage::Running(traced) => {
+                if line == b"end".as_slice() {
+                    self.end();
+                    return Ok(());
+                }
+                traced.line(line)
+            }
+            Stage::Ended(_) => Err(StageFault::Line(LineFault::Bad)),
+            Stage::Opening => self.open(line),
+            Stage::Limiting => self.limit(alloc, line),
+            Stage::Declaring(_) => self.declare(alloc, line),
+        }
+    }
+
+    /// Takes the first line.
+    #[tactic(auto, unfolding(crate::specs::Step::step))]
+    fn open(&mut self, line: &[u8]) -> Result<(), StageFault>
+        requires { self.old ≡ Stage.Opening }
+        ensures { Steps result (step self.old line.now) self.new }
+    {
+        if line == b"evc-trace 1".as_slice() {
+            *self = Stage::Limiting;
+            Ok(())
+        } else {
+            Err(StageFault::Line(LineFault::Bad))
+        }
+    }
+
+    /// Takes the line of the limit.
+    #[cold]
+    #[inline(never)]
+    #[tactic(auto, unfolding(crate::specs::Step::step))]
+    fn limit(&mut self, alloc: Global, line: &[u8]) -> Result<(), StageFault>
+        requires { self.old ≡ Stage.Limiting }
+        ensures { Steps result (step self.old line.now) self.new }
+    {
+        let Some(limit) = limit_of(line) else {
+            return Err(StageFault::Line(LineFault::Bad));
+        };
+        let Ok(heading) = Heading::new(alloc, limit) else {
+            return Err(StageFault::Memory);
+        };
+        *self = Stage::Declaring(heading);
+        Ok(())
+    }
+
+    /// Takes a line behind the limit: of workers, of a declaration, or `run`.
+    #[tactic(auto, unfolding(crate::specs::Step::step))]
+    fn declare(&mut self, alloc: Global, line: &[u8]) -> Result<(), StageFault>
+        requires { is_declaring self.old ≡ true }
+        ensures { Steps result (step self.old line.now) self.new }
+    {
+        let Stage::Declaring(heading) = self else {
+            return Err(StageFault::Line(LineFault::Bad));
+        };
+        if line == b"run".as_slice() && heading.setup().workers() > 0 {
+            return self.run(alloc);
+        }
+        match declare(heading, line) {
+            Ok(()) => Ok(()),
+            Err(HeadFault::Memory) => Err(StageFault::Memory),
+            Err(_) => Err(StageFault::Line(LineFault::Bad)),
+        }
+    }
+
+    /// Begins the run.
+    #[cold]
+    #[inline(never)]
+    fn run(&mut self, alloc: Global) -> Result<(), StageFault>
+        ensures { MatchResult result (λ _. self.new ≡ run_on self.old) (λ fault. fault ≡ StageFault.Memory) }
+    {
+        match mem::replace(self, Stage::Opening) {
+            Stage::Declaring(heading) => {
+                let Ok(traced) = Traced::open(alloc, heading) else {
+                    return Err(StageFault::Memory);
+                };
+                *self = Stage::Running(traced);
+            }
+            other => *self = other,
+        }
+        Ok(())
+    }
+
+    /// Ends the trace.
+    #[cold]
+    #[inline(never)]
+    fn end(&mut self)
+        ensures { self.new ≡ ended_on self.old }
+    {
+        *self = match mem::replace(self, Stage::Opening) {
+            Stage::Running(traced) => Stage::Ended(traced),
+            other => other,
+        };
+    }
+
+    /// Whether the last line came.
+    #[tactic(auto, unfolding(crate::specs::Step::is_ended))]
+    pub(crate) fn is_ended(&self) -> bool
+        ensures { result ≡ is_ended self.now }
+    {
+        matches!(self, Stage::Ended(_))
+    }
+}

@@ -1,0 +1,76 @@
+//! A heading and a run on it.
+ghost use Rattle.std.specs.Prelude.{◌≡◌, [], IfOk};
+
+use crate::entry::read_entry;
+use crate::fault::{LineFault, StageFault};
+use crate::heading::Heading;
+use ec_core::{Run, StepFault};
+use std::alloc::{AllocError, Global};
+use std::marker::Model;
+
+/// A trace that was read: a heading, and a run on what it declares.
+#[derive(Drop)]
+pub struct Traced {
+    run: Run,
+    heading: Heading,
+}
+
+impl Model for Traced {
+    ghost use Rattle.std.specs.Prelude.{◌≡◌};
+    ghost use Rattle.ec_trace.specs.Recounted.{Recounted};
+
+    ghost Value = { Recounted };
+
+    ghost view = { λ t. record { heading = t.heading; entries = t.run.entries } };
+
+    ghost invariant = { λ t. t.run.setup ≡ t.heading.setup };
+}
+
+impl Traced {
+    ghost use Rattle.ec_trace.specs.Step.{Steps, entry_step};
+
+    /// A heading, and no entry yet.
+    pub(crate) fn open(alloc: Global, heading: Heading) -> Result<Traced, AllocError>
+        ensures { IfOk result (λ traced. traced ≡ record { heading = heading; entries = [] }) }
+    {
+        let run = Run::open(alloc, heading.setup().copy())?;
+        Ok(Traced { run, heading })
+    }
+
+    /// What the trace declares.
+    pub fn heading(&self) -> &Heading
+        ensures { result.now ≡ self.now.heading }
+    {
+        &self.heading
+    }
+
+    /// The run that the entries recount, on the heading's declarations.
+    pub fn run(&self) -> &Run
+        ensures { result.now ≡ record { setup = self.now.heading.setup; entries = self.now.entries } }
+    {
+        &self.run
+    }
+
+    /// Takes the next entry, by its line.
+    #[tactic(auto, unfolding(crate::specs::Step::entry_step))]
+    pub(crate) fn line(&mut self, line: &[u8]) -> Result<(), StageFault>
+        ensures { Steps result (entry_step self.old line.now) self.new }
+    {
+        let Some(entry) = read_entry(&self.heading, line) else {
+            return Err(StageFault::Line(LineFault::Bad));
+        };
+        match self.run.step(entry.worker, entry.act) {
+            Ok(right) => {
+                if right == entry.reply {
+                    Ok(())
+                } else {
+                    Err(StageFault::Line(LineFault::WrongReply(right)))
+                }
+            }
+            Err(StepFault::Refused(refusal)) => {
+                Err(StageFault::Line(LineFault::Refused(refusal)))
+            }
+            Err(StepFault::Memory) => Err(StageFault::Memory),
+        }
+    }
+}
