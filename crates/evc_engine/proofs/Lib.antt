@@ -1,2 +1,3 @@
 pub mod Undeclared
 pub mod TotalLemmas
+pub mod CheckLemmas

@@ -34,6 +34,12 @@ Writes t Memory old new = Keeps old.out new.out × Notes old new (codes "no memo
 Writes t Refused old new = ⊥
 Writes t Usage old new = ⊥
 
--- how `check` ended that could not read a trace: nothing is written but the note
-abbrev pub Fails : List ℕ → TraceFault → Outlets → Outlets → Type 0
-Fails bytes fault old new = Keeps old.out new.out × Notes old new (fault_note fault)
+-- how `check` ended: a trace was read and its text written, or no trace was read, and nothing was written but the note
+abbrev pub Checks : List ℕ → Status → Outlets → Outlets → Type 0
+Checks bytes Done old new = (t : Recounted) × (outcome TRACE_MAX bytes ≡ Ok t) × Writes t Done old new
+Checks bytes Refused old new = (fault : TraceFault) × (outcome TRACE_MAX bytes ≡ Err fault) × Keeps old.out new.out × Notes old new (fault_note fault)
+Checks bytes InputOutput old new =
+    ((t : Recounted) × (outcome TRACE_MAX bytes ≡ Ok t) × Writes t InputOutput old new)
+    ⊎ (HasNoFault TRACE_MAX bytes × Keeps old.out new.out × Notes old new (codes "read fault\n"))
+Checks bytes Memory old new = Keeps old.out new.out × Notes old new (codes "no memory\n")
+Checks bytes Usage old new = ⊥

@@ -1,8 +1,7 @@
 //! The notes, on their way to their writer.
-ghost use Rattle.std.specs.Prelude.{◌≡◌, [], decimal, codes, ◌++◌, ◌∷◌};
+ghost use Rattle.std.specs.Prelude.{◌≡◌, [], codes};
 ghost use Rattle.ec_text.specs.Puts.{Puts, nothing_held};
-ghost use Rattle.ec_trace.specs.Spelling.{reply_word};
-ghost use Rattle.evc_engine.specs.Notes.{fault_note, line_note};
+ghost use Rattle.evc_engine.specs.Notes.{fault_note, refused_words, wrong_words, line_words};
 
 use ec_core::{Refusal, Reply};
 use ec_text::{Buffered, flush, put, put_number};
@@ -37,13 +36,65 @@ impl<W: Write> Notes<W> {
     }
 }
 
-/// Puts the note of a refused act.
+/// Puts what a note says of a refused act.
 fn put_refused<W: Write>(writer: &mut W, table: &mut Buffered, refusal: Refusal)
-    ensures { Puts (W.contents writer.old) table.old (W.contents writer.new) table.new
-        (codes "refused " ++ decimal (refusal_number refusal) ++ codes " " ++ refusal_name refusal) }
+    ensures { Puts (W.contents writer.old) table.old (W.contents writer.new) table.new (refused_words refusal) }
 {
     put(writer, table, b"refused ");
     put_number(writer, table, refusal.number());
     put(writer, table, b" ");
     put(writer, table, refusal.name().as_bytes());
+}
+
+/// Puts what a note says of a wrong reply.
+fn put_wrong<W: Write>(writer: &mut W, table: &mut Buffered, right: &Reply)
+    ensures { Puts (W.contents writer.old) table.old (W.contents writer.new) table.new (wrong_words right.now) }
+{
+    put(writer, table, b"wrong reply, right is ");
+    put_reply(writer, table, right);
+}
+
+/// Puts the beginning of a note on a line.
+fn put_line<W: Write>(writer: &mut W, table: &mut Buffered, line: u64)
+    ensures { Puts (W.contents writer.old) table.old (W.contents writer.new) table.new (line_words line) }
+{
+    put(writer, table, b"line ");
+    put_number(writer, table, line);
+    put(writer, table, b": ");
+}
+
+/// Puts the note on a fault of a trace.
+fn put_fault<W: Write>(writer: &mut W, table: &mut Buffered, fault: &TraceFault)
+    ensures { Puts (W.contents writer.old) table.old (W.contents writer.new) table.new (fault_note fault.now) }
+{
+    match *fault {
+        TraceFault::BadLine(line) => {
+            put_line(writer, table, line);
+            put(writer, table, b"bad line\n");
+        }
+        TraceFault::Refused(line, refusal) => {
+            put_line(writer, table, line);
+            put_refused(writer, table, refusal);
+            put(writer, table, b"\n");
+        }
+        TraceFault::WrongReply(line, right) => {
+            put_line(writer, table, line);
+            put_wrong(writer, table, &right);
+            put(writer, table, b"\n");
+        }
+        TraceFault::Unfinished => put(writer, table, b"unfinished\n"),
+        TraceFault::TooLarge => put(writer, table, b"too large\n"),
+        TraceFault::Read => put(writer, table, b"read fault\n"),
+        TraceFault::Memory => put(writer, table, b"no memory\n"),
+    }
+}
+
+impl<W: Write> Notes<W> {
+    /// Puts the note on a fault of a trace, and writes it.
+    pub fn fault(&mut self, fault: &TraceFault)
+        ensures { Puts (W.contents self.old.writer) self.old.table (W.contents self.new.writer) self.new.table (fault_note fault.now) }
+    {
+        put_fault(&mut self.writer, &mut self.table, fault);
+        flush(&mut self.writer, &mut self.table);
+    }
 }
