@@ -8,3 +8,6 @@ mod line;
 pub use choice::Task;
 pub use clap::Error;
 pub use line::{plain_lines, status_of, task};
+
+#[cfg(test)]
+mod tests;
