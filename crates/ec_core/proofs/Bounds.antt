@@ -161,8 +161,8 @@ reply_small t past w (Put x v) d low acc known = tt
 reply_small t past w (Get x) d low acc known = cell_within t x past acc
 
 -- what an act is told, where it is not refused
-pub told_small : (t : Tables) (past : List Entry) (w : ℕ) (act : Act) (reply : Reply) → IsDeclared t → t.limit < 2 ^ 32 → IsAccepted t past
+pub told_small : (t : Tables) (past : List Entry) (w : ℕ) (act : Act) (reply : Reply) → IsDeclared t → IsAccepted t past
     → answer_of t past w act ≡ Ok reply → TellsAtMost VALUE_MAX reply
-told_small t past w act reply d low acc h =
+told_small t past w act reply d acc h =
     let k = allowed t past w act reply h in
-    subst (TellsAtMost VALUE_MAX) k.1 (reply_small t past w act d low acc k.0.known)
+    subst (TellsAtMost VALUE_MAX) k.1 (reply_small t past w act d d.limit.1 acc k.0.known)

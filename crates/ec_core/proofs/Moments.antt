@@ -1,7 +1,7 @@
--- Each entry of an accepted history is right at its own moment, and the first fault of a list is the first.
-use Rattle.std.proofs.Common.{◌≡◌, ℕ, zero, suc, ◌<◌, Bool, true, false, List, [], ◌∷◌, ◌++◌, Some, Ok, refl, ap, sym, ◌∙◌, arith, subst, cond, reverse, take, slice_get, append_assoc}
+-- Each entry of an accepted history is right at its own moment.
+use Rattle.std.proofs.Common.{◌≡◌, ℕ, zero, suc, List, [], ◌∷◌, ◌++◌, Some, Ok, ap, sym, ◌∙◌, subst, reverse, take, slice_get, append_assoc}
 use Rattle.std.proofs.lemmas.List.{reverse-append}
-use Rattle.ec_count.specs.Tables.{Tables, first_that}
+use Rattle.ec_count.specs.Tables.{Tables}
 use Rattle.ec_core.specs.declared.act.Entry.{Entry}
 use Rattle.ec_core.specs.Acceptance.{answer_of, IsAccepted}
 
@@ -25,21 +25,15 @@ accepted_at t h k x acc at =
     let whole : reverse h ≡ reverse r.0 ++ x ∷ reverse (take k h) = ap reverse r.1 ∙ reverse-append (take k h) (x ∷ r.0) ∙ turned (reverse (take k h)) x r.0 in
     (accepted_before t (reverse r.0) (x ∷ reverse (take k h)) (subst (IsAccepted t) whole acc)).0
 
-below_first : {F : Type 0} (x : Bool × F) (xs : List (Bool × F)) (i : ℕ) → x.0 ≡ false
-    → ((k : ℕ) (y : Bool × F) → k < i → slice_get xs k ≡ Some y → y.0 ≡ false)
-    → (k : ℕ) (y : Bool × F) → k < suc i → slice_get (x ∷ xs) k ≡ Some y → y.0 ≡ false
-below_first {F} x xs i off h zero y lt at = (let same : x ≡ y = cc in ap (λ (z : Bool × F). z.0) (sym same) ∙ off)
-below_first x xs i off h (suc k) y lt at = h k y (omega arith) at
+-- an entry that stands after these was the answer after them
+pub answered_after : (t : Tables) (h done others : List Entry) (x : Entry) → IsAccepted t (reverse h) → done ++ x ∷ others ≡ h
+    → answer_of t (reverse done) x.worker x.act ≡ Ok x.reply
+answered_after t h done others x acc is =
+    let whole : reverse h ≡ reverse others ++ x ∷ reverse done = ap reverse (sym is) ∙ reverse-append done (x ∷ others) ∙ turned (reverse done) x others in
+    (accepted_before t (reverse others) (x ∷ reverse done) (subst (IsAccepted t) whole acc)).0
 
-pair_is : {F : Type 0} (x : Bool × F) (f : F) → x.0 ≡ true → x.1 ≡ f → x ≡ (true, f)
-pair_is {F} x f e q = (let p : (x.0, x.1) ≡ (true, f) = cc in p)
-
--- the first fault is that of a test that holds, and no test before it does
-pub first_is : {F : Type 0} (tests : List (Bool × F)) (f : F) → first_that tests ≡ Some f
-    → (i : ℕ) × (slice_get tests i ≡ Some (true, f)) × ((k : ℕ) (x : Bool × F) → k < i → slice_get tests k ≡ Some x → x.0 ≡ false)
-first_is [] f h = cc
-first_is {F} (x ∷ xs) f h =
-    elim x.0 as (λ b. x.0 ≡ b → cond b (Some x.1) (first_that xs) ≡ Some f → (i : ℕ) × (slice_get (x ∷ xs) i ≡ Some (true, f)) × ((k : ℕ) (y : Bool × F) → k < i → slice_get (x ∷ xs) k ≡ Some y → y.0 ≡ false)) [
-      | true ↦ λ e g. (let q : x.1 ≡ f = cc in (zero, ap Some (pair_is x f e q), λ k y lt at. absurd (omega arith)))
-      | false ↦ λ e g. (let r = first_is xs f g in (suc r.0, r.1, below_first x xs r.0 e r.2))
-    ] refl h
+-- and what came before it is accepted
+pub accepted_until : (t : Tables) (h done others : List Entry) → IsAccepted t (reverse h) → done ++ others ≡ h → IsAccepted t (reverse done)
+accepted_until t h done others acc is =
+    let whole : reverse h ≡ reverse others ++ reverse done = ap reverse (sym is) ∙ reverse-append done others in
+    accepted_before t (reverse others) (reverse done) (subst (IsAccepted t) whole acc)

@@ -1,10 +1,14 @@
 -- What silent workers did leaves no trace in what the others are told.
-use Rattle.std.proofs.Common.{◌≡◌, ℕ, zero, suc, ◌+◌, ◌%◌, Bool, true, false, not, ◌&&◌, List, [], ◌∷◌, length, Option, Some, None, is_some, unwrap_or, nat_le, refl, ap, sym, ◌∙◌, cond, ◌==◌, map}
+use Rattle.std.proofs.Common.{◌≡◌, ℕ, zero, suc, ◌+◌, ◌%◌, Bool, true, false, not, ◌&&◌, ◌||◌, List, [], ◌∷◌, ◌++◌, length, reverse, All, Option, Some, None, is_some, unwrap_or, nat_le, Ok, arith, refl, ap, sym, ◌∙◌, cond, ◌==◌, map}
 use Rattle.std.specs.Option.{option_map, option_map_or}
 use Rattle.std.proofs.lemmas.Bool.{eqb-true}
 use Rattle.std.proofs.Math.Nat.{zero-add}
-use Rattle.std.proofs.lemmas.List.{length-map}
-use Rattle.ec_count.specs.Tables.{Tables, may_take, may_write}
+use Rattle.std.proofs.lemmas.List.{length-map, reverse-append, append-nil}
+use Rattle.std.proofs.lemmas.List.Elements.{filter-append}
+use Rattle.ec_count.specs.Tables.{Tables, may_take, may_write, is_silent}
+use Rattle.ec_count.specs.Members.{is_member}
+use Rattle.ec_count.specs.Laws.{HasNoRight}
+use Rattle.ec_count.proofs.Quiet.{silent_has_none}
 use Rattle.ec_core.specs.declared.act.Act.{Act}
 use Rattle.ec_core.specs.declared.act.Act.TheVariants.{Advance, Read, Await, Go, Ticket, Put, Get}
 use Rattle.ec_core.specs.declared.act.Reply.TheVariants.{Number, Pending}
@@ -13,25 +17,26 @@ use Rattle.ec_core.specs.Counts.{component_total, issued, cell_value, is_advance
 use Rattle.ec_core.specs.Calls.{CallSoFar, under_way, gone_on, is_pending}
 use Rattle.ec_core.specs.Rounds.{event_or, width, sum_read, next_component, round_reply, read_reply, go_reply}
 use Rattle.ec_core.specs.Acceptance.{reply_of, answer_of, refusal_of, refusal_in, refused_or, has_right, is_at_limit, IsAccepted}
-use Rattle.ec_core.specs.Silence.{without, IsSilent}
+use Rattle.ec_core.specs.Silence.{without}
 use Rattle.ec_core.proofs.Answering.{allowed}
+use Rattle.ec_core.proofs.Moments.{accepted_until, answered_after}
 
 never : (b : Bool) → (b && false) ≡ false
 never true = refl
 never false = refl
 
-comp_without : (t : Tables) (s : ℕ → Bool) (e c : ℕ) (past : List Entry) → ((w : ℕ) → s w ≡ true → IsSilent t w) → component_total t e c (without s past) ≡ component_total t e c past
+comp_without : (t : Tables) (s : ℕ → Bool) (e c : ℕ) (past : List Entry) → ((w : ℕ) → s w ≡ true → HasNoRight t w) → component_total t e c (without s past) ≡ component_total t e c past
 unfolding component_total
 comp_without t s e c [] silent = refl
 comp_without t s e c (x ∷ past) silent =
-    elim (s x.worker) as (λ b. s x.worker ≡ b → component_total t e c (cond b (without s past) (x ∷ without s past)) ≡ cond (is_advance e x.act && is_place c (component_at t e past x.worker)) 1 0 + component_total t e c past) [
+    elim (s x.worker) as (λ b. s x.worker ≡ b → component_total t e c (cond (not b) (x ∷ without s past) (without s past)) ≡ cond (is_advance e x.act && is_place c (component_at t e past x.worker)) 1 0 + component_total t e c past) [
       | true ↦ λ h.
           (let off : (is_advance e x.act && is_place c (component_at t e past x.worker)) ≡ false = ap (λ o. is_advance e x.act && is_place c o) ((silent x.worker h).signals e) ∙ never (is_advance e x.act) in
           comp_without t s e c past silent ∙ sym (zero-add (component_total t e c past)) ∙ ap (λ b. cond b 1 0 + component_total t e c past) (sym off))
       | false ↦ λ h. ap (λ n. cond (is_advance e x.act && is_place c (component_at t e past x.worker)) 1 0 + n) (comp_without t s e c past silent)
     ] refl
 
-no_ticket : (t : Tables) (past : List Entry) (w q : ℕ) (act : Act) → not (has_right t past w act) ≡ false → IsSilent t w → is_ticket q act ≡ false
+no_ticket : (t : Tables) (past : List Entry) (w q : ℕ) (act : Act) → not (has_right t past w act) ≡ false → HasNoRight t w → is_ticket q act ≡ false
 no_ticket t past w q (Ticket r) right silent = (let quiet : may_take t r w ≡ false = silent.takes r in cc)
 no_ticket t past w q (Advance f) right silent = refl
 no_ticket t past w q (Read f) right silent = refl
@@ -40,7 +45,7 @@ no_ticket t past w q Go right silent = refl
 no_ticket t past w q (Put x v) right silent = refl
 no_ticket t past w q (Get x) right silent = refl
 
-no_put : (t : Tables) (past : List Entry) (w x : ℕ) (act : Act) → not (has_right t past w act) ≡ false → IsSilent t w → put_in x act ≡ None
+no_put : (t : Tables) (past : List Entry) (w x : ℕ) (act : Act) → not (has_right t past w act) ≡ false → HasNoRight t w → put_in x act ≡ None
 no_put t past w x (Put y v) right silent = (let quiet : may_write t y w ≡ false = silent.writes y in cc)
 no_put t past w x (Advance f) right silent = refl
 no_put t past w x (Read f) right silent = refl
@@ -49,22 +54,22 @@ no_put t past w x Go right silent = refl
 no_put t past w x (Ticket q) right silent = refl
 no_put t past w x (Get y) right silent = refl
 
-issued_without : (t : Tables) (s : ℕ → Bool) (q : ℕ) (past : List Entry) → IsAccepted t past → ((w : ℕ) → s w ≡ true → IsSilent t w) → issued q (without s past) ≡ issued q past
+issued_without : (t : Tables) (s : ℕ → Bool) (q : ℕ) (past : List Entry) → IsAccepted t past → ((w : ℕ) → s w ≡ true → HasNoRight t w) → issued q (without s past) ≡ issued q past
 unfolding issued
 issued_without t s q [] acc silent = refl
 issued_without t s q (x ∷ past) acc silent =
-    elim (s x.worker) as (λ b. s x.worker ≡ b → issued q (cond b (without s past) (x ∷ without s past)) ≡ cond (is_ticket q x.act) 1 0 + issued q past) [
+    elim (s x.worker) as (λ b. s x.worker ≡ b → issued q (cond (not b) (x ∷ without s past) (without s past)) ≡ cond (is_ticket q x.act) 1 0 + issued q past) [
       | true ↦ λ h.
           (let off : is_ticket q x.act ≡ false = no_ticket t past x.worker q x.act (allowed t past x.worker x.act x.reply acc.0).0.right (silent x.worker h) in
           issued_without t s q past acc.1 silent ∙ sym (zero-add (issued q past)) ∙ ap (λ b. cond b 1 0 + issued q past) (sym off))
       | false ↦ λ h. ap (λ n. cond (is_ticket q x.act) 1 0 + n) (issued_without t s q past acc.1 silent)
     ] refl
 
-cell_without : (t : Tables) (s : ℕ → Bool) (y : ℕ) (past : List Entry) → IsAccepted t past → ((w : ℕ) → s w ≡ true → IsSilent t w) → cell_value y (without s past) ≡ cell_value y past
+cell_without : (t : Tables) (s : ℕ → Bool) (y : ℕ) (past : List Entry) → IsAccepted t past → ((w : ℕ) → s w ≡ true → HasNoRight t w) → cell_value y (without s past) ≡ cell_value y past
 unfolding cell_value
 cell_without t s y [] acc silent = refl
 cell_without t s y (x ∷ past) acc silent =
-    elim (s x.worker) as (λ b. s x.worker ≡ b → cell_value y (cond b (without s past) (x ∷ without s past)) ≡ unwrap_or (put_in y x.act) (cell_value y past)) [
+    elim (s x.worker) as (λ b. s x.worker ≡ b → cell_value y (cond (not b) (x ∷ without s past) (without s past)) ≡ unwrap_or (put_in y x.act) (cell_value y past)) [
       | true ↦ λ h.
           (let off : put_in y x.act ≡ None = no_put t past x.worker y x.act (allowed t past x.worker x.act x.reply acc.0).0.right (silent x.worker h) in
           cell_without t s y past acc.1 silent ∙ ap (λ o. unwrap_or o (cell_value y past)) (sym off))
@@ -92,7 +97,7 @@ under_way_without : (s : ℕ → Bool) (w : ℕ) (past : List Entry) → s w ≡
 unfolding under_way
 under_way_without s w [] h = refl
 under_way_without s w (x ∷ past) h =
-    elim (s x.worker) as (λ b. s x.worker ≡ b → under_way w (cond b (without s past) (x ∷ without s past))
+    elim (s x.worker) as (λ b. s x.worker ≡ b → under_way w (cond (not b) (x ∷ without s past) (without s past))
     ≡ option_map (call_without s) (cond (x.worker == w) (cond (is_pending x.reply) (gone_on x.act past (under_way w past)) None) (under_way w past))) [
       | true ↦ λ k.
           (elim (x.worker == w) as (λ b. (x.worker == w) ≡ b → under_way w (without s past) ≡ option_map (call_without s) (cond b (cond (is_pending x.reply) (gone_on x.act past (under_way w past)) None) (under_way w past))) [
@@ -111,13 +116,13 @@ is_some_without : (s : ℕ → Bool) (o : Option CallSoFar) → is_some (option_
 is_some_without s None = refl
 is_some_without s (Some call) = refl
 
-sum_without : (t : Tables) (s : ℕ → Bool) (e i : ℕ) (moments : List (List Entry)) → ((w : ℕ) → s w ≡ true → IsSilent t w) → sum_read t e i (map (without s) moments) ≡ sum_read t e i moments
+sum_without : (t : Tables) (s : ℕ → Bool) (e i : ℕ) (moments : List (List Entry)) → ((w : ℕ) → s w ≡ true → HasNoRight t w) → sum_read t e i (map (without s) moments) ≡ sum_read t e i moments
 unfolding sum_read
 sum_without t s e zero moments silent = refl
 sum_without t s e (suc i) [] silent = refl
 sum_without t s e (suc i) (p ∷ moments) silent = (let here = comp_without t s e i p silent in let rest = sum_without t s e i moments silent in cc)
 
-read_without : (t : Tables) (s : ℕ → Bool) (op : Act) (past : List Entry) (moments : List (List Entry)) → ((w : ℕ) → s w ≡ true → IsSilent t w)
+read_without : (t : Tables) (s : ℕ → Bool) (op : Act) (past : List Entry) (moments : List (List Entry)) → ((w : ℕ) → s w ≡ true → HasNoRight t w)
     → read_reply t op (without s past) (map (without s) moments) ≡ read_reply t op past moments
 unfolding read_reply
 read_without t s op past moments silent =
@@ -126,12 +131,12 @@ read_without t s op past moments silent =
     ap (λ n. cond (nat_le (width t e) (n % width t e + 1)) (round_reply op (sum_read t e (suc (n % width t e)) (without s past ∷ map (without s) moments))) Pending) same
     ∙ ap (λ r. cond (nat_le (width t e) (next_component t e moments + 1)) (round_reply op r) Pending) (sum_without t s e (suc (next_component t e moments)) (past ∷ moments) silent)
 
-go_without : (t : Tables) (s : ℕ → Bool) (past : List Entry) (o : Option CallSoFar) → ((w : ℕ) → s w ≡ true → IsSilent t w)
+go_without : (t : Tables) (s : ℕ → Bool) (past : List Entry) (o : Option CallSoFar) → ((w : ℕ) → s w ≡ true → HasNoRight t w)
     → go_reply t (without s past) (option_map (call_without s) o) ≡ go_reply t past o
 go_without t s past None silent = refl
 go_without t s past (Some call) silent = read_without t s call.op past call.moments silent
 
-reply_without : (t : Tables) (s : ℕ → Bool) (past : List Entry) (w : ℕ) (act : Act) → IsAccepted t past → ((v : ℕ) → s v ≡ true → IsSilent t v) → s w ≡ false
+reply_without : (t : Tables) (s : ℕ → Bool) (past : List Entry) (w : ℕ) (act : Act) → IsAccepted t past → ((v : ℕ) → s v ≡ true → HasNoRight t v) → s w ≡ false
     → reply_of t (without s past) w act ≡ reply_of t past w act
 reply_without t s past w (Advance e) acc silent kept = refl
 reply_without t s past w (Read e) acc silent kept = read_without t s (Read e) past [] silent
@@ -141,12 +146,12 @@ reply_without t s past w (Ticket q) acc silent kept = ap Number (issued_without 
 reply_without t s past w (Put x v) acc silent kept = refl
 reply_without t s past w (Get x) acc silent kept = ap Number (cell_without t s x past acc silent)
 
-full_in : (t : Tables) (s : ℕ → Bool) (e : ℕ) (past : List Entry) (o : Option ℕ) → ((v : ℕ) → s v ≡ true → IsSilent t v)
+full_in : (t : Tables) (s : ℕ → Bool) (e : ℕ) (past : List Entry) (o : Option ℕ) → ((v : ℕ) → s v ≡ true → HasNoRight t v)
     → option_map_or (λ c. component_total t e c (without s past) == t.limit) o false ≡ option_map_or (λ c. component_total t e c past == t.limit) o false
 full_in t s e past None silent = refl
 full_in t s e past (Some c) silent = ap (λ n. n == t.limit) (comp_without t s e c past silent)
 
-full_without : (t : Tables) (s : ℕ → Bool) (past : List Entry) (w : ℕ) (act : Act) → IsAccepted t past → ((v : ℕ) → s v ≡ true → IsSilent t v)
+full_without : (t : Tables) (s : ℕ → Bool) (past : List Entry) (w : ℕ) (act : Act) → IsAccepted t past → ((v : ℕ) → s v ≡ true → HasNoRight t v)
     → is_at_limit t (without s past) w act ≡ is_at_limit t past w act
 full_without t s past w (Advance e) acc silent = full_in t s e past (component_at t e past w) silent
 full_without t s past w (Ticket q) acc silent = ap (λ n. n == t.limit) (issued_without t s q past acc silent)
@@ -166,7 +171,7 @@ right_without t s past w (Put x v) = refl
 right_without t s past w (Get x) = refl
 
 -- the others are answered alike
-pub answer_without : (t : Tables) (s : ℕ → Bool) (past : List Entry) (w : ℕ) (act : Act) → IsAccepted t past → ((v : ℕ) → s v ≡ true → IsSilent t v) → s w ≡ false
+pub answer_without : (t : Tables) (s : ℕ → Bool) (past : List Entry) (w : ℕ) (act : Act) → IsAccepted t past → ((v : ℕ) → s v ≡ true → HasNoRight t v) → s w ≡ false
     → answer_of t (without s past) w act ≡ answer_of t past w act
 unfolding answer_of
 answer_without t s past w act acc silent kept =
@@ -176,10 +181,47 @@ answer_without t s past w act acc silent kept =
     ∙ ap (refused_or (refusal_of t past w act)) (reply_without t s past w act acc silent kept)
 
 -- what is left is accepted
-pub accepted_without : (t : Tables) (s : ℕ → Bool) (past : List Entry) → IsAccepted t past → ((v : ℕ) → s v ≡ true → IsSilent t v) → IsAccepted t (without s past)
+pub accepted_without : (t : Tables) (s : ℕ → Bool) (past : List Entry) → IsAccepted t past → ((v : ℕ) → s v ≡ true → HasNoRight t v) → IsAccepted t (without s past)
 accepted_without t s [] acc silent = tt
 accepted_without t s (x ∷ past) acc silent =
-    elim (s x.worker) as (λ b. s x.worker ≡ b → IsAccepted t (cond b (without s past) (x ∷ without s past))) [
+    elim (s x.worker) as (λ b. s x.worker ≡ b → IsAccepted t (cond (not b) (x ∷ without s past) (without s past))) [
       | true ↦ λ h. accepted_without t s past acc.1 silent
       | false ↦ λ h. (answer_without t s past x.worker x.act acc.1 silent h ∙ acc.0, accepted_without t s past acc.1 silent)
     ] refl
+
+or_member : (a b : Bool) (P : Type 0) → (a ≡ true → P) → (b ≡ true → P) → (a || b) ≡ true → P
+or_member true b P f g h = f refl
+or_member false b P f g h = g h
+
+-- each of the listed workers is silent
+pub members_silent : (t : Tables) (ws : List ℕ) → All (λ w. is_silent t w ≡ true) ws → (w : ℕ) → is_member w ws ≡ true → is_silent t w ≡ true
+members_silent t [] all w h = cc
+members_silent t (v ∷ vs) all w h =
+    or_member (v == w) (is_member w vs) (is_silent t w ≡ true)
+    (λ e. ap (is_silent t) (sym (eqb-true v w e)) ∙ all 0 v (omega arith))
+    (λ e. members_silent t vs (λ k d lt. all (suc k) d (omega arith)) w e) h
+
+filter_end : (s : ℕ → Bool) (h : List Entry) (x : Entry) → without s (h ++ x ∷ []) ≡ without s h ++ cond (not (s x.worker)) (x ∷ []) []
+filter_end s h x = filter-append (λ y. not (s y.worker)) h (x ∷ [])
+
+turned_end : (s : ℕ → Bool) (b : Bool) (h : List Entry) (x : Entry) → reverse h ++ cond b (x ∷ []) [] ≡ reverse (cond b (x ∷ h) h)
+turned_end s true h x = sym (reverse-append (x ∷ []) h)
+turned_end s false h x = append-nil (reverse h)
+
+-- the past without some workers is that of the history without them
+pub without_reverse : (s : ℕ → Bool) (h : List Entry) → without s (reverse h) ≡ reverse (without s h)
+without_reverse s [] = refl
+without_reverse s (x ∷ h) =
+    ap (without s) (reverse-append (x ∷ []) h) ∙ filter_end s (reverse h) x
+    ∙ ap (λ r. r ++ cond (not (s x.worker)) (x ∷ []) []) (without_reverse s h) ∙ turned_end s (not (s x.worker)) (without s h) x
+
+pub no_right : (t : Tables) (s : ℕ → Bool) → ((w : ℕ) → s w ≡ true → is_silent t w ≡ true) → (w : ℕ) → s w ≡ true → HasNoRight t w
+no_right t s silent w h = (silent_has_none t w (silent w h)).1
+
+-- a kept entry is answered as it was
+pub kept_answer : (t : Tables) (s : ℕ → Bool) (h done others : List Entry) (x : Entry) → IsAccepted t (reverse h) → ((w : ℕ) → s w ≡ true → is_silent t w ≡ true)
+    → done ++ x ∷ others ≡ h → s x.worker ≡ false → answer_of t (reverse (without s done)) x.worker x.act ≡ Ok x.reply
+kept_answer t s h done others x acc silent is kept =
+    ap (λ past. answer_of t past x.worker x.act) (sym (without_reverse s done))
+    ∙ answer_without t s (reverse done) x.worker x.act (accepted_until t h done (x ∷ others) acc is) (no_right t s silent) kept
+    ∙ answered_after t h done others x acc is

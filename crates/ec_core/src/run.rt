@@ -1,5 +1,5 @@
 //! Recorded runs.
-ghost use Rattle.std.specs.Prelude.{◌≡◌, List, [], ◌∷◌, ◌++◌, length, reverse, slice_get, Ok, IfOk, OnErr, MatchResult};
+ghost use Rattle.std.specs.Prelude.{◌≡◌, List, [], ◌∷◌, ◌++◌, length, reverse, slice_get, Ok, IfOk, OnOk, OnErr, MatchResult};
 ghost use Rattle.ec_count.specs.Tables.{IsDeclared};
 ghost use Rattle.ec_core.specs.Acceptance.{answer_of, IsAccepted};
 ghost use Rattle.ec_core.specs.Standing.{StandsFor};
@@ -109,6 +109,22 @@ impl Run {
         })
     }
 
+    /// The allocator that the run was opened with.
+    pub(crate) fn allocator(&self) -> Global {
+        self.entries.allocator()
+    }
+
+    /// Takes in an entry that the history asks for, or changes nothing for want of memory.
+    pub(crate) fn take_in(&mut self, entry: Entry) -> Result<(), AllocError>
+        requires { answer_of self.old.setup (reverse self.old.entries) entry.worker entry.act ≡ Ok entry.reply }
+        ensures ok { OnOk result (self.new ≡ record self.old { entries = self.old.entries ++ entry ∷ [] }) }
+        ensures err { OnErr result (self.new ≡ self.old) }
+    {
+        self.entries.push(entry)?;
+        self.world.take_in(&entry);
+        Ok(())
+    }
+
     /// One step, which adds its entry. It is refused as a step of its world is. Memory is wanted only where the
     /// step is right, and taken before anything is changed.
     pub fn step(&mut self, worker: WorkerId, act: Act) -> Result<Reply, StepFault>
@@ -124,10 +140,9 @@ impl Run {
             Err(refusal) => return Err(StepFault::Refused(refusal)),
         };
         let entry = Entry { worker, act, reply };
-        if self.entries.push(entry).is_err() {
-            return Err(StepFault::Memory);
+        match self.take_in(entry) {
+            Ok(()) => Ok(reply),
+            Err(_) => Err(StepFault::Memory),
         }
-        self.world.take_in(&entry);
-        Ok(reply)
     }
 }

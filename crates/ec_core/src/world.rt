@@ -282,7 +282,6 @@ impl World {
         ensures answer { (h : List Entry) → StandsFor self.now h → result ≡ answer_of self.now.setup (reverse h) worker act.now }
         ensures small { (h : List Entry) → StandsFor self.now h → IfOk result (TellsAtMost VALUE_MAX) }
     {
-        let _limit = self.setup.limit().get();
         named(act);
         let _worker = worker.get();
         if let Some(refusal) = self.refusal(worker, act) {

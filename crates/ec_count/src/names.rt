@@ -96,11 +96,19 @@ impl Names {
         ensures ok { OnOk result (self.new ≡ self.old ++ (name.now, target) ∷ []) }
         ensures err { OnErr result (self.new ≡ self.old) }
     {
-        let bytes = name.as_bytes();
-        if let Some(fault) = self.fault(bytes) {
+        self.add_bytes(name.as_bytes(), target)
+    }
+
+    /// Adds the name of these bytes at the end.
+    pub fn add_bytes(&mut self, name: &[u8], target: Target) -> Result<(), NameFault>
+        ensures fault { MatchOption (name_fault name.now self.old) (IfErr result (λ fault. fault ≡ NameFault.Memory)) (λ fault. result ≡ Err fault) }
+        ensures ok { OnOk result (self.new ≡ self.old ++ (name.now, target) ∷ []) }
+        ensures err { OnErr result (self.new ≡ self.old) }
+    {
+        if let Some(fault) = self.fault(name) {
             return Err(fault);
         }
-        let Ok(key) = Vec::from_slice(*self.table.allocator(), bytes) else {
+        let Ok(key) = Vec::from_slice(*self.table.allocator(), name) else {
             return Err(NameFault::Memory);
         };
         let Ok(_) = self.table.insert(key, target) else {

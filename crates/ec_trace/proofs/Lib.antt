@@ -5,3 +5,9 @@ pub mod CellLemmas
 pub mod Goes
 pub mod Stood
 pub mod EntryPutLemmas
+pub mod Declarable
+pub mod Listed
+pub mod Phrases
+pub mod Standing
+pub mod Stops
+pub mod WorkersLine

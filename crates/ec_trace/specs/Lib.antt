@@ -1,8 +1,12 @@
 pub mod Sorts
 pub mod Headed
 pub mod Outline
+pub mod Outlined
 pub mod Spelling
 pub mod Grammar
+pub mod Lists
+pub mod Form
+pub mod Kinds
 pub mod Heading
 pub mod Spelled
 pub mod Named
@@ -10,3 +14,4 @@ pub mod Entries
 pub mod Recounted
 pub mod Step
 pub mod Outcome
+pub mod HeadingLaws

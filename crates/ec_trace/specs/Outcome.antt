@@ -51,13 +51,12 @@ unfoldable pub start : Place
 start = record { stage = Opening; number = 1; part = [] }
 
 -- a text whose lines have no fault is whole where its last line came, with its LF
-abbrev pub ended_in : Stage → List ℕ → Result Recounted TraceFault
-ended_in (Ended t) [] = Ok t
-ended_in (Ended t) (b ∷ bs) = Err Unfinished
-ended_in _ part = Err Unfinished
+abbrev pub traced_in : Stage → Result Recounted TraceFault
+traced_in (Ended t) = Ok t
+traced_in _ = Err Unfinished
 
 abbrev pub ended_at : Place → Result Recounted TraceFault
-ended_at p = ended_in p.stage p.part
+ended_at p = if length p.part == 0 then traced_in p.stage else Err Unfinished
 
 abbrev pub bounded : ℕ → List ℕ → Result Place TraceFault → Result Recounted TraceFault
 bounded max xs (Err f) = Err f

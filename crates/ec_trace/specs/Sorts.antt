@@ -39,3 +39,9 @@ abbrev pub needs_other : Sort → Bool
 needs_other sorts.EventCount = false
 needs_other sorts.Sequencer = false
 needs_other sorts.Cells = false
+
+-- whether no worker may stand in both lists
+abbrev pub keeps_apart : Sort → Bool
+keeps_apart sorts.EventCount = false
+keeps_apart sorts.Sequencer = false
+keeps_apart sorts.Cells = false

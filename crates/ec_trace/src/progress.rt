@@ -118,14 +118,9 @@ impl Progress {
     {
         self.rest()?;
         let Progress { stage, line, .. } = self;
-        match stage {
-            Stage::Ended(traced) => {
-                if line.is_empty() {
-                    return Ok(traced);
-                }
-                Err(TraceFault::Unfinished)
-            }
-            _ => Err(TraceFault::Unfinished),
+        if !line.is_empty() {
+            return Err(TraceFault::Unfinished);
         }
+        stage.finish()
     }
 }

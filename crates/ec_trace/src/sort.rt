@@ -1,6 +1,6 @@
 //! The sorts of declarations.
 ghost use Rattle.std.specs.Prelude.{◌≡◌, option_map};
-ghost use Rattle.ec_trace.specs.Sorts.{sort_word, sort_of, has_number, opener, other, needs_other};
+ghost use Rattle.ec_trace.specs.Sorts.{sort_word, sort_of, has_number, opener, other, needs_other, keeps_apart};
 
 /// What a declaration declares.
 #[derive(Clone, Copy, Debug, PartialEq, Eq)]
@@ -73,6 +73,15 @@ impl Sort {
     /// Whether the second list must be there.
     pub fn needs_other(self) -> bool
         ensures { result ≡ needs_other self }
+    {
+        match self {
+            Sort::EventCount | Sort::Sequencer | Sort::Cells => false,
+        }
+    }
+
+    /// Whether no worker may stand in both lists.
+    pub fn keeps_apart(self) -> bool
+        ensures { result ≡ keeps_apart self }
     {
         match self {
             Sort::EventCount | Sort::Sequencer | Sort::Cells => false,

@@ -1,9 +1,10 @@
 //! What the lines of a trace so far have built.
-ghost use Rattle.std.specs.Prelude.{MatchResult, ◌≡◌, true};
+ghost use Rattle.std.specs.Prelude.{◌≡◌, true, Ok};
 ghost use Rattle.ec_trace.specs.Heading.{Lines};
 ghost use Rattle.ec_trace.specs.Step.{Steps, step, limit_of, is_ended, is_declaring, run_on, ended_on};
+ghost use Rattle.ec_trace.specs.Outcome.{traced_in};
 
-use crate::fault::{LineFault, StageFault};
+use crate::fault::{LineFault, StageFault, TraceFault};
 use crate::heading::{HeadFault, Heading};
 use crate::traced::Traced;
 use ec_count::Limit;
@@ -124,21 +125,19 @@ impl Stage {
         }
     }
 
-    /// Begins the run.
+    /// Begins the run. Without memory for it the stage is left at its opening.
     #[cold]
     #[inline(never)]
     fn run(&mut self, alloc: Global) -> Result<(), StageFault>
-        ensures { MatchResult result (λ _. self.new ≡ run_on self.old) (λ fault. fault ≡ StageFault.Memory) }
+        ensures { Steps result (Ok (run_on self.old)) self.new }
     {
-        match mem::replace(self, Stage::Opening) {
-            Stage::Declaring(heading) => {
-                let Ok(traced) = Traced::open(alloc, heading) else {
-                    return Err(StageFault::Memory);
-                };
-                *self = Stage::Running(traced);
-            }
-            other => *self = other,
-        }
+        let Stage::Declaring(heading) = mem::replace(self, Stage::Opening) else {
+            return Err(StageFault::Memory);
+        };
+        let Ok(traced) = Traced::open(alloc, heading) else {
+            return Err(StageFault::Memory);
+        };
+        *self = Stage::Running(traced);
         Ok(())
     }
 
@@ -152,6 +151,18 @@ impl Stage {
             Stage::Running(traced) => Stage::Ended(traced),
             other => other,
         };
+    }
+
+    /// The trace, where its last line came.
+    pub(crate) fn finish(self) -> Result<Traced, TraceFault>
+        ensures { result ≡ traced_in self }
+    {
+        match self {
+            Stage::Ended(traced) => Ok(traced),
+            Stage::Opening | Stage::Limiting | Stage::Declaring(_) | Stage::Running(_) => {
+                Err(TraceFault::Unfinished)
+            }
+        }
     }
 
     /// Whether the last line came.

@@ -1,6 +1,5 @@
-use Rattle.std.proofs.Common.{◌≡◌, ◌<◌, ◌^◌, ◌∙◌, ap, sym, arith, reverse, None}
+use Rattle.std.proofs.Common.{◌<◌, ◌∙◌, ap, sym, arith, reverse, None}
 use Rattle.ec_core.specs.Acceptance.{refused_or}
-use Rattle.ec_core.specs.Standing.{State}
 use Rattle.ec_core.specs.Fields.{reply_in}
 use Rattle.ec_core.proofs.Bounds.{told_small}
 use Rattle.ec_core.proofs.Stepping.{answer_is}
@@ -20,6 +19,4 @@ returns-clause-answer c = λ h st.
 
 pub returns-clause-small : goal.returns-clause-small
 returns-clause-small c = λ h st.
-    (let limit : c.limit.result ≡ c.args.self.now.setup.limit = c.limit.ensures ∙ ap (λ (s : State). s.setup.limit) c.self.view_is in
-    let low : c.args.self.now.setup.limit < 2 ^ 32 = omega arith in
-    told_small c.args.self.now.setup (reverse h) c.args.worker c.args.act.now c.reply.result st.declared low st.accepted (sym (returns-clause-answer c h st)))
+    told_small c.args.self.now.setup (reverse h) c.args.worker c.args.act.now c.reply.result st.declared st.accepted (sym (returns-clause-answer c h st))

@@ -5,19 +5,18 @@ use Rattle.indexmap.proofs.CallerLemmas.{insert_entry-new}
 use Rattle.ec_count.specs.declared.target.Target.{Target}
 use Rattle.ec_count.specs.Names.{AreNames, by_bytes, name_fault}
 use Rattle.ec_count.proofs.Named.{find_lookup, by_bytes-append, AreNames-push, no_fault, none_left}
-use Rattle.ec_count.proofs.names.Names.add.Goals as goal
+use Rattle.ec_count.proofs.names.Names.add_bytes.Goals as goal
 
 free : (c : goal.In-Ok-insert) → name_fault c.args.name.now (by_bytes c.self.inside.table.entries) ≡ None
 free c =
-    ap (λ (n : List ℕ). name_fault n (by_bytes c.self.inside.table.entries)) (sym c.as_bytes-bytes.ensures.value)
-    ∙ ap (name_fault c.as_bytes-bytes.result.now) c.self.view_is
+    ap (name_fault c.args.name.now) c.self.view_is
     ∙ sym c.fault.ensures
     ∙ none_left c.fault.result c.in_default.not-Some
 
 -- the entries after the insertion
 added : (c : goal.In-Ok-insert) → by_bytes c.insert.new.self.entries ≡ by_bytes c.self.inside.table.entries ++ (c.args.name.now, c.args.target) ∷ []
 added c =
-    let key : c.in-Ok.key.items ≡ c.args.name.now = c.in-Ok.ensures.items ∙ c.as_bytes-bytes.ensures.value in
+    let key : c.in-Ok.key.items ≡ c.args.name.now = c.in-Ok.ensures.items in
     let none : lookup (λ k. bytes_eq c.in-Ok.key.items k.items) c.self.inside.table.entries ≡ None =
     ap (λ (n : List ℕ). lookup (λ k. bytes_eq n k.items) c.self.inside.table.entries) key
     ∙ sym (find_lookup c.args.name.now c.self.inside.table.entries)

@@ -1,0 +1,34 @@
+-- Lists of workers in a line.
+use Rattle.std.specs.Prelude.{ℕ, Bool, false, ◌||◌, List, [], ◌∷◌, Option, Some, None, is_none, bytes_eq}
+use Rattle.std.specs.List.{list_any}
+use Rattle.std.specs.Option.{option_map_or, option_and_then}
+use Rattle.ec_count.specs.Names.{find_name}
+use Rattle.ec_count.specs.declared.target.Target.{Target}
+use Rattle.ec_count.specs.declared.target.Target.TheVariants.{Worker, Event, Sequencer, Cells, Group}
+
+-- the worker that a name stands for, if it stands for one
+abbrev pub worker_of : Target → Option ℕ
+worker_of (Worker w) = Some w
+worker_of _ = None
+
+-- the worker of a name
+abbrev pub worker_in : List (List ℕ × Target) → List ℕ → Option ℕ
+worker_in names w = option_and_then worker_of (find_name w names)
+
+-- the workers that are named in a list; words that name none are left out
+abbrev pub ids_in : List (List ℕ × Target) → List (List ℕ) → List ℕ
+ids_in names [] = []
+ids_in names (w ∷ ws) = option_map_or (λ i. i ∷ ids_in names ws) (worker_in names w) (ids_in names ws)
+
+-- whether a word names no worker
+abbrev pub has_unknown : List (List ℕ × Target) → List (List ℕ) → Bool
+has_unknown names ws = list_any (λ w. is_none (worker_in names w)) ws
+
+-- whether a word stands in the list
+abbrev pub has_word : List ℕ → List (List ℕ) → Bool
+has_word w ws = list_any (λ v. bytes_eq w v) ws
+
+-- whether a word stands twice in the list
+abbrev pub has_word_twice : List (List ℕ) → Bool
+has_word_twice [] = false
+has_word_twice (w ∷ ws) = has_word w ws || has_word_twice ws
