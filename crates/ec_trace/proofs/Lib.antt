@@ -6,6 +6,7 @@ pub mod Goes
 pub mod Stood
 pub mod Blocks
 pub mod Bytes
+pub mod SpelledLemmas
 pub mod Declarable
 pub mod LeadLines
 pub mod LineWords
@@ -19,8 +20,6 @@ pub mod Stops
 pub mod WorkersLine
 pub mod EntryParts
 pub mod Places
-pub mod SpelledLemmas
-pub mod WrittenLemmas
 pub mod LineParts
 pub mod OutlineGrows
 pub mod OutlineNames

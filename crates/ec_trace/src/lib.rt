@@ -28,5 +28,5 @@ pub use progress::LINE_MAX;
 pub use read::{TRACE_MAX, read_trace};
 pub use sort::Sort;
 pub use spell::Spellings;
-pub use write::{put_cell, put_entry, write_entry, write_trace};
+pub use write::{put_cell, put_entry, put_reply, write_entry, write_trace};
 pub use traced::Traced;

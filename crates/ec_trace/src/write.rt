@@ -69,7 +69,7 @@ fn put_act<W: Write>(writer: &mut W, buffered: &mut Buffered, spellings: &Spelli
 }
 
 /// Puts what a worker is told.
-fn put_reply<W: Write>(writer: &mut W, buffered: &mut Buffered, reply: &Reply)
+pub fn put_reply<W: Write>(writer: &mut W, buffered: &mut Buffered, reply: &Reply)
     ensures { Puts (W.contents writer.old) buffered.old (W.contents writer.new) buffered.new (reply_word reply.now) }
 {
     match *reply {

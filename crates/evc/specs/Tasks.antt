@@ -1,0 +1,9 @@
+-- What a task does to the input and the outlets.
+use Rattle.std.specs.Prelude.{ℕ, List}
+use Rattle.evc_task.specs.declared.choice.Task.{Task}
+use Rattle.evc_task.specs.declared.choice.Task.TheVariants.{Check}
+use Rattle.evc_engine.specs.declared.status.Status.{Status}
+use Rattle.evc_engine.specs.Checks.{Outlets, Checks}
+
+abbrev pub Does : Task → List ℕ → Status → Outlets → Outlets → Type 0
+Does Check bytes status old new = Checks bytes status old new

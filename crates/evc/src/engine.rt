@@ -1,0 +1,26 @@
+//! Runs the task that the command line names.
+ghost use Rattle.std.specs.Prelude.{IfSome};
+ghost use Rattle.evc_engine.specs.Checks.{Checks};
+ghost use Rattle.evc.specs.Tasks.{Does};
+
+use evc_engine::{Notes, Status, check};
+use evc_task::Task;
+use std::alloc::Global;
+use std::io::{Read, Write};
+
+/// Does what the task says: the input from `reader`, the text to `out`, the notes to `notes`.
+pub fn engine<R: Read, W: Write, N: Write>(
+    alloc: Global,
+    task: Task,
+    reader: &mut R,
+    out: &mut W,
+    notes: &mut Notes<N>,
+) -> Status
+    ensures { IfSome (R.remaining reader.old) (λ bytes. Does task bytes result
+        (record { out = W.contents out.old; notes = N.contents notes.old.writer; held = notes.old.table })
+        (record { out = W.contents out.new; notes = N.contents notes.new.writer; held = notes.new.table })) }
+{
+    match task {
+        Task::Check => check(alloc, reader, out, notes),
+    }
+}

@@ -1,0 +1,3 @@
+pub mod Undeclared
+pub mod TotalLemmas
+pub mod CheckLemmas

@@ -1,0 +1,96 @@
+-- What is not declared was never raised.
+use Rattle.std.proofs.Common.{◌≡◌, ℕ, zero, suc, ◌+◌, ◌<◌, ◌≤◌, ◌==◌, Bool, true, false, List, [], ◌∷◌, length, Option, Some, None, refl, ap, sym, ◌∙◌, arith, cond, nat_lt, nat_le, slice_get, reverse, unwrap_or}
+use Rattle.std.specs.Option.{option_map_or}
+use Rattle.std.proofs.lemmas.Bool.Decides.{nat_tests}
+use Rattle.ec_count.specs.Tables.{Tables, signallers}
+use Rattle.ec_count.specs.declared.setup.Rights.{Rights}
+use Rattle.ec_core.specs.declared.act.Act.{Act}
+use Rattle.ec_core.specs.declared.act.Act.TheVariants.{Advance, Read, Await, Go, Ticket, Put, Get}
+use Rattle.ec_core.specs.declared.act.Entry.{Entry}
+use Rattle.ec_core.specs.Counts.{total, issued, cell_value, component_total, sum_to, is_ticket, put_in}
+use Rattle.ec_core.specs.Rounds.{width}
+use Rattle.ec_core.specs.Acceptance.{IsAccepted, names_unknown_object}
+use Rattle.ec_core.specs.Standing.{State, StandsFor}
+use Rattle.ec_core.proofs.Totals.{total_is}
+use Rattle.ec_core.proofs.Answering.{allowed}
+
+none_at : (rows : List Rights) (e : ℕ) → length rows ≤ e → length (option_map_or (λ (r : Rights). r.signal) (slice_get rows e) []) ≡ 0
+none_at [] e h = refl
+none_at (r ∷ rows) zero h = absurd (omega arith)
+none_at (r ∷ rows) (suc e) h = none_at rows e (omega arith)
+
+total_none : (t : Tables) (e : ℕ) (past : List Entry) → IsAccepted t past → length t.events ≤ e → total e past ≡ 0
+unfolding sum_to
+total_none t e past acc h = sym (total_is t e past acc) ∙ ap (sum_to (λ c. component_total t e c past)) (none_at t.events e h)
+
+pub shown_total : (t : Tables) (e : ℕ) (past : List Entry) → IsAccepted t past → unwrap_or (cond (nat_lt e (length t.events)) (Some (total e past)) None) 0 ≡ total e past
+shown_total t e past acc =
+    elim (nat_lt e (length t.events)) as (λ b. nat_lt e (length t.events) ≡ b → unwrap_or (cond b (Some (total e past)) None) 0 ≡ total e past) [
+      true ↦ λ q. refl
+    | false ↦ λ q. (let far : length t.events ≤ e = grind arith in sym (total_none t e past acc far))
+    ] refl
+
+-- the total that a world shows, or 0, is that of its history
+pub total_shown : (s : State) (h : List Entry) (e : ℕ) → StandsFor s h
+    → unwrap_or (cond (nat_lt e (length s.setup.events)) (Some (total e (reverse h))) None) 0 ≡ total e (reverse h)
+total_shown s h e st = shown_total s.setup e (reverse h) st.accepted
+
+no_ticket : (t : Tables) (q : ℕ) (act : Act) → names_unknown_object t act ≡ false → length t.takers ≤ q → is_ticket q act ≡ false
+no_ticket t q (Ticket r) known h = grind (arith, nat_tests)
+no_ticket t q (Advance f) known h = refl
+no_ticket t q (Read f) known h = refl
+no_ticket t q (Await f v) known h = refl
+no_ticket t q Go known h = refl
+no_ticket t q (Put x v) known h = refl
+no_ticket t q (Get x) known h = refl
+
+no_put : (t : Tables) (x : ℕ) (act : Act) → names_unknown_object t act ≡ false → length t.cells ≤ x → put_in x act ≡ None
+no_put t x (Put y v) known h = (let off : (y == x) ≡ false = grind (arith, nat_tests) in ap (λ b. cond b (Some v) None) off)
+no_put t x (Ticket r) known h = refl
+no_put t x (Advance f) known h = refl
+no_put t x (Read f) known h = refl
+no_put t x (Await f v) known h = refl
+no_put t x Go known h = refl
+no_put t x (Get y) known h = refl
+
+issued_none : (t : Tables) (q : ℕ) (past : List Entry) → IsAccepted t past → length t.takers ≤ q → issued q past ≡ 0
+unfolding issued
+issued_none t q [] acc h = refl
+issued_none t q (x ∷ past) acc h =
+    (let off = no_ticket t q x.act (allowed t past x.worker x.act x.reply acc.0).0.known h in
+    let rest : issued q past ≡ 0 = issued_none t q past acc.1 h in
+    ap (λ b. cond b 1 0 + issued q past) off ∙ (let none : 0 + issued q past ≡ 0 = omega arith in none))
+
+cell_none : (t : Tables) (x : ℕ) (past : List Entry) → IsAccepted t past → length t.cells ≤ x → cell_value x past ≡ 0
+unfolding cell_value
+cell_none t x [] acc h = refl
+cell_none t x (y ∷ past) acc h =
+    ap (λ o. unwrap_or o (cell_value x past)) (no_put t x y.act (allowed t past y.worker y.act y.reply acc.0).0.known h) ∙ cell_none t x past acc.1 h
+
+shown_issued : (t : Tables) (q : ℕ) (past : List Entry) → IsAccepted t past → unwrap_or (cond (nat_lt q (length t.takers)) (Some (issued q past)) None) 0 ≡ issued q past
+shown_issued t q past acc =
+    elim (nat_lt q (length t.takers)) as (λ b. nat_lt q (length t.takers) ≡ b → unwrap_or (cond b (Some (issued q past)) None) 0 ≡ issued q past) [
+      true ↦ λ e. refl
+    | false ↦ λ e. (let far : length t.takers ≤ q = grind arith in sym (issued_none t q past acc far))
+    ] refl
+
+-- and so are the tickets of a sequencer
+pub issued_shown : (s : State) (h : List Entry) (q : ℕ) → StandsFor s h
+    → unwrap_or (cond (nat_lt q (length s.setup.takers)) (Some (issued q (reverse h))) None) 0 ≡ issued q (reverse h)
+issued_shown s h q st = shown_issued s.setup q (reverse h) st.accepted
+
+shown_cell : (t : Tables) (x : ℕ) (past : List Entry) → IsAccepted t past → unwrap_or (cond (nat_lt x (length t.cells)) (Some (cell_value x past)) None) 0 ≡ cell_value x past
+shown_cell t x past acc =
+    elim (nat_lt x (length t.cells)) as (λ b. nat_lt x (length t.cells) ≡ b → unwrap_or (cond b (Some (cell_value x past)) None) 0 ≡ cell_value x past) [
+      true ↦ λ e. refl
+    | false ↦ λ e. (let far : length t.cells ≤ x = grind arith in sym (cell_none t x past acc far))
+    ] refl
+
+-- and the value of a cell
+pub cell_shown : (s : State) (h : List Entry) (x : ℕ) → StandsFor s h
+    → unwrap_or (cond (nat_lt x (length s.setup.cells)) (Some (cell_value x (reverse h))) None) 0 ≡ cell_value x (reverse h)
+cell_shown s h x st = shown_cell s.setup x (reverse h) st.accepted
+
+-- there are at most 256 cells
+pub far_cell : (s : State) (h : List Entry) (x : ℕ) → StandsFor s h → 256 ≤ x → cell_value x (reverse h) ≡ 0
+far_cell s h x st lt = cell_none s.setup x (reverse h) st.accepted (let few = st.declared.few_cells in omega arith)

@@ -1,0 +1,10 @@
+use Rattle.std.proofs.Common.{map, take}
+use Rattle.ec_text.specs.Puts.{Puts}
+use Rattle.ec_trace.specs.Spelling.{text_of}
+use Rattle.evc_engine.specs.Texts.{placed_line}
+use Rattle.evc_engine.proofs.text.put_order.Given as goal
+
+-- the lines so far
+abbrev pub invariant-loop-placed : goal.invariant-loop-placed
+invariant-loop-placed g l =
+    Puts (g.W.Write.contents l.initial.out) l.initial.table (g.W.Write.contents l.out) l.table (text_of (map (placed_line l.spellings) (take l.placed-index l.order)))

@@ -1,0 +1,12 @@
+use Rattle.std.proofs.Common.{List, reverse}
+use Rattle.ec_text.specs.Puts.{Puts}
+use Rattle.ec_core.specs.Standing.{StandsFor}
+use Rattle.ec_core.specs.declared.act.Entry.{Entry}
+use Rattle.ec_trace.specs.Spelling.{text_of}
+use Rattle.evc_engine.specs.Texts.{cell_lines}
+use Rattle.evc_engine.proofs.totals.put_cells.Given as goal
+
+-- the lines so far
+abbrev pub invariant-loop-place : goal.invariant-loop-place
+invariant-loop-place g l = (h : List Entry) → StandsFor l.world h
+    → Puts (g.W.Write.contents l.initial.out) l.initial.table (g.W.Write.contents l.out) l.table (text_of (cell_lines l.name (reverse h) l.first 0 l.place))

@@ -1,0 +1,45 @@
+-- What `check` answered and wrote, for an input whose bytes are known.
+use Rattle.std.specs.Prelude.{◌≡◌, ◌⊎◌, ℕ, List, [], Option, Result, Ok, Err, codes}
+use Rattle.std.specs.Io.KnownBytes.{Appends, Keeps}
+use Rattle.ec_text.specs.Puts.{Held, Puts, AppendsPrefix}
+use Rattle.ec_trace.specs.Recounted.{Recounted}
+use Rattle.ec_trace.specs.Outcome.{outcome, HasNoFault}
+use Rattle.ec_trace.specs.declared.fault.TraceFault.{TraceFault}
+use Rattle.ec_trace.specs.declared.read.TheConstants.{TRACE_MAX}
+use Rattle.evc_engine.specs.declared.status.Status.{Status}
+use Rattle.evc_engine.specs.declared.status.Status.TheVariants.{Done, Refused, Usage, InputOutput, Memory}
+use Rattle.evc_engine.specs.Notes.{fault_note}
+use Rattle.evc_engine.specs.Texts.{check_text}
+
+-- where the text and the notes go: what the writer of the text holds, what the writer of the notes holds, and the
+-- notes that wait for it
+pub record Outlets : Type 0 where
+  pub out : Option (List ℕ)
+  pub notes : Option (List ℕ)
+  pub held : Held
+
+-- the note was put, and nothing else
+abbrev pub Notes : Outlets → Outlets → List ℕ → Type 0
+Notes old new note = Puts old.notes old.held new.notes new.held note
+
+-- the text of a trace that was read
+abbrev pub text_for : Recounted → List ℕ
+text_for t = check_text t.heading t.entries
+
+-- how the writing of the text of a trace ended
+abbrev pub Writes : Recounted → Status → Outlets → Outlets → Type 0
+Writes t Done old new = Appends old.out new.out (text_for t) × Notes old new []
+Writes t InputOutput old new = AppendsPrefix old.out new.out (text_for t) × Notes old new (codes "write fault\n")
+Writes t Memory old new = Keeps old.out new.out × Notes old new (codes "no memory\n")
+Writes t Refused old new = ⊥
+Writes t Usage old new = ⊥
+
+-- how `check` ended: a trace was read and its text written, or no trace was read, and nothing was written but the note
+abbrev pub Checks : List ℕ → Status → Outlets → Outlets → Type 0
+Checks bytes Done old new = (t : Recounted) × (outcome TRACE_MAX bytes ≡ Ok t) × Writes t Done old new
+Checks bytes Refused old new = (fault : TraceFault) × (outcome TRACE_MAX bytes ≡ Err fault) × Keeps old.out new.out × Notes old new (fault_note fault)
+Checks bytes InputOutput old new =
+    ((t : Recounted) × (outcome TRACE_MAX bytes ≡ Ok t) × Writes t InputOutput old new)
+    ⊎ (HasNoFault TRACE_MAX bytes × Keeps old.out new.out × Notes old new (codes "read fault\n"))
+Checks bytes Memory old new = Keeps old.out new.out × Notes old new (codes "no memory\n")
+Checks bytes Usage old new = ⊥

@@ -1,0 +1,4 @@
+pub mod Texts
+pub mod Statuses
+pub mod Notes
+pub mod Checks

@@ -1,0 +1,50 @@
+-- The text that `check` writes: the calls in the order of their points, and the totals at the end.
+use Rattle.std.specs.Prelude.{ℕ, ◌+◌, zero, suc, List, [], ◌∷◌, ◌++◌, map, reverse, codes, decimal}
+use Rattle.std.specs.List.{flat_map}
+use Rattle.ec_count.specs.declared.target.Target.{Target}
+use Rattle.ec_count.specs.declared.target.Target.TheVariants.{Worker, Event, Sequencer, Cells, Group}
+use Rattle.ec_core.specs.declared.act.Entry.{Entry}
+use Rattle.ec_core.specs.Counts.{total, issued, cell_value}
+use Rattle.ec_order.specs.declared.call.Call.{Call}
+use Rattle.ec_order.specs.declared.placed.Placed.{Placed}
+use Rattle.ec_order.specs.Points.{ordered_by_points}
+use Rattle.ec_trace.specs.Headed.{Headed}
+use Rattle.ec_trace.specs.Spelling.{Named, word_of, entry_line, text_of}
+
+-- a finished call, spelled as an entry: what it asked for, and what it was told in the end
+abbrev pub call_entry : Call → Entry
+call_entry c = record { worker = c.worker; act = c.op; reply = c.reply }
+
+abbrev pub placed_line : Named → Placed → List ℕ
+placed_line names p = decimal p.point ++ codes " " ++ entry_line names (call_entry p.call)
+
+abbrev pub cell_line : List ℕ → ℕ → ℕ → List ℕ
+cell_line name i value = codes "cell " ++ (name ++ codes "[" ++ decimal i ++ codes "]") ++ codes " " ++ decimal value
+
+-- the lines of n cells of a block, from its i-th on, where the block begins at cell first
+unfoldable pub cell_lines : List ℕ → List Entry → ℕ → ℕ → ℕ → List (List ℕ)
+cell_lines name past first i zero = []
+cell_lines name past first i (suc n) = cell_line name i (cell_value (first + i) past) ∷ cell_lines name past first (i + 1) n
+
+abbrev pub count_line : List ℕ → List ℕ → ℕ → List ℕ
+count_line sort name count = sort ++ name ++ codes " " ++ decimal count
+
+-- the totals of what was declared under one name, after a past
+abbrev pub totals_of : Named → List Entry → Target → List (List ℕ)
+totals_of names past (Event e) = count_line (codes "eventcount ") (word_of names (Event e)) (total e past) ∷ []
+totals_of names past (Sequencer q) = count_line (codes "sequencer ") (word_of names (Sequencer q)) (issued q past) ∷ []
+totals_of names past (Cells first n) = cell_lines (word_of names (Cells first n)) past first 0 n
+totals_of names past (Worker w) = []
+totals_of names past (Group g) = []
+
+-- the totals, in the order of the declarations
+abbrev pub totals_lines : Headed → List Entry → List (List ℕ)
+totals_lines h past = flat_map (totals_of h.names past) h.declarations
+
+abbrev pub check_lines : Headed → List Entry → List Placed → List (List ℕ)
+check_lines h entries placed =
+    codes "evc-order 1" ∷ map (placed_line h.names) placed ++ codes "totals" ∷ totals_lines h (reverse entries) ++ codes "end" ∷ []
+
+-- what `check` writes for a heading and an accepted history
+unfoldable pub check_text : Headed → List Entry → List ℕ
+check_text h entries = text_of (check_lines h entries (ordered_by_points h.setup (reverse entries)))

@@ -1,0 +1,100 @@
+//! The notes, on their way to their writer.
+ghost use Rattle.std.specs.Prelude.{◌≡◌, [], codes};
+ghost use Rattle.ec_text.specs.Puts.{Puts, nothing_held};
+ghost use Rattle.evc_engine.specs.Notes.{fault_note, refused_words, wrong_words, line_words};
+
+use ec_core::{Refusal, Reply};
+use ec_text::{Buffered, flush, put, put_number};
+use ec_trace::{TraceFault, put_reply};
+use std::io::Write;
+
+/// A writer of notes, and the notes that wait for it. A write of notes that fails is not told, and none is tried after it.
+#[derive(Drop)]
+pub struct Notes<W> {
+    pub writer: W,
+    pub table: Buffered,
+}
+
+impl<W: Write> Notes<W> {
+    /// No notes yet.
+    pub fn new(writer: W) -> Self
+        ensures writer { result.writer ≡ writer }
+        ensures table { result.table ≡ nothing_held }
+    {
+        Notes {
+            writer,
+            table: Buffered::new(),
+        }
+    }
+
+    /// Puts a note, and writes it.
+    pub fn say(&mut self, note: &[u8])
+        ensures { Puts (W.contents self.old.writer) self.old.table (W.contents self.new.writer) self.new.table note.now }
+    {
+        put(&mut self.writer, &mut self.table, note);
+        flush(&mut self.writer, &mut self.table);
+    }
+}
+
+/// Puts what a note says of a refused act.
+fn put_refused<W: Write>(writer: &mut W, table: &mut Buffered, refusal: Refusal)
+    ensures { Puts (W.contents writer.old) table.old (W.contents writer.new) table.new (refused_words refusal) }
+{
+    put(writer, table, b"refused ");
+    put_number(writer, table, refusal.number());
+    put(writer, table, b" ");
+    put(writer, table, refusal.name().as_bytes());
+}
+
+/// Puts what a note says of a wrong reply.
+fn put_wrong<W: Write>(writer: &mut W, table: &mut Buffered, right: &Reply)
+    ensures { Puts (W.contents writer.old) table.old (W.contents writer.new) table.new (wrong_words right.now) }
+{
+    put(writer, table, b"wrong reply, right is ");
+    put_reply(writer, table, right);
+}
+
+/// Puts the beginning of a note on a line.
+fn put_line<W: Write>(writer: &mut W, table: &mut Buffered, line: u64)
+    ensures { Puts (W.contents writer.old) table.old (W.contents writer.new) table.new (line_words line) }
+{
+    put(writer, table, b"line ");
+    put_number(writer, table, line);
+    put(writer, table, b": ");
+}
+
+/// Puts the note on a fault of a trace.
+fn put_fault<W: Write>(writer: &mut W, table: &mut Buffered, fault: &TraceFault)
+    ensures { Puts (W.contents writer.old) table.old (W.contents writer.new) table.new (fault_note fault.now) }
+{
+    match *fault {
+        TraceFault::BadLine(line) => {
+            put_line(writer, table, line);
+            put(writer, table, b"bad line\n");
+        }
+        TraceFault::Refused(line, refusal) => {
+            put_line(writer, table, line);
+            put_refused(writer, table, refusal);
+            put(writer, table, b"\n");
+        }
+        TraceFault::WrongReply(line, right) => {
+            put_line(writer, table, line);
+            put_wrong(writer, table, &right);
+            put(writer, table, b"\n");
+        }
+        TraceFault::Unfinished => put(writer, table, b"unfinished\n"),
+        TraceFault::TooLarge => put(writer, table, b"too large\n"),
+        TraceFault::Read => put(writer, table, b"read fault\n"),
+        TraceFault::Memory => put(writer, table, b"no memory\n"),
+    }
+}
+
+impl<W: Write> Notes<W> {
+    /// Puts the note on a fault of a trace, and writes it.
+    pub fn fault(&mut self, fault: &TraceFault)
+        ensures { Puts (W.contents self.old.writer) self.old.table (W.contents self.new.writer) self.new.table (fault_note fault.now) }
+    {
+        put_fault(&mut self.writer, &mut self.table, fault);
+        flush(&mut self.writer, &mut self.table);
+    }
+}

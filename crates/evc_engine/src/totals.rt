@@ -1,0 +1,138 @@
+//! The totals of what was declared.
+ghost use Rattle.std.specs.Prelude.{◌≡◌, ◌+◌, ◌≤◌, ◌∷◌, [], ◌++◌, ℕ, List, codes, decimal, reverse, length, unwrap_or};
+ghost use Rattle.ec_text.specs.Puts.{Puts};
+ghost use Rattle.ec_count.specs.Names.{name_of};
+ghost use Rattle.ec_core.specs.Counts.{total, issued, cell_value};
+ghost use Rattle.ec_core.specs.Standing.{StandsFor};
+ghost use Rattle.ec_core.specs.declared.act.Entry.{Entry};
+ghost use Rattle.ec_trace.specs.Spelling.{word_of, text_of};
+ghost use Rattle.evc_engine.specs.Texts.{totals_of, cell_lines, cell_line, count_line, totals_lines};
+
+use ec_core::World;
+use ec_count::{CellId, EventId, Names, SeqId, Target};
+use ec_text::{Buffered, put, put_number};
+use ec_trace::Heading;
+use std::io::Write;
+
+/// The total of an eventcount, 0 where it is not declared.
+#[tactic(auto, using(crate::proofs::Undeclared::total_shown))]
+fn total_or_zero(world: &World, event: EventId) -> u64
+    ensures { (h : List Entry) → StandsFor world.now h → result ≡ total event (reverse h) }
+{
+    world.total(event).unwrap_or(0)
+}
+
+/// The tickets that were drawn, 0 where the sequencer is not declared.
+#[tactic(auto, using(crate::proofs::Undeclared::issued_shown))]
+fn issued_or_zero(world: &World, sequencer: SeqId) -> u64
+    ensures { (h : List Entry) → StandsFor world.now h → result ≡ issued sequencer (reverse h) }
+{
+    world.issued(sequencer).unwrap_or(0)
+}
+
+/// The value of a cell, 0 where it is not declared.
+#[tactic(auto, using(crate::proofs::Undeclared::cell_shown))]
+fn cell_or_zero(world: &World, cell: CellId) -> u64
+    ensures { (h : List Entry) → StandsFor world.now h → result ≡ cell_value cell (reverse h) }
+{
+    world.cell(cell).unwrap_or(0)
+}
+
+/// The name of a target, or nothing.
+fn word_of(names: &Names, target: Target) -> &[u8]
+    ensures { result.now ≡ word_of names.now target }
+{
+    match names.name_of(target) {
+        Some(name) => name.as_bytes(),
+        None => b"".as_slice(),
+    }
+}
+
+/// Puts the line of one count.
+fn put_count<W: Write>(out: &mut W, table: &mut Buffered, sort: &[u8], name: &[u8], count: u64)
+    ensures { Puts (W.contents out.old) table.old (W.contents out.new) table.new (count_line sort.now name.now count ++ 10 ∷ []) }
+{
+    put(out, table, sort);
+    put(out, table, name);
+    put(out, table, b" ");
+    put_number(out, table, count);
+    put(out, table, b"\n");
+}
+
+/// Puts the spelling of one cell of a block.
+fn put_spot<W: Write>(out: &mut W, table: &mut Buffered, name: &[u8], place: u64)
+    ensures { Puts (W.contents out.old) table.old (W.contents out.new) table.new (name.now ++ codes "[" ++ decimal place ++ codes "]") }
+{
+    put(out, table, name);
+    put(out, table, b"[");
+    put_number(out, table, place);
+    put(out, table, b"]");
+}
+
+/// Puts the line of one cell.
+
+fn put_cell<W: Write>(out: &mut W, table: &mut Buffered, name: &[u8], place: u64, value: u64)
+    ensures { Puts (W.contents out.old) table.old (W.contents out.new) table.new (cell_line name.now place value ++ 10 ∷ []) }
+{
+    put(out, table, b"cell ");
+    put_spot(out, table, name, place);
+    put(out, table, b" ");
+    put_number(out, table, value);
+    put(out, table, b"\n");
+}
+
+/// The value of the cell at a place of a block, 0 where it is not declared.
+#[tactic(auto, using(crate::proofs::Undeclared::far_cell))]
+fn value_at(world: &World, first: CellId, place: usize) -> u64
+    ensures { (h : List Entry) → StandsFor world.now h → result ≡ cell_value (first + place) (reverse h) }
+{
+    let Some(number) = first.get().checked_add(place) else {
+        return 0;
+    };
+    match CellId::new(number) {
+        Some(cell) => cell_or_zero(world, cell),
+        None => 0,
+    }
+}
+
+/// Puts the lines of the cells of a block.
+fn put_cells<W: Write>(out: &mut W, table: &mut Buffered, world: &World, name: &[u8], first: CellId, n: usize)
+    ensures { (h : List Entry) → StandsFor world.now h
+        → Puts (W.contents out.old) table.old (W.contents out.new) table.new (text_of (cell_lines name.now (reverse h) first 0 n)) }
+{
+    for place in 0..n {
+        put_cell(out, table, name, place as u64, value_at(world, first, place));
+    }
+}
+
+/// Puts the totals of what was declared under one name.
+fn put_target<W: Write>(out: &mut W, table: &mut Buffered, names: &Names, world: &World, target: &Target)
+    ensures { (h : List Entry) → StandsFor world.now h
+        → Puts (W.contents out.old) table.old (W.contents out.new) table.new (text_of (totals_of names.now (reverse h) target.now)) }
+{
+    let name = word_of(names, *target);
+    match *target {
+        Target::Event(event) => {
+            let total = total_or_zero(world, event);
+            put_count(out, table, b"eventcount ", name, total);
+        }
+        Target::Sequencer(sequencer) => {
+            let issued = issued_or_zero(world, sequencer);
+            put_count(out, table, b"sequencer ", name, issued);
+        }
+        Target::Cells(first, n) => put_cells(out, table, world, name, first, n),
+        Target::Worker(_) => {}
+        Target::Group(_) => {}
+    }
+}
+
+/// Puts the totals of all that a heading declares.
+pub fn put_totals<W: Write>(out: &mut W, table: &mut Buffered, heading: &Heading, world: &World)
+    ensures { (h : List Entry) → StandsFor world.now h
+        → Puts (W.contents out.old) table.old (W.contents out.new) table.new (text_of (totals_lines heading.now (reverse h))) }
+{
+    let names = heading.names();
+    for target in heading.declarations() {
+        put_target(out, table, names, world, target);
+    }
+}
