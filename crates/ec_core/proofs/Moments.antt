@@ -1,12 +1,12 @@
 -- Each entry of an accepted history is right at its own moment.
-use Rattle.std.proofs.Common.{◌≡◌, ℕ, zero, suc, List, [], ◌∷◌, ◌++◌, Some, None, Ok, refl, ap, sym, ◌∙◌, subst, reverse, take, drop, slice_get, append_assoc}
+use Rattle.std.proofs.Common.{◌≡◌, ℕ, zero, suc, List, [], ◌∷◌, ◌++◌, Option, Some, None, Ok, length, refl, ap, sym, ◌∙◌, subst, reverse, take, drop, slice_get, append_assoc}
 use Rattle.std.proofs.lemmas.List.{reverse-append, take-append-drop}
 use Rattle.ec_count.specs.Tables.{Tables}
 use Rattle.ec_core.specs.declared.act.Entry.{Entry}
 use Rattle.ec_core.specs.Counts.{past_at}
 use Rattle.ec_core.specs.Rounds.{IsPastOf}
 use Rattle.ec_core.specs.Acceptance.{answer_of, IsAccepted}
-use Rattle.ec_core.specs.Laws.{BeginningsAreAccepted}
+use Rattle.ec_core.specs.Laws.{BeginningsAreAccepted, AcceptedMeansAnswered}
 
 -- the history before place k, the entry there, and the rest
 pub split_at : (h : List Entry) (k : ℕ) (x : Entry) → slice_get h k ≡ Some x → (rest : List Entry) × (h ≡ take k h ++ x ∷ rest)
@@ -24,6 +24,10 @@ take_end [] zero h = refl
 take_end [] (suc k) h = refl
 take_end (y ∷ ys) zero h = cc
 take_end (y ∷ ys) (suc k) h = ap (λ zs. y ∷ zs) (take_end ys k h)
+
+take_all : (h : List Entry) → take (length h) h ≡ h
+take_all [] = refl
+take_all (y ∷ ys) = ap (λ zs. y ∷ zs) (take_all ys)
 
 -- the past at the next moment has the entry before it
 pub past_next : (h : List Entry) (k : ℕ) (x : Entry) → slice_get h k ≡ Some x → past_at (suc k) h ≡ x ∷ past_at k h
@@ -69,3 +73,20 @@ accepted_of t h p acc is = accepted_before t is.since p (subst (IsAccepted t) is
 
 pub beginnings : BeginningsAreAccepted
 beginnings t k h acc = accepted_of t h (past_at k h) acc (moment_before h k)
+
+-- where each entry is the answer at its own moment, each beginning is accepted
+next_accepted : (t : Tables) (h : List Entry) (k : ℕ) (o : Option Entry) → slice_get h k ≡ o
+    → ((x : Entry) → slice_get h k ≡ Some x → answer_of t (past_at k h) x.worker x.act ≡ Ok x.reply) → IsAccepted t (past_at k h) → IsAccepted t (past_at (suc k) h)
+next_accepted t h k None at right acc = subst (IsAccepted t) (sym (past_end h k at)) acc
+next_accepted t h k (Some x) at right acc = subst (IsAccepted t) (sym (past_next h k x at)) (right x at, acc)
+
+accepted_from : (t : Tables) (h : List Entry) → ((k : ℕ) (x : Entry) → slice_get h k ≡ Some x → answer_of t (past_at k h) x.worker x.act ≡ Ok x.reply)
+    → (k : ℕ) → IsAccepted t (past_at k h)
+accepted_from t h right zero = tt
+accepted_from t h right (suc k) = next_accepted t h k (slice_get h k) refl (right k) (accepted_from t h right k)
+
+pub accepted_means : AcceptedMeansAnswered
+accepted_means t h = (
+  λ acc k x at. accepted_at t h k x acc at,
+  λ right. subst (λ l. IsAccepted t (reverse l)) (take_all h) (accepted_from t h right (length h)),
+)

@@ -1,5 +1,5 @@
 -- What the definitions mean, in order of time: moment k is that after the first k entries of a history h.
-use Rattle.std.specs.Prelude.{◌≡◌, ℕ, ◌+◌, ◌%◌, ◌≤◌, ◌⊎◌, Bool, true, false, List, length, reverse, take, Some, Ok, slice_get, count_by}
+use Rattle.std.specs.Prelude.{◌≡◌, ◌↔◌, ℕ, ◌+◌, ◌%◌, ◌≤◌, ◌⊎◌, Bool, true, false, List, length, reverse, take, Some, Ok, slice_get, count_by}
 use Rattle.ec_count.specs.Tables.{Tables, IsDeclared, is_silent}
 use Rattle.ec_core.specs.declared.act.Entry.{Entry}
 use Rattle.ec_core.specs.declared.act.TheConstants.{VALUE_MAX}
@@ -58,10 +58,10 @@ RoundsOfCallsLieBetween = (t : Tables) (h : List Entry) (k e : ℕ) (x : Entry) 
 abbrev pub BeginningsAreAccepted : Type 0
 BeginningsAreAccepted = (t : Tables) (k : ℕ) (h : List Entry) → IsAccepted t (reverse h) → IsAccepted t (past_at k h)
 
--- entry k of an accepted history is the answer to its act at moment k
-abbrev pub EntriesAreAnswers : Type 0
-EntriesAreAnswers = (t : Tables) (h : List Entry) (k : ℕ) (x : Entry) → IsAccepted t (reverse h) → slice_get h k ≡ Some x
-    → answer_of t (past_at k h) x.worker x.act ≡ Ok x.reply
+-- a history is accepted exactly where each entry is the answer to its act at its own moment
+abbrev pub AcceptedMeansAnswered : Type 0
+AcceptedMeansAnswered = (t : Tables) (h : List Entry)
+    → IsAccepted t (reverse h) ↔ ((k : ℕ) (x : Entry) → slice_get h k ≡ Some x → answer_of t (past_at k h) x.worker x.act ≡ Ok x.reply)
 
 -- no number in an accepted history is above the greatest value
 abbrev pub NumbersAreSmall : Type 0

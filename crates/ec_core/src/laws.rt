@@ -1,5 +1,5 @@
 //! What the definitions mean, in order of time: each function says a law and does nothing.
-ghost use Rattle.ec_core.specs.Laws.{TotalsCountAdvances, ComponentsCountAdvances, IssuedCountsTickets, CellsHoldTheLastPut, ComponentsAddUp, TotalsRiseByOne, CountsKeepTheLimit, RoundsLieBetween, RoundsOfCallsLieBetween, BeginningsAreAccepted, EntriesAreAnswers, NumbersAreSmall, OthersStand};
+ghost use Rattle.ec_core.specs.Laws.{TotalsCountAdvances, ComponentsCountAdvances, IssuedCountsTickets, CellsHoldTheLastPut, ComponentsAddUp, TotalsRiseByOne, CountsKeepTheLimit, RoundsLieBetween, RoundsOfCallsLieBetween, BeginningsAreAccepted, AcceptedMeansAnswered, NumbersAreSmall, OthersStand};
 
 /// The total of an eventcount at a moment is the number of its advances before it (Reed and
 /// Kanodia's value).
@@ -55,9 +55,9 @@ pub fn beginnings_are_accepted()
     ensures { BeginningsAreAccepted }
 {}
 
-/// Each entry of an accepted history is the answer to its act at its own moment.
-pub fn entries_are_answers()
-    ensures { EntriesAreAnswers }
+/// A history is accepted exactly where each entry is the answer to its act at its own moment.
+pub fn accepted_means_answered()
+    ensures { AcceptedMeansAnswered }
 {}
 
 /// No number in an accepted history is above the greatest value.
