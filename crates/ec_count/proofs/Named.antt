@@ -1,23 +1,25 @@
 -- A look-up in the table is a look-up by bytes, and what a table of names keeps.
-use Rattle.std.proofs.Common.{◌≡◌, ℕ, zero, suc, ◌+◌, ◌<◌, List, [], ◌∷◌, ◌++◌, length, get_or, slice_get, drop, cond, true, false, not, ◌&&◌, Option, None, Some, is_some, refl, sym, ap, subst, ◌∙◌, true≢false, arith, add-one, nat_le}
-use Rattle.std.specs.Prelude.{bytes_eq, IsTrue, ◌≢◌, MatchOption}
-use Rattle.std.specs.List.{list_all}
+use Rattle.std.proofs.Common.{zero-add, Bool, add-zero, option_map, ◌≡◌, ℕ, zero, suc, ◌+◌, ◌<◌, List, [], ◌∷◌, ◌++◌, length, get_or, slice_get, cond, true, false, not, ◌&&◌, Option, None, Some, is_some, refl, sym, ap, subst, ◌∙◌, true≢false, arith, add-one, nat_le}
+use Rattle.std.specs.Prelude.{bytes_eq, IsTrue, ◌≢◌}
+use Rattle.std.specs.List.{AllPairs, list_all, position_from}
 use Rattle.std.specs.Map.{lookup}
 use Rattle.std.specs.Global.{Vec}
 use Rattle.std.specs.Str.{IsAscii, IsUtf8}
 use Rattle.std.specs.Char.{is_ascii_alphabetic}
 use Rattle.std.specs.Option.{option_and_then}
 use Rattle.std.proofs.lemmas.Str.{IsUtf8-from_ascii}
-use Rattle.std.proofs.lemmas.Bool.{and_parts}
+use Rattle.std.proofs.lemmas.Bool.{false_from_ne_true, and_parts}
 use Rattle.std.proofs.lemmas.Bool.Decides.{nat_tests}
 use Rattle.std.proofs.lemmas.Slice.Eq.{bytes_eq-Decides}
 use Rattle.std.proofs.lemmas.Option.{slice_get_within, get_or_from_slice_get}
 use Rattle.std.proofs.lemmas.List.Elements.{All-push}
 use Rattle.std.proofs.lemmas.List.Quantifiers.{all_pairs_push}
 use Rattle.ec_count.specs.declared.target.Target.{Target}
-use Rattle.ec_count.specs.Names.{AreNames, by_bytes, find_name, name_for, name_of, same_target, name_fault}
+use Rattle.ec_count.specs.Laws.{NamesAreFound}
+use Rattle.ec_count.specs.Names.{AreNames, KeepsNames, by_bytes, find_name, name_of, place_of, with_first, same_target, name_fault}
 use Rattle.ec_count.specs.Tables.{first_that}
 use Rattle.ec_count.specs.declared.names.NameFault.TheVariants.{BadName, NameTaken}
+use Rattle.ec_count.specs.Targets.{target_is}
 use Rattle.ec_count.specs.Reserved.{is_name, is_name_byte, is_reserved}
 
 pub find_lookup : (name : List ℕ) (es : List (Vec ℕ × Target)) → find_name name (by_bytes es) ≡ lookup (λ k. bytes_eq name k.items) es
@@ -102,31 +104,72 @@ AreNames-push names name target h free =
       differ = all_pairs_push (λ d e. d.0 ≢ e.0) names (name, target) h.differ (apart name names tests.1);
     }
 
-more : (x : List ℕ × Target) (xs : List (List ℕ × Target)) (i : ℕ) → drop (suc i + 1) (x ∷ xs) ≡ drop (i + 1) xs
-more x xs i = rw add-one (rw add-one refl)
-
-nothing_left : (i : ℕ) → ◌≡◌ {A = List (List ℕ × Target)} (drop i []) []
-nothing_left zero = refl
-nothing_left (suc i) = refl
-
--- a search by target ends at a place or goes on
-at_place : (target : Target) (names : List (List ℕ × Target)) (i : ℕ)
-    → MatchOption (option_and_then (name_for target) (slice_get names i)) (name_of target (drop i names) ≡ name_of target (drop (i + 1) names)) (λ name. name_of target (drop i names) ≡ Some name)
-at_place target [] i = ap (name_of target) (nothing_left i ∙ sym (nothing_left (i + 1)))
-at_place target (x ∷ xs) zero =
-    elim (same_target x.1 target) as (λ b. MatchOption (cond b (Some x.0) None) (cond b (Some x.0) (name_of target xs) ≡ name_of target xs) (λ name. cond b (Some x.0) (name_of target xs) ≡ Some name)) [
+-- where the place of a target goes on
+later : {A : Type 0} (test : A → Bool) (n : ℕ) (xs : List A) → position_from test (n + 1) xs ≡ option_map (λ i. i + 1) (position_from test n xs)
+later test n [] = refl
+later {A} test n (x ∷ xs) =
+    elim (test x) as (λ b. cond b (Some (n + 1)) (position_from test (n + 1 + 1) xs) ≡ option_map (λ i. i + 1) (cond b (Some n) (position_from test (n + 1) xs))) [
       | true ↦ refl
-      | false ↦ refl
+      | false ↦ later test (n + 1) xs
     ]
-at_place target (x ∷ xs) (suc i) =
-    subst (λ (rest : List (List ℕ × Target)). MatchOption (option_and_then (name_for target) (slice_get xs i)) (name_of target (drop i xs) ≡ name_of target rest) (λ name. name_of target (drop i xs) ≡ Some name)) (sym (more x xs i)) (at_place target xs i)
 
-pub name_here : (target : Target) (names : List (List ℕ × Target)) (i : ℕ) (name : List ℕ) → Some name ≡ option_and_then (name_for target) (slice_get names i) → name_of target (drop i names) ≡ Some name
-name_here target names i name at =
-    let P = λ (o : Option (List ℕ)). MatchOption o (name_of target (drop i names) ≡ name_of target (drop (i + 1) names)) (λ found. name_of target (drop i names) ≡ Some found) in
-    subst P (sym at) (at_place target names i)
+one_on : (x : List ℕ × Target) (xs : List (List ℕ × Target)) (o : Option ℕ) → option_and_then (λ i. option_map (λ (e : List ℕ × Target). e.0) (slice_get (x ∷ xs) i)) (option_map (λ i. i + 1) o) ≡ option_and_then (λ i. option_map (λ (e : List ℕ × Target). e.0) (slice_get xs i)) o
+one_on x xs None = refl
+one_on x xs (Some i) = rw add-one refl
 
-pub name_later : (target : Target) (names : List (List ℕ × Target)) (i : ℕ) → None ≡ option_and_then (name_for target) (slice_get names i) → name_of target (drop i names) ≡ name_of target (drop (i + 1) names)
-name_later target names i at =
-    let P = λ (o : Option (List ℕ)). MatchOption o (name_of target (drop i names) ≡ name_of target (drop (i + 1) names)) (λ found. name_of target (drop i names) ≡ Some found) in
-    subst P (sym at) (at_place target names i)
+pub name_at_place : (target : Target) (names : List (List ℕ × Target)) → name_of target names ≡ option_and_then (λ i. option_map (λ (e : List ℕ × Target). e.0) (slice_get names i)) (place_of target names)
+name_at_place target [] = refl
+name_at_place target (x ∷ xs) =
+    elim (same_target x.1 target) as (λ b. cond b (Some x.0) (name_of target xs) ≡ option_and_then (λ i. option_map (λ (e : List ℕ × Target). e.0) (slice_get (x ∷ xs) i)) (cond b (Some 0) (position_from (λ e. same_target e.1 target) 1 xs))) [
+      | true ↦ refl
+      | false ↦ name_at_place target xs ∙ sym (one_on x xs (place_of target xs)) ∙ ap (option_and_then (λ i. option_map (λ (e : List ℕ × Target). e.0) (slice_get (x ∷ xs) i))) (sym (later (λ e. same_target e.1 target) 0 xs))
+    ]
+
+-- the places once one more name is added
+place_after : (t : Target) (n : ℕ) (names : List (List ℕ × Target)) (name : List ℕ) (u : Target) → position_from (λ e. same_target e.1 t) n (names ++ (name, u) ∷ []) ≡ with_first u (n + length names) t (position_from (λ e. same_target e.1 t) n names)
+place_after t n [] name u = rw add-zero refl
+place_after t n (x ∷ xs) name u =
+    elim (same_target x.1 t) as (λ b. cond b (Some n) (position_from (λ e. same_target e.1 t) (n + 1) (xs ++ (name, u) ∷ [])) ≡ with_first u (n + suc (length xs)) t (cond b (Some n) (position_from (λ e. same_target e.1 t) (n + 1) xs))) [
+      | true ↦ refl
+      | false ↦ (let e : n + 1 + length xs ≡ n + suc (length xs) = omega arith in place_after t (n + 1) xs name u ∙ ap (λ k. with_first u k t (position_from (λ y. same_target y.1 t) (n + 1) xs)) e)
+    ]
+
+-- an entry is found by its name
+differ_tail : (x : List ℕ × Target) (xs : List (List ℕ × Target)) → AllPairs (λ d e. d.0 ≢ e.0) (x ∷ xs) → AllPairs (λ d e. d.0 ≢ e.0) xs
+differ_tail x xs h i j d lt within = h (suc i) (suc j) d (omega arith) (omega arith)
+
+entry_found : (names : List (List ℕ × Target)) → AllPairs (λ d e. d.0 ≢ e.0) names → (i : ℕ) (e : List ℕ × Target) → slice_get names i ≡ Some e → find_name e.0 names ≡ Some e.1
+entry_found [] h i e at = cc
+entry_found (x ∷ xs) h zero e at =
+    let q : x ≡ e = cc in
+    let own : bytes_eq e.0 x.0 ≡ true = (bytes_eq-Decides e.0 x.0).1 (ap (λ (y : List ℕ × Target). y.0) (sym q)) in
+    ap (λ b. cond b (Some x.1) (find_name e.0 xs)) own ∙ ap (λ (y : List ℕ × Target). Some y.1) q
+entry_found (x ∷ xs) h (suc i) e at =
+    let other : x.0 ≡ e.0 → ⊥ = λ same. h zero (suc i) e (omega arith) (let k = slice_get_within xs i e at in omega arith) (same ∙ ap (λ (y : List ℕ × Target). y.0) (sym (get_or_from_slice_get xs i e e at))) in
+    let off : bytes_eq e.0 x.0 ≡ false = false_from_ne_true (bytes_eq e.0 x.0) (λ p. other (sym ((bytes_eq-Decides e.0 x.0).0 p))) in
+    ap (λ b. cond b (Some x.1) (find_name e.0 xs)) off ∙ entry_found xs (differ_tail x xs h) i e at
+
+-- the name that is given for a target stands beside it
+named_entry : (target : Target) (names : List (List ℕ × Target)) (name : List ℕ) → name_of target names ≡ Some name → (i : ℕ) × (slice_get names i ≡ Some (name, target))
+named_entry target [] name h = cc
+named_entry target (x ∷ xs) name h =
+    elim (same_target x.1 target) as (λ b. same_target x.1 target ≡ b → cond b (Some x.0) (name_of target xs) ≡ Some name → (i : ℕ) × (slice_get (x ∷ xs) i ≡ Some (name, target))) [
+      | true ↦ λ e g. (let p : x.0 ≡ name = cc in let q = target_is x.1 target e in let pair : (x.0, x.1) ≡ (name, target) = cc in (zero, ap Some pair))
+      | false ↦ λ e g. (let r = named_entry target xs name g in (suc r.0, r.1))
+    ] refl h
+
+pub names_found : NamesAreFound
+names_found names h = record {
+  entries = entry_found names h.differ;
+  targets = λ target name e. (let at = named_entry target names name e in entry_found names h.differ at.0 (name, target) at.1);
+}
+
+-- both tables once one more name is added
+pub KeepsNames-push : (names : List (List ℕ × Target)) (firsts after : List (Target × ℕ)) (name : List ℕ) (u : Target) → KeepsNames names firsts → name_fault name names ≡ None
+    → ((t : Target) → lookup (same_target t) after ≡ with_first u (length names) t (lookup (same_target t) firsts))
+    → KeepsNames (names ++ (name, u) ∷ []) after
+KeepsNames-push names firsts after name u h free noted = record {
+  hold = AreNames-push names name u h.hold free;
+  places = λ t. (let start : 0 + length names ≡ length names = zero-add (length names) in
+      noted t ∙ ap (with_first u (length names) t) (h.places t) ∙ ap (λ k. with_first u k t (place_of t names)) (sym start) ∙ sym (place_after t 0 names name u));
+}

@@ -1,0 +1,35 @@
+-- What the definitions mean.
+use Rattle.std.specs.Prelude.{◌≡◌, ◌↔◌, ℕ, ◌<◌, Bool, true, false, List, Some, None, MatchOption, slice_get}
+use Rattle.std.specs.List.{All}
+use Rattle.ec_count.specs.declared.target.Target.{Target}
+use Rattle.ec_count.specs.Names.{AreNames, find_name, name_of}
+use Rattle.ec_count.specs.Tables.{Tables, IsDeclared, first_that, component_of, signaller, is_silent, may_take, may_write}
+
+-- where a fault is answered its test holds and none before it does; where none is, no test holds
+abbrev pub FirstTestAnswers : Type 0 → Type 0
+FirstTestAnswers F = (tests : List (Bool × F))
+    → MatchOption (first_that tests)
+    (All (λ x. x.0 ≡ false) tests)
+    (λ f. (i : ℕ) × (slice_get tests i ≡ Some (true, f)) × ((k : ℕ) (x : Bool × F) → k < i → slice_get tests k ≡ Some x → x.0 ≡ false))
+
+-- a worker signals a component exactly where the component is its own
+abbrev pub OneSignaller : Type 0
+OneSignaller = (t : Tables) → IsDeclared t → (e c w : ℕ) → (component_of t e w ≡ Some c) ↔ (signaller t e c ≡ Some w)
+
+-- the worker has no component of an eventcount, takes from no sequencer and writes no cell
+pub record HasNoRight (t : Tables) (w : ℕ) : Type 0 where
+  pub signals : (e : ℕ) → component_of t e w ≡ None
+  pub takes : (q : ℕ) → may_take t q w ≡ false
+  pub writes : (x : ℕ) → may_write t x w ≡ false
+
+-- a silent worker is a declared one that has none of these rights
+abbrev pub SilenceIsNoRight : Type 0
+SilenceIsNoRight = (t : Tables) (w : ℕ) → (is_silent t w ≡ true) ↔ ((w < t.workers) × HasNoRight t w)
+
+-- an entry of a table of names is found by its name, and so is the target of a name that is given for it
+pub record AreFound (names : List (List ℕ × Target)) : Type 0 where
+  pub entries : (i : ℕ) (e : List ℕ × Target) → slice_get names i ≡ Some e → find_name e.0 names ≡ Some e.1
+  pub targets : (target : Target) (name : List ℕ) → name_of target names ≡ Some name → find_name name names ≡ Some target
+
+abbrev pub NamesAreFound : Type 0
+NamesAreFound = (names : List (List ℕ × Target)) → AreNames names → AreFound names

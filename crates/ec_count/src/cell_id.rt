@@ -1,0 +1,40 @@
+//! A cell, by number.
+ghost use Rattle.std.specs.Prelude.{◌≡◌, ℕ, ◌<◌, ◌≤◌, ◌↔◌, IsSome, IfSome};
+
+use std::marker::Model;
+
+/// A cell.
+#[derive(Clone, Copy, Debug, PartialEq, Eq)]
+pub struct CellId {
+    number: u16,
+}
+
+impl Model for CellId {
+    ghost Value = { ℕ };
+
+    ghost view = { λ i. i.number };
+
+    ghost invariant = { λ i. i.number < 256 };
+
+    ghost inverse = { λ n. record { number = n } };
+}
+
+impl CellId {
+    pub fn new(n: usize) -> Option<Self>
+        ensures variant { IsSome result ↔ (n < 256) }
+        ensures value { IfSome result (λ i. i ≡ n) }
+    {
+        if n < 256 {
+            Some(CellId { number: n as u16 })
+        } else {
+            None
+        }
+    }
+
+    pub fn get(self) -> usize
+        ensures value { result ≡ self }
+        ensures small { result < 256 }
+    {
+        self.number as usize
+    }
+}

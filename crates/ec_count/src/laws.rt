@@ -1,0 +1,25 @@
+//! What the definitions mean: each function says a law and does nothing.
+ghost use Rattle.ec_count.specs.Laws.{FirstTestAnswers, OneSignaller, SilenceIsNoRight, NamesAreFound};
+
+/// Where a list of tests with their faults answers a fault, its test is the first that holds;
+/// where it answers none, no test holds.
+pub fn the_first_test_answers<F>()
+    ensures { FirstTestAnswers F }
+{}
+
+/// In declarations a worker is the signaller of a component exactly where that component is its
+/// own.
+pub fn each_component_has_one_signaller()
+    ensures { OneSignaller }
+{}
+
+/// A silent worker is a declared one that has no component, no ticket to take and no cell to
+/// write.
+pub fn silent_workers_change_nothing()
+    ensures { SilenceIsNoRight }
+{}
+
+/// Each name of a table is found with its own target, and so is the first name of a target.
+pub fn names_are_found()
+    ensures { NamesAreFound }
+{}

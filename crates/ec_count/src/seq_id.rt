@@ -1,0 +1,40 @@
+//! A sequencer, by number.
+ghost use Rattle.std.specs.Prelude.{◌≡◌, ℕ, ◌<◌, ◌≤◌, ◌↔◌, IsSome, IfSome};
+
+use std::marker::Model;
+
+/// A sequencer.
+#[derive(Clone, Copy, Debug, PartialEq, Eq)]
+pub struct SeqId {
+    number: u8,
+}
+
+impl Model for SeqId {
+    ghost Value = { ℕ };
+
+    ghost view = { λ i. i.number };
+
+    ghost invariant = { λ i. i.number < 32 };
+
+    ghost inverse = { λ n. record { number = n } };
+}
+
+impl SeqId {
+    pub fn new(n: usize) -> Option<Self>
+        ensures variant { IsSome result ↔ (n < 32) }
+        ensures value { IfSome result (λ i. i ≡ n) }
+    {
+        if n < 32 {
+            Some(SeqId { number: n as u8 })
+        } else {
+            None
+        }
+    }
+
+    pub fn get(self) -> usize
+        ensures value { result ≡ self }
+        ensures small { result < 32 }
+    {
+        self.number as usize
+    }
+}
