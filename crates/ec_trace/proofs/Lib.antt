@@ -2,6 +2,7 @@ pub mod ReadNames
 pub mod ReadCells
 pub mod ReadEntries
 pub mod ReadHeadings
+pub mod Leads
 pub mod Goes
 pub mod Stood
 pub mod Blocks

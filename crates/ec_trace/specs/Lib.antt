@@ -14,3 +14,4 @@ pub mod Recounted
 pub mod Step
 pub mod Outcome
 pub mod HeadingLaws
+pub mod ReadingLaws
