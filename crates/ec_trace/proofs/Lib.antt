@@ -3,6 +3,7 @@ pub mod ReadCells
 pub mod ReadEntries
 pub mod ReadHeadings
 pub mod Leads
+pub mod TraceLines
 pub mod Goes
 pub mod Stood
 pub mod Blocks
