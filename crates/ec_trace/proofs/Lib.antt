@@ -4,6 +4,7 @@ pub mod ReadEntries
 pub mod ReadHeadings
 pub mod Leads
 pub mod TraceLines
+pub mod ReadRuns
 pub mod Goes
 pub mod Stood
 pub mod Blocks
