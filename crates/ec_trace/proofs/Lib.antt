@@ -5,6 +5,7 @@ pub mod ReadHeadings
 pub mod Leads
 pub mod TraceLines
 pub mod ReadRuns
+pub mod ReadTraces
 pub mod Goes
 pub mod Stood
 pub mod Blocks

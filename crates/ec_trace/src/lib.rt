@@ -10,6 +10,7 @@ mod laws;
 mod lists;
 mod progress;
 mod read;
+mod reading_laws;
 mod sort;
 mod spelled;
 mod stage;
@@ -23,5 +24,8 @@ pub use laws::{
 };
 pub use progress::LINE_MAX;
 pub use read::{TRACE_MAX, read_trace};
+pub use reading_laws::{
+    no_trace_begins_another, read_is_trace, trace_has_one_meaning, trace_is_read,
+};
 pub use sort::Sort;
 pub use traced::Traced;
