@@ -1,6 +1,6 @@
 -- A trace is read as what it spells, and nothing else is read.
 use Rattle.std.proofs.Common.{◌≡◌, ◌≢◌, ℕ, ◌+◌, ◌<◌, ◌≤◌, ◌^◌, List, [], ◌∷◌, ◌++◌, length, cond, Bool, true, false, eqb, Option, Some, None, Result, Ok, Err, map, refl, sym, ap, ap₂, subst, ◌∙◌, arith, codes, decimal, append_assoc, append-nil, reverse, nat_le, nat_lt, leb, ◌&&◌}
-use Rattle.std.specs.Prelude.{bytes_eq, not}
+use Rattle.std.specs.Prelude.{bytes_eq, not, IfSome, IfOk, IfErr}
 use Rattle.std.specs.Option.{option_and_then}
 use Rattle.std.specs.List.{AllByRecursion, join_with_byte, list_all}
 use Rattle.std.proofs.lemmas.Bool.{true≢false, false_from_ne_true, and_parts, and_from, and_left, lt-ltb, le-leb, ltb-true, leb-true}
@@ -21,11 +21,14 @@ use Rattle.ec_trace.specs.declared.fault.LineFault.{LineFault}
 use Rattle.ec_trace.specs.declared.fault.LineFault.TheVariants.{Bad, Refused, WrongReply}
 use Rattle.ec_trace.specs.declared.stage.Stage.{Stage}
 use Rattle.ec_trace.specs.declared.stage.Stage.TheVariants.{Opening, Limiting, Declaring, Running, Ended}
+use Rattle.ec_trace.specs.declared.fault.TraceFault.{TraceFault}
+use Rattle.ec_trace.specs.declared.fault.TraceFault.TheVariants.{Read, Memory}
 use Rattle.ec_trace.specs.Recounted.{Recounted}
+use Rattle.ec_trace.specs.Outcome.{outcome, Tells}
 use Rattle.ec_trace.specs.Spelling.{limit_line, entry_line, trace_lines, trace_text, text_of}
 use Rattle.ec_trace.specs.Grammar.{IsTrace}
 use Rattle.ec_trace.specs.Step.{step, limit_of, limit_in, in_range, limited, declared}
-use Rattle.ec_trace.specs.ReadingLaws.{TraceIsRead, IsTraceOf, ReadIsTrace, TraceHasOneMeaning, NoTraceBeginsAnother}
+use Rattle.ec_trace.specs.ReadingLaws.{TraceIsRead, IsTraceOf, IsNoTrace, Refuses, ReadIsTrace, TraceHasOneMeaning, NoTraceBeginsAnother}
 use Rattle.ec_trace.specs.declared.read.TheConstants.{TRACE_MAX}
 use Rattle.ec_trace.proofs.Declarable.{Heads, heads_opened, heads_all}
 use Rattle.ec_trace.proofs.LeadLines.{outline_leads, leads_outline}
@@ -283,3 +286,23 @@ read_is_trace bytes t e =
       trace = record { heading = a.is; accepted = a.accepted; text = r.0.spelled ∙ ap text_of a.lines_are; within = r.1 };
       declares = a.declares;
     }
+
+-- WHAT AN ANSWER SAYS OF THE BYTES
+
+pub told_trace : (a : Option (List ℕ)) (r : Result Recounted TraceFault) → IfSome a (λ bytes. Tells TRACE_MAX bytes r) → IfSome a (λ bytes. IfOk r (IsTraceOf bytes))
+told_trace None r h = tt
+told_trace (Some bytes) (Ok t) h = read_is_trace bytes t h
+told_trace (Some bytes) (Err f) h = tt
+
+refuses : (bytes : List ℕ) (f : TraceFault) → outcome TRACE_MAX bytes ≡ Err f → IsNoTrace bytes
+refuses bytes f e o es h = (let k : Ok (recount o es) ≡ Err f = sym (trace_is_read bytes o es h) ∙ e in cc)
+
+fault_refuses : (bytes : List ℕ) (f : TraceFault) → Tells TRACE_MAX bytes (Err f) → Refuses f bytes
+fault_refuses bytes Memory h = tt
+fault_refuses bytes Read h = tt
+fault_refuses bytes f h = refuses bytes f h
+
+pub told_fault : (a : Option (List ℕ)) (r : Result Recounted TraceFault) → IfSome a (λ bytes. Tells TRACE_MAX bytes r) → IfSome a (λ bytes. IfErr r (λ f. Refuses f bytes))
+told_fault None r h = tt
+told_fault (Some bytes) (Ok t) h = tt
+told_fault (Some bytes) (Err f) h = fault_refuses bytes f h

@@ -4,6 +4,8 @@ use Rattle.ec_core.specs.declared.act.Entry.{Entry}
 use Rattle.ec_trace.specs.Outline.{Outline, headed}
 use Rattle.ec_trace.specs.Grammar.{IsTrace}
 use Rattle.ec_trace.specs.Recounted.{Recounted}
+use Rattle.ec_trace.specs.declared.fault.TraceFault.{TraceFault}
+use Rattle.ec_trace.specs.declared.fault.TraceFault.TheVariants.{Read, Memory}
 use Rattle.ec_trace.specs.Outcome.{outcome}
 use Rattle.ec_trace.specs.declared.read.TheConstants.{TRACE_MAX}
 
@@ -16,6 +18,16 @@ pub record IsTraceOf (bytes : List ℕ) (t : Recounted) : Type 0 where
   pub outline : Outline
   pub trace : IsTrace bytes outline t.entries
   pub declares : headed outline ≡ t.heading
+
+-- the bytes are the trace of no heading and no history
+abbrev pub IsNoTrace : List ℕ → Type 0
+IsNoTrace bytes = (o : Outline) (entries : List Entry) → IsTrace bytes o entries → ⊥
+
+-- what a fault says of the bytes of a whole input: want of memory and a failed read say nothing
+abbrev pub Refuses : TraceFault → List ℕ → Type 0
+Refuses Memory bytes = Unit {0}
+Refuses Read bytes = Unit {0}
+Refuses fault bytes = IsNoTrace bytes
 
 -- what is read is a trace
 abbrev pub ReadIsTrace : Type 0
