@@ -2,6 +2,10 @@ pub mod ReadNames
 pub mod ReadCells
 pub mod ReadEntries
 pub mod ReadHeadings
+pub mod Leads
+pub mod TraceLines
+pub mod ReadRuns
+pub mod ReadTraces
 pub mod Goes
 pub mod Stood
 pub mod Blocks

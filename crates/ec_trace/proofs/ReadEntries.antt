@@ -65,7 +65,7 @@ plain word all = All-from_recursion (λ b. eqb b 32 ≡ false) word all
 name_word : (names : Named) (t : Target) (word : List ℕ) → IsNamedBy names t word → IsWord word
 name_word names t word by = plain word (name_lacks 32 word refl refl by.name)
 
-number_word : (n : ℕ) → n < 1000000000000000000 → IsWord (decimal n)
+pub number_word : (n : ℕ) → n < 1000000000000000000 → IsWord (decimal n)
 number_word n small = plain (decimal n) (decimal_lacks 32 n small (λ r. omega arith))
 
 all_append : (P : ℕ → Type 0) (xs ys : List ℕ) → AllByRecursion P xs → AllByRecursion P ys → AllByRecursion P (xs ++ ys)

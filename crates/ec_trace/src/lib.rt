@@ -10,6 +10,7 @@ mod laws;
 mod lists;
 mod progress;
 mod read;
+mod reading_laws;
 mod sort;
 mod spelled;
 mod spell;
@@ -26,6 +27,9 @@ pub use laws::{
 };
 pub use progress::LINE_MAX;
 pub use read::{TRACE_MAX, read_trace};
+pub use reading_laws::{
+    no_trace_begins_another, read_is_trace, trace_has_one_meaning, trace_is_read,
+};
 pub use sort::Sort;
 pub use spell::Spellings;
 pub use write::{put_cell, put_entry, put_reply, write_entry, write_trace};
