@@ -1,5 +1,5 @@
 //! Recorded runs.
-ghost use Rattle.std.specs.Prelude.{◌≡◌, List, [], ◌∷◌, ◌++◌, length, reverse, slice_get, Ok, IfOk, OnOk, OnErr, MatchResult};
+ghost use Rattle.std.specs.Prelude.{◌≡◌, ◌<◌, ◌^◌, List, [], ◌∷◌, ◌++◌, length, reverse, slice_get, Ok, IfOk, OnOk, OnErr, MatchResult};
 ghost use Rattle.ec_count.specs.Tables.{IsDeclared};
 ghost use Rattle.ec_core.specs.Acceptance.{answer_of, IsAccepted};
 ghost use Rattle.ec_core.specs.Standing.{StandsFor};
@@ -94,8 +94,10 @@ impl Run {
 
     /// Its entries in order.
     pub fn entries(&self) -> Entries<'_>
-        ensures { result ≡ self.now.entries }
+        ensures items { result ≡ self.now.entries }
+        ensures small { length self.now.entries < 2 ^ 64 }
     {
+        let _count = self.len();
         Entries::all(&self.entries)
     }
 
