@@ -126,7 +126,9 @@ impl Heading {
         })
     }
 
-    /// Takes a line, without its LF: the one of the workers first, and then declarations.
+    /// Takes a line, without its LF: the one of the workers first, and then declarations. A line is
+    /// refused for the least fault that holds of it, want of memory last, and then nothing is
+    /// changed: after `Memory` the same line may be handed in again.
     #[tactic(auto, unfolding(crate::specs::Heading::head_step))]
     pub fn line(&mut self, line: &[u8]) -> Result<(), HeadFault>
         ensures { Lines result self.old self.new line.now }
