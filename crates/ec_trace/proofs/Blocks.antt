@@ -1,5 +1,5 @@
 -- The blocks of cells of a heading end within the bound.
-use Rattle.std.proofs.Common.{◌≡◌, ℕ, ◌+◌, ◌<◌, ◌≤◌, List, [], ◌∷◌, ◌++◌, length, Bool, true, false, cond, Option, Some, None, option_and_then, refl, sym, ap, subst, ◌∙◌, arith, inl, inr, bytes_eq, zero-le, IsSome, IfSome, ◌↔◌, lt-ltb}
+use Rattle.std.proofs.Common.{◌≡◌, ℕ, ◌+◌, ◌<◌, ◌≤◌, List, [], ◌∷◌, ◌++◌, length, Bool, true, false, cond, Option, Some, None, option_and_then, sym, ap, subst, ◌∙◌, arith, inl, inr, bytes_eq, zero-le, IsSome, IfSome, ◌↔◌, lt-ltb}
 use Rattle.std.proofs.lemmas.Bool.{ltb-false, cond-true, true≢false}
 use Rattle.ec_count.specs.Names.{find_name}
 use Rattle.ec_count.specs.Tables.{Tables}
@@ -7,8 +7,8 @@ use Rattle.ec_count.specs.declared.target.Target.{Target}
 use Rattle.ec_count.specs.declared.target.Target.TheVariants.{Worker, Event, Sequencer, Cells, Group}
 use Rattle.ec_trace.specs.Sorts.{other}
 use Rattle.ec_trace.specs.Headed.{Headed}
-use Rattle.ec_trace.specs.Outline.{Declaration, IsDeclarable, AreDeclarable, opened, numbered, declared_by, declared_all, objects_fault, target_of, fits_form}
-use Rattle.ec_trace.specs.Outlined.{HasOutline, IsHeading}
+use Rattle.ec_trace.specs.Outline.{Declaration, AreDeclarable, opened, numbered, declared_by, declared_all, objects_fault, target_of, fits_form}
+use Rattle.ec_trace.specs.Outlined.{IsHeading}
 use Rattle.ec_trace.specs.Spelled.{block_of, cell_at, cell_of}
 use Rattle.ec_trace.specs.declared.sort.Sort.{Sort}
 use Rattle.ec_trace.specs.declared.sort.Sort.TheVariants as sorts

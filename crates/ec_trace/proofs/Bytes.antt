@@ -1,7 +1,5 @@
 -- A word cut at a byte.
-use Rattle.std.proofs.Common.{◌≡◌, ℕ, zero, suc, ◌+◌, ◌-◌, ◌<◌, ◌≤◌, List, [], ◌∷◌, ◌++◌, length, take, drop, get_or, Bool, true, false, cond, eqb, Option, Some, None, option_map, refl, sym, ap, ◌∙◌, arith, ne_eqb, eq-eqb, eqb-true, take_all, length-drop, add-one, All}
-use Rattle.std.proofs.lemmas.Bool.{true≢false}
-use Rattle.std.proofs.lemmas.List.Elements.{All-head, All-tail}
+use Rattle.std.proofs.Common.{◌≡◌, ℕ, zero, suc, ◌+◌, ◌-◌, ◌<◌, List, [], ◌∷◌, length, take, drop, get_or, true, false, eqb, Some, None, refl, sym, ap, ◌∙◌, arith, ne_eqb, eq-eqb, take_all, length-drop, add-one}
 use Rattle.ec_trace.specs.Spelled.{cut_at}
 
 step_on : (byte b : ℕ) (bs : List ℕ) (x y : List ℕ) → eqb b byte ≡ false → cut_at byte bs ≡ Some (x, y) → cut_at byte (b ∷ bs) ≡ Some (b ∷ x, y)

@@ -1,10 +1,9 @@
 -- The lines of a heading are those of its outline.
-use Rattle.std.proofs.Common.{◌≡◌, ℕ, ◌<◌, ◌≤◌, ◌^◌, List, [], ◌∷◌, map, Ok, refl, sym, ap, ap₂, subst, ◌∙◌}
+use Rattle.std.proofs.Common.{◌≡◌, ℕ, List, [], ◌∷◌, map, refl, sym, ap, ap₂, subst, ◌∙◌}
 use Rattle.ec_trace.specs.Headed.{Headed}
-use Rattle.ec_trace.specs.Outline.{Declaration, Outline, AreWorkers, AreDeclarable, IsDeclarable, IsOutline, opened, declared_by, declared_all, headed}
-use Rattle.ec_trace.specs.Spelling.{workers_line, declaration_line}
-use Rattle.ec_trace.specs.Heading.{head_step}
-use Rattle.ec_trace.specs.HeadingLaws.{LinesLead, OutlineLinesLead, LinesHaveAnOutline, Outlines, NamesWorkers, Declares, outline_lines}
+use Rattle.ec_trace.specs.Outline.{Declaration, AreWorkers, AreDeclarable, opened, declared_by, declared_all}
+use Rattle.ec_trace.specs.Spelling.{declaration_line}
+use Rattle.ec_trace.specs.HeadingLaws.{LinesLead, OutlineLinesLead, LinesHaveAnOutline, NamesWorkers, Declares}
 use Rattle.ec_trace.proofs.Declarable.{Heads, heads_opened, heads_more}
 use Rattle.ec_trace.proofs.ReadLines.{workers_read, line_declared}
 use Rattle.ec_trace.proofs.SpelledLines.{workers_spelled, line_spelled}

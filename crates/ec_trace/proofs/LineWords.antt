@@ -1,5 +1,5 @@
 -- The words of a spelled line are found again.
-use Rattle.std.proofs.Common.{◌≡◌, ℕ, ◌+◌, ◌*◌, ◌<◌, ◌≤◌, List, [], ◌∷◌, ◌++◌, length, get_or, Bool, false, true, eqb, ltb, nat_lt, ◌||◌, Result, refl, sym, ap, subst, ◌∙◌, arith, length-append, All, zero-le}
+use Rattle.std.proofs.Common.{◌≡◌, ℕ, ◌+◌, ◌*◌, ◌≤◌, List, [], ◌∷◌, ◌++◌, length, false, true, eqb, ltb, refl, ap, ◌∙◌, arith, length-append, All, zero-le}
 use Rattle.std.specs.List.{list_any, AllByRecursion, join_with_byte}
 use Rattle.std.proofs.lemmas.Bool.{or_from, le-ltb, cond-false}
 use Rattle.ec_text.specs.Words.{words_of, IsWord, AreWords}

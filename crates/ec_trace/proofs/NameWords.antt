@@ -1,9 +1,8 @@
 -- Names are words: they have no space and no bracket, are short, and are none of the words of a text.
-use Rattle.std.proofs.Common.{◌≡◌, ◌≢◌, ℕ, ◌+◌, ◌<◌, ◌≤◌, List, [], ◌∷◌, ◌++◌, length, Bool, true, false, not, eqb, ◌&&◌, refl, sym, ap, subst, ◌∙◌, arith, bytes_eq, nat_le, leb, codes, All, ne_eqb}
+use Rattle.std.proofs.Common.{◌≡◌, ◌≢◌, ℕ, ◌≤◌, List, [], ◌∷◌, length, true, false, not, eqb, ◌&&◌, sym, ap, ◌∙◌, arith, bytes_eq, nat_le, ne_eqb}
 use Rattle.std.specs.List.{list_all, AllByRecursion}
 use Rattle.std.specs.Char.{is_ascii_alphabetic}
 use Rattle.std.proofs.lemmas.Bool.{true≢false, and_parts, not-true, false_from_ne_true, leb-true}
-use Rattle.std.proofs.lemmas.Bool.Decides.{nat_tests}
 use Rattle.std.proofs.lemmas.List.Elements.{All-from_recursion}
 use Rattle.ec_count.specs.Reserved.{is_name, is_name_byte, is_reserved}
 use Rattle.ec_text.specs.Words.{IsWord}

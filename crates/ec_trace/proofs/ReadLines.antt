@@ -1,32 +1,31 @@
 -- What is spelled is read: the line of the workers, and a declaration's.
-use Rattle.std.proofs.Common.{◌≡◌, ◌≢◌, ℕ, ◌+◌, ◌*◌, ◌<◌, ◌≤◌, List, [], ◌∷◌, ◌++◌, length, get_or, Bool, true, false, eqb, nat_le, leb, Option, Some, None, unwrap_or, Result, Ok, Err, refl, sym, ap, ap₂, subst, ◌∙◌, arith, append_assoc, append-nil, decimal, codes, bytes_eq, not, if◌then◌else◌, ne_eqb, eqb-true, length-append, lit≤, zero-le}
-use Rattle.std.specs.List.{list_all, AllByRecursion, join_with_byte}
+use Rattle.std.proofs.Common.{◌≡◌, ◌≢◌, ℕ, ◌+◌, ◌*◌, ◌≤◌, List, [], ◌∷◌, ◌++◌, length, get_or, Bool, true, false, eqb, leb, Option, Some, None, unwrap_or, Ok, refl, sym, ap, ap₂, subst, ◌∙◌, arith, append_assoc, decimal, codes, not, if◌then◌else◌, ne_eqb, eqb-true, lit≤, zero-le}
+use Rattle.std.specs.List.{list_all}
 use Rattle.std.specs.Char.{is_ascii_digit}
 use Rattle.std.specs.Str.{all_ascii_digits}
-use Rattle.std.proofs.lemmas.Bool.{true≢false, and_parts, and_from, leb-true, cond-false, cond-true, eqb-false, ltb-false}
+use Rattle.std.proofs.lemmas.Bool.{true≢false, and_parts, and_from, leb-true, cond-false, eqb-false, ltb-false}
 use Rattle.std.proofs.lemmas.Fmt.{digits_decimal, decimal_nonempty}
-use Rattle.std.proofs.lemmas.List.Elements.{recursion_from_All, All-from_recursion}
+use Rattle.std.proofs.lemmas.List.Elements.{recursion_from_All}
 use Rattle.ec_count.specs.Reserved.{is_name, is_reserved}
-use Rattle.ec_count.specs.declared.target.Target.{Target}
-use Rattle.ec_text.specs.Words.{words_of, is_number_form, has_form, number_of, digits_from, IsWord}
+use Rattle.ec_text.specs.Words.{is_number_form, has_form, number_of, digits_from}
 use Rattle.ec_text.proofs.WordLemmas.{literal_word}
 use Rattle.ec_text.proofs.NumberLemmas.{number_again, own}
 use Rattle.ec_text.proofs.DecimalLemmas.{at_most_20}
 use Rattle.ec_trace.specs.Sorts.{sort_word, has_number, opener, other, needs_other}
 use Rattle.ec_trace.specs.Headed.{Headed}
 use Rattle.ec_trace.specs.Outline.{Declaration, AreWorkers, IsDeclarable, opened, declared_by, declared_all, is_in_range, fits_form}
-use Rattle.ec_trace.specs.Spelling.{workers_line, list_words, number_words, second_words, declaration_words, declaration_line}
+use Rattle.ec_trace.specs.Spelling.{list_words, number_words, second_words, declaration_words, declaration_line}
 use Rattle.ec_trace.specs.Form.{Phrase, parts_in}
-use Rattle.ec_trace.specs.Kinds.{declaration_of, declaration_fault, kind_of, size_in, second_list, workers_fault}
+use Rattle.ec_trace.specs.Kinds.{declaration_of, declaration_fault, kind_of, size_in, second_list}
 use Rattle.ec_trace.specs.Lists.{ids_in, has_unknown}
-use Rattle.ec_trace.specs.Heading.{head_step, words_step, fault_or, opened_by, declared_or, workers_in}
+use Rattle.ec_trace.specs.Heading.{head_step, fault_or, opened_by, declared_or, workers_in}
 use Rattle.ec_trace.specs.HeadingLaws.{SpelledWorkersAreRead, SpelledDeclarationIsRead}
 use Rattle.ec_trace.specs.declared.sort.Sort.{Sort}
 use Rattle.ec_trace.specs.declared.sort.Sort.TheVariants as sorts
 use Rattle.ec_trace.specs.declared.heading.HeadFault.{HeadFault}
-use Rattle.ec_trace.proofs.Phrases.{HasWords, IsSpelled, NumberFits, SecondFits, HasNoStop, number_part, second_part, guarded, is_itself, spelled_parts}
-use Rattle.ec_trace.proofs.Listed.{Named, AreBelow, with_others, ids_again, ids_known}
-use Rattle.ec_trace.proofs.Declarable.{Heads, HasRoom, IsClean, heads_all, heads_opened, has_room, is_clean, no_kind}
+use Rattle.ec_trace.proofs.Phrases.{HasWords, IsSpelled, NumberFits, SecondFits, HasNoStop, number_part, second_part, guarded, spelled_parts}
+use Rattle.ec_trace.proofs.Listed.{Named, AreBelow, ids_again, ids_known}
+use Rattle.ec_trace.proofs.Declarable.{Heads, HasRoom, heads_all, heads_opened, has_room, is_clean, no_kind}
 use Rattle.ec_trace.proofs.NameWords.{name_is_word, name_not_empty, named, IsNamed, name_apart}
 use Rattle.ec_trace.proofs.LineWords.{IsFit, AreFit, AreNamed, fit-append, letters, letters-append, line_read, names_fit, names_letters, listed_named, listed_length}
 use Rattle.ec_trace.proofs.WorkersLine.{no_workers_fault}

@@ -1,26 +1,25 @@
 -- What is read is spelled: the line of the workers, and a declaration's.
-use Rattle.std.proofs.Common.{◌≡◌, ◌≢◌, ℕ, ◌+◌, ◌<◌, ◌≤◌, List, [], ◌∷◌, ◌++◌, length, Bool, true, false, eqb, ltb, cond, Option, Some, None, unwrap_or, Result, Ok, Err, refl, sym, ap, ap₂, subst, ◌∙◌, arith, append_assoc, decimal, codes, bytes_eq, if◌then◌else◌, ne_eqb, eqb-true}
-use Rattle.std.specs.List.{list_any, join_with_byte}
-use Rattle.std.proofs.lemmas.Bool.{true≢false, or_parts, eqb-false, cond-false}
-use Rattle.ec_count.specs.declared.target.Target.{Target}
+use Rattle.std.proofs.Common.{◌≡◌, ◌≢◌, ℕ, ◌≤◌, List, [], ◌∷◌, ◌++◌, length, Bool, true, false, eqb, ltb, cond, Option, Some, None, unwrap_or, Result, Ok, Err, refl, sym, ap, ap₂, ◌∙◌, arith, append_assoc, codes, bytes_eq, ne_eqb}
+use Rattle.std.specs.List.{join_with_byte}
+use Rattle.std.proofs.lemmas.Bool.{or_parts, eqb-false, cond-false}
 use Rattle.ec_text.specs.Words.{words_of, number_of}
 use Rattle.ec_text.proofs.WordLemmas.{split_join}
 use Rattle.ec_text.proofs.NumberLemmas.{number_takes}
-use Rattle.ec_trace.specs.Sorts.{sort_word, has_number, opener, other, needs_other}
+use Rattle.ec_trace.specs.Sorts.{sort_word, opener, other, needs_other}
 use Rattle.ec_trace.specs.Headed.{Headed}
 use Rattle.ec_trace.specs.Outline.{Declaration, AreWorkers, IsDeclarable, opened, declared_by, declared_all}
-use Rattle.ec_trace.specs.Spelling.{workers_line, list_words, number_words, second_words, declaration_words, declaration_line}
+use Rattle.ec_trace.specs.Spelling.{list_words, number_words, second_words, declaration_words}
 use Rattle.ec_trace.specs.Form.{Phrase, parts_in}
 use Rattle.ec_trace.specs.Kinds.{declaration_of, declaration_fault, size_in, second_list, workers_fault, is_bad_number}
 use Rattle.ec_trace.specs.Lists.{ids_in, has_unknown}
 use Rattle.ec_trace.specs.Heading.{head_step, words_step, is_no_line, fault_or, opened_by, declared_or, workers_in}
-use Rattle.ec_trace.specs.HeadingLaws.{NamesWorkers, Declares, ReadWorkersAreSpelled, ReadDeclarationIsSpelled}
+use Rattle.ec_trace.specs.HeadingLaws.{Declares, ReadWorkersAreSpelled, ReadDeclarationIsSpelled}
 use Rattle.ec_trace.specs.declared.sort.Sort.{Sort}
 use Rattle.ec_trace.specs.declared.sort.Sort.TheVariants as sorts
 use Rattle.ec_trace.specs.declared.heading.HeadFault.{HeadFault}
 use Rattle.ec_trace.specs.declared.heading.HeadFault.TheVariants as faults
-use Rattle.ec_trace.proofs.Phrases.{HasWords, IsSpelled, NumberFits, SecondFits, number_part, second_part, same_word, parts_spelled}
-use Rattle.ec_trace.proofs.Listed.{Named, with_others, ids_spelled, ids_some}
+use Rattle.ec_trace.proofs.Phrases.{IsSpelled, NumberFits, SecondFits, number_part, second_part, same_word, parts_spelled}
+use Rattle.ec_trace.proofs.Listed.{Named, ids_spelled, ids_some}
 use Rattle.ec_trace.proofs.Declarable.{Heads, IsClean, clean, heads_all, heads_opened, may_declare}
 use Rattle.ec_trace.proofs.WorkersLine.{are_workers}
 

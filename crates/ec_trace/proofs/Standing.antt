@@ -1,15 +1,15 @@
 -- An outline stands behind a heading, after each line.
-use Rattle.std.proofs.Common.{◌≡◌, ◌≢◌, ℕ, ◌+◌, ◌<◌, ◌≤◌, ◌^◌, List, [], ◌∷◌, ◌++◌, length, Option, Some, None, refl, sym, ap, ap₂, subst, ◌∙◌, arith, inl, inr, zero-add}
+use Rattle.std.proofs.Common.{◌≡◌, ◌≢◌, ℕ, ◌+◌, ◌<◌, ◌≤◌, ◌^◌, List, [], ◌∷◌, ◌++◌, length, Some, None, refl, sym, ap, subst, ◌∙◌, arith, inl, inr, zero-add}
 use Rattle.ec_count.specs.Tables.{Tables, empty_tables}
 use Rattle.ec_count.specs.declared.target.Target.{Target}
 use Rattle.ec_text.specs.Words.{words_of}
 use Rattle.ec_text.proofs.WordLemmas.{has_first}
 use Rattle.ec_trace.specs.Headed.{Headed}
-use Rattle.ec_trace.specs.Outline.{Declaration, Outline, IsOutline, IsDeclarable, AreDeclarable, AreWorkers, opened, numbered, declared_by, declared_all, headed, with_objects, target_of}
+use Rattle.ec_trace.specs.Outline.{Declaration, Outline, IsDeclarable, AreDeclarable, opened, numbered, declared_by, declared_all, with_objects, target_of}
 use Rattle.ec_trace.specs.Outlined.{HasOutline, IsHeading}
 use Rattle.ec_trace.specs.Form.{Phrase, parts_in}
 use Rattle.ec_trace.specs.Kinds.{workers_fault, declaration_fault, declaration_of}
-use Rattle.ec_trace.proofs.Phrases.{HasWords, IsSpelled, parts_spelled}
+use Rattle.ec_trace.proofs.Phrases.{HasWords, parts_spelled}
 use Rattle.ec_trace.proofs.Declarable.{Heads, heads_all, heads_opened, may_declare}
 use Rattle.ec_trace.proofs.WorkersLine.{are_workers}
 

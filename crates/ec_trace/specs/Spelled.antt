@@ -3,7 +3,7 @@ use Rattle.std.specs.Prelude.{ℕ, ◌+◌, ◌==◌, nat_lt, List, [], ◌∷�
 use Rattle.std.specs.Option.{option_and_then}
 use Rattle.ec_count.specs.Names.{find_name}
 use Rattle.ec_count.specs.declared.target.Target.{Target}
-use Rattle.ec_count.specs.declared.target.Target.TheVariants.{Worker, Event, Sequencer, Cells, Group}
+use Rattle.ec_count.specs.declared.target.Target.TheVariants.{Event, Sequencer, Cells}
 use Rattle.ec_text.specs.Words.{number_of}
 
 abbrev pub Named : Type 0
