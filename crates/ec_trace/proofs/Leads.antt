@@ -1,6 +1,6 @@
 -- Lines that lead from one stage to another, and texts of lines.
-use Rattle.std.proofs.Common.{◌≡◌, ◌≢◌, ℕ, ◌+◌, ◌<◌, ◌≤◌, List, [], ◌∷◌, ◌++◌, length, take, cond, Bool, true, false, eqb, ltb, refl, sym, ap, subst, ◌∙◌, arith, Result, Ok, Err, append_assoc, append-nil, le-ltb, ltb-false, ◌&&◌}
-use Rattle.std.specs.List.{AllByRecursion, All, join_with_byte, slice_split}
+use Rattle.std.proofs.Common.{◌≡◌, ◌≢◌, ℕ, ◌+◌, ◌≤◌, List, [], ◌∷◌, ◌++◌, length, take, cond, Bool, true, false, eqb, ltb, refl, sym, ap, subst, ◌∙◌, arith, Result, Ok, Err, append_assoc, append-nil, le-ltb, ltb-false, ◌&&◌}
+use Rattle.std.specs.List.{AllByRecursion, All, join_with_byte}
 use Rattle.std.proofs.lemmas.Bool.{and_right, cond-false, eqb-true}
 use Rattle.std.proofs.lemmas.List.{take_all}
 use Rattle.std.proofs.lemmas.List.Splits.{join_with_byte-slice_split}
@@ -12,7 +12,7 @@ use Rattle.ec_trace.specs.declared.stage.Stage.TheVariants.{Opening, Limiting, D
 use Rattle.ec_trace.specs.Recounted.{Recounted}
 use Rattle.ec_trace.specs.Spelling.{text_of, ended_line}
 use Rattle.ec_trace.specs.Step.{step, is_ended}
-use Rattle.ec_trace.specs.Outcome.{Place, parts_of, goes, goes_from, taken, is_bad_rest, numbered, start, outcome, bounded, ended_at, traced_in}
+use Rattle.ec_trace.specs.Outcome.{Place, parts_of, goes, goes_from, taken, is_bad_rest, start, outcome, bounded, ended_at, traced_in}
 use Rattle.ec_trace.proofs.Goes.{goes_line, goes_ended, HasFirst, has_first}
 
 pub record IsLine (line : List ℕ) : Type 0 where

@@ -1,8 +1,8 @@
 -- The spelling of a cell is read, and nothing else.
-use Rattle.std.proofs.Common.{◌≡◌, ◌≢◌, ℕ, ◌+◌, ◌-◌, ◌<◌, ◌≤◌, ◌^◌, List, [], ◌∷◌, ◌++◌, length, get_or, cond, Bool, eqb, ltb, true, false, Option, None, Some, refl, sym, ap, subst, ◌∙◌, arith, eq-eqb, codes, decimal, append_assoc, nat_lt}
+use Rattle.std.proofs.Common.{◌≡◌, ℕ, ◌+◌, ◌-◌, ◌<◌, List, [], ◌∷◌, ◌++◌, cond, eqb, true, false, Option, None, Some, refl, sym, ap, ◌∙◌, arith, eq-eqb, decimal, append_assoc, nat_lt}
 use Rattle.std.specs.Prelude.{option_map}
 use Rattle.std.specs.Option.{option_and_then}
-use Rattle.std.specs.List.{All, AllByRecursion}
+use Rattle.std.specs.List.{AllByRecursion}
 use Rattle.std.specs.Int.{IsInRange}
 use Rattle.std.proofs.lemmas.Bool.{eqb-true, ne_eqb, ltb-true, lt-ltb}
 use Rattle.std.proofs.lemmas.List.Elements.{All-from_get_or, recursion_from_All}
@@ -10,7 +10,7 @@ use Rattle.std.proofs.lemmas.Str.Parse.{not_in_digits}
 use Rattle.std.proofs.lemmas.Fmt.{digits_decimal}
 use Rattle.ec_count.specs.Names.{find_name, AreNames}
 use Rattle.ec_count.specs.declared.target.Target.{Target}
-use Rattle.ec_count.specs.declared.target.Target.TheVariants.{Worker, Event, Sequencer, Cells, Group}
+use Rattle.ec_count.specs.declared.target.Target.TheVariants.{Cells}
 use Rattle.ec_text.specs.Words.{number_of}
 use Rattle.ec_text.proofs.NumberLemmas.{own, number_again, number_takes, guarded}
 use Rattle.ec_trace.specs.Spelling.{cell_word}
@@ -58,7 +58,7 @@ cut_at-joins c (b ∷ word) front rest e =
 pub decimal_lacks : (c n : ℕ) → n < 1000000000000000000 → ¬ (IsInRange 48 57 c) → AllByRecursion (λ b. eqb b c ≡ false) (decimal n)
 decimal_lacks c n small out =
     recursion_from_All (λ b. eqb b c ≡ false) (decimal n) (All-from_get_or (λ b. eqb b c ≡ false) (decimal n) 0 (λ i h.
-        ne_eqb _ _ (not_in_digits own (decimal n) c (digits_decimal own n (omega arith)) out i h)))
+    ne_eqb _ _ (not_in_digits own (decimal n) c (digits_decimal own n (omega arith)) out i h)))
 
 -- the word of a cell, whose block has this name
 bracketed_read : (names : Named) (block : List ℕ) (first n i : ℕ) → IsNamedBy names (Cells first n) block → i < n → i < 1000000000000000000 → cell_in_word names (bracketed block i) ≡ Some (first + i)

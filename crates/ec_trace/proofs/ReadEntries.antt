@@ -1,9 +1,9 @@
 -- Entries are read from their spelling, and from nothing else.
-use Rattle.std.proofs.Common.{◌≡◌, ◌≢◌, ℕ, ◌-◌, ◌<◌, List, [], ◌∷◌, ◌++◌, Bool, true, false, cond, eqb, Option, None, Some, refl, sym, ap, subst, ◌∙◌, arith, codes, decimal, inl, inr, ◌⊎◌, get_or, unwrap_or}
+use Rattle.std.proofs.Common.{◌≡◌, ℕ, ◌-◌, ◌<◌, List, [], ◌∷◌, ◌++◌, Bool, true, false, cond, eqb, Option, None, Some, refl, sym, ap, subst, ◌∙◌, arith, codes, decimal, inl, inr, ◌⊎◌, get_or}
 use Rattle.std.specs.Prelude.{bytes_eq}
 use Rattle.std.specs.Option.{option_and_then}
 use Rattle.std.specs.Int.{IsInRange}
-use Rattle.std.specs.List.{All, AllByRecursion, join_with_byte}
+use Rattle.std.specs.List.{AllByRecursion, join_with_byte}
 use Rattle.std.proofs.lemmas.Bool.{false_from_ne_true}
 use Rattle.std.proofs.lemmas.List.Elements.{All-from_recursion}
 use Rattle.std.proofs.lemmas.Slice.Eq.{bytes_eq-Decides}
@@ -16,8 +16,8 @@ use Rattle.ec_core.specs.declared.act.Reply.TheVariants.{Done, Number, Pending}
 use Rattle.ec_core.specs.declared.act.Entry.{Entry}
 use Rattle.ec_count.specs.Names.{find_name, AreNames}
 use Rattle.ec_count.specs.declared.target.Target.{Target}
-use Rattle.ec_count.specs.declared.target.Target.TheVariants.{Worker, Event, Sequencer, Cells, Group}
-use Rattle.ec_text.specs.Words.{words_of, number_of, IsWord, AreWords}
+use Rattle.ec_count.specs.declared.target.Target.TheVariants.{Worker, Event, Sequencer}
+use Rattle.ec_text.specs.Words.{words_of, number_of, IsWord}
 use Rattle.ec_text.proofs.WordLemmas.{HasFirst, has_first, words_join, split_join, literal_word}
 use Rattle.ec_text.proofs.NumberLemmas.{own, number_again, number_takes, guarded}
 use Rattle.ec_trace.specs.Spelling.{word_of, cell_word, act_words, reply_word, entry_words, entry_line}
@@ -26,7 +26,7 @@ use Rattle.ec_trace.specs.Spelled.{Named, event_of, sequencer_of, event_in, sequ
 use Rattle.ec_trace.specs.Entries.{◌>>=◌, act_alone, act_on, act_with, reply_of, entry_by, entry_in, entry_of}
 use Rattle.ec_trace.specs.Step.{limit_in}
 use Rattle.ec_trace.proofs.ReadNames.{AreApart, HasName, is_celled, HasBlock, has_block, block_by, IsNamedBy, named_by, name_lacks, word_back, bracketed}
-use Rattle.ec_trace.proofs.ReadCells.{option_back, decimal_lacks, cell_again, cell_spelled}
+use Rattle.ec_trace.proofs.ReadCells.{decimal_lacks, cell_again, cell_spelled}
 
 pub too_many : (names : Named) (a b c d e f more : List ℕ) → entry_in names (a ∷ b ∷ c ∷ d ∷ e ∷ f ∷ words_of more) ≡ None
 unfolding entry_in

@@ -1,21 +1,18 @@
 -- What is true of the names and tables of every outline: each thing has one name, and each bound holds.
-use Rattle.std.proofs.Common.{◌≡◌, ◌≢◌, ℕ, ◌+◌, ◌-◌, ◌<◌, ◌≤◌, ◌^◌, List, [], ◌∷◌, ◌++◌, length, cond, Bool, true, false, eqb, ltb, leb, ◌&&◌, ◌||◌, zero, suc, Option, None, Some, refl, sym, ap, subst, ◌∙◌, arith, nat_lt, nat_le, inl, inr, get_or, replicate, length-append, zero-add}
-use Rattle.std.specs.Prelude.{IsTrue, not}
-use Rattle.std.specs.List.{All, AllPairs, AllByRecursion, list_any}
-use Rattle.std.proofs.lemmas.Bool.{true≢false, and_parts, and_from, and_right, or_parts, or_from, or_left, or_right, ltb-true, lt-ltb, le-ltb, leb-true, le-leb, ltb-false, leb-false, eqb-true, eqb-false, ne_eqb, eq-eqb, cases_lt}
-use Rattle.std.proofs.lemmas.List.Elements.{recursion_from_All, All-from_recursion}
+use Rattle.std.proofs.Common.{◌≡◌, ◌≢◌, ℕ, ◌+◌, ◌<◌, ◌≤◌, ◌^◌, List, [], ◌∷◌, ◌++◌, length, cond, Bool, true, false, eqb, ltb, ◌||◌, zero, suc, None, Some, refl, sym, ap, subst, ◌∙◌, arith, nat_lt, nat_le, inl, inr, get_or, replicate, length-append}
+use Rattle.std.specs.List.{AllByRecursion, list_any}
+use Rattle.std.proofs.lemmas.Bool.{true≢false, and_from, and_right, or_parts, or_from, or_left, or_right, ltb-true, lt-ltb, le-ltb, leb-true, le-leb, ltb-false, eqb-false, ne_eqb, cases_lt}
 use Rattle.ec_count.specs.Names.{find_name, name_of, same_target, AreNames, name_fault}
-use Rattle.ec_count.specs.Tables.{Tables, IsDeclared, KeepsTables, empty_tables, has_unsound, has_faulty_rights, has_faulty_takers, has_faulty_access}
+use Rattle.ec_count.specs.Tables.{Tables, IsDeclared, KeepsTables}
 use Rattle.ec_count.specs.Members.{is_faulty, has_repeat}
 use Rattle.ec_count.specs.declared.setup.Rights.{Rights}
-use Rattle.ec_count.specs.declared.setup.Access.{Access}
 use Rattle.ec_count.specs.Reserved.{is_name}
 use Rattle.ec_count.specs.declared.target.Target.{Target}
 use Rattle.ec_count.specs.declared.target.Target.TheVariants.{Worker, Event, Sequencer, Cells, Group}
 use Rattle.ec_count.proofs.Named.{AreNames-push}
 use Rattle.ec_count.proofs.Declared.{rights_of, takers_of, access_of, more_cells}
 use Rattle.ec_trace.specs.Headed.{Headed}
-use Rattle.ec_trace.specs.Outline.{Declaration, Outline, IsOutline, IsDeclarable, AreDeclarable, AreWorkers, opened, numbered, declared_by, declared_all, headed, with_objects, objects_fault, target_of}
+use Rattle.ec_trace.specs.Outline.{Declaration, Outline, IsOutline, IsDeclarable, AreDeclarable, AreWorkers, opened, numbered, declared_by, declared_all, headed, with_objects, target_of}
 use Rattle.ec_trace.specs.declared.sort.Sort.{Sort}
 use Rattle.ec_trace.specs.declared.sort.Sort.TheVariants as sorts
 use Rattle.ec_trace.specs.Spelling.{cell_in}

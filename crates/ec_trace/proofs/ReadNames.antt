@@ -1,10 +1,9 @@
 -- Names of a heading: each thing has one, and it is found by it.
-use Rattle.std.proofs.Common.{◌≡◌, ◌≢◌, ℕ, ◌+◌, ◌-◌, ◌<◌, ◌≤◌, List, [], ◌∷◌, ◌++◌, length, cond, Bool, true, false, eqb, ltb, leb, ◌&&◌, ◌||◌, zero, suc, Option, None, Some, unwrap_or, refl, sym, ap, subst, ◌∙◌, arith, rules, nat_lt, nat_le, inl, inr, codes, decimal, slice_get}
-use Rattle.std.specs.Prelude.{bytes_eq, IsTrue, not}
-use Rattle.std.specs.List.{All, AllByRecursion, list_all, list_any}
-use Rattle.std.specs.Option.{option_and_then}
+use Rattle.std.proofs.Common.{◌≡◌, ℕ, ◌+◌, ◌-◌, ◌<◌, ◌≤◌, List, [], ◌∷◌, ◌++◌, length, cond, Bool, true, false, eqb, ◌&&◌, ◌||◌, suc, Option, Some, unwrap_or, refl, sym, ap, subst, ◌∙◌, arith, nat_lt, nat_le, codes, decimal, slice_get}
+use Rattle.std.specs.Prelude.{bytes_eq, not}
+use Rattle.std.specs.List.{AllByRecursion, list_all, list_any}
 use Rattle.std.specs.Char.{is_ascii_alphabetic}
-use Rattle.std.proofs.lemmas.Bool.{true≢false, and_parts, and_from, or_cases, ltb-true, lt-ltb, leb-true, le-leb, ltb-false, leb-false, eqb-true, ne_eqb, eq-eqb, false_from_ne_true}
+use Rattle.std.proofs.lemmas.Bool.{true≢false, and_parts, and_from, ltb-true, lt-ltb, leb-true, le-leb, ne_eqb, eq-eqb, false_from_ne_true}
 use Rattle.std.proofs.lemmas.Slice.Eq.{bytes_eq-Decides}
 use Rattle.std.proofs.lemmas.List.Elements.{recursion_from_All}
 use Rattle.ec_count.specs.Names.{find_name, name_of, same_target, AreNames}
@@ -82,10 +81,10 @@ cell_inside t first n i small is =
 cell_outside : (s : Target) (first n i : ℕ) → i < n → is_shared s (Cells first n) ≡ false → cell_in (first + i) s ≡ false
 cell_outside (Cells x m) first n i small off =
     false_from_ne_true _ (λ h.
-        let p = and_parts (nat_le x (first + i)) (nat_lt (first + i) (x + m)) h in
-        let low : x ≤ first + i = leb-true _ _ p.0 in
-        let high : first + i < x + m = ltb-true _ _ p.1 in
-        true≢false (sym (and_from _ _ (lt-ltb x (first + n) (omega arith)) (lt-ltb first (x + m) (omega arith))) ∙ off))
+    let p = and_parts (nat_le x (first + i)) (nat_lt (first + i) (x + m)) h in
+    let low : x ≤ first + i = leb-true _ _ p.0 in
+    let high : first + i < x + m = ltb-true _ _ p.1 in
+    true≢false (sym (and_from _ _ (lt-ltb x (first + n) (omega arith)) (lt-ltb first (x + m) (omega arith))) ∙ off))
 cell_outside _ first n i small off = refl
 
 -- a cell of a block that is found is spelled by the block's word

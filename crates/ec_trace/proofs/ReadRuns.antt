@@ -1,5 +1,5 @@
 -- The lines of entries, read one after another.
-use Rattle.std.proofs.Common.{◌≡◌, ◌≢◌, ℕ, ◌+◌, ◌<◌, ◌≤◌, ◌^◌, List, [], ◌∷◌, ◌++◌, length, cond, Bool, true, false, eqb, Option, Some, None, Result, Ok, Err, map, refl, sym, ap, subst, ◌∙◌, arith, codes, append_assoc, append-nil, reverse, nat_le, nat_lt}
+use Rattle.std.proofs.Common.{◌≡◌, ℕ, ◌<◌, ◌≤◌, List, [], ◌∷◌, ◌++◌, length, cond, true, false, Option, Some, None, Result, Ok, Err, map, refl, sym, ap, subst, ◌∙◌, arith, codes, append-nil, reverse}
 use Rattle.std.specs.Prelude.{bytes_eq}
 use Rattle.std.specs.List.{AllByRecursion}
 use Rattle.std.proofs.lemmas.Bool.{true≢false, eqb-true, eq-eqb, false_from_ne_true, leb-false, ltb-false}
@@ -20,9 +20,9 @@ use Rattle.ec_core.proofs.Answering.{allowed}
 use Rattle.ec_core.proofs.Bounds.{told_small}
 use Rattle.ec_trace.specs.Headed.{Headed}
 use Rattle.ec_trace.specs.declared.fault.LineFault.{LineFault}
-use Rattle.ec_trace.specs.declared.fault.LineFault.TheVariants.{Bad, Refused, WrongReply}
+use Rattle.ec_trace.specs.declared.fault.LineFault.TheVariants.{Bad, WrongReply}
 use Rattle.ec_trace.specs.declared.stage.Stage.{Stage}
-use Rattle.ec_trace.specs.declared.stage.Stage.TheVariants.{Opening, Limiting, Declaring, Running, Ended}
+use Rattle.ec_trace.specs.declared.stage.Stage.TheVariants.{Running, Ended}
 use Rattle.ec_trace.specs.Recounted.{Recounted}
 use Rattle.ec_trace.specs.Spelling.{entry_line}
 use Rattle.ec_trace.specs.Spelled.{Named}
@@ -94,8 +94,8 @@ no_end names = refl
 not_end : (names : Named) (line : List ℕ) (e : Entry) → entry_of names line ≡ Some e → bytes_eq line (codes "end") ≡ false
 not_end names line e h =
     false_from_ne_true _ (λ same.
-        let k : None ≡ Some e = sym (no_end names) ∙ ap (entry_of names) (sym ((bytes_eq-Decides line (codes "end")).0 same)) ∙ h in
-        cc)
+    let k : None ≡ Some e = sym (no_end names) ∙ ap (entry_of names) (sym ((bytes_eq-Decides line (codes "end")).0 same)) ∙ h in
+    cc)
 
 abbrev with_entry : Recounted → Entry → Recounted
 with_entry t e = record { heading = t.heading; entries = t.entries ++ e ∷ [] }
@@ -118,14 +118,15 @@ entries_lead h pre (e ∷ es) is acc =
       Running (record { heading = h; entries = pre ++ e ∷ [] }),
       steps_so (record { heading = h; entries = pre }) (entry_line h.names e) e (entry_again h.names e is.names (may_be_spelled h (reverse pre) e is now)) now.0,
       subst (λ (xs : List Entry). Leads (Running (record { heading = h; entries = pre ++ e ∷ [] })) (map (entry_line h.names) es) (Running (record { heading = h; entries = xs }))) (sym more)
-      (entries_lead h (pre ++ e ∷ []) es is (subst (λ (xs : List Entry). IsAccepted h.setup (reverse xs)) more acc)),
+          (entries_lead h (pre ++ e ∷ []) es is (subst (λ (xs : List Entry). IsAccepted h.setup (reverse xs)) more acc)),
     )
 
 pub entries_are_lines : (h : Headed) (pre es : List Entry) → IsSound h → IsAccepted h.setup (reverse (pre ++ es)) → AllByRecursion IsLine (map (entry_line h.names) es)
 entries_are_lines h pre [] is acc = tt
-entries_are_lines h pre (e ∷ es) is acc =
-    (entry_line_is h.names e is.names (may_be_spelled h (reverse pre) e is (accepted_front h.setup pre es e acc)),
-    entries_are_lines h (pre ++ e ∷ []) es is (subst (λ (xs : List Entry). IsAccepted h.setup (reverse xs)) (sym (append_snoc pre e es)) acc))
+entries_are_lines h pre (e ∷ es) is acc = (
+  entry_line_is h.names e is.names (may_be_spelled h (reverse pre) e is (accepted_front h.setup pre es e acc)),
+  entries_are_lines h (pre ++ e ∷ []) es is (subst (λ (xs : List Entry). IsAccepted h.setup (reverse xs)) (sym (append_snoc pre e es)) acc),
+)
 
 pub end_leads : (t : Recounted) → Leads (Running t) (codes "end" ∷ []) (Ended t)
 unfolding step

@@ -1,9 +1,9 @@
 -- A trace is read as what it spells, and nothing else is read.
-use Rattle.std.proofs.Common.{◌≡◌, ◌≢◌, ℕ, ◌+◌, ◌<◌, ◌≤◌, ◌^◌, List, [], ◌∷◌, ◌++◌, length, cond, Bool, true, false, eqb, Option, Some, None, Result, Ok, Err, map, refl, sym, ap, ap₂, subst, ◌∙◌, arith, codes, decimal, append_assoc, append-nil, reverse, nat_le, nat_lt, leb, ◌&&◌}
+use Rattle.std.proofs.Common.{◌≡◌, ℕ, ◌<◌, ◌≤◌, ◌^◌, List, [], ◌∷◌, ◌++◌, length, cond, true, false, eqb, Option, Some, None, Result, Ok, Err, map, refl, sym, ap, ap₂, subst, ◌∙◌, arith, codes, decimal, append_assoc, reverse, nat_le, nat_lt, leb, ◌&&◌}
 use Rattle.std.specs.Prelude.{bytes_eq, not, IfSome, IfOk, IfErr}
 use Rattle.std.specs.Option.{option_and_then}
 use Rattle.std.specs.List.{AllByRecursion, join_with_byte, list_all}
-use Rattle.std.proofs.lemmas.Bool.{true≢false, false_from_ne_true, and_parts, and_from, and_left, lt-ltb, le-leb, ltb-true, leb-true}
+use Rattle.std.proofs.lemmas.Bool.{false_from_ne_true, and_parts, and_from, and_left, lt-ltb, le-leb, ltb-true, leb-true}
 use Rattle.std.proofs.lemmas.Slice.Eq.{bytes_eq-Decides}
 use Rattle.ec_core.specs.Acceptance.{IsAccepted}
 use Rattle.ec_core.specs.declared.act.Entry.{Entry}
@@ -13,12 +13,12 @@ use Rattle.ec_text.proofs.NumberLemmas.{number_again, number_takes, guarded}
 use Rattle.ec_trace.specs.Headed.{Headed}
 use Rattle.ec_trace.specs.Outline.{Outline, IsOutline, opened, headed}
 use Rattle.ec_trace.specs.Form.{parts_in}
-use Rattle.ec_trace.specs.Heading.{head_step, words_step, opened_by, declared_or}
+use Rattle.ec_trace.specs.Heading.{head_step, opened_by, declared_or}
 use Rattle.ec_trace.specs.HeadingLaws.{LinesLead, Outlines, outline_lines}
 use Rattle.ec_trace.specs.declared.heading.HeadFault.{HeadFault}
 use Rattle.ec_trace.specs.declared.heading.HeadFault.TheVariants as head_faults
 use Rattle.ec_trace.specs.declared.fault.LineFault.{LineFault}
-use Rattle.ec_trace.specs.declared.fault.LineFault.TheVariants.{Bad, Refused, WrongReply}
+use Rattle.ec_trace.specs.declared.fault.LineFault.TheVariants.{Bad}
 use Rattle.ec_trace.specs.declared.stage.Stage.{Stage}
 use Rattle.ec_trace.specs.declared.stage.Stage.TheVariants.{Opening, Limiting, Declaring, Running, Ended}
 use Rattle.ec_trace.specs.declared.fault.TraceFault.{TraceFault}
@@ -32,7 +32,7 @@ use Rattle.ec_trace.specs.ReadingLaws.{TraceIsRead, IsTraceOf, IsNoTrace, Refuse
 use Rattle.ec_trace.specs.declared.read.TheConstants.{TRACE_MAX}
 use Rattle.ec_trace.proofs.Declarable.{Heads, heads_opened, heads_all}
 use Rattle.ec_trace.proofs.LeadLines.{outline_leads, leads_outline}
-use Rattle.ec_trace.proofs.Leads.{IsLine, Leads, leads_append, IsText, text_read, no_front, one_meaning, IsRead, text_back}
+use Rattle.ec_trace.proofs.Leads.{IsLine, Leads, leads_append, IsText, text_read, no_front, one_meaning, text_back}
 use Rattle.ec_trace.proofs.TraceLines.{line_is, literal_lacks, each_append, heading_lines_are, limit_line_is}
 use Rattle.ec_trace.proofs.ReadHeadings.{IsSound, sound}
 use Rattle.ec_trace.proofs.ReadEntries.{number_word}
@@ -93,8 +93,8 @@ not_heading h = elim (eqb h.setup.workers 0) as (λ b. cond b (opened_by h.setup
 not_run : (h next : Headed) (line : List ℕ) → head_step h line ≡ Ok next → bytes_eq line (codes "run") ≡ false
 not_run h next line e =
     false_from_ne_true _ (λ same.
-        let k : Err head_faults.BadLine ≡ Ok next = sym (not_heading h) ∙ ap (head_step h) (sym ((bytes_eq-Decides line (codes "run")).0 same)) ∙ e in
-        cc)
+    let k : Err head_faults.BadLine ≡ Ok next = sym (not_heading h) ∙ ap (head_step h) (sym ((bytes_eq-Decides line (codes "run")).0 same)) ∙ e in
+    cc)
 
 declares_so : (h next : Headed) (line : List ℕ) → head_step h line ≡ Ok next → step (Declaring h) line ≡ Ok (Declaring next)
 unfolding step
@@ -188,13 +188,17 @@ literal_is : (line : List ℕ) → list_all (λ b. not (eqb b 10)) line ≡ true
 literal_is line clean short = line_is line (literal_lacks line clean) (leb-true _ _ short)
 
 all_lines : (o : Outline) (es : List Entry) → IsOutline o → IsAccepted (headed o).setup (reverse es) → AllByRecursion IsLine (trace_lines o es)
-all_lines o es is acc =
-    (literal_is (codes "evc-trace 1") refl refl, (limit_line_is o.limit is.high,
+all_lines o es is acc = (
+  literal_is (codes "evc-trace 1") refl refl,
+  (
+    limit_line_is o.limit is.high,
     each_append IsLine (outline_lines o ++ codes "run" ∷ map (entry_line (headed o).names) es) (codes "end" ∷ [])
-    (each_append IsLine (outline_lines o) (codes "run" ∷ map (entry_line (headed o).names) es)
-    (heading_lines_are o (opened o.limit []) (headed o) is (outline_leads o is))
-    (literal_is (codes "run") refl refl, entries_are_lines (headed o) [] es (sound o is) acc))
-    (literal_is (codes "end") refl refl, tt)))
+        (each_append IsLine (outline_lines o) (codes "run" ∷ map (entry_line (headed o).names) es)
+        (heading_lines_are o (opened o.limit []) (headed o) is (outline_leads o is))
+        (literal_is (codes "run") refl refl, entries_are_lines (headed o) [] es (sound o is) acc))
+        (literal_is (codes "end") refl refl, tt),
+  ),
+)
 
 is_text : (bytes : List ℕ) (o : Outline) (es : List Entry) → IsTrace bytes o es → IsText bytes (trace_lines o es) (recount o es)
 unfolding trace_text

@@ -1,7 +1,7 @@
 -- The lines of a trace: none has an LF, and none is too long.
-use Rattle.std.proofs.Common.{◌≡◌, ◌≢◌, ℕ, ◌+◌, ◌-◌, ◌*◌, ◌<◌, ◌≤◌, ◌^◌, List, [], ◌∷◌, ◌++◌, length, cond, Bool, true, false, eqb, ltb, leb, zero, suc, Option, None, Some, Result, Ok, Err, map, refl, sym, ap, subst, ◌∙◌, arith, get_or, codes, decimal, length-append, nat_le, ◌&&◌, ◌||◌}
+use Rattle.std.proofs.Common.{◌≡◌, ◌≢◌, ℕ, ◌-◌, ◌*◌, ◌<◌, ◌≤◌, ◌^◌, List, [], ◌∷◌, ◌++◌, length, cond, Bool, true, false, eqb, ltb, leb, zero, suc, Result, Ok, Err, map, refl, sym, subst, arith, get_or, codes, decimal, length-append, nat_le, ◌&&◌}
 use Rattle.std.specs.Prelude.{not}
-use Rattle.std.specs.List.{All, AllByRecursion, list_all, join_with_byte}
+use Rattle.std.specs.List.{AllByRecursion, list_all, join_with_byte}
 use Rattle.std.proofs.lemmas.Bool.{and_parts, not-true, eqb-true, eqb-false, ltb-false, leb-true, or_parts}
 use Rattle.std.proofs.lemmas.List.Elements.{recursion_from_All, All-from_recursion}
 use Rattle.std.proofs.lemmas.Fmt.{length-decimal-le}
@@ -12,22 +12,20 @@ use Rattle.ec_core.specs.declared.act.Reply.TheVariants.{Done, Number, Pending}
 use Rattle.ec_core.specs.declared.act.Entry.{Entry}
 use Rattle.ec_count.specs.Names.{AreNames}
 use Rattle.ec_count.specs.Reserved.{is_name, is_name_byte, is_reserved}
-use Rattle.ec_count.specs.declared.target.Target.{Target}
-use Rattle.ec_count.specs.declared.target.Target.TheVariants.{Worker, Event, Sequencer, Cells, Group}
+use Rattle.ec_count.specs.declared.target.Target.TheVariants.{Worker, Event, Sequencer}
 use Rattle.ec_text.specs.Words.{words_of}
 use Rattle.ec_trace.specs.Headed.{Headed}
-use Rattle.ec_trace.specs.Outline.{Declaration, Outline, IsOutline, IsDeclarable, AreDeclarable, AreWorkers, declared_by}
+use Rattle.ec_trace.specs.Outline.{Declaration, Outline, IsOutline, IsDeclarable, AreDeclarable, declared_by}
 use Rattle.ec_trace.specs.declared.sort.Sort.{Sort}
 use Rattle.ec_trace.specs.declared.sort.Sort.TheVariants as sorts
-use Rattle.ec_trace.specs.declared.heading.HeadFault.{HeadFault}
 use Rattle.ec_trace.specs.declared.heading.HeadFault.TheVariants as faults
 use Rattle.ec_trace.specs.Sorts.{sort_word, has_number, opener, other}
-use Rattle.ec_trace.specs.Spelling.{word_of, cell_word, act_words, reply_word, entry_words, entry_line, limit_line, workers_line, declaration_line, declaration_words, list_words, number_words, second_words}
+use Rattle.ec_trace.specs.Spelling.{word_of, cell_word, act_words, reply_word, entry_words, entry_line, limit_line, declaration_line, declaration_words, list_words, number_words, second_words}
 use Rattle.ec_trace.specs.Spelled.{Named}
 use Rattle.ec_trace.specs.Heading.{head_step, is_no_line, words_step}
 use Rattle.ec_trace.specs.HeadingLaws.{LinesLead, outline_lines}
 use Rattle.ec_trace.proofs.Leads.{IsLine}
-use Rattle.ec_trace.proofs.ReadNames.{HasName, is_celled, HasBlock, has_block, block_by, IsNamedBy, named_by, name_lacks, bracketed}
+use Rattle.ec_trace.proofs.ReadNames.{HasBlock, has_block, block_by, named_by, name_lacks}
 use Rattle.ec_trace.proofs.ReadCells.{decimal_lacks}
 use Rattle.ec_trace.proofs.ReadEntries.{ActIsNamed, ReplyIsShort, IsSpellable}
 
@@ -191,8 +189,14 @@ cell_fine names x are b small =
           lacks_append (b.block ++ 91 ∷ [] ++ decimal (x - b.first)) (93 ∷ [])
           (lacks_append (b.block ++ 91 ∷ []) (decimal (x - b.first)) (lacks_append b.block (91 ∷ []) (name_clean b.block name) (refl, tt)) (number_clean (x - b.first) low))
           (refl, tt);
-      short = omega (arith, name_short b.block name, length-decimal-le 18 (x - b.first) (omega arith) (omega arith) (omega arith),
-          length-append (b.block ++ 91 ∷ [] ++ decimal (x - b.first)) (93 ∷ []), length-append (b.block ++ 91 ∷ []) (decimal (x - b.first)), length-append b.block (91 ∷ []));
+      short = omega (
+        arith,
+        name_short b.block name,
+        length-decimal-le 18 (x - b.first) (omega arith) (omega arith) (omega arith),
+        length-append (b.block ++ 91 ∷ [] ++ decimal (x - b.first)) (93 ∷ []),
+        length-append (b.block ++ 91 ∷ []) (decimal (x - b.first)),
+        length-append b.block (91 ∷ []),
+      );
     })
 
 reply_fine : (r : Reply) → ReplyIsShort r → IsFine (reply_word r)

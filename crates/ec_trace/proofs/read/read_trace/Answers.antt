@@ -1,4 +1,4 @@
-use Rattle.std.proofs.Common.{◌≡◌, Option, Some, None, Result, Ok, Err}
+use Rattle.std.proofs.Common.{Err}
 use Rattle.std.proofs.lemmas.Result.{err_from_is_err_and}
 use Rattle.ec_trace.proofs.Stood.{finishes}
 use Rattle.ec_trace.proofs.ReadTraces.{told_trace, told_fault}
