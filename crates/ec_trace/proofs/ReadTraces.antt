@@ -31,6 +31,8 @@ use Rattle.ec_trace.specs.Step.{step, limit_of, limit_in, in_range, limited, dec
 use Rattle.ec_trace.specs.ReadingLaws.{TraceIsRead, IsTraceOf, IsNoTrace, Refuses, ReadIsTrace, TraceHasOneMeaning, NoTraceBeginsAnother}
 use Rattle.ec_trace.specs.declared.read.TheConstants.{TRACE_MAX}
 use Rattle.ec_trace.proofs.Declarable.{Heads, heads_opened, heads_all}
+use Rattle.ec_trace.specs.Recalled.{outline_of}
+use Rattle.ec_trace.proofs.OutlineFound.{outline_found}
 use Rattle.ec_trace.proofs.LeadLines.{outline_leads, leads_outline}
 use Rattle.ec_trace.proofs.Leads.{IsLine, Leads, leads_append, IsText, text_read, no_front, one_meaning, text_back}
 use Rattle.ec_trace.proofs.TraceLines.{line_is, literal_lacks, each_append, heading_lines_are, limit_line_is}
@@ -213,7 +215,8 @@ no_trace_begins_another bytes more o p es fs h k = no_front bytes more (trace_li
 pub trace_has_one_meaning : TraceHasOneMeaning
 trace_has_one_meaning bytes o p es fs h k =
     let same : recount o es ≡ recount p fs = one_meaning bytes (trace_lines o es) (trace_lines p fs) (recount o es) (recount p fs) (is_text bytes o es h) (is_text bytes p fs k) in
-    (ap (λ (t : Recounted). t.heading) same, ap (λ (t : Recounted). t.entries) same)
+    let heading : headed o ≡ headed p = ap (λ (t : Recounted). t.heading) same in
+    (sym (outline_found o h.heading) ∙ ap outline_of heading ∙ outline_found p k.heading, ap (λ (t : Recounted). t.entries) same)
 
 -- WHAT IS READ IS SPELLED
 

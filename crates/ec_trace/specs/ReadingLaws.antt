@@ -35,7 +35,7 @@ ReadIsTrace = (bytes : List ℕ) (t : Recounted) → outcome TRACE_MAX bytes ≡
 
 -- no two pairs of a heading and a history share a trace
 abbrev pub TraceHasOneMeaning : Type 0
-TraceHasOneMeaning = (bytes : List ℕ) (o p : Outline) (es fs : List Entry) → IsTrace bytes o es → IsTrace bytes p fs → (headed o ≡ headed p) × (es ≡ fs)
+TraceHasOneMeaning = (bytes : List ℕ) (o p : Outline) (es fs : List Entry) → IsTrace bytes o es → IsTrace bytes p fs → (o ≡ p) × (es ≡ fs)
 
 -- no trace is a proper front of another
 abbrev pub NoTraceBeginsAnother : Type 0
