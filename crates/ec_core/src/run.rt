@@ -20,8 +20,9 @@ pub enum StepFault {
     Memory,
 }
 
-/// A world and the history that it stands for: each entry was answered at its own moment as the definition of an
-/// accepted history says. The entries are kept in segments, so that recording a step never moves what stands there.
+/// A world and the history that it stands for: each entry was answered at its own moment as the
+/// definition of an accepted history says. The entries are kept in segments, so that recording a
+/// step never moves what stands there.
 #[derive(Drop)]
 pub struct Run {
     world: World,
@@ -125,8 +126,8 @@ impl Run {
         Ok(())
     }
 
-    /// One step, which adds its entry. It is refused as a step of its world is. Memory is wanted only where the
-    /// step is right, and taken before anything is changed.
+    /// One step, which adds its entry. It is refused as a step of its world is. Memory is wanted
+    /// only where the step is right, and taken before anything is changed.
     pub fn step(&mut self, worker: WorkerId, act: Act) -> Result<Reply, StepFault>
         ensures answer { MatchResult result
             (λ reply. answer_of self.old.setup (reverse self.old.entries) worker act ≡ Ok reply)

@@ -62,6 +62,9 @@ pub has_outline : (h : Headed) → IsHeading h → h.setup.workers ≢ 0 → Has
 has_outline h (inl is) some = absurd (some (ap (λ (g : Headed). g.setup.workers) is))
 has_outline h (inr has) some = has
 
+pub has_outline_from : (h : Headed) → IsHeading h → 1 ≤ h.setup.workers → HasOutline h
+has_outline_from h is some = has_outline h is (λ e. (omega (arith, e)))
+
 pub line_declares : (h : Headed) (line : List ℕ) (p : Phrase) → IsHeading h → h.setup.workers ≢ 0 → Some p ≡ parts_in (words_of line) → declaration_fault h.setup h.names p ≡ None → IsDeclarable h (declaration_of h.names p)
 line_declares h line p is some parts none =
     may_declare (has_outline h is some).outline.workers h (words_of line) p (outline_heads h (has_outline h is some)) (parts_spelled (words_of line) p (sym parts)) none
