@@ -16,5 +16,4 @@ pub mod Entries
 pub mod Recounted
 pub mod Step
 pub mod Outcome
-pub mod HeadingLaws
 pub mod ReadingLaws
