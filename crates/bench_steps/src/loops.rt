@@ -1,0 +1,62 @@
+//! The loop.
+use crate::objects::Objects;
+use ec_core::{Act, Reply, Run, World};
+use ec_count::WorkerId;
+
+/// The steps of one round of the loop.
+const ROUND: u64 = 6;
+
+/// What the steps came to.
+#[derive(Clone, Copy)]
+pub(crate) struct Sums {
+    pub(crate) total: u64,
+    pub(crate) issued: u64,
+    pub(crate) told: u64,
+}
+
+/// What steps are made on.
+pub(crate) trait Steps {
+    /// Makes a step, and gives the number that is told, 0 where none is.
+    fn make(&mut self, worker: WorkerId, act: Act) -> Option<u64>;
+}
+
+/// The number of a reply, 0 where it has none.
+fn number_of(reply: Reply) -> u64 {
+    match reply {
+        Reply::Number(n) => n,
+        Reply::Done | Reply::Pending => 0,
+    }
+}
+
+impl Steps for World {
+    fn make(&mut self, worker: WorkerId, act: Act) -> Option<u64> {
+        Some(number_of(self.step(worker, act).ok()?))
+    }
+}
+
+impl Steps for Run {
+    fn make(&mut self, worker: WorkerId, act: Act) -> Option<u64> {
+        Some(number_of(self.step(worker, act).ok()?))
+    }
+}
+
+/// One round: an advance, a read of four components, and a ticket.
+fn round<S: Steps>(steps: &mut S, objects: &Objects, worker: WorkerId) -> Option<u64> {
+    steps.make(worker, Act::Advance(objects.event))?;
+    steps.make(worker, Act::Read(objects.event))?;
+    steps.make(worker, Act::Go)?;
+    steps.make(worker, Act::Go)?;
+    let total = steps.make(worker, Act::Go)?;
+    let ticket = steps.make(worker, Act::Ticket(objects.sequencer))?;
+    Some(total.wrapping_add(ticket))
+}
+
+/// At least so many steps, in whole rounds by each worker in turn, and the sum of the numbers told.
+pub(crate) fn many<S: Steps>(steps: &mut S, objects: &Objects, count: u64) -> Option<u64> {
+    let mut told = 0u64;
+    for i in 0..count.div_ceil(ROUND) {
+        let worker = objects.workers[(i % 4) as usize];
+        told = told.wrapping_add(round(steps, objects, worker)?);
+    }
+    Some(told)
+}
