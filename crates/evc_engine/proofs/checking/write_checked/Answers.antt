@@ -1,4 +1,4 @@
-use Rattle.std.proofs.Common.{sym, ◌∙◌}
+use Rattle.std.proofs.Common.{◌∙◌}
 use Rattle.evc_engine.proofs.CheckLemmas.{text_written, front_written}
 use Rattle.evc_engine.proofs.TotalLemmas.{nothing_put}
 use Rattle.evc_engine.proofs.checking.write_checked.Goals as goal

@@ -1,4 +1,4 @@
-use Rattle.std.proofs.Common.{sym, subst, reverse, codes, map, ap, ◌∙◌}
+use Rattle.std.proofs.Common.{sym, subst, reverse, codes, map, ◌∙◌}
 use Rattle.ec_text.specs.Puts.{Puts}
 use Rattle.ec_text.proofs.PutLemmas.{puts_then}
 use Rattle.ec_trace.specs.Spelling.{Named, text_of}
