@@ -1,0 +1,119 @@
+//! Traces and entries as they are written.
+use crate::drive::worker;
+use crate::fakes::{Fickle, Trouble};
+use crate::histories::{
+    await_of_rounds, await_of_zero, overtaken_read, read_overtaken_often, total_in_the_middle,
+    two_reads,
+};
+use crate::texts::{
+    AWAIT_OF_ROUNDS, AWAIT_OF_ZERO, OVERTAKEN_OFTEN, OVERTAKEN_READ, TOTAL_IN_THE_MIDDLE,
+    TWO_READS, WORKED,
+};
+use ec_core::{Act, Entry, Reply, Run};
+use ec_count::Limit;
+use ec_text::WriteFault;
+use ec_trace::{Heading, read_trace, write_entry, write_trace};
+use std::alloc::Global;
+use std::test::Fail;
+
+/// A heading with limit 10 and these lines.
+fn heading(alloc: Global, workers: &str, event: &str) -> Result<Heading, Fail> {
+    let mut heading = Heading::new(alloc, Limit::new(10).ok_or("no limit")?)?;
+    heading.line(workers.as_bytes())?;
+    heading.line(event.as_bytes())?;
+    Ok(heading)
+}
+
+/// The trace of a run on what these lines declare.
+fn written(alloc: Global, run: &Run, workers: &str, event: &str) -> Result<Vec<u8>, Fail> {
+    let heading = heading(alloc, workers, event)?;
+    let mut out = Vec::new(alloc);
+    if !run.setup().is_same(heading.setup()) {
+        return Err(Fail::new("another setup"));
+    }
+    write_trace(run, &heading, &mut out)?;
+    Ok(out)
+}
+
+/// The trace of a run on four workers, of whom two signal and two observe.
+fn written_for_four(alloc: Global, run: &Run) -> Result<Vec<u8>, Fail> {
+    written(
+        alloc,
+        run,
+        "workers a b c d",
+        "eventcount E signal a b observe c d",
+    )
+}
+
+#[test]
+fn traces_that_were_read_are_written_again(rt: HostRuntime) -> Result<(), Fail> {
+    for (text, _) in WORKED {
+        let traced = read_trace(rt.alloc(), &mut text.as_bytes())?;
+        let mut out = Vec::new(rt.alloc());
+        write_trace(traced.run(), traced.heading(), &mut out)?;
+        assert!(rt; out.as_slice() == text.as_bytes(), "at {text}");
+    }
+    Ok(())
+}
+
+#[test]
+fn histories_made_by_calls_are_written(rt: HostRuntime) -> Result<(), Fail> {
+    let out = written_for_four(rt.alloc(), &overtaken_read(rt.alloc())?)?;
+    assert!(rt; out.as_slice() == OVERTAKEN_READ.as_bytes());
+    let out = written_for_four(rt.alloc(), &two_reads(rt.alloc())?)?;
+    assert!(rt; out.as_slice() == TWO_READS.as_bytes());
+    let out = written_for_four(rt.alloc(), &total_in_the_middle(rt.alloc())?)?;
+    assert!(rt; out.as_slice() == TOTAL_IN_THE_MIDDLE.as_bytes());
+    let out = written_for_four(rt.alloc(), &await_of_rounds(rt.alloc())?)?;
+    assert!(rt; out.as_slice() == AWAIT_OF_ROUNDS.as_bytes());
+    Ok(())
+}
+
+#[test]
+fn an_await_of_zero_is_written(rt: HostRuntime) -> Result<(), Fail> {
+    let run = await_of_zero(rt.alloc())?;
+    let event = "eventcount E signal a b d observe c";
+    let out = written(rt.alloc(), &run, "workers a b c d", event)?;
+    assert!(rt; out.as_slice() == AWAIT_OF_ZERO.as_bytes());
+    Ok(())
+}
+
+#[test]
+fn a_read_overtaken_fifteen_times_is_written(rt: HostRuntime) -> Result<(), Fail> {
+    let run = read_overtaken_often(rt.alloc())?;
+    let workers = "workers w0 w1 w2 w3 w4 w5 w6 w7 w8 w9 w10 w11 w12 w13 w14 w15";
+    let event =
+        "eventcount E signal w0 w1 w2 w3 w4 w5 w6 w7 w8 w9 w10 w11 w12 w13 w14 w15 observe w0";
+    let out = written(rt.alloc(), &run, workers, event)?;
+    assert!(rt; out.as_slice() == OVERTAKEN_OFTEN.as_bytes());
+    Ok(())
+}
+
+#[test]
+fn an_entry_is_written_without_line_feed(rt: HostRuntime) -> Result<(), Fail> {
+    let heading = heading(rt.alloc(), "workers a c", "eventcount E signal a observe c")?;
+    let entry = Entry {
+        worker: worker(1),
+        act: Act::Go,
+        reply: Reply::Number(1),
+    };
+    let mut out = Vec::new(rt.alloc());
+    write_entry(&entry, &heading, &mut out)?;
+    assert!(rt; out.as_slice() == b"c go = 1".as_slice());
+    Ok(())
+}
+
+#[test]
+fn a_trace_to_a_writer_that_gives_up(rt: HostRuntime) -> Result<(), Fail> {
+    let bytes = OVERTAKEN_READ.as_bytes();
+    let traced = read_trace(rt.alloc(), &mut OVERTAKEN_READ.as_bytes())?;
+    for trouble in [Trouble::Fails, Trouble::TakesNothing] {
+        for k in 0..bytes.len().div_ceil(7) {
+            let mut out = Fickle::new(rt.alloc(), 7, trouble, k);
+            let result = write_trace(traced.run(), traced.heading(), &mut out);
+            assert_eq!(rt; result, Err(WriteFault), "at write {k}");
+            assert!(rt; bytes.starts_with(out.bytes.as_slice()), "at write {k}");
+        }
+    }
+    Ok(())
+}
