@@ -7,3 +7,5 @@ pub mod Silences
 pub mod Pasts
 pub mod Bounds
 pub mod Joining
+pub mod Counting
+pub mod CallRounds

@@ -1,15 +1,40 @@
 -- Each entry of an accepted history is right at its own moment.
-use Rattle.std.proofs.Common.{◌≡◌, ℕ, zero, suc, List, [], ◌∷◌, ◌++◌, Some, Ok, ap, sym, ◌∙◌, subst, reverse, take, slice_get, append_assoc}
-use Rattle.std.proofs.lemmas.List.{reverse-append}
+use Rattle.std.proofs.Common.{◌≡◌, ℕ, zero, suc, List, [], ◌∷◌, ◌++◌, Option, Some, None, Ok, length, refl, ap, sym, ◌∙◌, subst, reverse, take, drop, slice_get, append_assoc}
+use Rattle.std.proofs.lemmas.List.{reverse-append, take-append-drop}
 use Rattle.ec_count.specs.Tables.{Tables}
 use Rattle.ec_core.specs.declared.act.Entry.{Entry}
+use Rattle.ec_core.specs.Counts.{past_at}
+use Rattle.ec_core.specs.Rounds.{IsPastOf}
 use Rattle.ec_core.specs.Acceptance.{answer_of, IsAccepted}
+use Rattle.ec_core.specs.Laws.{BeginningsAreAccepted, AcceptedMeansAnswered}
 
 -- the history before place k, the entry there, and the rest
-split_at : (h : List Entry) (k : ℕ) (x : Entry) → slice_get h k ≡ Some x → (rest : List Entry) × (h ≡ take k h ++ x ∷ rest)
+pub split_at : (h : List Entry) (k : ℕ) (x : Entry) → slice_get h k ≡ Some x → (rest : List Entry) × (h ≡ take k h ++ x ∷ rest)
 split_at [] k x h = cc
 split_at (y ∷ ys) zero x h = (ys, (let same : y ≡ x = cc in ap (λ z. z ∷ ys) same))
 split_at (y ∷ ys) (suc k) x h = (let r = split_at ys k x h in (r.0, ap (λ zs. y ∷ zs) r.1))
+
+take_next : (h : List Entry) (k : ℕ) (x : Entry) → slice_get h k ≡ Some x → take (suc k) h ≡ take k h ++ x ∷ []
+take_next [] k x h = cc
+take_next (y ∷ ys) zero x h = (let same : y ≡ x = cc in ap (λ z. z ∷ []) same)
+take_next (y ∷ ys) (suc k) x h = ap (λ zs. y ∷ zs) (take_next ys k x h)
+
+take_end : (h : List Entry) (k : ℕ) → slice_get h k ≡ None → take (suc k) h ≡ take k h
+take_end [] zero h = refl
+take_end [] (suc k) h = refl
+take_end (y ∷ ys) zero h = cc
+take_end (y ∷ ys) (suc k) h = ap (λ zs. y ∷ zs) (take_end ys k h)
+
+take_all : (h : List Entry) → take (length h) h ≡ h
+take_all [] = refl
+take_all (y ∷ ys) = ap (λ zs. y ∷ zs) (take_all ys)
+
+-- the past at the next moment has the entry before it
+pub past_next : (h : List Entry) (k : ℕ) (x : Entry) → slice_get h k ≡ Some x → past_at (suc k) h ≡ x ∷ past_at k h
+past_next h k x at = ap reverse (take_next h k x at) ∙ reverse-append (take k h) (x ∷ [])
+
+pub past_end : (h : List Entry) (k : ℕ) → slice_get h k ≡ None → past_at (suc k) h ≡ past_at k h
+past_end h k at = ap reverse (take_end h k at)
 
 pub accepted_before : (t : Tables) (since early : List Entry) → IsAccepted t (since ++ early) → IsAccepted t early
 accepted_before t [] early h = h
@@ -37,3 +62,31 @@ pub accepted_until : (t : Tables) (h done others : List Entry) → IsAccepted t 
 accepted_until t h done others acc is =
     let whole : reverse h ≡ reverse others ++ reverse done = ap reverse (sym is) ∙ reverse-append done others in
     accepted_before t (reverse others) (reverse done) (subst (IsAccepted t) whole acc)
+
+-- the past at a moment is a past of the whole
+pub moment_before : (h : List Entry) (k : ℕ) → IsPastOf (past_at k h) (reverse h)
+moment_before h k = record { since = reverse (drop k h); is = ap reverse (sym (take-append-drop k h)) ∙ reverse-append (take k h) (drop k h) }
+
+-- each past of an accepted history is accepted
+pub accepted_of : (t : Tables) (h p : List Entry) → IsAccepted t (reverse h) → IsPastOf p (reverse h) → IsAccepted t p
+accepted_of t h p acc is = accepted_before t is.since p (subst (IsAccepted t) is.is acc)
+
+pub beginnings : BeginningsAreAccepted
+beginnings t k h acc = accepted_of t h (past_at k h) acc (moment_before h k)
+
+-- where each entry is the answer at its own moment, each beginning is accepted
+next_accepted : (t : Tables) (h : List Entry) (k : ℕ) (o : Option Entry) → slice_get h k ≡ o
+    → ((x : Entry) → slice_get h k ≡ Some x → answer_of t (past_at k h) x.worker x.act ≡ Ok x.reply) → IsAccepted t (past_at k h) → IsAccepted t (past_at (suc k) h)
+next_accepted t h k None at right acc = subst (IsAccepted t) (sym (past_end h k at)) acc
+next_accepted t h k (Some x) at right acc = subst (IsAccepted t) (sym (past_next h k x at)) (right x at, acc)
+
+accepted_from : (t : Tables) (h : List Entry) → ((k : ℕ) (x : Entry) → slice_get h k ≡ Some x → answer_of t (past_at k h) x.worker x.act ≡ Ok x.reply)
+    → (k : ℕ) → IsAccepted t (past_at k h)
+accepted_from t h right zero = tt
+accepted_from t h right (suc k) = next_accepted t h k (slice_get h k) refl (right k) (accepted_from t h right k)
+
+pub accepted_means : AcceptedMeansAnswered
+accepted_means t h = (
+  λ acc k x at. accepted_at t h k x acc at,
+  λ right. subst (λ l. IsAccepted t (reverse l)) (take_all h) (accepted_from t h right (length h)),
+)

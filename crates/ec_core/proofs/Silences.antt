@@ -1,5 +1,5 @@
 -- What silent workers did leaves no trace in what the others are told.
-use Rattle.std.proofs.Common.{◌≡◌, ℕ, zero, suc, ◌+◌, ◌%◌, Bool, true, false, not, ◌&&◌, ◌||◌, List, [], ◌∷◌, ◌++◌, length, reverse, All, Option, Some, None, is_some, unwrap_or, nat_le, Ok, arith, refl, ap, sym, ◌∙◌, cond, ◌==◌, map}
+use Rattle.std.proofs.Common.{◌≡◌, ℕ, zero, suc, ◌+◌, ◌%◌, Bool, true, false, not, ◌&&◌, ◌||◌, List, [], ◌∷◌, ◌++◌, length, reverse, take, subst, All, Option, Some, None, is_some, unwrap_or, nat_le, Ok, arith, refl, ap, sym, ◌∙◌, cond, ◌==◌, map}
 use Rattle.std.specs.Option.{option_map, option_map_or}
 use Rattle.std.proofs.lemmas.Bool.{eqb-true}
 use Rattle.std.proofs.Math.Nat.{zero-add}
@@ -18,8 +18,9 @@ use Rattle.ec_core.specs.Calls.{CallSoFar, under_way, gone_on, is_pending}
 use Rattle.ec_core.specs.Rounds.{event_or, width, sum_read, next_component, round_reply, read_reply, go_reply}
 use Rattle.ec_core.specs.Acceptance.{reply_of, answer_of, refusal_of, refusal_in, refused_or, has_right, is_at_limit, IsAccepted}
 use Rattle.ec_core.specs.Silence.{without}
+use Rattle.ec_core.specs.Laws.{OthersStand}
 use Rattle.ec_core.proofs.Answering.{allowed}
-use Rattle.ec_core.proofs.Moments.{accepted_until, answered_after}
+use Rattle.ec_core.proofs.Moments.{accepted_until, answered_after, split_at}
 
 never : (b : Bool) → (b && false) ≡ false
 never true = refl
@@ -225,3 +226,9 @@ kept_answer t s h done others x acc silent is kept =
     ap (λ past. answer_of t past x.worker x.act) (sym (without_reverse s done))
     ∙ answer_without t s (reverse done) x.worker x.act (accepted_until t h done (x ∷ others) acc is) (no_right t s silent) kept
     ∙ answered_after t h done others x acc is
+
+pub others_stand : OthersStand
+others_stand t s h acc silent = (
+  subst (IsAccepted t) (without_reverse s h) (accepted_without t s (reverse h) acc (no_right t s silent)),
+  λ k x at kept. (let r = split_at h k x at in kept_answer t s h (take k h) r.0 x acc silent (sym r.1) kept),
+)

@@ -33,3 +33,7 @@ under_way w (x ∷ past) =
     if x.worker == w
     then (if is_pending x.reply then gone_on x.act past (under_way w past) else None)
     else under_way w past
+
+-- the call so far that an entry at the end of a past belongs to, with this entry
+abbrev pub call_with : Entry → List Entry → Option CallSoFar
+call_with x past = gone_on x.act past (under_way x.worker past)

@@ -11,3 +11,5 @@ pub mod Segmented
 pub mod Faults
 pub mod Refusals
 pub mod Values
+pub mod InOrder
+pub mod Laws

@@ -1,3 +1,4 @@
+-- Calls under way, as a world keeps them.
 use Rattle.std.specs.Prelude.{ℕ}
 use Rattle.ec_core.specs.declared.act.Act.{Act}
 

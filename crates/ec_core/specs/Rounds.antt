@@ -20,6 +20,12 @@ event_of _ = None
 abbrev pub event_or : Act → ℕ
 event_or act = unwrap_or (event_of act) 0
 
+-- the eventcount that a read or an await reads
+abbrev pub read_of : Act → Option ℕ
+read_of (Read e) = Some e
+read_of (Await e v) = Some e
+read_of _ = None
+
 -- how many components e has
 abbrev pub width : Tables → ℕ → ℕ
 width t e = length (signallers_at t e [])

@@ -5,7 +5,8 @@ use crate::Entry;
 use crate::segments::Segments;
 use std::marker::Model;
 
-/// An iterator over the entries of a run, in order. A contract sees it as the list of those that are left.
+/// An iterator over the entries of a run, in order. A contract sees it as the list of those that
+/// are left.
 #[derive(Drop)]
 pub struct Entries<'a> {
     list: &'a Segments,

@@ -1,14 +1,72 @@
-//! Laws of histories.
-ghost use Rattle.std.specs.Prelude.{◌≡◌, ℕ, ◌≤◌, List, length};
-ghost use Rattle.ec_count.specs.Tables.{Tables};
-ghost use Rattle.ec_core.specs.declared.act.Entry.{Entry};
-ghost use Rattle.ec_core.specs.Counts.{total};
-ghost use Rattle.ec_core.specs.Rounds.{width, sum_read, IsPastOfEach, EachIsPastOf};
-ghost use Rattle.ec_core.specs.Acceptance.{IsAccepted};
+//! What the definitions mean, in order of time: each function says a law and does nothing.
+ghost use Rattle.ec_core.specs.Laws.{TotalsCountAdvances, ComponentsCountAdvances, IssuedCountsTickets, CellsHoldTheLastPut, ComponentsAddUp, TotalsRiseByOne, CountsKeepTheLimit, RoundsLieBetween, RoundsOfCallsLieBetween, BeginningsAreAccepted, AcceptedMeansAnswered, NumbersAreSmall, OthersStand};
 
-/// The sum of a whole round is at least the total before it and at most the total after it.
+/// The total of an eventcount at a moment is the number of its advances before it (Reed and
+/// Kanodia's value).
+pub fn totals_count_advances()
+    ensures { TotalsCountAdvances }
+{}
+
+/// A component is the number of advances before the moment that were made by its signaller at their
+/// own moments.
+pub fn components_count_advances()
+    ensures { ComponentsCountAdvances }
+{}
+
+/// The number of tickets drawn is the number of ticket entries.
+pub fn issued_counts_tickets()
+    ensures { IssuedCountsTickets }
+{}
+
+/// A cell holds the value last put into it, and 0 where none was.
+pub fn cells_hold_the_last_put()
+    ensures { CellsHoldTheLastPut }
+{}
+
+/// The components of an eventcount add up to its total.
+pub fn components_add_up()
+    ensures { ComponentsAddUp }
+{}
+
+/// From one moment to the next a total never falls and rises by at most one.
+pub fn totals_rise_by_one()
+    ensures { TotalsRiseByOne }
+{}
+
+/// No component, and no number of tickets drawn, passes the limit.
+pub fn counts_keep_the_limit()
+    ensures { CountsKeepTheLimit }
+{}
+
+/// The sum of components read one after another is at least the total before the first of the
+/// readings and at most the total after the last.
 pub fn rounds_lie_between()
-    ensures { (t : Tables) (e : ℕ) (early late : List Entry) (moments : List (List Entry)) → IsAccepted t early → IsAccepted t late
-        → length moments ≡ width t e → IsPastOfEach early moments → EachIsPastOf moments late
-        → (total e early ≤ sum_read t e (width t e) moments) × (sum_read t e (width t e) moments ≤ total e late) }
+    ensures { RoundsLieBetween }
+{}
+
+/// The same of a round of a read or await: its sum is at least the total at the round's start and
+/// at most the total at its last entry.
+pub fn rounds_of_calls_lie_between()
+    ensures { RoundsOfCallsLieBetween }
+{}
+
+/// Every beginning of an accepted history is accepted.
+pub fn beginnings_are_accepted()
+    ensures { BeginningsAreAccepted }
+{}
+
+/// A history is accepted exactly where each entry is the answer to its act at its own moment.
+pub fn accepted_means_answered()
+    ensures { AcceptedMeansAnswered }
+{}
+
+/// No number in an accepted history is above the greatest value.
+pub fn numbers_are_small()
+    ensures { NumbersAreSmall }
+{}
+
+/// An accepted history without some silent workers is accepted, and what the others were told
+/// stands as it was.
+pub fn others_stand()
+    ensures { OthersStand }
 {}

@@ -1,5 +1,5 @@
 //! Recorded runs.
-ghost use Rattle.std.specs.Prelude.{◌≡◌, List, [], ◌∷◌, ◌++◌, length, reverse, slice_get, Ok, IfOk, OnOk, OnErr, MatchResult};
+ghost use Rattle.std.specs.Prelude.{◌≡◌, ◌<◌, ◌^◌, List, [], ◌∷◌, ◌++◌, length, reverse, slice_get, Ok, IfOk, OnOk, OnErr, MatchResult};
 ghost use Rattle.ec_count.specs.Tables.{IsDeclared};
 ghost use Rattle.ec_core.specs.Acceptance.{answer_of, IsAccepted};
 ghost use Rattle.ec_core.specs.Standing.{StandsFor};
@@ -20,8 +20,9 @@ pub enum StepFault {
     Memory,
 }
 
-/// A world and the history that it stands for: each entry was answered at its own moment as the definition of an
-/// accepted history says. The entries are kept in segments, so that recording a step never moves what stands there.
+/// A world and the history that it stands for: each entry was answered at its own moment as the
+/// definition of an accepted history says. The entries are kept in segments, so that recording a
+/// step never moves what stands there.
 #[derive(Drop)]
 pub struct Run {
     world: World,
@@ -93,8 +94,10 @@ impl Run {
 
     /// Its entries in order.
     pub fn entries(&self) -> Entries<'_>
-        ensures { result ≡ self.now.entries }
+        ensures items { result ≡ self.now.entries }
+        ensures small { length self.now.entries < 2 ^ 64 }
     {
+        let _count = self.len();
         Entries::all(&self.entries)
     }
 
@@ -125,8 +128,8 @@ impl Run {
         Ok(())
     }
 
-    /// One step, which adds its entry. It is refused as a step of its world is. Memory is wanted only where the
-    /// step is right, and taken before anything is changed.
+    /// One step, which adds its entry. It is refused as a step of its world is. Memory is wanted
+    /// only where the step is right, and taken before anything is changed.
     pub fn step(&mut self, worker: WorkerId, act: Act) -> Result<Reply, StepFault>
         ensures answer { MatchResult result
             (λ reply. answer_of self.old.setup (reverse self.old.entries) worker act ≡ Ok reply)

@@ -92,8 +92,8 @@ impl Segments {
     }
 }
 
-/// Puts a filled segment with the full ones and begins the next. All memory that this wants is taken before
-/// anything is changed.
+/// Puts a filled segment with the full ones and begins the next. All memory that this wants is
+/// taken before anything is changed.
 fn begin_segment<T: Copy>(full: &mut Vec<Vec<T>>, last: &mut Vec<T>) -> Result<(), AllocError>
     ensures few { OnOk result (length full.old.items < 2 ^ 51) }
     ensures filled { OnOk result (full.new.items ≡ full.old.items ++ last.old ∷ []) }

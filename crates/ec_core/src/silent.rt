@@ -8,8 +8,9 @@ use crate::Run;
 use ec_count::WorkerId;
 use std::alloc::AllocError;
 
-/// The run with the entries of some silent workers struck out, on the same declarations. Being a run, it is accepted:
-/// what the others were told stands as it was. `Setup::is_silent` tests who is silent.
+/// The run with the entries of some silent workers struck out, on the same declarations. Being a
+/// run, it is accepted: what the others were told stands as it was. `Setup::is_silent` tests who is
+/// silent.
 pub fn without(run: &Run, silent: &[WorkerId]) -> Result<Run, AllocError>
     requires { All (λ w. is_silent run.now.setup w ≡ true) silent.now }
     ensures { IfOk result (λ rest. rest ≡ record run.now { entries = without (λ w. is_member w silent.now) run.now.entries }) }

@@ -5,7 +5,8 @@ ghost use Rattle.ec_core.specs.Fields.{begun, one_read, after_read};
 use crate::{Act, Reply};
 use std::marker::Model;
 
-/// A call under way: the act that began it, the component that the next Go reads, and the sum of its round so far.
+/// A call under way: the act that began it, the component that the next Go reads, and the sum of
+/// its round so far.
 #[derive(Clone, Copy, Debug, PartialEq, Eq)]
 pub struct UnderWay {
     op: Act,
@@ -93,11 +94,7 @@ pub(crate) fn after_read(op: Act, width: usize, index: usize, sum: u64) -> Optio
         });
     }
     match op {
-        Act::Await(_, threshold) if sum < threshold => Some(UnderWay {
-            op,
-            index: 0,
-            sum: 0,
-        }),
+        Act::Await(_, threshold) if sum < threshold => Some(UnderWay::begun(op)),
         _ => None,
     }
 }

@@ -36,7 +36,8 @@ impl Model for World {
 }
 
 impl World {
-    /// The state before any step, on these declarations. It takes no memory, nor does any other call of a world.
+    /// The state before any step, on these declarations. It takes no memory, nor does any other
+    /// call of a world.
     pub fn open(setup: Setup) -> Self
         ensures history { StandsFor result [] }
         ensures setup { result.setup ≡ setup }
@@ -72,7 +73,8 @@ impl World {
         }
     }
 
-    /// The total of an eventcount: how many advances of it there were. None where it is not declared.
+    /// The total of an eventcount: how many advances of it there were. None where it is not
+    /// declared.
     pub fn total(&self, event: EventId) -> Option<u64>
         ensures { (h : List Entry) → StandsFor self.now h
             → result ≡ (if nat_lt event (length self.now.setup.events) then Some (total event (reverse h)) else None) }
@@ -85,8 +87,8 @@ impl World {
         Some(sum_of(&self.counts, event, width))
     }
 
-    /// A component of an eventcount: how many advances its signaller made. None where there is no such component,
-    /// and so where the eventcount is not declared.
+    /// A component of an eventcount: how many advances its signaller made. None where there is no
+    /// such component, and so where the eventcount is not declared.
     pub fn component(&self, event: EventId, component: usize) -> Option<u64>
         ensures { (h : List Entry) → StandsFor self.now h
             → result ≡ (if nat_lt component (width self.now.setup event) then Some (component_total self.now.setup event component (reverse h)) else None) }
@@ -99,7 +101,8 @@ impl World {
         Some(count.value())
     }
 
-    /// How many tickets of a sequencer were drawn, which is the next ticket's number. None where it is not declared.
+    /// How many tickets of a sequencer were drawn, which is the next ticket's number. None where it
+    /// is not declared.
     pub fn issued(&self, sequencer: SeqId) -> Option<u64>
         ensures { (h : List Entry) → StandsFor self.now h
             → result ≡ (if nat_lt sequencer (length self.now.setup.takers) then Some (issued sequencer (reverse h)) else None) }
@@ -126,8 +129,8 @@ impl World {
     pub fn under_way(&self, worker: WorkerId) -> Option<UnderWay>
         ensures { (h : List Entry) → StandsFor self.now h → result ≡ progress_of self.now.setup worker (reverse h) }
     {
-        let _worker = worker.get();
-        self.call(worker)
+        let place = worker.get();
+        self.calls[place]
     }
 
     fn call(&self, worker: WorkerId) -> Option<UnderWay>

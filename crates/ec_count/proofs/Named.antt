@@ -1,25 +1,25 @@
 -- A look-up in the table is a look-up by bytes, and what a table of names keeps.
-use Rattle.std.proofs.Common.{◌==◌, ◌≡◌, ℕ, zero, suc, ◌+◌, ◌<◌, List, [], ◌∷◌, ◌++◌, length, get_or, slice_get, drop, cond, true, false, not, ◌&&◌, Option, None, Some, is_some, refl, sym, ap, subst, ◌∙◌, true≢false, arith, add-one, nat_le}
-use Rattle.std.specs.Prelude.{bytes_eq, IsTrue, ◌≢◌, MatchOption}
-use Rattle.std.specs.List.{AllPairs, list_all}
+use Rattle.std.proofs.Common.{zero-add, Bool, add-zero, option_map, ◌≡◌, ℕ, zero, suc, ◌+◌, ◌<◌, List, [], ◌∷◌, ◌++◌, length, get_or, slice_get, cond, true, false, not, ◌&&◌, Option, None, Some, is_some, refl, sym, ap, subst, ◌∙◌, true≢false, arith, add-one, nat_le}
+use Rattle.std.specs.Prelude.{bytes_eq, IsTrue, ◌≢◌}
+use Rattle.std.specs.List.{AllPairs, list_all, position_from}
 use Rattle.std.specs.Map.{lookup}
 use Rattle.std.specs.Global.{Vec}
 use Rattle.std.specs.Str.{IsAscii, IsUtf8}
 use Rattle.std.specs.Char.{is_ascii_alphabetic}
 use Rattle.std.specs.Option.{option_and_then}
 use Rattle.std.proofs.lemmas.Str.{IsUtf8-from_ascii}
-use Rattle.std.proofs.lemmas.Bool.{eqb-true, false_from_ne_true, and_parts}
+use Rattle.std.proofs.lemmas.Bool.{false_from_ne_true, and_parts}
 use Rattle.std.proofs.lemmas.Bool.Decides.{nat_tests}
 use Rattle.std.proofs.lemmas.Slice.Eq.{bytes_eq-Decides}
 use Rattle.std.proofs.lemmas.Option.{slice_get_within, get_or_from_slice_get}
 use Rattle.std.proofs.lemmas.List.Elements.{All-push}
 use Rattle.std.proofs.lemmas.List.Quantifiers.{all_pairs_push}
 use Rattle.ec_count.specs.declared.target.Target.{Target}
-use Rattle.ec_count.specs.declared.target.Target.TheVariants.{Worker, Event, Sequencer, Cells, Group}
 use Rattle.ec_count.specs.Laws.{NamesAreFound}
-use Rattle.ec_count.specs.Names.{AreNames, by_bytes, find_name, name_for, name_of, same_target, name_fault}
+use Rattle.ec_count.specs.Names.{AreNames, KeepsNames, by_bytes, find_name, name_of, place_of, with_first, same_target, name_fault}
 use Rattle.ec_count.specs.Tables.{first_that}
 use Rattle.ec_count.specs.declared.names.NameFault.TheVariants.{BadName, NameTaken}
+use Rattle.ec_count.specs.Targets.{target_is}
 use Rattle.ec_count.specs.Reserved.{is_name, is_name_byte, is_reserved}
 
 pub find_lookup : (name : List ℕ) (es : List (Vec ℕ × Target)) → find_name name (by_bytes es) ≡ lookup (λ k. bytes_eq name k.items) es
@@ -104,43 +104,35 @@ AreNames-push names name target h free =
       differ = all_pairs_push (λ d e. d.0 ≢ e.0) names (name, target) h.differ (apart name names tests.1);
     }
 
-more : (x : List ℕ × Target) (xs : List (List ℕ × Target)) (i : ℕ) → drop (suc i + 1) (x ∷ xs) ≡ drop (i + 1) xs
-more x xs i = rw add-one (rw add-one refl)
-
-nothing_left : (i : ℕ) → ◌≡◌ {A = List (List ℕ × Target)} (drop i []) []
-nothing_left zero = refl
-nothing_left (suc i) = refl
-
--- a search by target ends at a place or goes on
-at_place : (target : Target) (names : List (List ℕ × Target)) (i : ℕ)
-    → MatchOption (option_and_then (name_for target) (slice_get names i)) (name_of target (drop i names) ≡ name_of target (drop (i + 1) names)) (λ name. name_of target (drop i names) ≡ Some name)
-at_place target [] i = ap (name_of target) (nothing_left i ∙ sym (nothing_left (i + 1)))
-at_place target (x ∷ xs) zero =
-    elim (same_target x.1 target) as (λ b. MatchOption (cond b (Some x.0) None) (cond b (Some x.0) (name_of target xs) ≡ name_of target xs) (λ name. cond b (Some x.0) (name_of target xs) ≡ Some name)) [
+-- where the place of a target goes on
+later : {A : Type 0} (test : A → Bool) (n : ℕ) (xs : List A) → position_from test (n + 1) xs ≡ option_map (λ i. i + 1) (position_from test n xs)
+later test n [] = refl
+later {A} test n (x ∷ xs) =
+    elim (test x) as (λ b. cond b (Some (n + 1)) (position_from test (n + 1 + 1) xs) ≡ option_map (λ i. i + 1) (cond b (Some n) (position_from test (n + 1) xs))) [
       | true ↦ refl
-      | false ↦ refl
+      | false ↦ later test (n + 1) xs
     ]
-at_place target (x ∷ xs) (suc i) =
-    subst (λ (rest : List (List ℕ × Target)). MatchOption (option_and_then (name_for target) (slice_get xs i)) (name_of target (drop i xs) ≡ name_of target rest) (λ name. name_of target (drop i xs) ≡ Some name)) (sym (more x xs i)) (at_place target xs i)
 
-pub name_here : (target : Target) (names : List (List ℕ × Target)) (i : ℕ) (name : List ℕ) → Some name ≡ option_and_then (name_for target) (slice_get names i) → name_of target (drop i names) ≡ Some name
-name_here target names i name at =
-    let P = λ (o : Option (List ℕ)). MatchOption o (name_of target (drop i names) ≡ name_of target (drop (i + 1) names)) (λ found. name_of target (drop i names) ≡ Some found) in
-    subst P (sym at) (at_place target names i)
+one_on : (x : List ℕ × Target) (xs : List (List ℕ × Target)) (o : Option ℕ) → option_and_then (λ i. option_map (λ (e : List ℕ × Target). e.0) (slice_get (x ∷ xs) i)) (option_map (λ i. i + 1) o) ≡ option_and_then (λ i. option_map (λ (e : List ℕ × Target). e.0) (slice_get xs i)) o
+one_on x xs None = refl
+one_on x xs (Some i) = rw add-one refl
 
-pub name_later : (target : Target) (names : List (List ℕ × Target)) (i : ℕ) → None ≡ option_and_then (name_for target) (slice_get names i) → name_of target (drop i names) ≡ name_of target (drop (i + 1) names)
-name_later target names i at =
-    let P = λ (o : Option (List ℕ)). MatchOption o (name_of target (drop i names) ≡ name_of target (drop (i + 1) names)) (λ found. name_of target (drop i names) ≡ Some found) in
-    subst P (sym at) (at_place target names i)
+pub name_at_place : (target : Target) (names : List (List ℕ × Target)) → name_of target names ≡ option_and_then (λ i. option_map (λ (e : List ℕ × Target). e.0) (slice_get names i)) (place_of target names)
+name_at_place target [] = refl
+name_at_place target (x ∷ xs) =
+    elim (same_target x.1 target) as (λ b. cond b (Some x.0) (name_of target xs) ≡ option_and_then (λ i. option_map (λ (e : List ℕ × Target). e.0) (slice_get (x ∷ xs) i)) (cond b (Some 0) (position_from (λ e. same_target e.1 target) 1 xs))) [
+      | true ↦ refl
+      | false ↦ name_at_place target xs ∙ sym (one_on x xs (place_of target xs)) ∙ ap (option_and_then (λ i. option_map (λ (e : List ℕ × Target). e.0) (slice_get (x ∷ xs) i))) (sym (later (λ e. same_target e.1 target) 0 xs))
+    ]
 
--- the same target
-target_is : (s t : Target) → same_target s t ≡ true → s ≡ t
-target_is (Worker v) (Worker w) h = ap Worker (eqb-true v w h)
-target_is (Event d) (Event e) h = ap Event (eqb-true d e h)
-target_is (Sequencer p) (Sequencer q) h = ap Sequencer (eqb-true p q h)
-target_is (Cells x m) (Cells y n) h = (let p = and_parts (x == y) (m == n) h in let a = eqb-true x y p.0 in let b = eqb-true m n p.1 in cc)
-target_is (Group i) (Group j) h = ap Group (eqb-true i j h)
-target_is _ _ h = cc
+-- the places once one more name is added
+place_after : (t : Target) (n : ℕ) (names : List (List ℕ × Target)) (name : List ℕ) (u : Target) → position_from (λ e. same_target e.1 t) n (names ++ (name, u) ∷ []) ≡ with_first u (n + length names) t (position_from (λ e. same_target e.1 t) n names)
+place_after t n [] name u = rw add-zero refl
+place_after t n (x ∷ xs) name u =
+    elim (same_target x.1 t) as (λ b. cond b (Some n) (position_from (λ e. same_target e.1 t) (n + 1) (xs ++ (name, u) ∷ [])) ≡ with_first u (n + suc (length xs)) t (cond b (Some n) (position_from (λ e. same_target e.1 t) (n + 1) xs))) [
+      | true ↦ refl
+      | false ↦ (let e : n + 1 + length xs ≡ n + suc (length xs) = omega arith in place_after t (n + 1) xs name u ∙ ap (λ k. with_first u k t (position_from (λ y. same_target y.1 t) (n + 1) xs)) e)
+    ]
 
 -- an entry is found by its name
 differ_tail : (x : List ℕ × Target) (xs : List (List ℕ × Target)) → AllPairs (λ d e. d.0 ≢ e.0) (x ∷ xs) → AllPairs (λ d e. d.0 ≢ e.0) xs
@@ -170,4 +162,14 @@ pub names_found : NamesAreFound
 names_found names h = record {
   entries = entry_found names h.differ;
   targets = λ target name e. (let at = named_entry target names name e in entry_found names h.differ at.0 (name, target) at.1);
+}
+
+-- both tables once one more name is added
+pub KeepsNames-push : (names : List (List ℕ × Target)) (firsts after : List (Target × ℕ)) (name : List ℕ) (u : Target) → KeepsNames names firsts → name_fault name names ≡ None
+    → ((t : Target) → lookup (same_target t) after ≡ with_first u (length names) t (lookup (same_target t) firsts))
+    → KeepsNames (names ++ (name, u) ∷ []) after
+KeepsNames-push names firsts after name u h free noted = record {
+  hold = AreNames-push names name u h.hold free;
+  places = λ t. (let start : 0 + length names ≡ length names = zero-add (length names) in
+      noted t ∙ ap (with_first u (length names) t) (h.places t) ∙ ap (λ k. with_first u k t (place_of t names)) (sym start) ∙ sym (place_after t 0 names name u));
 }

@@ -1,8 +1,10 @@
 //! Names, in the order in which they were added.
-ghost use Rattle.ec_count.specs.Names.{AreNames, find_name, name_fault, name_for, name_of, same_target};
-ghost use Rattle.std.specs.Option.{option_and_then};
+ghost use Rattle.ec_count.specs.Names.{AreNames, find_name, name_fault, name_of, place_of, same_target, with_first};
+ghost use Rattle.ec_count.specs.declared.target.Target.{Target};
+ghost use Rattle.indexmap.specs.IndexMap.{spare};
+ghost use Rattle.std.specs.Map.{lookup};
 ghost use Rattle.ec_count.specs.Reserved.{is_name};
-ghost use Rattle.std.specs.Prelude.{◌≡◌, ◌++◌, ◌∷◌, [], true, length, IfErr, IfOk, IfSome, OnErr, OnOk, MatchOption, option_map, slice_get};
+ghost use Rattle.std.specs.Prelude.{◌≡◌, ◌<◌, ◌++◌, ◌∷◌, [], true, length, IfErr, IfOk, IfSome, OnErr, OnOk, MatchOption, option_map, slice_get};
 
 use crate::Target;
 use crate::reserved::is_name;
@@ -22,10 +24,13 @@ pub enum NameFault {
     Memory,
 }
 
-/// Different names and what each stands for, in the order in which they were added.
+/// Different names and what each stands for, in the order in which they were added. A look-up by
+/// name, by place or by target costs about the same at any number of names.
 #[derive(Drop)]
 pub struct Names {
     table: IndexMap<Vec<u8>, Target>,
+    /// Of each target the place of its first name.
+    firsts: IndexMap<Target, usize>,
 }
 
 impl Model for Names {
@@ -34,11 +39,11 @@ impl Model for Names {
 
     ghost Value = { List (List ℕ × Target) };
 
-    ghost use Rattle.ec_count.specs.Names.{AreNames, by_bytes};
+    ghost use Rattle.ec_count.specs.Names.{KeepsNames, by_bytes};
 
     ghost view = { λ n. by_bytes n.table.entries };
 
-    ghost invariant = { λ n. AreNames (by_bytes n.table.entries) };
+    ghost invariant = { λ n. KeepsNames (by_bytes n.table.entries) n.firsts.entries };
 }
 
 impl Names {
@@ -47,7 +52,8 @@ impl Names {
         ensures { IfOk result (λ names. names ≡ []) }
     {
         let table = IndexMap::with_capacity(alloc, 16)?;
-        Ok(Names { table })
+        let firsts = IndexMap::with_capacity(alloc, 16)?;
+        Ok(Names { table, firsts })
     }
 
     /// What is true of the names.
@@ -108,12 +114,17 @@ impl Names {
         if let Some(fault) = self.fault(name) {
             return Err(fault);
         }
+        let place = self.len();
         let Ok(key) = Vec::from_slice(*self.table.allocator(), name) else {
+            return Err(NameFault::Memory);
+        };
+        let Ok(()) = self.firsts.reserve(1) else {
             return Err(NameFault::Memory);
         };
         let Ok(_) = self.table.insert(key, target) else {
             return Err(NameFault::Memory);
         };
+        note_first(&mut self.firsts, &target, place);
         Ok(())
     }
 
@@ -137,40 +148,36 @@ impl Names {
         }
     }
 
-    /// The name at a place, where it stands for the target.
-    fn name_for(&self, place: usize, target: &Target) -> Option<&str>
-        ensures { option_map (λ name. name.now) result ≡ option_and_then (name_for target.now) (slice_get self.now place) }
+    /// The place of the first name that was added for the target.
+    fn place_of(&self, target: &Target) -> Option<usize>
+        ensures { result ≡ place_of target.now self.now }
     {
-        match self.entry(place) {
-            None => None,
-            Some((name, found)) => {
-                if is_same_target(&found, target) {
-                    Some(text_of(name))
-                } else {
-                    None
-                }
-            }
-        }
+        self.firsts.get(target).copied()
     }
 
     /// The first name that was added for the target.
     pub fn name_of(&self, target: Target) -> Option<&str>
         ensures { option_map (λ name. name.now) result ≡ name_of target self.now }
     {
-        for place in 0..self.len() {
-            if let Some(name) = self.name_for(place, &target) {
-                return Some(name);
-            }
+        let place = self.place_of(&target)?;
+        match self.at(place) {
+            None => None,
+            Some((name, _)) => Some(name),
         }
-        None
     }
 }
 
-/// Whether two targets are the same.
-fn is_same_target(found: &Target, target: &Target) -> bool
-    ensures { result ≡ same_target found.now target.now }
+/// Notes the place of a target's name, unless the target has one already.
+fn note_first(firsts: &mut IndexMap<Target, usize>, target: &Target, place: usize)
+    requires { 0 < spare firsts.old }
+    ensures { (t : Target) → lookup (same_target t) firsts.new.entries ≡ with_first target.now place t (lookup (same_target t) firsts.old.entries) }
 {
-    found == target
+    if firsts.contains_key(target) {
+        return;
+    }
+    let Ok(_) = firsts.insert(*target, place) else {
+        unreachable!();
+    };
 }
 
 /// The text of a name.

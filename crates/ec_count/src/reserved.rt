@@ -4,7 +4,7 @@ ghost use Rattle.std.specs.List.{list_all, list_any};
 ghost use Rattle.std.specs.Prelude.{◌≡◌, bytes_eq};
 
 /// The words that the texts use themselves, which name nothing.
-pub static RESERVED: [&str; 36] = [
+static RESERVED: [&str; 36] = [
     "advance",
     "await",
     "both",

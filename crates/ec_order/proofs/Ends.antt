@@ -9,7 +9,7 @@ use Rattle.ec_core.specs.declared.act.Reply.{Reply}
 use Rattle.ec_core.specs.declared.act.Reply.TheVariants.{Number, Pending}
 use Rattle.ec_core.specs.declared.act.Entry.{Entry}
 use Rattle.ec_core.specs.Counts.{total, issued, cell_value}
-use Rattle.ec_core.specs.Calls.{CallSoFar, under_way, gone_on, is_pending}
+use Rattle.ec_core.specs.Calls.{CallSoFar, under_way, gone_on, is_go, is_pending}
 use Rattle.ec_core.specs.Rounds.{event_or, width, sum_read, round_reply, read_reply, go_reply}
 use Rattle.ec_core.specs.Acceptance.{reply_of, IsAccepted}
 use Rattle.ec_core.proofs.Answering.{allowed, IsAllowed, IsReading, IsReadingCall, call_reads, reading_event, width_some}
@@ -83,15 +83,19 @@ pub record EndsNothing (t : Tables) (x : Entry) (past : List Entry) (o : Option 
 pub record EndsReading (t : Tables) (x : Entry) (past : List Entry) (o : Option CallSoFar) : Type 0 where
   pub op : Act
   pub rest : List (List Entry)
+  pub gone : gone_on x.act past o ≡ Some (record { op = op; moments = past ∷ rest })
   pub is : ended_by t x (gone_on x.act past o) ≡ call_of_entries t x op (past ∷ rest) ∷ []
   pub quiet : IsQuiet x.act
   pub reading : is_reading op ≡ true
   pub known : event_or op < 32
   pub chain : IsChain past rest
+  pub final : is_pending x.reply ≡ false
   pub round : EndsRound t op past rest x.reply
 
 pub record EndsActing (t : Tables) (x : Entry) (past : List Entry) (o : Option CallSoFar) : Type 0 where
   pub is : ended_by t x (gone_on x.act past o) ≡ call_of_entries t x x.act (past ∷ []) ∷ []
+  pub final : is_pending x.reply ≡ false
+  pub begins : is_go x.act ≡ false
   pub acting : is_reading x.act ≡ false
   pub told : (s : SequentialState) → Shows s past → sequential_reply s x.act ≡ Some x.reply
 
@@ -111,20 +115,22 @@ reading_ends t past w act op reply rest o gone quiet r known chain some h =
           (inr (inl (record {
             op = op;
             rest = rest;
+            gone = gone;
             is = ap (ended_by t (entry w act reply)) gone ∙ ap (λ b. cond b [] (call_of_entries t (entry w act reply) op (past ∷ rest) ∷ [])) e;
             quiet = quiet;
             reading = r;
             known = known;
             chain = chain;
+            final = e;
             round = read_told t op past rest reply some r h e;
           })))
     ] refl
 
 acting_ends : (t : Tables) (past : List Entry) (w : ℕ) (act : Act) (reply : Reply) (o : Option CallSoFar)
-    → gone_on act past o ≡ Some (record { op = act; moments = past ∷ [] }) → is_pending reply ≡ false → is_reading act ≡ false
+    → gone_on act past o ≡ Some (record { op = act; moments = past ∷ [] }) → is_pending reply ≡ false → is_go act ≡ false → is_reading act ≡ false
     → ((s : SequentialState) → Shows s past → sequential_reply s act ≡ Some reply) → Ends t (entry w act reply) past o
-acting_ends t past w act reply o gone p r h =
-    inr (inr (record { is = ap (ended_by t (entry w act reply)) gone ∙ ap (λ b. cond b [] (call_of_entries t (entry w act reply) act (past ∷ []) ∷ [])) p; acting = r; told = h }))
+acting_ends t past w act reply o gone p b r h =
+    inr (inr (record { is = ap (ended_by t (entry w act reply)) gone ∙ ap (λ b. cond b [] (call_of_entries t (entry w act reply) act (past ∷ []) ∷ [])) p; final = p; begins = b; acting = r; told = h }))
 
 op_reads : (t : Tables) (op : Act) → IsReading t op → is_reading op ≡ true
 op_reads t (Read e) h = refl
@@ -145,17 +151,17 @@ go_ends t past w reply (Some call) d chain reads h =
 -- what an accepted entry ends
 pub ends_at : (t : Tables) (past : List Entry) (w : ℕ) (act : Act) (reply : Reply) → IsDeclared t → IsAccepted t past → IsAllowed t past w act → reply_of t past w act ≡ reply
     → Ends t (entry w act reply) past (under_way w past)
-ends_at t past w (Advance e) reply d acc a h = acting_ends t past w (Advance e) reply (under_way w past) refl (ap is_pending (sym h)) refl (λ s k. ap Some h)
+ends_at t past w (Advance e) reply d acc a h = acting_ends t past w (Advance e) reply (under_way w past) refl (ap is_pending (sym h)) refl refl (λ s k. ap Some h)
 ends_at t past w (Read e) reply d acc a h =
     reading_ends t past w (Read e) (Read e) reply [] (under_way w past) refl (λ s. refl) refl (let few : length t.events ≤ 32 = d.few in let k : e < length t.events = leb-false (length t.events) e a.known in omega arith) tt (width_some t e d (leb-false (length t.events) e a.known)) h
 ends_at t past w (Await e v) reply d acc a h =
     reading_ends t past w (Await e v) (Await e v) reply [] (under_way w past) refl (λ s. refl) refl (let few : length t.events ≤ 32 = d.few in let k : e < length t.events = leb-false (length t.events) e a.known in omega arith) tt (width_some t e d (leb-false (length t.events) e a.known)) h
 ends_at t past w Go reply d acc a h = go_ends t past w reply (under_way w past) d (call_chain w past) (call_reads t past w acc) h
 ends_at t past w (Ticket q) reply d acc a h =
-    acting_ends t past w (Ticket q) reply (under_way w past) refl (ap is_pending (sym h)) refl (λ s k. ap (λ n. Some (Number n)) (k.sequencers q) ∙ ap Some h)
-ends_at t past w (Put x v) reply d acc a h = acting_ends t past w (Put x v) reply (under_way w past) refl (ap is_pending (sym h)) refl (λ s k. ap Some h)
+    acting_ends t past w (Ticket q) reply (under_way w past) refl (ap is_pending (sym h)) refl refl (λ s k. ap (λ n. Some (Number n)) (k.sequencers q) ∙ ap Some h)
+ends_at t past w (Put x v) reply d acc a h = acting_ends t past w (Put x v) reply (under_way w past) refl (ap is_pending (sym h)) refl refl (λ s k. ap Some h)
 ends_at t past w (Get x) reply d acc a h =
-    acting_ends t past w (Get x) reply (under_way w past) refl (ap is_pending (sym h)) refl (λ s k. ap (λ n. Some (Number n)) (k.cells x) ∙ ap Some h)
+    acting_ends t past w (Get x) reply (under_way w past) refl (ap is_pending (sym h)) refl refl (λ s k. ap (λ n. Some (Number n)) (k.cells x) ∙ ap Some h)
 
 pub ends : (t : Tables) (x : Entry) (past : List Entry) → IsDeclared t → IsAccepted t (x ∷ past) → Ends t x past (under_way x.worker past)
 ends t x past d acc =

@@ -1,5 +1,5 @@
 -- The laws over a history in its natural order.
-use Rattle.std.proofs.Common.{◌≡◌, ◌≢◌, ℕ, ◌<◌, ◌≤◌, inl, inr, Bool, true, false, List, ◌++◌, length, refl, ap, sym, ◌∙◌, arith, subst, take, drop, reverse}
+use Rattle.std.proofs.Common.{◌≡◌, ℕ, ◌≤◌, inl, inr, true, false, List, ◌++◌, length, refl, ap, sym, ◌∙◌, arith, take, drop, reverse}
 use Rattle.std.specs.Prelude.{MatchBool}
 use Rattle.std.specs.List.{Contains}
 use Rattle.std.proofs.lemmas.Bool.{cases_lt}
@@ -11,10 +11,10 @@ use Rattle.ec_core.specs.Counts.{total, past_at}
 use Rattle.ec_core.specs.Rounds.{event_or, IsPastOf}
 use Rattle.ec_core.specs.Acceptance.{IsAccepted}
 use Rattle.ec_order.specs.declared.call.Call.{Call}
-use Rattle.ec_order.specs.Calls.{finished_calls, is_reading, number_of}
+use Rattle.ec_order.specs.Calls.{finished_calls, is_reading}
 use Rattle.ec_order.specs.Orders.{calls_in}
-use Rattle.ec_order.specs.Points.{first_entries, point_of, ordered_by_points, IsLeastMoment, IsPoint}
-use Rattle.ec_order.specs.Laws.{StoodBetween, PointsExist, HasAnOrder, EveryAcceptedHistoryHasAnOrder}
+use Rattle.ec_order.specs.Points.{first_entries, point_of, ordered_by_points, IsLeastMoment}
+use Rattle.ec_order.specs.Laws.{StoodBetween, PointsExist, EveryAcceptedHistoryHasAnOrder}
 use Rattle.ec_order.proofs.Points.{first_of_past}
 use Rattle.ec_order.proofs.Reaching.{first_all}
 use Rattle.ec_order.proofs.Fits.{Fits, all_fit, has_point, acts_there, point_least}

@@ -4,9 +4,9 @@
 use Rattle.std.specs.Prelude.{ℕ, ◌-◌, Bool, true, false, List, [], ◌∷◌, ◌++◌, length, Option, Some, None, if◌then◌else◌}
 use Rattle.ec_count.specs.Tables.{Tables}
 use Rattle.ec_core.specs.declared.act.Act.{Act}
-use Rattle.ec_core.specs.declared.act.Act.TheVariants.{Advance, Read, Await, Go, Ticket, Put, Get}
+use Rattle.ec_core.specs.declared.act.Act.TheVariants.{Read, Await}
 use Rattle.ec_core.specs.declared.act.Reply.{Reply}
-use Rattle.ec_core.specs.declared.act.Reply.TheVariants.{Done, Number, Pending}
+use Rattle.ec_core.specs.declared.act.Reply.TheVariants.{Number}
 use Rattle.ec_core.specs.declared.act.Entry.{Entry}
 use Rattle.ec_core.specs.Calls.{CallSoFar, under_way, gone_on, is_pending}
 use Rattle.ec_core.specs.Rounds.{event_or, position_of, round_start}

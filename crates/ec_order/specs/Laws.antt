@@ -1,7 +1,7 @@
 -- Laws of every accepted history, over the history in its natural order: the oldest entry first, so that `past_at k h`
 -- is moment k, at which the first k entries have happened.
-use Rattle.std.specs.Prelude.{◌≡◌, ℕ, ◌≤◌, true, List, reverse}
-use Rattle.std.specs.List.{Contains}
+use Rattle.std.specs.Prelude.{◌≡◌, ℕ, ◌<◌, ◌≤◌, true, List, reverse}
+use Rattle.std.specs.List.{AllPairs, Contains}
 use Rattle.ec_count.specs.Tables.{Tables, IsDeclared}
 use Rattle.ec_core.specs.declared.act.Entry.{Entry}
 use Rattle.ec_core.specs.Counts.{total, past_at}
@@ -9,8 +9,18 @@ use Rattle.ec_core.specs.Rounds.{event_or}
 use Rattle.ec_core.specs.Acceptance.{IsAccepted}
 use Rattle.ec_order.specs.declared.call.Call.{Call}
 use Rattle.ec_order.specs.Calls.{finished_calls, is_reading, number_of}
+use Rattle.ec_order.specs.Cuts.{IsFinishedCall}
 use Rattle.ec_order.specs.Orders.{IsLegalOrder}
 use Rattle.ec_order.specs.Points.{IsPoint, point_of}
+
+-- the finished calls are exactly the calls that the worker's entries are cut into, in order of their last entries
+pub record AreFinishedCalls (t : Tables) (h : List Entry) (cs : List Call) : Type 0 where
+  pub each : (c : Call) → Contains cs c → IsFinishedCall t h c
+  pub every : (c : Call) → IsFinishedCall t h c → Contains cs c
+  pub by_last : AllPairs (λ (a b : Call). a.last < b.last) cs
+
+abbrev pub CallsAreCutInOrder : Type 0
+CallsAreCutInOrder = (t : Tables) (h : List Entry) → IsDeclared t → IsAccepted t (reverse h) → AreFinishedCalls t h (finished_calls t (reverse h))
 
 -- each finished call has its point
 abbrev pub PointsExist : Type 0

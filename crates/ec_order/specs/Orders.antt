@@ -1,5 +1,5 @@
 -- Which orders of the finished calls are legal.
-use Rattle.std.specs.Prelude.{ℕ, ◌<◌, List, map}
+use Rattle.std.specs.Prelude.{◌<◌, List, map}
 use Rattle.std.specs.List.{AllPairs}
 use Rattle.std.specs.List.Sorted.{IsPermutation}
 use Rattle.ec_count.specs.Tables.{Tables}

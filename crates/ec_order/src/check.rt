@@ -19,7 +19,8 @@ fn same_call(a: &Call, b: &Call) -> bool
 /// The place of a call among calls that go by their last entries.
 fn find(calls: &[Call], call: &Call) -> Option<usize>
     requires { AllPairs (λ (a b : Call). a.last < b.last) calls.now }
-    ensures { MatchOption result (Contains calls.now call.now → ⊥) (λ j. slice_get calls.now j ≡ Some call.now) }
+    ensures { MatchOption result (Contains calls.now call.now → ⊥)
+        (λ j. slice_get calls.now j ≡ Some call.now) }
 {
     match calls.binary_search_by_key(&call.last, |c| c.last) {
         Ok(j) => {
@@ -42,7 +43,8 @@ fn unset(alloc: Global, n: usize) -> Result<Vec<bool>, AllocError>
 
 /// The first place of a mark that is not set.
 fn first_unset(marks: &[bool]) -> Option<usize>
-    ensures { MatchOption result (All (λ m. m ≡ true) marks.now) (λ j. slice_get marks.now j ≡ Some false) }
+    ensures { MatchOption result (All (λ m. m ≡ true) marks.now)
+        (λ j. slice_get marks.now j ≡ Some false) }
 {
     for (j, mark) in marks.iter().enumerate() {
         if !*mark {
@@ -52,8 +54,11 @@ fn first_unset(marks: &[bool]) -> Option<usize>
     None
 }
 
+/// The first fault, by one walk over the places: the calls at them are looked up among the finished calls by their
+/// last entries, marked when they are met, and run on the sequential object.
 fn judge(alloc: Global, run: &Run, placed: &[Placed]) -> Result<Verdict, AllocError>
-    ensures { IfOk result (λ v. IsVerdict run.now.setup (reverse run.now.entries) placed.now v) }
+    ensures { IfOk result (λ v.
+        IsVerdict run.now.setup (reverse run.now.entries) placed.now v) }
 {
     run.known();
     let calls = calls(alloc, run)?;
@@ -92,8 +97,10 @@ fn judge(alloc: Global, run: &Run, placed: &[Placed]) -> Result<Verdict, AllocEr
 /// Whether a list is a legal order of the finished calls of a run, each with its point, and else what is first wrong.
 /// The run is as before, with want of memory too.
 pub fn verify(alloc: Global, run: &Run, placed: &[Placed]) -> Result<Verdict, AllocError>
-    ensures verdict { IfOk result (λ v. IsVerdict run.now.setup (reverse run.now.entries) placed.now v) }
-    ensures only { IfOk result (λ v. IsGood run.now.setup (reverse run.now.entries) placed.now → v ≡ Verdict.Good) }
+    ensures verdict { IfOk result (λ v.
+        IsVerdict run.now.setup (reverse run.now.entries) placed.now v) }
+    ensures only { IfOk result (λ v.
+        IsGood run.now.setup (reverse run.now.entries) placed.now → v ≡ Verdict.Good) }
 {
     run.known();
     let verdict = judge(alloc, run, placed)?;

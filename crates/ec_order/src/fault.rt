@@ -1,4 +1,7 @@
 //! Why no order was given.
+ghost use Rattle.std.specs.Prelude.{◌≡◌};
+ghost use Rattle.ec_order.specs.declared.fault.OrderFault.TheVariants.{Memory};
+
 use std::alloc::AllocError;
 
 /// Why `order` gave no order: want of memory, and nothing else, for every run has one.
@@ -9,6 +12,8 @@ pub enum OrderFault {
 }
 
 impl From<AllocError> for OrderFault {
+    ghost from_gives = { λ _ fault. fault ≡ Memory };
+
     fn from(_: AllocError) -> Self {
         OrderFault::Memory
     }

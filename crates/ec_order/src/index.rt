@@ -9,6 +9,7 @@ use crate::begun::event_or;
 use ec_core::{Act, Reply, Run};
 use std::alloc::{AllocError, Global};
 
+/// Whether an act is a read or an await.
 pub(crate) fn is_reading(op: Act) -> bool
     ensures { result ≡ is_reading op }
 {
@@ -18,6 +19,7 @@ pub(crate) fn is_reading(op: Act) -> bool
     }
 }
 
+/// The number that a reply tells; 0 where it tells none.
 fn number_of(reply: Reply) -> u64
     ensures { result ≡ number_of reply }
 {
@@ -41,7 +43,9 @@ fn advanced(act: Act) -> Option<usize>
 /// Adds a moment to those of eventcount e.
 fn note(lists: &mut Vec<Vec<usize>>, event: usize, moment: usize) -> Result<(), AllocError>
     requires { event < length lists.old.items }
-    ensures { OnOk result ((v : _) × (v.items ≡ moments_in lists.old.items event ++ moment ∷ []) × (lists.new.items ≡ slice_set lists.old.items event v)) }
+    ensures { OnOk result ((v : _)
+        × (v.items ≡ moments_in lists.old.items event ++ moment ∷ [])
+        × (lists.new.items ≡ slice_set lists.old.items event v)) }
 {
     let list = &mut lists[event];
     list.push(moment)?;
@@ -60,7 +64,7 @@ fn no_moments(alloc: Global) -> Result<Vec<Vec<usize>>, AllocError>
     Ok(lists)
 }
 
-/// The moments after the advances of each eventcount.
+/// For each eventcount the moments after its advances, in order.
 pub(crate) fn index(alloc: Global, run: &Run) -> Result<Vec<Vec<usize>>, AllocError>
     ensures long { IfOk result (λ ls. length ls.items ≡ 32) }
     ensures value { IfOk result (λ ls. IsIndex (reverse run.now.entries) ls.items) }
@@ -76,6 +80,7 @@ pub(crate) fn index(alloc: Global, run: &Run) -> Result<Vec<Vec<usize>>, AllocEr
     Ok(lists)
 }
 
+/// The moment after the r-th of the advances after which these are the moments, and moment 0 for r = 0.
 fn moment_of(moments: &[usize], r: u64) -> usize
     ensures { result ≡ moment_of moments.now r }
 {
@@ -86,7 +91,8 @@ fn moment_of(moments: &[usize], r: u64) -> usize
     }
 }
 
-/// The point of a call.
+/// The point of a call: of a read or an await the greater of its round's start and the moment after the advance that
+/// made the total its answer, of any other call its position.
 pub(crate) fn point(lists: &[Vec<usize>], call: &Call) -> usize
     requires { length lists.now ≡ 32 }
     ensures { result ≡ point_in lists.now call.now }

@@ -24,11 +24,13 @@ pub(crate) struct Numbers {
 }
 
 impl Numbers {
+    /// All numbers 0.
     pub(crate) fn zeros() -> Self
         ensures events { (k : ℕ) → slice_index result.events k ≡ 0 }
         ensures sequencers { (k : ℕ) → slice_index result.sequencers k ≡ 0 }
         ensures cells { (k : ℕ) → slice_index result.cells k ≡ 0 }
-        ensures long { (length result.events ≡ 32) × (length result.sequencers ≡ 32) × (length result.cells ≡ 256) }
+        ensures long { (length result.events ≡ 32)
+            × (length result.sequencers ≡ 32) × (length result.cells ≡ 256) }
     {
         Numbers {
             events: all_alike(0),
@@ -45,6 +47,7 @@ impl Numbers {
         self.reply(call.op) == Some(call.reply)
     }
 
+    /// What a call is answered now; none where it is not possible.
     fn reply(&self, op: Act) -> Option<Reply>
         ensures named { IsNamed op }
         ensures value { result ≡ reply_in self.now op }

@@ -20,8 +20,10 @@ pub(crate) fn take_in(
     i: usize,
 ) -> Option<Call>
     ensures worker { entry.now.worker < 16 }
-    ensures table { table.new ≡ slice_set table.old entry.now.worker (begun_left setup.now entry.now.reply (begun_after entry.now.act (begun_at table.old entry.now.worker) i)) }
-    ensures value { result ≡ call_told entry.now i (begun_after entry.now.act (begun_at table.old entry.now.worker) i) }
+    ensures table { table.new ≡ slice_set table.old entry.now.worker (begun_left setup.now entry.now.reply
+        (begun_after entry.now.act (begun_at table.old entry.now.worker) i)) }
+    ensures value { result ≡ call_told entry.now i
+        (begun_after entry.now.act (begun_at table.old entry.now.worker) i) }
 {
     let worker = entry.worker.get();
     let begun = begun_after(entry.act, table[worker], i);
@@ -77,7 +79,8 @@ pub(crate) fn finished_count(run: &Run) -> usize
 
 /// The finished calls of a run, by their last entries. The run is as before, with want of memory too.
 pub fn calls(alloc: Global, run: &Run) -> Result<Vec<Call>, AllocError>
-    ensures { IfOk result (λ cs. cs.items ≡ finished_calls run.now.setup (reverse run.now.entries)) }
+    ensures { IfOk result (λ cs.
+        cs.items ≡ finished_calls run.now.setup (reverse run.now.entries)) }
 {
     run.known();
     let mut table: [Option<Begun>; 16] = all_alike(None);

@@ -30,11 +30,12 @@ wrote old new held bs (Err x) good ok err = λ start all h.
     let h' : HoldsAs start old false held.bytes all = rw good at h in
     subst (AppendsPrefix start new) (sym (ap (λ (r : List ℕ). r ++ bs) h'.1 ∙ append_assoc h'.0 held.bytes bs)) (prefix_after start old new h'.0 (held.bytes ++ bs) h'.2 err)
 
-pub puts_flushed : {E : Type 0} (old new : Option (List ℕ)) (held : Held) (r : Result (Unit {0}) E) → held.failed ≡ false → OnOk r (Appends old new held.bytes) → OnErr r (AppendsPrefix old new held.bytes)
-    → Puts old held new (record { bytes = []; failed = is_err r }) []
-puts_flushed old new held r good ok err =
+-- bytes that waited and are written
+pub puts_flushed : {E : Type 0} (old new : Option (List ℕ)) (held : Held) (waiting : List ℕ) (failed : Bool) (r : Result (Unit {0}) E) → held.failed ≡ false → OnOk r (Appends old new held.bytes) → OnErr r (AppendsPrefix old new held.bytes)
+    → waiting ≡ [] → failed ≡ is_err r → Puts old held new (record { bytes = waiting; failed = failed }) []
+puts_flushed old new held waiting failed r good ok err none same =
     let e : held.bytes ≡ held.bytes ++ [] = sym (append-nil held.bytes) in
-    wrote old new held [] r good (subst (λ (k : List ℕ). OnOk r (Appends old new k)) e ok) (subst (λ (k : List ℕ). OnErr r (AppendsPrefix old new k)) e err)
+    rw (none, same) (wrote old new held [] r good (subst (λ (k : List ℕ). OnOk r (Appends old new k)) e ok) (subst (λ (k : List ℕ). OnErr r (AppendsPrefix old new k)) e err))
 
 pub puts_written : {E : Type 0} (old new : Option (List ℕ)) (bs : List ℕ) (r : Result (Unit {0}) E) → OnOk r (Appends old new bs) → OnErr r (AppendsPrefix old new bs) → Puts old nothing_held new (record { bytes = []; failed = is_err r }) bs
 puts_written old new bs r ok err = wrote old new nothing_held bs r (λ i. false) ok err

@@ -1,15 +1,13 @@
 -- A declaration may stand exactly where its line has no fault.
-use Rattle.std.proofs.Common.{◌≡◌, ℕ, ◌+◌, ◌<◌, ◌≤◌, List, [], ◌∷◌, ◌++◌, length, Bool, true, false, not, cond, ◌||◌, ◌&&◌, Option, Some, None, is_some, unwrap_or, refl, sym, ap, subst, ◌∙◌, arith, eqb, nat_le, nat_lt, leb, ltb, append_assoc, append-nil, eqb-true, eq-eqb, inl, inr}
-use Rattle.std.specs.List.{list_any}
-use Rattle.std.proofs.lemmas.Bool.{true≢false, or_parts, or_from, and_parts, and_from, and_left, and_right, and_cases, ltb-false, le-ltb, leb-false, lt-leb, leb-true, le-leb, not-false, not_from_true, eqb-false, ne_eqb}
+use Rattle.std.proofs.Common.{◌≡◌, ℕ, ◌+◌, ◌≤◌, List, [], ◌∷◌, ◌++◌, length, Bool, true, false, not, ◌||◌, Option, Some, None, is_some, unwrap_or, refl, sym, ap, subst, ◌∙◌, arith, eqb, nat_le, nat_lt, leb, ltb, append_assoc, append-nil, eqb-true}
+use Rattle.std.proofs.lemmas.Bool.{true≢false, or_parts, or_from, and_parts, and_from, and_left, ltb-false, le-ltb, leb-false, lt-leb, leb-true, le-leb, not-false, not_from_true, eqb-false, ne_eqb}
 use Rattle.ec_count.specs.declared.setup.SetupFault.TheVariants as setups
 use Rattle.ec_count.specs.Tables.{Tables, first_that, names_unknown}
 use Rattle.ec_count.specs.Members.{has_repeat}
 use Rattle.ec_count.specs.Names.{find_name}
 use Rattle.ec_count.specs.Reserved.{is_name}
-use Rattle.ec_count.specs.declared.target.Target.{Target}
 use Rattle.ec_text.specs.Words.{number_of}
-use Rattle.ec_trace.specs.Sorts.{has_number, other, keeps_apart, needs_other}
+use Rattle.ec_trace.specs.Sorts.{other, keeps_apart, needs_other}
 use Rattle.ec_trace.specs.Headed.{Headed}
 use Rattle.ec_trace.specs.Outline.{Declaration, IsDeclarable, opened, numbered, declared_by, declared_all, objects_fault, with_objects, target_of, is_in_range, fits_form}
 use Rattle.ec_trace.specs.Form.{Phrase}
@@ -20,7 +18,7 @@ use Rattle.ec_trace.specs.declared.sort.Sort.TheVariants as sorts
 use Rattle.ec_trace.specs.declared.heading.HeadFault.{HeadFault}
 use Rattle.ec_trace.specs.declared.heading.HeadFault.TheVariants as faults
 use Rattle.ec_trace.proofs.Phrases.{IsSpelled, SecondFits, NumberFits, HasWords}
-use Rattle.ec_trace.proofs.Listed.{Named, HasNoWorker, no_worker-append, with_others, Differ, AreBelow, known_below, below_known, ids_below, ids_some}
+use Rattle.ec_trace.proofs.Listed.{Named, HasNoWorker, no_worker-append, with_others, AreBelow, known_below, below_known, ids_below, ids_some}
 
 -- A LIST OF TESTS
 

@@ -27,7 +27,7 @@ onto_has : (b : ℕ) (parts : List (List ℕ)) → (first : List ℕ) × (others
 onto_has b [] = (b ∷ [], [], refl)
 onto_has b (part ∷ parts) = (b ∷ part, parts, refl)
 
-has_first : (bytes : List ℕ) → HasFirst bytes
+pub has_first : (bytes : List ℕ) → HasFirst bytes
 has_first [] = record { first = []; others = []; is = refl }
 has_first (b ∷ bytes) =
     let P : Bool → Type 0 = λ t. (first : List ℕ) × (others : List (List ℕ)) × (cond t ([] ∷ parts_of bytes) (onto_first b (parts_of bytes)) ≡ first ∷ others) in

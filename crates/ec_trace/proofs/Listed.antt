@@ -1,12 +1,11 @@
 -- The workers of a heading, found by their names.
-use Rattle.std.proofs.Common.{◌≡◌, ◌≢◌, ℕ, zero, suc, ◌+◌, ◌<◌, ◌≤◌, List, [], ◌∷◌, ◌++◌, length, map, get_or, slice_index_or, Bool, true, false, cond, ◌||◌, Option, Some, None, is_none, refl, sym, ap, subst, ◌∙◌, arith, bytes_eq, nat_le, leb, AllPairs, option_and_then, add-zero, zero-add, eqb, ne_eqb}
+use Rattle.std.proofs.Common.{◌≡◌, ◌≢◌, ℕ, zero, suc, ◌+◌, ◌<◌, List, [], ◌∷◌, ◌++◌, length, get_or, Bool, true, false, cond, Option, Some, None, is_none, refl, sym, ap, ◌∙◌, arith, bytes_eq, nat_le, leb, AllPairs, option_and_then, add-zero, zero-add, eqb, ne_eqb}
 use Rattle.std.specs.List.{list_any}
 use Rattle.std.specs.Option.{option_map_or}
-use Rattle.std.proofs.lemmas.Slice.Eq.{bytes_eq-Decides}
 use Rattle.std.proofs.lemmas.Bool.{true≢false, or_parts, or_from, lt-leb, leb-false, false_from_ne_true}
 use Rattle.ec_count.specs.Names.{find_name}
 use Rattle.ec_count.specs.declared.target.Target.{Target}
-use Rattle.ec_count.specs.declared.target.Target.TheVariants.{Worker, Event, Sequencer, Cells, Group}
+use Rattle.ec_count.specs.declared.target.Target.TheVariants.{Worker}
 use Rattle.ec_trace.specs.Outline.{numbered}
 use Rattle.ec_trace.specs.Spelling.{list_words}
 use Rattle.ec_trace.specs.Lists.{worker_of, worker_in, ids_in, has_unknown}

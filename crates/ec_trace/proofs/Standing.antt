@@ -1,15 +1,15 @@
 -- An outline stands behind a heading, after each line.
-use Rattle.std.proofs.Common.{◌≡◌, ◌≢◌, ℕ, ◌+◌, ◌<◌, ◌≤◌, ◌^◌, List, [], ◌∷◌, ◌++◌, length, Option, Some, None, refl, sym, ap, ap₂, subst, ◌∙◌, arith, inl, inr, zero-add}
+use Rattle.std.proofs.Common.{◌≡◌, ◌≢◌, ℕ, ◌+◌, ◌<◌, ◌≤◌, ◌^◌, List, [], ◌∷◌, ◌++◌, length, Some, None, refl, sym, ap, subst, ◌∙◌, arith, inl, inr, zero-add}
 use Rattle.ec_count.specs.Tables.{Tables, empty_tables}
 use Rattle.ec_count.specs.declared.target.Target.{Target}
 use Rattle.ec_text.specs.Words.{words_of}
 use Rattle.ec_text.proofs.WordLemmas.{has_first}
 use Rattle.ec_trace.specs.Headed.{Headed}
-use Rattle.ec_trace.specs.Outline.{Declaration, Outline, IsOutline, IsDeclarable, AreDeclarable, AreWorkers, opened, numbered, declared_by, declared_all, headed, with_objects, target_of}
+use Rattle.ec_trace.specs.Outline.{Declaration, Outline, IsDeclarable, AreDeclarable, opened, numbered, declared_by, declared_all, with_objects, target_of}
 use Rattle.ec_trace.specs.Outlined.{HasOutline, IsHeading}
 use Rattle.ec_trace.specs.Form.{Phrase, parts_in}
 use Rattle.ec_trace.specs.Kinds.{workers_fault, declaration_fault, declaration_of}
-use Rattle.ec_trace.proofs.Phrases.{HasWords, IsSpelled, parts_spelled}
+use Rattle.ec_trace.proofs.Phrases.{HasWords, parts_spelled}
 use Rattle.ec_trace.proofs.Declarable.{Heads, heads_all, heads_opened, may_declare}
 use Rattle.ec_trace.proofs.WorkersLine.{are_workers}
 
@@ -61,6 +61,9 @@ outline_heads h has = subst (Heads has.outline.workers) has.declares (heads_all 
 pub has_outline : (h : Headed) → IsHeading h → h.setup.workers ≢ 0 → HasOutline h
 has_outline h (inl is) some = absurd (some (ap (λ (g : Headed). g.setup.workers) is))
 has_outline h (inr has) some = has
+
+pub has_outline_from : (h : Headed) → IsHeading h → 1 ≤ h.setup.workers → HasOutline h
+has_outline_from h is some = has_outline h is (λ e. (omega (arith, e)))
 
 pub line_declares : (h : Headed) (line : List ℕ) (p : Phrase) → IsHeading h → h.setup.workers ≢ 0 → Some p ≡ parts_in (words_of line) → declaration_fault h.setup h.names p ≡ None → IsDeclarable h (declaration_of h.names p)
 line_declares h line p is some parts none =

@@ -5,9 +5,9 @@ use Rattle.std.proofs.lemmas.Bool.{cond-true, cond-false}
 use Rattle.std.proofs.lemmas.List.{take_all}
 use Rattle.std.specs.Io.KnownBytes.{Consumes, IsAtEnd}
 use Rattle.ec_trace.specs.Recounted.{Recounted}
-use Rattle.ec_trace.specs.Outcome.{Place, goes_from, start, outcome, bounded, ended_at, Tells, HasNoFault, Brought, Stands, Finishes, FailsAs, Arrived, Arrives}
+use Rattle.ec_trace.specs.Outcome.{Place, goes_from, start, outcome, bounded, ended_at, Tells, Brought, Stands, Finishes, FailsAs, Arrived, Arrives}
 use Rattle.ec_trace.specs.declared.fault.TraceFault.{TraceFault}
-use Rattle.ec_trace.specs.declared.fault.TraceFault.TheVariants.{TooLarge, Unfinished, Read, Memory}
+use Rattle.ec_trace.specs.declared.fault.TraceFault.TheVariants.{TooLarge, Read, Memory}
 
 pub stands_start : (known : Option (List ℕ)) → Stands known known start 0
 stands_start None = tt

@@ -1,7 +1,5 @@
 -- The lists before and behind a word.
-use Rattle.std.proofs.Common.{◌≡◌, ◌≢◌, ℕ, ◌+◌, ◌-◌, ◌<◌, ◌≤◌, List, [], ◌∷◌, ◌++◌, length, take, drop, Bool, true, false, not, eqb, cond, Option, Some, None, zero, suc, refl, sym, ap, subst, ◌∙◌, arith, bytes_eq, take_all, le_refl, zero-add, if◌then◌else◌, get_or, add-one, drop-cons}
-use Rattle.std.specs.List.{slice_split, All}
-use Rattle.std.proofs.lemmas.List.Splits.{slice_split_at, slice_split_none}
+use Rattle.std.proofs.Common.{◌≡◌, ℕ, ◌+◌, ◌-◌, ◌<◌, List, [], ◌∷◌, ◌++◌, length, take, drop, Bool, true, false, Option, Some, None, zero, suc, refl, sym, ap, ◌∙◌, arith, bytes_eq, take_all, zero-add, if◌then◌else◌, get_or, add-one, drop-cons}
 use Rattle.std.proofs.lemmas.List.{length-append, length-drop}
 use Rattle.std.proofs.lemmas.Slice.Eq.{bytes_eq-Decides}
 use Rattle.std.proofs.Math.Seq.{take-append-add, drop-append-add, take-append_seam, drop-append_seam, drop-length}

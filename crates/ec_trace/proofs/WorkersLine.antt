@@ -1,11 +1,10 @@
 -- The line of the workers.
-use Rattle.std.proofs.Common.{◌≡◌, ◌≢◌, ℕ, zero, suc, ◌+◌, ◌<◌, ◌≤◌, List, [], ◌∷◌, ◌++◌, length, get_or, Bool, true, false, not, ◌||◌, Option, Some, None, refl, sym, ap, subst, ◌∙◌, arith, bytes_eq, codes, if◌then◌else◌, ltb, nat_lt, All, AllPairs}
+use Rattle.std.proofs.Common.{◌≡◌, ◌≢◌, ℕ, zero, suc, ◌<◌, ◌≤◌, List, [], ◌∷◌, length, get_or, Bool, true, false, not, Some, None, refl, sym, ap, ◌∙◌, arith, bytes_eq, codes, if◌then◌else◌, nat_lt}
 use Rattle.std.specs.List.{list_any, AllByRecursion}
 use Rattle.std.proofs.lemmas.List.Elements.{All-from_recursion, recursion_from_All}
 use Rattle.std.proofs.lemmas.Slice.Eq.{bytes_eq-Decides}
 use Rattle.std.proofs.lemmas.Bool.{true≢false, or_parts, or_from, not-false, not_from_true, ltb-false, le-ltb, false_from_ne_true}
 use Rattle.ec_count.specs.Reserved.{is_name}
-use Rattle.ec_count.specs.Tables.{first_that}
 use Rattle.ec_trace.specs.Outline.{AreWorkers}
 use Rattle.ec_trace.specs.Lists.{has_word, has_word_twice}
 use Rattle.ec_text.specs.Words.{words_of}
@@ -14,7 +13,7 @@ use Rattle.ec_trace.specs.Heading.{workers_in}
 use Rattle.ec_trace.specs.Kinds.{workers_fault}
 use Rattle.ec_trace.specs.declared.heading.HeadFault.{HeadFault}
 use Rattle.ec_trace.specs.declared.heading.HeadFault.TheVariants as faults
-use Rattle.ec_trace.proofs.Phrases.{HasWords, same_word, is_itself}
+use Rattle.ec_trace.proofs.Phrases.{HasWords, same_word}
 use Rattle.ec_trace.proofs.Listed.{Differ, tail_differs, head_differs}
 use Rattle.ec_trace.proofs.Declarable.{passed}
 

@@ -1,13 +1,13 @@
 -- The entry that a line spells, by the words of the line.
-use Rattle.std.specs.Prelude.{ℕ, List, [], ◌∷◌, Option, Some, None, option_and_then, bytes_eq, codes, if◌then◌else◌}
+use Rattle.std.specs.Prelude.{ℕ, List, [], ◌∷◌, Option, Some, None, bytes_eq, codes, if◌then◌else◌}
 use Rattle.ec_core.specs.declared.act.Act.{Act}
 use Rattle.ec_core.specs.declared.act.Act.TheVariants as acts
 use Rattle.ec_core.specs.declared.act.Reply.{Reply}
 use Rattle.ec_core.specs.declared.act.Reply.TheVariants.{Done, Number, Pending}
 use Rattle.ec_core.specs.declared.act.Entry.{Entry}
 use Rattle.ec_text.specs.Words.{words_of, number_of}
-use Rattle.ec_trace.specs.Spelling.{Named}
-use Rattle.ec_trace.specs.Named.{worker_in, event_in, sequencer_in, cell_named}
+use Rattle.ec_trace.specs.Lists.{worker_in}
+use Rattle.ec_trace.specs.Spelled.{Named, event_in, sequencer_in, cell_in_word}
 
 infixl 10 ◌>>=◌
 abbrev pub ◌>>=◌ : {A B : Type 0} → Option A → (A → Option B) → Option B
@@ -23,12 +23,12 @@ act_on names verb object =
     if bytes_eq verb (codes "advance") then (event_in names object >>= λ e. Some (acts.Advance e))
     else (if bytes_eq verb (codes "read") then (event_in names object >>= λ e. Some (acts.Read e))
     else (if bytes_eq verb (codes "ticket") then (sequencer_in names object >>= λ q. Some (acts.Ticket q))
-    else (if bytes_eq verb (codes "get") then (cell_named names object >>= λ x. Some (acts.Get x)) else None)))
+    else (if bytes_eq verb (codes "get") then (cell_in_word names object >>= λ x. Some (acts.Get x)) else None)))
 
 unfoldable pub act_with : Named → List ℕ → List ℕ → List ℕ → Option Act
 act_with names verb object value =
     if bytes_eq verb (codes "await") then (event_in names object >>= λ e. number_of value >>= λ v. Some (acts.Await e v))
-    else (if bytes_eq verb (codes "put") then (cell_named names object >>= λ x. number_of value >>= λ v. Some (acts.Put x v)) else None)
+    else (if bytes_eq verb (codes "put") then (cell_in_word names object >>= λ x. number_of value >>= λ v. Some (acts.Put x v)) else None)
 
 unfoldable pub reply_of : List ℕ → Option Reply
 reply_of word =

@@ -1,5 +1,5 @@
 -- Why a line of a heading is refused: each kind of fault is a test of its own.
-use Rattle.std.specs.Prelude.{ℕ, ◌+◌, Bool, ◌&&◌, ◌||◌, ◌==◌, not, nat_lt, List, [], ◌∷◌, length, Option, Some, None, is_some, unwrap_or}
+use Rattle.std.specs.Prelude.{ℕ, ◌+◌, Bool, ◌&&◌, ◌||◌, ◌==◌, not, nat_lt, List, [], ◌∷◌, length, Option, is_some, unwrap_or}
 use Rattle.std.specs.List.{list_any}
 use Rattle.ec_count.specs.Tables.{Tables, first_that}
 use Rattle.ec_count.specs.Members.{is_member, has_repeat}

@@ -8,10 +8,12 @@ pub mod Lists
 pub mod Form
 pub mod Kinds
 pub mod Heading
+pub mod HeadingLaws
+pub mod Recalled
 pub mod Spelled
-pub mod Named
+pub mod WordTables
 pub mod Entries
 pub mod Recounted
 pub mod Step
 pub mod Outcome
-pub mod HeadingLaws
+pub mod ReadingLaws

@@ -4,7 +4,7 @@ use Rattle.std.specs.List.{list_any}
 use Rattle.std.specs.Option.{option_map_or, option_and_then}
 use Rattle.ec_count.specs.Names.{find_name}
 use Rattle.ec_count.specs.declared.target.Target.{Target}
-use Rattle.ec_count.specs.declared.target.Target.TheVariants.{Worker, Event, Sequencer, Cells, Group}
+use Rattle.ec_count.specs.declared.target.Target.TheVariants.{Worker}
 
 -- the worker that a name stands for, if it stands for one
 abbrev pub worker_of : Target → Option ℕ

@@ -1,33 +1,59 @@
--- Tables of words, in which the word of each number is found at once.
-use Rattle.std.specs.Prelude.{◌≡◌, ℕ, ◌<◌, ◌+◌, ◌-◌, ◌&&◌, nat_le, nat_lt, if◌then◌else◌, List, [], ◌++◌, Option, slice_get, codes, decimal}
-use Rattle.std.specs.Option.{option_map_or}
-use Rattle.std.specs.Borrow.{Bor}
-use Rattle.ec_count.specs.declared.target.Target.TheVariants.{Worker, Event, Sequencer}
-use Rattle.ec_trace.specs.Spelling.{Named, word_of, cell_word}
-use Rattle.ec_trace.specs.declared.spell.Words.{Words}
-use Rattle.ec_trace.specs.declared.spell.CellName.{CellName}
+-- What a word of an entry spells.
+use Rattle.std.specs.Prelude.{ℕ, ◌+◌, ◌==◌, nat_lt, List, [], ◌∷◌, Option, Some, None, option_map, if◌then◌else◌}
+use Rattle.std.specs.Option.{option_and_then}
+use Rattle.ec_count.specs.Names.{find_name}
+use Rattle.ec_count.specs.declared.target.Target.{Target}
+use Rattle.ec_count.specs.declared.target.Target.TheVariants.{Event, Sequencer, Cells}
+use Rattle.ec_text.specs.Words.{number_of}
 
--- the word at a place, none past the end
-abbrev pub word_at : List (Bor (List ℕ)) → ℕ → List ℕ
-word_at words i = option_map_or (λ (w : Bor (List ℕ)). w.now) (slice_get words i) []
+abbrev pub Named : Type 0
+Named = List (List ℕ × Target)
 
--- the bytes of a cell by the name of its block and its number there
-abbrev pub cell_bytes : List ℕ → ℕ → List ℕ
-cell_bytes block place = block ++ codes "[" ++ decimal place ++ codes "]"
+-- the eventcount, sequencer or worker that a name stands for, if it stands for one
+abbrev pub event_of : Target → Option ℕ
+event_of (Event e) = Some e
+event_of _ = None
 
-abbrev pub cell_name_bytes : CellName → List ℕ
-cell_name_bytes c = cell_bytes c.block.now c.place
+abbrev pub sequencer_of : Target → Option ℕ
+sequencer_of (Sequencer q) = Some q
+sequencer_of _ = None
 
-abbrev pub cell_at : List (Option CellName) → ℕ → List ℕ
-cell_at cells x = option_map_or (λ (c : Option CellName). option_map_or cell_name_bytes c []) (slice_get cells x) []
+-- the eventcount that a word spells
+abbrev pub event_in : Named → List ℕ → Option ℕ
+event_in names word = option_and_then event_of (find_name word names)
 
--- the bytes of a cell, once a block with this name stands before the others
-abbrev pub with_block : List ℕ → ℕ → ℕ → ℕ → List ℕ → List ℕ
-with_block block first n x bytes = if nat_le first x && nat_lt x (first + n) then cell_bytes block (x - first) else bytes
+-- the sequencer that a word spells
+abbrev pub sequencer_in : Named → List ℕ → Option ℕ
+sequencer_in names word = option_and_then sequencer_of (find_name word names)
 
--- each table has the words that the names give
-pub record Spells (names : Named) (words : Words) : Type 0 where
-  pub workers : (i : ℕ) → i < 16 → word_at words.workers i ≡ word_of names (Worker i)
-  pub events : (i : ℕ) → i < 32 → word_at words.events i ≡ word_of names (Event i)
-  pub sequencers : (i : ℕ) → i < 32 → word_at words.sequencers i ≡ word_of names (Sequencer i)
-  pub cells : (x : ℕ) → x < 256 → cell_at words.cells x ≡ cell_word names x
+-- what stands before the first such byte, and what stands behind it
+unfoldable pub cut_at : ℕ → List ℕ → Option (List ℕ × List ℕ)
+cut_at byte [] = None
+cut_at byte (b ∷ bs) = if b == byte then Some ([], bs) else option_map (λ (p : List ℕ × List ℕ). (b ∷ p.0, p.1)) (cut_at byte bs)
+
+-- the number before a bracket that ends the word
+abbrev pub closed_number : Option (List ℕ × List ℕ) → Option ℕ
+closed_number None = None
+closed_number (Some (digits, [])) = number_of digits
+closed_number (Some (digits, _ ∷ _)) = None
+
+-- the first cell of a block and how many it has
+abbrev pub block_of : Target → Option (ℕ × ℕ)
+block_of (Cells first n) = Some (first, n)
+block_of _ = None
+
+-- the cell with this number in a block
+abbrev pub cell_at : ℕ → ℕ × ℕ → Option ℕ
+cell_at i block = if nat_lt i block.1 then Some (block.0 + i) else None
+
+-- the cell with this number in the block of this name
+abbrev pub cell_of : Named → List ℕ → ℕ → Option ℕ
+cell_of names name i = option_and_then (cell_at i) (option_and_then block_of (find_name name names))
+
+abbrev pub cell_by : Named → Option (List ℕ × List ℕ) → Option ℕ
+cell_by names None = None
+cell_by names (Some (name, rest)) = option_and_then (cell_of names name) (closed_number (cut_at 93 rest))
+
+-- the cell that a word spells: the name of its block, `[`, its number there, and `]`
+unfoldable pub cell_in_word : Named → List ℕ → Option ℕ
+cell_in_word names word = cell_by names (cut_at 91 word)

@@ -4,7 +4,6 @@ ghost use Rattle.ec_trace.specs.Entries.{act_alone, act_on, act_with, reply_of, 
 ghost use Rattle.ec_text.specs.Words.{words_of};
 
 use crate::heading::Heading;
-use crate::named::{cell, event, sequencer, worker};
 use ec_core::{Act, Entry, Reply};
 use ec_text::{cut_word, number};
 
@@ -26,16 +25,16 @@ fn act_on(heading: &Heading, verb: &[u8], object: &[u8]) -> Option<Act>
     ensures { result ≡ act_on heading.now.names verb.now object.now }
 {
     if verb == b"advance".as_slice() {
-        return Some(Act::Advance(event(heading, object)?));
+        return Some(Act::Advance(heading.event(object)?));
     }
     if verb == b"read".as_slice() {
-        return Some(Act::Read(event(heading, object)?));
+        return Some(Act::Read(heading.event(object)?));
     }
     if verb == b"ticket".as_slice() {
-        return Some(Act::Ticket(sequencer(heading, object)?));
+        return Some(Act::Ticket(heading.sequencer(object)?));
     }
     if verb == b"get".as_slice() {
-        return Some(Act::Get(cell(heading, object)?));
+        return Some(Act::Get(heading.cell(object)?));
     }
     None
 }
@@ -46,10 +45,10 @@ fn act_with(heading: &Heading, verb: &[u8], object: &[u8], value: &[u8]) -> Opti
     ensures { result ≡ act_with heading.now.names verb.now object.now value.now }
 {
     if verb == b"await".as_slice() {
-        return Some(Act::Await(event(heading, object)?, number(value)?));
+        return Some(Act::Await(heading.event(object)?, number(value)?));
     }
     if verb == b"put".as_slice() {
-        return Some(Act::Put(cell(heading, object)?, number(value)?));
+        return Some(Act::Put(heading.cell(object)?, number(value)?));
     }
     None
 }
@@ -80,7 +79,7 @@ fn entry_by(
     ensures { result ≡ entry_by heading.now.names name.now act equals.now answer.now }
 {
     let act = act?;
-    let worker = worker(heading, name)?;
+    let worker = heading.worker(name)?;
     if equals != b"=".as_slice() {
         return None;
     }
@@ -89,7 +88,7 @@ fn entry_by(
 }
 
 /// The entry of four words and those of the rest.
-#[tactic(auto, using(crate::proofs::EntryLemmas::too_many), unfolding(crate::specs::Entries::entry_in))]
+#[tactic(auto, using(crate::proofs::ReadEntries::too_many), unfolding(crate::specs::Entries::entry_in))]
 fn read_objects(
     heading: &Heading,
     name: &[u8],

@@ -4,13 +4,17 @@ ghost use Rattle.ec_text.specs.Words.{words_of};
 ghost use Rattle.ec_trace.specs.Form.{parts_in, shown};
 ghost use Rattle.ec_trace.specs.Heading.{Lines, Steps, workers_in, words_step, opened_by, declared_or};
 ghost use Rattle.ec_trace.specs.Kinds.{workers_fault, declaration_fault, declaration_of, is_full_for, second_list};
-ghost use Rattle.ec_trace.specs.Lists.{ids_in};
+ghost use Rattle.ec_count.specs.Names.{AreNames};
+ghost use Rattle.ec_trace.specs.Lists.{ids_in, worker_in};
+ghost use Rattle.ec_trace.specs.Outlined.{IsHeading, HasOutline};
+ghost use Rattle.ec_trace.specs.Spelled.{event_in, sequencer_in, cell_in_word, cell_of};
 ghost use Rattle.ec_trace.specs.Outline.{opened, IsDeclarable, numbered, is_in_range, with_objects, objects_fault, target_of, declared_by};
 
 use crate::form::{Parts, parts_of};
 use crate::kinds::{declaration_fault, size_of, workers_fault};
-use crate::lists::{has_blank, is_same, push_ids};
+use crate::lists::{has_blank, is_same, push_ids, worker_in};
 use crate::sort::Sort;
+use crate::spelled::{block_of, closed_number, cut_at, event_of, sequencer_of};
 use arrayvec::ArrayVec;
 use ec_count::{CellId, EventId, Limit, NameFault, Names, SeqId, Setup, Target, WorkerId};
 use ec_text::cut_word;
@@ -122,7 +126,9 @@ impl Heading {
         })
     }
 
-    /// Takes a line, without its LF: the one of the workers first, and then declarations.
+    /// Takes a line, without its LF: the one of the workers first, and then declarations. A line is
+    /// refused for the least fault that holds of it, want of memory last, and then nothing is
+    /// changed: after `Memory` the same line may be handed in again.
     #[tactic(auto, unfolding(crate::specs::Heading::head_step))]
     pub fn line(&mut self, line: &[u8]) -> Result<(), HeadFault>
         ensures { Lines result self.old self.new line.now }
@@ -212,6 +218,58 @@ impl Heading {
         ensures { result.now ≡ self.now.declarations }
     {
         self.declarations.as_slice()
+    }
+
+    /// What is true of a heading.
+    #[tactic(auto, using(crate::proofs::Standing::has_outline_from))]
+    pub fn known(&self)
+        ensures heading { IsHeading self.now }
+        ensures outline { 1 ≤ self.now.setup.workers → HasOutline self.now }
+        ensures names { AreNames self.now.names }
+    {
+        self.names.known();
+        let _setup = &self.setup;
+    }
+
+    /// The eventcount that a word spells.
+    pub fn event(&self, word: &[u8]) -> Option<EventId>
+        ensures { result ≡ event_in self.now.names word.now }
+    {
+        event_of(self.names.find_bytes(word)?)
+    }
+
+    /// The sequencer that a word spells.
+    pub fn sequencer(&self, word: &[u8]) -> Option<SeqId>
+        ensures { result ≡ sequencer_in self.now.names word.now }
+    {
+        sequencer_of(self.names.find_bytes(word)?)
+    }
+
+    /// The cell that a word spells: the name of its block, `[`, its number there, and `]`.
+    #[tactic(auto, unfolding(crate::specs::Spelled::cell_in_word))]
+    pub fn cell(&self, word: &[u8]) -> Option<CellId>
+        ensures { result ≡ cell_in_word self.now.names word.now }
+    {
+        let (name, rest) = cut_at(word, b'[')?;
+        self.cell_of(name, closed_number(rest)?)
+    }
+
+    /// The cell with this number in the block of this name.
+    fn cell_of(&self, name: &[u8], i: u64) -> Option<CellId>
+        ensures { result ≡ cell_of self.now.names name.now i }
+    {
+        let (first, n) = block_of(self.names.find_bytes(name)?)?;
+        if i >= n as u64 {
+            return None;
+        }
+        CellId::new(first + i as usize)
+    }
+
+    /// The worker of a name.
+    pub fn worker(&self, word: &[u8]) -> Option<WorkerId>
+        ensures { result ≡ worker_in self.now.names word.now }
+    {
+        worker_in(&self.names, word)
     }
 }
 

@@ -3,25 +3,34 @@
 
 mod entry;
 mod fault;
-mod heading;
-mod named;
-mod progress;
 mod form;
 mod heading;
 mod kinds;
+mod laws;
 mod lists;
+mod progress;
 mod read;
+mod reading_laws;
 mod sort;
+mod spelled;
 mod spell;
 mod write;
+mod write_heading;
 mod stage;
 mod traced;
 
 pub use fault::TraceFault;
 pub use heading::{HeadFault, Heading};
+pub use laws::{
+    lines_have_an_outline, outline_lines_lead, read_declaration_is_spelled,
+    read_workers_are_spelled, spelled_declaration_is_read, spelled_workers_are_read,
+};
 pub use progress::LINE_MAX;
 pub use read::{TRACE_MAX, read_trace};
+pub use reading_laws::{
+    no_trace_begins_another, read_is_trace, trace_has_one_meaning, trace_is_read,
+};
 pub use sort::Sort;
 pub use spell::Spellings;
-pub use write::{put_act, put_cell, put_entry, put_reply, write_entry};
+pub use write::{put_cell, put_entry, put_reply, write_entry, write_trace};
 pub use traced::Traced;

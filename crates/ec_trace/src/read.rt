@@ -1,8 +1,9 @@
 //! A whole trace, from a reader.
-ghost use Rattle.std.specs.Prelude.{◌≡◌, ◌≤◌, ◌<◌, ◌+◌, ◌^◌, IfSome, length, take};
+ghost use Rattle.std.specs.Prelude.{◌≡◌, ◌≤◌, ◌<◌, ◌+◌, ◌^◌, IfSome, IfOk, IfErr, length, take};
 ghost use Rattle.std.specs.Io.KnownBytes.{ReadConsumes};
 ghost use Rattle.std.specs.Io.{ReadsAtMost};
 ghost use Rattle.ec_trace.specs.Outcome.{Arrives, Moves, Tells, start};
+ghost use Rattle.ec_trace.specs.ReadingLaws.{IsTraceOf, Refuses};
 
 use crate::fault::TraceFault;
 use crate::progress::Progress;
@@ -71,7 +72,9 @@ fn read_lines<R: Read>(reader: &mut R, progress: &mut Progress) -> Result<(), Tr
 ///
 /// Nothing grows with the text but the heading and the run. A failed read is not tried again.
 pub fn read_trace<R: Read>(alloc: Global, reader: &mut R) -> Result<Traced, TraceFault>
-    ensures { IfSome (R.remaining reader.old) (λ bytes. Tells TRACE_MAX bytes result) }
+    ensures tells { IfSome (R.remaining reader.old) (λ bytes. Tells TRACE_MAX bytes result) }
+    ensures trace { IfSome (R.remaining reader.old) (λ bytes. IfOk result (IsTraceOf bytes)) }
+    ensures refused { IfSome (R.remaining reader.old) (λ bytes. IfErr result (λ fault. Refuses fault bytes)) }
 {
     let mut progress = Progress::new(alloc);
     read_lines(reader, &mut progress)?;

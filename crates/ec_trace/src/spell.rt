@@ -1,6 +1,6 @@
 //! The words of names, each found once.
 ghost use Rattle.std.specs.Prelude.{◌≡◌, ℕ, ◌+◌, ◌<◌, ◌-◌, ◌==◌, ◌&&◌, [], ◌∷◌, List, length, Some, slice_get, nat_le, nat_lt, if◌then◌else◌};
-ghost use Rattle.ec_trace.specs.Spelled.{Spells, word_at, cell_at, cell_name_bytes, with_block};
+ghost use Rattle.ec_trace.specs.WordTables.{Spells, word_at, cell_at, cell_name_bytes, with_block};
 ghost use Rattle.ec_trace.specs.Spelling.{Named, word_of, cell_word};
 ghost use Rattle.std.specs.Option.{option_map_or};
 ghost use Rattle.ec_count.specs.declared.target.Target.TheVariants.{Worker, Event, Sequencer};
@@ -65,7 +65,7 @@ impl<'a> Model for Spellings<'a> {
 
     ghost Value = { List (List ℕ × Target) };
 
-    ghost use Rattle.ec_trace.specs.Spelled.{Spells};
+    ghost use Rattle.ec_trace.specs.WordTables.{Spells};
 
     ghost view = { λ s. s.names.now };
 

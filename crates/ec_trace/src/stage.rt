@@ -1,6 +1,5 @@
 //! What the lines of a trace so far have built.
 ghost use Rattle.std.specs.Prelude.{◌≡◌, true, Ok};
-ghost use Rattle.ec_trace.specs.Heading.{Lines};
 ghost use Rattle.ec_trace.specs.Step.{Steps, step, limit_of, is_ended, is_declaring, run_on, ended_on};
 ghost use Rattle.ec_trace.specs.Outcome.{traced_in};
 
@@ -28,7 +27,7 @@ pub enum Stage {
 }
 
 /// The limit that a line gives, if it gives one.
-#[tactic(auto, using(crate::proofs::EntryLemmas::third_word), unfolding(crate::specs::Step::limit_of))]
+#[tactic(auto, using(crate::proofs::ReadEntries::third_word), unfolding(crate::specs::Step::limit_of))]
 fn limit_of(line: &[u8]) -> Option<Limit>
     ensures { result ≡ limit_of line.now }
 {
@@ -42,15 +41,6 @@ fn limit_of(line: &[u8]) -> Option<Limit>
         return None;
     }
     Limit::new(number(digits)?)
-}
-
-/// Takes a line of the heading: a stand-in.
-#[tactic(auto, unfolding(crate::specs::Heading::head_step))]
-fn declare(heading: &mut Heading, line: &[u8]) -> Result<(), HeadFault>
-    ensures { Lines result heading.old heading.new line.now }
-{
-    let _ = line;
-    Err(HeadFault::BadLine)
 }
 
 impl Stage {
@@ -118,7 +108,7 @@ impl Stage {
         if line == b"run".as_slice() && heading.setup().workers() > 0 {
             return self.run(alloc);
         }
-        match declare(heading, line) {
+        match heading.line(line) {
             Ok(()) => Ok(()),
             Err(HeadFault::Memory) => Err(StageFault::Memory),
             Err(_) => Err(StageFault::Line(LineFault::Bad)),

@@ -1,12 +1,15 @@
 //! Writes entries and traces.
-ghost use Rattle.std.specs.Prelude.{◌≡◌, OnOk, OnErr};
+ghost use Rattle.std.specs.Prelude.{◌≡◌, map, slice_get, OnOk, OnErr};
 ghost use Rattle.std.specs.Io.KnownBytes.{Appends};
 ghost use Rattle.std.specs.List.{join_with_byte};
 ghost use Rattle.ec_text.specs.Puts.{Puts, AppendsPrefix};
-ghost use Rattle.ec_trace.specs.Spelling.{cell_word, act_words, reply_word, entry_line};
+ghost use Rattle.ec_trace.specs.Spelling.{cell_word, act_words, reply_word, entry_line, text_of, trace_text};
+ghost use Rattle.ec_trace.specs.Recalled.{entry_text, written_text};
+ghost use Rattle.ec_trace.specs.Outline.{Outline, IsOutline, headed};
 
+use crate::write_heading::put_opening;
 use crate::{Heading, Spellings};
-use ec_core::{Act, Entry, Reply};
+use ec_core::{Act, Entry, Reply, Run};
 use ec_count::CellId;
 use ec_text::{Buffered, WriteFault, finish, put, put_byte, put_number};
 use std::io::Write;
@@ -29,12 +32,7 @@ pub fn put_cell<W: Write>(
 }
 
 /// Puts what a worker asks for.
-pub fn put_act<W: Write>(
-    writer: &mut W,
-    buffered: &mut Buffered,
-    spellings: &Spellings<'_>,
-    act: &Act,
-)
+fn put_act<W: Write>(writer: &mut W, buffered: &mut Buffered, spellings: &Spellings<'_>, act: &Act)
     ensures { Puts (W.contents writer.old) buffered.old (W.contents writer.new) buffered.new (join_with_byte 32 (act_words spellings.now act.now)) }
 {
     match *act {
@@ -82,7 +80,7 @@ pub fn put_reply<W: Write>(writer: &mut W, buffered: &mut Buffered, reply: &Repl
 }
 
 /// Puts an entry, without LF.
-#[tactic(auto, using(crate::proofs::EntryPutLemmas::entry_parts))]
+#[tactic(auto, using(crate::proofs::EntryParts::entry_parts))]
 pub fn put_entry<W: Write>(
     writer: &mut W,
     buffered: &mut Buffered,
@@ -111,5 +109,63 @@ pub fn write_entry<W: Write>(
     let spellings = Spellings::new(heading.names());
     let mut buffered = Buffered::new();
     put_entry(writer, &mut buffered, &spellings, entry);
+    finish(writer, buffered)
+}
+
+/// Puts the line of the entry at a place of a run, if there is one.
+fn put_entry_at<W: Write>(
+    writer: &mut W,
+    buffered: &mut Buffered,
+    spellings: &Spellings<'_>,
+    run: &Run,
+    place: usize,
+)
+    ensures { Puts (W.contents writer.old) buffered.old (W.contents writer.new) buffered.new (entry_text spellings.now (slice_get run.now.entries place)) }
+{
+    if let Some(entry) = run.entry(place) {
+        put_entry(writer, buffered, spellings, &entry);
+        put_byte(writer, buffered, b'\n');
+    }
+}
+
+/// Puts the lines of a run's entries.
+#[tactic(auto, using(crate::proofs::LineParts::one_more_entry))]
+fn put_entries<W: Write>(
+    writer: &mut W,
+    buffered: &mut Buffered,
+    spellings: &Spellings<'_>,
+    run: &Run,
+)
+    ensures { Puts (W.contents writer.old) buffered.old (W.contents writer.new) buffered.new (text_of (map (entry_line spellings.now) run.now.entries)) }
+{
+    for place in 0..run.len() {
+        put_entry_at(writer, buffered, spellings, run, place);
+    }
+}
+
+/// Puts a trace.
+fn put_trace<W: Write>(
+    writer: &mut W,
+    buffered: &mut Buffered,
+    spellings: &Spellings<'_>,
+    heading: &Heading,
+    run: &Run,
+)
+    ensures { Puts (W.contents writer.old) buffered.old (W.contents writer.new) buffered.new (written_text spellings.now heading.now run.now.entries) }
+{
+    put_opening(writer, buffered, spellings, heading);
+    put_entries(writer, buffered, spellings, run);
+    put(writer, buffered, b"end\n");
+}
+
+/// Writes the trace of a run under the heading whose declarations the run is on: all its entries, those of calls under way too.
+/// A WriteFault comes only where a write failed or wrote none of its bytes. It takes no memory.
+pub fn write_trace<W: Write>(run: &Run, heading: &Heading, writer: &mut W) -> Result<(), WriteFault>
+    ensures ok { (o : Outline) → IsOutline o → headed o ≡ heading.now → OnOk result (Appends (W.contents writer.old) (W.contents writer.new) (trace_text o run.now.entries)) }
+    ensures err { (o : Outline) → IsOutline o → headed o ≡ heading.now → OnErr result (AppendsPrefix (W.contents writer.old) (W.contents writer.new) (trace_text o run.now.entries)) }
+{
+    let spellings = Spellings::new(heading.names());
+    let mut buffered = Buffered::new();
+    put_trace(writer, &mut buffered, &spellings, heading, run);
     finish(writer, buffered)
 }

@@ -43,29 +43,29 @@ pub cell_put : (a b c : Option (List ℕ)) (x y z : Held) (name : List ℕ) (pas
 cell_put a b c x y z name past first n value before is now =
     (let at : 0 + n ≡ n = omega arith in
     let next : text_of (cell_lines name past first 0 (n + 1)) ≡ text_of (cell_lines name past first 0 n) ++ ended_line (cell_line name n value)
-        = ap (λ k. text_of (cell_lines name past first 0 k)) (add-one n) ∙ cells_next name past first 0 n
-        ∙ ap (λ k. text_of (cell_lines name past first 0 n) ++ ended_line (cell_line name k (cell_value (first + k) past))) at
-        ∙ ap (λ v. text_of (cell_lines name past first 0 n) ++ ended_line (cell_line name n v)) (sym is) in
+    = ap (λ k. text_of (cell_lines name past first 0 k)) (add-one n) ∙ cells_next name past first 0 n
+    ∙ ap (λ k. text_of (cell_lines name past first 0 n) ++ ended_line (cell_line name k (cell_value (first + k) past))) at
+    ∙ ap (λ v. text_of (cell_lines name past first 0 n) ++ ended_line (cell_line name n v)) (sym is) in
     subst (Puts a x c z) (sym next) (puts_then a b c x y z _ _ before now))
 
 pub event_put : (a b : Option (List ℕ)) (x y : Held) (names : Named) (past : List Entry) (target : Target) (e : ℕ) (name : List ℕ) (n : ℕ) → target ≡ Event e
     → name ≡ word_of names target → n ≡ total e past → Puts a x b y (count_line (codes "eventcount ") name n ++ 10 ∷ []) → Puts a x b y (text_of (totals_of names past target))
 event_put a b x y names past target e name n at called is put =
     (let text : text_of (totals_of names past (Event e)) ≡ count_line (codes "eventcount ") name n ++ 10 ∷ []
-        = append-nil (ended_line (count_line (codes "eventcount ") (word_of names (Event e)) (total e past)))
-        ∙ ap (λ t. ended_line (count_line (codes "eventcount ") (word_of names t) (total e past))) (sym at)
-        ∙ ap (λ w. ended_line (count_line (codes "eventcount ") w (total e past))) (sym called)
-        ∙ ap (λ k. ended_line (count_line (codes "eventcount ") name k)) (sym is) in
+    = append-nil (ended_line (count_line (codes "eventcount ") (word_of names (Event e)) (total e past)))
+    ∙ ap (λ t. ended_line (count_line (codes "eventcount ") (word_of names t) (total e past))) (sym at)
+    ∙ ap (λ w. ended_line (count_line (codes "eventcount ") w (total e past))) (sym called)
+    ∙ ap (λ k. ended_line (count_line (codes "eventcount ") name k)) (sym is) in
     subst (Puts a x b y) (sym (ap (λ t. text_of (totals_of names past t)) at ∙ text)) put)
 
 pub sequencer_put : (a b : Option (List ℕ)) (x y : Held) (names : Named) (past : List Entry) (target : Target) (q : ℕ) (name : List ℕ) (n : ℕ) → target ≡ Sequencer q
     → name ≡ word_of names target → n ≡ issued q past → Puts a x b y (count_line (codes "sequencer ") name n ++ 10 ∷ []) → Puts a x b y (text_of (totals_of names past target))
 sequencer_put a b x y names past target q name n at called is put =
     (let text : text_of (totals_of names past (Sequencer q)) ≡ count_line (codes "sequencer ") name n ++ 10 ∷ []
-        = append-nil (ended_line (count_line (codes "sequencer ") (word_of names (Sequencer q)) (issued q past)))
-        ∙ ap (λ t. ended_line (count_line (codes "sequencer ") (word_of names t) (issued q past))) (sym at)
-        ∙ ap (λ w. ended_line (count_line (codes "sequencer ") w (issued q past))) (sym called)
-        ∙ ap (λ k. ended_line (count_line (codes "sequencer ") name k)) (sym is) in
+    = append-nil (ended_line (count_line (codes "sequencer ") (word_of names (Sequencer q)) (issued q past)))
+    ∙ ap (λ t. ended_line (count_line (codes "sequencer ") (word_of names t) (issued q past))) (sym at)
+    ∙ ap (λ w. ended_line (count_line (codes "sequencer ") w (issued q past))) (sym called)
+    ∙ ap (λ k. ended_line (count_line (codes "sequencer ") name k)) (sym is) in
     subst (Puts a x b y) (sym (ap (λ t. text_of (totals_of names past t)) at ∙ text)) put)
 
 pub cells_put : (a b : Option (List ℕ)) (x y : Held) (names : Named) (past : List Entry) (target : Target) (first n : ℕ) (name : List ℕ) → target ≡ Cells first n
@@ -86,10 +86,10 @@ pub totals_put : (a b c : Option (List ℕ)) (x y z : Held) (names : Named) (pas
 totals_put a b c x y z names past targets k target at before now =
     (let one : take (k + 1) targets ≡ take k targets ++ target ∷ [] = take_next targets k target at in
     let lines : flat_map (totals_of names past) (take (k + 1) targets) ≡ flat_map (totals_of names past) (take k targets) ++ totals_of names past target
-        = ap (flat_map (totals_of names past)) one ∙ flat_map-append (totals_of names past) (take k targets) (target ∷ [])
-        ∙ ap (λ t. flat_map (totals_of names past) (take k targets) ++ t) (append-nil (totals_of names past target)) in
+    = ap (flat_map (totals_of names past)) one ∙ flat_map-append (totals_of names past) (take k targets) (target ∷ [])
+    ∙ ap (λ t. flat_map (totals_of names past) (take k targets) ++ t) (append-nil (totals_of names past target)) in
     let text : text_of (flat_map (totals_of names past) (take (k + 1) targets)) ≡ text_of (flat_map (totals_of names past) (take k targets)) ++ text_of (totals_of names past target)
-        = ap text_of lines ∙ flat_map-append ended_line (flat_map (totals_of names past) (take k targets)) (totals_of names past target) in
+    = ap text_of lines ∙ flat_map-append ended_line (flat_map (totals_of names past) (take k targets)) (totals_of names past target) in
     subst (Puts a x c z) (sym text) (puts_then a b c x y z _ _ before now))
 
 -- all of them
@@ -107,5 +107,5 @@ pub line_put : {P : Type 0} (a b c : Option (List ℕ)) (x y z : Held) (f : P �
 line_put {P} a b c x y z f ps k p at before now =
     (let lines : map f (take (k + 1) ps) ≡ map f (take k ps) ++ f p ∷ [] = ap (map f) (take_next ps k p at) ∙ map-append f (take k ps) (p ∷ []) in
     let text : text_of (map f (take (k + 1) ps)) ≡ text_of (map f (take k ps)) ++ (f p ++ 10 ∷ [])
-        = ap text_of lines ∙ flat_map-append ended_line (map f (take k ps)) (f p ∷ []) ∙ ap (λ t. text_of (map f (take k ps)) ++ t) (append-nil (ended_line (f p))) in
+    = ap text_of lines ∙ flat_map-append ended_line (map f (take k ps)) (f p ∷ []) ∙ ap (λ t. text_of (map f (take k ps)) ++ t) (append-nil (ended_line (f p))) in
     subst (Puts a x c z) (sym text) (puts_then a b c x y z _ _ before now))

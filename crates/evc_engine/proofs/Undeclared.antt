@@ -26,8 +26,8 @@ total_none t e past acc h = sym (total_is t e past acc) ∙ ap (sum_to (λ c. co
 pub shown_total : (t : Tables) (e : ℕ) (past : List Entry) → IsAccepted t past → unwrap_or (cond (nat_lt e (length t.events)) (Some (total e past)) None) 0 ≡ total e past
 shown_total t e past acc =
     elim (nat_lt e (length t.events)) as (λ b. nat_lt e (length t.events) ≡ b → unwrap_or (cond b (Some (total e past)) None) 0 ≡ total e past) [
-      true ↦ λ q. refl
-    | false ↦ λ q. (let far : length t.events ≤ e = grind arith in sym (total_none t e past acc far))
+      | true ↦ λ q. refl
+      | false ↦ λ q. (let far : length t.events ≤ e = grind arith in sym (total_none t e past acc far))
     ] refl
 
 -- the total that a world shows, or 0, is that of its history
@@ -70,8 +70,8 @@ cell_none t x (y ∷ past) acc h =
 shown_issued : (t : Tables) (q : ℕ) (past : List Entry) → IsAccepted t past → unwrap_or (cond (nat_lt q (length t.takers)) (Some (issued q past)) None) 0 ≡ issued q past
 shown_issued t q past acc =
     elim (nat_lt q (length t.takers)) as (λ b. nat_lt q (length t.takers) ≡ b → unwrap_or (cond b (Some (issued q past)) None) 0 ≡ issued q past) [
-      true ↦ λ e. refl
-    | false ↦ λ e. (let far : length t.takers ≤ q = grind arith in sym (issued_none t q past acc far))
+      | true ↦ λ e. refl
+      | false ↦ λ e. (let far : length t.takers ≤ q = grind arith in sym (issued_none t q past acc far))
     ] refl
 
 -- and so are the tickets of a sequencer
@@ -82,8 +82,8 @@ issued_shown s h q st = shown_issued s.setup q (reverse h) st.accepted
 shown_cell : (t : Tables) (x : ℕ) (past : List Entry) → IsAccepted t past → unwrap_or (cond (nat_lt x (length t.cells)) (Some (cell_value x past)) None) 0 ≡ cell_value x past
 shown_cell t x past acc =
     elim (nat_lt x (length t.cells)) as (λ b. nat_lt x (length t.cells) ≡ b → unwrap_or (cond b (Some (cell_value x past)) None) 0 ≡ cell_value x past) [
-      true ↦ λ e. refl
-    | false ↦ λ e. (let far : length t.cells ≤ x = grind arith in sym (cell_none t x past acc far))
+      | true ↦ λ e. refl
+      | false ↦ λ e. (let far : length t.cells ≤ x = grind arith in sym (cell_none t x past acc far))
     ] refl
 
 -- and the value of a cell

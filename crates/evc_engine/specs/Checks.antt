@@ -4,6 +4,7 @@ use Rattle.std.specs.Io.KnownBytes.{Appends, Keeps}
 use Rattle.ec_text.specs.Puts.{Held, Puts, AppendsPrefix}
 use Rattle.ec_trace.specs.Recounted.{Recounted}
 use Rattle.ec_trace.specs.Outcome.{outcome, HasNoFault}
+use Rattle.ec_trace.specs.ReadingLaws.{IsTraceOf, IsNoTrace}
 use Rattle.ec_trace.specs.declared.fault.TraceFault.{TraceFault}
 use Rattle.ec_trace.specs.declared.read.TheConstants.{TRACE_MAX}
 use Rattle.evc_engine.specs.declared.status.Status.{Status}
@@ -34,12 +35,23 @@ Writes t Memory old new = Keeps old.out new.out × Notes old new (codes "no memo
 Writes t Refused old new = ⊥
 Writes t Usage old new = ⊥
 
--- how `check` ended: a trace was read and its text written, or no trace was read, and nothing was written but the note
+-- the bytes are a trace, of this heading and this history, and they are read as such
+pub record ReadsAs (bytes : List ℕ) (t : Recounted) : Type 0 where
+  pub trace : IsTraceOf bytes t
+  pub told : outcome TRACE_MAX bytes ≡ Ok t
+
+-- the bytes are no trace, and this is their first fault
+pub record RefusedFor (bytes : List ℕ) (fault : TraceFault) : Type 0 where
+  pub none : IsNoTrace bytes
+  pub told : outcome TRACE_MAX bytes ≡ Err fault
+
+-- how `check` ended: the bytes are a trace and its text was written; or they are none, and nothing was written but the
+-- note of the first fault; or a read, a write or memory failed
 abbrev pub Checks : List ℕ → Status → Outlets → Outlets → Type 0
-Checks bytes Done old new = (t : Recounted) × (outcome TRACE_MAX bytes ≡ Ok t) × Writes t Done old new
-Checks bytes Refused old new = (fault : TraceFault) × (outcome TRACE_MAX bytes ≡ Err fault) × Keeps old.out new.out × Notes old new (fault_note fault)
+Checks bytes Done old new = (t : Recounted) × ReadsAs bytes t × Writes t Done old new
+Checks bytes Refused old new = (fault : TraceFault) × RefusedFor bytes fault × Keeps old.out new.out × Notes old new (fault_note fault)
 Checks bytes InputOutput old new =
-    ((t : Recounted) × (outcome TRACE_MAX bytes ≡ Ok t) × Writes t InputOutput old new)
+    ((t : Recounted) × ReadsAs bytes t × Writes t InputOutput old new)
     ⊎ (HasNoFault TRACE_MAX bytes × Keeps old.out new.out × Notes old new (codes "read fault\n"))
 Checks bytes Memory old new = Keeps old.out new.out × Notes old new (codes "no memory\n")
 Checks bytes Usage old new = ⊥

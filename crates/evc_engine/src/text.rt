@@ -13,7 +13,12 @@ use ec_trace::{Heading, Spellings, put_entry};
 use std::io::Write;
 
 /// Puts the line of a placed call.
-fn put_placed<W: Write>(out: &mut W, table: &mut Buffered, spellings: &Spellings<'_>, placed: &Placed)
+fn put_placed<W: Write>(
+    out: &mut W,
+    table: &mut Buffered,
+    spellings: &Spellings<'_>,
+    placed: &Placed,
+)
     ensures { Puts (W.contents out.old) table.old (W.contents out.new) table.new (placed_line spellings.now placed.now ++ 10 ∷ []) }
 {
     let entry = Entry {
@@ -28,7 +33,12 @@ fn put_placed<W: Write>(out: &mut W, table: &mut Buffered, spellings: &Spellings
 }
 
 /// Puts the lines of the placed calls, in order.
-fn put_order<W: Write>(out: &mut W, table: &mut Buffered, spellings: &Spellings<'_>, order: &[Placed])
+fn put_order<W: Write>(
+    out: &mut W,
+    table: &mut Buffered,
+    spellings: &Spellings<'_>,
+    order: &[Placed],
+)
     ensures { Puts (W.contents out.old) table.old (W.contents out.new) table.new (text_of (map (placed_line spellings.now) order.now)) }
 {
     for placed in order {
@@ -37,7 +47,13 @@ fn put_order<W: Write>(out: &mut W, table: &mut Buffered, spellings: &Spellings<
 }
 
 /// Puts the whole text.
-fn put_text<W: Write>(out: &mut W, table: &mut Buffered, heading: &Heading, run: &Run, order: &[Placed])
+fn put_text<W: Write>(
+    out: &mut W,
+    table: &mut Buffered,
+    heading: &Heading,
+    run: &Run,
+    order: &[Placed],
+)
     ensures { Puts (W.contents out.old) table.old (W.contents out.new) table.new (text_of (check_lines heading.now run.now.entries order.now)) }
 {
     let spellings = Spellings::new(heading.names());
@@ -49,7 +65,12 @@ fn put_text<W: Write>(out: &mut W, table: &mut Buffered, heading: &Heading, run:
 }
 
 /// Writes the text, or a front of it.
-pub fn write_text<W: Write>(out: &mut W, heading: &Heading, run: &Run, order: &[Placed]) -> Result<(), WriteFault>
+pub fn write_text<W: Write>(
+    out: &mut W,
+    heading: &Heading,
+    run: &Run,
+    order: &[Placed],
+) -> Result<(), WriteFault>
     ensures ok { OnOk result (Appends (W.contents out.old) (W.contents out.new) (text_of (check_lines heading.now run.now.entries order.now))) }
     ensures err { OnErr result (AppendsPrefix (W.contents out.old) (W.contents out.new) (text_of (check_lines heading.now run.now.entries order.now))) }
 {

@@ -96,17 +96,36 @@ fn value_at(world: &World, first: CellId, place: usize) -> u64
 }
 
 /// Puts the lines of the cells of a block.
-fn put_cells<W: Write>(out: &mut W, table: &mut Buffered, world: &World, name: &[u8], first: CellId, n: usize)
+fn put_cells<W: Write>(
+    out: &mut W,
+    table: &mut Buffered,
+    world: &World,
+    name: &[u8],
+    first: CellId,
+    n: usize,
+)
     ensures { (h : List Entry) → StandsFor world.now h
         → Puts (W.contents out.old) table.old (W.contents out.new) table.new (text_of (cell_lines name.now (reverse h) first 0 n)) }
 {
     for place in 0..n {
-        put_cell(out, table, name, place as u64, value_at(world, first, place));
+        put_cell(
+            out,
+            table,
+            name,
+            place as u64,
+            value_at(world, first, place),
+        );
     }
 }
 
 /// Puts the totals of what was declared under one name.
-fn put_target<W: Write>(out: &mut W, table: &mut Buffered, names: &Names, world: &World, target: &Target)
+fn put_target<W: Write>(
+    out: &mut W,
+    table: &mut Buffered,
+    names: &Names,
+    world: &World,
+    target: &Target,
+)
     ensures { (h : List Entry) → StandsFor world.now h
         → Puts (W.contents out.old) table.old (W.contents out.new) table.new (text_of (totals_of names.now (reverse h) target.now)) }
 {

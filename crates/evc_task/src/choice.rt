@@ -3,6 +3,6 @@
 /// A task of the program, by the command that asks for it.
 #[derive(Clone, Copy, Debug, PartialEq, Eq)]
 pub enum Task {
-    /// `check`: read a trace, and write the totals of its objects.
+    /// `check`: read a trace, and write the order of its calls and the totals of its objects.
     Check,
 }

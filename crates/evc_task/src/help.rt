@@ -18,11 +18,13 @@ Example:
   bin/evc check < examples/three-advances.trace";
 
 pub(crate) const CHECK_ABOUT: &str =
-    "Reads a trace, and writes the totals of its eventcounts and sequencers";
+    "Reads a trace, and writes the order of its calls and the totals";
 
 pub(crate) const CHECK_LONG_ABOUT: &str =
-    "Reads a trace, and writes the totals of its eventcounts and sequencers.
+    "Reads a trace, and writes the order of its calls and the totals.
 
-The trace is read from standard input. Where each line of it is right, the totals
-go to standard output. Where one is not, nothing does, and a note on standard
-error says which line it is and what is wrong with it.";
+The trace is read from standard input. Where each line of it is right, its finished
+calls go to standard output, in an order that keeps who finished before whom began
+and in which each answer is that of an object with one number; then the totals.
+Where a line is not right, nothing is written but a note on standard error, which
+says which line it is and what is wrong with it. docs/FORMATS.md has the formats.";

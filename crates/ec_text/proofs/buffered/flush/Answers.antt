@@ -4,4 +4,4 @@ use Rattle.ec_text.proofs.buffered.flush.Goals as goal
 
 pub returns-clause-puts : goal.returns-clause-puts
 returns-clause-puts g c =
-    rw (c.clear.ensures, c.is_err-buffered-inside.ensures.value) (puts_flushed _ (g.W.Write.contents c.write_out-done.new.writer) c.args.buffered.now c.write_out-done.result (search rules) (search rules) (search rules))
+    puts_flushed _ (g.W.Write.contents c.write_out-done.new.writer) c.args.buffered.now _ _ c.write_out-done.result (search rules) (search rules) (search rules) (search rules) (search rules)

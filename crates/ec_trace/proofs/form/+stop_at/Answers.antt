@@ -1,4 +1,4 @@
-use Rattle.std.proofs.Common.{◌≡◌, List, [], ◌∷◌, ◌++◌, refl, sym, ◌∙◌}
+use Rattle.std.proofs.Common.{sym, ◌∙◌}
 use Rattle.ec_trace.proofs.Stops.{stops_at_end, goes_to_end, stops_here, goes_on, stops_later}
 use Rattle.ec_trace.proofs.form.+stop_at.Goals as goal
 

@@ -1,4 +1,4 @@
-use Rattle.std.proofs.Common.{◌≡◌, ◌<◌, List, [], ◌∷◌, refl, sym, ◌∙◌, arith}
+use Rattle.std.proofs.Common.{sym, ◌∙◌}
 use Rattle.ec_trace.proofs.Stops.{well_alone}
 use Rattle.ec_trace.proofs.form.lists_of.Goals as goal
 

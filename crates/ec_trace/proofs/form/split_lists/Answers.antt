@@ -1,4 +1,4 @@
-use Rattle.std.proofs.Common.{◌≡◌, ◌<◌, List, [], ◌∷◌, refl, sym, ◌∙◌, arith}
+use Rattle.std.proofs.Common.{arith}
 use Rattle.ec_trace.proofs.Stops.{well_whole, well_parts}
 use Rattle.ec_trace.proofs.form.split_lists.Goals as goal
 

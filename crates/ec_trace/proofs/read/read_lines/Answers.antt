@@ -1,10 +1,10 @@
-use Rattle.std.proofs.Common.{rules, ◌≡◌, ◌<◌, ◌≤◌, ◌+◌, ◌-◌, List, [], ◌++◌, ℕ, length, take, drop, arith, refl, sym, ap, subst, length-take, length-drop, append-nil, Option, ◌∙◌}
+use Rattle.std.proofs.Common.{rules, ◌≡◌, ◌<◌, ◌≤◌, ◌+◌, ◌-◌, List, [], ◌++◌, ℕ, length, take, drop, arith, sym, ap, subst, length-take, length-drop, append-nil, Option, ◌∙◌}
 use Rattle.std.proofs.lemmas.Grind.{common_steps}
 use Rattle.std.proofs.lemmas.Result.{err_from_is_err_and}
 use Rattle.std.proofs.lemmas.List.{take-append-drop, take-take}
 use Rattle.std.specs.Io.KnownBytes.{Consumes}
 use Rattle.ec_trace.specs.Outcome.{start}
-use Rattle.ec_trace.proofs.Stood.{stands_start, stands_by, arrives, tells_fails, tells_read, tells_fails_in, tells_fails_after, tells_large}
+use Rattle.ec_trace.proofs.Stood.{stands_start, stands_by, arrives, tells_fails, tells_fails_in, tells_fails_after, tells_large}
 use Rattle.ec_trace.proofs.read.read_lines.Goals as goal
 
 pub loop-progress-init : goal.loop-progress-init

@@ -11,4 +11,4 @@ use Rattle.evc_engine.proofs.totals.put_totals.Given as goal
 abbrev pub invariant-loop-target : goal.invariant-loop-target
 invariant-loop-target g l = (h : List Entry) → StandsFor l.world h
     → Puts (g.W.Write.contents l.initial.out) l.initial.table (g.W.Write.contents l.out) l.table
-        (text_of (flat_map (totals_of l.names (reverse h)) (take l.target-index l.target-items)))
+    (text_of (flat_map (totals_of l.names (reverse h)) (take l.target-index l.target-items)))

@@ -7,4 +7,4 @@ use Rattle.ec_count.proofs.names.Names.entry.Goals as goal
 pub returns-in-Some-clause-named : goal.returns-in-Some-clause-named
 returns-in-Some-clause-named c =
     let at : slice_get (by_bytes c.self.inside.table.entries) c.args.place ≡ Some (c.in-Some.name.now.items, c.in-Some.target.now) = by_bytes_at c.self.inside.table.entries c.args.place (c.in-Some.name.now, c.in-Some.target.now) (sym c.in-Some.ensures.entry) in
-    ap is_name c.as_slice.ensures.value ∙ name_at (by_bytes c.self.inside.table.entries) c.args.place (c.in-Some.name.now.items, c.in-Some.target.now) c.self.invariant at
+    ap is_name c.as_slice.ensures.value ∙ name_at (by_bytes c.self.inside.table.entries) c.args.place (c.in-Some.name.now.items, c.in-Some.target.now) c.self.invariant.hold at

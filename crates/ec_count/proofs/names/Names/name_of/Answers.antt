@@ -1,9 +1,27 @@
-use Rattle.std.proofs.Common.{sym, ◌∙◌}
-use Rattle.ec_count.proofs.Named.{name_here, name_later}
+use Rattle.std.proofs.Common.{ℕ, List, Option, option_map, slice_get, sym, ap, ◌∙◌}
+use Rattle.std.specs.Option.{option_and_then}
+use Rattle.ec_count.specs.declared.target.Target.{Target}
+use Rattle.ec_count.proofs.Named.{name_at_place}
 use Rattle.ec_count.proofs.names.Names.name_of.Goals as goal
 
-pub returns-in-Some : goal.returns-in-Some
-returns-in-Some c = sym (name_here c.args.target c.args.self.now c.loop-place.place c.in-Some.name.now c.in-Some.ensures) ∙ c.loop-place.invariant
+-- the name at a place, from a table
+abbrev first_at : List (List ℕ × Target) → Option ℕ → Option (List ℕ)
+first_at names o = option_and_then (λ i. option_map (λ (e : List ℕ × Target). e.0) (slice_get names i)) o
 
-pub loop-place-preserved : goal.loop-place-preserved
-loop-place-preserved c = sym (name_later c.args.target c.args.self.now c.loop-place.place c.in_default.ensures) ∙ c.loop-place.invariant
+pub returns-in_err-place : goal.returns-in_err-place
+returns-in_err-place c =
+    ap (option_map (λ name. name.now)) c.from_residual.ensures
+    ∙ ap (first_at c.args.self.now) c.in_err-place.ensures
+    ∙ sym (name_at_place c.args.target c.args.self.now)
+
+pub returns-in-None : goal.returns-in-None
+returns-in-None c =
+    ap (option_map (λ (e : List ℕ × Target). e.0)) c.in-None.ensures
+    ∙ ap (first_at c.args.self.now) (sym c.in_ok-place.was ∙ c.place_of.ensures)
+    ∙ sym (name_at_place c.args.target c.args.self.now)
+
+pub returns-in-Some : goal.returns-in-Some
+returns-in-Some c =
+    ap (option_map (λ (e : List ℕ × Target). e.0)) c.in-Some.ensures
+    ∙ ap (first_at c.args.self.now) (sym c.in_ok-place.was ∙ c.place_of.ensures)
+    ∙ sym (name_at_place c.args.target c.args.self.now)

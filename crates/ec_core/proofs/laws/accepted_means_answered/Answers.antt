@@ -1,0 +1,5 @@
+use Rattle.ec_core.proofs.Moments.{accepted_means}
+use Rattle.ec_core.proofs.laws.accepted_means_answered.Goals as goal
+
+pub returns : goal.returns
+returns c = accepted_means

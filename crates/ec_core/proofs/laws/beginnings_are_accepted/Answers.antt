@@ -1,0 +1,5 @@
+use Rattle.ec_core.proofs.Moments.{beginnings}
+use Rattle.ec_core.proofs.laws.beginnings_are_accepted.Goals as goal
+
+pub returns : goal.returns
+returns c = beginnings

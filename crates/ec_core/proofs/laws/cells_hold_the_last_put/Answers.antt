@@ -1,0 +1,5 @@
+use Rattle.ec_core.proofs.Counting.{cells_hold}
+use Rattle.ec_core.proofs.laws.cells_hold_the_last_put.Goals as goal
+
+pub returns : goal.returns
+returns c = cells_hold

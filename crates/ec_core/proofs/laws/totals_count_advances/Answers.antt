@@ -1,0 +1,5 @@
+use Rattle.ec_core.proofs.Counting.{totals_count}
+use Rattle.ec_core.proofs.laws.totals_count_advances.Goals as goal
+
+pub returns : goal.returns
+returns c = totals_count

@@ -1,0 +1,76 @@
+-- What the definitions mean, in order of time: moment k is that after the first k entries of a history h.
+use Rattle.std.specs.Prelude.{◌≡◌, ◌↔◌, ℕ, ◌+◌, ◌%◌, ◌≤◌, ◌⊎◌, Bool, true, false, List, length, reverse, take, Some, Ok, slice_get, count_by}
+use Rattle.ec_count.specs.Tables.{Tables, IsDeclared, is_silent}
+use Rattle.ec_core.specs.declared.act.Entry.{Entry}
+use Rattle.ec_core.specs.declared.act.TheConstants.{VALUE_MAX}
+use Rattle.ec_core.specs.Counts.{past_at, total, component_total, issued, cell_value, is_advance, is_ticket, sum_to}
+use Rattle.ec_core.specs.InOrder.{advances_at, IsLastPut, IsUntouched}
+use Rattle.ec_core.specs.Calls.{CallSoFar, call_with}
+use Rattle.ec_core.specs.Rounds.{width, sum_read, round_sum, round_start, read_of, IsPastOfEach, EachIsPastOf}
+use Rattle.ec_core.specs.Acceptance.{answer_of, IsAccepted}
+use Rattle.ec_core.specs.Silence.{without}
+use Rattle.ec_core.specs.Values.{TellsAtMost}
+
+-- the total of e at moment k is the number of advances of e among the first k entries
+abbrev pub TotalsCountAdvances : Type 0
+TotalsCountAdvances = (e k : ℕ) (h : List Entry) → total e (past_at k h) ≡ count_by (λ x. is_advance e x.act) (take k h)
+
+-- component c is the number of entries before moment k that advance e and whose worker signalled c at its own moment
+abbrev pub ComponentsCountAdvances : Type 0
+ComponentsCountAdvances = (t : Tables) (e c k : ℕ) (h : List Entry) → component_total t e c (past_at k h) ≡ sum_to (advances_at t e c h) k
+
+-- the tickets of q drawn by moment k are the ticket entries among the first k
+abbrev pub IssuedCountsTickets : Type 0
+IssuedCountsTickets = (q k : ℕ) (h : List Entry) → issued q (past_at k h) ≡ count_by (λ x. is_ticket q x.act) (take k h)
+
+-- a cell holds the value last put into it, and 0 where none was
+abbrev pub CellsHoldTheLastPut : Type 0
+CellsHoldTheLastPut = (x k : ℕ) (h : List Entry) → IsLastPut x h k (cell_value x (past_at k h)) ⊎ IsUntouched x h k (cell_value x (past_at k h))
+
+-- the components of an eventcount add up to its total
+abbrev pub ComponentsAddUp : Type 0
+ComponentsAddUp = (t : Tables) (e k : ℕ) (h : List Entry) → IsAccepted t (reverse h) → sum_to (λ c. component_total t e c (past_at k h)) (width t e) ≡ total e (past_at k h)
+
+-- from one moment to the next a total never falls and rises by at most one
+abbrev pub TotalsRiseByOne : Type 0
+TotalsRiseByOne = (e k : ℕ) (h : List Entry) → (total e (past_at k h) ≤ total e (past_at (k + 1) h)) × (total e (past_at (k + 1) h) ≤ total e (past_at k h) + 1)
+
+-- no component, and no number of tickets drawn, passes the limit
+abbrev pub CountsKeepTheLimit : Type 0
+CountsKeepTheLimit = (t : Tables) (k : ℕ) (h : List Entry) → IsAccepted t (reverse h)
+    → ((e c : ℕ) → component_total t e c (past_at k h) ≤ t.limit) × ((q : ℕ) → issued q (past_at k h) ≤ t.limit)
+
+-- a list of pasts, as many as e has components, of which each came after early and before late: the sum of their
+-- components is at least the total at early and at most the total at late
+abbrev pub RoundsLieBetween : Type 0
+RoundsLieBetween = (t : Tables) (e : ℕ) (early late : List Entry) (moments : List (List Entry)) → IsAccepted t early → IsAccepted t late
+    → length moments ≡ width t e → IsPastOfEach early moments → EachIsPastOf moments late
+    → (total e early ≤ sum_read t e (width t e) moments) × (sum_read t e (width t e) moments ≤ total e late)
+
+-- where entry k ends a round of a call that reads e, the round's sum is at least the total at the moment of the round's
+-- first entry and at most the total at moment k
+abbrev pub RoundsOfCallsLieBetween : Type 0
+RoundsOfCallsLieBetween = (t : Tables) (h : List Entry) (k e : ℕ) (x : Entry) (call : CallSoFar) → IsDeclared t → IsAccepted t (reverse h)
+    → slice_get h k ≡ Some x → call_with x (past_at k h) ≡ Some call → read_of call.op ≡ Some e → length call.moments % width t e ≡ 0
+    → (total e (past_at (round_start t e call.moments) h) ≤ round_sum t e call.moments) × (round_sum t e call.moments ≤ total e (past_at k h))
+
+-- every beginning of an accepted history is accepted
+abbrev pub BeginningsAreAccepted : Type 0
+BeginningsAreAccepted = (t : Tables) (k : ℕ) (h : List Entry) → IsAccepted t (reverse h) → IsAccepted t (past_at k h)
+
+-- a history is accepted exactly where each entry is the answer to its act at its own moment
+abbrev pub AcceptedMeansAnswered : Type 0
+AcceptedMeansAnswered = (t : Tables) (h : List Entry)
+    → IsAccepted t (reverse h) ↔ ((k : ℕ) (x : Entry) → slice_get h k ≡ Some x → answer_of t (past_at k h) x.worker x.act ≡ Ok x.reply)
+
+-- no number in an accepted history is above the greatest value
+abbrev pub NumbersAreSmall : Type 0
+NumbersAreSmall = (t : Tables) (h : List Entry) (k : ℕ) (x : Entry) → IsDeclared t → IsAccepted t (reverse h) → slice_get h k ≡ Some x
+    → TellsAtMost VALUE_MAX x.reply
+
+-- an accepted history without some silent workers is accepted, and each entry that is kept is, at the moment that it
+-- then has, the answer to its act
+abbrev pub OthersStand : Type 0
+OthersStand = (t : Tables) (s : ℕ → Bool) (h : List Entry) → IsAccepted t (reverse h) → ((w : ℕ) → s w ≡ true → is_silent t w ≡ true)
+    → IsAccepted t (reverse (without s h))
+    × ((k : ℕ) (x : Entry) → slice_get h k ≡ Some x → s x.worker ≡ false → answer_of t (reverse (without s (take k h))) x.worker x.act ≡ Ok x.reply)

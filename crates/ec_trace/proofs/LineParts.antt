@@ -1,0 +1,105 @@
+-- The parts of the lines of a heading.
+use Rattle.std.proofs.Common.{◌≡◌, ℕ, List, [], ◌∷◌, ◌++◌, ◌+◌, ◌<◌, length, take, get_or, slice_get, arith, ◌∙◌, ap, sym, append_assoc, append-nil, zero-add, map, codes, decimal, refl, Option, Some, None}
+use Rattle.std.specs.List.{cons_option, filter_map, range_with_len, join_with_byte}
+use Rattle.std.proofs.lemmas.List.{map-append, take_more}
+use Rattle.std.proofs.lemmas.Option.{slice_get-get_or}
+use Rattle.std.proofs.lemmas.List.Concat.{flat_map-append}
+use Rattle.std.proofs.lemmas.List.Elements.{filter_map-append}
+use Rattle.std.proofs.lemmas.List.FromFn.{map-range_with_len_more}
+use Rattle.ec_trace.specs.Sorts.{sort_word, opener, other}
+use Rattle.ec_trace.specs.Outline.{Declaration}
+use Rattle.ec_trace.specs.Headed.{Headed}
+use Rattle.ec_count.specs.declared.target.Target.{Target}
+use Rattle.ec_count.specs.declared.target.Target.TheVariants.{Worker}
+use Rattle.ec_core.specs.declared.act.Entry.{Entry}
+use Rattle.ec_trace.specs.Spelling.{entry_line, Named, number_words, word_of, text_of, ended_line, limit_line, workers_line}
+use Rattle.ec_trace.specs.Recalled.{spaced, names_of, second_names, declared_line, declared_text, declaration_of, declarations_of, opening_text, entry_text}
+
+pub spaced-append : (xs ys : List (List ℕ)) → spaced (xs ++ ys) ≡ spaced xs ++ spaced ys
+spaced-append xs ys = flat_map-append (λ (w : List ℕ). 32 ∷ w) xs ys
+
+regroup : (x n o a b : List ℕ) → (x ++ (n ++ (o ++ a))) ++ b ≡ (((x ++ n) ++ o) ++ a) ++ b
+regroup x n o a b = simp append_assoc
+
+spaced_parts : (d o : List ℕ) (n a b : List (List ℕ)) → spaced ((d ∷ n ++ o ∷ a) ++ b) ≡ ((((32 ∷ d) ++ spaced n) ++ 32 ∷ o) ++ spaced a) ++ spaced b
+spaced_parts d o n a b =
+    spaced-append (d ∷ n ++ o ∷ a) b
+    ∙ ap (λ (r : List ℕ). ((32 ∷ d) ++ r) ++ spaced b) (spaced-append n (o ∷ a))
+    ∙ regroup (32 ∷ d) (spaced n) (32 ∷ o) (spaced a) (spaced b)
+
+after : (all s x n o a b : List ℕ) → all ++ (s ++ ((((x ++ n) ++ o) ++ a) ++ b)) ≡ (((((all ++ s) ++ x) ++ n) ++ o) ++ a) ++ b
+after all s x n o a b = simp append_assoc
+
+pub line_parts : (names : Named) (d : Declaration) (all : List ℕ)
+    → all ++ declared_line names d ≡ (((((all ++ sort_word d.sort) ++ 32 ∷ d.name) ++ spaced (number_words d.sort d.number)) ++ 32 ∷ opener d.sort) ++ spaced (names_of names d.first)) ++ spaced (second_names names (other d.sort) d.second)
+line_parts names d all =
+    let n = number_words d.sort d.number in
+    let a = names_of names d.first in
+    let b = second_names names (other d.sort) d.second in
+    ap (λ (r : List ℕ). all ++ (sort_word d.sort ++ r)) (spaced_parts d.name (opener d.sort) n a b)
+    ∙ after all (sort_word d.sort) (32 ∷ d.name) (spaced n) (32 ∷ opener d.sort) (spaced a) (spaced b)
+
+-- words that are joined by spaces, and words with a space before each
+pub join_spaced : (w : List ℕ) (ws : List (List ℕ)) → join_with_byte 32 (w ∷ ws) ≡ w ++ spaced ws
+join_spaced w [] = sym (append-nil w)
+join_spaced w (v ∷ ws) = ap (λ (r : List ℕ). w ++ 32 ∷ r) (join_spaced v ws)
+
+pub one_more_worker : (names : Named) (n : ℕ) (all : List ℕ)
+    → all ++ spaced (names_of names (range_with_len 0 (n + 1))) ≡ (all ++ spaced (names_of names (range_with_len 0 n))) ++ 32 ∷ word_of names (Worker n)
+one_more_worker names n all =
+    let f : ℕ → List ℕ = λ i. word_of names (Worker i) in
+    let before = spaced (map f (range_with_len 0 n)) in
+    ap (λ (ws : List (List ℕ)). all ++ spaced ws) (map-range_with_len_more f 0 n n (zero-add n))
+    ∙ ap (λ (r : List ℕ). all ++ r) (spaced-append (map f (range_with_len 0 n)) (f n ∷ []))
+    ∙ ap (λ (r : List ℕ). all ++ (before ++ 32 ∷ r)) (append-nil (f n))
+    ∙ sym (append_assoc all before (32 ∷ f n))
+
+pub text_of-append : (xs ys : List (List ℕ)) → text_of (xs ++ ys) ≡ text_of xs ++ text_of ys
+text_of-append xs ys = flat_map-append ended_line xs ys
+
+text_of_one : (names : Named) (o : Option Declaration) → text_of (map (declared_line names) (cons_option o [])) ≡ declared_text names o
+text_of_one names None = refl
+text_of_one names (Some d) = append-nil (declared_line names d ++ 10 ∷ [])
+
+pub one_more_target : (names : Named) (h : Headed) (ts : List Target) (t : Target) (all : List ℕ)
+    → all ++ text_of (map (declared_line names) (filter_map (declaration_of h) (ts ++ t ∷ []))) ≡ (all ++ text_of (map (declared_line names) (filter_map (declaration_of h) ts))) ++ declared_text names (declaration_of h t)
+one_more_target names h ts t all =
+    let line = declared_line names in
+    let f = declaration_of h in
+    let before = text_of (map line (filter_map f ts)) in
+    ap (λ (ds : List Declaration). all ++ text_of (map line ds)) (filter_map-append f ts (t ∷ []))
+    ∙ ap (λ (ls : List (List ℕ)). all ++ text_of ls) (map-append line (filter_map f ts) (cons_option (f t) []))
+    ∙ ap (λ (r : List ℕ). all ++ r) (text_of-append (map line (filter_map f ts)) (map line (cons_option (f t) [])))
+    ∙ ap (λ (r : List ℕ). all ++ (before ++ r)) (text_of_one names (f t))
+    ∙ sym (append_assoc all before (declared_text names (f t)))
+
+opened : (all lf a b n c ws ds e : List ℕ)
+    → all ++ ((a ++ lf) ++ (((b ++ n) ++ lf) ++ (((c ++ ws) ++ lf) ++ (ds ++ e)))) ≡ ((((((all ++ (a ++ (lf ++ b))) ++ n) ++ (lf ++ c)) ++ ws) ++ lf) ++ ds) ++ e
+opened all lf a b n c ws ds e = simp append_assoc
+
+pub opening_parts : (names : Named) (h : Headed) (all : List ℕ)
+    → all ++ opening_text names h ≡ ((((((all ++ codes "evc-trace 1\nlimit ") ++ decimal h.setup.limit) ++ codes "\nworkers") ++ spaced (names_of names (range_with_len 0 h.setup.workers))) ++ 10 ∷ []) ++ text_of (map (declared_line names) (declarations_of h))) ++ codes "run\n"
+unfolding opening_text
+opening_parts names h all =
+    let ws = names_of names (range_with_len 0 h.setup.workers) in
+    let lines = map (declared_line names) (declarations_of h) in
+    let front = codes "evc-trace 1" ++ 10 ∷ [] in
+    ap (λ (r : List ℕ). all ++ (front ++ ((limit_line h.setup.limit ++ 10 ∷ []) ++ ((workers_line ws ++ 10 ∷ []) ++ r)))) (text_of-append lines (codes "run" ∷ []))
+    ∙ ap (λ (r : List ℕ). all ++ (front ++ ((limit_line h.setup.limit ++ 10 ∷ []) ++ ((r ++ 10 ∷ []) ++ (text_of lines ++ codes "run\n"))))) (join_spaced (codes "workers") ws)
+    ∙ opened all (10 ∷ []) (codes "evc-trace 1") (codes "limit ") (decimal h.setup.limit) (codes "workers") (spaced ws) (text_of lines) (codes "run\n")
+
+ended : (a b c : List ℕ) → a ++ (b ++ (c ++ [])) ≡ (a ++ b) ++ c
+ended a b c = simp (append_assoc, append-nil)
+
+pub one_more_entry : (names : Named) (es : List Entry) (i : ℕ) (all : List ℕ) → i < length es
+    → all ++ text_of (map (entry_line names) (take (i + 1) es)) ≡ (all ++ text_of (map (entry_line names) (take i es))) ++ entry_text names (slice_get es i)
+one_more_entry names [] i all lt = absurd (omega arith)
+one_more_entry names (d ∷ ds) i all lt =
+    let es = d ∷ ds in
+    let e = get_or es i d in
+    let line = entry_line names in
+    ap (λ (xs : List Entry). all ++ text_of (map line xs)) (take_more es i d lt)
+    ∙ ap (λ (ls : List (List ℕ)). all ++ text_of ls) (map-append line (take i es) (e ∷ []))
+    ∙ ap (λ (r : List ℕ). all ++ r) (text_of-append (map line (take i es)) (line e ∷ []))
+    ∙ ended all (text_of (map line (take i es))) (line e ++ 10 ∷ [])
+    ∙ ap (λ (o : Option Entry). (all ++ text_of (map line (take i es))) ++ entry_text names o) (sym (slice_get-get_or es i d lt))

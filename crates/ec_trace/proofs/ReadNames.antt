@@ -1,0 +1,206 @@
+-- Names of a heading: each thing has one, and it is found by it.
+use Rattle.std.proofs.Common.{◌≡◌, ℕ, ◌+◌, ◌-◌, ◌<◌, ◌≤◌, List, [], ◌∷◌, ◌++◌, length, cond, Bool, true, false, eqb, ◌&&◌, ◌||◌, suc, Option, Some, unwrap_or, refl, sym, ap, subst, ◌∙◌, arith, nat_lt, nat_le, codes, decimal, slice_get}
+use Rattle.std.specs.Prelude.{bytes_eq, not}
+use Rattle.std.specs.List.{AllByRecursion, list_all, list_any}
+use Rattle.std.specs.Char.{is_ascii_alphabetic}
+use Rattle.std.proofs.lemmas.Bool.{true≢false, and_parts, and_from, ltb-true, lt-ltb, leb-true, le-leb, ne_eqb, eq-eqb, false_from_ne_true}
+use Rattle.std.proofs.lemmas.Slice.Eq.{bytes_eq-Decides}
+use Rattle.std.proofs.lemmas.List.Elements.{recursion_from_All}
+use Rattle.ec_count.specs.Names.{find_name, name_of, same_target, AreNames}
+use Rattle.ec_count.specs.Reserved.{is_name, is_name_byte, is_reserved}
+use Rattle.ec_count.specs.declared.target.Target.{Target}
+use Rattle.ec_count.specs.declared.target.Target.TheVariants.{Worker, Event, Sequencer, Cells, Group}
+use Rattle.ec_count.proofs.Named.{names_found, name_at}
+use Rattle.ec_trace.specs.Spelling.{word_of, cell_word, cell_in, first_of}
+use Rattle.ec_trace.specs.Spelled.{Named}
+
+-- EACH THING HAS ONE NAME
+
+-- whether two targets are one, or share a cell
+abbrev pub is_shared : Target → Target → Bool
+is_shared (Cells x m) (Cells y n) = nat_lt x (y + n) && nat_lt y (x + m)
+is_shared s t = same_target s t
+
+abbrev pub AreApart : Named → Type 0
+AreApart [] = Unit {0}
+AreApart (e ∷ es) = AllByRecursion (λ (d : List ℕ × Target). is_shared e.1 d.1 ≡ false) es × AreApart es
+
+abbrev pub is_block : Target → Bool
+is_block (Cells x n) = true
+is_block _ = false
+
+plain_same : (s t : Target) → is_block t ≡ false → is_shared s t ≡ same_target s t
+plain_same (Cells x m) (Cells y n) h = absurd (true≢false h)
+plain_same _ _ h = refl
+
+pub same_self : (t : Target) → same_target t t ≡ true
+same_self (Worker w) = eq-eqb w w refl
+same_self (Event e) = eq-eqb e e refl
+same_self (Sequencer q) = eq-eqb q q refl
+same_self (Cells x n) = and_from _ _ (eq-eqb x x refl) (eq-eqb n n refl)
+same_self (Group i) = eq-eqb i i refl
+
+-- what holds of each target holds of one that is found
+found_all : (Q : Target → Type 0) (names : Named) (word : List ℕ) (t : Target) → AllByRecursion (λ (d : List ℕ × Target). Q d.1) names → find_name word names ≡ Some t → Q t
+found_all Q [] word t all e = cc
+found_all Q (x ∷ xs) word t all e =
+    elim (bytes_eq word x.0) as (λ b. cond b (Some x.1) (find_name word xs) ≡ Some t → Q t) [
+      | true ↦ λ g. (let q : x.1 ≡ t = cc in subst Q q all.0)
+      | false ↦ λ g. found_all Q xs word t all.1 g
+    ] e
+
+-- a target that is found is named by the word
+pub named_back : (names : Named) (word : List ℕ) (t : Target) → AreApart names → is_block t ≡ false → find_name word names ≡ Some t → name_of t names ≡ Some word
+named_back [] word t apart plain e = cc
+named_back (x ∷ xs) word t apart plain e =
+    elim (bytes_eq word x.0) as (λ b. bytes_eq word x.0 ≡ b → cond b (Some x.1) (find_name word xs) ≡ Some t → cond (same_target x.1 t) (Some x.0) (name_of t xs) ≡ Some word) [
+      | true ↦ λ q g.
+          (let s : x.1 ≡ t = cc in
+          let w : word ≡ x.0 = (bytes_eq-Decides word x.0).0 q in
+          let same : same_target x.1 t ≡ true = ap (λ (y : Target). same_target y t) s ∙ same_self t in
+          rw same (ap Some (sym w)))
+      | false ↦ λ q g.
+          (let off : same_target x.1 t ≡ false = sym (plain_same x.1 t plain) ∙ found_all (λ d. is_shared x.1 d ≡ false) xs word t apart.0 g in
+          rw off (named_back xs word t apart.1 plain g))
+    ] refl e
+
+pub word_back : (names : Named) (word : List ℕ) (t : Target) → AreApart names → is_block t ≡ false → find_name word names ≡ Some t → word_of names t ≡ word
+word_back names word t apart plain e = ap (λ (o : Option (List ℕ)). unwrap_or o []) (named_back names word t apart plain e)
+
+-- CELLS
+
+abbrev pub bracketed : List ℕ → ℕ → List ℕ
+bracketed block i = block ++ codes "[" ++ decimal i ++ codes "]"
+
+cell_inside : (t : Target) (first n i : ℕ) → i < n → t ≡ Cells first n → (cell_in (first + i) t ≡ true) × (first + i - first_of t ≡ i)
+cell_inside t first n i small is =
+    let low : nat_le first (first + i) ≡ true = le-leb _ _ (omega arith) in
+    let high : nat_lt (first + i) (first + n) ≡ true = lt-ltb _ _ (omega arith) in
+    (ap (cell_in (first + i)) is ∙ and_from _ _ low high, ap (λ (s : Target). first + i - first_of s) is ∙ omega arith)
+
+cell_outside : (s : Target) (first n i : ℕ) → i < n → is_shared s (Cells first n) ≡ false → cell_in (first + i) s ≡ false
+cell_outside (Cells x m) first n i small off =
+    false_from_ne_true _ (λ h.
+    let p = and_parts (nat_le x (first + i)) (nat_lt (first + i) (x + m)) h in
+    let low : x ≤ first + i = leb-true _ _ p.0 in
+    let high : first + i < x + m = ltb-true _ _ p.1 in
+    true≢false (sym (and_from _ _ (lt-ltb x (first + n) (omega arith)) (lt-ltb first (x + m) (omega arith))) ∙ off))
+cell_outside _ first n i small off = refl
+
+-- a cell of a block that is found is spelled by the block's word
+pub cell_back : (names : Named) (block : List ℕ) (first n i : ℕ) → AreApart names → i < n → find_name block names ≡ Some (Cells first n) → cell_word names (first + i) ≡ bracketed block i
+unfolding cell_word
+cell_back [] block first n i apart small e = cc
+cell_back (x ∷ xs) block first n i apart small e =
+    elim (bytes_eq block x.0) as (λ b. bytes_eq block x.0 ≡ b → cond b (Some x.1) (find_name block xs) ≡ Some (Cells first n) → cond (cell_in (first + i) x.1) (bracketed x.0 (first + i - first_of x.1)) (cell_word xs (first + i)) ≡ bracketed block i) [
+      | true ↦ λ q g.
+          (let s : x.1 ≡ Cells first n = cc in
+          let w : block ≡ x.0 = (bytes_eq-Decides block x.0).0 q in
+          let k = cell_inside x.1 first n i small s in
+          rw k.0 (ap (bracketed x.0) k.1 ∙ ap (λ (y : List ℕ). bracketed y i) (sym w)))
+      | false ↦ λ q g.
+          (let off : cell_in (first + i) x.1 ≡ false = cell_outside x.1 first n i small (found_all (λ d. is_shared x.1 d ≡ false) xs block (Cells first n) apart.0 g) in
+          rw off (cell_back xs block first n i apart.1 small g))
+    ] refl e
+
+-- WHAT IS DECLARED HAS A NAME
+
+pub record HasName (names : Named) (t : Target) : Type 0 where
+  pub word : List ℕ
+  pub is : name_of t names ≡ Some word
+
+abbrev pub is_celled : ℕ → Named → Bool
+is_celled x names = list_any (λ (e : List ℕ × Target). cell_in x e.1) names
+
+-- the block of a cell
+pub record HasBlock (names : Named) (x : ℕ) : Type 0 where
+  pub at : ℕ
+  pub block : List ℕ
+  pub first : ℕ
+  pub count : ℕ
+  pub there : slice_get names at ≡ Some (block, Cells first count)
+  pub low : first ≤ x
+  pub high : x < first + count
+  pub word : cell_word names x ≡ bracketed block (x - first)
+
+block_here : (x : ℕ) (block : List ℕ) (t : Target) (rest : Named) → cell_in x t ≡ true → HasBlock ((block, t) ∷ rest) x
+unfolding cell_word
+block_here x block (Cells first n) rest h =
+    let p = and_parts (nat_le first x) (nat_lt x (first + n)) h in record {
+      at = 0;
+      block = block;
+      first = first;
+      count = n;
+      there = refl;
+      low = leb-true _ _ p.0;
+      high = ltb-true _ _ p.1;
+      word = rw h refl;
+    }
+block_here x block _ rest h = absurd (true≢false (sym h))
+
+block_later : (x : ℕ) (e : List ℕ × Target) (rest : Named) → cell_in x e.1 ≡ false → HasBlock rest x → HasBlock (e ∷ rest) x
+unfolding cell_word
+block_later x e rest off b = record {
+  at = suc b.at;
+  block = b.block;
+  first = b.first;
+  count = b.count;
+  there = b.there;
+  low = b.low;
+  high = b.high;
+  word = rw off b.word;
+}
+
+pub has_block : (names : Named) (x : ℕ) → is_celled x names ≡ true → HasBlock names x
+has_block [] x h = absurd (true≢false (sym h))
+has_block (e ∷ es) x h =
+    elim (cell_in x e.1) as (λ b. cell_in x e.1 ≡ b → (b || is_celled x es) ≡ true → HasBlock (e ∷ es) x) [
+      | true ↦ λ q g. block_here x e.0 e.1 es q
+      | false ↦ λ q g. block_later x e es q (has_block es x g)
+    ] refl h
+
+-- THE BYTES OF NAMES
+
+lacks : (c : ℕ) → is_name_byte c ≡ false → (bs : List ℕ) → list_all is_name_byte bs ≡ true → AllByRecursion (λ b. eqb b c ≡ false) bs
+lacks c off [] h = tt
+lacks c off (b ∷ bs) h =
+    let p = and_parts (is_name_byte b) (list_all is_name_byte bs) h in
+    (ne_eqb b c (λ same. true≢false (sym p.0 ∙ ap is_name_byte same ∙ off)), lacks c off bs p.1)
+
+-- no such byte stands in a name
+pub name_lacks : (c : ℕ) (word : List ℕ) → is_name_byte c ≡ false → is_ascii_alphabetic c ≡ false → is_name word ≡ true → AllByRecursion (λ b. eqb b c ≡ false) word
+unfolding is_name
+name_lacks c [] off other h = tt
+name_lacks c (b ∷ bs) off other h =
+    let p = and_parts (is_ascii_alphabetic b && nat_le (length bs) 15 && list_all is_name_byte bs) (not (is_reserved (b ∷ bs))) h in
+    let q = and_parts (is_ascii_alphabetic b && nat_le (length bs) 15) (list_all is_name_byte bs) p.0 in
+    let r = and_parts (is_ascii_alphabetic b) (nat_le (length bs) 15) q.0 in
+    (ne_eqb b c (λ same. true≢false (sym r.0 ∙ ap is_ascii_alphabetic same ∙ other)), lacks c off bs q.1)
+
+is_name_found : (names : Named) (word : List ℕ) (t : Target) → AllByRecursion (λ (e : List ℕ × Target). is_name e.0 ≡ true) names → find_name word names ≡ Some t → is_name word ≡ true
+is_name_found [] word t all e = cc
+is_name_found (x ∷ xs) word t all e =
+    elim (bytes_eq word x.0) as (λ b. bytes_eq word x.0 ≡ b → cond b (Some x.1) (find_name word xs) ≡ Some t → is_name word ≡ true) [
+      | true ↦ λ q g. ap is_name ((bytes_eq-Decides word x.0).0 q) ∙ all.0
+      | false ↦ λ q g. is_name_found xs word t all.1 g
+    ] refl e
+
+-- the word of what has a name
+pub record IsNamedBy (names : Named) (t : Target) (word : List ℕ) : Type 0 where
+  pub found : find_name word names ≡ Some t
+  pub name : is_name word ≡ true
+
+pub named_by : (names : Named) (t : Target) → AreNames names → HasName names t → IsNamedBy names t (word_of names t)
+named_by names t are has =
+    let found : find_name has.word names ≡ Some t = (names_found names are).targets t has.word has.is in
+    let word : has.word ≡ word_of names t = sym (ap (λ (o : Option (List ℕ)). unwrap_or o []) has.is) in
+    subst (IsNamedBy names t) word (record {
+      found = found;
+      name = is_name_found names has.word t (recursion_from_All (λ (e : List ℕ × Target). is_name e.0 ≡ true) names are.each) found;
+    })
+
+pub block_by : (names : Named) (x : ℕ) → AreNames names → (b : HasBlock names x) → IsNamedBy names (Cells b.first b.count) b.block
+block_by names x are b = record {
+  found = (names_found names are).entries b.at (b.block, Cells b.first b.count) b.there;
+  name = name_at names b.at (b.block, Cells b.first b.count) are b.there;
+}

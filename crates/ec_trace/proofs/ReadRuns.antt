@@ -1,0 +1,217 @@
+-- The lines of entries, read one after another.
+use Rattle.std.proofs.Common.{◌≡◌, ℕ, ◌<◌, ◌≤◌, List, [], ◌∷◌, ◌++◌, length, cond, true, false, Option, Some, None, Result, Ok, Err, map, refl, sym, ap, subst, ◌∙◌, arith, codes, append-nil, reverse}
+use Rattle.std.specs.Prelude.{bytes_eq}
+use Rattle.std.specs.List.{AllByRecursion}
+use Rattle.std.proofs.lemmas.Bool.{true≢false, eqb-true, eq-eqb, false_from_ne_true, leb-false, ltb-false}
+use Rattle.std.proofs.lemmas.List.{reverse-append}
+use Rattle.std.proofs.lemmas.Slice.Eq.{bytes_eq-Decides}
+use Rattle.std.proofs.Math.Seq.{append_snoc}
+use Rattle.ec_count.specs.Tables.{Tables}
+use Rattle.ec_core.specs.Acceptance.{answer_of, IsAccepted, names_unknown_object, is_too_large}
+use Rattle.ec_core.specs.declared.act.TheConstants.{VALUE_MAX}
+use Rattle.ec_core.specs.Values.{TellsAtMost}
+use Rattle.ec_core.specs.declared.act.Act.{Act}
+use Rattle.ec_core.specs.declared.act.Act.TheVariants as acts
+use Rattle.ec_core.specs.declared.act.Reply.{Reply}
+use Rattle.ec_core.specs.declared.act.Reply.TheVariants.{Done, Number, Pending}
+use Rattle.ec_core.specs.declared.act.Refusal.{Refusal}
+use Rattle.ec_core.specs.declared.act.Entry.{Entry}
+use Rattle.ec_core.proofs.Answering.{allowed}
+use Rattle.ec_core.proofs.Bounds.{told_small}
+use Rattle.ec_trace.specs.Headed.{Headed}
+use Rattle.ec_trace.specs.declared.fault.LineFault.{LineFault}
+use Rattle.ec_trace.specs.declared.fault.LineFault.TheVariants.{Bad, WrongReply}
+use Rattle.ec_trace.specs.declared.stage.Stage.{Stage}
+use Rattle.ec_trace.specs.declared.stage.Stage.TheVariants.{Running, Ended}
+use Rattle.ec_trace.specs.Recounted.{Recounted}
+use Rattle.ec_trace.specs.Spelling.{entry_line}
+use Rattle.ec_trace.specs.Spelled.{Named}
+use Rattle.ec_trace.specs.Entries.{entry_in, entry_of}
+use Rattle.ec_trace.specs.Step.{step, entry_step, entered, answered, ran_on, same_reply}
+use Rattle.ec_trace.proofs.Leads.{Leads, IsLine}
+use Rattle.ec_trace.proofs.TraceLines.{entry_line_is}
+use Rattle.ec_trace.proofs.ReadHeadings.{IsSound, is_declared}
+use Rattle.ec_trace.proofs.ReadEntries.{ActIsNamed, ReplyIsShort, IsSpellable, entry_again, entry_spelled}
+
+-- PASTS THAT GROW
+
+reversed : (pre : List Entry) (e : Entry) → reverse (pre ++ e ∷ []) ≡ e ∷ reverse pre
+reversed pre e = reverse-append pre (e ∷ [])
+
+accepted_end : (t : Tables) (xs past : List Entry) → IsAccepted t (xs ++ past) → IsAccepted t past
+accepted_end t [] past h = h
+accepted_end t (x ∷ xs) past h = accepted_end t xs past h.1
+
+accepted_front : (t : Tables) (pre es : List Entry) (e : Entry) → IsAccepted t (reverse (pre ++ e ∷ es)) → IsAccepted t (e ∷ reverse pre)
+accepted_front t pre es e h =
+    let shape : reverse (pre ++ e ∷ es) ≡ reverse es ++ (e ∷ reverse pre) =
+    ap reverse (sym (append_snoc pre e es)) ∙ reverse-append (pre ++ e ∷ []) es ∙ ap (λ (r : List Entry). reverse es ++ r) (reversed pre e) in
+    accepted_end t (reverse es) (e ∷ reverse pre) (subst (IsAccepted t) shape h)
+
+-- AN ACCEPTED ENTRY MAY BE SPELLED
+
+act_named : (h : Headed) (a : Act) → IsSound h → names_unknown_object h.setup a ≡ false → is_too_large a ≡ false → ActIsNamed h.names a
+act_named h (acts.Advance e) is known small = is.events e (leb-false _ _ known)
+act_named h (acts.Read e) is known small = is.events e (leb-false _ _ known)
+act_named h (acts.Await e v) is known small = (is.events e (leb-false _ _ known), (let l : v ≤ VALUE_MAX = ltb-false _ _ small in omega arith))
+act_named h acts.Go is known small = tt
+act_named h (acts.Ticket q) is known small = is.sequencers q (leb-false _ _ known)
+act_named h (acts.Put x v) is known small =
+    (is.cells x (leb-false _ _ known), (let l : x < length h.setup.cells = leb-false _ _ known in omega (arith, is.few_cells)), (let l : v ≤ VALUE_MAX = ltb-false _ _ small in omega arith))
+act_named h (acts.Get x) is known small = (is.cells x (leb-false _ _ known), (let l : x < length h.setup.cells = leb-false _ _ known in omega (arith, is.few_cells)))
+
+reply_short : (r : Reply) → TellsAtMost VALUE_MAX r → ReplyIsShort r
+reply_short Done h = tt
+reply_short Pending h = tt
+reply_short (Number n) h = omega arith
+
+pub may_be_spelled : (h : Headed) (past : List Entry) (e : Entry) → IsSound h → IsAccepted h.setup (e ∷ past) → IsSpellable h.names e
+may_be_spelled h past e is acc =
+    let k = allowed h.setup past e.worker e.act e.reply acc.0 in
+    record {
+      worker = is.workers e.worker (leb-false _ _ k.0.declared);
+      act = act_named h e.act is k.0.known k.0.small;
+      reply = reply_short e.reply (told_small h.setup past e.worker e.act e.reply (is_declared h is) acc.1 acc.0);
+    }
+
+-- THE STEP OF AN ENTRY
+
+same_self : (r : Reply) → same_reply r r ≡ true
+same_self Done = refl
+same_self Pending = refl
+same_self (Number n) = eq-eqb n n refl
+
+same_is : (q r : Reply) → same_reply q r ≡ true → q ≡ r
+same_is Done Done h = refl
+same_is Pending Pending h = refl
+same_is (Number m) (Number n) h = ap Number (eqb-true m n h)
+same_is _ _ h = absurd (true≢false (sym h))
+
+no_end : (names : Named) → entry_of names (codes "end") ≡ None
+unfolding entry_of entry_in
+no_end names = refl
+
+not_end : (names : Named) (line : List ℕ) (e : Entry) → entry_of names line ≡ Some e → bytes_eq line (codes "end") ≡ false
+not_end names line e h =
+    false_from_ne_true _ (λ same.
+    let k : None ≡ Some e = sym (no_end names) ∙ ap (entry_of names) (sym ((bytes_eq-Decides line (codes "end")).0 same)) ∙ h in
+    cc)
+
+abbrev with_entry : Recounted → Entry → Recounted
+with_entry t e = record { heading = t.heading; entries = t.entries ++ e ∷ [] }
+
+entered_so : (t : Recounted) (line : List ℕ) (e : Entry) → entry_of t.heading.names line ≡ Some e → answer_of t.heading.setup (reverse t.entries) e.worker e.act ≡ Ok e.reply → entry_step t line ≡ Ok (with_entry t e)
+unfolding entry_step
+entered_so t line e is right = rw is (rw right (rw (same_self e.reply) refl))
+
+steps_so : (t : Recounted) (line : List ℕ) (e : Entry) → entry_of t.heading.names line ≡ Some e → answer_of t.heading.setup (reverse t.entries) e.worker e.act ≡ Ok e.reply → step (Running t) line ≡ Ok (Running (with_entry t e))
+unfolding step
+steps_so t line e is right = rw (not_end t.heading.names line e is) (ap ran_on (entered_so t line e is right))
+
+-- the entries of an accepted history are read in turn
+pub entries_lead : (h : Headed) (pre es : List Entry) → IsSound h → IsAccepted h.setup (reverse (pre ++ es))
+    → Leads (Running (record { heading = h; entries = pre })) (map (entry_line h.names) es) (Running (record { heading = h; entries = pre ++ es }))
+entries_lead h pre [] is acc = ap (λ (xs : List Entry). Running (record { heading = h; entries = xs })) (sym (append-nil pre))
+entries_lead h pre (e ∷ es) is acc =
+    let now = accepted_front h.setup pre es e acc in
+    let more : pre ++ e ∷ es ≡ (pre ++ e ∷ []) ++ es = sym (append_snoc pre e es) in (
+      Running (record { heading = h; entries = pre ++ e ∷ [] }),
+      steps_so (record { heading = h; entries = pre }) (entry_line h.names e) e (entry_again h.names e is.names (may_be_spelled h (reverse pre) e is now)) now.0,
+      subst (λ (xs : List Entry). Leads (Running (record { heading = h; entries = pre ++ e ∷ [] })) (map (entry_line h.names) es) (Running (record { heading = h; entries = xs }))) (sym more)
+          (entries_lead h (pre ++ e ∷ []) es is (subst (λ (xs : List Entry). IsAccepted h.setup (reverse xs)) more acc)),
+    )
+
+pub entries_are_lines : (h : Headed) (pre es : List Entry) → IsSound h → IsAccepted h.setup (reverse (pre ++ es)) → AllByRecursion IsLine (map (entry_line h.names) es)
+entries_are_lines h pre [] is acc = tt
+entries_are_lines h pre (e ∷ es) is acc = (
+  entry_line_is h.names e is.names (may_be_spelled h (reverse pre) e is (accepted_front h.setup pre es e acc)),
+  entries_are_lines h (pre ++ e ∷ []) es is (subst (λ (xs : List Entry). IsAccepted h.setup (reverse xs)) (sym (append_snoc pre e es)) acc),
+)
+
+pub end_leads : (t : Recounted) → Leads (Running t) (codes "end" ∷ []) (Ended t)
+unfolding step
+end_leads t = (Ended t, refl, refl)
+
+-- LINES BEHIND `run`
+
+-- nothing follows the last line
+after_end : (t u : Recounted) (lines : List (List ℕ)) → Leads (Ended t) lines (Ended u) → (lines ≡ []) × (t ≡ u)
+unfolding step
+after_end t u [] h = (refl, cc)
+after_end t u (line ∷ lines) h = (let k : Err Bad ≡ Ok h.0 = h.1 in cc)
+
+answered_back : (t u : Recounted) (e : Entry) (r : Result Reply Refusal) → answered t e r ≡ Ok u → (r ≡ Ok e.reply) × (u ≡ with_entry t e)
+answered_back t u e (Err f) h = cc
+answered_back t u e (Ok right) h =
+    elim (same_reply right e.reply) as (λ b. same_reply right e.reply ≡ b → cond b (Ok (with_entry t e)) (Err (WrongReply right)) ≡ Ok u → (◌≡◌ {A = Result Reply Refusal} (Ok right) (Ok e.reply)) × (u ≡ with_entry t e)) [
+      | true ↦ λ q g. (ap Ok (same_is right e.reply q), cc)
+      | false ↦ λ q g. (cc)
+    ] refl h
+
+entered_back : (t u : Recounted) (o : Option Entry) → entered t o ≡ Ok u → (e : Entry) × (o ≡ Some e) × (answered t e (answer_of t.heading.setup (reverse t.entries) e.worker e.act) ≡ Ok u)
+entered_back t u None h = cc
+entered_back t u (Some e) h = (e, refl, h)
+
+ran_back : (r : Result Recounted LineFault) (s : Stage) → ran_on r ≡ Ok s → (u : Recounted) × (r ≡ Ok u) × (s ≡ Running u)
+ran_back (Ok u) s h = (u, refl, cc)
+ran_back (Err f) s h = cc
+
+-- the line spells an entry that is accepted next
+record IsNext (t : Recounted) (line : List ℕ) (s : Stage) : Type 0 where
+  entry : Entry
+  spelled : line ≡ entry_line t.heading.names entry
+  right : answer_of t.heading.setup (reverse t.entries) entry.worker entry.act ≡ Ok entry.reply
+  stage : s ≡ Running (with_entry t entry)
+
+next_entry : (t : Recounted) (line : List ℕ) (s : Stage) → IsSound t.heading → ran_on (entry_step t line) ≡ Ok s → IsNext t line s
+unfolding entry_step
+next_entry t line s is h =
+    let r = ran_back (entry_step t line) s h in
+    let o = entered_back t r.0 (entry_of t.heading.names line) r.1 in
+    let a = answered_back t r.0 o.0 (answer_of t.heading.setup (reverse t.entries) o.0.worker o.0.act) o.2 in
+    record {
+      entry = o.0;
+      spelled = entry_spelled t.heading.names line o.0 is.apart o.1;
+      right = a.0;
+      stage = r.2 ∙ ap Running a.1;
+    }
+
+-- these lines are those of entries that are accepted, and `end`
+pub record IsRunOf (h : Headed) (pre : List Entry) (lines : List (List ℕ)) (t : Recounted) : Type 0 where
+  pub entries : List Entry
+  pub lines_are : lines ≡ map (entry_line h.names) entries ++ codes "end" ∷ []
+  pub ends : t ≡ record { heading = h; entries = pre ++ entries }
+  pub accepted : IsAccepted h.setup (reverse (pre ++ entries))
+
+run_ends : (h : Headed) (pre : List Entry) (line : List ℕ) (lines : List (List ℕ)) (t : Recounted) → IsAccepted h.setup (reverse pre) → line ≡ codes "end" → (lines ≡ []) × (record { heading = h; entries = pre } ≡ t) → IsRunOf h pre (line ∷ lines) t
+run_ends h pre line lines t acc is rest = record {
+  entries = [];
+  lines_are = cc (is, rest.0);
+  ends = sym rest.1 ∙ ap (λ (xs : List Entry). record { heading = h; entries = xs }) (sym (append-nil pre));
+  accepted = subst (λ (xs : List Entry). IsAccepted h.setup (reverse xs)) (sym (append-nil pre)) acc;
+}
+
+run_along : (h : Headed) (pre : List Entry) (e : Entry) (line : List ℕ) (lines : List (List ℕ)) (t : Recounted) → line ≡ entry_line h.names e → IsRunOf h (pre ++ e ∷ []) lines t → IsRunOf h pre (line ∷ lines) t
+run_along h pre e line lines t is r = record {
+  entries = e ∷ r.entries;
+  lines_are = cc (is, r.lines_are);
+  ends = r.ends ∙ ap (λ (xs : List Entry). record { heading = h; entries = xs }) (append_snoc pre e r.entries);
+  accepted = subst (λ (xs : List Entry). IsAccepted h.setup (reverse xs)) (append_snoc pre e r.entries) r.accepted;
+}
+
+stage_is : {X : Type 0} (x y : X) → ◌≡◌ {A = Result X LineFault} (Ok x) (Ok y) → y ≡ x
+stage_is x y e = cc
+
+pub run_back : (h : Headed) (pre : List Entry) (lines : List (List ℕ)) (t : Recounted) → IsSound h → IsAccepted h.setup (reverse pre)
+    → Leads (Running (record { heading = h; entries = pre })) lines (Ended t) → IsRunOf h pre lines t
+unfolding step
+run_back h pre [] t is acc leads = cc
+run_back h pre (line ∷ lines) t is acc (next, taken, leads) =
+    let now : Recounted = record { heading = h; entries = pre } in
+    elim (bytes_eq line (codes "end")) as (λ b. bytes_eq line (codes "end") ≡ b → cond b (Ok (Ended now)) (ran_on (entry_step now line)) ≡ Ok next → IsRunOf h pre (line ∷ lines) t) [
+      | true ↦ λ q g. run_ends h pre line lines t acc ((bytes_eq-Decides line (codes "end")).0 q) (after_end now t lines (subst (λ (s : Stage). Leads s lines (Ended t)) (stage_is (Ended now) next g) leads))
+      | false ↦ λ q g.
+          (let n = next_entry now line next is g in
+          run_along h pre n.entry line lines t n.spelled
+          (run_back h (pre ++ n.entry ∷ []) lines t is (subst (IsAccepted h.setup) (sym (reversed pre n.entry)) (n.right, acc)) (subst (λ (s : Stage). Leads s lines (Ended t)) n.stage leads)))
+    ] refl taken

@@ -1,0 +1,238 @@
+-- The lines of a trace: none has an LF, and none is too long.
+use Rattle.std.proofs.Common.{◌≡◌, ◌≢◌, ℕ, ◌-◌, ◌*◌, ◌<◌, ◌≤◌, ◌^◌, List, [], ◌∷◌, ◌++◌, length, cond, Bool, true, false, eqb, ltb, leb, zero, suc, Result, Ok, Err, map, refl, sym, subst, arith, get_or, codes, decimal, length-append, nat_le, ◌&&◌}
+use Rattle.std.specs.Prelude.{not}
+use Rattle.std.specs.List.{AllByRecursion, list_all, join_with_byte}
+use Rattle.std.proofs.lemmas.Bool.{and_parts, not-true, eqb-true, eqb-false, ltb-false, leb-true, or_parts}
+use Rattle.std.proofs.lemmas.List.Elements.{recursion_from_All, All-from_recursion}
+use Rattle.std.proofs.lemmas.Fmt.{length-decimal-le}
+use Rattle.ec_core.specs.declared.act.Act.{Act}
+use Rattle.ec_core.specs.declared.act.Act.TheVariants as acts
+use Rattle.ec_core.specs.declared.act.Reply.{Reply}
+use Rattle.ec_core.specs.declared.act.Reply.TheVariants.{Done, Number, Pending}
+use Rattle.ec_core.specs.declared.act.Entry.{Entry}
+use Rattle.ec_count.specs.Names.{AreNames}
+use Rattle.ec_count.specs.Reserved.{is_name, is_name_byte, is_reserved}
+use Rattle.ec_count.specs.declared.target.Target.TheVariants.{Worker, Event, Sequencer}
+use Rattle.ec_text.specs.Words.{words_of}
+use Rattle.ec_trace.specs.Headed.{Headed}
+use Rattle.ec_trace.specs.Outline.{Declaration, Outline, IsOutline, IsDeclarable, AreDeclarable, declared_by}
+use Rattle.ec_trace.specs.declared.sort.Sort.{Sort}
+use Rattle.ec_trace.specs.declared.sort.Sort.TheVariants as sorts
+use Rattle.ec_trace.specs.declared.heading.HeadFault.TheVariants as faults
+use Rattle.ec_trace.specs.Sorts.{sort_word, has_number, opener, other}
+use Rattle.ec_trace.specs.Spelling.{word_of, cell_word, act_words, reply_word, entry_words, entry_line, limit_line, declaration_line, declaration_words, list_words, number_words, second_words}
+use Rattle.ec_trace.specs.Spelled.{Named}
+use Rattle.ec_trace.specs.Heading.{head_step, is_no_line, words_step}
+use Rattle.ec_trace.specs.HeadingLaws.{LinesLead, outline_lines}
+use Rattle.ec_trace.proofs.Leads.{IsLine}
+use Rattle.ec_trace.proofs.ReadNames.{HasBlock, has_block, block_by, named_by, name_lacks}
+use Rattle.ec_trace.proofs.ReadCells.{decimal_lacks}
+use Rattle.ec_trace.proofs.ReadEntries.{ActIsNamed, ReplyIsShort, IsSpellable}
+
+-- NO LF
+
+abbrev pub Lacks : List ℕ → Type 0
+Lacks word = AllByRecursion (λ b. eqb b 10 ≡ false) word
+
+pub literal_lacks : (word : List ℕ) → list_all (λ b. not (eqb b 10)) word ≡ true → Lacks word
+literal_lacks [] is = tt
+literal_lacks (b ∷ word) is = (let p = and_parts (not (eqb b 10)) (list_all (λ c. not (eqb c 10)) word) is in (not-true _ p.0, literal_lacks word p.1))
+
+pub lacks_append : (xs ys : List ℕ) → Lacks xs → Lacks ys → Lacks (xs ++ ys)
+lacks_append [] ys p q = q
+lacks_append (x ∷ xs) ys p q = (p.0, lacks_append xs ys p.1 q)
+
+lacks_join : (words : List (List ℕ)) → AllByRecursion Lacks words → Lacks (join_with_byte 32 words)
+lacks_join [] h = tt
+lacks_join (w ∷ []) h = h.0
+lacks_join (w ∷ v ∷ words) h = lacks_append w (32 ∷ join_with_byte 32 (v ∷ words)) h.0 (refl, lacks_join (v ∷ words) h.1)
+
+pub each_append : {X : Type 0} (P : X → Type 0) (xs ys : List X) → AllByRecursion P xs → AllByRecursion P ys → AllByRecursion P (xs ++ ys)
+each_append P [] ys p q = q
+each_append P (x ∷ xs) ys p q = (p.0, each_append P xs ys p.1 q)
+
+name_clean : (word : List ℕ) → is_name word ≡ true → Lacks word
+name_clean word is = name_lacks 10 word refl refl is
+
+number_clean : (n : ℕ) → n < 1000000000000000000 → Lacks (decimal n)
+number_clean n small = decimal_lacks 10 n small (λ r. omega arith)
+
+pub line_is : (line : List ℕ) → Lacks line → length line ≤ 8192 → IsLine line
+line_is line clean short = record { no_lf = All-from_recursion (λ b. b ≢ 10) line (apart line clean); short = short }
+  where
+    apart : (w : List ℕ) → Lacks w → AllByRecursion (λ b. b ≢ 10) w
+    apart [] h = tt
+    apart (b ∷ w) h = (eqb-false b 10 h.0, apart w h.1)
+
+-- HEADINGS
+
+workers_clean : (workers : List (List ℕ)) → AllByRecursion (λ w. is_name w ≡ true) workers → AllByRecursion Lacks workers
+workers_clean [] h = tt
+workers_clean (w ∷ ws) h = (name_clean w h.0, workers_clean ws h.1)
+
+one_clean : (workers : List (List ℕ)) (i : ℕ) → AllByRecursion Lacks workers → Lacks (get_or workers i [])
+one_clean [] i h = tt
+one_clean (w ∷ ws) zero h = h.0
+one_clean (w ∷ ws) (suc i) h = one_clean ws i h.1
+
+list_clean : (workers : List (List ℕ)) (ids : List ℕ) → AllByRecursion Lacks workers → AllByRecursion Lacks (list_words workers ids)
+list_clean workers [] h = tt
+list_clean workers (i ∷ ids) h = (one_clean workers i h, list_clean workers ids h)
+
+sort_clean : (s : Sort) → Lacks (sort_word s)
+sort_clean sorts.EventCount = literal_lacks (codes "eventcount") refl
+sort_clean sorts.Sequencer = literal_lacks (codes "sequencer") refl
+sort_clean sorts.Cells = literal_lacks (codes "cells") refl
+
+opener_clean : (s : Sort) → Lacks (opener s)
+opener_clean sorts.EventCount = literal_lacks (codes "signal") refl
+opener_clean sorts.Sequencer = literal_lacks (codes "take") refl
+opener_clean sorts.Cells = literal_lacks (codes "write") refl
+
+number_words_clean : (s : Sort) (n : ℕ) → n < 1000000000000000000 → AllByRecursion Lacks (number_words s n)
+number_words_clean sorts.EventCount n small = tt
+number_words_clean sorts.Sequencer n small = tt
+number_words_clean sorts.Cells n small = (number_clean n small, tt)
+
+second_clean : (s : Sort) (workers : List (List ℕ)) (ids : List ℕ) → AllByRecursion Lacks workers → AllByRecursion Lacks (second_words workers (other s) ids)
+second_clean sorts.EventCount workers [] h = tt
+second_clean sorts.EventCount workers (i ∷ ids) h = (literal_lacks (codes "observe") refl, list_clean workers (i ∷ ids) h)
+second_clean sorts.Sequencer workers ids h = tt
+second_clean sorts.Cells workers [] h = tt
+second_clean sorts.Cells workers (i ∷ ids) h = (literal_lacks (codes "read") refl, list_clean workers (i ∷ ids) h)
+
+small_number : (h : Headed) (d : Declaration) → IsDeclarable h d → d.number < 1000000000000000000
+small_number h d may = by d.sort d.number may.range
+  where
+    by : (s : Sort) (n : ℕ) → cond (has_number s) (nat_le 1 n && nat_le n 256) (eqb n 0) ≡ true → n < 1000000000000000000
+    by sorts.EventCount n e = omega (arith, eqb-true n 0 e)
+    by sorts.Sequencer n e = omega (arith, eqb-true n 0 e)
+    by sorts.Cells n e = (let p = and_parts (nat_le 1 n) (nat_le n 256) e in omega (arith, leb-true n 256 p.1))
+
+declaration_clean : (workers : List (List ℕ)) (h : Headed) (d : Declaration) → AllByRecursion Lacks workers → IsDeclarable h d → Lacks (declaration_line workers d)
+declaration_clean workers h d all may =
+    lacks_join (declaration_words workers d)
+    (each_append Lacks (sort_word d.sort ∷ d.name ∷ number_words d.sort d.number ++ opener d.sort ∷ list_words workers d.first) (second_words workers (other d.sort) d.second)
+    (each_append Lacks (sort_word d.sort ∷ d.name ∷ number_words d.sort d.number) (opener d.sort ∷ list_words workers d.first)
+    (sort_clean d.sort, (name_clean d.name may.word, number_words_clean d.sort d.number (small_number h d may)))
+    (opener_clean d.sort, list_clean workers d.first all))
+    (second_clean d.sort workers d.second all))
+
+declarations_clean : (workers : List (List ℕ)) (h : Headed) (ds : List Declaration) → AllByRecursion Lacks workers → AreDeclarable h ds → AllByRecursion Lacks (map (declaration_line workers) ds)
+declarations_clean workers h [] all may = tt
+declarations_clean workers h (d ∷ ds) all may = (declaration_clean workers h d all may.0, declarations_clean workers (declared_by h d) ds all may.1)
+
+outline_clean : (o : Outline) → IsOutline o → AllByRecursion Lacks (outline_lines o)
+outline_clean o is =
+    let all : AllByRecursion Lacks o.workers = workers_clean o.workers (recursion_from_All (λ w. is_name w ≡ true) o.workers is.workers.each) in
+    (lacks_join (codes "workers" ∷ o.workers) (literal_lacks (codes "workers") refl, all), declarations_clean o.workers _ o.declarations all is.declarations)
+
+-- a line that a heading takes is short
+passed : {X E : Type 0} (b : Bool) (f : E) (r : Result X E) (x : X) → cond b (Err f) r ≡ Ok x → b ≡ false
+passed true f r x e = cc
+passed false f r x e = refl
+
+head_short : (h next : Headed) (line : List ℕ) → head_step h line ≡ Ok next → length line ≤ 8192
+unfolding head_step
+head_short h next line e =
+    let p = or_parts (ltb 8192 (length line)) _ (passed (is_no_line line) faults.BadLine (words_step h (words_of line)) next e) in
+    ltb-false _ _ p.0
+
+lead_short : (h end : Headed) (lines : List (List ℕ)) → LinesLead h lines end → AllByRecursion (λ l. length l ≤ 8192) lines
+lead_short h end [] leads = tt
+lead_short h end (line ∷ lines) leads = (head_short h leads.0 line leads.1, lead_short leads.0 end lines leads.2)
+
+lines_are : (lines : List (List ℕ)) → AllByRecursion Lacks lines → AllByRecursion (λ l. length l ≤ 8192) lines → AllByRecursion IsLine lines
+lines_are [] p q = tt
+lines_are (l ∷ lines) p q = (line_is l p.0 q.0, lines_are lines p.1 q.1)
+
+-- the lines of the workers and of the declarations
+pub heading_lines_are : (o : Outline) (h end : Headed) → IsOutline o → LinesLead h (outline_lines o) end → AllByRecursion IsLine (outline_lines o)
+heading_lines_are o h end is leads = lines_are (outline_lines o) (outline_clean o is) (lead_short h end (outline_lines o) leads)
+
+pub limit_line_is : (n : ℕ) → n < 2 ^ 32 → IsLine (limit_line n)
+limit_line_is n low =
+    line_is (limit_line n) (lacks_append (codes "limit ") (decimal n) (literal_lacks (codes "limit ") refl) (number_clean n (omega arith)))
+    (omega (arith, length-append (codes "limit ") (decimal n), length-decimal-le 18 n (omega arith) (omega arith) (omega arith)))
+
+-- ENTRIES
+
+-- a word without an LF, of at most 64 bytes
+pub record IsFine (word : List ℕ) : Type 0 where
+  pub clean : Lacks word
+  pub short : length word ≤ 64
+
+literal_fine : (word : List ℕ) → list_all (λ b. not (eqb b 10)) word ≡ true → leb (length word) 64 ≡ true → IsFine word
+literal_fine word clean short = record { clean = literal_lacks word clean; short = leb-true _ _ short }
+
+name_short : (word : List ℕ) → is_name word ≡ true → length word ≤ 16
+unfolding is_name
+name_short [] h = omega arith
+name_short (b ∷ bs) h =
+    let p = and_parts (_ && nat_le (length bs) 15 && list_all is_name_byte bs) (not (is_reserved (b ∷ bs))) h in
+    let q = and_parts (_ && nat_le (length bs) 15) (list_all is_name_byte bs) p.0 in
+    let r = and_parts _ (nat_le (length bs) 15) q.0 in
+    omega (arith, leb-true _ _ r.1)
+
+name_fine : (word : List ℕ) → is_name word ≡ true → IsFine word
+name_fine word is = record { clean = name_clean word is; short = omega (arith, name_short word is) }
+
+number_fine : (n : ℕ) → n < 1000000000000000000 → IsFine (decimal n)
+number_fine n small = record { clean = number_clean n small; short = omega (arith, length-decimal-le 18 n (omega arith) (omega arith) (omega arith)) }
+
+cell_fine : (names : Named) (x : ℕ) → AreNames names → HasBlock names x → x < 1000000000000000000 → IsFine (cell_word names x)
+cell_fine names x are b small =
+    let name : is_name b.block ≡ true = (block_by names x are b).name in
+    let low : x - b.first < 1000000000000000000 = omega arith in
+    subst IsFine (sym b.word) (record {
+      clean =
+          lacks_append (b.block ++ 91 ∷ [] ++ decimal (x - b.first)) (93 ∷ [])
+          (lacks_append (b.block ++ 91 ∷ []) (decimal (x - b.first)) (lacks_append b.block (91 ∷ []) (name_clean b.block name) (refl, tt)) (number_clean (x - b.first) low))
+          (refl, tt);
+      short = omega (
+        arith,
+        name_short b.block name,
+        length-decimal-le 18 (x - b.first) (omega arith) (omega arith) (omega arith),
+        length-append (b.block ++ 91 ∷ [] ++ decimal (x - b.first)) (93 ∷ []),
+        length-append (b.block ++ 91 ∷ []) (decimal (x - b.first)),
+        length-append b.block (91 ∷ []),
+      );
+    })
+
+reply_fine : (r : Reply) → ReplyIsShort r → IsFine (reply_word r)
+reply_fine Done h = literal_fine (codes "done") refl refl
+reply_fine Pending h = literal_fine (codes "pending") refl refl
+reply_fine (Number n) h = number_fine n h
+
+-- at most three words of an act
+record AreFine (words : List (List ℕ)) : Type 0 where
+  each : AllByRecursion IsFine words
+  few : length words ≤ 3
+
+act_fine : (names : Named) (a : Act) → AreNames names → ActIsNamed names a → AreFine (act_words names a)
+act_fine names (acts.Advance e) are h = record { each = (literal_fine (codes "advance") refl refl, (name_fine _ (named_by names (Event e) are h).name, tt)); few = omega arith }
+act_fine names (acts.Read e) are h = record { each = (literal_fine (codes "read") refl refl, (name_fine _ (named_by names (Event e) are h).name, tt)); few = omega arith }
+act_fine names (acts.Await e v) are h = record { each = (literal_fine (codes "await") refl refl, (name_fine _ (named_by names (Event e) are h.0).name, (number_fine v h.1, tt))); few = omega arith }
+act_fine names acts.Go are h = record { each = (literal_fine (codes "go") refl refl, tt); few = omega arith }
+act_fine names (acts.Ticket q) are h = record { each = (literal_fine (codes "ticket") refl refl, (name_fine _ (named_by names (Sequencer q) are h).name, tt)); few = omega arith }
+act_fine names (acts.Put x v) are h = record { each = (literal_fine (codes "put") refl refl, (cell_fine names x are (has_block names x h.0) h.1, (number_fine v h.2, tt))); few = omega arith }
+act_fine names (acts.Get x) are h = record { each = (literal_fine (codes "get") refl refl, (cell_fine names x are (has_block names x h.0) h.1, tt)); few = omega arith }
+
+fine_clean : (words : List (List ℕ)) → AllByRecursion IsFine words → AllByRecursion Lacks words
+fine_clean [] h = tt
+fine_clean (w ∷ ws) h = (h.0.clean, fine_clean ws h.1)
+
+fine_short : (words : List (List ℕ)) → AllByRecursion IsFine words → length (join_with_byte 32 words) ≤ 65 * length words
+fine_short [] h = omega arith
+fine_short (w ∷ []) h = omega (arith, h.0.short)
+fine_short (w ∷ v ∷ words) h = omega (arith, h.0.short, fine_short (v ∷ words) h.1, length-append w (32 ∷ join_with_byte 32 (v ∷ words)))
+
+pub entry_line_is : (names : Named) (e : Entry) → AreNames names → IsSpellable names e → IsLine (entry_line names e)
+unfolding entry_line
+entry_line_is names e are may =
+    let act = act_fine names e.act are may.act in
+    let fine : AllByRecursion IsFine (entry_words names e) =
+    each_append IsFine (word_of names (Worker e.worker) ∷ act_words names e.act) (codes "=" ∷ reply_word e.reply ∷ [])
+    (name_fine _ (named_by names (Worker e.worker) are may.worker).name, act.each) (literal_fine (codes "=") refl refl, (reply_fine e.reply may.reply, tt)) in
+    line_is (join_with_byte 32 (entry_words names e)) (lacks_join (entry_words names e) (fine_clean (entry_words names e) fine))
+    (omega (arith, fine_short (entry_words names e) fine, act.few, length-append (word_of names (Worker e.worker) ∷ act_words names e.act) (codes "=" ∷ reply_word e.reply ∷ [])))

@@ -1,0 +1,49 @@
+-- The text of a trace by the names of its heading is the trace of the heading's outline.
+use Rattle.std.proofs.Common.{◌≡◌, ℕ, List, [], ◌∷◌, ◌++◌, map, Option, Some, None, refl, sym, ap, ◌∙◌, append_assoc, codes}
+use Rattle.std.specs.List.{join_with_byte}
+use Rattle.ec_core.specs.declared.act.Entry.{Entry}
+use Rattle.ec_trace.specs.Sorts.{sort_word, opener, other}
+use Rattle.ec_trace.specs.Outline.{Declaration, Outline, IsOutline, headed}
+use Rattle.ec_trace.specs.Spelling.{Named, list_words, second_words, number_words, declaration_line, limit_line, workers_line, entry_line, heading_lines, text_of, trace_text}
+use Rattle.ec_trace.specs.Recalled.{names_of, second_names, declared_words, declared_line, declarations_of, worker_names, opening_text, written_text}
+use Rattle.ec_trace.proofs.LineParts.{join_spaced, text_of-append}
+use Rattle.ec_trace.proofs.OutlineNames.{workers_found}
+use Rattle.ec_trace.proofs.OutlineFound.{declarations_found, name_of_worker, limit_found, worker_names_found}
+
+-- the names of workers that an outline gives
+HasWorkers : List (List ℕ) → Named → Type 0
+HasWorkers ws names = (ids : List ℕ) → names_of names ids ≡ list_words ws ids
+
+second_same : (ws : List (List ℕ)) (names : Named) (o : Option (List ℕ)) (ids : List ℕ) → ((is : List ℕ) → names_of names is ≡ list_words ws is) → second_names names o ids ≡ second_words ws o ids
+second_same ws names None ids h = refl
+second_same ws names (Some word) [] h = refl
+second_same ws names (Some word) (i ∷ ids) h = ap (λ (r : List (List ℕ)). word ∷ r) (h (i ∷ ids))
+
+line_same : (ws : List (List ℕ)) (names : Named) (d : Declaration) → ((is : List ℕ) → names_of names is ≡ list_words ws is) → declared_line names d ≡ declaration_line ws d
+line_same ws names d h =
+    sym (join_spaced (sort_word d.sort) (declared_words names d))
+    ∙ ap (λ (r : List (List ℕ)). join_with_byte 32 (sort_word d.sort ∷ (d.name ∷ number_words d.sort d.number ++ opener d.sort ∷ r) ++ second_names names (other d.sort) d.second)) (h d.first)
+    ∙ ap (λ (r : List (List ℕ)). join_with_byte 32 (sort_word d.sort ∷ (d.name ∷ number_words d.sort d.number ++ opener d.sort ∷ list_words ws d.first) ++ r)) (second_same ws names (other d.sort) d.second h)
+
+lines_same : (ws : List (List ℕ)) (names : Named) (ds : List Declaration) → ((is : List ℕ) → names_of names is ≡ list_words ws is) → map (declared_line names) ds ≡ map (declaration_line ws) ds
+lines_same ws names [] h = refl
+lines_same ws names (d ∷ ds) h = let first = line_same ws names d h in let rest = lines_same ws names ds h in (cc)
+
+regroup : (a run es e : List (List ℕ)) → (text_of (a ++ run) ++ text_of es) ++ text_of e ≡ text_of ((a ++ (run ++ es)) ++ e)
+regroup a run es e =
+    ap (λ (r : List ℕ). r ++ text_of e) (sym (text_of-append (a ++ run) es))
+    ∙ sym (text_of-append ((a ++ run) ++ es) e)
+    ∙ ap (λ (r : List (List ℕ)). text_of (r ++ e)) (append_assoc a run es)
+
+pub text_found : (o : Outline) (entries : List Entry) → IsOutline o → written_text (headed o).names (headed o) entries ≡ trace_text o entries
+unfolding opening_text trace_text
+text_found o entries is =
+    let h = headed o in
+    let named : (ids : List ℕ) → names_of h.names ids ≡ list_words o.workers ids = λ ids. workers_found o.workers h.names ids (name_of_worker o) in
+    let limit = limit_found o in
+    let workers = worker_names_found o in
+    let lines : map (declared_line h.names) (declarations_of h) ≡ map (declaration_line o.workers) o.declarations =
+    ap (map (declared_line h.names)) (declarations_found o is) ∙ lines_same o.workers h.names o.declarations named in
+    let front : codes "evc-trace 1" ∷ limit_line h.setup.limit ∷ workers_line (worker_names h) ∷ map (declared_line h.names) (declarations_of h) ≡ codes "evc-trace 1" ∷ heading_lines o = cc in
+    regroup (codes "evc-trace 1" ∷ limit_line h.setup.limit ∷ workers_line (worker_names h) ∷ map (declared_line h.names) (declarations_of h)) (codes "run" ∷ []) (map (entry_line h.names) entries) (codes "end" ∷ [])
+    ∙ ap (λ (a : List (List ℕ)). text_of ((a ++ codes "run" ∷ map (entry_line h.names) entries) ++ codes "end" ∷ [])) front

@@ -1,0 +1,8 @@
+use Rattle.std.proofs.Common.{take}
+use Rattle.ec_text.specs.Puts.{Puts}
+use Rattle.ec_trace.specs.Recalled.{spaced, names_of}
+use Rattle.ec_trace.proofs.write_heading.put_names.Given as goal
+
+abbrev pub invariant-loop-worker : goal.invariant-loop-worker
+invariant-loop-worker g l =
+    Puts (g.W.Write.contents l.initial.writer) l.initial.buffered (g.W.Write.contents l.writer) l.buffered (spaced (names_of l.spellings (take l.worker-index l.workers)))

@@ -1,0 +1,27 @@
+use Rattle.std.proofs.Common.{◌≡◌, ℕ, [], sym, ◌∙◌, ap, subst, decimal}
+use Rattle.std.specs.List.{range_with_len}
+use Rattle.ec_count.specs.Tables.{Tables}
+use Rattle.ec_text.specs.Puts.{Puts}
+use Rattle.ec_text.proofs.PutLemmas.{puts_then}
+use Rattle.ec_trace.specs.Recalled.{opening_text, spaced, names_of}
+use Rattle.ec_trace.proofs.LineParts.{opening_parts}
+use Rattle.ec_trace.proofs.write_heading.put_opening.Goals as goal
+
+pub returns : goal.returns
+returns g c =
+    let limit : c.get.result ≡ c.args.heading.now.setup.limit = c.get.ensures.value ∙ c.limit.ensures ∙ ap (λ (t : Tables). t.limit) c.setup-setup.ensures in
+    let workers : c.workers.result ≡ c.args.heading.now.setup.workers = c.workers.ensures.value ∙ ap (λ (t : Tables). t.workers) c.setup-setup.ensures in
+    subst (Puts (g.W.Write.contents c.args.writer.now) c.args.buffered.now (g.W.Write.contents c.put-3.new.writer) c.put-3.new.buffered)
+    (sym (opening_parts c.args.spellings.now c.args.heading.now []))
+    (puts_then _ _ _ _ _ _ _ _
+      (puts_then _ _ _ _ _ _ _ _
+        (puts_then _ _ _ _ _ _ _ _
+          (puts_then _ _ _ _ _ _ _ _
+            (puts_then _ _ _ _ _ _ _ _
+              (puts_then _ _ _ _ _ _ _ _ c.put.ensures.puts
+                (subst (λ (n : ℕ). Puts (g.W.Write.contents c.put.new.writer) c.put.new.buffered (g.W.Write.contents c.put_number.new.writer) c.put_number.new.buffered (decimal n)) limit c.put_number.ensures.puts))
+              c.put-2.ensures.puts)
+            (subst (λ (n : ℕ). Puts (g.W.Write.contents c.put-2.new.writer) c.put-2.new.buffered (g.W.Write.contents c.put_workers.new.writer) c.put_workers.new.buffered (spaced (names_of c.args.spellings.now (range_with_len 0 n)))) workers c.put_workers.ensures))
+          c.put_byte.ensures.puts)
+        c.put_targets.ensures)
+      c.put-3.ensures.puts)

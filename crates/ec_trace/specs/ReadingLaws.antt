@@ -1,0 +1,42 @@
+-- Laws of reading: a trace is read as what it spells, and nothing else is read.
+use Rattle.std.specs.Prelude.{◌≡◌, ℕ, List, [], ◌++◌, Ok}
+use Rattle.ec_core.specs.declared.act.Entry.{Entry}
+use Rattle.ec_trace.specs.Outline.{Outline, headed}
+use Rattle.ec_trace.specs.Grammar.{IsTrace}
+use Rattle.ec_trace.specs.Recounted.{Recounted}
+use Rattle.ec_trace.specs.declared.fault.TraceFault.{TraceFault}
+use Rattle.ec_trace.specs.declared.fault.TraceFault.TheVariants.{Read, Memory}
+use Rattle.ec_trace.specs.Outcome.{outcome}
+use Rattle.ec_trace.specs.declared.read.TheConstants.{TRACE_MAX}
+
+-- a trace is read as its heading and its history
+abbrev pub TraceIsRead : Type 0
+TraceIsRead = (bytes : List ℕ) (o : Outline) (entries : List Entry) → IsTrace bytes o entries → outcome TRACE_MAX bytes ≡ Ok (record { heading = headed o; entries = entries })
+
+-- the bytes are a trace, and this is its heading and its history
+pub record IsTraceOf (bytes : List ℕ) (t : Recounted) : Type 0 where
+  pub outline : Outline
+  pub trace : IsTrace bytes outline t.entries
+  pub declares : headed outline ≡ t.heading
+
+-- the bytes are the trace of no heading and no history
+abbrev pub IsNoTrace : List ℕ → Type 0
+IsNoTrace bytes = (o : Outline) (entries : List Entry) → IsTrace bytes o entries → ⊥
+
+-- what a fault says of the bytes of a whole input: want of memory and a failed read say nothing
+abbrev pub Refuses : TraceFault → List ℕ → Type 0
+Refuses Memory bytes = Unit {0}
+Refuses Read bytes = Unit {0}
+Refuses fault bytes = IsNoTrace bytes
+
+-- what is read is a trace
+abbrev pub ReadIsTrace : Type 0
+ReadIsTrace = (bytes : List ℕ) (t : Recounted) → outcome TRACE_MAX bytes ≡ Ok t → IsTraceOf bytes t
+
+-- no two pairs of a heading and a history share a trace
+abbrev pub TraceHasOneMeaning : Type 0
+TraceHasOneMeaning = (bytes : List ℕ) (o p : Outline) (es fs : List Entry) → IsTrace bytes o es → IsTrace bytes p fs → (headed o ≡ headed p) × (es ≡ fs)
+
+-- no trace is a proper front of another
+abbrev pub NoTraceBeginsAnother : Type 0
+NoTraceBeginsAnother = (bytes more : List ℕ) (o p : Outline) (es fs : List Entry) → IsTrace bytes o es → IsTrace (bytes ++ more) p fs → more ≡ []

@@ -1,0 +1,33 @@
+-- Tables of words, in which the word of each number is found at once.
+use Rattle.std.specs.Prelude.{◌≡◌, ℕ, ◌<◌, ◌+◌, ◌-◌, ◌&&◌, nat_le, nat_lt, if◌then◌else◌, List, [], ◌++◌, Option, slice_get, codes, decimal}
+use Rattle.std.specs.Option.{option_map_or}
+use Rattle.std.specs.Borrow.{Bor}
+use Rattle.ec_count.specs.declared.target.Target.TheVariants.{Worker, Event, Sequencer}
+use Rattle.ec_trace.specs.Spelling.{Named, word_of, cell_word}
+use Rattle.ec_trace.specs.declared.spell.Words.{Words}
+use Rattle.ec_trace.specs.declared.spell.CellName.{CellName}
+
+-- the word at a place, none past the end
+abbrev pub word_at : List (Bor (List ℕ)) → ℕ → List ℕ
+word_at words i = option_map_or (λ (w : Bor (List ℕ)). w.now) (slice_get words i) []
+
+-- the bytes of a cell by the name of its block and its number there
+abbrev pub cell_bytes : List ℕ → ℕ → List ℕ
+cell_bytes block place = block ++ codes "[" ++ decimal place ++ codes "]"
+
+abbrev pub cell_name_bytes : CellName → List ℕ
+cell_name_bytes c = cell_bytes c.block.now c.place
+
+abbrev pub cell_at : List (Option CellName) → ℕ → List ℕ
+cell_at cells x = option_map_or (λ (c : Option CellName). option_map_or cell_name_bytes c []) (slice_get cells x) []
+
+-- the bytes of a cell, once a block with this name stands before the others
+abbrev pub with_block : List ℕ → ℕ → ℕ → ℕ → List ℕ → List ℕ
+with_block block first n x bytes = if nat_le first x && nat_lt x (first + n) then cell_bytes block (x - first) else bytes
+
+-- each table has the words that the names give
+pub record Spells (names : Named) (words : Words) : Type 0 where
+  pub workers : (i : ℕ) → i < 16 → word_at words.workers i ≡ word_of names (Worker i)
+  pub events : (i : ℕ) → i < 32 → word_at words.events i ≡ word_of names (Event i)
+  pub sequencers : (i : ℕ) → i < 32 → word_at words.sequencers i ≡ word_of names (Sequencer i)
+  pub cells : (x : ℕ) → x < 256 → cell_at words.cells x ≡ cell_word names x

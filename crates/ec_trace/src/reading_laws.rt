@@ -1,0 +1,26 @@
+//! Laws of reading. Each is the contract of a function that does nothing.
+ghost use Rattle.ec_trace.specs.ReadingLaws.{TraceIsRead, ReadIsTrace, TraceHasOneMeaning, NoTraceBeginsAnother};
+
+/// A trace is read as its heading and its history.
+#[tactic(auto, using(crate::proofs::ReadTraces::trace_is_read))]
+pub fn trace_is_read()
+    ensures { TraceIsRead }
+{}
+
+/// What is read is a trace of the heading and of the history that it is read as.
+#[tactic(auto, using(crate::proofs::ReadTraces::read_is_trace))]
+pub fn read_is_trace()
+    ensures { ReadIsTrace }
+{}
+
+/// No two pairs of a heading and a history share a trace.
+#[tactic(auto, using(crate::proofs::ReadTraces::trace_has_one_meaning))]
+pub fn trace_has_one_meaning()
+    ensures { TraceHasOneMeaning }
+{}
+
+/// No trace is a proper front of another.
+#[tactic(auto, using(crate::proofs::ReadTraces::no_trace_begins_another))]
+pub fn no_trace_begins_another()
+    ensures { NoTraceBeginsAnother }
+{}

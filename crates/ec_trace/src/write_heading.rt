@@ -1,0 +1,210 @@
+//! Writes what a heading declares.
+ghost use Rattle.std.specs.Prelude.{◌≡◌, ◌≤◌, ◌∷◌, ◌++◌, [], Some, None, map};
+ghost use Rattle.std.specs.List.{range_with_len};
+ghost use Rattle.ec_text.specs.Puts.{Puts};
+ghost use Rattle.ec_trace.specs.Spelling.{word_of, number_words, limit_line, workers_line, text_of};
+ghost use Rattle.ec_trace.specs.Sorts.{sort_word, opener, other};
+ghost use Rattle.ec_trace.specs.Recalled.{names_of, worker_names, declaration_of, declarations_of, declared_line, declared_text, opening_text, second_names, spaced};
+
+use crate::{Heading, Sort, Spellings};
+use ec_count::{Target, WorkerId};
+use ec_text::{Buffered, put, put_byte, put_number};
+use std::io::Write;
+use std::marker::Model;
+
+/// What a line declares: its sort, name and number, and the workers of its two lists.
+#[derive(Drop)]
+struct Line<'a> {
+    sort: Sort,
+    name: &'a [u8],
+    number: usize,
+    first: &'a [WorkerId],
+    second: &'a [WorkerId],
+}
+
+impl<'a> Model for Line<'a> {
+    ghost use Rattle.ec_trace.specs.Outline.{Declaration};
+
+    ghost Value = { Declaration };
+
+    ghost view = { λ d. record { sort = d.sort; name = d.name.now; number = d.number; first = d.first.now; second = d.second.now } };
+}
+
+/// The name of what was declared, of no bytes where it has none.
+fn name_of(heading: &Heading, target: Target) -> &[u8]
+    ensures { result.now ≡ word_of heading.now.names target }
+{
+    match heading.names().name_of(target) {
+        Some(name) => name.as_bytes(),
+        None => b"".as_slice(),
+    }
+}
+
+/// What was declared for a target.
+fn line_of(heading: &Heading, target: Target) -> Option<Line<'_>>
+    ensures { result ≡ declaration_of heading.now target }
+{
+    let setup = heading.setup();
+    let name = name_of(heading, target);
+    match &target {
+        Target::Event(event) => Some(Line {
+            sort: Sort::EventCount,
+            name,
+            number: 0,
+            first: setup.signallers(*event),
+            second: setup.observers(*event),
+        }),
+        Target::Sequencer(sequencer) => Some(Line {
+            sort: Sort::Sequencer,
+            name,
+            number: 0,
+            first: setup.takers(*sequencer),
+            second: &[],
+        }),
+        Target::Cells(first, n) => Some(Line {
+            sort: Sort::Cells,
+            name,
+            number: *n,
+            first: setup.writers(*first),
+            second: setup.readers(*first),
+        }),
+        Target::Worker(_) | Target::Group(_) => None,
+    }
+}
+
+/// Puts a word with a space before it.
+fn put_word<W: Write>(writer: &mut W, buffered: &mut Buffered, word: &[u8])
+    ensures { Puts (W.contents writer.old) buffered.old (W.contents writer.new) buffered.new (32 ∷ word.now) }
+{
+    put_byte(writer, buffered, b' ');
+    put(writer, buffered, word);
+}
+
+/// Puts the names of workers, each with a space before it.
+fn put_names<W: Write>(
+    writer: &mut W,
+    buffered: &mut Buffered,
+    spellings: &Spellings<'_>,
+    workers: &[WorkerId],
+)
+    ensures { Puts (W.contents writer.old) buffered.old (W.contents writer.new) buffered.new (spaced (names_of spellings.now workers.now)) }
+{
+    for worker in workers {
+        put_word(writer, buffered, spellings.worker(*worker));
+    }
+}
+
+/// Puts a number with a space before it, where such a declaration has one.
+fn put_amount<W: Write>(writer: &mut W, buffered: &mut Buffered, sort: Sort, number: usize)
+    ensures { Puts (W.contents writer.old) buffered.old (W.contents writer.new) buffered.new (spaced (number_words sort number)) }
+{
+    if sort.has_number() {
+        put_byte(writer, buffered, b' ');
+        put_number(writer, buffered, number as u64);
+    }
+}
+
+/// Puts the second list with the word before it, nothing where the list is empty.
+fn put_second<W: Write>(
+    writer: &mut W,
+    buffered: &mut Buffered,
+    spellings: &Spellings<'_>,
+    sort: Sort,
+    workers: &[WorkerId],
+)
+    ensures { Puts (W.contents writer.old) buffered.old (W.contents writer.new) buffered.new (spaced (second_names spellings.now (other sort) workers.now)) }
+{
+    if let Some(word) = sort.other() {
+        if !workers.is_empty() {
+            put_word(writer, buffered, word);
+            put_names(writer, buffered, spellings, workers);
+        }
+    }
+}
+
+/// Puts the line of a declaration, without LF.
+#[tactic(auto, using(crate::proofs::LineParts::line_parts))]
+fn put_line<W: Write>(
+    writer: &mut W,
+    buffered: &mut Buffered,
+    spellings: &Spellings<'_>,
+    line: &Line<'_>,
+)
+    ensures { Puts (W.contents writer.old) buffered.old (W.contents writer.new) buffered.new (declared_line spellings.now line.now) }
+{
+    put(writer, buffered, line.sort.word());
+    put_word(writer, buffered, line.name);
+    put_amount(writer, buffered, line.sort, line.number);
+    put_word(writer, buffered, line.sort.opener());
+    put_names(writer, buffered, spellings, line.first);
+    put_second(writer, buffered, spellings, line.sort, line.second);
+}
+
+/// Puts the names of the first workers, each with a space before it.
+#[tactic(auto, using(crate::proofs::LineParts::one_more_worker))]
+fn put_workers<W: Write>(
+    writer: &mut W,
+    buffered: &mut Buffered,
+    spellings: &Spellings<'_>,
+    count: usize,
+)
+    requires { count ≤ 16 }
+    ensures { Puts (W.contents writer.old) buffered.old (W.contents writer.new) buffered.new (spaced (names_of spellings.now (range_with_len 0 count))) }
+{
+    for number in 0..count {
+        if let Some(worker) = WorkerId::new(number) {
+            put_word(writer, buffered, spellings.worker(worker));
+        }
+    }
+}
+
+/// Puts the line of what was declared for a target.
+fn put_target<W: Write>(
+    writer: &mut W,
+    buffered: &mut Buffered,
+    spellings: &Spellings<'_>,
+    heading: &Heading,
+    target: Target,
+)
+    ensures { Puts (W.contents writer.old) buffered.old (W.contents writer.new) buffered.new (declared_text spellings.now (declaration_of heading.now target)) }
+{
+    if let Some(line) = line_of(heading, target) {
+        put_line(writer, buffered, spellings, &line);
+        put_byte(writer, buffered, b'\n');
+    }
+}
+
+/// Puts the lines of the declarations.
+#[tactic(auto, using(crate::proofs::LineParts::one_more_target))]
+fn put_targets<W: Write>(
+    writer: &mut W,
+    buffered: &mut Buffered,
+    spellings: &Spellings<'_>,
+    heading: &Heading,
+)
+    ensures { Puts (W.contents writer.old) buffered.old (W.contents writer.new) buffered.new (text_of (map (declared_line spellings.now) (declarations_of heading.now))) }
+{
+    for target in heading.declarations() {
+        put_target(writer, buffered, spellings, heading, *target);
+    }
+}
+
+/// Puts the lines before the entries.
+#[tactic(auto, using(crate::proofs::LineParts::opening_parts))]
+pub(crate) fn put_opening<W: Write>(
+    writer: &mut W,
+    buffered: &mut Buffered,
+    spellings: &Spellings<'_>,
+    heading: &Heading,
+)
+    ensures { Puts (W.contents writer.old) buffered.old (W.contents writer.new) buffered.new (opening_text spellings.now heading.now) }
+{
+    let setup = heading.setup();
+    put(writer, buffered, b"evc-trace 1\nlimit ");
+    put_number(writer, buffered, setup.limit().get());
+    put(writer, buffered, b"\nworkers");
+    put_workers(writer, buffered, spellings, setup.workers());
+    put_byte(writer, buffered, b'\n');
+    put_targets(writer, buffered, spellings, heading);
+    put(writer, buffered, b"run\n");
+}
