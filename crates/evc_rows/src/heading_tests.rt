@@ -147,3 +147,74 @@ fn tables_that_are_full(rt: HostRuntime) -> Result<(), Fail> {
     );
     Ok(())
 }
+
+/// A heading with something of each sort.
+fn one_of_each(alloc: Global) -> Result<Heading, Fail> {
+    let mut heading = blank(alloc)?;
+    let lines = [
+        "workers a c",
+        "cells X 3 write a",
+        "eventcount E signal a",
+        "cells Y 2 write c",
+        "sequencer T take c",
+    ];
+    for line in lines {
+        heading.line(line.as_bytes())?;
+    }
+    Ok(heading)
+}
+
+#[test]
+fn spellings_of_workers_eventcounts_and_sequencers(rt: HostRuntime) -> Result<(), Fail> {
+    let heading = one_of_each(rt.alloc())?;
+    let (a, c) = (b"a".as_slice(), b"c".as_slice());
+    let (e, t) = (b"E".as_slice(), b"T".as_slice());
+    assert_eq!(rt;
+        (heading.worker(a), heading.worker(c)),
+        (Some(worker(0)), Some(worker(1)))
+    );
+    assert_eq!(rt; (heading.worker(e), heading.worker(t)), (None, None));
+    assert_eq!(rt;
+        (heading.event(e), heading.event(t)),
+        (Some(event(0)), None)
+    );
+    assert_eq!(rt;
+        (heading.sequencer(e), heading.sequencer(t)),
+        (None, Some(sequencer(0)))
+    );
+    Ok(())
+}
+
+#[test]
+fn spellings_of_cells(rt: HostRuntime) -> Result<(), Fail> {
+    let heading = one_of_each(rt.alloc())?;
+    let words = [("X[0]", 0), ("X[2]", 2), ("Y[0]", 3), ("Y[1]", 4)];
+    for (word, n) in words {
+        let found = heading.cell(word.as_bytes()).map(|x| x.get());
+        assert_eq!(rt; found, Some(n), "at {word}");
+    }
+    let words = [
+        "X[3]",
+        "Y[2]",
+        "Z[0]",
+        "E[0]",
+        "a[0]",
+        "X",
+        "X[",
+        "X[]",
+        "X[0",
+        "X0]",
+        "[0]",
+        "X[00]",
+        "X[01]",
+        "X[0]]",
+        "X[[0]",
+        "X[0] ",
+        "x[0]",
+        "X[18446744073709551616]",
+    ];
+    for word in words {
+        assert!(rt; heading.cell(word.as_bytes()).is_none(), "at {word}");
+    }
+    Ok(())
+}
