@@ -129,3 +129,12 @@ fn a_text_without_end_is_too_large(rt: HostRuntime) {
     let outcome = checked(rt.alloc(), &mut Endless::new(head, line));
     assert!(rt; outcome.is(Status::Refused, "", "too large\n"));
 }
+
+#[test]
+fn statuses_of_the_process(rt: HostRuntime) {
+    assert_eq!(rt; Status::Done.code(), 0);
+    assert_eq!(rt; Status::Refused.code(), 1);
+    assert_eq!(rt; Status::Usage.code(), 2);
+    assert_eq!(rt; Status::InputOutput.code(), 3);
+    assert_eq!(rt; Status::Memory.code(), 4);
+}

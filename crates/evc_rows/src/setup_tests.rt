@@ -1,6 +1,6 @@
 //! Limits, declarations and their faults.
 use crate::drive::{cell, event, sequencer, worker, workers};
-use ec_count::{Limit, SetupFault};
+use ec_count::{AtLimit, CellId, Count, EventId, Limit, SeqId, SetupFault, WorkerId};
 use std::test::Fail;
 
 #[test]
@@ -12,6 +12,29 @@ fn limits_from_1_to_4294967295(rt: HostRuntime) {
         Some(4_294_967_295)
     );
     assert!(rt; Limit::new(4_294_967_296).is_none());
+}
+
+#[test]
+fn a_count_up_to_its_limit(rt: HostRuntime) -> Result<(), Fail> {
+    let mut count = Count::zero(Limit::new(2).ok_or("no limit")?);
+    assert_eq!(rt; (count.value(), count.is_full()), (0, false));
+    assert_eq!(rt; count.advance(), Ok(()));
+    assert_eq!(rt; count.advance(), Ok(()));
+    assert_eq!(rt; count.advance(), Err(AtLimit));
+    assert_eq!(rt; (count.value(), count.is_full()), (2, true));
+    Ok(())
+}
+
+#[test]
+fn ids_within_their_tables(rt: HostRuntime) {
+    assert_eq!(rt; WorkerId::new(15).map(|w| w.get()), Some(15));
+    assert_eq!(rt; EventId::new(31).map(|e| e.get()), Some(31));
+    assert_eq!(rt; SeqId::new(31).map(|q| q.get()), Some(31));
+    assert_eq!(rt; CellId::new(255).map(|x| x.get()), Some(255));
+    assert!(rt; WorkerId::new(16).is_none());
+    assert!(rt; EventId::new(32).is_none());
+    assert!(rt; SeqId::new(32).is_none());
+    assert!(rt; CellId::new(256).is_none());
 }
 
 #[test]

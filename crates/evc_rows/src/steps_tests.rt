@@ -7,7 +7,7 @@ use crate::histories::{
     total_in_the_middle, two_reads,
 };
 use ec_core::Act::{Advance, Await, Get, Go, Put, Read, Ticket};
-use ec_core::{Entry, Refusal, Reply, Run, VALUE_MAX, without};
+use ec_core::{Entry, Refusal, Reply, Run, VALUE_MAX, World, without};
 use ec_count::WorkerId;
 use std::test::Fail;
 
@@ -220,4 +220,36 @@ fn a_run_without_steps(rt: HostRuntime) -> Result<(), Fail> {
     assert_eq!(rt; run.world().total(event(0)), Some(0));
     assert_eq!(rt; run.world().total(event(1)), None);
     Ok(())
+}
+
+#[test]
+fn a_world_alone(rt: HostRuntime) -> Result<(), Fail> {
+    let (a, e) = (worker(0), event(0));
+    let mut setup = workers(1, 1)?;
+    setup.add_event(&[a], &[a])?;
+    let mut world = World::open(setup);
+    assert_eq!(rt; world.answer(a, &Advance(e)), Ok(Reply::Done));
+    assert_eq!(rt; world.total(e), Some(0));
+    assert_eq!(rt; world.step(a, Advance(e)), Ok(Reply::Done));
+    assert_eq!(rt; world.step(a, Advance(e)), Err(Refusal::AtLimit));
+    assert_eq!(rt; world.step(a, Read(e)), Ok(Reply::Number(1)));
+    assert_eq!(rt; world.under_way(a), None);
+    Ok(())
+}
+
+#[test]
+fn refusals_by_number_and_name(rt: HostRuntime) {
+    let refusals = [
+        (Refusal::UnknownWorker, "UnknownWorker"),
+        (Refusal::Busy, "Busy"),
+        (Refusal::Idle, "Idle"),
+        (Refusal::UnknownObject, "UnknownObject"),
+        (Refusal::NoRight, "NoRight"),
+        (Refusal::ValueTooLarge, "ValueTooLarge"),
+        (Refusal::AtLimit, "AtLimit"),
+    ];
+    for ((refusal, name), number) in refusals.into_iter().zip([1, 2, 3, 4, 5, 6, 7]) {
+        assert_eq!(rt; refusal.number(), number);
+        assert!(rt; refusal.name() == name, "at {number}");
+    }
 }

@@ -2,9 +2,10 @@
 use crate::drive::worker;
 use crate::fakes::{Fickle, Trouble};
 use crate::histories::{
-    await_of_rounds, await_of_zero, overtaken_read, read_overtaken_often, total_in_the_middle,
-    two_reads,
+    await_of_rounds, await_of_zero, many_advances, overtaken_read, read_overtaken_often,
+    total_in_the_middle, two_reads,
 };
+use crate::outcome::checked;
 use crate::texts::{
     AWAIT_OF_ROUNDS, AWAIT_OF_ZERO, OVERTAKEN_OFTEN, OVERTAKEN_READ, TOTAL_IN_THE_MIDDLE,
     TWO_READS, WORKED,
@@ -13,26 +14,32 @@ use ec_core::{Act, Entry, Reply, Run};
 use ec_count::Limit;
 use ec_text::WriteFault;
 use ec_trace::{Heading, read_trace, write_entry, write_trace};
+use evc_engine::Status;
 use std::alloc::Global;
 use std::test::Fail;
 
-/// A heading with limit 10 and these lines.
-fn heading(alloc: Global, workers: &str, event: &str) -> Result<Heading, Fail> {
-    let mut heading = Heading::new(alloc, Limit::new(10).ok_or("no limit")?)?;
+/// A heading with these lines.
+fn heading(alloc: Global, limit: u64, workers: &str, event: &str) -> Result<Heading, Fail> {
+    let mut heading = Heading::new(alloc, Limit::new(limit).ok_or("no limit")?)?;
     heading.line(workers.as_bytes())?;
     heading.line(event.as_bytes())?;
     Ok(heading)
 }
 
-/// The trace of a run on what these lines declare.
-fn written(alloc: Global, run: &Run, workers: &str, event: &str) -> Result<Vec<u8>, Fail> {
-    let heading = heading(alloc, workers, event)?;
+/// The trace of a run under a heading that declares what the run is on.
+fn written_under(alloc: Global, run: &Run, heading: &Heading) -> Result<Vec<u8>, Fail> {
     let mut out = Vec::new(alloc);
     if !run.setup().is_same(heading.setup()) {
         return Err(Fail::new("another setup"));
     }
-    write_trace(run, &heading, &mut out)?;
+    write_trace(run, heading, &mut out)?;
     Ok(out)
+}
+
+/// The trace of a run on limit 10 and what these lines declare.
+fn written(alloc: Global, run: &Run, workers: &str, event: &str) -> Result<Vec<u8>, Fail> {
+    let heading = heading(alloc, 10, workers, event)?;
+    written_under(alloc, run, &heading)
 }
 
 /// The trace of a run on four workers, of whom two signal and two observe.
@@ -90,8 +97,30 @@ fn a_read_overtaken_fifteen_times_is_written(rt: HostRuntime) -> Result<(), Fail
 }
 
 #[test]
+fn eight_thousand_advances_are_written_and_checked(rt: HostRuntime) -> Result<(), Fail> {
+    let run = many_advances(rt.alloc())?;
+    let event = "eventcount E signal a observe a";
+    let heading = heading(rt.alloc(), 20_000, "workers a", event)?;
+    let text = written_under(rt.alloc(), &run, &heading)?;
+    let head =
+        b"evc-trace 1\nlimit 20000\nworkers a\neventcount E signal a observe a\nrun\n".as_slice();
+    assert!(rt; text.starts_with(head));
+    let outcome = checked(rt.alloc(), &mut text.as_slice());
+    assert_eq!(rt; outcome.status, Status::Done);
+    let end =
+        b"\n8192 a advance E = done\n8193 a read E = 8193\ntotals\neventcount E 8193\nend\n".as_slice();
+    assert!(rt; outcome.out.ends_with(end));
+    Ok(())
+}
+
+#[test]
 fn an_entry_is_written_without_line_feed(rt: HostRuntime) -> Result<(), Fail> {
-    let heading = heading(rt.alloc(), "workers a c", "eventcount E signal a observe c")?;
+    let heading = heading(
+        rt.alloc(),
+        10,
+        "workers a c",
+        "eventcount E signal a observe c",
+    )?;
     let entry = Entry {
         worker: worker(1),
         act: Act::Go,
