@@ -12,12 +12,12 @@ mod progress;
 mod read;
 mod reading_laws;
 mod sort;
-mod spelled;
 mod spell;
-mod write;
-mod write_heading;
+mod spelled;
 mod stage;
 mod traced;
+mod write;
+mod write_heading;
 
 pub use fault::TraceFault;
 pub use heading::{HeadFault, Heading};
@@ -32,5 +32,5 @@ pub use reading_laws::{
 };
 pub use sort::Sort;
 pub use spell::Spellings;
-pub use write::{put_cell, put_entry, put_reply, write_entry, write_trace};
 pub use traced::Traced;
+pub use write::{put_cell, put_entry, put_reply, write_entry, write_trace};

@@ -8,20 +8,28 @@ use evc_engine::{Notes, Status};
 use evc_task::{status_of, task};
 use std::alloc::AllocError;
 use std::env;
+use std::io::ErrorKind;
 use std::process::ExitCode;
 
 fn main(rt: HostRuntime) -> ExitCode {
     let alloc = rt.alloc();
-    let Ok(args) = env::args(&rt) else {
-        return ExitCode::from(Status::Memory.code());
+    let mut notes = Notes::new(rt.stderr());
+    let words: Result<Vec<String>, AllocError> = match env::args(&rt) {
+        Ok(args) => args.collect(alloc),
+        Err(error) => {
+            if error.kind() == ErrorKind::InvalidData {
+                notes.say(b"error: a word of the command line is not UTF-8\n");
+                return ExitCode::from(Status::Usage.code());
+            }
+            Err(AllocError)
+        }
     };
-    let collected: Result<Vec<String>, AllocError> = args.collect(alloc);
-    let Ok(words) = collected else {
+    let Ok(words) = words else {
+        notes.say(b"no memory\n");
         return ExitCode::from(Status::Memory.code());
     };
     match task(alloc, words.as_slice()) {
         Ok(task) => {
-            let mut notes = Notes::new(rt.stderr());
             let status = engine(alloc, task, &mut rt.stdin(), &mut rt.stdout(), &mut notes);
             ExitCode::from(status.code())
         }

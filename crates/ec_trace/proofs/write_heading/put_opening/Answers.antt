@@ -14,14 +14,14 @@ returns g c =
     subst (Puts (g.W.Write.contents c.args.writer.now) c.args.buffered.now (g.W.Write.contents c.put-3.new.writer) c.put-3.new.buffered)
     (sym (opening_parts c.args.spellings.now c.args.heading.now []))
     (puts_then _ _ _ _ _ _ _ _
-      (puts_then _ _ _ _ _ _ _ _
-        (puts_then _ _ _ _ _ _ _ _
-          (puts_then _ _ _ _ _ _ _ _
-            (puts_then _ _ _ _ _ _ _ _
-              (puts_then _ _ _ _ _ _ _ _ c.put.ensures.puts
-                (subst (λ (n : ℕ). Puts (g.W.Write.contents c.put.new.writer) c.put.new.buffered (g.W.Write.contents c.put_number.new.writer) c.put_number.new.buffered (decimal n)) limit c.put_number.ensures.puts))
-              c.put-2.ensures.puts)
-            (subst (λ (n : ℕ). Puts (g.W.Write.contents c.put-2.new.writer) c.put-2.new.buffered (g.W.Write.contents c.put_workers.new.writer) c.put_workers.new.buffered (spaced (names_of c.args.spellings.now (range_with_len 0 n)))) workers c.put_workers.ensures))
-          c.put_byte.ensures.puts)
-        c.put_targets.ensures)
-      c.put-3.ensures.puts)
+    (puts_then _ _ _ _ _ _ _ _
+    (puts_then _ _ _ _ _ _ _ _
+    (puts_then _ _ _ _ _ _ _ _
+    (puts_then _ _ _ _ _ _ _ _
+    (puts_then _ _ _ _ _ _ _ _ c.put.ensures.puts
+    (subst (λ (n : ℕ). Puts (g.W.Write.contents c.put.new.writer) c.put.new.buffered (g.W.Write.contents c.put_number.new.writer) c.put_number.new.buffered (decimal n)) limit c.put_number.ensures.puts))
+    c.put-2.ensures.puts)
+    (subst (λ (n : ℕ). Puts (g.W.Write.contents c.put-2.new.writer) c.put-2.new.buffered (g.W.Write.contents c.put_workers.new.writer) c.put_workers.new.buffered (spaced (names_of c.args.spellings.now (range_with_len 0 n)))) workers c.put_workers.ensures))
+    c.put_byte.ensures.puts)
+    c.put_targets.ensures)
+    c.put-3.ensures.puts)
