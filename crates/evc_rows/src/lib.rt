@@ -1,0 +1,35 @@
+//! Tests that cross the crates: worked histories and their texts, hostile input, and readers and writers that fail.
+#![tactic(auto)]
+
+#[cfg(test)]
+mod broken_texts;
+#[cfg(test)]
+mod check_tests;
+#[cfg(test)]
+mod drive;
+#[cfg(test)]
+mod failing_tests;
+#[cfg(test)]
+mod fakes;
+#[cfg(test)]
+mod heading_tests;
+#[cfg(test)]
+mod histories;
+#[cfg(test)]
+mod hostile_tests;
+#[cfg(test)]
+mod names_tests;
+#[cfg(test)]
+mod order_tests;
+#[cfg(test)]
+mod outcome;
+#[cfg(test)]
+mod setup_tests;
+#[cfg(test)]
+mod steps_tests;
+#[cfg(test)]
+mod texts;
+#[cfg(test)]
+mod verify_tests;
+#[cfg(test)]
+mod writing_tests;
