@@ -34,7 +34,8 @@ use Rattle.ec_trace.proofs.Declarable.{Heads, heads_opened, heads_all}
 use Rattle.ec_trace.specs.Recalled.{outline_of}
 use Rattle.ec_trace.proofs.OutlineFound.{outline_found}
 use Rattle.ec_trace.proofs.LeadLines.{outline_leads, leads_outline}
-use Rattle.ec_trace.proofs.Leads.{IsLine, Leads, leads_append, IsText, text_read, no_front, one_meaning, text_back}
+use Rattle.ec_trace.specs.FirstFault.{IsLine, Leads}
+use Rattle.ec_trace.proofs.Leads.{leads_append, IsText, text_read, no_front, one_meaning, text_back}
 use Rattle.ec_trace.proofs.TraceLines.{line_is, literal_lacks, each_append, heading_lines_are, limit_line_is}
 use Rattle.ec_trace.proofs.ReadHeadings.{IsSound, sound}
 use Rattle.ec_trace.proofs.ReadEntries.{number_word}
