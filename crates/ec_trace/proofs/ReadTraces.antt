@@ -314,3 +314,9 @@ pub told_fault : (a : Option (List ℕ)) (r : Result Recounted TraceFault) → I
 told_fault None r h = tt
 told_fault (Some bytes) (Ok t) h = tt
 told_fault (Some bytes) (Err f) h = fault_refuses bytes f h
+
+-- what is written is read again
+pub written_is_read : (o : Outline) (entries : List Entry) → IsOutline o → IsAccepted (headed o).setup (reverse entries) → length (trace_text o entries) ≤ TRACE_MAX
+    → outcome TRACE_MAX (trace_text o entries) ≡ Ok (record { heading = headed o; entries = entries })
+written_is_read o entries outline accepted within =
+    trace_is_read (trace_text o entries) o entries (record { heading = outline; accepted = accepted; text = refl; within = within })

@@ -29,7 +29,7 @@ pub use progress::LINE_MAX;
 pub use read::{TRACE_MAX, read_trace};
 pub use reading_laws::{
     fault_of_the_whole, line_fault_is_the_first, no_trace_begins_another, read_is_trace,
-    trace_has_one_meaning, trace_is_read,
+    trace_has_one_meaning, trace_is_read, written_is_read_again,
 };
 pub use sort::Sort;
 pub use spell::Spellings;

@@ -1,6 +1,6 @@
 //! Laws of reading. Each is the contract of a function that does nothing.
 ghost use Rattle.ec_trace.specs.FirstFault.{LineFaultIsTheFirst, FaultOfTheWhole};
-ghost use Rattle.ec_trace.specs.ReadingLaws.{TraceIsRead, ReadIsTrace, TraceHasOneMeaning, NoTraceBeginsAnother};
+ghost use Rattle.ec_trace.specs.ReadingLaws.{TraceIsRead, ReadIsTrace, TraceHasOneMeaning, NoTraceBeginsAnother, WrittenIsReadAgain};
 
 /// A trace is read as its heading and its history.
 #[tactic(auto, using(crate::proofs::ReadTraces::trace_is_read))]
@@ -36,4 +36,10 @@ pub fn line_fault_is_the_first()
 #[tactic(auto, using(crate::proofs::FirstFaults::fault_of_the_whole))]
 pub fn fault_of_the_whole()
     ensures { FaultOfTheWhole }
+{}
+
+/// What `write_trace` writes of a run under a heading is read again as the same heading and the same run, where it is within the bound.
+#[tactic(auto, using(crate::proofs::ReadTraces::written_is_read))]
+pub fn written_is_read_again()
+    ensures { WrittenIsReadAgain }
 {}
