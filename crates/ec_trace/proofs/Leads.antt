@@ -1,6 +1,6 @@
 -- Lines that lead from one stage to another, and texts of lines.
-use Rattle.std.proofs.Common.{◌≡◌, ◌≢◌, ℕ, ◌+◌, ◌≤◌, List, [], ◌∷◌, ◌++◌, length, take, cond, Bool, true, false, eqb, ltb, refl, sym, ap, subst, ◌∙◌, arith, Result, Ok, Err, append_assoc, append-nil, le-ltb, ltb-false, ◌&&◌}
-use Rattle.std.specs.List.{AllByRecursion, All, join_with_byte}
+use Rattle.std.proofs.Common.{◌≡◌, ℕ, ◌+◌, ◌≤◌, List, [], ◌∷◌, ◌++◌, length, take, cond, Bool, true, false, eqb, ltb, refl, sym, ap, subst, ◌∙◌, arith, Result, Ok, Err, append_assoc, append-nil, le-ltb, ltb-false, ◌&&◌}
+use Rattle.std.specs.List.{AllByRecursion, join_with_byte}
 use Rattle.std.proofs.lemmas.Bool.{and_right, cond-false, eqb-true}
 use Rattle.std.proofs.lemmas.List.{take_all}
 use Rattle.std.proofs.lemmas.List.Splits.{join_with_byte-slice_split}
@@ -9,20 +9,12 @@ use Rattle.ec_trace.specs.declared.fault.TraceFault.{TraceFault}
 use Rattle.ec_trace.specs.declared.fault.TraceFault.TheVariants.{BadLine, TooLarge, Unfinished}
 use Rattle.ec_trace.specs.declared.stage.Stage.{Stage}
 use Rattle.ec_trace.specs.declared.stage.Stage.TheVariants.{Opening, Limiting, Declaring, Running, Ended}
+use Rattle.ec_trace.specs.FirstFault.{IsLine, Leads}
 use Rattle.ec_trace.specs.Recounted.{Recounted}
 use Rattle.ec_trace.specs.Spelling.{text_of, ended_line}
 use Rattle.ec_trace.specs.Step.{step, is_ended}
 use Rattle.ec_trace.specs.Outcome.{Place, parts_of, goes, goes_from, taken, is_bad_rest, start, outcome, bounded, ended_at, traced_in}
 use Rattle.ec_trace.proofs.Goes.{goes_line, goes_ended, HasFirst, has_first}
-
-pub record IsLine (line : List ℕ) : Type 0 where
-  pub no_lf : All (λ b. b ≢ 10) line
-  pub short : length line ≤ 8192
-
--- the lines lead from one stage to another
-abbrev pub Leads : Stage → List (List ℕ) → Stage → Type 0
-Leads s [] t = s ≡ t
-Leads s (line ∷ lines) t = (next : Stage) × (step s line ≡ Ok next) × Leads next lines t
 
 pub leads_append : (s t u : Stage) (xs ys : List (List ℕ)) → Leads s xs t → Leads t ys u → Leads s (xs ++ ys) u
 leads_append s t u [] ys a b = subst (λ (k : Stage). Leads k ys u) (sym a) b
@@ -128,7 +120,7 @@ reads n s (line ∷ next ∷ others) p e some =
     }
 
 -- parts that are joined by LFs are lines with their LFs, and a rest
-joined : (lines : List (List ℕ)) (rest : List ℕ) → join_with_byte 10 (lines ++ rest ∷ []) ≡ text_of lines ++ rest
+pub joined : (lines : List (List ℕ)) (rest : List ℕ) → join_with_byte 10 (lines ++ rest ∷ []) ≡ text_of lines ++ rest
 joined [] rest = refl
 joined (line ∷ []) rest = sym (append_assoc (ended_line line) [] rest ∙ append_assoc line (10 ∷ []) rest)
 joined (line ∷ next ∷ lines) rest =

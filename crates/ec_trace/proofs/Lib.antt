@@ -3,6 +3,7 @@ pub mod ReadCells
 pub mod ReadEntries
 pub mod ReadHeadings
 pub mod Leads
+pub mod FirstFaults
 pub mod TraceLines
 pub mod ReadRuns
 pub mod ReadTraces

@@ -28,7 +28,7 @@ use Rattle.ec_trace.specs.Spelling.{entry_line}
 use Rattle.ec_trace.specs.Spelled.{Named}
 use Rattle.ec_trace.specs.Entries.{entry_in, entry_of}
 use Rattle.ec_trace.specs.Step.{step, entry_step, entered, answered, ran_on, same_reply}
-use Rattle.ec_trace.proofs.Leads.{Leads, IsLine}
+use Rattle.ec_trace.specs.FirstFault.{Leads, IsLine}
 use Rattle.ec_trace.proofs.TraceLines.{entry_line_is}
 use Rattle.ec_trace.proofs.ReadHeadings.{IsSound, is_declared}
 use Rattle.ec_trace.proofs.ReadEntries.{ActIsNamed, ReplyIsShort, IsSpellable, entry_again, entry_spelled}

@@ -34,7 +34,8 @@ use Rattle.ec_trace.proofs.Declarable.{Heads, heads_opened, heads_all}
 use Rattle.ec_trace.specs.Recalled.{outline_of}
 use Rattle.ec_trace.proofs.OutlineFound.{outline_found}
 use Rattle.ec_trace.proofs.LeadLines.{outline_leads, leads_outline}
-use Rattle.ec_trace.proofs.Leads.{IsLine, Leads, leads_append, IsText, text_read, no_front, one_meaning, text_back}
+use Rattle.ec_trace.specs.FirstFault.{IsLine, Leads}
+use Rattle.ec_trace.proofs.Leads.{leads_append, IsText, text_read, no_front, one_meaning, text_back}
 use Rattle.ec_trace.proofs.TraceLines.{line_is, literal_lacks, each_append, heading_lines_are, limit_line_is}
 use Rattle.ec_trace.proofs.ReadHeadings.{IsSound, sound}
 use Rattle.ec_trace.proofs.ReadEntries.{number_word}
@@ -313,3 +314,9 @@ pub told_fault : (a : Option (List ℕ)) (r : Result Recounted TraceFault) → I
 told_fault None r h = tt
 told_fault (Some bytes) (Ok t) h = tt
 told_fault (Some bytes) (Err f) h = fault_refuses bytes f h
+
+-- what is written is read again
+pub written_is_read : (o : Outline) (entries : List Entry) → IsOutline o → IsAccepted (headed o).setup (reverse entries) → length (trace_text o entries) ≤ TRACE_MAX
+    → outcome TRACE_MAX (trace_text o entries) ≡ Ok (record { heading = headed o; entries = entries })
+written_is_read o entries outline accepted within =
+    trace_is_read (trace_text o entries) o entries (record { heading = outline; accepted = accepted; text = refl; within = within })

@@ -24,7 +24,7 @@ use Rattle.ec_trace.specs.Spelling.{word_of, cell_word, act_words, reply_word, e
 use Rattle.ec_trace.specs.Spelled.{Named}
 use Rattle.ec_trace.specs.Heading.{head_step, is_no_line, words_step}
 use Rattle.ec_trace.specs.HeadingLaws.{LinesLead, outline_lines}
-use Rattle.ec_trace.proofs.Leads.{IsLine}
+use Rattle.ec_trace.specs.FirstFault.{IsLine}
 use Rattle.ec_trace.proofs.ReadNames.{HasBlock, has_block, block_by, named_by, name_lacks}
 use Rattle.ec_trace.proofs.ReadCells.{decimal_lacks}
 use Rattle.ec_trace.proofs.ReadEntries.{ActIsNamed, ReplyIsShort, IsSpellable}

@@ -17,3 +17,4 @@ pub mod Recounted
 pub mod Step
 pub mod Outcome
 pub mod ReadingLaws
+pub mod FirstFault

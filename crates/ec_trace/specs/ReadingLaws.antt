@@ -1,7 +1,9 @@
 -- Laws of reading: a trace is read as what it spells, and nothing else is read.
-use Rattle.std.specs.Prelude.{◌≡◌, ℕ, List, [], ◌++◌, Ok}
+use Rattle.std.specs.Prelude.{◌≡◌, ◌≤◌, ℕ, List, [], ◌++◌, Ok, length, reverse}
 use Rattle.ec_core.specs.declared.act.Entry.{Entry}
-use Rattle.ec_trace.specs.Outline.{Outline, headed}
+use Rattle.ec_core.specs.Acceptance.{IsAccepted}
+use Rattle.ec_trace.specs.Outline.{Outline, IsOutline, headed}
+use Rattle.ec_trace.specs.Spelling.{trace_text}
 use Rattle.ec_trace.specs.Grammar.{IsTrace}
 use Rattle.ec_trace.specs.Recounted.{Recounted}
 use Rattle.ec_trace.specs.declared.fault.TraceFault.{TraceFault}
@@ -40,3 +42,9 @@ TraceHasOneMeaning = (bytes : List ℕ) (o p : Outline) (es fs : List Entry) →
 -- no trace is a proper front of another
 abbrev pub NoTraceBeginsAnother : Type 0
 NoTraceBeginsAnother = (bytes more : List ℕ) (o p : Outline) (es fs : List Entry) → IsTrace bytes o es → IsTrace (bytes ++ more) p fs → more ≡ []
+
+-- the trace of an accepted history under a heading is read again as that heading and that history, where it is within
+-- the bound
+abbrev pub WrittenIsReadAgain : Type 0
+WrittenIsReadAgain = (o : Outline) (entries : List Entry) → IsOutline o → IsAccepted (headed o).setup (reverse entries) → length (trace_text o entries) ≤ TRACE_MAX
+    → outcome TRACE_MAX (trace_text o entries) ≡ Ok (record { heading = headed o; entries = entries })

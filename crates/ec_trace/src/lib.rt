@@ -28,7 +28,8 @@ pub use laws::{
 pub use progress::LINE_MAX;
 pub use read::{TRACE_MAX, read_trace};
 pub use reading_laws::{
-    no_trace_begins_another, read_is_trace, trace_has_one_meaning, trace_is_read,
+    fault_of_the_whole, line_fault_is_the_first, no_trace_begins_another, read_is_trace,
+    trace_has_one_meaning, trace_is_read, written_is_read_again,
 };
 pub use sort::Sort;
 pub use spell::Spellings;

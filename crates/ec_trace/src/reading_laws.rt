@@ -1,5 +1,6 @@
 //! Laws of reading. Each is the contract of a function that does nothing.
-ghost use Rattle.ec_trace.specs.ReadingLaws.{TraceIsRead, ReadIsTrace, TraceHasOneMeaning, NoTraceBeginsAnother};
+ghost use Rattle.ec_trace.specs.FirstFault.{LineFaultIsTheFirst, FaultOfTheWhole};
+ghost use Rattle.ec_trace.specs.ReadingLaws.{TraceIsRead, ReadIsTrace, TraceHasOneMeaning, NoTraceBeginsAnother, WrittenIsReadAgain};
 
 /// A trace is read as its heading and its history.
 #[tactic(auto, using(crate::proofs::ReadTraces::trace_is_read))]
@@ -23,4 +24,22 @@ pub fn trace_has_one_meaning()
 #[tactic(auto, using(crate::proofs::ReadTraces::no_trace_begins_another))]
 pub fn no_trace_begins_another()
     ensures { NoTraceBeginsAnother }
+{}
+
+/// The fault of a line is that of the first faulty line, up to the bound of a text.
+#[tactic(auto, using(crate::proofs::FirstFaults::line_fault_is_the_first))]
+pub fn line_fault_is_the_first()
+    ensures { LineFaultIsTheFirst }
+{}
+
+/// A text is too large where it has more bytes than the bound, and unfinished only where it has not.
+#[tactic(auto, using(crate::proofs::FirstFaults::fault_of_the_whole))]
+pub fn fault_of_the_whole()
+    ensures { FaultOfTheWhole }
+{}
+
+/// What `write_trace` writes of a run under a heading is read again as the same heading and the same run, where it is within the bound.
+#[tactic(auto, using(crate::proofs::ReadTraces::written_is_read))]
+pub fn written_is_read_again()
+    ensures { WrittenIsReadAgain }
 {}

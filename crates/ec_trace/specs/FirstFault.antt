@@ -1,0 +1,56 @@
+-- What a fault says of the text: which line is at fault, why, and that no line before it is.
+use Rattle.std.specs.Prelude.{◌≡◌, ◌≢◌, ◌⊎◌, ℕ, ◌+◌, ◌<◌, ◌≤◌, List, [], ◌∷◌, ◌++◌, length, take, true, Ok, Err}
+use Rattle.std.specs.List.{All, AllByRecursion}
+use Rattle.ec_trace.specs.declared.fault.LineFault.{LineFault}
+use Rattle.ec_trace.specs.declared.fault.LineFault.TheVariants.{Bad}
+use Rattle.ec_trace.specs.declared.fault.TraceFault.TheVariants.{TooLarge, Unfinished}
+use Rattle.ec_trace.specs.declared.stage.Stage.{Stage}
+use Rattle.ec_trace.specs.declared.stage.Stage.TheVariants.{Opening}
+use Rattle.ec_trace.specs.declared.read.TheConstants.{TRACE_MAX}
+use Rattle.ec_trace.specs.Spelling.{text_of}
+use Rattle.ec_trace.specs.Step.{step, is_ended}
+use Rattle.ec_trace.specs.Outcome.{numbered, outcome}
+
+-- a line, without its LF
+pub record IsLine (line : List ℕ) : Type 0 where
+  pub no_lf : All (λ b. b ≢ 10) line
+  pub short : length line ≤ 8192
+
+-- the lines lead from one stage to another
+abbrev pub Leads : Stage → List (List ℕ) → Stage → Type 0
+Leads s [] t = s ≡ t
+Leads s (line ∷ lines) t = (next : Stage) × (step s line ≡ Ok next) × Leads next lines t
+
+-- the line has more than 8192 bytes
+abbrev pub IsTooLong : List ℕ → LineFault → Type 0
+IsTooLong line fault = (8192 < length line) × (fault ≡ Bad)
+
+-- bytes without an LF stand behind the last line
+abbrev pub IsBehindTheEnd : Stage → List ℕ → List ℕ → LineFault → Type 0
+IsBehindTheEnd s line behind fault = (behind ≡ []) × (is_ended s ≡ true) × (0 < length line) × (fault ≡ Bad)
+
+-- an LF ends the line, and it is refused at its place
+abbrev pub IsRefusedThere : Stage → List ℕ → List ℕ → LineFault → Type 0
+IsRefusedThere s line behind fault = (more : List ℕ) × (behind ≡ 10 ∷ more) × (step s line ≡ Err fault)
+
+-- the first faulty line of a text: the lines before it are taken in turn, and it is at fault
+pub record IsFirstFault (text : List ℕ) (n : ℕ) (fault : LineFault) : Type 0 where
+  pub before : List (List ℕ)
+  pub stage : Stage
+  pub line : List ℕ
+  pub behind : List ℕ
+  pub whole : text ≡ text_of before ++ (line ++ behind)
+  pub number : length before + 1 ≡ n
+  pub each : AllByRecursion IsLine before
+  pub leads : Leads Opening before stage
+  pub no_lf : All (λ b. b ≢ 10) line
+  pub why : IsTooLong line fault ⊎ (IsBehindTheEnd stage line behind fault ⊎ IsRefusedThere stage line behind fault)
+
+-- the fault of a line is that of the first faulty line of the text, up to the bound
+abbrev pub LineFaultIsTheFirst : Type 0
+LineFaultIsTheFirst = (bytes : List ℕ) (n : ℕ) (fault : LineFault) → outcome TRACE_MAX bytes ≡ Err (numbered n fault) → IsFirstFault (take TRACE_MAX bytes) n fault
+
+-- a text is too large where it has more bytes than the bound, and unfinished only where it has not
+abbrev pub FaultOfTheWhole : Type 0
+FaultOfTheWhole = (bytes : List ℕ)
+    → (outcome TRACE_MAX bytes ≡ Err TooLarge → TRACE_MAX < length bytes) × (outcome TRACE_MAX bytes ≡ Err Unfinished → length bytes ≤ TRACE_MAX)
