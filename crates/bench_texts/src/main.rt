@@ -4,9 +4,8 @@
 
 use ec_trace::{read_trace, write_trace};
 use std::alloc::AllocError;
-use std::env;
-use std::io;
 use std::process::ExitCode;
+use std::{env, io};
 
 fn main(rt: HostRuntime) -> io::Result<ExitCode> {
     let args = env::args(&rt)?;
