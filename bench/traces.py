@@ -12,8 +12,9 @@ LONGEST = 64
 class Kernel:
     """Counts, tickets and calls under way, and the lines that steps on them write."""
 
-    def __init__(self, workers, events, sequencers):
-        """`events` has for each eventcount its signallers and its observers, `sequencers` the takers of each."""
+    def __init__(self, workers, events, sequencers, group=None):
+        """`events` has for each eventcount its signallers and its observers, `sequencers` the takers of each.
+        Where they are the objects of one group, `group` is its line."""
         self.workers = workers
         self.events = events
         self.sequencers = sequencers
@@ -24,12 +25,20 @@ class Kernel:
             for place, worker in enumerate(signal)
         }
         self.issued = dict.fromkeys(sequencers, 0)
+        self.group = group
+        self.cells = {}
+        self.told = {}
+        self.ended = {}
+        self.going = {}
+        self.audited = []
         self.calls = {}
         self.finished = 0
 
     def heading(self):
         """The lines before the first entry."""
         lines = ["evc-trace 1", f"limit {LIMIT}", "workers " + " ".join(self.workers)]
+        if self.group:
+            return "".join(line + "\n" for line in lines + [self.group, "run"])
         for event, (signal, observe) in self.events.items():
             lines.append(f"eventcount {event} signal {' '.join(signal)} observe {' '.join(observe)}")
         for sequencer, take in self.sequencers.items():
@@ -51,9 +60,20 @@ class Kernel:
         self.finished += 1
         return f"{worker} advance {event} = done\n"
 
+    def put(self, worker, cell, value):
+        self.cells[cell] = value
+        self.finished += 1
+        return f"{worker} put {cell} {value} = done\n"
+
+    def get(self, worker, cell):
+        self.told[worker] = self.cells.get(cell, 0)
+        self.finished += 1
+        return f"{worker} get {cell} = {self.told[worker]}\n"
+
     def ticket(self, worker, sequencer):
         number = self.issued[sequencer]
         self.issued[sequencer] = number + 1
+        self.told[worker] = number
         self.finished += 1
         return f"{worker} ticket {sequencer} = {number}\n"
 
@@ -77,7 +97,9 @@ class Kernel:
             self.calls[worker] = (event, threshold, 0, 0)
             return "pending"
         self.calls.pop(worker, None)
+        self.told[worker] = so_far
         self.finished += 1
+        self.ended[worker] = self.finished
         return so_far
 
 
@@ -122,13 +144,110 @@ def interleaved_kernel():
     return Kernel(workers, {"Events": (workers, workers)}, {})
 
 
+# Workers of groups. Each is a generator of what it asks for next: a function that makes the entry. What it was told
+# stands in `kernel.told` when it goes on. `kernel.audited` gets the lines that `audit` has to write, each behind its place.
+
+CELLS = 8
+
+
+def producer(kernel, worker, makers):
+    for item in range(10**9):
+        yield lambda: kernel.ticket(worker, "B.put")
+        turn = kernel.told[worker]
+        yield lambda: kernel.wait(worker, "B.in", turn)
+        yield lambda: kernel.wait(worker, "B.out", max(0, turn + 1 - CELLS))
+        makers[turn] = worker
+        yield lambda: kernel.put(worker, f"B[{turn % CELLS}]", item)
+        yield lambda: kernel.advance(worker, "B.in")
+
+
+def consumer(kernel, worker, makers):
+    while True:
+        yield lambda: kernel.ticket(worker, "B.take")
+        turn = kernel.told[worker]
+        yield lambda: kernel.wait(worker, "B.out", turn)
+        yield lambda: kernel.wait(worker, "B.in", turn + 1)
+        yield lambda: kernel.get(worker, f"B[{turn % CELLS}]")
+        kernel.audited.append((turn, f"delivery B {turn} {makers.pop(turn)} {worker} {kernel.told[worker]}"))
+        yield lambda: kernel.advance(worker, "B.out")
+
+
+def writer(kernel, worker):
+    for value in range(10**9):
+        yield lambda: kernel.advance(worker, "D.start")
+        yield lambda: kernel.ticket(worker, "D.turn")
+        turn = kernel.told[worker]
+        yield lambda: kernel.wait(worker, "D.done", turn)
+        for cell in range(CELLS):
+            yield lambda: kernel.put(worker, f"D[{cell}]", value)
+        yield lambda: kernel.advance(worker, "D.done")
+
+
+def reader(kernel, worker):
+    while True:
+        yield lambda: kernel.read(worker, "D.start")
+        version = kernel.told[worker]
+        yield lambda: kernel.wait(worker, "D.done", version)
+        values = []
+        for cell in range(CELLS):
+            yield lambda: kernel.get(worker, f"D[{cell}]")
+            values.append(kernel.told[worker])
+        yield lambda: kernel.read(worker, "D.start")
+        if kernel.told[worker] == version:
+            kernel.audited.append((kernel.ended[worker], f"version D {version} {worker} {' '.join(map(str, values))}"))
+
+
+def entry_of(kernel, workers, worker):
+    """The next entry of a worker, which goes on with what it is at."""
+    return kernel.go(worker) if worker in kernel.calls else next(workers[worker])()
+
+
+def buffer(kernel, draw):
+    alice, bob, carol, dave = kernel.workers
+    makers = {}
+    workers = {it: producer(kernel, it, makers) for it in (alice, bob)}
+    workers.update({it: consumer(kernel, it, makers) for it in (carol, dave)})
+    kernel.going = workers
+    while True:
+        yield entry_of(kernel, workers, draw(kernel.workers))
+
+
+def snapshots(kernel, draw):
+    alice, *readers = kernel.workers
+    workers = {it: reader(kernel, it) for it in readers}
+    workers[alice] = writer(kernel, alice)
+    kernel.going = workers
+    while True:
+        # (the writer seldom begins, and then hastens, so that many tries are accepted)
+        writes = kernel.total("D.start") > kernel.total("D.done")
+        yield entry_of(kernel, workers, draw([alice] * 3 + readers if writes else [alice] + readers * 20))
+
+
+def buffer_kernel():
+    workers = ["alice", "bob", "carol", "dave"]
+    makers, takers = workers[:2], workers[2:]
+    events = {"B.in": (makers, workers), "B.out": (takers, workers)}
+    group = f"buffer B {CELLS} produce {' '.join(makers)} consume {' '.join(takers)}"
+    return Kernel(workers, events, {"B.put": makers, "B.take": takers}, group)
+
+
+def snapshots_kernel():
+    workers = ["alice", "bob", "carol", "dave"]
+    alice, *readers = workers
+    events = {"D.start": ([alice], readers), "D.done": ([alice], workers)}
+    return Kernel(workers, events, {"D.turn": [alice]}, f"database D {CELLS} write {alice} read {' '.join(readers)}")
+
+
+# The kinds of traces for `audit`, in the same form as those below.
+AUDITED = {"buffer": (buffer_kernel, buffer), "snapshots": (snapshots_kernel, snapshots)}
+
 # The kinds of traces: the kernel of each, and what its workers do.
 KINDS = {"ordinary": (ordinary_kernel, ordinary), "interleaved": (interleaved_kernel, interleaved)}
 
 
 def write_trace(path, kind, size):
     """Writes a trace of at most `size` bytes, as many entries as fit, and gives the kernel at its end."""
-    make_kernel, entries = KINDS[kind]
+    make_kernel, entries = {**KINDS, **AUDITED}[kind]
     kernel = make_kernel()
     with open(path, "w", encoding="ascii", newline="\n") as file:
         written = file.write(kernel.heading())
@@ -137,4 +256,8 @@ def write_trace(path, kind, size):
             if written + LONGEST > size:
                 break
         file.write("end\n")
+    # (each worker takes in what its last call was told)
+    for worker, acts in kernel.going.items():
+        if worker not in kernel.calls:
+            next(acts)
     return kernel

@@ -2,11 +2,11 @@
 use Rattle.std.proofs.Common.{◌≡◌, ℕ, zero, suc, ◌+◌, ◌%◌, ◌<◌, ◌≤◌, Bool, true, false, not, ◌&&◌, ◌||◌, List, [], ◌∷◌, length, Option, Some, None, is_some, nat_le, nat_lt, unwrap_or, Ok, refl, ap, ◌∙◌, arith, add-one, subst, cond, slice_get, ◌==◌}
 use Rattle.std.specs.List.{position_from}
 use Rattle.std.specs.Option.{option_map, option_map_or}
-use Rattle.std.proofs.lemmas.Bool.{ltb-false, eqb-false, eqb-true, leb-false, leb-true}
+use Rattle.std.proofs.lemmas.Bool.{or_parts, ltb-false, eqb-false, eqb-true, leb-false, leb-true}
 use Rattle.std.proofs.lemmas.Nat.{mod_below}
 use Rattle.std.proofs.Math.Nat.{suc-mod, mod_self, mod-eq_of_lt}
-use Rattle.ec_count.specs.Tables.{Tables, IsDeclared, signallers, component_of, has_unsound}
-use Rattle.ec_count.specs.declared.setup.Rights.{Rights}
+use Rattle.ec_count.specs.Tables.{Tables, IsDeclared, signallers, component_of}
+use Rattle.ec_count.proofs.Declared.{few_signallers, some_signaller}
 use Rattle.ec_core.specs.declared.act.Act.{Act}
 use Rattle.ec_core.specs.declared.act.Act.TheVariants.{Advance, Read, Await, Go, Ticket, Put, Get}
 use Rattle.ec_core.specs.declared.act.Reply.{Reply}
@@ -30,31 +30,12 @@ place_within w (v ∷ ws) low c h =
       | false ↦ λ e. (let k : c < low + 1 + length ws = place_within w ws (low + 1) c e in omega arith)
     ] h
 
-neither : (a b : Bool) → (a || b) ≡ false → (a ≡ false) × (b ≡ false)
-neither true b h = cc
-neither false b h = (refl, h)
-
--- an eventcount has at most 16 signallers
-pub rows_few : (rows : List Rights) (e : ℕ) → has_unsound rows ≡ false → length (option_map_or (λ (r : Rights). r.signal) (slice_get rows e) []) ≤ 16
-rows_few [] e h = omega arith
-rows_few (r ∷ rows) zero h =
-    let k = neither (length r.signal == 0) (nat_lt 16 (length r.signal)) (neither _ _ h).0 in
-    omega (arith, ltb-false 16 (length r.signal) k.1)
-rows_few (r ∷ rows) (suc e) h = rows_few rows e (neither (length r.signal == 0 || nat_lt 16 (length r.signal)) _ h).1
-
--- and at least one, where it is declared
-pub rows_some : (rows : List Rights) (e : ℕ) → has_unsound rows ≡ false → e < length rows → 0 < length (option_map_or (λ (r : Rights). r.signal) (slice_get rows e) [])
-rows_some [] e h lt = absurd (omega arith)
-rows_some (r ∷ rows) zero h lt =
-    let k = neither (length r.signal == 0) (nat_lt 16 (length r.signal)) (neither _ _ h).0 in
-    omega (arith, eqb-false (length r.signal) 0 k.0)
-rows_some (r ∷ rows) (suc e) h lt = rows_some rows e (neither (length r.signal == 0 || nat_lt 16 (length r.signal)) _ h).1 (omega arith)
-
+-- an eventcount has at most 16 components, and at least one where it is declared
 pub width_few : (t : Tables) (e : ℕ) → IsDeclared t → width t e ≤ 16
-width_few t e d = rows_few t.events e d.sound
+width_few t e d = few_signallers t e d
 
 pub width_some : (t : Tables) (e : ℕ) → IsDeclared t → e < length t.events → 0 < width t e
-width_some t e d lt = rows_some t.events e d.sound lt
+width_some t e d lt = some_signaller t e d lt
 
 pub component_few : (t : Tables) (e w c : ℕ) → IsDeclared t → component_of t e w ≡ Some c → c < 16
 component_few t e w c d h = omega (arith, place_within w (signallers t e) 0 c h, width_few t e d)

@@ -1,7 +1,7 @@
 -- No count passes its limit, and no number that is told is above the greatest value.
 use Rattle.std.proofs.Common.{◌≡◌, ℕ, zero, suc, ◌+◌, ◌*◌, ◌^◌, ◌<◌, ◌≤◌, Bool, true, false, ◌&&◌, List, [], ◌∷◌, length, Option, Some, None, Ok, nat_le, refl, ap, arith, subst, cond, ◌==◌, ◌≢◌, unwrap_or}
 use Rattle.std.specs.Option.{option_map_or}
-use Rattle.std.proofs.lemmas.Bool.{eqb-true, eqb-false, ltb-false, leb-false}
+use Rattle.std.proofs.lemmas.Bool.{and_parts, eqb-true, eqb-false, ltb-false, leb-false}
 use Rattle.std.proofs.lemmas.Nat.{mod_below}
 use Rattle.ec_count.specs.Tables.{Tables, IsDeclared}
 use Rattle.ec_core.specs.declared.act.Act.{Act}
@@ -24,10 +24,6 @@ grown : (b : Bool) (n limit : ℕ) → (b ≡ true → (n == limit) ≡ false) �
 grown true n limit h le = (let other : n ≢ limit = eqb-false n limit (h refl) in omega arith)
 grown false n limit h le = omega arith
 
-both : (a b : Bool) → (a && b) ≡ true → (a ≡ true) × (b ≡ true)
-both true b h = (refl, h)
-both false b h = cc
-
 place_is : (c : ℕ) (o : Option ℕ) → is_place c o ≡ true → o ≡ Some c
 place_is c None h = cc
 place_is c (Some d) h = ap Some (eqb-true d c h)
@@ -36,7 +32,7 @@ place_is c (Some d) h = ap Some (eqb-true d c h)
 advance_below : (t : Tables) (past : List Entry) (w e c : ℕ) (act : Act) → (is_advance e act && is_place c (component_at t e past w)) ≡ true
     → is_at_limit t past w act ≡ false → (component_total t e c past == t.limit) ≡ false
 advance_below t past w e c (Advance f) h room =
-    let k = both (f == e) (is_place c (component_at t e past w)) h in
+    let k = and_parts (f == e) (is_place c (component_at t e past w)) h in
     let same : f ≡ e = eqb-true f e k.0 in
     let P : ℕ → Type 0 = λ g. option_map_or (λ d. component_total t g d past == t.limit) (component_at t g past w) false ≡ false in
     let Q : Option ℕ → Type 0 = λ o. option_map_or (λ d. component_total t e d past == t.limit) o false ≡ false in

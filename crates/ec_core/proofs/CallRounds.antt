@@ -3,7 +3,7 @@ use Rattle.std.proofs.Common.{◌≡◌, ℕ, zero, suc, ◌+◌, ◌-◌, ◌%�
 use Rattle.std.proofs.Math.Nat.{mod-le}
 use Rattle.std.proofs.lemmas.Bool.{leb-true, leb-false}
 use Rattle.std.proofs.lemmas.Nat.{mod_below}
-use Rattle.std.proofs.lemmas.List.{reverse-append, reverse-reverse, length-reverse}
+use Rattle.std.proofs.lemmas.List.{reverse-append, reverse-reverse, length-reverse, length-take-le}
 use Rattle.std.proofs.Math.Seq.{take-append_seam}
 use Rattle.ec_count.specs.Tables.{Tables}
 use Rattle.ec_core.specs.declared.act.Act.{Act}
@@ -73,11 +73,6 @@ sum_taken t e zero ps = refl
 sum_taken t e (suc n) [] = refl
 sum_taken t e (suc n) (p ∷ ps) = (let rest = sum_taken t e n ps in cc)
 
-taken : {X : Type 0} (xs : List X) (n : ℕ) → n ≤ length xs → length (take n xs) ≡ n
-taken xs zero h = refl
-taken [] (suc n) h = absurd (omega arith)
-taken (x ∷ xs) (suc n) h = (let rest : length (take n xs) ≡ n = taken xs n (omega arith) in omega arith)
-
 -- a past of a history is the one at the moment that its length says
 pub past_by_length : (h : List Entry) (p : List Entry) → IsPastOf p (reverse h) → past_at (length p) h ≡ p
 past_by_length h p is =
@@ -117,7 +112,7 @@ round_of t e late (p ∷ ps) h acc is each stacked some more whole =
     let low : IsPastOfEach early (take n (p ∷ ps)) = subst Low next (stack_low (p ∷ ps) (n - 1) stacked within) in
     let early_is : IsPastOf early (reverse h) = past_of_past early late (reverse h) (each_at (p ∷ ps) (n - 1) late each within) is in
     let at : past_at (round_start t e (p ∷ ps)) h ≡ early = ap (λ i. past_at (length (get_or (p ∷ ps) i [])) h) start ∙ past_by_length h early early_is in
-    let between = round_between t e early late (take n (p ∷ ps)) (accepted_of t h early acc early_is) (accepted_of t h late acc is) (taken (p ∷ ps) n k.1) low (each_taken (p ∷ ps) n late each) in
+    let between = round_between t e early late (take n (p ∷ ps)) (accepted_of t h early acc early_is) (accepted_of t h late acc is) (length-take-le n (p ∷ ps) k.1) low (each_taken (p ∷ ps) n late each) in
     let sum : sum_read t e n (take n (p ∷ ps)) ≡ round_sum t e (p ∷ ps) = sum_taken t e n (p ∷ ps) in
     (rw (at, ← sum) between.0, rw (← sum) between.1)
 

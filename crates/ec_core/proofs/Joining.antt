@@ -1,6 +1,7 @@
 -- Where the entries of a list in segments stand.
-use Rattle.std.proofs.Common.{◌≡◌, ℕ, zero, suc, ◌+◌, ◌*◌, ◌<◌, ◌≤◌, ◌^◌, IfSome, List, [], ◌∷◌, ◌++◌, length, drop, All, Option, Some, None, refl, ap, sym, ◌∙◌, arith, slice_get, append_assoc, length-append}
+use Rattle.std.proofs.Common.{◌≡◌, ℕ, zero, suc, ◌+◌, ◌*◌, ◌<◌, ◌≤◌, ◌^◌, IfSome, List, [], ◌∷◌, ◌++◌, length, drop, All, Option, Some, None, refl, ap, sym, ◌∙◌, arith, slice_get, append_assoc, length-append, ◌⊎◌, inl, inr}
 use Rattle.std.specs.List.{flat_map}
+use Rattle.std.proofs.lemmas.List.Elements.{All-head, All-tail}
 use Rattle.std.proofs.lemmas.Option.{slice_get_within}
 
 get_front : {X : Type 0} (xs ys : List X) (i : ℕ) → i < length xs → slice_get (xs ++ ys) i ≡ slice_get xs i
@@ -8,39 +9,44 @@ get_front [] ys i h = absurd (omega arith)
 get_front (x ∷ xs) ys zero h = refl
 get_front (x ∷ xs) ys (suc i) h = get_front xs ys i (omega arith)
 
-get_back : {X : Type 0} (xs ys : List X) (i j : ℕ) → i ≡ length xs + j → slice_get (xs ++ ys) i ≡ slice_get ys j
+pub get_back : {X : Type 0} (xs ys : List X) (i j : ℕ) → i ≡ length xs + j → slice_get (xs ++ ys) i ≡ slice_get ys j
 get_back [] ys i j h = (let same : i ≡ j = omega arith in ap (slice_get ys) same)
 get_back (x ∷ xs) ys zero j h = absurd (omega arith)
 get_back (x ∷ xs) ys (suc i) j h = get_back xs ys i j (omega arith)
 
-first_of_all : {V : Type 0} (P : V → Type 0) (v : V) (vs : List V) → All P (v ∷ vs) → P v
-first_of_all P v vs h = h 0 v (omega arith)
-
-rest_of_all : {V : Type 0} (P : V → Type 0) (v : V) (vs : List V) → All P (v ∷ vs) → All P vs
-rest_of_all P v vs h = λ k d lt. h (suc k) d (omega arith)
+-- what stands at a place of a list with one more at its end
+pub last_get : {X : Type 0} (xs : List X) (y c : X) (i : ℕ) → slice_get (xs ++ y ∷ []) i ≡ Some c → ((slice_get xs i ≡ Some c) × (i < length xs)) ⊎ ((i ≡ length xs) × (y ≡ c))
+last_get [] y c zero h = inr (refl, cc)
+last_get [] y c (suc i) h = cc
+last_get (x ∷ xs) y c zero h = inl (h, omega arith)
+last_get (x ∷ xs) y c (suc i) h =
+    elim (last_get xs y c i h) [
+      | inl k ↦ (let lt : i < length xs = k.1 in inl (k.0, omega arith))
+      | inr k ↦ (let same : i ≡ length xs = k.0 in inr (omega arith, k.1))
+    ]
 
 -- entry q * n + r of the segments, which have n each, is entry r of segment q
 pub get_joined : {V X : Type 0} (f : V → List X) (n : ℕ) (full : List V) (last : List X) (q r i : ℕ) (v : V) → All (λ u. length (f u) ≡ n) full
     → slice_get full q ≡ Some v → r < n → i ≡ q * n + r → slice_get (flat_map f full ++ last) i ≡ slice_get (f v) r
 get_joined f n [] last q r i v all at lt is = cc
 get_joined {V} {X} f n (u ∷ us) last zero r i v all at lt is =
-    let long : length (f u) ≡ n = first_of_all (λ (w : V). length (f w) ≡ n) u us all in
+    let long : length (f u) ≡ n = All-head (λ (w : V). length (f w) ≡ n) u us all in
     let here : i ≡ r = omega arith in
     let same : u ≡ v = cc in
     ap (λ xs. slice_get xs i) (append_assoc (f u) (flat_map f us) last) ∙ get_front (f u) (flat_map f us ++ last) i (omega arith)
     ∙ ap (λ w. slice_get (f w) i) same ∙ ap (slice_get (f v)) here
 get_joined {V} {X} f n (u ∷ us) last (suc q) r i v all at lt is =
-    let long : length (f u) ≡ n = first_of_all (λ (w : V). length (f w) ≡ n) u us all in
+    let long : length (f u) ≡ n = All-head (λ (w : V). length (f w) ≡ n) u us all in
     let here : i ≡ length (f u) + (q * n + r) = omega arith in
     ap (λ xs. slice_get xs i) (append_assoc (f u) (flat_map f us) last) ∙ get_back (f u) (flat_map f us ++ last) i (q * n + r) here
-    ∙ get_joined f n us last q r (q * n + r) v (rest_of_all (λ (w : V). length (f w) ≡ n) u us all) at lt refl
+    ∙ get_joined f n us last q r (q * n + r) v (All-tail (λ (w : V). length (f w) ≡ n) u us all) at lt refl
 
 pub length_joined : {V X : Type 0} (f : V → List X) (n : ℕ) (full : List V) (last : List X) → All (λ u. length (f u) ≡ n) full
     → length (flat_map f full ++ last) ≡ length full * n + length last
 length_joined f n [] last all = omega arith
 length_joined {V} f n (u ∷ us) last all =
-    let long : length (f u) ≡ n = first_of_all (λ (w : V). length (f w) ≡ n) u us all in
-    let rest : length (flat_map f us ++ last) ≡ length us * n + length last = length_joined f n us last (rest_of_all (λ (w : V). length (f w) ≡ n) u us all) in
+    let long : length (f u) ≡ n = All-head (λ (w : V). length (f w) ≡ n) u us all in
+    let rest : length (flat_map f us ++ last) ≡ length us * n + length last = length_joined f n us last (All-tail (λ (w : V). length (f w) ≡ n) u us all) in
     ap length (append_assoc (f u) (flat_map f us) last) ∙ length-append (f u) (flat_map f us ++ last) ∙ omega arith
 
 -- what stands past the full segments is in the last

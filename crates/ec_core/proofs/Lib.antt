@@ -9,3 +9,13 @@ pub mod Bounds
 pub mod Joining
 pub mod Counting
 pub mod CallRounds
+pub mod Following
+pub mod Queue
+pub mod Reading
+pub mod Scans
+pub mod ReplyKinds
+pub mod FittingCalls
+pub mod JoinedLists
+pub mod Breaks
+pub mod WrittenLists
+pub mod CallsCut

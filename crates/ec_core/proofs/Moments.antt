@@ -1,5 +1,6 @@
 -- Each entry of an accepted history is right at its own moment.
 use Rattle.std.proofs.Common.{◌≡◌, ℕ, zero, suc, List, [], ◌∷◌, ◌++◌, Option, Some, None, Ok, length, refl, ap, sym, ◌∙◌, subst, reverse, take, drop, slice_get, append_assoc}
+use Rattle.std.proofs.Math.Seq.{take-length}
 use Rattle.std.proofs.lemmas.List.{reverse-append, take-append-drop}
 use Rattle.ec_count.specs.Tables.{Tables}
 use Rattle.ec_core.specs.declared.act.Entry.{Entry}
@@ -24,10 +25,6 @@ take_end [] zero h = refl
 take_end [] (suc k) h = refl
 take_end (y ∷ ys) zero h = cc
 take_end (y ∷ ys) (suc k) h = ap (λ zs. y ∷ zs) (take_end ys k h)
-
-take_all : (h : List Entry) → take (length h) h ≡ h
-take_all [] = refl
-take_all (y ∷ ys) = ap (λ zs. y ∷ zs) (take_all ys)
 
 -- the past at the next moment has the entry before it
 pub past_next : (h : List Entry) (k : ℕ) (x : Entry) → slice_get h k ≡ Some x → past_at (suc k) h ≡ x ∷ past_at k h
@@ -88,5 +85,5 @@ accepted_from t h right (suc k) = next_accepted t h k (slice_get h k) refl (righ
 pub accepted_means : AcceptedMeansAnswered
 accepted_means t h = (
   λ acc k x at. accepted_at t h k x acc at,
-  λ right. subst (λ l. IsAccepted t (reverse l)) (take_all h) (accepted_from t h right (length h)),
+  λ right. subst (λ l. IsAccepted t (reverse l)) (take-length h) (accepted_from t h right (length h)),
 )

@@ -2,6 +2,7 @@
 use Rattle.std.proofs.Common.{◌≡◌, ℕ, zero, suc, ◌+◌, ◌%◌, Bool, true, false, not, ◌&&◌, ◌||◌, List, [], ◌∷◌, ◌++◌, length, reverse, take, subst, All, Option, Some, None, is_some, unwrap_or, nat_le, Ok, arith, refl, ap, sym, ◌∙◌, cond, ◌==◌, map}
 use Rattle.std.specs.Option.{option_map, option_map_or}
 use Rattle.std.proofs.lemmas.Bool.{eqb-true}
+use Rattle.std.proofs.Math.Bool.{and-false}
 use Rattle.std.proofs.Math.Nat.{zero-add}
 use Rattle.std.proofs.lemmas.List.{length-map, reverse-append, append-nil}
 use Rattle.std.proofs.lemmas.List.Elements.{filter-append}
@@ -22,17 +23,13 @@ use Rattle.ec_core.specs.Laws.{OthersStand}
 use Rattle.ec_core.proofs.Answering.{allowed}
 use Rattle.ec_core.proofs.Moments.{accepted_until, answered_after, split_at}
 
-never : (b : Bool) → (b && false) ≡ false
-never true = refl
-never false = refl
-
 comp_without : (t : Tables) (s : ℕ → Bool) (e c : ℕ) (past : List Entry) → ((w : ℕ) → s w ≡ true → HasNoRight t w) → component_total t e c (without s past) ≡ component_total t e c past
 unfolding component_total
 comp_without t s e c [] silent = refl
 comp_without t s e c (x ∷ past) silent =
     elim (s x.worker) as (λ b. s x.worker ≡ b → component_total t e c (cond (not b) (x ∷ without s past) (without s past)) ≡ cond (is_advance e x.act && is_place c (component_at t e past x.worker)) 1 0 + component_total t e c past) [
       | true ↦ λ h.
-          (let off : (is_advance e x.act && is_place c (component_at t e past x.worker)) ≡ false = ap (λ o. is_advance e x.act && is_place c o) ((silent x.worker h).signals e) ∙ never (is_advance e x.act) in
+          (let off : (is_advance e x.act && is_place c (component_at t e past x.worker)) ≡ false = ap (λ o. is_advance e x.act && is_place c o) ((silent x.worker h).signals e) ∙ and-false (is_advance e x.act) in
           comp_without t s e c past silent ∙ sym (zero-add (component_total t e c past)) ∙ ap (λ b. cond b 1 0 + component_total t e c past) (sym off))
       | false ↦ λ h. ap (λ n. cond (is_advance e x.act && is_place c (component_at t e past x.worker)) 1 0 + n) (comp_without t s e c past silent)
     ] refl

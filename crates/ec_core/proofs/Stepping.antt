@@ -3,8 +3,9 @@ use Rattle.std.proofs.Common.{◌≡◌, ℕ, ◌+◌, ◌%◌, ◌<◌, Bool, t
 use Rattle.std.proofs.lemmas.List.{reverse-append}
 use Rattle.std.specs.Option.{option_map, option_map_or, option_and_then}
 use Rattle.std.proofs.lemmas.Option.{slice_get_within, get_or_from_slice_get}
-use Rattle.std.proofs.lemmas.Bool.{eqb-true, leb-false}
+use Rattle.std.proofs.lemmas.Bool.{and_parts, eqb-true, leb-false}
 use Rattle.std.proofs.lemmas.Nat.{mod_below}
+use Rattle.std.proofs.Math.Bool.{and-false}
 use Rattle.std.proofs.Math.Nat.{zero-mod, zero-add}
 use Rattle.ec_count.specs.Tables.{Tables, IsDeclared, component_of}
 use Rattle.ec_count.specs.Counted.{Counted, raised}
@@ -137,20 +138,12 @@ none_of : (o : Option CallSoFar) → (is_some o && true) ≡ false → o ≡ Non
 none_of None h = refl
 none_of (Some call) h = cc
 
-both : (a b : Bool) → (a && b) ≡ true → (a ≡ true) × (b ≡ true)
-both true b h = (refl, h)
-both false b h = cc
-
 same_place : (t : Tables) (e p q w : ℕ) (o : Option ℕ) → component_of t e w ≡ o → ((e == p) && is_place q (component_of t p w)) ≡ ((e == p) && is_place q o)
 same_place t e p q w o h =
     elim (e == p) as (λ b. (e == p) ≡ b → (b && is_place q (component_of t p w)) ≡ (b && is_place q o)) [
       | true ↦ λ k. (let same : e ≡ p = eqb-true e p k in ap (is_place q) (ap (λ v. component_of t v w) (sym same) ∙ h))
       | false ↦ λ k. refl
     ] refl
-
-never : (b : Bool) → (b && false) ≡ false
-never true = refl
-never false = refl
 
 abbrev entry : ℕ → Act → Reply → Entry
 entry w act reply = record { worker = w; act = act; reply = reply }
@@ -163,7 +156,7 @@ advance_stands s past w e st h free None is room = record {
   declared = st.declared;
   accepted = (h, st.accepted);
   counts = λ p q lp lq.
-      (let off : ((e == p) && is_place q (component_of s.setup p w)) ≡ false = same_place s.setup e p q w None is ∙ never (e == p) in
+      (let off : ((e == p) && is_place q (component_of s.setup p w)) ≡ false = same_place s.setup e p q w None is ∙ and-false (e == p) in
       st.counts p q lp lq ∙ ap (λ v. (let x : Counted = record { value = v; limit = s.setup.limit } in Some x))
       (let zero_more : component_total s.setup p q past ≡ 0 + component_total s.setup p q past = omega arith in
       zero_more ∙ ap (λ b. cond b 1 0 + component_total s.setup p q past) (sym off)));
@@ -178,7 +171,7 @@ advance_stands s past w e st h free (Some c) is room = record {
       (count_changed raised s.counts e c p q
       ∙ ap (λ o. cond ((e == p) && (c == q)) (option_map raised o) o) (st.counts p q lp lq)
       ∙ counted ((e == p) && (c == q)) (component_total s.setup p q past) s.setup.limit
-      (λ k. (let two : ((e == p) ≡ true) × ((c == q) ≡ true) = both (e == p) (c == q) k in
+      (λ k. (let two : ((e == p) ≡ true) × ((c == q) ≡ true) = and_parts (e == p) (c == q) k in
       let se : e ≡ p = eqb-true e p two.0 in
       let sc : c ≡ q = eqb-true c q two.1 in
       ap (λ v. component_total s.setup v q past == s.setup.limit) (sym se) ∙ ap (λ v. component_total s.setup e v past == s.setup.limit) (sym sc) ∙ room))

@@ -24,7 +24,7 @@ one_at (suc n) f d h =
     rw (off, rest) (omega arith)
 
 -- one more at one place is one more in all
-one_more : (n : ℕ) (f : ℕ → ℕ) (d : ℕ) → d < n → sum_to (λ c. cond (d == c) 1 0 + f c) n ≡ 1 + sum_to f n
+pub one_more : (n : ℕ) (f : ℕ → ℕ) (d : ℕ) → d < n → sum_to (λ c. cond (d == c) 1 0 + f c) n ≡ 1 + sum_to f n
 unfolding sum_to
 one_more zero f d h = absurd (omega arith)
 one_more (suc n) f d h =
@@ -41,7 +41,7 @@ same_sum zero f = refl
 same_sum (suc n) f = (let rest : sum_to (λ c. 0 + f c) n ≡ 0 + sum_to f n = same_sum n f in omega arith)
 
 -- the components whose counts an entry raises
-raised_sum : (b : Bool) (o : Option ℕ) (n : ℕ) (f : ℕ → ℕ) → (b ≡ true → (d : ℕ) × (o ≡ Some d) × (d < n))
+pub raised_sum : (b : Bool) (o : Option ℕ) (n : ℕ) (f : ℕ → ℕ) → (b ≡ true → (d : ℕ) × (o ≡ Some d) × (d < n))
     → sum_to (λ c. cond (b && is_place c o) 1 0 + f c) n ≡ cond b 1 0 + sum_to f n
 raised_sum true o n f h =
     let k = h refl in
@@ -68,7 +68,8 @@ advance_place t past w e (Ticket q) right is = cc
 advance_place t past w e (Put x v) right is = cc
 advance_place t past w e (Get x) right is = cc
 
-zeros : (n : ℕ) → sum_to (λ c. 0) n ≡ 0
+-- so many times 0
+pub zeros : (n : ℕ) → sum_to (λ c. 0) n ≡ 0
 unfolding sum_to
 zeros zero = refl
 zeros (suc n) = (let rest : sum_to (λ c. 0) n ≡ 0 = zeros n in omega arith)
@@ -101,14 +102,15 @@ sum_low t e (suc n) early (p ∷ moments) len h =
     let rest : sum_to (λ c. component_total t e c early) n ≤ sum_read t e n moments = sum_low t e n early moments (omega arith) h.1 in
     omega arith)
 
-sum_high : (t : Tables) (e n : ℕ) (late : List Entry) (moments : List (List Entry)) → length moments ≡ n → EachIsPastOf moments late
+-- the components read at some moments are no more than those at a later one
+pub sum_high : (t : Tables) (e n : ℕ) (late : List Entry) (moments : List (List Entry)) → EachIsPastOf moments late
     → sum_read t e n moments ≤ sum_to (λ c. component_total t e c late) n
 unfolding sum_read sum_to
-sum_high t e zero late moments len h = omega arith
-sum_high t e (suc n) late [] len h = absurd (omega arith)
-sum_high t e (suc n) late (p ∷ moments) len h =
+sum_high t e zero late moments h = omega arith
+sum_high t e (suc n) late [] h = omega arith
+sum_high t e (suc n) late (p ∷ moments) h =
     (let here : component_total t e n p ≤ component_total t e n late = comp_later t e n p late h.0 in
-    let rest : sum_read t e n moments ≤ sum_to (λ c. component_total t e c late) n = sum_high t e n late moments (omega arith) h.1 in
+    let rest : sum_read t e n moments ≤ sum_to (λ c. component_total t e c late) n = sum_high t e n late moments h.1 in
     omega arith)
 
 -- the sum of a whole round is at least the total before it and at most the total after it
@@ -117,14 +119,14 @@ pub round_between : (t : Tables) (e : ℕ) (early late : List Entry) (moments : 
     → (total e early ≤ sum_read t e (width t e) moments) × (sum_read t e (width t e) moments ≤ total e late)
 round_between t e early late moments a b len low high =
     (let l : sum_to (λ c. component_total t e c early) (width t e) ≤ sum_read t e (width t e) moments = sum_low t e (width t e) early moments len low in
-    let h : sum_read t e (width t e) moments ≤ sum_to (λ c. component_total t e c late) (width t e) = sum_high t e (width t e) late moments len high in
+    let h : sum_read t e (width t e) moments ≤ sum_to (λ c. component_total t e c late) (width t e) = sum_high t e (width t e) late moments high in
     (rw (← total_is t e early a) l, rw (← total_is t e late b) h))
 
 pub sum_to_next : (f : ℕ → ℕ) (n : ℕ) → sum_to f (n + 1) ≡ f n + sum_to f n
 unfolding sum_to
 sum_to_next f n = rw add-one refl
 
-sum_same : (n : ℕ) (f g : ℕ → ℕ) → ((c : ℕ) → c < n → f c ≡ g c) → sum_to f n ≡ sum_to g n
+pub sum_same : (n : ℕ) (f g : ℕ → ℕ) → ((c : ℕ) → c < n → f c ≡ g c) → sum_to f n ≡ sum_to g n
 unfolding sum_to
 sum_same zero f g h = refl
 sum_same (suc n) f g h =

@@ -1,15 +1,17 @@
 -- What the definitions mean, in order of time: moment k is that after the first k entries of a history h.
-use Rattle.std.specs.Prelude.{◌≡◌, ◌↔◌, ℕ, ◌+◌, ◌%◌, ◌≤◌, ◌⊎◌, Bool, true, false, List, length, reverse, take, Some, Ok, slice_get, count_by}
+use Rattle.std.specs.Prelude.{◌≡◌, ◌↔◌, ℕ, ◌+◌, ◌-◌, ◌%◌, ◌<◌, ◌≤◌, ◌⊎◌, Bool, true, false, List, [], length, reverse, take, Some, Ok, slice_get, slice_index_or, count_by}
 use Rattle.ec_count.specs.Tables.{Tables, IsDeclared, is_silent}
 use Rattle.ec_core.specs.declared.act.Entry.{Entry}
 use Rattle.ec_core.specs.declared.act.TheConstants.{VALUE_MAX}
 use Rattle.ec_core.specs.Counts.{past_at, total, component_total, issued, cell_value, is_advance, is_ticket, sum_to}
 use Rattle.ec_core.specs.InOrder.{advances_at, IsLastPut, IsUntouched}
-use Rattle.ec_core.specs.Calls.{CallSoFar, call_with}
+use Rattle.ec_core.specs.Calls.{CallSoFar, call_with, under_way}
+use Rattle.ec_core.specs.CallsInOrder.{IsUnderWay}
 use Rattle.ec_core.specs.Rounds.{width, sum_read, round_sum, round_start, read_of, IsPastOfEach, EachIsPastOf}
 use Rattle.ec_core.specs.Acceptance.{answer_of, IsAccepted}
 use Rattle.ec_core.specs.Silence.{without}
 use Rattle.ec_core.specs.Values.{TellsAtMost}
+use Rattle.ec_core.specs.Procedures.{IsReply}
 
 -- the total of e at moment k is the number of advances of e among the first k entries
 abbrev pub TotalsCountAdvances : Type 0
@@ -26,6 +28,21 @@ IssuedCountsTickets = (q k : ℕ) (h : List Entry) → issued q (past_at k h) �
 -- a cell holds the value last put into it, and 0 where none was
 abbrev pub CellsHoldTheLastPut : Type 0
 CellsHoldTheLastPut = (x k : ℕ) (h : List Entry) → IsLastPut x h k (cell_value x (past_at k h)) ⊎ IsUntouched x h k (cell_value x (past_at k h))
+
+-- a call of w is under way at moment k exactly where one is that began, went on and has not ended
+abbrev pub CallsUnderWayAreCutInOrder : Type 0
+CallsUnderWayAreCutInOrder = (w k : ℕ) (h : List Entry) (call : CallSoFar) → (under_way w (past_at k h) ≡ Some call) ↔ IsUnderWay w h k call
+
+-- in an accepted history it is a read or an await of a declared eventcount
+abbrev pub CallsUnderWayRead : Type 0
+CallsUnderWayRead = (t : Tables) (w k : ℕ) (h : List Entry) (call : CallSoFar) → IsAccepted t (reverse h) → under_way w (past_at k h) ≡ Some call
+    → (e : ℕ) × (read_of call.op ≡ Some e) × (e < length t.events)
+
+-- the sum of components 0 to n - 1, read at the newest n of a call's moments: component c as it was at its own moment,
+-- n - 1 - c before the newest
+abbrev pub RoundsAddTheirComponents : Type 0
+RoundsAddTheirComponents = (t : Tables) (e n : ℕ) (moments : List (List Entry)) → n ≤ length moments
+    → sum_read t e n moments ≡ sum_to (λ c. component_total t e c (slice_index_or moments (n - 1 - c) [])) n
 
 -- the components of an eventcount add up to its total
 abbrev pub ComponentsAddUp : Type 0
@@ -67,6 +84,11 @@ AcceptedMeansAnswered = (t : Tables) (h : List Entry)
 abbrev pub NumbersAreSmall : Type 0
 NumbersAreSmall = (t : Tables) (h : List Entry) (k : ℕ) (x : Entry) → IsDeclared t → IsAccepted t (reverse h) → slice_get h k ≡ Some x
     → TellsAtMost VALUE_MAX x.reply
+
+-- each reply in an accepted history is of a kind that its act can get
+abbrev pub RepliesFitTheirActs : Type 0
+RepliesFitTheirActs = (t : Tables) (h : List Entry) (k : ℕ) (x : Entry) → IsDeclared t → IsAccepted t (reverse h) → slice_get h k ≡ Some x
+    → IsReply x.act x.reply
 
 -- an accepted history without some silent workers is accepted, and each entry that is kept is, at the moment that it
 -- then has, the answer to its act

@@ -12,4 +12,12 @@ pub mod Faults
 pub mod Refusals
 pub mod Values
 pub mod InOrder
+pub mod CallsInOrder
 pub mod Laws
+pub mod FollowingLaws
+pub mod Following
+pub mod CallLists
+pub mod Procedures
+pub mod JoinedLists
+pub mod Scanning
+pub mod Audits

@@ -1,5 +1,5 @@
 //! What the definitions mean, in order of time: each function says a law and does nothing.
-ghost use Rattle.ec_core.specs.Laws.{TotalsCountAdvances, ComponentsCountAdvances, IssuedCountsTickets, CellsHoldTheLastPut, ComponentsAddUp, TotalsRiseByOne, CountsKeepTheLimit, RoundsLieBetween, RoundsOfCallsLieBetween, BeginningsAreAccepted, AcceptedMeansAnswered, NumbersAreSmall, OthersStand};
+ghost use Rattle.ec_core.specs.Laws.{TotalsCountAdvances, ComponentsCountAdvances, IssuedCountsTickets, CellsHoldTheLastPut, CallsUnderWayAreCutInOrder, CallsUnderWayRead, RoundsAddTheirComponents, ComponentsAddUp, TotalsRiseByOne, CountsKeepTheLimit, RoundsLieBetween, RoundsOfCallsLieBetween, BeginningsAreAccepted, AcceptedMeansAnswered, NumbersAreSmall, RepliesFitTheirActs, OthersStand};
 
 /// The total of an eventcount at a moment is the number of its advances before it (Reed and
 /// Kanodia's value).
@@ -21,6 +21,22 @@ pub fn issued_counts_tickets()
 /// A cell holds the value last put into it, and 0 where none was.
 pub fn cells_hold_the_last_put()
     ensures { CellsHoldTheLastPut }
+{}
+
+/// A call is under way exactly where the worker's entries, from one that is no go on, are goes behind
+/// it, each told Pending.
+pub fn calls_under_way_are_cut_in_order()
+    ensures { CallsUnderWayAreCutInOrder }
+{}
+
+/// In an accepted history a call under way is a read or an await of a declared eventcount.
+pub fn calls_under_way_read()
+    ensures { CallsUnderWayRead }
+{}
+
+/// The sum of a round adds each component as it was at its own moment.
+pub fn rounds_add_their_components()
+    ensures { RoundsAddTheirComponents }
 {}
 
 /// The components of an eventcount add up to its total.
@@ -63,6 +79,12 @@ pub fn accepted_means_answered()
 /// No number in an accepted history is above the greatest value.
 pub fn numbers_are_small()
     ensures { NumbersAreSmall }
+{}
+
+/// Each reply in an accepted history is of a kind that its act can get, with a number of at most the
+/// greatest value.
+pub fn replies_fit_their_acts()
+    ensures { RepliesFitTheirActs }
 {}
 
 /// An accepted history without some silent workers is accepted, and what the others were told

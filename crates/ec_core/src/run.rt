@@ -4,19 +4,23 @@ ghost use Rattle.ec_count.specs.Tables.{IsDeclared};
 ghost use Rattle.ec_core.specs.Acceptance.{answer_of, IsAccepted};
 ghost use Rattle.ec_core.specs.Standing.{StandsFor};
 ghost use Rattle.ec_core.specs.Values.{TellsAtMost};
+ghost use Rattle.ec_core.specs.Procedures.{IsReply};
 
 use crate::segments::Segments;
 use crate::{Act, Entries, Entry, Refusal, Reply, VALUE_MAX, World};
 use ec_count::{Setup, WorkerId};
 use std::alloc::{AllocError, Global};
 use std::marker::Model;
+use thiserror::Error;
 
 /// Why a run made no step. After either everything is as before.
-#[derive(Clone, Copy, Debug, PartialEq, Eq)]
+#[derive(Clone, Copy, Debug, PartialEq, Eq, Error)]
 pub enum StepFault {
     /// The step is refused.
+    #[error("the step is refused: {0}")]
     Refused(Refusal),
     /// The step is right, and there was no memory for its entry.
+    #[error("there was no memory for the step's entry")]
     Memory,
 }
 
@@ -136,6 +140,7 @@ impl Run {
             (λ fault. IsFaultOf fault (answer_of self.old.setup (reverse self.old.entries) worker act)) }
         ensures ok { IfOk result (λ reply. self.new ≡ record self.old { entries = self.old.entries ++ record { worker = worker; act = act; reply = reply } ∷ [] }) }
         ensures small { IfOk result (TellsAtMost VALUE_MAX) }
+        ensures kind { IfOk result (IsReply act) }
         ensures err { OnErr result (self.new ≡ self.old) }
     {
         let reply = match self.world.answer(worker, &act) {

@@ -6,6 +6,7 @@ ghost use Rattle.ec_core.specs.Rounds.{width};
 ghost use Rattle.ec_core.specs.Counts.{total, component_total, issued, cell_value};
 ghost use Rattle.ec_core.specs.Standing.{StandsFor, progress_of};
 ghost use Rattle.ec_core.specs.Values.{TellsAtMost};
+ghost use Rattle.ec_core.specs.Procedures.{IsReply};
 ghost use Rattle.ec_core.specs.Fields.{kept_call, is_full_for, next_sum, next_reply, reply_in, next_progress, state_after};
 
 use crate::fields::{
@@ -284,6 +285,7 @@ impl World {
     pub fn answer(&self, worker: WorkerId, act: &Act) -> Result<Reply, Refusal>
         ensures answer { (h : List Entry) → StandsFor self.now h → result ≡ answer_of self.now.setup (reverse h) worker act.now }
         ensures small { (h : List Entry) → StandsFor self.now h → IfOk result (TellsAtMost VALUE_MAX) }
+        ensures kind { (h : List Entry) → StandsFor self.now h → IfOk result (IsReply act.now) }
     {
         named(act);
         let _worker = worker.get();
@@ -299,6 +301,7 @@ impl World {
         ensures after { (h : List Entry) → StandsFor self.old h
             → IfOk result (λ reply. StandsFor self.new (h ++ record { worker = worker; act = act; reply = reply } ∷ [])) }
         ensures small { (h : List Entry) → StandsFor self.old h → IfOk result (TellsAtMost VALUE_MAX) }
+        ensures kind { (h : List Entry) → StandsFor self.old h → IfOk result (IsReply act) }
         ensures setup { self.new.setup ≡ self.old.setup }
         ensures err { OnErr result (self.new ≡ self.old) }
     {

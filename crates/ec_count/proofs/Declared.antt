@@ -1,5 +1,5 @@
 -- What the tables keep, said of each list, and the place of a signaller.
-use Rattle.std.proofs.Common.{◌≡◌, ℕ, zero, suc, ◌+◌, ◌<◌, ◌==◌, nat_le, nat_lt, Bool, true, false, ◌||◌, List, [], ◌∷◌, length, slice_get, Some, None, refl, ap, sym, ◌∙◌, arith, cond, add-zero, zero-add, replicate, ◌++◌}
+use Rattle.std.proofs.Common.{◌≡◌, ℕ, zero, suc, ◌+◌, ◌<◌, ◌≤◌, ◌==◌, subst, nat_le, nat_lt, Bool, true, false, ◌||◌, List, [], ◌∷◌, length, slice_get, Some, None, refl, ap, sym, ◌∙◌, arith, cond, add-zero, zero-add, replicate, ◌++◌}
 use Rattle.std.specs.Prelude.{◌↔◌}
 use Rattle.std.specs.List.{All, list_any, position_from}
 use Rattle.std.specs.Option.{option_and_then, option_map_or}
@@ -7,13 +7,14 @@ use Rattle.std.proofs.lemmas.Bool.{or_parts, or_from, ltb-false, leb-false, lt-l
 use Rattle.std.proofs.lemmas.List.Elements.{All-nil, All-cons}
 use Rattle.ec_count.specs.declared.setup.Rights.{Rights}
 use Rattle.ec_count.specs.declared.setup.Access.{Access}
-use Rattle.ec_count.specs.Members.{AreWorkers, is_faulty, is_member, has_repeat, place_of}
-use Rattle.ec_count.specs.Tables.{Tables, IsDeclared, KeepsTables, has_unsound, has_faulty_rights, has_faulty_takers, has_faulty_access, cells_fault, names_unknown}
+use Rattle.ec_count.specs.Members.{AreWorkers, AreTwoLists, is_faulty, is_faulty_pair, is_member, has_repeat, place_of}
+use Rattle.ec_count.specs.Tables.{Tables, IsDeclared, KeepsTables, signallers, has_faulty_rights, has_faulty_takers, has_faulty_access, cells_fault, names_unknown}
+use Rattle.ec_count.specs.Lists.{observers}
 use Rattle.ec_count.specs.Laws.{OneSignaller}
 use Rattle.ec_count.proofs.First.{none_is}
 use Rattle.ec_count.specs.declared.setup.SetupFault.{SetupFault}
 use Rattle.ec_count.specs.declared.setup.SetupFault.TheVariants.{TooMany, UnknownWorker, Repeated, Empty}
-use Rattle.std.proofs.lemmas.Option.{slice_get_within, get_or_from_slice_get}
+use Rattle.std.proofs.lemmas.Option.{slice_get_within, slice_get-get_or, get_or_from_slice_get}
 
 -- where no element passes a test, each element has what its failing gives
 pub all_from_none : {X : Type 0} (bad : X → Bool) (P : X → Type 0) → ((x : X) → bad x ≡ false → P x) → (xs : List X) → list_any bad xs ≡ false → All P xs
@@ -45,40 +46,48 @@ more_workers n ws h =
     (or_from (list_any (λ w. nat_le (n + 1) w) ws) (has_repeat ws) (none_stricter (λ w. nat_le n w) (λ w. nat_le (n + 1) w) (λ w e. lt-leb (n + 1) w (let l = leb-false n w e in omega arith)) ws q.0) q.1)
     p.1
 
+more_workers_of_two : (n : ℕ) (first second : List ℕ) → is_faulty_pair n first second ≡ false → is_faulty_pair (n + 1) first second ≡ false
+more_workers_of_two n first second h =
+    let p = or_parts (is_faulty n first || is_faulty n second) (length first == 0) h in
+    let q = or_parts (is_faulty n first) (is_faulty n second) p.0 in
+    or_from (is_faulty (n + 1) first || is_faulty (n + 1) second) (length first == 0)
+    (or_from (is_faulty (n + 1) first) (is_faulty (n + 1) second) (more_workers n first q.0) (more_workers n second q.1)) p.1
+
+more_takers : (n : ℕ) (ws : List ℕ) → (is_faulty n ws || length ws == 0) ≡ false → (is_faulty (n + 1) ws || length ws == 0) ≡ false
+more_takers n ws h = let p = or_parts (is_faulty n ws) (length ws == 0) h in or_from (is_faulty (n + 1) ws) (length ws == 0) (more_workers n ws p.0) p.1
+
 pub more_kept : (n : ℕ) (events : List Rights) (takers : List (List ℕ)) (cells : List Access) → n < 16 → KeepsTables n events takers cells → KeepsTables (n + 1) events takers cells
 more_kept n events takers cells lt h = record {
   few_workers = omega arith;
-  sound = h.sound;
-  rights_fit = none_stricter (λ (r : Rights). is_faulty n r.signal || is_faulty n r.observe) (λ (r : Rights). is_faulty (n + 1) r.signal || is_faulty (n + 1) r.observe) (λ r e. (let p = or_parts (is_faulty n r.signal) (is_faulty n r.observe) e in or_from (is_faulty (n + 1) r.signal) (is_faulty (n + 1) r.observe) (more_workers n r.signal p.0) (more_workers n r.observe p.1))) events h.rights_fit;
-  takers_fit = none_stricter (λ ws. is_faulty n ws || length ws == 0) (λ ws. is_faulty (n + 1) ws || length ws == 0) (λ ws e. (let p = or_parts (is_faulty n ws) (length ws == 0) e in or_from (is_faulty (n + 1) ws) (length ws == 0) (more_workers n ws p.0) p.1)) takers h.takers_fit;
-  access_fits = none_stricter (λ (a : Access). is_faulty n a.write || is_faulty n a.read || length a.write == 0) (λ (a : Access). is_faulty (n + 1) a.write || is_faulty (n + 1) a.read || length a.write == 0) (λ a e. (let p = or_parts (is_faulty n a.write || is_faulty n a.read) (length a.write == 0) e in let q = or_parts (is_faulty n a.write) (is_faulty n a.read) p.0 in or_from (is_faulty (n + 1) a.write || is_faulty (n + 1) a.read) (length a.write == 0) (or_from (is_faulty (n + 1) a.write) (is_faulty (n + 1) a.read) (more_workers n a.write q.0) (more_workers n a.read q.1)) p.1)) cells h.access_fits;
+  rights_fit = none_stricter (λ (r : Rights). is_faulty_pair n r.signal r.observe) (λ (r : Rights). is_faulty_pair (n + 1) r.signal r.observe) (λ r. more_workers_of_two n r.signal r.observe) events h.rights_fit;
+  takers_fit = none_stricter (λ ws. is_faulty n ws || length ws == 0) (λ ws. is_faulty (n + 1) ws || length ws == 0) (λ ws. more_takers n ws) takers h.takers_fit;
+  access_fits = none_stricter (λ (a : Access). is_faulty_pair n a.write a.read) (λ (a : Access). is_faulty_pair (n + 1) a.write a.read) (λ a. more_workers_of_two n a.write a.read) cells h.access_fits;
 }
 
 some_length : {X : Type 0} (xs : List X) → (length xs == 0) ≡ false → 0 < length xs
 some_length xs e = let ne = eqb-false (length xs) 0 e in omega arith
 
+two_lists_of : (n : ℕ) (first second : List ℕ) → is_faulty_pair n first second ≡ false → AreTwoLists n first second
+two_lists_of n first second h =
+    let p = or_parts (is_faulty n first || is_faulty n second) (length first == 0) h in
+    let q = or_parts (is_faulty n first) (is_faulty n second) p.0 in
+    (workers_of n first q.0, some_length first p.1, workers_of n second q.1)
+
 -- the same, of each list
-pub rights_of : (n : ℕ) (rows : List Rights) → has_unsound rows ≡ false → has_faulty_rights n rows ≡ false → All (λ (r : Rights). AreWorkers n r.signal × (0 < length r.signal) × AreWorkers n r.observe) rows
-rights_of n [] s h = All-nil (λ (r : Rights). AreWorkers n r.signal × (0 < length r.signal) × AreWorkers n r.observe)
-rights_of n (r ∷ rows) s h =
-    let p = or_parts (is_faulty n r.signal || is_faulty n r.observe) (has_faulty_rights n rows) h in
-    let q = or_parts (is_faulty n r.signal) (is_faulty n r.observe) p.0 in
-    let u = or_parts (length r.signal == 0 || nat_lt 16 (length r.signal)) (has_unsound rows) s in
-    let v = or_parts (length r.signal == 0) (nat_lt 16 (length r.signal)) u.0 in
-    All-cons (λ (x : Rights). AreWorkers n x.signal × (0 < length x.signal) × AreWorkers n x.observe) r rows
-    (workers_of n r.signal q.0, some_length r.signal v.0, workers_of n r.observe q.1)
-    (rights_of n rows u.1 p.1)
+pub rights_of : (n : ℕ) (rows : List Rights) → has_faulty_rights n rows ≡ false → All (λ (r : Rights). AreTwoLists n r.signal r.observe) rows
+rights_of n rows h =
+    all_from_none (λ (r : Rights). is_faulty_pair n r.signal r.observe) (λ (r : Rights). AreTwoLists n r.signal r.observe) (λ r. two_lists_of n r.signal r.observe) rows h
 
 pub takers_of : (n : ℕ) (lists : List (List ℕ)) → has_faulty_takers n lists ≡ false → All (λ ws. AreWorkers n ws × (0 < length ws)) lists
 takers_of n lists h =
     all_from_none (λ ws. is_faulty n ws || length ws == 0) (λ ws. AreWorkers n ws × (0 < length ws)) (λ ws e. (let p = or_parts (is_faulty n ws) (length ws == 0) e in (workers_of n ws p.0, some_length ws p.1))) lists h
 
-pub access_of : (n : ℕ) (rows : List Access) → has_faulty_access n rows ≡ false → All (λ (a : Access). AreWorkers n a.write × (0 < length a.write) × AreWorkers n a.read) rows
+pub access_of : (n : ℕ) (rows : List Access) → has_faulty_access n rows ≡ false → All (λ (a : Access). AreTwoLists n a.write a.read) rows
 access_of n rows h =
-    all_from_none (λ (a : Access). is_faulty n a.write || is_faulty n a.read || length a.write == 0) (λ (a : Access). AreWorkers n a.write × (0 < length a.write) × AreWorkers n a.read) (λ a e. (let p = or_parts (is_faulty n a.write || is_faulty n a.read) (length a.write == 0) e in let q = or_parts (is_faulty n a.write) (is_faulty n a.read) p.0 in (workers_of n a.write q.0, some_length a.write p.1, workers_of n a.read q.1))) rows h
+    all_from_none (λ (a : Access). is_faulty_pair n a.write a.read) (λ (a : Access). AreTwoLists n a.write a.read) (λ a. two_lists_of n a.write a.read) rows h
 
 -- the worker at the place that was found
-found_there : (w i c : ℕ) (ws : List ℕ) → position_from (λ v. v == w) i ws ≡ Some c → (k : ℕ) × (c ≡ i + k) × (slice_get ws k ≡ Some w)
+pub found_there : (w i c : ℕ) (ws : List ℕ) → position_from (λ v. v == w) i ws ≡ Some c → (k : ℕ) × (c ≡ i + k) × (slice_get ws k ≡ Some w)
 found_there w i c [] h = cc
 found_there w i c (x ∷ ws) h =
     elim (x == w) as (λ b. (x == w) ≡ b → cond b (Some i) (position_from (λ v. v == w) (i + 1) ws) ≡ Some c → (k : ℕ) × (c ≡ i + k) × (slice_get (x ∷ ws) k ≡ Some w)) [
@@ -106,12 +115,36 @@ place_there w i (suc c) (x ∷ ws) h at =
     let next : i + 1 + c ≡ i + suc c = omega arith in
     ap (λ b. cond b (Some i) (position_from (λ v. v == w) (i + 1) ws)) (member_at x ws c w p.0 at) ∙ place_there w (i + 1) c ws p.1 at ∙ ap Some next
 
--- no worker stands twice among the signallers
-signallers_differ : (t : Tables) (e : ℕ) (r : Rights) → IsDeclared t → slice_get t.events e ≡ Some r → has_repeat r.signal ≡ false
-signallers_differ t e r d at =
-    let row = get_or_from_slice_get t.events e r r at in
-    let fits = d.rights e r (slice_get_within t.events e r at) in
-    ap (λ (x : Rights). has_repeat x.signal) (sym row) ∙ fits.0.different
+-- what holds of each element holds of the one at a place
+pub at_place : {X : Type 0} (P : X → Type 0) (xs : List X) (i : ℕ) (x : X) → All P xs → slice_get xs i ≡ Some x → P x
+at_place P xs i x all at = subst P (get_or_from_slice_get xs i x x at) (all i x (slice_get_within xs i x at))
+
+-- the lists of an eventcount
+pub rights_at : (t : Tables) (e : ℕ) (r : Rights) → IsDeclared t → slice_get t.events e ≡ Some r → AreTwoLists t.workers r.signal r.observe
+rights_at t e r d at = at_place (λ (x : Rights). AreTwoLists t.workers x.signal x.observe) t.events e r d.rights at
+
+-- an eventcount has few signallers
+pub few_signallers : (t : Tables) (e : ℕ) → IsDeclared t → length (signallers t e) ≤ 16
+few_signallers t e d =
+    elim (slice_get t.events e) as (λ o. slice_get t.events e ≡ o → length (option_map_or (λ (r : Rights). r.signal) o []) ≤ 16) [
+      | None ↦ λ at. omega arith
+      | Some r ↦ λ at. (rights_at t e r d at).0.few
+    ] refl
+
+-- and at least one, where it is declared
+pub some_signaller : (t : Tables) (e : ℕ) → IsDeclared t → e < length t.events → 0 < length (signallers t e)
+some_signaller t e d lt =
+    elim (slice_get t.events e) as (λ o. slice_get t.events e ≡ o → 0 < length (option_map_or (λ (r : Rights). r.signal) o [])) [
+      | None ↦ λ at. (let none : Rights = record { signal = []; observe = [] } in let there = slice_get-get_or t.events e none lt in cc)
+      | Some r ↦ λ at. (rights_at t e r d at).1
+    ] refl
+
+pub few_observers : (t : Tables) (e : ℕ) → IsDeclared t → length (observers t e) ≤ 16
+few_observers t e d =
+    elim (slice_get t.events e) as (λ o. slice_get t.events e ≡ o → length (option_map_or (λ (r : Rights). r.observe) o []) ≤ 16) [
+      | None ↦ λ at. omega arith
+      | Some r ↦ λ at. (rights_at t e r d at).2.few
+    ] refl
 
 pub one_signaller : OneSignaller
 one_signaller t d e c w =
@@ -119,7 +152,7 @@ one_signaller t d e c w =
       | None ↦ λ at. (λ h. (cc), λ h. (cc))
       | Some r ↦ λ at. (
         λ h. (let k = found_there w 0 c r.signal h in let same : c ≡ k.0 = omega arith in ap (slice_get r.signal) same ∙ k.2),
-        λ h. place_there w 0 c r.signal (signallers_differ t e r d at) h ∙ ap Some (zero-add c),
+        λ h. place_there w 0 c r.signal (rights_at t e r d at).0.different h ∙ ap Some (zero-add c),
       )
     ] refl
 
@@ -146,12 +179,15 @@ fresh_cells t n write read h =
       none.1,
     )
 
-repeated : (n k : ℕ) (a : Access) → (is_faulty n a.write || is_faulty n a.read || length a.write == 0) ≡ false → has_faulty_access n (replicate k a) ≡ false
+repeated : (n k : ℕ) (a : Access) → is_faulty_pair n a.write a.read ≡ false → has_faulty_access n (replicate k a) ≡ false
 repeated n zero a h = refl
-repeated n (suc k) a h = or_from (is_faulty n a.write || is_faulty n a.read || length a.write == 0) (has_faulty_access n (replicate k a)) h (repeated n k a h)
+repeated n (suc k) a h = or_from (is_faulty_pair n a.write a.read) (has_faulty_access n (replicate k a)) h (repeated n k a h)
 
-pub more_cells : (n k : ℕ) (cells : List Access) (a : Access) → has_faulty_access n cells ≡ false → (is_faulty n a.write ≡ false) × (is_faulty n a.read ≡ false) × ((length a.write == 0) ≡ false) → has_faulty_access n (cells ++ replicate k a) ≡ false
-more_cells n k [] a h new = repeated n k a (or_from (is_faulty n a.write || is_faulty n a.read) (length a.write == 0) (or_from (is_faulty n a.write) (is_faulty n a.read) new.0 new.1) new.2)
+pub more_cells : (n k : ℕ) (cells : List Access) (a : Access) → has_faulty_access n cells ≡ false
+    → (is_faulty n a.write ≡ false) × (is_faulty n a.read ≡ false) × ((length a.write == 0) ≡ false)
+    → has_faulty_access n (cells ++ replicate k a) ≡ false
+more_cells n k [] a h new =
+    repeated n k a (or_from (is_faulty n a.write || is_faulty n a.read) (length a.write == 0) (or_from (is_faulty n a.write) (is_faulty n a.read) new.0 new.1) new.2)
 more_cells n k (x ∷ cells) a h new =
-    let p = or_parts (is_faulty n x.write || is_faulty n x.read || length x.write == 0) (has_faulty_access n cells) h in
-    or_from (is_faulty n x.write || is_faulty n x.read || length x.write == 0) (has_faulty_access n (cells ++ replicate k a)) p.0 (more_cells n k cells a p.1 new)
+    let p = or_parts (is_faulty_pair n x.write x.read) (has_faulty_access n cells) h in
+    or_from (is_faulty_pair n x.write x.read) (has_faulty_access n (cells ++ replicate k a)) p.0 (more_cells n k cells a p.1 new)

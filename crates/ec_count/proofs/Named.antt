@@ -15,11 +15,11 @@ use Rattle.std.proofs.lemmas.Option.{slice_get_within, get_or_from_slice_get}
 use Rattle.std.proofs.lemmas.List.Elements.{All-push}
 use Rattle.std.proofs.lemmas.List.Quantifiers.{all_pairs_push}
 use Rattle.ec_count.specs.declared.target.Target.{Target}
-use Rattle.ec_count.specs.Laws.{NamesAreFound}
+use Rattle.ec_count.specs.Laws.{NamesAreFound, IsFirstName}
 use Rattle.ec_count.specs.Names.{AreNames, KeepsNames, by_bytes, find_name, name_of, place_of, with_first, same_target, name_fault}
 use Rattle.ec_count.specs.Tables.{first_that}
 use Rattle.ec_count.specs.declared.names.NameFault.TheVariants.{BadName, NameTaken}
-use Rattle.ec_count.specs.Targets.{target_is}
+use Rattle.ec_count.specs.Targets.{target_is, targets_decide}
 use Rattle.ec_count.specs.Reserved.{is_name, is_name_byte, is_reserved}
 
 pub find_lookup : (name : List ℕ) (es : List (Vec ℕ × Target)) → find_name name (by_bytes es) ≡ lookup (λ k. bytes_eq name k.items) es
@@ -149,19 +149,41 @@ entry_found (x ∷ xs) h (suc i) e at =
     let off : bytes_eq e.0 x.0 ≡ false = false_from_ne_true (bytes_eq e.0 x.0) (λ p. other (sym ((bytes_eq-Decides e.0 x.0).0 p))) in
     ap (λ b. cond b (Some x.1) (find_name e.0 xs)) off ∙ entry_found xs (differ_tail x xs h) i e at
 
--- the name that is given for a target stands beside it
-named_entry : (target : Target) (names : List (List ℕ × Target)) (name : List ℕ) → name_of target names ≡ Some name → (i : ℕ) × (slice_get names i ≡ Some (name, target))
-named_entry target [] name h = cc
-named_entry target (x ∷ xs) name h =
-    elim (same_target x.1 target) as (λ b. same_target x.1 target ≡ b → cond b (Some x.0) (name_of target xs) ≡ Some name → (i : ℕ) × (slice_get (x ∷ xs) i ≡ Some (name, target))) [
-      | true ↦ λ e g. (let p : x.0 ≡ name = cc in let q = target_is x.1 target e in let pair : (x.0, x.1) ≡ (name, target) = cc in (zero, ap Some pair))
-      | false ↦ λ e g. (let r = named_entry target xs name g in (suc r.0, r.1))
+-- the name that is given for a target stands beside it, and no name before it was added for the target
+other_target : (x : List ℕ × Target) (target : Target) → same_target x.1 target ≡ false → x.1 ≢ target
+other_target x target off same = (let own = (targets_decide x.1 target).1 same in cc)
+
+one_later : (target : Target) (x : List ℕ × Target) (xs : List (List ℕ × Target)) (name : List ℕ) → same_target x.1 target ≡ false → IsFirstName target xs name → IsFirstName target (x ∷ xs) name
+one_later target x xs name off r = record {
+  place = suc r.place;
+  at = r.at;
+  none_before = before;
+}
+  where
+    before : (k : ℕ) (e : List ℕ × Target) → k < suc r.place → slice_get (x ∷ xs) k ≡ Some e → e.1 ≢ target
+    before zero e lt at same = (let is : x ≡ e = cc in other_target x target off (ap (λ (y : List ℕ × Target). y.1) is ∙ same))
+    before (suc k) e lt at same = r.none_before k e (omega arith) at same
+
+not_below : (k : ℕ) → k < 0 → ⊥
+not_below k lt = omega arith
+
+first_name : (target : Target) (names : List (List ℕ × Target)) (name : List ℕ) → name_of target names ≡ Some name → IsFirstName target names name
+first_name target [] name h = cc
+first_name target (x ∷ xs) name h =
+    elim (same_target x.1 target) as (λ b. same_target x.1 target ≡ b → cond b (Some x.0) (name_of target xs) ≡ Some name → IsFirstName target (x ∷ xs) name) [
+      | true ↦ λ e g.
+          (let p : x.0 ≡ name = cc in
+          let q = target_is x.1 target e in
+          let pair : (x.0, x.1) ≡ (name, target) = cc in
+          record { place = zero; at = ap Some pair; none_before = λ k d lt at. absurd (not_below k lt) })
+      | false ↦ λ e g. one_later target x xs name e (first_name target xs name g)
     ] refl h
 
 pub names_found : NamesAreFound
 names_found names h = record {
   entries = entry_found names h.differ;
-  targets = λ target name e. (let at = named_entry target names name e in entry_found names h.differ at.0 (name, target) at.1);
+  targets = λ target name e. (let r = first_name target names name e in entry_found names h.differ r.place (name, target) r.at);
+  first = λ target name e. first_name target names name e;
 }
 
 -- both tables once one more name is added

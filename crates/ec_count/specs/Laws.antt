@@ -1,9 +1,9 @@
 -- What the definitions mean.
-use Rattle.std.specs.Prelude.{◌≡◌, ◌↔◌, ℕ, ◌<◌, Bool, true, false, List, Some, None, MatchOption, slice_get}
+use Rattle.std.specs.Prelude.{◌≡◌, ◌≢◌, ◌↔◌, ℕ, ◌<◌, Bool, true, false, List, length, Some, None, MatchOption, slice_get}
 use Rattle.std.specs.List.{All}
 use Rattle.ec_count.specs.declared.target.Target.{Target}
 use Rattle.ec_count.specs.Names.{AreNames, find_name, name_of}
-use Rattle.ec_count.specs.Tables.{Tables, IsDeclared, first_that, component_of, signaller, is_silent, may_take, may_write}
+use Rattle.ec_count.specs.Tables.{Tables, IsDeclared, first_that, component_of, signaller, is_silent, may_observe, may_take, may_write, may_read}
 
 -- where a fault is answered its test holds and none before it does; where none is, no test holds
 abbrev pub FirstTestAnswers : Type 0 → Type 0
@@ -26,10 +26,30 @@ pub record HasNoRight (t : Tables) (w : ℕ) : Type 0 where
 abbrev pub SilenceIsNoRight : Type 0
 SilenceIsNoRight = (t : Tables) (w : ℕ) → (is_silent t w ≡ true) ↔ ((w < t.workers) × HasNoRight t w)
 
--- an entry of a table of names is found by its name, and so is the target of a name that is given for it
+-- where w has a right on i, both are declared
+pub record AreBothDeclared (t : Tables) (i w : ℕ) : Type 0 where
+  pub signals : (c : ℕ) → component_of t i w ≡ Some c → (i < length t.events) × (w < t.workers)
+  pub observes : may_observe t i w ≡ true → (i < length t.events) × (w < t.workers)
+  pub takes : may_take t i w ≡ true → (i < length t.takers) × (w < t.workers)
+  pub writes : may_write t i w ≡ true → (i < length t.cells) × (w < t.workers)
+  pub reads : may_read t i w ≡ true → (i < length t.cells) × (w < t.workers)
+
+-- only declared workers have rights, and only on what is declared
+abbrev pub RightsAreDeclared : Type 0
+RightsAreDeclared = (t : Tables) → IsDeclared t → (i w : ℕ) → AreBothDeclared t i w
+
+-- the name was added for the target, and none before it was
+pub record IsFirstName (target : Target) (names : List (List ℕ × Target)) (name : List ℕ) : Type 0 where
+  pub place : ℕ
+  pub at : slice_get names place ≡ Some (name, target)
+  pub none_before : (k : ℕ) (e : List ℕ × Target) → k < place → slice_get names k ≡ Some e → e.1 ≢ target
+
+-- an entry of a table of names is found by its name, and so is the target of a name that is given for it, which is the
+-- first that was added for the target
 pub record AreFound (names : List (List ℕ × Target)) : Type 0 where
   pub entries : (i : ℕ) (e : List ℕ × Target) → slice_get names i ≡ Some e → find_name e.0 names ≡ Some e.1
   pub targets : (target : Target) (name : List ℕ) → name_of target names ≡ Some name → find_name name names ≡ Some target
+  pub first : (target : Target) (name : List ℕ) → name_of target names ≡ Some name → IsFirstName target names name
 
 abbrev pub NamesAreFound : Type 0
 NamesAreFound = (names : List (List ℕ × Target)) → AreNames names → AreFound names

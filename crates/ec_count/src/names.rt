@@ -12,15 +12,19 @@ use indexmap::IndexMap;
 use std::alloc::{AllocError, Global};
 use std::marker::Model;
 use std::str::from_utf8;
+use thiserror::Error;
 
 /// Why a name can't be added: the first that holds.
-#[derive(Clone, Copy, Debug, PartialEq, Eq)]
+#[derive(Clone, Copy, Debug, PartialEq, Eq, Error)]
 pub enum NameFault {
     /// The word is no name.
+    #[error("the word is no name")]
     BadName,
     /// The name was added before.
+    #[error("the name was added before")]
     NameTaken,
     /// Memory was refused.
+    #[error("memory was refused")]
     Memory,
 }
 

@@ -2,20 +2,21 @@
 use Rattle.std.proofs.Common.{◌≡◌, ℕ, zero, suc, ◌+◌, ◌<◌, ◌≤◌, Bool, true, false, List, [], ◌∷◌, ◌++◌, length, Option, Some, None, refl, ap, sym, ◌∙◌, arith, cond, ◌==◌, take, get_or, append_assoc, length-append}
 use Rattle.ec_count.specs.Tables.{Tables}
 use Rattle.ec_core.specs.declared.act.Act.{Act}
-use Rattle.ec_core.specs.declared.act.Act.TheVariants.{Advance, Read, Await, Go, Ticket, Put, Get}
+use Rattle.ec_core.specs.declared.act.Act.TheVariants.{Go}
 use Rattle.ec_core.specs.declared.act.Entry.{Entry}
 use Rattle.ec_core.specs.Calls.{CallSoFar, under_way, gone_on, is_pending}
 use Rattle.ec_core.specs.Rounds.{sum_read, IsPastOf, IsPastOfEach, EachIsPastOf}
 use Rattle.ec_core.specs.Counts.{component_total}
-
-pub past_itself : (p : List Entry) → IsPastOf p p
-past_itself p = record { since = []; is = refl }
+use Rattle.ec_core.proofs.Pasts.{past_itself}
 
 pub past_trans : (a b c : List Entry) → IsPastOf a b → IsPastOf b c → IsPastOf a c
 past_trans a b c p q = record { since = q.since ++ p.since; is = q.is ∙ ap (λ z. q.since ++ z) p.is ∙ sym (append_assoc q.since p.since a) }
 
 pub past_next : (x : Entry) (p late : List Entry) → IsPastOf p late → IsPastOf p (x ∷ late)
 past_next x p late h = record { since = x ∷ h.since; is = ap (λ z. x ∷ z) h.is }
+
+pub past_before : (x : Entry) (p late : List Entry) → IsPastOf (x ∷ p) late → IsPastOf p late
+past_before x p late h = past_trans p (x ∷ p) late (past_next x p p (past_itself p)) h
 
 pub past_shorter : (p late : List Entry) → IsPastOf p late → length p ≤ length late
 past_shorter p late h = omega (arith, ap length h.is, length-append h.since p)
@@ -68,14 +69,9 @@ IsGone past None = Unit {0}
 IsGone past (Some call) = (rest : List (List Entry)) × (call.moments ≡ past ∷ rest) × IsChain past rest
 
 pub gone_chain : (act : Act) (past : List Entry) (o : Option CallSoFar) → IsChained past o → IsGone past (gone_on act past o)
-gone_chain (Advance e) past o h = ([], refl, tt)
-gone_chain (Read e) past o h = ([], refl, tt)
-gone_chain (Await e v) past o h = ([], refl, tt)
 gone_chain Go past None h = tt
 gone_chain Go past (Some call) h = (call.moments, refl, h)
-gone_chain (Ticket q) past o h = ([], refl, tt)
-gone_chain (Put x v) past o h = ([], refl, tt)
-gone_chain (Get x) past o h = ([], refl, tt)
+gone_chain act past o h = ([], refl, tt)
 
 gone_kept : (x : Entry) (past : List Entry) (o : Option CallSoFar) (b : Bool) → IsGone past o → IsChained (x ∷ past) (cond b o None)
 gone_kept x past o false h = tt

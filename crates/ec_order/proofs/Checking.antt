@@ -1,5 +1,5 @@
 -- What a check of each place adds up to.
-use Rattle.std.proofs.Common.{◌≡◌, ℕ, zero, suc, ◌+◌, ◌<◌, ◌≤◌, ◌⊎◌, inl, inr, List, [], ◌∷◌, ◌++◌, length, Some, refl, ap, sym, ◌∙◌, arith, subst, get_or, take, slice_get}
+use Rattle.std.proofs.Common.{◌≡◌, ℕ, zero, suc, ◌+◌, ◌<◌, ◌≤◌, ◌⊎◌, inl, inr, List, [], ◌∷◌, ◌++◌, length, Some, ap, sym, ◌∙◌, arith, subst, get_or, take, slice_get}
 use Rattle.std.specs.List.{All, AllPairs, Contains}
 use Rattle.std.proofs.lemmas.List.{map-append, take_more, take_all, length-take-le, get_or-take, get_or_default}
 use Rattle.std.proofs.lemmas.List.Elements.{All-weaker, All-contains}
@@ -19,7 +19,7 @@ use Rattle.ec_order.proofs.Fits.{Fits, all_fit}
 use Rattle.ec_order.proofs.Ends.{Ends, ends}
 use Rattle.ec_order.proofs.Running.{run_append, ended_last}
 use Rattle.ec_order.proofs.Sorting.{AllPairs-map, AllPairs-append}
-use Rattle.ec_order.proofs.Matching.{Has, Differ, has_from, contains_from, same_elements}
+use Rattle.ec_order.proofs.Matching.{Has, Differ, has_from, contains_from, same_elements, at_index}
 
 -- one place more
 pub taken_more : (ps : List Placed) (i : ℕ) (p : Placed) → slice_get ps i ≡ Some p → take (i + 1) ps ≡ take i ps ++ p ∷ []
@@ -30,16 +30,11 @@ taken_more ps i p at =
 pub calls_more : (ps : List Placed) (p : Placed) → calls_in (ps ++ p ∷ []) ≡ calls_in ps ++ p.call ∷ []
 calls_more ps p = map-append (λ (q : Placed). q.call) ps (p ∷ [])
 
-at_place : (ps : List Placed) (i : ℕ) → i < length ps → (p : Placed) × (slice_get ps i ≡ Some p)
-at_place [] i h = absurd (omega arith)
-at_place (p ∷ ps) zero h = (p, refl)
-at_place (p ∷ ps) (suc i) h = at_place ps i (omega arith)
-
 -- sound places run
 run_upto : (t : Tables) (past : List Entry) (ps : List Placed) (i : ℕ) → i ≤ length ps → AreSound t past ps i → IsSequentialRun zero_state (calls_in (take i ps))
 run_upto t past ps zero h s = tt
 run_upto t past ps (suc i) h s =
-    let a = at_place ps i (omega arith) in
+    let a = at_index ps i (omega arith) in
     let p = a.0 in
     let one : i + 1 ≡ suc i = omega arith in
     let more : take (suc i) ps ≡ take i ps ++ p ∷ [] = ap (λ n. take n ps) (sym one) ∙ taken_more ps i p a.1 in
@@ -61,7 +56,7 @@ differ_more {X} (y ∷ ys) x d h =
 differ_upto : (t : Tables) (past : List Entry) (ps : List Placed) (i : ℕ) → i ≤ length ps → AreSound t past ps i → Differ (calls_in (take i ps))
 differ_upto t past ps zero h s = tt
 differ_upto t past ps (suc i) h s =
-    let a = at_place ps i (omega arith) in
+    let a = at_index ps i (omega arith) in
     let p = a.0 in
     let one : i + 1 ≡ suc i = omega arith in
     let more : take (suc i) ps ≡ take i ps ++ p ∷ [] = ap (λ n. take n ps) (sym one) ∙ taken_more ps i p a.1 in
@@ -73,7 +68,7 @@ differ_upto t past ps (suc i) h s =
 known_upto : (t : Tables) (past : List Entry) (ps : List Placed) (i : ℕ) → i ≤ length ps → AreSound t past ps i → (z : Call) → Has (calls_in (take i ps)) z → Has (finished_calls t past) z
 known_upto t past ps zero h s z k = absurd k
 known_upto t past ps (suc i) h s z k =
-    let a = at_place ps i (omega arith) in
+    let a = at_index ps i (omega arith) in
     let p = a.0 in
     let one : i + 1 ≡ suc i = omega arith in
     let more : take (suc i) ps ≡ take i ps ++ p ∷ [] = ap (λ n. take n ps) (sym one) ∙ taken_more ps i p a.1 in

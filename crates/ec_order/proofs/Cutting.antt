@@ -1,74 +1,19 @@
 -- The finished calls are what the workers' entries are cut into.
-use Rattle.std.proofs.Common.{◌≡◌, ℕ, zero, suc, ◌+◌, ◌<◌, ◌≤◌, inl, inr, Bool, true, false, List, [], ◌∷◌, ◌++◌, length, Option, Some, None, refl, ap, sym, ◌∙◌, arith, cond, subst, ◌==◌, reverse, slice_get, get_or, count_by, nat_le, length-append}
+use Rattle.std.proofs.Common.{◌≡◌, ℕ, zero, suc, ◌+◌, ◌<◌, ◌≤◌, inl, inr, Bool, true, false, List, [], ◌∷◌, ◌++◌, length, Option, Some, None, refl, ap, sym, ◌∙◌, arith, cond, subst, ◌==◌, get_or, count_by, length-append}
 use Rattle.std.specs.List.{All}
 use Rattle.std.proofs.lemmas.Bool.{eqb-true, eq-eqb, cases_order, cases_lt}
-use Rattle.std.proofs.lemmas.List.{reverse-append, length-reverse}
 use Rattle.std.proofs.lemmas.List.Elements.{All-nil, All-cons, All-head, All-tail}
 use Rattle.std.proofs.lemmas.List.Sums.{sum_by-append}
-use Rattle.std.proofs.lemmas.Option.{slice_get_within}
 use Rattle.ec_core.specs.declared.act.Act.{Act}
-use Rattle.ec_core.specs.declared.act.Act.TheVariants.{Advance, Read, Await, Go, Ticket, Put, Get}
+use Rattle.ec_core.specs.declared.act.Act.TheVariants.{Go}
 use Rattle.ec_core.specs.declared.act.Reply.{Reply}
 use Rattle.ec_core.specs.declared.act.Reply.TheVariants.{Done, Number, Pending}
 use Rattle.ec_core.specs.declared.act.Entry.{Entry}
 use Rattle.ec_core.specs.Calls.{CallSoFar, under_way, gone_on, is_go, is_pending}
 use Rattle.ec_core.specs.Rounds.{IsPastOf}
-use Rattle.ec_order.specs.Points.{first_entries}
-use Rattle.ec_order.proofs.Chains.{past_itself, past_trans, past_next}
-use Rattle.ec_order.proofs.Points.{first_since, first_of_past}
-
--- THE ENTRIES OF A PAST, by their positions
-
-abbrev pub entry_at : List Entry → ℕ → Option Entry
-entry_at past i = slice_get (reverse past) i
-
-get_last : {X : Type 0} (xs : List X) (x : X) → slice_get (xs ++ x ∷ []) (length xs) ≡ Some x
-get_last [] x = refl
-get_last (y ∷ xs) x = get_last xs x
-
-get_left : {X : Type 0} (xs ys : List X) (i : ℕ) → i < length xs → slice_get (xs ++ ys) i ≡ slice_get xs i
-get_left [] ys i h = absurd (omega arith)
-get_left (x ∷ xs) ys zero h = refl
-get_left (x ∷ xs) ys (suc i) h = get_left xs ys i (omega arith)
-
-reverse_cons : (x : Entry) (p : List Entry) → reverse (x ∷ p) ≡ reverse p ++ x ∷ []
-reverse_cons x p = reverse-append (x ∷ []) p
-
-pub entry_here : (x : Entry) (p : List Entry) → entry_at (x ∷ p) (length p) ≡ Some x
-entry_here x p = ap (λ h. slice_get h (length p)) (reverse_cons x p) ∙ ap (slice_get (reverse p ++ x ∷ [])) (sym (length-reverse p)) ∙ get_last (reverse p) x
-
-pub entry_before : (x : Entry) (p : List Entry) (i : ℕ) → i < length p → entry_at (x ∷ p) i ≡ entry_at p i
-entry_before x p i h = ap (λ h. slice_get h i) (reverse_cons x p) ∙ get_left (reverse p) (x ∷ []) i (omega (arith, length-reverse p))
-
-pub entry_since : (s p : List Entry) (i : ℕ) → i < length p → entry_at (s ++ p) i ≡ entry_at p i
-entry_since [] p i h = refl
-entry_since (x ∷ s) p i h = entry_before x (s ++ p) i (omega (arith, length-append s p)) ∙ entry_since s p i h
-
-pub entry_within : (p : List Entry) (i : ℕ) (x : Entry) → entry_at p i ≡ Some x → i < length p
-entry_within p i x h = (let k : i < length (reverse p) = slice_get_within (reverse p) i x h in omega (arith, length-reverse p))
-
-pub entry_in : (p late : List Entry) (x : Entry) → IsPastOf (x ∷ p) late → entry_at late (length p) ≡ Some x
-entry_in p late x h = ap (λ l. entry_at l (length p)) h.is ∙ entry_since h.since (x ∷ p) (length p) (omega arith) ∙ entry_here x p
-
--- the past of an entry
-pub record Found (late : List Entry) (i : ℕ) (x : Entry) : Type 0 where
-  pub before : List Entry
-  pub here : length before ≡ i
-  pub in_late : IsPastOf (x ∷ before) late
-
-pub find_entry : (late : List Entry) (i : ℕ) (x : Entry) → entry_at late i ≡ Some x → Found late i x
-find_entry [] i x h = cc
-find_entry (y ∷ p) i x h =
-    elim (cases_order i (length p)) [
-      | inl same ↦
-          (let k : Some y ≡ Some x = sym (entry_here y p) ∙ ap (entry_at (y ∷ p)) (sym same) ∙ h in
-          let e : y ≡ x = cc in
-          record { before = p; here = sym same; in_late = record { since = []; is = ap (λ z. z ∷ p) e } })
-      | inr (inl lt) ↦
-          (let r = find_entry p i x (sym (entry_before y p i lt) ∙ h) in
-          record { before = r.before; here = r.here; in_late = past_next y (x ∷ r.before) p r.in_late })
-      | inr (inr gt) ↦ (let within : i < suc (length p) = entry_within (y ∷ p) i x h in absurd (omega arith))
-    ]
+use Rattle.ec_core.proofs.Pasts.{past_itself}
+use Rattle.ec_order.proofs.Chains.{past_trans, past_before, past_next}
+use Rattle.ec_order.proofs.Positions.{entry_at, entry_here, entry_before, entry_since, entry_within, entry_in, find_entry, past_of_both, same_some}
 
 -- a worker's entries
 
@@ -95,25 +40,6 @@ own_none : (w : ℕ) (s : List Entry) → All (λ (y : Entry). (y.worker == w) �
 own_none w [] h = refl
 own_none w (x ∷ s) h =
     own_other w x s (All-head (λ (y : Entry). (y.worker == w) ≡ false) x s h) ∙ own_none w s (All-tail (λ (y : Entry). (y.worker == w) ≡ false) x s h)
-
--- of two pasts of one history the shorter is a past of the other
-first_is_past : (k : ℕ) (late : List Entry) → IsPastOf (first_entries k late) late
-unfolding first_entries
-first_is_past k [] = past_itself []
-first_is_past k (x ∷ late) =
-    elim (nat_le k (length late)) as (λ b. IsPastOf (cond b (first_entries k late) (x ∷ late)) (x ∷ late)) [
-      | true ↦ past_next x (first_entries k late) late (first_is_past k late)
-      | false ↦ past_itself (x ∷ late)
-    ]
-
-pub past_of_both : (p q late : List Entry) → IsPastOf p late → IsPastOf q late → length p ≤ length q → IsPastOf p q
-past_of_both p q late a b le =
-    let one : first_entries (length p) late ≡ p = first_of_past p late a in
-    let two : first_entries (length p) late ≡ first_entries (length p) q = ap (first_entries (length p)) b.is ∙ first_since (length p) b.since q le in
-    subst (λ z. IsPastOf z q) (sym two ∙ one) (first_is_past (length p) q)
-
-pub same_past : (p q late : List Entry) → IsPastOf p late → IsPastOf q late → length p ≡ length q → p ≡ q
-same_past p q late a b same = sym (first_of_past p late a) ∙ ap (λ k. first_entries k late) same ∙ first_of_past q late b
 
 -- of two entries of one worker the later has more before it
 pub own_rises : (w : ℕ) (p q late : List Entry) (x : Entry) → x.worker ≡ w → IsPastOf (x ∷ p) late → IsPastOf q late → length p < length q → own_count w p < own_count w q
@@ -161,7 +87,7 @@ none_later : (w : ℕ) (late p : List Entry) (act : Act) (i : ℕ) (y : Entry) �
 none_later w late p act i y s lt at own =
     let f = find_entry late i y at in
     let long : length f.before ≡ i = f.here in
-    let shorter : IsPastOf f.before late = past_trans f.before (y ∷ f.before) late (past_next y f.before f.before (past_itself f.before)) f.in_late in
+    let shorter : IsPastOf f.before late = past_before y f.before late f.in_late in
     let up : own_count w p < own_count w f.before = own_rises w p f.before late s.entry s.own (latest_in w late p act s) shorter (omega arith) in
     let more : own_count w late ≡ own_count w f.in_late.since + own_count w (y ∷ f.before) = ap (own_count w) f.in_late.is ∙ own_since w f.in_late.since (y ∷ f.before) in
     omega (arith, latest_count w late p act s, own_here w y f.before own)
@@ -186,7 +112,7 @@ latest_entry w late p act s = record { entry = s.entry; in_late = latest_in w la
 entry_later : (w : ℕ) (late p q : List Entry) (act : Act) → Latest w late p act → OwnEntry w p q → OwnEntry w late q
 entry_later w late p q act s e = record {
   entry = e.entry;
-  in_late = past_trans (e.entry ∷ q) p late e.in_late (past_trans p (s.entry ∷ p) late (past_next s.entry p p (past_itself p)) (latest_in w late p act s));
+  in_late = past_trans (e.entry ∷ q) p late e.in_late (past_before s.entry p late (latest_in w late p act s));
   own = e.own;
   told = e.told;
 }
@@ -214,14 +140,11 @@ own_first w op late (p ∷ q ∷ ps) h =
     let s = h.0 in
     record {
       entry = r.entry;
-      in_late = past_trans (r.entry ∷ first_past (q ∷ ps)) p late r.in_late (past_trans p (s.entry ∷ p) late (past_next s.entry p p (past_itself p)) (latest_in w late p Go s));
+      in_late = past_trans (r.entry ∷ first_past (q ∷ ps)) p late r.in_late (past_before s.entry p late (latest_in w late p Go s));
       own = r.own;
       act_is = r.act_is;
       told = r.told;
     }
-
-pub same_some : (x y : Entry) → Some x ≡ Some y → x ≡ y
-same_some x y h = cc
 
 -- after the first they are goes
 own_goes : (w : ℕ) (op : Act) (late : List Entry) (ps : List (List Entry)) (i : ℕ) (y : Entry) → Own w op late ps → length (first_past ps) < i → entry_at late i ≡ Some y → y.worker ≡ w
@@ -236,7 +159,7 @@ own_goes w op late (p ∷ q ∷ ps) i y h lt at own =
           (let e : s.entry ≡ y = same_some s.entry y (sym (entry_in p late s.entry in') ∙ ap (entry_at late) (sym same) ∙ at) in
           (ap (λ (z : Entry). z.act) (sym e) ∙ s.act_is, ap (λ (z : Entry). z.reply) (sym e) ∙ s.told))
       | inr (inl less) ↦
-          (let in_p : IsPastOf p late = past_trans p (s.entry ∷ p) late (past_next s.entry p p (past_itself p)) in' in
+          (let in_p : IsPastOf p late = past_before s.entry p late in' in
           let here : entry_at p i ≡ Some y = sym (ap (λ l. entry_at l i) in_p.is ∙ entry_since in_p.since p i less) ∙ at in
           own_goes w op p (q ∷ ps) i y h.1 lt here own)
       | inr (inr more) ↦ absurd (none_later w late p Go i y s more at own)
@@ -271,14 +194,9 @@ own_more w op x late [] own go told h = absurd h
 own_more w op x late (p ∷ ps) own go told h = (latest_now w x late Go own go told, h)
 
 own_gone : (w : ℕ) (x : Entry) (act : Act) (late : List Entry) (o : Option CallSoFar) → x.worker ≡ w → x.act ≡ act → x.reply ≡ Pending → OwnCall w late o → OwnCall w (x ∷ late) (gone_on act late o)
-own_gone w x (Advance e) late o own is told h = (latest_now w x late (Advance e) own is told, refl)
-own_gone w x (Read e) late o own is told h = (latest_now w x late (Read e) own is told, refl)
-own_gone w x (Await e v) late o own is told h = (latest_now w x late (Await e v) own is told, refl)
 own_gone w x Go late None own is told h = tt
 own_gone w x Go late (Some call) own is told h = (own_more w call.op x late call.moments own is told h.0, h.1)
-own_gone w x (Ticket q) late o own is told h = (latest_now w x late (Ticket q) own is told, refl)
-own_gone w x (Put c v) late o own is told h = (latest_now w x late (Put c v) own is told, refl)
-own_gone w x (Get c) late o own is told h = (latest_now w x late (Get c) own is told, refl)
+own_gone w x act late o own is told h = (latest_now w x late act own is told, refl)
 
 own_stays : (w : ℕ) (x : Entry) (late : List Entry) (o : Option CallSoFar) → (x.worker == w) ≡ false → OwnCall w late o → OwnCall w (x ∷ late) o
 own_stays w x late None other h = tt
@@ -310,13 +228,8 @@ pub record IsUnderWay (w : ℕ) (op : Act) (late q : List Entry) : Type 0 where
   pub first : first_past rest ≡ q
 
 pub gone_begins : (act : Act) (past : List Entry) (o : Option CallSoFar) → is_go act ≡ false → gone_on act past o ≡ Some (record { op = act; moments = past ∷ [] })
-gone_begins (Advance e) past o h = refl
-gone_begins (Read e) past o h = refl
-gone_begins (Await e v) past o h = refl
 gone_begins Go past o h = cc
-gone_begins (Ticket q) past o h = refl
-gone_begins (Put c v) past o h = refl
-gone_begins (Get c) past o h = refl
+gone_begins act past o h = refl
 
 own_now : (w : ℕ) (x : Entry) (past : List Entry) → x.worker ≡ w → x.reply ≡ Pending → under_way w (x ∷ past) ≡ gone_on x.act past (under_way w past)
 unfolding under_way
@@ -369,7 +282,7 @@ pub record IsWhole (w : ℕ) (op : Act) (x : Entry) (p : List Entry) (rest : Lis
   pub goes : (i : ℕ) (y : Entry) → length (first_past (p ∷ rest)) < i → i ≤ length p → entry_at (x ∷ p) i ≡ Some y → y.worker ≡ w → y.act ≡ Go
   pub pending : (i : ℕ) (y : Entry) → length (first_past (p ∷ rest)) ≤ i → i < length p → entry_at (x ∷ p) i ≡ Some y → y.worker ≡ w → y.reply ≡ Pending
 
-whole_alone : (w : ℕ) (x : Entry) (p : List Entry) → x.worker ≡ w → is_go x.act ≡ false → IsWhole w x.act x p []
+pub whole_alone : (w : ℕ) (x : Entry) (p : List Entry) → x.worker ≡ w → is_go x.act ≡ false → IsWhole w x.act x p []
 whole_alone w x p own begins = record {
   count = λ i le. (let zero_is : i ≡ 0 = omega arith in rw zero_is (own_here w x p own));
   entry = λ i le. (let zero_is : i ≡ 0 = omega arith in rw zero_is (x, past_itself (x ∷ p), own));
@@ -420,19 +333,19 @@ some_same : (c d : CallSoFar) → Some c ≡ Some d → c ≡ d
 some_same c d h = cc
 
 -- a call so far, by its act and moments
-abbrev pub call_with : Act → List (List Entry) → CallSoFar
-call_with op moments = record { op = op; moments = moments }
+abbrev pub so_far : Act → List (List Entry) → CallSoFar
+so_far op moments = record { op = op; moments = moments }
 
-same_op : (a b : Act) (ms ns : List (List Entry)) → Some (record { op = a; moments = ms }) ≡ Some (call_with b ns) → a ≡ b
+same_op : (a b : Act) (ms ns : List (List Entry)) → Some (record { op = a; moments = ms }) ≡ Some (so_far b ns) → a ≡ b
 same_op a b ms ns h = ap (λ (c : CallSoFar). c.op) (some_same (record { op = a; moments = ms }) (record { op = b; moments = ns }) h)
 
-same_rest : (a b : Act) (p : List Entry) (ms ns : List (List Entry)) → Some (record { op = a; moments = p ∷ ms }) ≡ Some (call_with b (p ∷ ns)) → ms ≡ ns
+same_rest : (a b : Act) (p : List Entry) (ms ns : List (List Entry)) → Some (record { op = a; moments = p ∷ ms }) ≡ Some (so_far b (p ∷ ns)) → ms ≡ ns
 same_rest a b p ms ns h =
     (let k : p ∷ ms ≡ p ∷ ns = ap (λ (c : CallSoFar). c.moments) (some_same (record { op = a; moments = p ∷ ms }) (record { op = b; moments = p ∷ ns }) h) in
     cc)
 
 whole_begun : (w : ℕ) (x : Entry) (act : Act) (p : List Entry) (op : Act) (rest : List (List Entry)) → x.worker ≡ w → x.act ≡ act → is_go act ≡ false
-    → Some (record { op = act; moments = p ∷ [] }) ≡ Some (call_with op (p ∷ rest)) → IsWhole w op x p rest
+    → Some (record { op = act; moments = p ∷ [] }) ≡ Some (so_far op (p ∷ rest)) → IsWhole w op x p rest
 whole_begun w x act p op rest own is begins h =
     let a : x.act ≡ op = is ∙ same_op act op (p ∷ []) (p ∷ rest) h in
     let none : [] ≡ rest = same_rest act op p [] rest h in
@@ -440,7 +353,7 @@ whole_begun w x act p op rest own is begins h =
     subst (IsWhole w op x p) none (subst (λ o. IsWhole w o x p []) a alone)
 
 whole_gone : (w : ℕ) (x : Entry) (p : List Entry) (a op : Act) (ms rest : List (List Entry)) → x.worker ≡ w → x.act ≡ Go → Own w a p ms × (is_go a ≡ false)
-    → Some (record { op = a; moments = p ∷ ms }) ≡ Some (call_with op (p ∷ rest)) → IsWhole w op x p rest
+    → Some (record { op = a; moments = p ∷ ms }) ≡ Some (so_far op (p ∷ rest)) → IsWhole w op x p rest
 whole_gone w x p a op [] rest own go h gone = absurd h.0
 whole_gone w x p a op (q ∷ ps) rest own go h gone =
     let same : a ≡ op = same_op a op (p ∷ q ∷ ps) (p ∷ rest) gone in
@@ -449,12 +362,7 @@ whole_gone w x p a op (q ∷ ps) rest own go h gone =
 
 -- what the call is that x goes on with
 pub whole_from : (w : ℕ) (x : Entry) (act : Act) (p : List Entry) (o : Option CallSoFar) (op : Act) (rest : List (List Entry)) → x.worker ≡ w → x.act ≡ act → OwnCall w p o
-    → gone_on act p o ≡ Some (call_with op (p ∷ rest)) → IsWhole w op x p rest
-whole_from w x (Advance e) p o op rest own is h gone = whole_begun w x (Advance e) p op rest own is refl gone
-whole_from w x (Read e) p o op rest own is h gone = whole_begun w x (Read e) p op rest own is refl gone
-whole_from w x (Await e v) p o op rest own is h gone = whole_begun w x (Await e v) p op rest own is refl gone
+    → gone_on act p o ≡ Some (so_far op (p ∷ rest)) → IsWhole w op x p rest
 whole_from w x Go p None op rest own is h gone = cc
 whole_from w x Go p (Some call) op rest own is h gone = whole_gone w x p call.op op call.moments rest own is h gone
-whole_from w x (Ticket q) p o op rest own is h gone = whole_begun w x (Ticket q) p op rest own is refl gone
-whole_from w x (Put c v) p o op rest own is h gone = whole_begun w x (Put c v) p op rest own is refl gone
-whole_from w x (Get c) p o op rest own is h gone = whole_begun w x (Get c) p op rest own is refl gone
+whole_from w x act p o op rest own is h gone = whole_begun w x act p op rest own is refl gone

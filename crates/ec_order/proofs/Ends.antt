@@ -15,6 +15,7 @@ use Rattle.ec_core.specs.Acceptance.{reply_of, IsAccepted}
 use Rattle.ec_core.proofs.Answering.{allowed, IsAllowed, IsReading, IsReadingCall, call_reads, reading_event, width_some}
 use Rattle.ec_order.specs.Calls.{call_of_entries, ended_by, is_reading, number_of}
 use Rattle.ec_order.specs.Sequential.{SequentialState, sequential_reply, sequential_after}
+use Rattle.ec_order.specs.Walk.{is_alone}
 use Rattle.ec_order.proofs.Chains.{IsChain, IsChained, call_chain}
 
 -- the numbers are those of a past
@@ -49,11 +50,7 @@ round_told (Await e v) s reply r h p =
       )
       | false ↦ λ le g. cc
     ] refl h
-round_told (Advance e) s reply r h p = cc
-round_told Go s reply r h p = cc
-round_told (Ticket q) s reply r h p = cc
-round_told (Put x v) s reply r h p = cc
-round_told (Get x) s reply r h p = cc
+round_told act s reply r h p = cc
 
 read_told : (t : Tables) (op : Act) (past : List Entry) (rest : List (List Entry)) (reply : Reply) → 0 < width t (event_or op) → is_reading op ≡ true
     → read_reply t op past rest ≡ reply → is_pending reply ≡ false → EndsRound t op past rest reply
@@ -79,6 +76,7 @@ IsQuiet act = (o : SequentialState) → sequential_after o act ≡ o
 pub record EndsNothing (t : Tables) (x : Entry) (past : List Entry) (o : Option CallSoFar) : Type 0 where
   pub is : ended_by t x (gone_on x.act past o) ≡ []
   pub quiet : IsQuiet x.act
+  pub goes_on : is_alone x.act ≡ false
 
 pub record EndsReading (t : Tables) (x : Entry) (past : List Entry) (o : Option CallSoFar) : Type 0 where
   pub op : Act
@@ -86,6 +84,7 @@ pub record EndsReading (t : Tables) (x : Entry) (past : List Entry) (o : Option 
   pub gone : gone_on x.act past o ≡ Some (record { op = op; moments = past ∷ rest })
   pub is : ended_by t x (gone_on x.act past o) ≡ call_of_entries t x op (past ∷ rest) ∷ []
   pub quiet : IsQuiet x.act
+  pub goes_on : is_alone x.act ≡ false
   pub reading : is_reading op ≡ true
   pub known : event_or op < 32
   pub chain : IsChain past rest
@@ -106,11 +105,11 @@ abbrev entry : ℕ → Act → Reply → Entry
 entry w act reply = record { worker = w; act = act; reply = reply }
 
 reading_ends : (t : Tables) (past : List Entry) (w : ℕ) (act op : Act) (reply : Reply) (rest : List (List Entry)) (o : Option CallSoFar)
-    → gone_on act past o ≡ Some (record { op = op; moments = past ∷ rest }) → IsQuiet act → is_reading op ≡ true → event_or op < 32 → IsChain past rest
+    → gone_on act past o ≡ Some (record { op = op; moments = past ∷ rest }) → IsQuiet act → is_alone act ≡ false → is_reading op ≡ true → event_or op < 32 → IsChain past rest
     → 0 < width t (event_or op) → read_reply t op past rest ≡ reply → Ends t (entry w act reply) past o
-reading_ends t past w act op reply rest o gone quiet r known chain some h =
+reading_ends t past w act op reply rest o gone quiet goes_on r known chain some h =
     elim (is_pending reply) as (λ b. is_pending reply ≡ b → Ends t (entry w act reply) past o) [
-      | true ↦ λ e. inl (record { is = ap (ended_by t (entry w act reply)) gone ∙ ap (λ b. cond b [] (call_of_entries t (entry w act reply) op (past ∷ rest) ∷ [])) e; quiet = quiet })
+      | true ↦ λ e. inl (record { is = ap (ended_by t (entry w act reply)) gone ∙ ap (λ b. cond b [] (call_of_entries t (entry w act reply) op (past ∷ rest) ∷ [])) e; quiet = quiet; goes_on = goes_on })
       | false ↦ λ e.
           (inr (inl (record {
             op = op;
@@ -118,6 +117,7 @@ reading_ends t past w act op reply rest o gone quiet r known chain some h =
             gone = gone;
             is = ap (ended_by t (entry w act reply)) gone ∙ ap (λ b. cond b [] (call_of_entries t (entry w act reply) op (past ∷ rest) ∷ [])) e;
             quiet = quiet;
+            goes_on = goes_on;
             reading = r;
             known = known;
             chain = chain;
@@ -135,17 +135,13 @@ acting_ends t past w act reply o gone p b r h =
 op_reads : (t : Tables) (op : Act) → IsReading t op → is_reading op ≡ true
 op_reads t (Read e) h = refl
 op_reads t (Await e v) h = refl
-op_reads t (Advance e) h = absurd h
-op_reads t Go h = absurd h
-op_reads t (Ticket q) h = absurd h
-op_reads t (Put x v) h = absurd h
-op_reads t (Get x) h = absurd h
+op_reads t op h = absurd h
 
 go_ends : (t : Tables) (past : List Entry) (w : ℕ) (reply : Reply) (o : Option CallSoFar) → IsDeclared t → IsChained past o → IsReadingCall t o
     → go_reply t past o ≡ reply → Ends t (entry w Go reply) past o
-go_ends t past w reply None d chain reads h = inl (record { is = refl; quiet = λ s. refl })
+go_ends t past w reply None d chain reads h = inl (record { is = refl; quiet = λ s. refl; goes_on = refl })
 go_ends t past w reply (Some call) d chain reads h =
-    reading_ends t past w Go call.op reply call.moments (Some call) refl (λ s. refl) (op_reads t call.op reads) (let few : length t.events ≤ 32 = d.few in let e : event_or call.op < length t.events = reading_event t call.op reads in omega arith) chain
+    reading_ends t past w Go call.op reply call.moments (Some call) refl (λ s. refl) refl (op_reads t call.op reads) (let few : length t.events ≤ 32 = d.few in let e : event_or call.op < length t.events = reading_event t call.op reads in omega arith) chain
     (width_some t (event_or call.op) d (reading_event t call.op reads)) h
 
 -- what an accepted entry ends
@@ -153,9 +149,9 @@ pub ends_at : (t : Tables) (past : List Entry) (w : ℕ) (act : Act) (reply : Re
     → Ends t (entry w act reply) past (under_way w past)
 ends_at t past w (Advance e) reply d acc a h = acting_ends t past w (Advance e) reply (under_way w past) refl (ap is_pending (sym h)) refl refl (λ s k. ap Some h)
 ends_at t past w (Read e) reply d acc a h =
-    reading_ends t past w (Read e) (Read e) reply [] (under_way w past) refl (λ s. refl) refl (let few : length t.events ≤ 32 = d.few in let k : e < length t.events = leb-false (length t.events) e a.known in omega arith) tt (width_some t e d (leb-false (length t.events) e a.known)) h
+    reading_ends t past w (Read e) (Read e) reply [] (under_way w past) refl (λ s. refl) refl refl (let few : length t.events ≤ 32 = d.few in let k : e < length t.events = leb-false (length t.events) e a.known in omega arith) tt (width_some t e d (leb-false (length t.events) e a.known)) h
 ends_at t past w (Await e v) reply d acc a h =
-    reading_ends t past w (Await e v) (Await e v) reply [] (under_way w past) refl (λ s. refl) refl (let few : length t.events ≤ 32 = d.few in let k : e < length t.events = leb-false (length t.events) e a.known in omega arith) tt (width_some t e d (leb-false (length t.events) e a.known)) h
+    reading_ends t past w (Await e v) (Await e v) reply [] (under_way w past) refl (λ s. refl) refl refl (let few : length t.events ≤ 32 = d.few in let k : e < length t.events = leb-false (length t.events) e a.known in omega arith) tt (width_some t e d (leb-false (length t.events) e a.known)) h
 ends_at t past w Go reply d acc a h = go_ends t past w reply (under_way w past) d (call_chain w past) (call_reads t past w acc) h
 ends_at t past w (Ticket q) reply d acc a h =
     acting_ends t past w (Ticket q) reply (under_way w past) refl (ap is_pending (sym h)) refl refl (λ s k. ap (λ n. Some (Number n)) (k.sequencers q) ∙ ap Some h)

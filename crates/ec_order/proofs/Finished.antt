@@ -21,11 +21,13 @@ use Rattle.ec_order.specs.Cuts.{own_entries, IsLastRound, IsFinishedCall}
 use Rattle.ec_order.specs.Laws.{CallsAreCutInOrder}
 use Rattle.ec_order.specs.Points.{first_entries}
 use Rattle.ec_order.proofs.Checking.{ends_rise}
-use Rattle.ec_order.proofs.Chains.{past_itself, past_trans, past_next, past_shorter}
+use Rattle.ec_order.proofs.Chains.{past_trans, past_before, past_shorter}
 use Rattle.ec_order.proofs.Points.{first_of_past}
 use Rattle.ec_order.proofs.Ends.{Ends, ends}
 use Rattle.ec_order.proofs.Natural.{first_is_past_at}
-use Rattle.ec_order.proofs.Cutting.{entry_at, entry_in, entry_since, entry_within, find_entry, own_count, past_of_both, same_past, own_rises, first_past, first_at_end, own_under_way, same_some, first_more, IsUnderWay, under_way_is, gone_begins, IsWhole, whole_from, call_with}
+use Rattle.ec_order.proofs.Matching.{none_in}
+use Rattle.ec_order.proofs.Positions.{entry_at, entry_in, entry_since, entry_within, find_entry, past_of_both, same_past, same_some}
+use Rattle.ec_order.proofs.Cutting.{own_count, own_rises, first_past, first_at_end, own_under_way, first_more, IsUnderWay, under_way_is, gone_begins, IsWhole, whole_alone, whole_from, so_far}
 
 -- how many of the entries before a past of one history are the worker's
 own_entries_is : (w : ℕ) (whole q : List Entry) → IsPastOf q whole → own_entries w (length q) (reverse whole) ≡ own_count w q
@@ -84,10 +86,10 @@ module _ (t : Tables) (whole : List Entry) (op : Act) (x : Entry) (p : List Entr
       let round_is : the_call.round ≡ length r = ap (λ j. position_of (p ∷ rest) (j % n)) one in
       let e = k.entry i i_le in
       let in_r : IsPastOf (e.0 ∷ r) whole = past_trans (e.0 ∷ r) (x ∷ p) whole e.1 in' in
-      let in_r' : IsPastOf r whole = past_trans r (e.0 ∷ r) whole (past_next e.0 r r (past_itself r)) in_r in
+      let in_r' : IsPastOf r whole = past_before e.0 r whole in_r in
       let q = first_past (p ∷ rest) in
       let f = k.first in
-      let in_q : IsPastOf q whole = past_trans q (x ∷ p) whole (past_trans q (f.0 ∷ q) (x ∷ p) (past_next f.0 q q (past_itself q)) f.1) in' in
+      let in_q : IsPastOf q whole = past_trans q (x ∷ p) whole (past_before f.0 q (x ∷ p) f.1) in' in
       let count_r : own_count w (x ∷ p) ≡ own_count w r + (i + 1) = k.count i i_le in
       let count_q : own_count w (x ∷ p) ≡ own_count w q + (len + 1) = k.count len (omega arith) ∙ ap (λ z. own_count w z + (len + 1)) (first_at_end p rest) in
       let parts : i + len / n * n ≡ len = mod-add-div' len n in
@@ -111,9 +113,6 @@ module _ (t : Tables) (whole : List Entry) (op : Act) (x : Entry) (p : List Entr
         one = omega (arith, own_x, own_r, count_r, whole_is);
       }
 
-none_in : (c : Call) → Contains [] c → ⊥
-none_in c (k, lt, e) = omega arith
-
 one_in : (a c : Call) → Contains (a ∷ []) c → a ≡ c
 one_in a c (zero, lt, e) = e
 one_in a c (suc k, lt, e) = absurd (omega arith)
@@ -130,8 +129,7 @@ ended_cut t whole x p in' (inr (inl r)) c h =
     let R : Bool → Type 0 = λ b. MatchBool b (IsLastRound t (reverse whole) the) ((the.first ≡ the.last) × (the.round ≡ the.last)) in
     subst (IsFinishedCall t (reverse whole)) is (cut_so t whole r.op x p r.rest in' r.final k (subst R (sym r.reading) round))
 ended_cut t whole x p in' (inr (inr a)) c h =
-    let gone : gone_on x.act p (under_way x.worker p) ≡ Some (call_with x.act (p ∷ [])) = gone_begins x.act p (under_way x.worker p) a.begins in
-    let k : IsWhole x.worker x.act x p [] = whole_from x.worker x x.act p (under_way x.worker p) x.act [] refl refl (own_under_way x.worker p) gone in
+    let k : IsWhole x.worker x.act x p [] = whole_alone x.worker x p refl a.begins in
     let the = call_of_entries t x x.act (p ∷ []) in
     let is : the ≡ c = one_in the c (subst (λ zs. Contains zs c) a.is h) in
     let n = width t (event_or x.act) in
@@ -164,7 +162,7 @@ ended_contained t (y ∷ since) x p c h =
 -- the entries of a call that is cut so
 record Parts (c : Call) (x : Entry) (p q : List Entry) : Type 0 where
   pub rest : List (List Entry)
-  pub gone : gone_on x.act p (under_way x.worker p) ≡ Some (call_with c.op (p ∷ rest))
+  pub gone : gone_on x.act p (under_way x.worker p) ≡ Some (so_far c.op (p ∷ rest))
   pub first : first_past (p ∷ rest) ≡ q
 
 parts_alone : (t : Tables) (whole : List Entry) (c : Call) (k : IsFinishedCall t (reverse whole) c) (p q : List Entry) → IsPastOf (k.closing ∷ p) whole → IsPastOf (k.opening ∷ q) whole
@@ -173,11 +171,11 @@ parts_alone t whole c k p q in_p in_q at_p at_q same =
     let x = k.closing in
     let one : k.opening ≡ x = same_some k.opening x (sym k.opens ∙ ap (entry_at whole) same ∙ k.closes) in
     let act : x.act ≡ c.op = ap (λ (z : Entry). z.act) (sym one) ∙ k.opening_act in
-    let p_in : IsPastOf p whole = past_trans p (x ∷ p) whole (past_next x p p (past_itself p)) in_p in
-    let q_in : IsPastOf q whole = past_trans q (k.opening ∷ q) whole (past_next k.opening q q (past_itself q)) in_q in
+    let p_in : IsPastOf p whole = past_before x p whole in_p in
+    let q_in : IsPastOf q whole = past_before k.opening q whole in_q in
     record {
       rest = [];
-      gone = gone_begins x.act p (under_way x.worker p) (ap is_go act ∙ k.begins) ∙ ap (λ a. Some (call_with a (p ∷ []))) act;
+      gone = gone_begins x.act p (under_way x.worker p) (ap is_go act ∙ k.begins) ∙ ap (λ a. Some (so_far a (p ∷ []))) act;
       first = same_past p q whole p_in q_in (at_p ∙ sym same ∙ sym at_q);
     }
 
@@ -191,7 +189,7 @@ entry_of q s p i y is at = ap (λ l. entry_at l i) is ∙ at
 
 parts_of : (c : Call) (x : Entry) (p late q : List Entry) → p ≡ late → x.worker ≡ c.worker → x.act ≡ Go → IsUnderWay c.worker c.op late q → Parts c x p q
 parts_of c x p late q is mine go r =
-    let way : under_way x.worker p ≡ Some (call_with c.op r.rest) = ap (λ v. under_way v p) mine ∙ ap (under_way c.worker) is ∙ r.is in
+    let way : under_way x.worker p ≡ Some (so_far c.op r.rest) = ap (λ v. under_way v p) mine ∙ ap (under_way c.worker) is ∙ r.is in
     record {
       rest = r.rest;
       gone = ap (λ a. gone_on a p (under_way x.worker p)) go ∙ ap (gone_on Go p) way;
@@ -213,7 +211,7 @@ parts_from t whole c k p q s p_in is at_p at_q less =
 parts_more : (t : Tables) (whole : List Entry) (c : Call) (k : IsFinishedCall t (reverse whole) c) (p q : List Entry) → IsPastOf (k.closing ∷ p) whole → IsPastOf (k.opening ∷ q) whole
     → length p ≡ c.last → length q ≡ c.first → c.first < c.last → Parts c k.closing p q
 parts_more t whole c k p q in_p in_q at_p at_q less =
-    let p_in : IsPastOf p whole = past_trans p (k.closing ∷ p) whole (past_next k.closing p p (past_itself p)) in_p in
+    let p_in : IsPastOf p whole = past_before k.closing p whole in_p in
     let both : IsPastOf (k.opening ∷ q) p = past_of_both (k.opening ∷ q) p whole in_q p_in (omega arith) in
     parts_from t whole c k p q both.since p_in both.is at_p at_q less
 
@@ -256,7 +254,7 @@ module _ (t : Tables) (whole : List Entry) (c : Call) (x : Entry) (p q : List En
   round_low =
       let w = x.worker in
       let f = k.first in
-      let q_in : IsPastOf q (x ∷ p) = subst (λ z. IsPastOf z (x ∷ p)) first (past_trans (first_past (p ∷ rest)) (f.0 ∷ first_past (p ∷ rest)) (x ∷ p) (past_next f.0 (first_past (p ∷ rest)) (first_past (p ∷ rest)) (past_itself (first_past (p ∷ rest)))) f.1) in
+      let q_in : IsPastOf q (x ∷ p) = subst (λ z. IsPastOf z (x ∷ p)) first (past_before f.0 (first_past (p ∷ rest)) (x ∷ p) f.1) in
       let le : length rest % width t (event_or c.op) ≤ length rest = mod-le (length rest) (width t (event_or c.op)) in
       elim (cases_lt (length round_past) (length q)) [
         | inl lt ↦ (let up : own_count w round_past < own_count w q = own_rises w round_past q (x ∷ p) round_entry.0 round_entry.2 round_entry.1 q_in lt in absurd (omega (arith, counts.0, counts.1)))
@@ -278,9 +276,9 @@ module _ (t : Tables) (whole : List Entry) (c : Call) (x : Entry) (p q : List En
       let f = find_entry whole c.round l.entry l.at in
       let r = f.before in
       let own : l.entry.worker ≡ w = l.own ∙ sym mine in
-      let r_in : IsPastOf r whole = past_trans r (l.entry ∷ r) whole (past_next l.entry r r (past_itself r)) f.in_late in
+      let r_in : IsPastOf r whole = past_before l.entry r whole f.in_late in
       let kf = k.first in
-      let q_in : IsPastOf q whole = subst (λ z. IsPastOf z whole) first (past_trans (first_past (p ∷ rest)) (x ∷ p) whole (past_trans (first_past (p ∷ rest)) (kf.0 ∷ first_past (p ∷ rest)) (x ∷ p) (past_next kf.0 (first_past (p ∷ rest)) (first_past (p ∷ rest)) (past_itself (first_past (p ∷ rest)))) kf.1) in_p) in
+      let q_in : IsPastOf q whole = subst (λ z. IsPastOf z whole) first (past_trans (first_past (p ∷ rest)) (x ∷ p) whole (past_before kf.0 (first_past (p ∷ rest)) (x ∷ p) kf.1) in_p) in
       let at : (v : ℕ) → own_entries c.worker v (reverse whole) ≡ own_entries w v (reverse whole) = λ v. ap (λ u. own_entries u v (reverse whole)) (sym mine) in
       let own_r : own_entries c.worker c.round (reverse whole) ≡ own_count w r = at c.round ∙ ap (λ j. own_entries w j (reverse whole)) (sym f.here) ∙ own_entries_is w whole r r_in in
       let own_q : own_entries c.worker c.first (reverse whole) ≡ own_count w q = at c.first ∙ ap (λ j. own_entries w j (reverse whole)) (sym at_q) ∙ own_entries_is w whole q q_in in
@@ -297,7 +295,7 @@ module _ (t : Tables) (whole : List Entry) (c : Call) (x : Entry) (p q : List En
       let parts : len ≡ a + b = omega (arith, few) in
       let i_is : len % n ≡ b = ap (λ z. z % n) parts ∙ mod-mul-add l.rounds n b less in
       let same : own_count w round_past ≡ own_count w r = omega (arith, counts.0, counts.1, whole_is, i_is, parts) in
-      let round_whole : IsPastOf round_past whole = past_trans round_past (round_entry.0 ∷ round_past) whole (past_next round_entry.0 round_past round_past (past_itself round_past)) round_in in
+      let round_whole : IsPastOf round_past whole = past_before round_entry.0 round_past whole round_in in
       let long : length round_past ≡ length r =
       elim (cases_order (length round_past) (length r)) [
         | inl e ↦ e

@@ -1,5 +1,5 @@
 -- What the check of a list keeps, and the verdicts that it comes to.
-use Rattle.std.proofs.Common.{◌≡◌, ℕ, zero, suc, ◌+◌, ◌<◌, ◌≤◌, ◌⊎◌, inl, inr, max, Bool, true, false, List, [], ◌∷◌, ◌++◌, length, Some, None, refl, ap, sym, ◌∙◌, arith, subst, cond, ◌==◌, nat_le, get_or, set, take, slice_get, slice_index, slice_set, length-set, get_or-set_same, get_or-set_other, Vec, Global, length-append}
+use Rattle.std.proofs.Common.{◌≡◌, ℕ, ◌+◌, ◌<◌, ◌≤◌, ◌⊎◌, inl, inr, max, Bool, true, false, List, [], ◌∷◌, ◌++◌, length, Some, None, refl, ap, sym, ◌∙◌, arith, subst, cond, ◌==◌, nat_le, get_or, set, take, slice_get, slice_index, slice_set, length-set, get_or-set_same, get_or-set_other, Vec, Global, length-append}
 use Rattle.std.specs.List.{All, AllPairs, Any, Contains}
 use Rattle.std.proofs.lemmas.Bool.{true≢false, eqb-true, eqb-false, cases_order, cases_eq, cases_lt}
 use Rattle.std.proofs.lemmas.List.{set_past, take_all, get_or_append_left, get_or_push, get_or_past}
@@ -7,7 +7,7 @@ use Rattle.std.proofs.lemmas.List.Elements.{All-weaker, All-contains, All-push, 
 use Rattle.std.proofs.lemmas.Option.{slice_get_within, slice_get-get_or, get_or_from_slice_get}
 use Rattle.ec_count.specs.Tables.{Tables, IsDeclared}
 use Rattle.ec_core.specs.declared.act.Act.{Act}
-use Rattle.ec_core.specs.declared.act.Act.TheVariants.{Advance, Read, Await, Go, Ticket, Put, Get}
+use Rattle.ec_core.specs.declared.act.Act.TheVariants.{Advance, Read, Await, Ticket, Put, Get}
 use Rattle.ec_core.specs.declared.act.Reply.TheVariants.{Number}
 use Rattle.ec_core.specs.declared.act.Entry.{Entry}
 use Rattle.ec_core.specs.Acceptance.{IsAccepted}
@@ -24,9 +24,10 @@ use Rattle.ec_order.specs.Orders.{calls_in}
 use Rattle.ec_order.specs.Index.{IsIndex, point_in}
 use Rattle.ec_order.specs.Verdicts.{IsSound, AreSound, IsVerdict, IsLate}
 use Rattle.ec_order.specs.Numbered.{reply_in, after_in, AreFew}
+use Rattle.ec_order.proofs.Matching.{none_in, at_index}
 use Rattle.ec_order.proofs.Fits.{Fits, all_fit}
 use Rattle.ec_order.proofs.Running.{after_append}
-use Rattle.ec_order.proofs.Arranging.{placed_is}
+use Rattle.ec_order.proofs.Reaching.{placed_is}
 use Rattle.ec_order.proofs.Checking.{taken_more, calls_more, sound_good, EndsFirst, ends_rise}
 
 -- THE NUMBERS
@@ -40,13 +41,11 @@ pub record IsShown (n : Numbers) (o : SequentialState) : Type 0 where
   pub long_cells : length n.cells ≡ 256
 
 told_same : (n : Numbers) (o : SequentialState) (op : Act) → IsShown n o → IsNamed op → reply_in n op ≡ sequential_reply o op
-told_same n o (Advance e) s k = refl
 told_same n o (Read e) s k = ap (λ v. Some (Number v)) (s.events e k)
 told_same n o (Await e v) s k = ap (λ w. cond (nat_le v w) (Some (Number w)) None) (s.events e k)
-told_same n o Go s k = refl
 told_same n o (Ticket q) s k = ap (λ v. Some (Number v)) (s.sequencers q k)
-told_same n o (Put x v) s k = refl
 told_same n o (Get x) s k = ap (λ v. Some (Number v)) (s.cells x k)
+told_same n o op s k = refl
 
 put_same : (xs : List ℕ) (f : ℕ → ℕ) (n m v : ℕ) → n < length xs → get_or xs m 0 ≡ f m → get_or (set xs n v) m 0 ≡ put_at f n v m
 put_same xs f n m v lt h =
@@ -64,9 +63,6 @@ shown_after n o (Advance e) s k = record {
   long_sequencers = s.long_sequencers;
   long_cells = s.long_cells;
 }
-shown_after n o (Read e) s k = s
-shown_after n o (Await e v) s k = s
-shown_after n o Go s k = s
 shown_after n o (Ticket q) s k = record {
   events = s.events;
   sequencers = λ f lt. put_same n.sequencers o.sequencers q f (slice_index n.sequencers q + 1) (let l : length n.sequencers ≡ 32 = s.long_sequencers in omega arith) (s.sequencers f lt) ∙ ap (λ v. put_at o.sequencers q (v + 1) f) (s.sequencers q k);
@@ -83,7 +79,7 @@ shown_after n o (Put x v) s k = record {
   long_sequencers = s.long_sequencers;
   long_cells = length-set n.cells x v ∙ s.long_cells;
 }
-shown_after n o (Get x) s k = s
+shown_after n o op s k = s
 
 few_set : (xs : List ℕ) (i n m : ℕ) → ((k : ℕ) → get_or xs k 0 ≤ i) → get_or (set xs n (get_or xs n 0 + 1)) m 0 ≤ i + 1
 few_set xs i n m h =
@@ -101,12 +97,8 @@ few_next xs i m h = (let there : get_or xs m 0 ≤ i = h m in omega arith)
 
 few_after : (n : Numbers) (i : ℕ) (op : Act) → AreFew n i → AreFew (after_in n op) (i + 1)
 few_after n i (Advance e) f = record { events = λ k. few_set n.events i e k f.events; sequencers = λ k. few_next n.sequencers i k f.sequencers }
-few_after n i (Read e) f = record { events = λ k. few_next n.events i k f.events; sequencers = λ k. few_next n.sequencers i k f.sequencers }
-few_after n i (Await e v) f = record { events = λ k. few_next n.events i k f.events; sequencers = λ k. few_next n.sequencers i k f.sequencers }
-few_after n i Go f = record { events = λ k. few_next n.events i k f.events; sequencers = λ k. few_next n.sequencers i k f.sequencers }
 few_after n i (Ticket q) f = record { events = λ k. few_next n.events i k f.events; sequencers = λ k. few_set n.sequencers i q k f.sequencers }
-few_after n i (Put x v) f = record { events = λ k. few_next n.events i k f.events; sequencers = λ k. few_next n.sequencers i k f.sequencers }
-few_after n i (Get x) f = record { events = λ k. few_next n.events i k f.events; sequencers = λ k. few_next n.sequencers i k f.sequencers }
+few_after n i op f = record { events = λ k. few_next n.events i k f.events; sequencers = λ k. few_next n.sequencers i k f.sequencers }
 
 -- THE CHECK OF THE FIRST i PLACES
 
@@ -264,14 +256,6 @@ reached_more before p latest r =
           inr (subst (λ m. Any (λ (q : Placed). q.call.first ≡ m) (before ++ p ∷ [])) (sym same) (any_last (λ (q : Placed). q.call.first ≡ p.call.first) before p refl)))
     ]
 
-none_in : (c : Call) → Contains [] c → ⊥
-none_in c (k, low, at) = omega arith
-
-call_at : (cs : List Call) (j : ℕ) → j < length cs → (c : Call) × (slice_get cs j ≡ Some c)
-call_at [] j h = absurd (omega arith)
-call_at (c ∷ cs) zero h = (c, refl)
-call_at (c ∷ cs) (suc j) h = call_at cs j (omega arith)
-
 sound_next : (t : Tables) (past : List Entry) (ps : List Placed) (i : ℕ) (p : Placed) → AreSound t past ps i → slice_get ps i ≡ Some p → IsSound t past (take i ps) p → AreSound t past ps (i + 1)
 sound_next t past ps i p s at here k q lt there =
     elim (cases_lt k i) [
@@ -321,7 +305,7 @@ pub lacks_end : (t : Tables) (past : List Entry) (ps : List Placed) (cs : List C
 lacks_end t past ps cs seen latest n j g s m =
     let whole : take (length ps) ps ≡ ps = take_all (length ps) ps (omega arith) in
     let low : j < length cs = (let a : j < length seen = slice_get_within seen j false m in let b : length seen ≡ length cs = s.long in omega arith) in
-    let c = call_at cs j low in
+    let c = at_index cs j low in
     inr (refl, record { sound = s.sound; call = c.0; known = known_at t past cs j c.0 g c.1; nowhere = subst (λ zs. Contains (calls_in zs) c.0 → ⊥) whole ((s.marks j c.0 c.1).1 m) })
 
 pub good_end : (t : Tables) (past : List Entry) (ps : List Placed) (cs : List Call) (seen : List Bool) (latest : ℕ) (n : Numbers) → IsGiven t past cs → IsChecked t past ps (length ps) cs seen latest n

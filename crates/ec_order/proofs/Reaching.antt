@@ -1,14 +1,15 @@
 -- The point of a read or an await is where the index of the advances says.
-use Rattle.std.proofs.Common.{◌≡◌, ℕ, zero, suc, ◌+◌, ◌-◌, ◌<◌, ◌≤◌, inl, inr, max, Bool, true, false, List, [], ◌∷◌, ◌++◌, length, refl, ap, sym, ◌∙◌, arith, cond, ◌==◌, nat_le, get_or, length-append, append-nil}
+use Rattle.std.proofs.Common.{◌≡◌, ℕ, zero, suc, ◌+◌, ◌-◌, ◌<◌, ◌≤◌, inl, inr, max, Bool, true, false, List, [], ◌∷◌, ◌++◌, length, refl, ap, sym, ◌∙◌, arith, cond, ◌==◌, nat_le, get_or, length-append, append-nil, Vec, Global}
 use Rattle.std.proofs.lemmas.Bool.{leb-true, eq-eqb, ne_eqb, cases_lt, lt-leb, le-leb}
 use Rattle.std.proofs.lemmas.List.{get_or_append_left, get_or_push}
 use Rattle.ec_core.specs.declared.act.Entry.{Entry}
 use Rattle.ec_core.specs.Counts.{total, is_advance}
 use Rattle.ec_core.specs.Rounds.{event_or}
 use Rattle.ec_order.specs.declared.call.Call.{Call}
+use Rattle.ec_order.specs.declared.placed.Placed.{Placed}
 use Rattle.ec_order.specs.Calls.{is_reading, number_of}
-use Rattle.ec_order.specs.Points.{first_entries, first_moment, point_of}
-use Rattle.ec_order.specs.Index.{advanced, moment_of, point_by}
+use Rattle.ec_order.specs.Points.{first_entries, first_moment, point_of, with_point}
+use Rattle.ec_order.specs.Index.{advanced, moment_of, moments_in, IsIndex, point_by, point_in, placed_in}
 use Rattle.ec_order.proofs.Points.{first_at, first_next}
 use Rattle.ec_order.proofs.Fits.{Fits, acts_there}
 
@@ -147,3 +148,14 @@ point_is past c f =
           (λ j a b. ne_eqb (total_at j) n (λ same. (let less : total_at j < n = here.before j (omega arith) in omega arith))))
       | false ↦ λ r. acts_there past c r
     ] refl
+
+-- a call is placed as the index says
+pub placed_is : (past : List Entry) (lists : List (Vec ℕ Global)) (c : Call) → IsIndex past lists → Fits past c → placed_in lists c ≡ with_point past c
+placed_is past lists c index f =
+    let at : ℕ → Placed = λ k. record { call = c; point = k } in
+    let same : point_in lists c ≡ point_of past c =
+    elim (is_reading c.op) as (λ b. is_reading c.op ≡ b → point_in lists c ≡ point_of past c) [
+      | true ↦ λ r. ap (λ ms. point_by ms c) (index (event_or c.op) (f.known r)) ∙ sym (point_is past c f)
+      | false ↦ λ r. ap (λ b. cond b (max c.round (moment_of (moments_in lists (event_or c.op)) (number_of c.reply))) c.last) r ∙ sym (acts_there past c r)
+    ] refl in
+    ap at same

@@ -7,7 +7,7 @@ use Rattle.std.proofs.lemmas.List.{map-append}
 use Rattle.std.proofs.lemmas.List.Elements.{All-nil, All-cons, All-append, All-weaker, All-head, All-tail, All-map, All-filter, filter-append, filter_passes}
 use Rattle.ec_count.specs.Tables.{Tables, IsDeclared}
 use Rattle.ec_core.specs.declared.act.Act.{Act}
-use Rattle.ec_core.specs.declared.act.Act.TheVariants.{Advance, Read, Await, Go, Ticket, Put, Get}
+use Rattle.ec_core.specs.declared.act.Act.TheVariants.{Advance, Read, Await, Ticket, Put}
 use Rattle.ec_core.specs.declared.act.Reply.{Reply}
 use Rattle.ec_core.specs.declared.act.Entry.{Entry}
 use Rattle.ec_core.specs.Counts.{total, issued, cell_value}
@@ -22,7 +22,7 @@ use Rattle.ec_order.specs.Points.{point_of, first_entries}
 use Rattle.ec_order.specs.Sequential.{SequentialState, zero_state, put_at, sequential_reply, sequential_after, sequential_after_all, IsSequentialRun}
 use Rattle.ec_order.specs.Orders.{calls_in}
 use Rattle.ec_order.specs.Points.{with_point, reads_at, acts_at, at_moment, by_moments}
-use Rattle.ec_order.proofs.Chains.{past_trans, past_next, past_itself}
+use Rattle.ec_order.proofs.Chains.{past_before}
 use Rattle.ec_order.proofs.Points.{first_of_past}
 use Rattle.ec_order.proofs.Ends.{Shows, Ends, ends}
 use Rattle.ec_order.proofs.Fits.{Fits, all_fit, has_point, acts_there}
@@ -74,23 +74,16 @@ stored_at f n m v k h = elim (m == n) as (λ b. cond b v (f n) ≡ unwrap_or (co
 pub shows_after : (o : SequentialState) (w : ℕ) (act : Act) (reply : Reply) (past : List Entry) → Shows o past → Shows (sequential_after o act) (record { worker = w; act = act; reply = reply } ∷ past)
 unfolding total issued cell_value
 shows_after o w (Advance f) reply past h = record { events = λ e. raised_at o.events e f (total e past) (h.events e); sequencers = λ q. kept (o.sequencers q) (issued q past) (h.sequencers q); cells = h.cells }
-shows_after o w (Read f) reply past h = record { events = λ e. kept (o.events e) (total e past) (h.events e); sequencers = λ q. kept (o.sequencers q) (issued q past) (h.sequencers q); cells = h.cells }
-shows_after o w (Await f v) reply past h = record { events = λ e. kept (o.events e) (total e past) (h.events e); sequencers = λ q. kept (o.sequencers q) (issued q past) (h.sequencers q); cells = h.cells }
-shows_after o w Go reply past h = record { events = λ e. kept (o.events e) (total e past) (h.events e); sequencers = λ q. kept (o.sequencers q) (issued q past) (h.sequencers q); cells = h.cells }
 shows_after o w (Ticket f) reply past h = record { events = λ e. kept (o.events e) (total e past) (h.events e); sequencers = λ q. raised_at o.sequencers q f (issued q past) (h.sequencers q); cells = h.cells }
 shows_after o w (Put f v) reply past h = record { events = λ e. kept (o.events e) (total e past) (h.events e); sequencers = λ q. kept (o.sequencers q) (issued q past) (h.sequencers q); cells = λ x. stored_at o.cells x f v (cell_value x past) (h.cells x) }
-shows_after o w (Get f) reply past h = record { events = λ e. kept (o.events e) (total e past) (h.events e); sequencers = λ q. kept (o.sequencers q) (issued q past) (h.sequencers q); cells = h.cells }
+shows_after o w act reply past h = record { events = λ e. kept (o.events e) (total e past) (h.events e); sequencers = λ q. kept (o.sequencers q) (issued q past) (h.sequencers q); cells = h.cells }
 
 -- THE READS AND AWAITS OF A MOMENT
 
 reading_quiet : (op : Act) (o : SequentialState) → is_reading op ≡ true → sequential_after o op ≡ o
 reading_quiet (Read e) o h = refl
 reading_quiet (Await e v) o h = refl
-reading_quiet (Advance e) o h = cc
-reading_quiet Go o h = cc
-reading_quiet (Ticket q) o h = cc
-reading_quiet (Put x v) o h = cc
-reading_quiet (Get x) o h = cc
+reading_quiet op o h = cc
 
 -- a placed call of a past
 pub record IsPlaced (past : List Entry) (p : Placed) : Type 0 where
@@ -230,7 +223,7 @@ reaches t whole (x ∷ past) since d acc all is =
     let before = reaches t whole past (since ++ x ∷ []) d acc all (is ∙ sym (append_assoc since (x ∷ []) past)) in
     let o = before.object in
     let shows : Shows o past = before.runs.shows in
-    let reads : RunsTo (filter (reads_at k) ps) o o past = reads_run whole past ps o (past_trans past (x ∷ past) whole (past_next x past past (past_itself past)) in') all shows in
+    let reads : RunsTo (filter (reads_at k) ps) o o past = reads_run whole past ps o (past_before x past whole in') all shows in
     let here : RunsTo (filter (acts_at k) (map (with_point whole) (ended_by t x (gone_on x.act past (under_way x.worker past))))) o (sequential_after o x.act) (x ∷ past) =
     entry_runs t whole past x o (ends t x past d (accepted_before t since (x ∷ past) acc')) shows in
     let same : filter (acts_at k) ps ≡ filter (acts_at k) (map (with_point whole) (ended_by t x (gone_on x.act past (under_way x.worker past)))) =

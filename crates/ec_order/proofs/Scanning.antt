@@ -1,16 +1,14 @@
 -- The scan of a history keeps what its calls under way are.
-use Rattle.std.proofs.Common.{◌≡◌, ℕ, zero, suc, ◌+◌, ◌-◌, ◌%◌, ◌<◌, ◌≤◌, Bool, true, false, not, List, [], ◌∷◌, ◌++◌, length, map, Option, Some, None, refl, ap, sym, ◌∙◌, arith, cond, subst, ◌==◌, nat_le, take, drop, reverse, slice_get, slice_set, unwrap_or, add-one, get_or, count_by, append_assoc, append-nil, take_all}
+use Rattle.std.proofs.Common.{◌≡◌, ℕ, zero, suc, ◌+◌, ◌-◌, ◌%◌, ◌<◌, ◌≤◌, Bool, true, false, not, List, [], ◌∷◌, ◌++◌, length, Option, Some, None, refl, ap, sym, ◌∙◌, arith, cond, subst, ◌==◌, nat_le, take, drop, reverse, slice_get, slice_set, unwrap_or, add-one, get_or, count_by}
 use Rattle.std.specs.Option.{option_map, option_to_list}
-use Rattle.std.specs.List.{filter}
-use Rattle.std.proofs.lemmas.List.Elements.{filter-append}
 use Rattle.std.proofs.lemmas.Bool.{eqb-true, eq-eqb, ne_eqb}
-use Rattle.std.proofs.lemmas.List.{map-append, reverse-append, take-append-drop, take_more, length-set, length-reverse, length-take-le}
+use Rattle.std.proofs.lemmas.List.{reverse-append, take-append-drop, take_more, length-set, length-reverse, length-take-le}
 use Rattle.std.proofs.lemmas.Option.{slice_get_within, get_or_from_slice_get}
 use Rattle.std.proofs.lemmas.List.Sums.{count_by_more_no, count_by_more_yes}
 use Rattle.std.proofs.Math.Nat.{mod-le}
 use Rattle.ec_count.specs.Tables.{Tables, IsDeclared}
 use Rattle.ec_core.specs.declared.act.Act.{Act}
-use Rattle.ec_core.specs.declared.act.Act.TheVariants.{Advance, Read, Await, Go, Ticket, Put, Get}
+use Rattle.ec_core.specs.declared.act.Act.TheVariants.{Go}
 use Rattle.ec_core.specs.declared.act.Reply.{Reply}
 use Rattle.ec_core.specs.declared.act.Entry.{Entry}
 use Rattle.ec_core.specs.Calls.{CallSoFar, under_way, gone_on, is_pending}
@@ -119,14 +117,9 @@ IsWide t (Some call) = 0 < width t (event_or call.op)
 
 gone_entered : (t : Tables) (past : List Entry) (act : Act) (o : Option CallSoFar) → HasMoment o → IsWide t o
     → begun_after act (option_map (begun_of t) o) (length past) ≡ option_map (entered t) (gone_on act past o)
-gone_entered t past (Advance e) o h w = first_entered t past (Advance e)
-gone_entered t past (Read e) o h w = first_entered t past (Read e)
-gone_entered t past (Await e v) o h w = first_entered t past (Await e v)
 gone_entered t past Go None h w = refl
 gone_entered t past Go (Some call) h w = go_entered t past call h w
-gone_entered t past (Ticket q) o h w = first_entered t past (Ticket q)
-gone_entered t past (Put x v) o h w = first_entered t past (Put x v)
-gone_entered t past (Get x) o h w = first_entered t past (Get x)
+gone_entered t past act o h w = first_entered t past act
 
 -- the call that an entry ends
 told_ended : (t : Tables) (x : Entry) (past : List Entry) (g : Option CallSoFar) → IsGone past g
@@ -205,7 +198,7 @@ prefix_long h i x at =
     sym (length-reverse (take i h) ∙ length-take-le i h (omega arith))
 
 -- the scan of one entry more
-pub scans_more : (t : Tables) (h : List Entry) (i : ℕ) (x : Entry) (table : List (Option Begun)) → IsDeclared t → IsAccepted t (reverse h) → slice_get h i ≡ Some x
+scans_more : (t : Tables) (h : List Entry) (i : ℕ) (x : Entry) (table : List (Option Begun)) → IsDeclared t → IsAccepted t (reverse h) → slice_get h i ≡ Some x
     → length table ≡ 16 → x.worker < 16 → IsTable t (reverse (take i h)) table
     → (finished_calls t (reverse (take (i + 1) h)) ≡ finished_calls t (reverse (take i h)) ++ option_to_list (call_told x i (begun_after x.act (begun_at table x.worker) i)))
     × IsTable t (reverse (take (i + 1) h)) (slice_set table x.worker (begun_left t x.reply (begun_after x.act (begun_at table x.worker) i)))
@@ -237,38 +230,6 @@ scanned t u h i x told cs cs' table table' d acc at small s same a b' e =
       kept = subst (IsTable t (reverse (take (i + 1) h))) (sym b) k.1;
       long = ap length b ∙ length-set table x.worker (begun_left t x.reply (begun_after x.act (begun_at table x.worker) i)) ∙ s.long;
     }
-
--- the same, where f of each call is added, if it passes
-pub record IsPickedScan {P : Type 0} (f : Call → P) (p : P → Bool) (t : Tables) (h : List Entry) (i : ℕ) (start ps : List P) (table : List (Option Begun)) : Type 0 where
-  pub calls : List Call
-  pub scan : IsScanned t h i calls table
-  pub picked : ps ≡ start ++ filter p (map f calls)
-
-pub picked_start : {P : Type 0} (f : Call → P) (p : P → Bool) (t : Tables) (h : List Entry) (start : List P) (table : List (Option Begun))
-    → ((w : ℕ) → w < 16 → slice_get table w ≡ Some None) → length table ≡ 16 → IsPickedScan f p t h 0 start start table
-unfolding finished_calls under_way
-picked_start f p t h start table empty long = record { calls = []; scan = record { calls = refl; kept = empty; long = long }; picked = sym (append-nil start) }
-
-picked_more : {P : Type 0} (f : Call → P) (p : P → Bool) (start ps ps' : List P) (cs ds : List Call) → ps ≡ start ++ filter p (map f cs) → ps' ≡ ps ++ filter p (map f ds)
-    → ps' ≡ start ++ filter p (map f (cs ++ ds))
-picked_more f p start ps ps' cs ds a b =
-    b ∙ ap (λ z. z ++ filter p (map f ds)) a ∙ append_assoc start (filter p (map f cs)) (filter p (map f ds))
-    ∙ ap (λ z. start ++ z) (sym (ap (filter p) (map-append f cs ds) ∙ filter-append p (map f cs) (map f ds)))
-
-pub picked_scanned : {P : Type 0} (f : Call → P) (p : P → Bool) (t u : Tables) (h : List Entry) (i : ℕ) (x : Entry) (told : Option Call) (start ps ps' : List P) (table table' : List (Option Begun)) → IsDeclared t → IsAccepted t (reverse h)
-    → Some x ≡ slice_get h i → x.worker < 16 → IsPickedScan f p t h i start ps table → u ≡ t
-    → told ≡ call_told x i (begun_after x.act (begun_at table x.worker) i) → table' ≡ slice_set table x.worker (begun_left u x.reply (begun_after x.act (begun_at table x.worker) i))
-    → ps' ≡ ps ++ filter p (map f (option_to_list told)) → IsPickedScan f p t h (i + 1) start ps' table'
-picked_scanned f p t u h i x told start ps ps' table table' d acc at small s same a b e = record {
-  calls = s.calls ++ option_to_list told;
-  scan = scanned t u h i x told s.calls (s.calls ++ option_to_list told) table table' d acc at small s.scan same a b refl;
-  picked = picked_more f p start ps ps' s.calls (option_to_list told) s.picked e;
-}
-
-pub picked_all : {P : Type 0} (f : Call → P) (p : P → Bool) (t : Tables) (h : List Entry) (i : ℕ) (start ps : List P) (table : List (Option Begun)) → IsPickedScan f p t h i start ps table
-    → length h ≤ i → ps ≡ start ++ filter p (map f (finished_calls t (reverse h)))
-picked_all f p t h i start ps table s le =
-    s.picked ∙ ap (λ cs. start ++ filter p (map f cs)) (s.scan.calls ∙ ap (λ g. finished_calls t (reverse g)) (take_all i h le))
 
 -- one entry more to be counted, or not
 abbrev ends_call : Entry → Bool

@@ -1,5 +1,5 @@
 -- Points by an index of the advances.
-use Rattle.std.specs.Prelude.{◌≡◌, ℕ, ◌+◌, ◌<◌, Bool, not, max, List, zero, suc, [], ◌∷◌, ◌++◌, length, map, Option, Some, None, if◌then◌else◌, slice_index, slice_index_or, Vec}
+use Rattle.std.specs.Prelude.{◌≡◌, ℕ, ◌+◌, ◌<◌, max, List, zero, suc, [], ◌∷◌, ◌++◌, length, map, Option, Some, None, if◌then◌else◌, slice_index, slice_index_or, Vec}
 use Rattle.std.specs.declared.alloc.Global.{Global}
 use Rattle.ec_core.specs.declared.act.Act.{Act}
 use Rattle.ec_core.specs.declared.act.Act.TheVariants.{Advance}
@@ -37,9 +37,10 @@ point_in lists c = point_by (moments_in lists (event_or c.op)) c
 abbrev pub placed_in : List (Vec ℕ Global) → Call → Placed
 placed_in lists c = record { call = c; point = point_in lists c }
 
--- whether a call with this act is a read or an await, or any other call, as is asked
-abbrev pub is_picked : Bool → Act → Bool
-is_picked reads op = if reads then is_reading op else not (is_reading op)
+-- the moment is added behind those of the eventcount that the act advances
+pub record NotesAct (lists : List (Vec ℕ Global)) (act : Act) (moment : ℕ) (new : List (Vec ℕ Global)) : Type 0 where
+  pub long : length new ≡ length lists
+  pub moments : (e : ℕ) → moments_in new e ≡ moments_in lists e ++ (if is_advance e act then moment ∷ [] else [])
 
 -- the eventcount that an act advances
 abbrev pub raised_by : Act → Option ℕ

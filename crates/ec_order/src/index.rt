@@ -2,7 +2,7 @@
 ghost use Rattle.std.specs.Prelude.{◌≡◌, ℕ, ◌<◌, ◌+◌, [], ◌∷◌, ◌++◌, length, reverse, slice_set, slice_index_or, IfOk, OnOk, IfSome};
 ghost use Rattle.ec_core.specs.Rounds.{event_or};
 ghost use Rattle.ec_order.specs.Calls.{is_reading, number_of};
-ghost use Rattle.ec_order.specs.Index.{moment_of, moments_in, IsIndex, point_in, raised_by};
+ghost use Rattle.ec_order.specs.Index.{moment_of, moments_in, IsIndex, NotesAct, point_in, raised_by};
 
 use crate::Call;
 use crate::begun::event_or;
@@ -41,7 +41,7 @@ fn advanced(act: Act) -> Option<usize>
 }
 
 /// Adds a moment to those of eventcount e.
-fn note(lists: &mut Vec<Vec<usize>>, event: usize, moment: usize) -> Result<(), AllocError>
+fn add_moment(lists: &mut Vec<Vec<usize>>, event: usize, moment: usize) -> Result<(), AllocError>
     requires { event < length lists.old.items }
     ensures { OnOk result ((v : _)
         × (v.items ≡ moments_in lists.old.items event ++ moment ∷ [])
@@ -52,8 +52,19 @@ fn note(lists: &mut Vec<Vec<usize>>, event: usize, moment: usize) -> Result<(), 
     Ok(())
 }
 
+/// Adds the moment after an act to those of the eventcount that it advances, if it advances one.
+pub(crate) fn note(lists: &mut Vec<Vec<usize>>, act: Act, moment: usize) -> Result<(), AllocError>
+    requires { length lists.old.items ≡ 32 }
+    ensures { OnOk result (NotesAct lists.old.items act moment lists.new.items) }
+{
+    if let Some(event) = advanced(act) {
+        add_moment(lists, event, moment)?;
+    }
+    Ok(())
+}
+
 /// An index with no moment.
-fn no_moments(alloc: Global) -> Result<Vec<Vec<usize>>, AllocError>
+pub(crate) fn no_moments(alloc: Global) -> Result<Vec<Vec<usize>>, AllocError>
     ensures long { IfOk result (λ ls. length ls.items ≡ 32) }
     ensures value { IfOk result (λ ls. (e : ℕ) → moments_in ls.items e ≡ []) }
 {
@@ -72,9 +83,7 @@ pub(crate) fn index(alloc: Global, run: &Run) -> Result<Vec<Vec<usize>>, AllocEr
     let mut lists = no_moments(alloc)?;
     for i in 0..run.len() {
         if let Some(entry) = run.entry(i) {
-            if let Some(event) = advanced(entry.act) {
-                note(&mut lists, event, i + 1)?;
-            }
+            note(&mut lists, entry.act, i + 1)?;
         }
     }
     Ok(lists)

@@ -1,6 +1,7 @@
 -- Words of a line: where the first ends, and that joining and splitting undo one another.
-use Rattle.std.proofs.Common.{◌≡◌, ℕ, ◌+◌, ◌<◌, ◌≤◌, List, [], ◌∷◌, ◌++◌, length, take, drop, get_or, Bool, true, false, cond, eqb, not, refl, sym, ap, ◌∙◌, arith, length-take, length-drop, ◌-◌, ne_eqb, eq-eqb, add-one, drop-cons}
-use Rattle.std.specs.List.{slice_split, All, onto_first, join_with_byte, list_all}
+use Rattle.std.proofs.Common.{◌≡◌, ℕ, ◌+◌, ◌<◌, ◌≤◌, List, [], ◌∷◌, ◌++◌, length, take, drop, get_or, Bool, true, false, cond, eqb, not, refl, sym, ap, ◌∙◌, arith, length-take, length-drop, ◌-◌, ne_eqb, eq-eqb, add-one, drop-cons, true≢false}
+use Rattle.std.proofs.lemmas.List.Sums.{prefix_len-le-length, prefix_len_passes}
+use Rattle.std.specs.List.{position_or_len, slice_split, All, onto_first, join_with_byte, list_all}
 use Rattle.std.proofs.lemmas.List.Splits.{slice_split_at, slice_split_none, join_with_byte-slice_split}
 use Rattle.std.proofs.lemmas.List.{take-append-drop, take_all}
 use Rattle.std.proofs.lemmas.List.Elements.{All-from_get_or, All-nil, All-cons}
@@ -30,6 +31,20 @@ pub words_none : (line : List ℕ) → ((k : ℕ) → k < length line → get_or
 words_none line none = slice_split_none (λ b. eqb b 32) line (All-from_get_or (λ b. eqb b 32 ≡ false) line 0 (λ k h. ne_eqb _ _ (none k h)))
 
 pub ruleset cuts = (words_cut_slice, words_none)
+
+-- what was counted of the first m bytes, up to their first space
+pub front_within : (line : List ℕ) (m n : ℕ) → n ≡ position_or_len (λ b. eqb b 32) (take m line) → n ≤ length line
+front_within line m n is = omega (arith, prefix_len-le-length (λ b. not (eqb b 32)) (take m line), length-take m line)
+
+pub front_none : (line : List ℕ) (m n : ℕ) → n ≡ position_or_len (λ b. eqb b 32) (take m line) → (k : ℕ) → k < n → get_or line k 0 ≡ 32 → ⊥
+front_none line m n is k before at =
+    let passes = prefix_len_passes (λ b. not (eqb b 32)) (take m line) k 0 (omega arith) in
+    let small : k < m = omega (arith, prefix_len-le-length (λ b. not (eqb b 32)) (take m line), length-take m line) in
+    let same : get_or (take m line) k 0 ≡ get_or line k 0 = get_or-take m line k 0 small in
+    let e : eqb (get_or (take m line) k 0) 32 ≡ true = eq-eqb _ _ (same ∙ at) in
+    absurd (true≢false (sym e ∙ not-true _ passes))
+
+pub ruleset fronts = (front_within, front_none)
 
 -- a line has a first word
 pub record HasFirst (line : List ℕ) : Type 0 where

@@ -4,9 +4,9 @@ ghost use Rattle.std.specs.List.{flat_map};
 ghost use Rattle.std.specs.Io.KnownBytes.{Appends};
 ghost use Rattle.ec_text.specs.Puts.{Puts, with_bytes, AppendsPrefix, nothing_held};
 
-use crate::digits::decimal;
 use crate::writing::{WriteFault, write_out};
 use arrayvec::ArrayVec;
+use itoa::Buffer;
 use std::io::Write;
 use std::marker::Model;
 
@@ -48,6 +48,7 @@ impl Buffered {
     }
 
     /// Takes the bytes in where there is room for all of them, and lets them go after a failure: else they must be written.
+    #[inline(always)]
     fn take_in(&mut self, bytes: &[u8]) -> bool
         ensures puts { IsTrue result → (now : Option (List ℕ)) → Puts now self.old now self.new bytes.now }
         ensures full { result ≡ false → (self.new ≡ self.old) × (self.old.failed ≡ false) }
@@ -83,7 +84,7 @@ pub fn flush<W: Write>(writer: &mut W, buffered: &mut Buffered)
 }
 
 /// Puts bytes behind those that are held. A failure shows at `finish`.
-#[tactic(auto, using(crate::proofs::PutLemmas::puts_after_flush))]
+#[inline(always)]
 pub fn put<W: Write>(writer: &mut W, buffered: &mut Buffered, bytes: &[u8])
     ensures puts { Puts (W.contents writer.old) buffered.old (W.contents writer.new) buffered.new bytes.now }
     ensures room { buffered.old.failed ≡ false → length buffered.old.bytes + length bytes.now ≤ 8192
@@ -93,6 +94,16 @@ pub fn put<W: Write>(writer: &mut W, buffered: &mut Buffered, bytes: &[u8])
     if buffered.take_in(bytes) {
         return;
     }
+    put_behind(writer, buffered, bytes);
+}
+
+/// Puts bytes for which the table has no room beside those that are held.
+#[cold]
+#[inline(never)]
+#[tactic(auto, using(crate::proofs::PutLemmas::puts_after_flush))]
+fn put_behind<W: Write>(writer: &mut W, buffered: &mut Buffered, bytes: &[u8])
+    ensures { Puts (W.contents writer.old) buffered.old (W.contents writer.new) buffered.new bytes.now }
+{
     flush(writer, buffered);
     if buffered.take_in(bytes) {
         return;
@@ -110,6 +121,7 @@ fn put_long<W: Write>(writer: &mut W, buffered: &mut Buffered, bytes: &[u8])
 }
 
 /// Puts one byte.
+#[inline(always)]
 pub fn put_byte<W: Write>(writer: &mut W, buffered: &mut Buffered, byte: u8)
     ensures puts { Puts (W.contents writer.old) buffered.old (W.contents writer.new) buffered.new (byte ∷ []) }
     ensures room { buffered.old.failed ≡ false → length buffered.old.bytes + 1 ≤ 8192
@@ -126,8 +138,8 @@ pub fn put_number<W: Write>(writer: &mut W, buffered: &mut Buffered, n: u64)
         → (writer.new ≡ writer.old) × (buffered.new ≡ with_bytes buffered.old (decimal n)) }
     ensures stays { buffered.old.failed ≡ true → (writer.new ≡ writer.old) × (buffered.new ≡ buffered.old) }
 {
-    let digits = decimal(n);
-    put(writer, buffered, digits.as_slice());
+    let mut digits = Buffer::new();
+    put(writer, buffered, digits.format(n).as_bytes());
 }
 
 /// Puts pieces, one behind the other.

@@ -2,14 +2,12 @@
 #![tactic(auto)]
 
 mod buffered;
-mod digits;
 mod laws;
 mod numbers;
 mod words;
 mod writing;
 
 pub use buffered::{Buffered, finish, flush, put, put_all, put_byte, put_number};
-pub use digits::decimal;
 pub use laws::{
     join_is_undone, number_has_one_spelling, number_is_read_back, numbers_are_short_forms,
     split_is_undone, words_have_no_space,

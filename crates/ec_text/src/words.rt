@@ -1,6 +1,57 @@
 //! The words of a line.
-ghost use Rattle.std.specs.Prelude.{◌≡◌, ◌+◌, ◌++◌, ◌∷◌, [], length, MatchOption, IfSome, IfNone};
+ghost use Rattle.std.specs.Prelude.{◌≡◌, ◌≢◌, ℕ, ◌≤◌, ◌<◌, ◌+◌, ◌++◌, ◌∷◌, [], ◌==◌, length, take, slice_index, MatchOption, IfSome, IfNone};
+ghost use Rattle.std.specs.List.{position_or_len};
 ghost use Rattle.ec_text.specs.Words.{words_of, IsWord};
+
+use std::simd::prelude::*;
+
+/// How many of the first 16 bytes come before their first space.
+#[inline(always)]
+fn front_of_16(line: &[u8]) -> usize
+    requires { 16 ≤ length line.now }
+    ensures { result ≡ position_or_len (λ b. b == 32) (take 16 line.now) }
+{
+    let spaces = u8x16::from_slice(line)
+        .simd_eq(u8x16::splat(b' '))
+        .to_bitmask();
+    if spaces == 0 {
+        16
+    } else {
+        spaces.trailing_zeros() as usize
+    }
+}
+
+/// How many of the first 8 bytes come before their first space.
+#[inline(always)]
+fn front_of_8(line: &[u8]) -> usize
+    requires { 8 ≤ length line.now }
+    ensures { result ≡ position_or_len (λ b. b == 32) (take 8 line.now) }
+{
+    let spaces = u8x8::from_slice(line)
+        .simd_eq(u8x8::splat(b' '))
+        .to_bitmask();
+    if spaces == 0 {
+        8
+    } else {
+        spaces.trailing_zeros() as usize
+    }
+}
+
+/// Some bytes at the front among which there is no space, found at once where the line is long enough.
+#[inline(always)]
+#[tactic(auto, using(crate::proofs::WordLemmas::fronts))]
+fn front(line: &[u8]) -> usize
+    ensures within { result ≤ length line.now }
+    ensures none { (k : ℕ) → k < result → slice_index line.now k ≢ 32 }
+{
+    if line.len() >= 16 {
+        front_of_16(line)
+    } else if line.len() >= 8 {
+        front_of_8(line)
+    } else {
+        0
+    }
+}
 
 /// The first word of a line, and what stands behind the space after it: `None` where no space follows.
 ///
@@ -14,8 +65,8 @@ pub fn cut_word(line: &[u8]) -> (&[u8], Option<&[u8]>)
     ensures only { IfNone result.1 (line.now ≡ result.0.now) }
     ensures word { IsWord result.0.now }
 {
-    for (i, b) in line.iter().enumerate() {
-        if *b == b' ' {
+    for i in front(line)..line.len() {
+        if line[i] == b' ' {
             return (&line[..i], Some(&line[i + 1..]));
         }
     }

@@ -4,9 +4,11 @@ ghost use Rattle.std.specs.Io.KnownBytes.{Appends};
 ghost use Rattle.ec_text.specs.Puts.{AppendsPrefix};
 
 use std::io::Write;
+use thiserror::Error;
 
 /// A write failed, or wrote none of its bytes.
-#[derive(Clone, Copy, Debug, PartialEq, Eq)]
+#[derive(Clone, Copy, Debug, PartialEq, Eq, Error)]
+#[error("a write failed")]
 pub struct WriteFault;
 
 /// Writes all of the bytes, or a front of them: it stops at the first write that fails or writes nothing, and tries none again.

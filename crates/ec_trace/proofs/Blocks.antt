@@ -1,13 +1,13 @@
 -- The blocks of cells of a heading end within the bound.
-use Rattle.std.proofs.Common.{◌≡◌, ℕ, ◌+◌, ◌<◌, ◌≤◌, List, [], ◌∷◌, ◌++◌, length, Bool, true, false, cond, Option, Some, None, option_and_then, sym, ap, subst, ◌∙◌, arith, inl, inr, bytes_eq, zero-le, IsSome, IfSome, ◌↔◌, lt-ltb}
-use Rattle.std.proofs.lemmas.Bool.{ltb-false, cond-true, true≢false}
+use Rattle.std.proofs.Common.{◌≡◌, ℕ, ◌+◌, ◌<◌, ◌≤◌, List, [], ◌∷◌, ◌++◌, length, Bool, true, false, cond, Option, Some, None, option_and_then, sym, ap, subst, ◌∙◌, arith, inl, inr, bytes_eq, zero-le, IsSome, IfSome, ◌↔◌, lt-ltb, nat_lt}
+use Rattle.std.proofs.lemmas.Bool.{ltb-false, or_parts, cond-true, true≢false}
 use Rattle.ec_count.specs.Names.{find_name}
-use Rattle.ec_count.specs.Tables.{Tables}
 use Rattle.ec_count.specs.declared.target.Target.{Target}
 use Rattle.ec_count.specs.declared.target.Target.TheVariants.{Worker, Event, Sequencer, Cells, Group}
 use Rattle.ec_trace.specs.Sorts.{other}
 use Rattle.ec_trace.specs.Headed.{Headed}
-use Rattle.ec_trace.specs.Outline.{Declaration, AreDeclarable, opened, numbered, declared_by, declared_all, objects_fault, target_of, fits_form}
+use Rattle.ec_trace.specs.Objects.{objects_of, spelled_objects}
+use Rattle.ec_trace.specs.Outline.{Declaration, AreDeclarable, opened, numbered, next_of, declared_by, declared_all, objects_fault, fits_form}
 use Rattle.ec_trace.specs.Outlined.{IsHeading}
 use Rattle.ec_trace.specs.Spelled.{block_of, cell_at, cell_of}
 use Rattle.ec_trace.specs.declared.sort.Sort.{Sort}
@@ -25,31 +25,45 @@ abbrev AreSmall : Named → Type 0
 AreSmall [] = Unit {0}
 AreSmall (e ∷ es) = (end_of e.1 ≤ 256) × AreSmall es
 
-small-push : (es : Named) (w : List ℕ) (t : Target) → AreSmall es → end_of t ≤ 256 → AreSmall (es ++ (w, t) ∷ [])
-small-push [] w t h small = (small, tt)
-small-push (e ∷ es) w t h small = (h.0, small-push es w t h.1 small)
-
 small_workers : (n : ℕ) (ws : List (List ℕ)) → AreSmall (numbered n ws)
 small_workers n [] = tt
 small_workers n (w ∷ ws) = (zero-le, small_workers (n + 1) ws)
 
-target_ends : (s : Sort) (t : Tables) (n : ℕ) (first second : List ℕ) → fits_form (other s) second ≡ true → objects_fault s t n first second ≡ None → end_of (target_of s t n) ≤ 256
-target_ends sorts.EventCount t n first second form taken = zero-le
-target_ends sorts.Sequencer t n first second form taken = zero-le
-target_ends sorts.Cells t n first second form taken = ltb-false 256 (length t.cells + n) (has_room sorts.Cells t n first second form taken).room
+small-append : (xs ys : Named) → AreSmall xs → AreSmall ys → AreSmall (xs ++ ys)
+small-append [] ys h k = k
+small-append (x ∷ xs) ys h k = (h.0, small-append xs ys h.1 k)
 
-small_all : (h : Headed) (ds : List Declaration) → AreSmall h.names → AreDeclarable h ds → AreSmall (declared_all h ds).names
+small_spelled : (name : List ℕ) (os : Named) → AreSmall os → AreSmall (spelled_objects name os)
+small_spelled name [] h = tt
+small_spelled name (o ∷ os) h = (h.0, small_spelled name os h.1)
+
+objects_end : (s : Sort) (h : Headed) (n : ℕ) (first second : List ℕ) → fits_form (other s) second ≡ true → objects_fault s h.setup n first second ≡ None → AreSmall (objects_of s (next_of h) n)
+objects_end sorts.EventCount h n first second form taken = (zero-le, tt)
+objects_end sorts.Sequencer h n first second form taken = (zero-le, tt)
+objects_end sorts.Cells h n first second form taken = (ltb-false 256 (length h.setup.cells + n) (has_room sorts.Cells h.setup n first second form taken).room, tt)
+objects_end sorts.Buffer h n first second form taken =
+    let room = (has_room sorts.Buffer h.setup n first second form taken).room in
+    let cells = (or_parts _ (nat_lt 256 (length h.setup.cells + n)) room).1 in
+    (zero-le, (zero-le, (zero-le, (zero-le, (ltb-false 256 (length h.setup.cells + n) cells, tt)))))
+objects_end sorts.Database h n first second form taken =
+    let room = (has_room sorts.Database h.setup n first second form taken).room in
+    let cells = (or_parts _ (nat_lt 256 (length h.setup.cells + n)) room).1 in
+    (zero-le, (zero-le, (zero-le, (ltb-false 256 (length h.setup.cells + n) cells, tt))))
+objects_end sorts.Semaphore h n first second form taken = (zero-le, (zero-le, (zero-le, tt)))
+objects_end sorts.Both h n first second form taken = (zero-le, (zero-le, (zero-le, tt)))
+
+small_all : (h : Headed) (ds : List Declaration) → AreSmall h.words → AreDeclarable h ds → AreSmall (declared_all h ds).words
 small_all h [] small may = small
 small_all h (d ∷ ds) small may =
     small_all (declared_by h d) ds
-    (small-push h.names d.name (target_of d.sort h.setup d.number) small (target_ends d.sort h.setup d.number d.first d.second may.0.form may.0.taken))
+    (small-append h.words (spelled_objects d.name (objects_of d.sort (next_of h) d.number)) small (small_spelled d.name (objects_of d.sort (next_of h) d.number) (objects_end d.sort h d.number d.first d.second may.0.form may.0.taken)))
     may.1
 
-small_heading : (h : Headed) → IsHeading h → AreSmall h.names
-small_heading h (inl is) = subst (λ (g : Headed). AreSmall g.names) (sym is) tt
+small_heading : (h : Headed) → IsHeading h → AreSmall h.words
+small_heading h (inl is) = subst (λ (g : Headed). AreSmall g.words) (sym is) tt
 small_heading h (inr has) =
     let o = has.outline in
-    subst (λ (g : Headed). AreSmall g.names) has.declares (small_all (opened o.limit o.workers) o.declarations (small_workers 0 o.workers) has.is.declarations)
+    subst (λ (g : Headed). AreSmall g.words) has.declares (small_all (opened o.limit o.workers) o.declarations (small_workers 0 o.workers) has.is.declarations)
 
 end_found : (t : Target) (first n : ℕ) → end_of t ≤ 256 → block_of t ≡ Some (first, n) → first + n ≤ 256
 end_found (Cells f m) first n small e =
@@ -69,8 +83,8 @@ small_found (d ∷ es) w first n small e =
     go e
 
 -- a block that a name stands for ends at cell 256 or before
-pub block_ends : (h : Headed) (w : List ℕ) (first n : ℕ) → IsHeading h → option_and_then block_of (find_name w h.names) ≡ Some (first, n) → first + n ≤ 256
-block_ends h w first n is e = small_found h.names w first n (small_heading h is) e
+pub block_ends : (h : Headed) (w : List ℕ) (first n : ℕ) → IsHeading h → option_and_then block_of (find_name w h.words) ≡ Some (first, n) → first + n ≤ 256
+block_ends h w first n is e = small_found h.words w first n (small_heading h is) e
 
 -- an id that is made of a number below its bound
 pub made : (r : Option ℕ) (x bound : ℕ) → IsSome r ↔ (x < bound) → IfSome r (λ y. y ≡ x) → x < bound → r ≡ Some x

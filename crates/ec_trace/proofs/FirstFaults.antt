@@ -47,7 +47,7 @@ parts_clean (b ∷ bytes) = part_clean (eqb b 10) b (parts_of bytes) refl (parts
 
 -- why a part is at fault before these others
 abbrev Why : Stage → List ℕ → List (List ℕ) → LineFault → Type 0
-Why s line others f = IsTooLong line f ⊎ (((others ≡ []) × (is_ended s ≡ true) × (0 < length line) × (f ≡ Bad)) ⊎ ((next : List ℕ) × (rest : List (List ℕ)) × (others ≡ next ∷ rest) × (step s line ≡ Err f)))
+Why s line others f = IsTooLong line f ⊎ (((others ≡ []) × (is_ended s ≡ true) × (0 < length line) × (f ≡ Bad)) ⊎ ((length line ≤ 8192) × (next : List ℕ) × (rest : List (List ℕ)) × (others ≡ next ∷ rest) × (step s line ≡ Err f)))
 
 record FaultyAt (s : Stage) (parts : List (List ℕ)) (n m : ℕ) (f : LineFault) : Type 0 where
   before : List (List ℕ)
@@ -97,7 +97,7 @@ step_faulty : (n m : ℕ) (s : Stage) (line next : List ℕ) (others : List (Lis
     → FaultyAt s (line ∷ next ∷ others) n m f
 step_faulty n m s line next others f clean short (Err h) is g later =
     let k = numbered_is n m h f (same_fault (numbered n h) (numbered m f) g) in
-    here s line (next ∷ others) n m f clean k.0 (inr (inr (next, others, refl, is ∙ ap Err k.1)))
+    here s line (next ∷ others) n m f clean k.0 (inr (inr (short, next, others, refl, is ∙ ap Err k.1)))
 step_faulty n m s line next others f clean short (Ok t) is g later =
     along s t line (next ∷ others) n m f (record { no_lf = clean; short = short }) is (later t g)
 
@@ -136,7 +136,7 @@ join_before (x ∷ y ∷ before) line others =
 why_there : (s : Stage) (line : List ℕ) (others : List (List ℕ)) (f : LineFault) → Why s line others f → IsTooLong line f ⊎ (IsBehindTheEnd s line (behind_of others) f ⊎ IsRefusedThere s line (behind_of others) f)
 why_there s line others f (inl long) = inl long
 why_there s line others f (inr (inl h)) = inr (inl (ap behind_of h.0, h.1, h.2, h.3))
-why_there s line others f (inr (inr h)) = inr (inr (join_with_byte 10 (h.0 ∷ h.1), ap behind_of h.2, h.3))
+why_there s line others f (inr (inr h)) = inr (inr (h.0, join_with_byte 10 (h.1 ∷ h.2), ap behind_of h.3, h.4))
 
 text_faulty : (text : List ℕ) (n : ℕ) (f : LineFault) → goes_from start text ≡ Err (numbered n f) → IsFirstFault text n f
 unfolding start

@@ -1,9 +1,8 @@
 -- How a text goes on from the line in progress.
-use Rattle.std.proofs.Common.{◌≡◌, ◌≢◌, ℕ, ◌+◌, ◌<◌, ◌≤◌, List, [], ◌∷◌, ◌++◌, length, cond, Bool, true, false, eqb, ltb, refl, sym, ap, ◌∙◌, arith, rules, Ok, Err, length-append, append-nil, lt-ltb, le-ltb, ◌&&◌, ◌||◌, inl, inr}
+use Rattle.std.proofs.Common.{◌≡◌, ◌≢◌, ℕ, ◌+◌, ◌<◌, ◌≤◌, List, [], ◌∷◌, ◌++◌, length, cond, Bool, true, false, eqb, ltb, refl, sym, ap, ◌∙◌, arith, rules, Ok, Err, length-append, append_assoc, append-nil, lt-ltb, le-ltb, ◌&&◌, ◌||◌, inl, inr}
 use Rattle.std.specs.List.{onto_first, All, AllByRecursion}
 use Rattle.std.proofs.lemmas.List.Splits.{slice_split-cons_no}
-use Rattle.std.proofs.lemmas.List.Elements.{recursion_from_All, All-push, All-nil, All-cons}
-use Rattle.std.proofs.Math.Seq.{append_snoc}
+use Rattle.std.proofs.lemmas.List.Elements.{recursion_from_All, All-append, All-nil, All-cons}
 use Rattle.ec_trace.specs.declared.stage.Stage.{Stage}
 use Rattle.ec_trace.specs.declared.stage.Stage.TheVariants.{Opening, Limiting, Declaring, Running, Ended}
 use Rattle.ec_trace.specs.Step.{step, is_ended}
@@ -53,6 +52,13 @@ goes_line n s part more none =
     onto_part part (10 ∷ more) [] (parts_of more) (no_lf part none) refl ∙ ap (λ (x : List ℕ). x ∷ parts_of more) (append-nil part) in
     rw (e, f.is) refl
 
+-- a line of which nothing came before, and then the rest
+pub goes_at_once : (n : ℕ) (s : Stage) (part line more : List ℕ) → part ≡ [] → All (λ b. b ≢ 10) line → length line ≤ 8192 → goes n s (parts_of (part ++ (line ++ 10 ∷ [] ++ more))) ≡ taken n (step s line) (λ t. goes (n + 1) t (parts_of more))
+goes_at_once n s part line more fresh plain short =
+    let e : part ++ (line ++ 10 ∷ [] ++ more) ≡ line ++ 10 ∷ more = rw fresh (append_assoc line (10 ∷ []) more) in
+    let l : ltb 8192 (length line) ≡ false = le-ltb _ _ short in
+    ap (λ (text : List ℕ). goes n s (parts_of text)) e ∙ goes_line n s line more plain ∙ rw l refl
+
 -- a line that is too long, whatever follows
 pub goes_long : (n : ℕ) (s : Stage) (part more : List ℕ) → All (λ b. b ≢ 10) part → 8192 < length part → goes n s (parts_of (part ++ more)) ≡ Err (BadLine n)
 goes_long n s part more none long =
@@ -61,11 +67,11 @@ goes_long n s part more none long =
     let l : ltb 8192 (length (part ++ f.first)) ≡ true = lt-ltb _ _ (omega (arith, length-append part f.first)) in
     ap (goes n s) e ∙ goes_long_first n s (part ++ f.first) f.others l
 
--- a line that is full, and one byte more
-pub goes_full : (n : ℕ) (s : Stage) (part more : List ℕ) (b : ℕ) → All (λ b. b ≢ 10) part → 8192 ≤ length part → b ≢ 10 → goes n s (parts_of (part ++ b ∷ more)) ≡ Err (BadLine n)
-goes_full n s part more b none full other =
-    ap (λ (bytes : List ℕ). goes n s (parts_of bytes)) (sym (append_snoc part b more)) ∙
-    goes_long n s (part ++ b ∷ []) more (All-push (λ b. b ≢ 10) part b none other) (omega (arith, length-append part (b ∷ [])))
+-- a line with bytes for which it has no room
+pub goes_held : (n : ℕ) (s : Stage) (part bytes more : List ℕ) → All (λ b. b ≢ 10) part → All (λ b. b ≢ 10) bytes → 8192 < length part + length bytes → goes n s (parts_of (part ++ (bytes ++ more))) ≡ Err (BadLine n)
+goes_held n s part bytes more none plain full =
+    ap (λ (text : List ℕ). goes n s (parts_of text)) (sym (append_assoc part bytes more)) ∙
+    goes_long n s (part ++ bytes) more (All-append (λ b. b ≢ 10) part bytes none plain) (omega (arith, length-append part bytes))
 
 -- the text ends in the line in progress
 pub goes_rest : (n : ℕ) (s : Stage) (part : List ℕ) → All (λ b. b ≢ 10) part → length part ≤ 8192 → goes n s (parts_of (part ++ [])) ≡ cond (is_ended s && ltb 0 (length part)) (Err (BadLine n)) (Ok (record { stage = s; number = n; part = part }))

@@ -12,32 +12,34 @@ use Rattle.ec_trace.specs.Headed.{Headed}
 use Rattle.ec_count.specs.declared.target.Target.{Target}
 use Rattle.ec_count.specs.declared.target.Target.TheVariants.{Worker}
 use Rattle.ec_core.specs.declared.act.Entry.{Entry}
-use Rattle.ec_trace.specs.Spelling.{entry_line, Named, number_words, word_of, text_of, ended_line, limit_line, workers_line}
+use Rattle.ec_trace.specs.Spelling.{entry_line, Named, name_words, number_words, word_of, text_of, ended_line, limit_line, workers_line}
 use Rattle.ec_trace.specs.Recalled.{spaced, names_of, second_names, declared_line, declared_text, declaration_of, declarations_of, opening_text, entry_text}
 
 pub spaced-append : (xs ys : List (List ℕ)) → spaced (xs ++ ys) ≡ spaced xs ++ spaced ys
 spaced-append xs ys = flat_map-append (λ (w : List ℕ). 32 ∷ w) xs ys
 
-regroup : (x n o a b : List ℕ) → (x ++ (n ++ (o ++ a))) ++ b ≡ (((x ++ n) ++ o) ++ a) ++ b
+regroup : (x n o a b : List ℕ) → ((x ++ n) ++ (o ++ a)) ++ b ≡ (((x ++ n) ++ o) ++ a) ++ b
 regroup x n o a b = simp append_assoc
 
-spaced_parts : (d o : List ℕ) (n a b : List (List ℕ)) → spaced ((d ∷ n ++ o ∷ a) ++ b) ≡ ((((32 ∷ d) ++ spaced n) ++ 32 ∷ o) ++ spaced a) ++ spaced b
-spaced_parts d o n a b =
-    spaced-append (d ∷ n ++ o ∷ a) b
-    ∙ ap (λ (r : List ℕ). ((32 ∷ d) ++ r) ++ spaced b) (spaced-append n (o ∷ a))
-    ∙ regroup (32 ∷ d) (spaced n) (32 ∷ o) (spaced a) (spaced b)
+spaced_parts : (d n : List (List ℕ)) (o : List ℕ) (a b : List (List ℕ)) → spaced ((d ++ n ++ o ∷ a) ++ b) ≡ (((spaced d ++ spaced n) ++ 32 ∷ o) ++ spaced a) ++ spaced b
+spaced_parts d n o a b =
+    spaced-append (d ++ n ++ o ∷ a) b
+    ∙ ap (λ (r : List ℕ). r ++ spaced b) (spaced-append (d ++ n) (o ∷ a))
+    ∙ ap (λ (r : List ℕ). (r ++ spaced (o ∷ a)) ++ spaced b) (spaced-append d n)
+    ∙ regroup (spaced d) (spaced n) (32 ∷ o) (spaced a) (spaced b)
 
 after : (all s x n o a b : List ℕ) → all ++ (s ++ ((((x ++ n) ++ o) ++ a) ++ b)) ≡ (((((all ++ s) ++ x) ++ n) ++ o) ++ a) ++ b
 after all s x n o a b = simp append_assoc
 
 pub line_parts : (names : Named) (d : Declaration) (all : List ℕ)
-    → all ++ declared_line names d ≡ (((((all ++ sort_word d.sort) ++ 32 ∷ d.name) ++ spaced (number_words d.sort d.number)) ++ 32 ∷ opener d.sort) ++ spaced (names_of names d.first)) ++ spaced (second_names names (other d.sort) d.second)
+    → all ++ declared_line names d ≡ (((((all ++ sort_word d.sort) ++ spaced (name_words d.sort d.name)) ++ spaced (number_words d.sort d.number)) ++ 32 ∷ opener d.sort) ++ spaced (names_of names d.first)) ++ spaced (second_names names (other d.sort) d.second)
 line_parts names d all =
+    let x = name_words d.sort d.name in
     let n = number_words d.sort d.number in
     let a = names_of names d.first in
     let b = second_names names (other d.sort) d.second in
-    ap (λ (r : List ℕ). all ++ (sort_word d.sort ++ r)) (spaced_parts d.name (opener d.sort) n a b)
-    ∙ after all (sort_word d.sort) (32 ∷ d.name) (spaced n) (32 ∷ opener d.sort) (spaced a) (spaced b)
+    ap (λ (r : List ℕ). all ++ (sort_word d.sort ++ r)) (spaced_parts x n (opener d.sort) a b)
+    ∙ after all (sort_word d.sort) (spaced x) (spaced n) (32 ∷ opener d.sort) (spaced a) (spaced b)
 
 -- words that are joined by spaces, and words with a space before each
 pub join_spaced : (w : List ℕ) (ws : List (List ℕ)) → join_with_byte 32 (w ∷ ws) ≡ w ++ spaced ws

@@ -1,10 +1,15 @@
 -- Names are words: they have no space and no bracket, are short, and are none of the words of a text.
-use Rattle.std.proofs.Common.{◌≡◌, ◌≢◌, ℕ, ◌≤◌, List, [], ◌∷◌, length, true, false, not, eqb, ◌&&◌, sym, ap, ◌∙◌, arith, bytes_eq, nat_le, ne_eqb}
+use Rattle.std.proofs.Common.{◌≡◌, ◌≢◌, ℕ, ◌≤◌, List, [], ◌∷◌, length, true, false, not, eqb, ◌&&◌, sym, ap, ◌∙◌, arith, bytes_eq, nat_le, ne_eqb, refl, Some, None}
 use Rattle.std.specs.List.{list_all, AllByRecursion}
 use Rattle.std.specs.Char.{is_ascii_alphabetic}
 use Rattle.std.proofs.lemmas.Bool.{true≢false, and_parts, not-true, false_from_ne_true, leb-true}
 use Rattle.std.proofs.lemmas.List.Elements.{All-from_recursion}
+use Rattle.std.specs.Prelude.{MatchOption, Result, Ok, Err}
+use Rattle.ec_count.specs.Names.{name_fault}
 use Rattle.ec_count.specs.Reserved.{is_name, is_name_byte, is_reserved}
+use Rattle.ec_count.specs.declared.names.NameFault.{NameFault}
+use Rattle.ec_count.specs.declared.target.Target.{Target}
+use Rattle.ec_count.proofs.Named.{no_fault}
 use Rattle.ec_text.specs.Words.{IsWord}
 use Rattle.ec_trace.proofs.Phrases.{same_word}
 
@@ -67,3 +72,11 @@ name_not_empty w h = (let n : IsNamed w = named w h in ne_eqb _ _ (λ e. (omega 
 -- a name is none of the words of a text
 pub name_apart : (w stop : List ℕ) → is_name w ≡ true → is_reserved stop ≡ true → bytes_eq w stop ≡ false
 name_apart w stop h taken = false_from_ne_true _ (λ e. true≢false (sym taken ∙ ap is_reserved (sym (same_word w stop e)) ∙ (named w h).free))
+
+-- a name that was added is short
+pub added_short : (name : List ℕ) (names : List (List ℕ × Target)) (x : Unit {0}) → MatchOption (name_fault name names) (Unit {0}) (λ f. ◌≡◌ {A = Result (Unit {0}) NameFault} (Ok x) (Err f)) → length name ≤ 24
+added_short name names x h =
+    elim (name_fault name names) as (λ o. name_fault name names ≡ o → MatchOption o (Unit {0}) (λ f. ◌≡◌ {A = Result (Unit {0}) NameFault} (Ok x) (Err f)) → length name ≤ 24) [
+      | None ↦ λ q g. (let n : IsNamed name = named name (no_fault name names q).0 in omega (arith, n.short))
+      | Some f ↦ λ q g. (cc)
+    ] refl h

@@ -8,14 +8,15 @@ use Rattle.std.proofs.lemmas.Bool.{eqb-true, ne_eqb, ltb-true, lt-ltb}
 use Rattle.std.proofs.lemmas.List.Elements.{All-from_get_or, recursion_from_All}
 use Rattle.std.proofs.lemmas.Str.Parse.{not_in_digits}
 use Rattle.std.proofs.lemmas.Fmt.{digits_decimal}
-use Rattle.ec_count.specs.Names.{find_name, AreNames}
+use Rattle.ec_count.specs.Names.{find_name}
+use Rattle.ec_trace.proofs.SpelledWords.{AreWords}
 use Rattle.ec_count.specs.declared.target.Target.{Target}
 use Rattle.ec_count.specs.declared.target.Target.TheVariants.{Cells}
 use Rattle.ec_text.specs.Words.{number_of}
 use Rattle.ec_text.proofs.NumberLemmas.{own, number_again, number_takes, guarded}
 use Rattle.ec_trace.specs.Spelling.{cell_word}
 use Rattle.ec_trace.specs.Spelled.{Named, cut_at, closed_number, block_of, cell_at, cell_of, cell_by, cell_in_word}
-use Rattle.ec_trace.proofs.ReadNames.{AreApart, bracketed, cell_back, HasBlock, block_by, IsNamedBy, name_lacks}
+use Rattle.ec_trace.proofs.ReadNames.{AreApart, bracketed, cell_back, HasBlock, block_by, IsNamedBy, word_lacks}
 
 -- STEPS THAT MAY FAIL
 
@@ -67,12 +68,12 @@ bracketed_read names block first n i by inside small =
     let shape : bracketed block i ≡ block ++ 91 ∷ (decimal i ++ 93 ∷ []) =
     append_assoc (block ++ 91 ∷ []) (decimal i) (93 ∷ []) ∙ append_assoc block (91 ∷ []) (decimal i ++ 93 ∷ []) in
     let front : cut_at 91 (bracketed block i) ≡ Some (block, decimal i ++ 93 ∷ []) =
-    ap (cut_at 91) shape ∙ cut_at-append 91 block (decimal i ++ 93 ∷ []) (name_lacks 91 block refl refl by.name) in
+    ap (cut_at 91) shape ∙ cut_at-append 91 block (decimal i ++ 93 ∷ []) (word_lacks 91 block refl by.plain) in
     let back : cut_at 93 (decimal i ++ 93 ∷ []) ≡ Some (decimal i, []) = cut_at-append 93 (decimal i) [] (decimal_lacks 93 i small (λ r. omega arith)) in
     let below : nat_lt i n ≡ true = lt-ltb _ _ inside in
     rw front (rw back (rw (number_again i small) (rw by.found (rw below refl))))
 
-pub cell_again : (names : Named) (x : ℕ) → AreNames names → HasBlock names x → x < 1000000000000000000 → cell_in_word names (cell_word names x) ≡ Some x
+pub cell_again : (names : Named) (x : ℕ) → AreWords names → HasBlock names x → x < 1000000000000000000 → cell_in_word names (cell_word names x) ≡ Some x
 cell_again names x are b small =
     ap (cell_in_word names) b.word
     ∙ bracketed_read names b.block b.first b.count (x - b.first) (block_by names x are b) (omega (arith, b.low, b.high)) (omega arith)

@@ -14,7 +14,8 @@ use Rattle.ec_core.specs.declared.act.Act.TheVariants as acts
 use Rattle.ec_core.specs.declared.act.Reply.{Reply}
 use Rattle.ec_core.specs.declared.act.Reply.TheVariants.{Done, Number, Pending}
 use Rattle.ec_core.specs.declared.act.Entry.{Entry}
-use Rattle.ec_count.specs.Names.{find_name, AreNames}
+use Rattle.ec_count.specs.Names.{find_name}
+use Rattle.ec_trace.proofs.SpelledWords.{AreWords}
 use Rattle.ec_count.specs.declared.target.Target.{Target}
 use Rattle.ec_count.specs.declared.target.Target.TheVariants.{Worker, Event, Sequencer}
 use Rattle.ec_text.specs.Words.{words_of, number_of, IsWord}
@@ -25,7 +26,7 @@ use Rattle.ec_trace.specs.Lists.{worker_of, worker_in}
 use Rattle.ec_trace.specs.Spelled.{Named, event_of, sequencer_of, event_in, sequencer_in, cell_in_word}
 use Rattle.ec_trace.specs.Entries.{◌>>=◌, act_alone, act_on, act_with, reply_of, entry_by, entry_in, entry_of}
 use Rattle.ec_trace.specs.Step.{limit_in}
-use Rattle.ec_trace.proofs.ReadNames.{AreApart, HasName, is_celled, HasBlock, has_block, block_by, IsNamedBy, named_by, name_lacks, word_back, bracketed}
+use Rattle.ec_trace.proofs.ReadNames.{AreApart, HasName, is_celled, HasBlock, has_block, block_by, IsNamedBy, named_by, word_lacks, word_back, bracketed}
 use Rattle.ec_trace.proofs.ReadCells.{decimal_lacks, cell_again, cell_spelled}
 
 pub too_many : (names : Named) (a b c d e f more : List ℕ) → entry_in names (a ∷ b ∷ c ∷ d ∷ e ∷ f ∷ words_of more) ≡ None
@@ -63,7 +64,7 @@ plain : (word : List ℕ) → AllByRecursion (λ b. eqb b 32 ≡ false) word →
 plain word all = All-from_recursion (λ b. eqb b 32 ≡ false) word all
 
 name_word : (names : Named) (t : Target) (word : List ℕ) → IsNamedBy names t word → IsWord word
-name_word names t word by = plain word (name_lacks 32 word refl refl by.name)
+name_word names t word by = plain word (word_lacks 32 word refl by.plain)
 
 pub number_word : (n : ℕ) → n < 1000000000000000000 → IsWord (decimal n)
 number_word n small = plain (decimal n) (decimal_lacks 32 n small (λ r. omega arith))
@@ -72,12 +73,12 @@ all_append : (P : ℕ → Type 0) (xs ys : List ℕ) → AllByRecursion P xs →
 all_append P [] ys p q = q
 all_append P (x ∷ xs) ys p q = (p.0, all_append P xs ys p.1 q)
 
-cell_is_word : (names : Named) (x : ℕ) → AreNames names → HasBlock names x → x < 1000000000000000000 → IsWord (cell_word names x)
+cell_is_word : (names : Named) (x : ℕ) → AreWords names → HasBlock names x → x < 1000000000000000000 → IsWord (cell_word names x)
 cell_is_word names x are b small =
     subst IsWord (sym b.word) (plain (bracketed b.block (x - b.first))
     (all_append (λ c. eqb c 32 ≡ false) (b.block ++ 91 ∷ [] ++ decimal (x - b.first)) (93 ∷ [])
     (all_append (λ c. eqb c 32 ≡ false) (b.block ++ 91 ∷ []) (decimal (x - b.first))
-    (all_append (λ c. eqb c 32 ≡ false) b.block (91 ∷ []) (name_lacks 32 b.block refl refl (block_by names x are b).name) (refl, tt))
+    (all_append (λ c. eqb c 32 ≡ false) b.block (91 ∷ []) (word_lacks 32 b.block refl (block_by names x are b).plain) (refl, tt))
     (decimal_lacks 32 (x - b.first) (omega arith) (λ r. omega arith))) (refl, tt)))
 
 reply_is_word : (r : Reply) → ReplyIsShort r → IsWord (reply_word r)
@@ -155,7 +156,7 @@ five_words a b c d e p q r s t = words_join a (b ∷ c ∷ d ∷ e ∷ []) (p, (
 six_words : (a b c d e f : List ℕ) → IsWord a → IsWord b → IsWord c → IsWord d → IsWord e → IsWord f → words_of (join_with_byte 32 (a ∷ b ∷ c ∷ d ∷ e ∷ f ∷ [])) ≡ a ∷ b ∷ c ∷ d ∷ e ∷ f ∷ []
 six_words a b c d e f p q r s t u = words_join a (b ∷ c ∷ d ∷ e ∷ f ∷ []) (p, (q, (r, (s, (t, (u, tt))))))
 
-line_again : (names : Named) (w : ℕ) (a : Act) (r : Reply) → AreNames names → HasName names (Worker w) → ActIsNamed names a → ReplyIsShort r
+line_again : (names : Named) (w : ℕ) (a : Act) (r : Reply) → AreWords names → HasName names (Worker w) → ActIsNamed names a → ReplyIsShort r
     → entry_in names (words_of (join_with_byte 32 (word_of names (Worker w) ∷ act_words names a ++ codes "=" ∷ reply_word r ∷ []))) ≡ Some (record { worker = w; act = a; reply = r })
 unfolding entry_in
 line_again names w (acts.Advance e) r are who what told =
@@ -194,7 +195,7 @@ line_again names w (acts.Get x) r are who what told =
     ∙ by_again names _ _ _ w (acts.Get x) r (worker_again names _ w m.found) (get_again names _ x (cell_again names x are b what.1)) (reply_again r told)
 
 -- what is spelled so is read
-pub entry_again : (names : Named) (e : Entry) → AreNames names → IsSpellable names e → entry_of names (entry_line names e) ≡ Some e
+pub entry_again : (names : Named) (e : Entry) → AreWords names → IsSpellable names e → entry_of names (entry_line names e) ≡ Some e
 unfolding entry_of entry_line
 entry_again names e are may = line_again names e.worker e.act e.reply are may.worker may.act may.reply
 

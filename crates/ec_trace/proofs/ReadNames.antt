@@ -1,18 +1,15 @@
 -- Names of a heading: each thing has one, and it is found by it.
 use Rattle.std.proofs.Common.{◌≡◌, ℕ, ◌+◌, ◌-◌, ◌<◌, ◌≤◌, List, [], ◌∷◌, ◌++◌, length, cond, Bool, true, false, eqb, ◌&&◌, ◌||◌, suc, Option, Some, unwrap_or, refl, sym, ap, subst, ◌∙◌, arith, nat_lt, nat_le, codes, decimal, slice_get}
-use Rattle.std.specs.Prelude.{bytes_eq, not}
-use Rattle.std.specs.List.{AllByRecursion, list_all, list_any}
-use Rattle.std.specs.Char.{is_ascii_alphabetic}
+use Rattle.std.specs.Prelude.{bytes_eq}
+use Rattle.std.specs.List.{AllByRecursion, list_any}
 use Rattle.std.proofs.lemmas.Bool.{true≢false, and_parts, and_from, ltb-true, lt-ltb, leb-true, le-leb, ne_eqb, eq-eqb, false_from_ne_true}
 use Rattle.std.proofs.lemmas.Slice.Eq.{bytes_eq-Decides}
-use Rattle.std.proofs.lemmas.List.Elements.{recursion_from_All}
-use Rattle.ec_count.specs.Names.{find_name, name_of, same_target, AreNames}
-use Rattle.ec_count.specs.Reserved.{is_name, is_name_byte, is_reserved}
+use Rattle.ec_count.specs.Names.{find_name, name_of, same_target}
 use Rattle.ec_count.specs.declared.target.Target.{Target}
 use Rattle.ec_count.specs.declared.target.Target.TheVariants.{Worker, Event, Sequencer, Cells, Group}
-use Rattle.ec_count.proofs.Named.{names_found, name_at}
 use Rattle.ec_trace.specs.Spelling.{word_of, cell_word, cell_in, first_of}
 use Rattle.ec_trace.specs.Spelled.{Named}
+use Rattle.ec_trace.proofs.SpelledWords.{is_plain, IsPlainWord, AreWords, entry_found, entry_word, given_word, named_found}
 
 -- EACH THING HAS ONE NAME
 
@@ -159,48 +156,31 @@ has_block (e ∷ es) x h =
       | false ↦ λ q g. block_later x e es q (has_block es x g)
     ] refl h
 
--- THE BYTES OF NAMES
+-- THE BYTES OF WORDS
 
-lacks : (c : ℕ) → is_name_byte c ≡ false → (bs : List ℕ) → list_all is_name_byte bs ≡ true → AllByRecursion (λ b. eqb b c ≡ false) bs
+lacks : (c : ℕ) → is_plain c ≡ false → (bs : List ℕ) → AllByRecursion (λ b. is_plain b ≡ true) bs → AllByRecursion (λ b. eqb b c ≡ false) bs
 lacks c off [] h = tt
-lacks c off (b ∷ bs) h =
-    let p = and_parts (is_name_byte b) (list_all is_name_byte bs) h in
-    (ne_eqb b c (λ same. true≢false (sym p.0 ∙ ap is_name_byte same ∙ off)), lacks c off bs p.1)
+lacks c off (b ∷ bs) h = (ne_eqb b c (λ same. true≢false (sym h.0 ∙ ap is_plain same ∙ off)), lacks c off bs h.1)
 
--- no such byte stands in a name
-pub name_lacks : (c : ℕ) (word : List ℕ) → is_name_byte c ≡ false → is_ascii_alphabetic c ≡ false → is_name word ≡ true → AllByRecursion (λ b. eqb b c ≡ false) word
-unfolding is_name
-name_lacks c [] off other h = tt
-name_lacks c (b ∷ bs) off other h =
-    let p = and_parts (is_ascii_alphabetic b && nat_le (length bs) 15 && list_all is_name_byte bs) (not (is_reserved (b ∷ bs))) h in
-    let q = and_parts (is_ascii_alphabetic b && nat_le (length bs) 15) (list_all is_name_byte bs) p.0 in
-    let r = and_parts (is_ascii_alphabetic b) (nat_le (length bs) 15) q.0 in
-    (ne_eqb b c (λ same. true≢false (sym r.0 ∙ ap is_ascii_alphabetic same ∙ other)), lacks c off bs q.1)
+-- no such byte stands in a word
+pub word_lacks : (c : ℕ) (word : List ℕ) → is_plain c ≡ false → IsPlainWord word → AllByRecursion (λ b. eqb b c ≡ false) word
+word_lacks c word off h = lacks c off word h.plain
 
-is_name_found : (names : Named) (word : List ℕ) (t : Target) → AllByRecursion (λ (e : List ℕ × Target). is_name e.0 ≡ true) names → find_name word names ≡ Some t → is_name word ≡ true
-is_name_found [] word t all e = cc
-is_name_found (x ∷ xs) word t all e =
-    elim (bytes_eq word x.0) as (λ b. bytes_eq word x.0 ≡ b → cond b (Some x.1) (find_name word xs) ≡ Some t → is_name word ≡ true) [
-      | true ↦ λ q g. ap is_name ((bytes_eq-Decides word x.0).0 q) ∙ all.0
-      | false ↦ λ q g. is_name_found xs word t all.1 g
-    ] refl e
+-- the word of what has one
+pub record IsNamedBy (words : Named) (t : Target) (word : List ℕ) : Type 0 where
+  pub found : find_name word words ≡ Some t
+  pub plain : IsPlainWord word
 
--- the word of what has a name
-pub record IsNamedBy (names : Named) (t : Target) (word : List ℕ) : Type 0 where
-  pub found : find_name word names ≡ Some t
-  pub name : is_name word ≡ true
-
-pub named_by : (names : Named) (t : Target) → AreNames names → HasName names t → IsNamedBy names t (word_of names t)
-named_by names t are has =
-    let found : find_name has.word names ≡ Some t = (names_found names are).targets t has.word has.is in
-    let word : has.word ≡ word_of names t = sym (ap (λ (o : Option (List ℕ)). unwrap_or o []) has.is) in
-    subst (IsNamedBy names t) word (record {
-      found = found;
-      name = is_name_found names has.word t (recursion_from_All (λ (e : List ℕ × Target). is_name e.0 ≡ true) names are.each) found;
+pub named_by : (words : Named) (t : Target) → AreWords words → HasName words t → IsNamedBy words t (word_of words t)
+named_by words t are has =
+    let word : has.word ≡ word_of words t = sym (ap (λ (o : Option (List ℕ)). unwrap_or o []) has.is) in
+    subst (IsNamedBy words t) word (record {
+      found = named_found words t has.word are.distinct has.is;
+      plain = given_word IsPlainWord words t has.word are.each has.is;
     })
 
-pub block_by : (names : Named) (x : ℕ) → AreNames names → (b : HasBlock names x) → IsNamedBy names (Cells b.first b.count) b.block
-block_by names x are b = record {
-  found = (names_found names are).entries b.at (b.block, Cells b.first b.count) b.there;
-  name = name_at names b.at (b.block, Cells b.first b.count) are b.there;
+pub block_by : (words : Named) (x : ℕ) → AreWords words → (b : HasBlock words x) → IsNamedBy words (Cells b.first b.count) b.block
+block_by words x are b = record {
+  found = entry_found words b.at (b.block, Cells b.first b.count) are.distinct b.there;
+  plain = entry_word IsPlainWord words b.at (b.block, Cells b.first b.count) are.each b.there;
 }

@@ -50,22 +50,22 @@ accepted_front t pre es e h =
 
 -- AN ACCEPTED ENTRY MAY BE SPELLED
 
-act_named : (h : Headed) (a : Act) → IsSound h → names_unknown_object h.setup a ≡ false → is_too_large a ≡ false → ActIsNamed h.names a
+act_named : (h : Headed) (a : Act) → IsSound h → names_unknown_object h.setup a ≡ false → is_too_large a ≡ false → ActIsNamed h.words a
 act_named h (acts.Advance e) is known small = is.events e (leb-false _ _ known)
 act_named h (acts.Read e) is known small = is.events e (leb-false _ _ known)
 act_named h (acts.Await e v) is known small = (is.events e (leb-false _ _ known), (let l : v ≤ VALUE_MAX = ltb-false _ _ small in omega arith))
 act_named h acts.Go is known small = tt
 act_named h (acts.Ticket q) is known small = is.sequencers q (leb-false _ _ known)
 act_named h (acts.Put x v) is known small =
-    (is.cells x (leb-false _ _ known), (let l : x < length h.setup.cells = leb-false _ _ known in omega (arith, is.few_cells)), (let l : v ≤ VALUE_MAX = ltb-false _ _ small in omega arith))
-act_named h (acts.Get x) is known small = (is.cells x (leb-false _ _ known), (let l : x < length h.setup.cells = leb-false _ _ known in omega (arith, is.few_cells)))
+    (is.cells x (leb-false _ _ known), (let l : x < length h.setup.cells = leb-false _ _ known in omega (arith, is.bounds.cells)), (let l : v ≤ VALUE_MAX = ltb-false _ _ small in omega arith))
+act_named h (acts.Get x) is known small = (is.cells x (leb-false _ _ known), (let l : x < length h.setup.cells = leb-false _ _ known in omega (arith, is.bounds.cells)))
 
 reply_short : (r : Reply) → TellsAtMost VALUE_MAX r → ReplyIsShort r
 reply_short Done h = tt
 reply_short Pending h = tt
 reply_short (Number n) h = omega arith
 
-pub may_be_spelled : (h : Headed) (past : List Entry) (e : Entry) → IsSound h → IsAccepted h.setup (e ∷ past) → IsSpellable h.names e
+pub may_be_spelled : (h : Headed) (past : List Entry) (e : Entry) → IsSound h → IsAccepted h.setup (e ∷ past) → IsSpellable h.words e
 may_be_spelled h past e is acc =
     let k = allowed h.setup past e.worker e.act e.reply acc.0 in
     record {
@@ -100,31 +100,31 @@ not_end names line e h =
 abbrev with_entry : Recounted → Entry → Recounted
 with_entry t e = record { heading = t.heading; entries = t.entries ++ e ∷ [] }
 
-entered_so : (t : Recounted) (line : List ℕ) (e : Entry) → entry_of t.heading.names line ≡ Some e → answer_of t.heading.setup (reverse t.entries) e.worker e.act ≡ Ok e.reply → entry_step t line ≡ Ok (with_entry t e)
+entered_so : (t : Recounted) (line : List ℕ) (e : Entry) → entry_of t.heading.words line ≡ Some e → answer_of t.heading.setup (reverse t.entries) e.worker e.act ≡ Ok e.reply → entry_step t line ≡ Ok (with_entry t e)
 unfolding entry_step
 entered_so t line e is right = rw is (rw right (rw (same_self e.reply) refl))
 
-steps_so : (t : Recounted) (line : List ℕ) (e : Entry) → entry_of t.heading.names line ≡ Some e → answer_of t.heading.setup (reverse t.entries) e.worker e.act ≡ Ok e.reply → step (Running t) line ≡ Ok (Running (with_entry t e))
+steps_so : (t : Recounted) (line : List ℕ) (e : Entry) → entry_of t.heading.words line ≡ Some e → answer_of t.heading.setup (reverse t.entries) e.worker e.act ≡ Ok e.reply → step (Running t) line ≡ Ok (Running (with_entry t e))
 unfolding step
-steps_so t line e is right = rw (not_end t.heading.names line e is) (ap ran_on (entered_so t line e is right))
+steps_so t line e is right = rw (not_end t.heading.words line e is) (ap ran_on (entered_so t line e is right))
 
 -- the entries of an accepted history are read in turn
 pub entries_lead : (h : Headed) (pre es : List Entry) → IsSound h → IsAccepted h.setup (reverse (pre ++ es))
-    → Leads (Running (record { heading = h; entries = pre })) (map (entry_line h.names) es) (Running (record { heading = h; entries = pre ++ es }))
+    → Leads (Running (record { heading = h; entries = pre })) (map (entry_line h.words) es) (Running (record { heading = h; entries = pre ++ es }))
 entries_lead h pre [] is acc = ap (λ (xs : List Entry). Running (record { heading = h; entries = xs })) (sym (append-nil pre))
 entries_lead h pre (e ∷ es) is acc =
     let now = accepted_front h.setup pre es e acc in
     let more : pre ++ e ∷ es ≡ (pre ++ e ∷ []) ++ es = sym (append_snoc pre e es) in (
       Running (record { heading = h; entries = pre ++ e ∷ [] }),
-      steps_so (record { heading = h; entries = pre }) (entry_line h.names e) e (entry_again h.names e is.names (may_be_spelled h (reverse pre) e is now)) now.0,
-      subst (λ (xs : List Entry). Leads (Running (record { heading = h; entries = pre ++ e ∷ [] })) (map (entry_line h.names) es) (Running (record { heading = h; entries = xs }))) (sym more)
+      steps_so (record { heading = h; entries = pre }) (entry_line h.words e) e (entry_again h.words e is.words (may_be_spelled h (reverse pre) e is now)) now.0,
+      subst (λ (xs : List Entry). Leads (Running (record { heading = h; entries = pre ++ e ∷ [] })) (map (entry_line h.words) es) (Running (record { heading = h; entries = xs }))) (sym more)
           (entries_lead h (pre ++ e ∷ []) es is (subst (λ (xs : List Entry). IsAccepted h.setup (reverse xs)) more acc)),
     )
 
-pub entries_are_lines : (h : Headed) (pre es : List Entry) → IsSound h → IsAccepted h.setup (reverse (pre ++ es)) → AllByRecursion IsLine (map (entry_line h.names) es)
+pub entries_are_lines : (h : Headed) (pre es : List Entry) → IsSound h → IsAccepted h.setup (reverse (pre ++ es)) → AllByRecursion IsLine (map (entry_line h.words) es)
 entries_are_lines h pre [] is acc = tt
 entries_are_lines h pre (e ∷ es) is acc = (
-  entry_line_is h.names e is.names (may_be_spelled h (reverse pre) e is (accepted_front h.setup pre es e acc)),
+  entry_line_is h.words e is.words (may_be_spelled h (reverse pre) e is (accepted_front h.setup pre es e acc)),
   entries_are_lines h (pre ++ e ∷ []) es is (subst (λ (xs : List Entry). IsAccepted h.setup (reverse xs)) (sym (append_snoc pre e es)) acc),
 )
 
@@ -159,7 +159,7 @@ ran_back (Err f) s h = cc
 -- the line spells an entry that is accepted next
 record IsNext (t : Recounted) (line : List ℕ) (s : Stage) : Type 0 where
   entry : Entry
-  spelled : line ≡ entry_line t.heading.names entry
+  spelled : line ≡ entry_line t.heading.words entry
   right : answer_of t.heading.setup (reverse t.entries) entry.worker entry.act ≡ Ok entry.reply
   stage : s ≡ Running (with_entry t entry)
 
@@ -167,11 +167,11 @@ next_entry : (t : Recounted) (line : List ℕ) (s : Stage) → IsSound t.heading
 unfolding entry_step
 next_entry t line s is h =
     let r = ran_back (entry_step t line) s h in
-    let o = entered_back t r.0 (entry_of t.heading.names line) r.1 in
+    let o = entered_back t r.0 (entry_of t.heading.words line) r.1 in
     let a = answered_back t r.0 o.0 (answer_of t.heading.setup (reverse t.entries) o.0.worker o.0.act) o.2 in
     record {
       entry = o.0;
-      spelled = entry_spelled t.heading.names line o.0 is.apart o.1;
+      spelled = entry_spelled t.heading.words line o.0 is.apart o.1;
       right = a.0;
       stage = r.2 ∙ ap Running a.1;
     }
@@ -179,7 +179,7 @@ next_entry t line s is h =
 -- these lines are those of entries that are accepted, and `end`
 pub record IsRunOf (h : Headed) (pre : List Entry) (lines : List (List ℕ)) (t : Recounted) : Type 0 where
   pub entries : List Entry
-  pub lines_are : lines ≡ map (entry_line h.names) entries ++ codes "end" ∷ []
+  pub lines_are : lines ≡ map (entry_line h.words) entries ++ codes "end" ∷ []
   pub ends : t ≡ record { heading = h; entries = pre ++ entries }
   pub accepted : IsAccepted h.setup (reverse (pre ++ entries))
 
@@ -191,7 +191,7 @@ run_ends h pre line lines t acc is rest = record {
   accepted = subst (λ (xs : List Entry). IsAccepted h.setup (reverse xs)) (sym (append-nil pre)) acc;
 }
 
-run_along : (h : Headed) (pre : List Entry) (e : Entry) (line : List ℕ) (lines : List (List ℕ)) (t : Recounted) → line ≡ entry_line h.names e → IsRunOf h (pre ++ e ∷ []) lines t → IsRunOf h pre (line ∷ lines) t
+run_along : (h : Headed) (pre : List Entry) (e : Entry) (line : List ℕ) (lines : List (List ℕ)) (t : Recounted) → line ≡ entry_line h.words e → IsRunOf h (pre ++ e ∷ []) lines t → IsRunOf h pre (line ∷ lines) t
 run_along h pre e line lines t is r = record {
   entries = e ∷ r.entries;
   lines_are = cc (is, r.lines_are);

@@ -36,7 +36,8 @@ use Rattle.ec_trace.proofs.OutlineFound.{outline_found}
 use Rattle.ec_trace.proofs.LeadLines.{outline_leads, leads_outline}
 use Rattle.ec_trace.specs.FirstFault.{IsLine, Leads}
 use Rattle.ec_trace.proofs.Leads.{leads_append, IsText, text_read, no_front, one_meaning, text_back}
-use Rattle.ec_trace.proofs.TraceLines.{line_is, literal_lacks, each_append, heading_lines_are, limit_line_is}
+use Rattle.ec_trace.proofs.Each.{each_append}
+use Rattle.ec_trace.proofs.TraceLines.{line_is, literal_lacks, heading_lines_are, limit_line_is}
 use Rattle.ec_trace.proofs.ReadHeadings.{IsSound, sound}
 use Rattle.ec_trace.proofs.ReadEntries.{number_word}
 use Rattle.ec_trace.proofs.ReadRuns.{entries_lead, entries_are_lines, end_leads, IsRunOf, run_back}
@@ -173,12 +174,12 @@ recount o es = record { heading = headed o; entries = es }
 
 -- the lines behind the first two
 abbrev behind : Outline → List Entry → List (List ℕ)
-behind o es = (outline_lines o ++ codes "run" ∷ map (entry_line (headed o).names) es) ++ codes "end" ∷ []
+behind o es = (outline_lines o ++ codes "run" ∷ map (entry_line (headed o).words) es) ++ codes "end" ∷ []
 
 behind_leads : (o : Outline) (es : List Entry) → IsOutline o → IsAccepted (headed o).setup (reverse es) → Leads (Declaring (opened o.limit [])) (behind o es) (Ended (recount o es))
 behind_leads o es is acc =
-    leads_append (Declaring (opened o.limit [])) (Running (recount o es)) (Ended (recount o es)) (outline_lines o ++ codes "run" ∷ map (entry_line (headed o).names) es) (codes "end" ∷ [])
-    (leads_append (Declaring (opened o.limit [])) (Declaring (headed o)) (Running (recount o es)) (outline_lines o) (codes "run" ∷ map (entry_line (headed o).names) es)
+    leads_append (Declaring (opened o.limit [])) (Running (recount o es)) (Ended (recount o es)) (outline_lines o ++ codes "run" ∷ map (entry_line (headed o).words) es) (codes "end" ∷ [])
+    (leads_append (Declaring (opened o.limit [])) (Declaring (headed o)) (Running (recount o es)) (outline_lines o) (codes "run" ∷ map (entry_line (headed o).words) es)
     (heading_leads (opened o.limit []) (headed o) (outline_lines o) (outline_leads o is))
     (Running (recount o []), run_leads (headed o) (has_workers o is), entries_lead (headed o) [] es (sound o is) acc))
     (end_leads (recount o es))
@@ -195,8 +196,8 @@ all_lines o es is acc = (
   literal_is (codes "evc-trace 1") refl refl,
   (
     limit_line_is o.limit is.high,
-    each_append IsLine (outline_lines o ++ codes "run" ∷ map (entry_line (headed o).names) es) (codes "end" ∷ [])
-        (each_append IsLine (outline_lines o) (codes "run" ∷ map (entry_line (headed o).names) es)
+    each_append IsLine (outline_lines o ++ codes "run" ∷ map (entry_line (headed o).words) es) (codes "end" ∷ [])
+        (each_append IsLine (outline_lines o) (codes "run" ∷ map (entry_line (headed o).words) es)
         (heading_lines_are o (opened o.limit []) (headed o) is (outline_leads o is))
         (literal_is (codes "run") refl refl, entries_are_lines (headed o) [] es (sound o is) acc))
         (literal_is (codes "end") refl refl, tt),
@@ -238,12 +239,12 @@ put_together : (n : ℕ) (head rest : List (List ℕ)) (end : Headed) (t : Recou
 put_together n head rest end t o r =
     let heading : t.heading ≡ end = ap (λ (u : Recounted). u.heading) r.ends in
     let entries : t.entries ≡ r.entries = ap (λ (u : Recounted). u.entries) r.ends in
-    let names : map (entry_line end.names) r.entries ≡ map (entry_line (headed o.outline).names) t.entries =
-    ap₂ (λ (h : Headed) (es : List Entry). map (entry_line h.names) es) o.end_is (sym entries) in
-    let tail : rest ≡ map (entry_line (headed o.outline).names) t.entries ++ codes "end" ∷ [] = r.lines_are ∙ ap (λ (ls : List (List ℕ)). ls ++ codes "end" ∷ []) names in
+    let names : map (entry_line end.words) r.entries ≡ map (entry_line (headed o.outline).words) t.entries =
+    ap₂ (λ (h : Headed) (es : List Entry). map (entry_line h.words) es) o.end_is (sym entries) in
+    let tail : rest ≡ map (entry_line (headed o.outline).words) t.entries ++ codes "end" ∷ [] = r.lines_are ∙ ap (λ (ls : List (List ℕ)). ls ++ codes "end" ∷ []) names in
     let body : head ++ codes "run" ∷ rest ≡ behind o.outline t.entries =
     ap₂ (λ (a b : List (List ℕ)). a ++ codes "run" ∷ b) o.lines_are tail
-    ∙ sym (append_assoc (outline_lines o.outline) (codes "run" ∷ map (entry_line (headed o.outline).names) t.entries) (codes "end" ∷ [])) in
+    ∙ sym (append_assoc (outline_lines o.outline) (codes "run" ∷ map (entry_line (headed o.outline).words) t.entries) (codes "end" ∷ [])) in
     record {
       outline = o.outline;
       is = o.is;

@@ -1,12 +1,13 @@
 -- The lists before and behind a word.
-use Rattle.std.proofs.Common.{◌≡◌, ℕ, ◌+◌, ◌-◌, ◌<◌, List, [], ◌∷◌, ◌++◌, length, take, drop, Bool, true, false, Option, Some, None, zero, suc, refl, sym, ap, ◌∙◌, arith, bytes_eq, take_all, zero-add, if◌then◌else◌, get_or, add-one, drop-cons}
+use Rattle.std.proofs.Common.{◌≡◌, ℕ, ◌+◌, ◌-◌, ◌<◌, List, [], ◌∷◌, ◌++◌, length, take, drop, Bool, true, false, Option, Some, None, zero, suc, refl, sym, ap, ◌∙◌, arith, bytes_eq, codes, take_all, zero-add, unwrap_or, if◌then◌else◌, get_or, add-one, drop-cons}
 use Rattle.std.proofs.lemmas.List.{length-append, length-drop}
 use Rattle.std.proofs.lemmas.Slice.Eq.{bytes_eq-Decides}
+use Rattle.std.proofs.lemmas.Option.{none-some}
 use Rattle.std.proofs.Math.Seq.{take-append-add, drop-append-add, take-append_seam, drop-append_seam, drop-length}
 use Rattle.ec_text.specs.Words.{words_of, IsWord}
 use Rattle.ec_text.proofs.WordLemmas.{has_first, words_at, words_alone}
-use Rattle.ec_trace.specs.Sorts.{opener}
-use Rattle.ec_trace.specs.Form.{split_words, StopsAt, front_words, behind_words, on_first, is_well, well_or, both_lists, listed_in, opened_in, sorted_in}
+use Rattle.ec_trace.specs.Sorts.{sort_word, sort_of, has_name, opener, other, needs_other}
+use Rattle.ec_trace.specs.Form.{TwoLists, split_words, StopsAt, front_words, behind_words, on_first, is_well, well_or, both_lists, phrase_of, listed_in, opened_in, called_in, numbered_in, sorted_in}
 use Rattle.ec_trace.specs.declared.sort.Sort.{Sort}
 use Rattle.ec_trace.specs.declared.sort.Sort.TheVariants as sorts
 
@@ -103,15 +104,34 @@ well_parts needs stop list at stops some within = well needs _ _
 pub well_alone : (needs : Bool) (o : Option (List ℕ)) (list : List ℕ) → o ≡ None → needs ≡ false → Some (words_of list, None) ≡ well_or needs (both_lists o (words_of list))
 well_alone needs o list is no_need = well needs (words_of list, None) _ (ap (λ p. both_lists p (words_of list)) is) (ap (λ b. is_well b (words_of list, None)) no_need ∙ is_well_none list)
 
+both_none : (o : Option (List ℕ)) → both_lists o [] ≡ ([], None)
+both_none None = refl
+both_none (Some stop) = split_none stop
+
 pub listed_none : (s : Sort) (name number : List ℕ) → listed_in s name number [] ≡ None
-unfolding split_words
-listed_none sorts.EventCount name number = refl
-listed_none sorts.Sequencer name number = refl
-listed_none sorts.Cells name number = refl
+listed_none s name number = ap (λ (l : TwoLists). phrase_of s name number (well_or (needs_other s) l)) (both_none (other s))
 
 pub sorted_none : (o : Option Sort) → sorted_in o [] ≡ None
 sorted_none None = refl
-sorted_none (Some s) = refl
+sorted_none (Some s) = elim (has_name s) as (λ b. (if b then called_in s [] else numbered_in s (sort_word s) []) ≡ None) [ true ↦ refl | false ↦ refl ]
 
 pub opened_one : (s : Sort) (name number word : List ℕ) → opened_in s name number (word ∷ []) ≡ None
 opened_one s name number word = elim (bytes_eq word (opener s)) as (λ b. (if b then listed_in s name number [] else None) ≡ None) [ true ↦ listed_none s name number | false ↦ refl ]
+
+-- the word is that of this sort, or of one further on in the table
+this_or_later : (w : List ℕ) (t s : Sort) (o : Option Sort) → (if bytes_eq w (sort_word t) then Some t else o) ≡ Some s → (o ≡ Some s → sort_word s ≡ w) → sort_word s ≡ w
+this_or_later w t s o is later =
+    elim (bytes_eq w (sort_word t)) as (λ b. bytes_eq w (sort_word t) ≡ b → (if b then Some t else o) ≡ Some s → sort_word s ≡ w)
+    [ true ↦ (λ same e. ap sort_word (sym (ap (λ (o : Option Sort). unwrap_or o t) e)) ∙ sym ((bytes_eq-Decides w (sort_word t)).0 same)) | false ↦ (λ _ e. later e) ]
+    refl is
+
+-- a word that opens a sort is the word of the sort
+pub word_of_sort : (w : List ℕ) (s : Sort) → sort_of w ≡ Some s → sort_word s ≡ w
+word_of_sort w s is =
+    this_or_later w sorts.EventCount s _ is (λ e.
+    this_or_later w sorts.Sequencer s _ e (λ e.
+    this_or_later w sorts.Cells s _ e (λ e.
+    this_or_later w sorts.Buffer s _ e (λ e.
+    this_or_later w sorts.Database s _ e (λ e.
+    this_or_later w sorts.Semaphore s _ e (λ e.
+    this_or_later w sorts.Both s _ e (λ e. absurd (none-some s e))))))))

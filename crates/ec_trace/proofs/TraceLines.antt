@@ -1,8 +1,8 @@
 -- The lines of a trace: none has an LF, and none is too long.
-use Rattle.std.proofs.Common.{◌≡◌, ◌≢◌, ℕ, ◌-◌, ◌*◌, ◌<◌, ◌≤◌, ◌^◌, List, [], ◌∷◌, ◌++◌, length, cond, Bool, true, false, eqb, ltb, leb, zero, suc, Result, Ok, Err, map, refl, sym, subst, arith, get_or, codes, decimal, length-append, nat_le, ◌&&◌}
+use Rattle.std.proofs.Common.{◌≡◌, ◌≢◌, ℕ, ◌-◌, ◌*◌, ◌<◌, ◌≤◌, ◌^◌, List, [], ◌∷◌, ◌++◌, length, cond, Bool, true, false, eqb, ltb, leb, zero, suc, Result, Ok, Err, map, refl, sym, ap, subst, ◌∙◌, arith, get_or, codes, decimal, length-append, ne_eqb, Option, Some, None, if◌then◌else◌}
 use Rattle.std.specs.Prelude.{not}
 use Rattle.std.specs.List.{AllByRecursion, list_all, join_with_byte}
-use Rattle.std.proofs.lemmas.Bool.{and_parts, not-true, eqb-true, eqb-false, ltb-false, leb-true, or_parts}
+use Rattle.std.proofs.lemmas.Bool.{true≢false, and_parts, not-true, eqb-false, ltb-false, leb-true, or_parts}
 use Rattle.std.proofs.lemmas.List.Elements.{recursion_from_All, All-from_recursion}
 use Rattle.std.proofs.lemmas.Fmt.{length-decimal-le}
 use Rattle.ec_core.specs.declared.act.Act.{Act}
@@ -10,22 +10,23 @@ use Rattle.ec_core.specs.declared.act.Act.TheVariants as acts
 use Rattle.ec_core.specs.declared.act.Reply.{Reply}
 use Rattle.ec_core.specs.declared.act.Reply.TheVariants.{Done, Number, Pending}
 use Rattle.ec_core.specs.declared.act.Entry.{Entry}
-use Rattle.ec_count.specs.Names.{AreNames}
+use Rattle.ec_trace.proofs.SpelledWords.{IsPlainWord, AreWords}
 use Rattle.ec_count.specs.Reserved.{is_name, is_name_byte, is_reserved}
 use Rattle.ec_count.specs.declared.target.Target.TheVariants.{Worker, Event, Sequencer}
 use Rattle.ec_text.specs.Words.{words_of}
 use Rattle.ec_trace.specs.Headed.{Headed}
 use Rattle.ec_trace.specs.Outline.{Declaration, Outline, IsOutline, IsDeclarable, AreDeclarable, declared_by}
 use Rattle.ec_trace.specs.declared.sort.Sort.{Sort}
-use Rattle.ec_trace.specs.declared.sort.Sort.TheVariants as sorts
 use Rattle.ec_trace.specs.declared.heading.HeadFault.TheVariants as faults
-use Rattle.ec_trace.specs.Sorts.{sort_word, has_number, opener, other}
-use Rattle.ec_trace.specs.Spelling.{word_of, cell_word, act_words, reply_word, entry_words, entry_line, limit_line, declaration_line, declaration_words, list_words, number_words, second_words}
+use Rattle.ec_trace.specs.Sorts.{sort_word, has_name, has_number, opener, other, is_called}
+use Rattle.ec_trace.specs.Spelling.{word_of, cell_word, act_words, reply_word, entry_words, entry_line, limit_line, declaration_line, declaration_words, list_words, name_words, number_words, second_words}
 use Rattle.ec_trace.specs.Spelled.{Named}
 use Rattle.ec_trace.specs.Heading.{head_step, is_no_line, words_step}
 use Rattle.ec_trace.specs.HeadingLaws.{LinesLead, outline_lines}
 use Rattle.ec_trace.specs.FirstFault.{IsLine}
-use Rattle.ec_trace.proofs.ReadNames.{HasBlock, has_block, block_by, named_by, name_lacks}
+use Rattle.ec_trace.proofs.Each.{each_append}
+use Rattle.ec_trace.proofs.SortFacts.{is_literal, literal, literal_lacks as letters_lack, is_stop, other_stop, sort_literal, opener_literal, number_small, name_called, called}
+use Rattle.ec_trace.proofs.ReadNames.{HasBlock, has_block, block_by, named_by, word_lacks}
 use Rattle.ec_trace.proofs.ReadCells.{decimal_lacks}
 use Rattle.ec_trace.proofs.ReadEntries.{ActIsNamed, ReplyIsShort, IsSpellable}
 
@@ -47,12 +48,12 @@ lacks_join [] h = tt
 lacks_join (w ∷ []) h = h.0
 lacks_join (w ∷ v ∷ words) h = lacks_append w (32 ∷ join_with_byte 32 (v ∷ words)) h.0 (refl, lacks_join (v ∷ words) h.1)
 
-pub each_append : {X : Type 0} (P : X → Type 0) (xs ys : List X) → AllByRecursion P xs → AllByRecursion P ys → AllByRecursion P (xs ++ ys)
-each_append P [] ys p q = q
-each_append P (x ∷ xs) ys p q = (p.0, each_append P xs ys p.1 q)
+bytes_clean : (word : List ℕ) → AllByRecursion (λ b. is_name_byte b ≡ true) word → Lacks word
+bytes_clean [] h = tt
+bytes_clean (b ∷ word) h = (ne_eqb b 10 (λ e. true≢false (sym h.0 ∙ ap is_name_byte e)), bytes_clean word h.1)
 
 name_clean : (word : List ℕ) → is_name word ≡ true → Lacks word
-name_clean word is = name_lacks 10 word refl refl is
+name_clean word is = bytes_clean word (name_called word is).bytes
 
 number_clean : (n : ℕ) → n < 1000000000000000000 → Lacks (decimal n)
 number_clean n small = decimal_lacks 10 n small (λ r. omega arith)
@@ -79,44 +80,36 @@ list_clean : (workers : List (List ℕ)) (ids : List ℕ) → AllByRecursion Lac
 list_clean workers [] h = tt
 list_clean workers (i ∷ ids) h = (one_clean workers i h, list_clean workers ids h)
 
-sort_clean : (s : Sort) → Lacks (sort_word s)
-sort_clean sorts.EventCount = literal_lacks (codes "eventcount") refl
-sort_clean sorts.Sequencer = literal_lacks (codes "sequencer") refl
-sort_clean sorts.Cells = literal_lacks (codes "cells") refl
+text_clean : (w : List ℕ) → is_literal w ≡ true → Lacks w
+text_clean w h = letters_lack 10 w refl (literal w h).letters
 
-opener_clean : (s : Sort) → Lacks (opener s)
-opener_clean sorts.EventCount = literal_lacks (codes "signal") refl
-opener_clean sorts.Sequencer = literal_lacks (codes "take") refl
-opener_clean sorts.Cells = literal_lacks (codes "write") refl
+name_words_clean : (s : Sort) (name : List ℕ) → is_called s name ≡ true → AllByRecursion Lacks (name_words s name)
+name_words_clean s name h =
+    elim (has_name s) as (λ b. AllByRecursion Lacks (if b then name ∷ [] else [])) [
+      | true ↦ (bytes_clean name (called s name h).bytes, tt)
+      | false ↦ tt
+    ]
 
 number_words_clean : (s : Sort) (n : ℕ) → n < 1000000000000000000 → AllByRecursion Lacks (number_words s n)
-number_words_clean sorts.EventCount n small = tt
-number_words_clean sorts.Sequencer n small = tt
-number_words_clean sorts.Cells n small = (number_clean n small, tt)
+number_words_clean s n small = elim (has_number s) as (λ b. AllByRecursion Lacks (if b then decimal n ∷ [] else [])) [ true ↦ (number_clean n small, tt) | false ↦ tt ]
 
-second_clean : (s : Sort) (workers : List (List ℕ)) (ids : List ℕ) → AllByRecursion Lacks workers → AllByRecursion Lacks (second_words workers (other s) ids)
-second_clean sorts.EventCount workers [] h = tt
-second_clean sorts.EventCount workers (i ∷ ids) h = (literal_lacks (codes "observe") refl, list_clean workers (i ∷ ids) h)
-second_clean sorts.Sequencer workers ids h = tt
-second_clean sorts.Cells workers [] h = tt
-second_clean sorts.Cells workers (i ∷ ids) h = (literal_lacks (codes "read") refl, list_clean workers (i ∷ ids) h)
+second_clean : (o : Option (List ℕ)) (workers : List (List ℕ)) (ids : List ℕ) → is_stop o ≡ true → AllByRecursion Lacks workers → AllByRecursion Lacks (second_words workers o ids)
+second_clean None workers ids good h = tt
+second_clean (Some stop) workers [] good h = tt
+second_clean (Some stop) workers (i ∷ ids) good h = (text_clean stop (and_parts (is_literal stop) (is_reserved stop) good).0, list_clean workers (i ∷ ids) h)
 
 small_number : (h : Headed) (d : Declaration) → IsDeclarable h d → d.number < 1000000000000000000
-small_number h d may = by d.sort d.number may.range
-  where
-    by : (s : Sort) (n : ℕ) → cond (has_number s) (nat_le 1 n && nat_le n 256) (eqb n 0) ≡ true → n < 1000000000000000000
-    by sorts.EventCount n e = omega (arith, eqb-true n 0 e)
-    by sorts.Sequencer n e = omega (arith, eqb-true n 0 e)
-    by sorts.Cells n e = (let p = and_parts (nat_le 1 n) (nat_le n 256) e in omega (arith, leb-true n 256 p.1))
+small_number h d may = omega (arith, number_small d.sort d.number may.range)
 
 declaration_clean : (workers : List (List ℕ)) (h : Headed) (d : Declaration) → AllByRecursion Lacks workers → IsDeclarable h d → Lacks (declaration_line workers d)
 declaration_clean workers h d all may =
     lacks_join (declaration_words workers d)
-    (each_append Lacks (sort_word d.sort ∷ d.name ∷ number_words d.sort d.number ++ opener d.sort ∷ list_words workers d.first) (second_words workers (other d.sort) d.second)
-    (each_append Lacks (sort_word d.sort ∷ d.name ∷ number_words d.sort d.number) (opener d.sort ∷ list_words workers d.first)
-    (sort_clean d.sort, (name_clean d.name may.word, number_words_clean d.sort d.number (small_number h d may)))
-    (opener_clean d.sort, list_clean workers d.first all))
-    (second_clean d.sort workers d.second all))
+    (each_append Lacks (sort_word d.sort ∷ name_words d.sort d.name ++ number_words d.sort d.number ++ opener d.sort ∷ list_words workers d.first) (second_words workers (other d.sort) d.second)
+    (each_append Lacks (sort_word d.sort ∷ name_words d.sort d.name ++ number_words d.sort d.number) (opener d.sort ∷ list_words workers d.first)
+    (each_append Lacks (sort_word d.sort ∷ name_words d.sort d.name) (number_words d.sort d.number)
+    (text_clean (sort_word d.sort) (sort_literal d.sort), name_words_clean d.sort d.name may.word) (number_words_clean d.sort d.number (small_number h d may)))
+    (text_clean (opener d.sort) (opener_literal d.sort), list_clean workers d.first all))
+    (second_clean (other d.sort) workers d.second (other_stop d.sort) all))
 
 declarations_clean : (workers : List (List ℕ)) (h : Headed) (ds : List Declaration) → AllByRecursion Lacks workers → AreDeclarable h ds → AllByRecursion Lacks (map (declaration_line workers) ds)
 declarations_clean workers h [] all may = tt
@@ -165,33 +158,24 @@ pub record IsFine (word : List ℕ) : Type 0 where
 literal_fine : (word : List ℕ) → list_all (λ b. not (eqb b 10)) word ≡ true → leb (length word) 64 ≡ true → IsFine word
 literal_fine word clean short = record { clean = literal_lacks word clean; short = leb-true _ _ short }
 
-name_short : (word : List ℕ) → is_name word ≡ true → length word ≤ 16
-unfolding is_name
-name_short [] h = omega arith
-name_short (b ∷ bs) h =
-    let p = and_parts (_ && nat_le (length bs) 15 && list_all is_name_byte bs) (not (is_reserved (b ∷ bs))) h in
-    let q = and_parts (_ && nat_le (length bs) 15) (list_all is_name_byte bs) p.0 in
-    let r = and_parts _ (nat_le (length bs) 15) q.0 in
-    omega (arith, leb-true _ _ r.1)
-
-name_fine : (word : List ℕ) → is_name word ≡ true → IsFine word
-name_fine word is = record { clean = name_clean word is; short = omega (arith, name_short word is) }
+word_fine : (word : List ℕ) → IsPlainWord word → IsFine word
+word_fine word is = record { clean = word_lacks 10 word refl is; short = omega (arith, is.short) }
 
 number_fine : (n : ℕ) → n < 1000000000000000000 → IsFine (decimal n)
 number_fine n small = record { clean = number_clean n small; short = omega (arith, length-decimal-le 18 n (omega arith) (omega arith) (omega arith)) }
 
-cell_fine : (names : Named) (x : ℕ) → AreNames names → HasBlock names x → x < 1000000000000000000 → IsFine (cell_word names x)
+cell_fine : (names : Named) (x : ℕ) → AreWords names → HasBlock names x → x < 1000000000000000000 → IsFine (cell_word names x)
 cell_fine names x are b small =
-    let name : is_name b.block ≡ true = (block_by names x are b).name in
+    let name : IsPlainWord b.block = (block_by names x are b).plain in
     let low : x - b.first < 1000000000000000000 = omega arith in
     subst IsFine (sym b.word) (record {
       clean =
           lacks_append (b.block ++ 91 ∷ [] ++ decimal (x - b.first)) (93 ∷ [])
-          (lacks_append (b.block ++ 91 ∷ []) (decimal (x - b.first)) (lacks_append b.block (91 ∷ []) (name_clean b.block name) (refl, tt)) (number_clean (x - b.first) low))
+          (lacks_append (b.block ++ 91 ∷ []) (decimal (x - b.first)) (lacks_append b.block (91 ∷ []) (word_lacks 10 b.block refl name) (refl, tt)) (number_clean (x - b.first) low))
           (refl, tt);
       short = omega (
         arith,
-        name_short b.block name,
+        name.short,
         length-decimal-le 18 (x - b.first) (omega arith) (omega arith) (omega arith),
         length-append (b.block ++ 91 ∷ [] ++ decimal (x - b.first)) (93 ∷ []),
         length-append (b.block ++ 91 ∷ []) (decimal (x - b.first)),
@@ -209,12 +193,12 @@ record AreFine (words : List (List ℕ)) : Type 0 where
   each : AllByRecursion IsFine words
   few : length words ≤ 3
 
-act_fine : (names : Named) (a : Act) → AreNames names → ActIsNamed names a → AreFine (act_words names a)
-act_fine names (acts.Advance e) are h = record { each = (literal_fine (codes "advance") refl refl, (name_fine _ (named_by names (Event e) are h).name, tt)); few = omega arith }
-act_fine names (acts.Read e) are h = record { each = (literal_fine (codes "read") refl refl, (name_fine _ (named_by names (Event e) are h).name, tt)); few = omega arith }
-act_fine names (acts.Await e v) are h = record { each = (literal_fine (codes "await") refl refl, (name_fine _ (named_by names (Event e) are h.0).name, (number_fine v h.1, tt))); few = omega arith }
+act_fine : (names : Named) (a : Act) → AreWords names → ActIsNamed names a → AreFine (act_words names a)
+act_fine names (acts.Advance e) are h = record { each = (literal_fine (codes "advance") refl refl, (word_fine _ (named_by names (Event e) are h).plain, tt)); few = omega arith }
+act_fine names (acts.Read e) are h = record { each = (literal_fine (codes "read") refl refl, (word_fine _ (named_by names (Event e) are h).plain, tt)); few = omega arith }
+act_fine names (acts.Await e v) are h = record { each = (literal_fine (codes "await") refl refl, (word_fine _ (named_by names (Event e) are h.0).plain, (number_fine v h.1, tt))); few = omega arith }
 act_fine names acts.Go are h = record { each = (literal_fine (codes "go") refl refl, tt); few = omega arith }
-act_fine names (acts.Ticket q) are h = record { each = (literal_fine (codes "ticket") refl refl, (name_fine _ (named_by names (Sequencer q) are h).name, tt)); few = omega arith }
+act_fine names (acts.Ticket q) are h = record { each = (literal_fine (codes "ticket") refl refl, (word_fine _ (named_by names (Sequencer q) are h).plain, tt)); few = omega arith }
 act_fine names (acts.Put x v) are h = record { each = (literal_fine (codes "put") refl refl, (cell_fine names x are (has_block names x h.0) h.1, (number_fine v h.2, tt))); few = omega arith }
 act_fine names (acts.Get x) are h = record { each = (literal_fine (codes "get") refl refl, (cell_fine names x are (has_block names x h.0) h.1, tt)); few = omega arith }
 
@@ -227,12 +211,12 @@ fine_short [] h = omega arith
 fine_short (w ∷ []) h = omega (arith, h.0.short)
 fine_short (w ∷ v ∷ words) h = omega (arith, h.0.short, fine_short (v ∷ words) h.1, length-append w (32 ∷ join_with_byte 32 (v ∷ words)))
 
-pub entry_line_is : (names : Named) (e : Entry) → AreNames names → IsSpellable names e → IsLine (entry_line names e)
+pub entry_line_is : (names : Named) (e : Entry) → AreWords names → IsSpellable names e → IsLine (entry_line names e)
 unfolding entry_line
 entry_line_is names e are may =
     let act = act_fine names e.act are may.act in
     let fine : AllByRecursion IsFine (entry_words names e) =
     each_append IsFine (word_of names (Worker e.worker) ∷ act_words names e.act) (codes "=" ∷ reply_word e.reply ∷ [])
-    (name_fine _ (named_by names (Worker e.worker) are may.worker).name, act.each) (literal_fine (codes "=") refl refl, (reply_fine e.reply may.reply, tt)) in
+    (word_fine _ (named_by names (Worker e.worker) are may.worker).plain, act.each) (literal_fine (codes "=") refl refl, (reply_fine e.reply may.reply, tt)) in
     line_is (join_with_byte 32 (entry_words names e)) (lacks_join (entry_words names e) (fine_clean (entry_words names e) fine))
     (omega (arith, fine_short (entry_words names e) fine, act.few, length-append (word_of names (Worker e.worker) ∷ act_words names e.act) (codes "=" ∷ reply_word e.reply ∷ [])))

@@ -4,7 +4,7 @@ use Rattle.std.specs.List.{join_with_byte}
 use Rattle.ec_core.specs.declared.act.Entry.{Entry}
 use Rattle.ec_trace.specs.Sorts.{sort_word, opener, other}
 use Rattle.ec_trace.specs.Outline.{Declaration, Outline, IsOutline, headed}
-use Rattle.ec_trace.specs.Spelling.{Named, list_words, second_words, number_words, declaration_line, limit_line, workers_line, entry_line, heading_lines, text_of, trace_text}
+use Rattle.ec_trace.specs.Spelling.{Named, list_words, second_words, name_words, number_words, declaration_line, limit_line, workers_line, entry_line, heading_lines, text_of, trace_text}
 use Rattle.ec_trace.specs.Recalled.{names_of, second_names, declared_words, declared_line, declarations_of, worker_names, opening_text, written_text}
 use Rattle.ec_trace.proofs.LineParts.{join_spaced, text_of-append}
 use Rattle.ec_trace.proofs.OutlineNames.{workers_found}
@@ -22,8 +22,8 @@ second_same ws names (Some word) (i ∷ ids) h = ap (λ (r : List (List ℕ)). w
 line_same : (ws : List (List ℕ)) (names : Named) (d : Declaration) → ((is : List ℕ) → names_of names is ≡ list_words ws is) → declared_line names d ≡ declaration_line ws d
 line_same ws names d h =
     sym (join_spaced (sort_word d.sort) (declared_words names d))
-    ∙ ap (λ (r : List (List ℕ)). join_with_byte 32 (sort_word d.sort ∷ (d.name ∷ number_words d.sort d.number ++ opener d.sort ∷ r) ++ second_names names (other d.sort) d.second)) (h d.first)
-    ∙ ap (λ (r : List (List ℕ)). join_with_byte 32 (sort_word d.sort ∷ (d.name ∷ number_words d.sort d.number ++ opener d.sort ∷ list_words ws d.first) ++ r)) (second_same ws names (other d.sort) d.second h)
+    ∙ ap (λ (r : List (List ℕ)). join_with_byte 32 (sort_word d.sort ∷ (name_words d.sort d.name ++ number_words d.sort d.number ++ opener d.sort ∷ r) ++ second_names names (other d.sort) d.second)) (h d.first)
+    ∙ ap (λ (r : List (List ℕ)). join_with_byte 32 (sort_word d.sort ∷ (name_words d.sort d.name ++ number_words d.sort d.number ++ opener d.sort ∷ list_words ws d.first) ++ r)) (second_same ws names (other d.sort) d.second h)
 
 lines_same : (ws : List (List ℕ)) (names : Named) (ds : List Declaration) → ((is : List ℕ) → names_of names is ≡ list_words ws is) → map (declared_line names) ds ≡ map (declaration_line ws) ds
 lines_same ws names [] h = refl
@@ -35,15 +35,15 @@ regroup a run es e =
     ∙ sym (text_of-append ((a ++ run) ++ es) e)
     ∙ ap (λ (r : List (List ℕ)). text_of (r ++ e)) (append_assoc a run es)
 
-pub text_found : (o : Outline) (entries : List Entry) → IsOutline o → written_text (headed o).names (headed o) entries ≡ trace_text o entries
+pub text_found : (o : Outline) (entries : List Entry) → IsOutline o → written_text (headed o).words (headed o) entries ≡ trace_text o entries
 unfolding opening_text trace_text
 text_found o entries is =
     let h = headed o in
-    let named : (ids : List ℕ) → names_of h.names ids ≡ list_words o.workers ids = λ ids. workers_found o.workers h.names ids (name_of_worker o) in
+    let named : (ids : List ℕ) → names_of h.words ids ≡ list_words o.workers ids = λ ids. workers_found o.workers h.words ids (name_of_worker o) in
     let limit = limit_found o in
     let workers = worker_names_found o in
-    let lines : map (declared_line h.names) (declarations_of h) ≡ map (declaration_line o.workers) o.declarations =
-    ap (map (declared_line h.names)) (declarations_found o is) ∙ lines_same o.workers h.names o.declarations named in
-    let front : codes "evc-trace 1" ∷ limit_line h.setup.limit ∷ workers_line (worker_names h) ∷ map (declared_line h.names) (declarations_of h) ≡ codes "evc-trace 1" ∷ heading_lines o = cc in
-    regroup (codes "evc-trace 1" ∷ limit_line h.setup.limit ∷ workers_line (worker_names h) ∷ map (declared_line h.names) (declarations_of h)) (codes "run" ∷ []) (map (entry_line h.names) entries) (codes "end" ∷ [])
-    ∙ ap (λ (a : List (List ℕ)). text_of ((a ++ codes "run" ∷ map (entry_line h.names) entries) ++ codes "end" ∷ [])) front
+    let lines : map (declared_line h.words) (declarations_of h) ≡ map (declaration_line o.workers) o.declarations =
+    ap (map (declared_line h.words)) (declarations_found o is) ∙ lines_same o.workers h.words o.declarations named in
+    let front : codes "evc-trace 1" ∷ limit_line h.setup.limit ∷ workers_line (worker_names h) ∷ map (declared_line h.words) (declarations_of h) ≡ codes "evc-trace 1" ∷ heading_lines o = cc in
+    regroup (codes "evc-trace 1" ∷ limit_line h.setup.limit ∷ workers_line (worker_names h) ∷ map (declared_line h.words) (declarations_of h)) (codes "run" ∷ []) (map (entry_line h.words) entries) (codes "end" ∷ [])
+    ∙ ap (λ (a : List (List ℕ)). text_of ((a ++ codes "run" ∷ map (entry_line h.words) entries) ++ codes "end" ∷ [])) front

@@ -29,9 +29,9 @@ IsTooLong line fault = (8192 < length line) × (fault ≡ Bad)
 abbrev pub IsBehindTheEnd : Stage → List ℕ → List ℕ → LineFault → Type 0
 IsBehindTheEnd s line behind fault = (behind ≡ []) × (is_ended s ≡ true) × (0 < length line) × (fault ≡ Bad)
 
--- an LF ends the line, and it is refused at its place
+-- an LF ends the line, which is not too long, and it is refused at its place
 abbrev pub IsRefusedThere : Stage → List ℕ → List ℕ → LineFault → Type 0
-IsRefusedThere s line behind fault = (more : List ℕ) × (behind ≡ 10 ∷ more) × (step s line ≡ Err fault)
+IsRefusedThere s line behind fault = (length line ≤ 8192) × (more : List ℕ) × (behind ≡ 10 ∷ more) × (step s line ≡ Err fault)
 
 -- the first faulty line of a text: the lines before it are taken in turn, and it is at fault
 pub record IsFirstFault (text : List ℕ) (n : ℕ) (fault : LineFault) : Type 0 where
@@ -49,6 +49,10 @@ pub record IsFirstFault (text : List ℕ) (n : ℕ) (fault : LineFault) : Type 0
 -- the fault of a line is that of the first faulty line of the text, up to the bound
 abbrev pub LineFaultIsTheFirst : Type 0
 LineFaultIsTheFirst = (bytes : List ℕ) (n : ℕ) (fault : LineFault) → outcome TRACE_MAX bytes ≡ Err (numbered n fault) → IsFirstFault (take TRACE_MAX bytes) n fault
+
+-- the first faulty line of the text, up to the bound, gives the fault
+abbrev pub FirstFaultIsTold : Type 0
+FirstFaultIsTold = (bytes : List ℕ) (n : ℕ) (fault : LineFault) → IsFirstFault (take TRACE_MAX bytes) n fault → outcome TRACE_MAX bytes ≡ Err (numbered n fault)
 
 -- a text is too large where it has more bytes than the bound, and unfinished only where it has not
 abbrev pub FaultOfTheWhole : Type 0

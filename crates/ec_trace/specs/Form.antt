@@ -1,12 +1,12 @@
 -- The form of a declaration, over the words of its line.
 use Rattle.std.specs.Prelude.{◌≡◌, ◌+◌, ◌≤◌, take, drop, zero, suc, ℕ, Bool, true, false, not, List, [], ◌∷◌, length, Option, Some, None, option_map, if◌then◌else◌, bytes_eq}
 use Rattle.ec_text.specs.Words.{words_of, is_number_form}
-use Rattle.ec_trace.specs.Sorts.{sort_of, has_number, opener, other, needs_other}
+use Rattle.ec_trace.specs.Sorts.{sort_of, sort_word, has_name, has_number, opener, other, needs_other}
 use Rattle.ec_trace.specs.declared.sort.Sort.{Sort}
 use Rattle.ec_trace.specs.declared.form.Parts.{Parts}
 use Rattle.ec_trace.specs.declared.form.Lists.{Lists}
 
--- a line of one of the forms: its number is [] where the form has none
+-- a line of one of the forms: its name is the sort's own word where the form has none, and its number is []
 pub record Phrase : Type 0 where
   pub sort : Sort
   pub name : List ℕ
@@ -58,9 +58,13 @@ abbrev pub numbered_in : Sort → List ℕ → List (List ℕ) → Option Phrase
 numbered_in s name [] = None
 numbered_in s name (w ∷ ws) = if has_number s then (if is_number_form w then opened_in s name w ws else None) else opened_in s name [] (w ∷ ws)
 
+abbrev pub called_in : Sort → List (List ℕ) → Option Phrase
+called_in s [] = None
+called_in s (w ∷ ws) = numbered_in s w ws
+
+-- a form without a name is called by its sort's own word
 abbrev pub named_in : Sort → List (List ℕ) → Option Phrase
-named_in s [] = None
-named_in s (w ∷ ws) = numbered_in s w ws
+named_in s ws = if has_name s then called_in s ws else numbered_in s (sort_word s) ws
 
 abbrev pub sorted_in : Option Sort → List (List ℕ) → Option Phrase
 sorted_in None ws = None

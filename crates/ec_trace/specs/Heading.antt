@@ -30,7 +30,7 @@ opened_by limit (Some ws) = fault_or (workers_fault ws) (opened limit ws)
 
 abbrev pub declared_or : Headed → Option Phrase → Result Headed HeadFault
 declared_or h None = Err faults.BadLine
-declared_or h (Some p) = fault_or (declaration_fault h.setup h.names p) (declared_by h (declaration_of h.names p))
+declared_or h (Some p) = fault_or (declaration_fault h.setup h.words p) (declared_by h (declaration_of h.words p))
 
 -- EITHER
 

@@ -1,5 +1,7 @@
 pub mod Sorts
+pub mod Objects
 pub mod Headed
+pub mod Groups
 pub mod Outline
 pub mod Outlined
 pub mod Spelling

@@ -3,6 +3,8 @@ use Rattle.std.specs.Prelude.{◌≡◌, ◌⊎◌, ◌≤◌, Option, Some, Non
 use Rattle.std.specs.List.{slice_split}
 use Rattle.ec_trace.specs.declared.fault.LineFault.{LineFault}
 use Rattle.ec_trace.specs.declared.fault.LineFault.TheVariants as line
+use Rattle.ec_trace.specs.declared.fault.StageFault.{StageFault}
+use Rattle.ec_trace.specs.declared.fault.StageFault.TheVariants as stage
 use Rattle.ec_trace.specs.declared.fault.TraceFault.{TraceFault}
 use Rattle.ec_trace.specs.declared.fault.TraceFault.TheVariants.{BadLine, Refused, WrongReply, Unfinished, TooLarge, Read, Memory}
 use Rattle.ec_trace.specs.declared.stage.Stage.{Stage}
@@ -21,6 +23,11 @@ abbrev pub numbered : ℕ → LineFault → TraceFault
 numbered n line.Bad = BadLine n
 numbered n (line.Refused r) = Refused n r
 numbered n (line.WrongReply r) = WrongReply n r
+
+-- why a line was not taken, with its number
+abbrev pub fault_at : ℕ → StageFault → TraceFault
+fault_at n stage.Memory = Memory
+fault_at n (stage.Line f) = numbered n f
 
 -- the lines of a text: each part but the last ends in an LF
 abbrev pub parts_of : List ℕ → List (List ℕ)

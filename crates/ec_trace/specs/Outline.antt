@@ -1,18 +1,24 @@
 -- The outline of a heading: its limit, its workers and its declarations, apart from how they are read or written.
-use Rattle.std.specs.Prelude.{◌≡◌, ◌≢◌, ℕ, ◌+◌, ◌≤◌, ◌<◌, ◌^◌, Bool, true, ◌==◌, ◌&&◌, nat_le, List, [], ◌∷◌, ◌++◌, length, Option, Some, None, if◌then◌else◌}
-use Rattle.std.specs.List.{All, AllPairs}
+use Rattle.std.specs.Prelude.{◌≡◌, ◌≢◌, ℕ, ◌+◌, ◌≤◌, ◌<◌, ◌^◌, Bool, true, ◌==◌, nat_le, List, [], ◌∷◌, ◌++◌, length, Option, Some, None, if◌then◌else◌}
+use Rattle.std.specs.List.{All, AllPairs, cons_option}
 use Rattle.ec_count.specs.Tables.{Tables, empty_tables, event_fault, list_fault, cells_fault, with_event, with_cells}
+use Rattle.ec_count.specs.Declares.{with_sequencer}
 use Rattle.ec_count.specs.Names.{find_name}
+use Rattle.ec_buffer.specs.Shapes.{buffer_fault, with_buffer}
+use Rattle.ec_database.specs.Shapes.{database_fault, with_database}
+use Rattle.ec_semaphore.specs.Shapes.{semaphore_fault, with_semaphore}
 use Rattle.ec_count.specs.Reserved.{is_name}
 use Rattle.ec_count.specs.declared.setup.SetupFault.{SetupFault}
 use Rattle.ec_count.specs.declared.target.Target.{Target}
-use Rattle.ec_count.specs.declared.target.Target.TheVariants.{Worker, Event, Sequencer, Cells}
+use Rattle.ec_count.specs.declared.target.Target.TheVariants.{Worker}
 use Rattle.ec_trace.specs.declared.sort.Sort.{Sort}
 use Rattle.ec_trace.specs.declared.sort.Sort.TheVariants as sorts
-use Rattle.ec_trace.specs.Sorts.{has_number, other}
+use Rattle.ec_trace.specs.Sorts.{has_name, other, is_called, is_in_range}
+use Rattle.ec_trace.specs.Objects.{Next, ids_after, objects_of, target_of, group_of, spelled_objects}
 use Rattle.ec_trace.specs.Headed.{Headed}
 
--- a declaration: its sort, name and number (0 where its form has none), and the workers of its two lists
+-- a declaration: its sort, what it is called (its name, or its sort's own word where its form has none), its number (0 where
+-- its form has none), and the workers of its two lists
 pub record Declaration : Type 0 where
   pub sort : Sort
   pub name : List ℕ
@@ -30,27 +36,39 @@ pub record Outline : Type 0 where
 -- the tables with the objects of a declaration of this sort
 abbrev pub with_objects : Sort → Tables → ℕ → List ℕ → List ℕ → Tables
 with_objects sorts.EventCount t n ws vs = with_event t ws vs
-with_objects sorts.Sequencer t n ws vs = record t { takers = t.takers ++ ws ∷ [] }
+with_objects sorts.Sequencer t n ws vs = with_sequencer t ws
 with_objects sorts.Cells t n ws vs = with_cells t n ws vs
+with_objects sorts.Buffer t n ws vs = with_buffer t n ws vs
+with_objects sorts.Database t n ws vs = with_database t n ws vs
+with_objects sorts.Semaphore t n ws vs = with_semaphore t ws
+with_objects sorts.Both t n ws vs = with_semaphore t ws
 
 -- why the tables can't take them, if they can't
 abbrev pub objects_fault : Sort → Tables → ℕ → List ℕ → List ℕ → Option SetupFault
 objects_fault sorts.EventCount t n ws vs = event_fault t ws vs
 objects_fault sorts.Sequencer t n ws vs = list_fault t (nat_le 32 (length t.takers)) ws (length ws == 0)
 objects_fault sorts.Cells t n ws vs = cells_fault t n ws vs
+objects_fault sorts.Buffer t n ws vs = buffer_fault t n ws vs
+objects_fault sorts.Database t n ws vs = database_fault t n ws vs
+objects_fault sorts.Semaphore t n ws vs = semaphore_fault t n ws
+objects_fault sorts.Both t n ws vs = semaphore_fault t 1 ws
 
--- what its name then stands for
-abbrev pub target_of : Sort → Tables → ℕ → Target
-target_of sorts.EventCount t n = Event (length t.events)
-target_of sorts.Sequencer t n = Sequencer (length t.takers)
-target_of sorts.Cells t n = Cells (length t.cells) n
+-- the name that a declaration adds, where its form has one
+abbrev pub named_as : Sort → List ℕ → Target → List (List ℕ × Target)
+named_as s name target = if has_name s then (name, target) ∷ [] else []
+
+-- the numbers that come next in a heading
+abbrev pub next_of : Headed → Next
+next_of h = ids_after h.setup (length h.groups)
 
 -- the heading with one more declaration
 abbrev pub declared_by : Headed → Declaration → Headed
 declared_by h d = record {
   setup = with_objects d.sort h.setup d.number d.first d.second;
-  names = h.names ++ (d.name, target_of d.sort h.setup d.number) ∷ [];
-  declarations = h.declarations ++ target_of d.sort h.setup d.number ∷ [];
+  names = h.names ++ named_as d.sort d.name (target_of d.sort (next_of h) d.number);
+  words = h.words ++ spelled_objects d.name (objects_of d.sort (next_of h) d.number);
+  groups = h.groups ++ cons_option (group_of d.sort h.setup d.number) [];
+  declarations = h.declarations ++ target_of d.sort (next_of h) d.number ∷ [];
 }
 
 -- the names of workers, from number n on
@@ -60,7 +78,7 @@ numbered n (w ∷ ws) = (w, Worker n) ∷ numbered (n + 1) ws
 
 -- the heading without declarations
 abbrev pub opened : ℕ → List (List ℕ) → Headed
-opened limit workers = record { setup = record (empty_tables limit) { workers = length workers }; names = numbered 0 workers; declarations = [] }
+opened limit workers = record { setup = record (empty_tables limit) { workers = length workers }; names = numbered 0 workers; words = numbered 0 workers; groups = []; declarations = [] }
 
 -- the heading with these declarations in turn
 abbrev pub declared_all : Headed → List Declaration → Headed
@@ -73,20 +91,17 @@ headed o = declared_all (opened o.limit o.workers) o.declarations
 
 -- WHICH DECLARATIONS MAY STAND
 
--- the numbers that a declaration of this sort may have: of cells, 1 to 256
-abbrev pub is_in_range : Sort → ℕ → Bool
-is_in_range s n = if has_number s then (nat_le 1 n && nat_le n 256) else (n == 0)
-
 -- a form without a second list has none
 abbrev pub fits_form : Option (List ℕ) → List ℕ → Bool
 fits_form None vs = length vs == 0
 fits_form (Some w) vs = true
 
--- the declaration may stand after this heading: its name is a new name, its number is in range, and the tables take
--- its objects (there is room, and each list names declared workers, each once, and somebody where it must)
+-- the declaration may stand after this heading: it may be called so, nothing is called so yet, its number is in range,
+-- and the tables take its objects (there is room, and each list names declared workers, each once, and somebody where
+-- it must)
 pub record IsDeclarable (h : Headed) (d : Declaration) : Type 0 where
-  pub word : is_name d.name ≡ true
-  pub new : find_name d.name h.names ≡ None
+  pub word : is_called d.sort d.name ≡ true
+  pub new : find_name d.name h.words ≡ None
   pub range : is_in_range d.sort d.number ≡ true
   pub form : fits_form (other d.sort) d.second ≡ true
   pub taken : objects_fault d.sort h.setup d.number d.first d.second ≡ None

@@ -10,7 +10,7 @@ use Rattle.ec_core.specs.declared.act.Reply.{Reply}
 use Rattle.ec_core.specs.declared.act.Reply.TheVariants.{Done, Number, Pending}
 use Rattle.ec_core.specs.declared.act.Entry.{Entry}
 use Rattle.ec_trace.specs.declared.sort.Sort.{Sort}
-use Rattle.ec_trace.specs.Sorts.{sort_word, has_number, opener, other}
+use Rattle.ec_trace.specs.Sorts.{sort_word, has_name, has_number, opener, other}
 use Rattle.ec_trace.specs.Outline.{Declaration, Outline, headed}
 
 abbrev pub Named : Type 0
@@ -28,6 +28,9 @@ workers_line workers = join_with_byte 32 (codes "workers" ∷ workers)
 abbrev pub list_words : List (List ℕ) → List ℕ → List (List ℕ)
 list_words workers ids = map (λ i. slice_index_or workers i []) ids
 
+abbrev pub name_words : Sort → List ℕ → List (List ℕ)
+name_words s name = if has_name s then name ∷ [] else []
+
 abbrev pub number_words : Sort → ℕ → List (List ℕ)
 number_words s n = if has_number s then decimal n ∷ [] else []
 
@@ -39,7 +42,7 @@ second_words workers (Some word) (i ∷ ids) = word ∷ list_words workers (i �
 
 abbrev pub declaration_words : List (List ℕ) → Declaration → List (List ℕ)
 declaration_words workers d =
-    sort_word d.sort ∷ d.name ∷ number_words d.sort d.number
+    sort_word d.sort ∷ name_words d.sort d.name ++ number_words d.sort d.number
     ++ opener d.sort ∷ list_words workers d.first ++ second_words workers (other d.sort) d.second
 
 abbrev pub declaration_line : List (List ℕ) → Declaration → List ℕ
@@ -91,7 +94,7 @@ heading_lines o = limit_line o.limit ∷ workers_line o.workers ∷ map (declara
 
 abbrev pub trace_lines : Outline → List Entry → List (List ℕ)
 trace_lines o entries =
-    codes "evc-trace 1" ∷ heading_lines o ++ codes "run" ∷ map (entry_line (headed o).names) entries ++ codes "end" ∷ []
+    codes "evc-trace 1" ∷ heading_lines o ++ codes "run" ∷ map (entry_line (headed o).words) entries ++ codes "end" ∷ []
 
 -- each line with its LF
 abbrev pub ended_line : List ℕ → List ℕ

@@ -61,7 +61,7 @@ entered t (Some e) = answered t e (answer_of t.heading.setup (reverse t.entries)
 
 -- one more entry, by its line
 unfoldable pub entry_step : Recounted → List ℕ → Result Recounted LineFault
-entry_step t line = entered t (entry_of t.heading.names line)
+entry_step t line = entered t (entry_of t.heading.words line)
 
 abbrev pub ran_on : Result Recounted LineFault → Result Stage LineFault
 ran_on (Ok t) = Ok (Running t)
@@ -86,6 +86,10 @@ run_on s = s
 abbrev pub ended_on : Stage → Stage
 ended_on (Running t) = Ended t
 ended_on s = s
+
+abbrev pub is_running : Stage → Bool
+is_running (Running t) = true
+is_running _ = false
 
 abbrev pub is_declaring : Stage → Bool
 is_declaring (Declaring h) = true

@@ -22,7 +22,7 @@ fn act_alone(verb: &[u8]) -> Option<Act>
 /// The act of a word and an object.
 #[tactic(auto, unfolding(crate::specs::Entries::act_on))]
 fn act_on(heading: &Heading, verb: &[u8], object: &[u8]) -> Option<Act>
-    ensures { result ≡ act_on heading.now.names verb.now object.now }
+    ensures { result ≡ act_on heading.now.words verb.now object.now }
 {
     if verb == b"advance".as_slice() {
         return Some(Act::Advance(heading.event(object)?));
@@ -42,7 +42,7 @@ fn act_on(heading: &Heading, verb: &[u8], object: &[u8]) -> Option<Act>
 /// The act of a word, an object and a value.
 #[tactic(auto, unfolding(crate::specs::Entries::act_with))]
 fn act_with(heading: &Heading, verb: &[u8], object: &[u8], value: &[u8]) -> Option<Act>
-    ensures { result ≡ act_with heading.now.names verb.now object.now value.now }
+    ensures { result ≡ act_with heading.now.words verb.now object.now value.now }
 {
     if verb == b"await".as_slice() {
         return Some(Act::Await(heading.event(object)?, number(value)?));
@@ -68,6 +68,7 @@ fn reply_of(word: &[u8]) -> Option<Reply>
 }
 
 /// The entry of a worker, an act, `=` and a reply.
+#[inline(always)]
 #[tactic(auto, unfolding(crate::specs::Entries::entry_by))]
 fn entry_by(
     heading: &Heading,
@@ -76,7 +77,7 @@ fn entry_by(
     equals: &[u8],
     answer: &[u8],
 ) -> Option<Entry>
-    ensures { result ≡ entry_by heading.now.names name.now act equals.now answer.now }
+    ensures { result ≡ entry_by heading.now.words name.now act equals.now answer.now }
 {
     let act = act?;
     let worker = heading.worker(name)?;
@@ -97,7 +98,7 @@ fn read_objects(
     fourth: &[u8],
     rest: &[u8],
 ) -> Option<Entry>
-    ensures { result ≡ entry_in heading.now.names (name.now ∷ verb.now ∷ third.now ∷ fourth.now ∷ words_of rest.now) }
+    ensures { result ≡ entry_in heading.now.words (name.now ∷ verb.now ∷ third.now ∷ fourth.now ∷ words_of rest.now) }
 {
     match cut_word(rest) {
         (answer, None) => entry_by(heading, name, act_on(heading, verb, third), fourth, answer),
@@ -114,7 +115,7 @@ fn read_objects(
 /// The entry that a line without its LF spells, if it spells one.
 #[tactic(auto, unfolding(crate::specs::Entries::entry_in, crate::specs::Entries::entry_of))]
 pub(crate) fn read_entry(heading: &Heading, line: &[u8]) -> Option<Entry>
-    ensures { result ≡ entry_of heading.now.names line.now }
+    ensures { result ≡ entry_of heading.now.words line.now }
 {
     let (name, Some(rest)) = cut_word(line) else {
         return None;

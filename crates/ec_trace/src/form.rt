@@ -8,7 +8,8 @@ use crate::lists::is_same;
 use crate::sort::{Sort, sort_of};
 use ec_text::{cut_word, is_number_form};
 
-/// A declaration, by its words: the number is empty where the form has none.
+/// A declaration, by its words: where the form has no name it is the sort's own word, and where it
+/// has no number that is empty.
 #[derive(Clone, Copy)]
 pub(crate) struct Parts<'a> {
     pub(crate) sort: Sort,
@@ -137,7 +138,7 @@ fn numbered<'a>(sort: Sort, name: &'a [u8], rest: &'a [u8]) -> Option<Parts<'a>>
 }
 
 /// The parts of a line of one of the forms.
-#[tactic(auto, using(crate::proofs::Stops::sorted_none), unfolding(crate::specs::Form::parts_in))]
+#[tactic(auto, using(crate::proofs::Stops::sorted_none, crate::proofs::Stops::word_of_sort), unfolding(crate::specs::Form::parts_in))]
 pub(crate) fn parts_of(line: &[u8]) -> Option<Parts<'_>>
     ensures { option_map shown result ≡ parts_in (words_of line.now) }
 {
@@ -145,6 +146,9 @@ pub(crate) fn parts_of(line: &[u8]) -> Option<Parts<'_>>
         return None;
     };
     let sort = sort_of(word)?;
+    if !sort.has_name() {
+        return numbered(sort, word, rest);
+    }
     let (name, Some(rest)) = cut_word(rest) else {
         return None;
     };

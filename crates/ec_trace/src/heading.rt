@@ -1,54 +1,73 @@
 //! Headings.
-ghost use Rattle.std.specs.Prelude.{◌≡◌, ◌≢◌, ◌∷◌, ◌+◌, ◌++◌, ◌≤◌, IfErr, IfOk, OnErr, OnOk, [], None, Some, length, option_map, false, true};
+ghost use Rattle.std.specs.Prelude.{◌≡◌, ◌≢◌, ◌+◌, ◌++◌, ◌≤◌, IfErr, IfOk, OnErr, OnOk, [], None, length, option_map, vec_capacity};
+ghost use Rattle.std.specs.List.{All, cons_option};
 ghost use Rattle.ec_text.specs.Words.{words_of};
 ghost use Rattle.ec_trace.specs.Form.{parts_in, shown};
+ghost use Rattle.ec_trace.specs.Groups.{FitsGroup};
 ghost use Rattle.ec_trace.specs.Heading.{Lines, Steps, workers_in, words_step, opened_by, declared_or};
-ghost use Rattle.ec_trace.specs.Kinds.{workers_fault, declaration_fault, declaration_of, is_full_for, second_list};
+ghost use Rattle.ec_trace.specs.Kinds.{workers_fault, declaration_fault, declaration_of, second_list};
 ghost use Rattle.ec_count.specs.Names.{AreNames};
 ghost use Rattle.ec_trace.specs.Lists.{ids_in, worker_in};
 ghost use Rattle.ec_trace.specs.Outlined.{IsHeading, HasOutline};
 ghost use Rattle.ec_trace.specs.Spelled.{event_in, sequencer_in, cell_in_word, cell_of};
-ghost use Rattle.ec_trace.specs.Outline.{opened, IsDeclarable, numbered, is_in_range, with_objects, objects_fault, target_of, declared_by};
+ghost use Rattle.ec_trace.specs.Outline.{opened, IsDeclarable, numbered, named_as, declared_by};
 
 use crate::form::{Parts, parts_of};
+use crate::group::Group;
 use crate::kinds::{declaration_fault, size_of, workers_fault};
 use crate::lists::{has_blank, is_same, push_ids, worker_in};
+use crate::objects::{add_objects, spell_objects, target_of};
 use crate::sort::Sort;
 use crate::spelled::{block_of, closed_number, cut_at, event_of, sequencer_of};
 use arrayvec::ArrayVec;
-use ec_count::{CellId, EventId, Limit, NameFault, Names, SeqId, Setup, Target, WorkerId};
+use ec_count::{
+    CellId, EventId, Limit, NameFault, Names, SeqId, Setup, Target, Vocabulary, WorkerId,
+};
 use ec_text::cut_word;
 use std::alloc::{AllocError, Global};
 use std::marker::Model;
+use thiserror::Error;
 
 /// Why a line of a heading is refused: the least of these that holds of the line.
-#[derive(Clone, Copy, Debug, PartialEq, Eq)]
+#[derive(Clone, Copy, Debug, PartialEq, Eq, Error)]
 pub enum HeadFault {
     /// The line has none of the forms allowed in its place, or more than 8192 bytes.
+    #[error("bad line")]
     BadLine,
     /// A word in the place of a new name is not a name.
+    #[error("a word is no name")]
     BadName,
     /// A new name was used before, or a list names a worker twice.
+    #[error("a name was used before")]
     NameTaken,
     /// A word in the place of a worker is not the name of one.
+    #[error("a name is not declared")]
     UnknownName,
     /// A number is outside its range.
+    #[error("a number is out of range")]
     BadNumber,
     /// A table would pass its bound.
+    #[error("a table would pass its bound")]
     TooMany,
     /// The line names an object of a group.
+    #[error("the object belongs to a group")]
     Hidden,
     /// A worker stands in both lists of a group.
+    #[error("a worker stands in both roles")]
     TwoRoles,
     /// Memory was refused.
+    #[error("memory was refused")]
     Memory,
 }
 
-/// What a heading declares: the limit, the workers, and their objects, with their names.
+/// What a heading declares: the limit, the workers, and their objects, with their names and the
+/// words by which lines spell them.
 #[derive(Drop)]
 pub struct Heading {
     pub(crate) setup: Setup,
     pub(crate) names: Names,
+    pub(crate) words: Vocabulary,
+    pub(crate) groups: Vec<Group>,
     pub(crate) declarations: Vec<Target>,
 }
 
@@ -59,9 +78,9 @@ impl Model for Heading {
 
     ghost use Rattle.ec_trace.specs.Outlined.{IsHeading};
 
-    ghost view = { λ h. record { setup = h.setup; names = h.names; declarations = h.declarations.items } };
+    ghost view = { λ h. record { setup = h.setup; names = h.names; words = h.words; groups = h.groups.items; declarations = h.declarations.items } };
 
-    ghost invariant = { λ h. IsHeading (record { setup = h.setup; names = h.names; declarations = h.declarations.items }) };
+    ghost invariant = { λ h. IsHeading (record { setup = h.setup; names = h.names; words = h.words; groups = h.groups.items; declarations = h.declarations.items }) };
 }
 
 /// The names that a line of workers lists, where it has that form.
@@ -80,9 +99,16 @@ fn worker_list(line: &[u8]) -> Option<&[u8]>
 }
 
 /// Adds the workers of a list in order.
-fn add_workers(names: &mut Names, setup: &mut Setup, list: &[u8]) -> Result<(), NameFault>
-    requires { setup.old.workers + length (words_of list.now) ≤ 16 }
+fn add_workers(
+    names: &mut Names,
+    words: &mut Vocabulary,
+    setup: &mut Setup,
+    list: &[u8],
+) -> Result<(), NameFault>
+    requires room { setup.old.workers + length (words_of list.now) ≤ 16 }
+    requires same { words.old ≡ names.old }
     ensures names { OnOk result (names.new ≡ names.old ++ numbered setup.old.workers (words_of list.now)) }
+    ensures words { OnOk result (words.new ≡ words.old ++ numbered setup.old.workers (words_of list.now)) }
     ensures setup { OnOk result (setup.new ≡ record setup.old { workers = setup.old.workers + length (words_of list.now) }) }
 {
     let (word, rest) = cut_word(list);
@@ -90,9 +116,12 @@ fn add_workers(names: &mut Names, setup: &mut Setup, list: &[u8]) -> Result<(), 
         unreachable!();
     };
     names.add_bytes(word, Target::Worker(worker))?;
+    if words.add(word, Target::Worker(worker)).is_err() {
+        return Err(NameFault::Memory);
+    }
     match rest {
         None => Ok(()),
-        Some(rest) => add_workers(names, setup, rest),
+        Some(rest) => add_workers(names, words, setup, rest),
     }
 }
 
@@ -105,11 +134,16 @@ fn opened(alloc: Global, limit: Limit, list: &[u8]) -> Result<Heading, NameFault
     let Ok(mut names) = Names::new(alloc) else {
         return Err(NameFault::Memory);
     };
+    let Ok(mut words) = Vocabulary::new(alloc) else {
+        return Err(NameFault::Memory);
+    };
     let mut setup = Setup::new(limit);
-    add_workers(&mut names, &mut setup, list)?;
+    add_workers(&mut names, &mut words, &mut setup, list)?;
     Ok(Heading {
         setup,
         names,
+        words,
+        groups: Vec::new(alloc),
         declarations: Vec::new(alloc),
     })
 }
@@ -122,6 +156,8 @@ impl Heading {
         Ok(Heading {
             setup: Setup::new(limit),
             names: Names::new(alloc)?,
+            words: Vocabulary::new(alloc)?,
+            groups: Vec::new(alloc),
             declarations: Vec::new(alloc),
         })
     }
@@ -168,7 +204,7 @@ impl Heading {
         let Some(parts) = parts_of(line) else {
             return Err(HeadFault::BadLine);
         };
-        if let Some(fault) = declaration_fault(&self.setup, &self.names, &parts) {
+        if let Some(fault) = declaration_fault(&self.setup, &self.words, &parts) {
             return Err(fault);
         }
         self.declare(&parts)
@@ -177,25 +213,47 @@ impl Heading {
     /// Adds what a line without fault declares: first what may want memory, so that nothing changes where it is refused.
     fn declare(&mut self, parts: &Parts<'_>) -> Result<(), HeadFault>
         requires some { self.old.setup.workers ≢ 0 }
-        requires may { IsDeclarable self.old (declaration_of self.old.names (shown parts.now)) }
-        ensures ok { OnOk result (self.new ≡ declared_by self.old (declaration_of self.old.names (shown parts.now))) }
+        requires may { IsDeclarable self.old (declaration_of self.old.words (shown parts.now)) }
+        ensures ok { OnOk result (self.new ≡ declared_by self.old (declaration_of self.old.words (shown parts.now))) }
         ensures err { OnErr result (self.new ≡ self.old) }
         ensures fault { IfErr result (λ fault. fault ≡ HeadFault.Memory) }
     {
         let n = size_of(parts) as usize;
-        let first = workers_of(&self.names, parts.first);
-        let second = second_workers(&self.names, parts);
-        let target = next_target(&self.setup, parts.sort, n);
-        if add_target(&mut self.declarations, &mut self.names, parts.name, &target).is_err() {
+        let first = workers_of(&self.words, parts.first);
+        let second = second_workers(&self.words, parts);
+        let groups = self.groups.len();
+        let target = target_of(&self.setup, groups, parts.sort, n);
+        if self.declarations.reserve(1).is_err() || self.groups.reserve(1).is_err() {
             return Err(HeadFault::Memory);
         }
-        add_objects(
+        let before = self.words.len();
+        if spell_objects(
+            &mut self.words,
+            parts.name,
+            &self.setup,
+            groups,
+            parts.sort,
+            n,
+        )
+        .is_err()
+        {
+            return Err(HeadFault::Memory);
+        }
+        if add_name(&mut self.names, parts.sort, parts.name, &target).is_err() {
+            self.words.truncate(before);
+            return Err(HeadFault::Memory);
+        }
+        let group = add_objects(
             &mut self.setup,
             parts.sort,
             n,
             first.as_slice(),
             second.as_slice(),
         );
+        push_group(&mut self.groups, group);
+        if self.declarations.push(target).is_err() {
+            unreachable!();
+        }
         Ok(())
     }
 
@@ -213,7 +271,21 @@ impl Heading {
         &self.names
     }
 
-    /// What was declared after the workers, in order.
+    /// The words by which lines spell the workers and the objects, in the order in which they are declared.
+    pub fn words(&self) -> &Vocabulary
+        ensures { result.now ≡ self.now.words }
+    {
+        &self.words
+    }
+
+    /// The groups, in order of declaration.
+    pub fn groups(&self) -> &[Group]
+        ensures { result.now ≡ self.now.groups }
+    {
+        self.groups.as_slice()
+    }
+
+    /// What was declared after the workers, in order; a group by its place among the groups.
     pub fn declarations(&self) -> &[Target]
         ensures { result.now ≡ self.now.declarations }
     {
@@ -226,6 +298,7 @@ impl Heading {
         ensures heading { IsHeading self.now }
         ensures outline { 1 ≤ self.now.setup.workers → HasOutline self.now }
         ensures names { AreNames self.now.names }
+        ensures groups { All (FitsGroup self.now.setup) self.now.groups }
     {
         self.names.known();
         let _setup = &self.setup;
@@ -233,22 +306,22 @@ impl Heading {
 
     /// The eventcount that a word spells.
     pub fn event(&self, word: &[u8]) -> Option<EventId>
-        ensures { result ≡ event_in self.now.names word.now }
+        ensures { result ≡ event_in self.now.words word.now }
     {
-        event_of(self.names.find_bytes(word)?)
+        event_of(self.words.find(word)?)
     }
 
     /// The sequencer that a word spells.
     pub fn sequencer(&self, word: &[u8]) -> Option<SeqId>
-        ensures { result ≡ sequencer_in self.now.names word.now }
+        ensures { result ≡ sequencer_in self.now.words word.now }
     {
-        sequencer_of(self.names.find_bytes(word)?)
+        sequencer_of(self.words.find(word)?)
     }
 
     /// The cell that a word spells: the name of its block, `[`, its number there, and `]`.
     #[tactic(auto, unfolding(crate::specs::Spelled::cell_in_word))]
     pub fn cell(&self, word: &[u8]) -> Option<CellId>
-        ensures { result ≡ cell_in_word self.now.names word.now }
+        ensures { result ≡ cell_in_word self.now.words word.now }
     {
         let (name, rest) = cut_at(word, b'[')?;
         self.cell_of(name, closed_number(rest)?)
@@ -256,9 +329,9 @@ impl Heading {
 
     /// The cell with this number in the block of this name.
     fn cell_of(&self, name: &[u8], i: u64) -> Option<CellId>
-        ensures { result ≡ cell_of self.now.names name.now i }
+        ensures { result ≡ cell_of self.now.words name.now i }
     {
-        let (first, n) = block_of(self.names.find_bytes(name)?)?;
+        let (first, n) = block_of(self.words.find(name)?)?;
         if i >= n as u64 {
             return None;
         }
@@ -267,97 +340,52 @@ impl Heading {
 
     /// The worker of a name.
     pub fn worker(&self, word: &[u8]) -> Option<WorkerId>
-        ensures { result ≡ worker_in self.now.names word.now }
+        ensures { result ≡ worker_in self.now.words word.now }
     {
-        worker_in(&self.names, word)
+        worker_in(&self.words, word)
     }
 }
 
-/// Adds what is declared, and its name, or neither.
-fn add_target(
-    declarations: &mut Vec<Target>,
-    names: &mut Names,
-    name: &[u8],
-    target: &Target,
-) -> Result<(), NameFault>
-    ensures names { OnOk result (names.new ≡ names.old ++ (name.now, target.now) ∷ []) }
-    ensures declarations { OnOk result (declarations.new.items ≡ declarations.old.items ++ target.now ∷ []) }
-    ensures names_stay { OnErr result (names.new ≡ names.old) }
-    ensures declarations_stay { OnErr result (declarations.new.items ≡ declarations.old.items) }
+/// Adds the name of a declaration, where its form has one.
+fn add_name(names: &mut Names, sort: Sort, name: &[u8], target: &Target) -> Result<(), NameFault>
+    ensures ok { OnOk result (names.new ≡ names.old ++ named_as sort name.now target.now) }
+    ensures err { OnErr result (names.new ≡ names.old) }
 {
-    if declarations.reserve(1).is_err() {
-        return Err(NameFault::Memory);
+    if !sort.has_name() {
+        return Ok(());
     }
-    names.add_bytes(name, *target)?;
-    if declarations.push(*target).is_err() {
-        unreachable!();
+    names.add_bytes(name, *target)
+}
+
+/// Adds a group, if there is one, where there is room for it.
+fn push_group(groups: &mut Vec<Group>, group: Option<Group>)
+    requires { length groups.old.items + 1 ≤ vec_capacity groups.old }
+    ensures { groups.new.items ≡ groups.old.items ++ cons_option group [] }
+{
+    if let Some(group) = group {
+        if groups.push(group).is_err() {
+            unreachable!();
+        }
     }
-    Ok(())
 }
 
 /// The workers that a list names.
-fn workers_of(names: &Names, list: &[u8]) -> ArrayVec<WorkerId, 16>
-    requires { length (ids_in names.now (words_of list.now)) ≤ 16 }
-    ensures { result.items ≡ ids_in names.now (words_of list.now) }
+fn workers_of(words: &Vocabulary, list: &[u8]) -> ArrayVec<WorkerId, 16>
+    requires { length (ids_in words.now (words_of list.now)) ≤ 16 }
+    ensures { result.items ≡ ids_in words.now (words_of list.now) }
 {
     let mut ids = ArrayVec::new();
-    push_ids(names, list, &mut ids);
+    push_ids(words, list, &mut ids);
     ids
 }
 
 /// The workers that the second list names.
-fn second_workers(names: &Names, parts: &Parts<'_>) -> ArrayVec<WorkerId, 16>
-    requires { length (ids_in names.now (second_list (shown parts.now))) ≤ 16 }
-    ensures { result.items ≡ ids_in names.now (second_list (shown parts.now)) }
+fn second_workers(words: &Vocabulary, parts: &Parts<'_>) -> ArrayVec<WorkerId, 16>
+    requires { length (ids_in words.now (second_list (shown parts.now))) ≤ 16 }
+    ensures { result.items ≡ ids_in words.now (second_list (shown parts.now)) }
 {
     match parts.second {
         None => ArrayVec::new(),
-        Some(list) => workers_of(names, list),
-    }
-}
-
-/// What a name that is declared next will stand for.
-fn next_target(setup: &Setup, sort: Sort, n: usize) -> Target
-    requires room { is_full_for sort setup.now n ≡ false }
-    requires some { is_in_range sort n ≡ true }
-    ensures { result ≡ target_of sort setup.now n }
-{
-    match sort {
-        Sort::EventCount => {
-            let Some(id) = EventId::new(setup.events()) else {
-                unreachable!();
-            };
-            Target::Event(id)
-        }
-        Sort::Sequencer => {
-            let Some(id) = SeqId::new(setup.sequencers()) else {
-                unreachable!();
-            };
-            Target::Sequencer(id)
-        }
-        Sort::Cells => {
-            let Some(first) = CellId::new(setup.cells()) else {
-                unreachable!();
-            };
-            Target::Cells(first, n)
-        }
-    }
-}
-
-/// Adds the objects of a declaration.
-fn add_objects(setup: &mut Setup, sort: Sort, n: usize, first: &[WorkerId], second: &[WorkerId])
-    requires { objects_fault sort setup.old n first.now second.now ≡ None }
-    ensures { setup.new ≡ with_objects sort setup.old n first.now second.now }
-{
-    match sort {
-        Sort::EventCount => {
-            let _added = setup.add_event(first, second);
-        }
-        Sort::Sequencer => {
-            let _added = setup.add_sequencer(first);
-        }
-        Sort::Cells => {
-            let _added = setup.add_cells(n, first, second);
-        }
+        Some(list) => workers_of(words, list),
     }
 }

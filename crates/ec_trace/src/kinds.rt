@@ -10,7 +10,7 @@ use crate::form::Parts;
 use crate::heading::HeadFault;
 use crate::lists::{count_ids, count_words, has_repeat, has_shared, has_unknown, has_word_twice};
 use crate::sort::Sort;
-use ec_count::{Names, Setup, is_name};
+use ec_count::{Setup, Vocabulary, is_name};
 use ec_text::{cut_word, number};
 
 /// Whether a word is no name.
@@ -53,46 +53,49 @@ pub(crate) fn size_of(parts: &Parts<'_>) -> u64
     }
 }
 
-/// Whether the name was used before, or a list names a worker twice.
-fn is_taken(names: &Names, parts: &Parts<'_>) -> bool
-    ensures { result ≡ is_taken names.now (declaration_of names.now (shown parts.now)) }
+/// Whether something is called so already, or a list names a worker twice.
+fn is_taken(words: &Vocabulary, parts: &Parts<'_>) -> bool
+    ensures { result ≡ is_taken words.now (declaration_of words.now (shown parts.now)) }
 {
-    if names.find_bytes(parts.name).is_some() || has_repeat(names, parts.first) {
+    if words.find(parts.name).is_some() || has_repeat(words, parts.first) {
         return true;
     }
     match parts.second {
         None => false,
-        Some(second) => has_repeat(names, second),
+        Some(second) => has_repeat(words, second),
     }
 }
 
 /// Whether a word of a list is no worker's name.
-fn has_unknown_word(names: &Names, parts: &Parts<'_>) -> bool
-    ensures { result ≡ has_unknown_word names.now (shown parts.now) }
+fn has_unknown_word(words: &Vocabulary, parts: &Parts<'_>) -> bool
+    ensures { result ≡ has_unknown_word words.now (shown parts.now) }
 {
-    if has_unknown(names, parts.first) {
+    if has_unknown(words, parts.first) {
         return true;
     }
     match parts.second {
         None => false,
-        Some(second) => has_unknown(names, second),
+        Some(second) => has_unknown(words, second),
     }
 }
 
-/// Whether the number is out of its range.
-fn is_bad_number(sort: Sort, n: u64) -> bool
-    ensures { result ≡ is_bad_number sort n }
+/// Whether the number is out of its range; one of more than 18 digits is.
+fn is_bad_number(sort: Sort, number: Option<u64>) -> bool
+    ensures { result ≡ is_bad_number sort number }
 {
-    sort.has_number() && (n == 0 || n > 256)
+    match number {
+        None => sort.has_number(),
+        Some(n) => sort.has_number() && !sort.is_in_range(n),
+    }
 }
 
 /// How many workers the second list names.
-fn count_second(names: &Names, parts: &Parts<'_>) -> usize
-    ensures { result ≡ length (declaration_of names.now (shown parts.now)).second }
+fn count_second(words: &Vocabulary, parts: &Parts<'_>) -> usize
+    ensures { result ≡ length (declaration_of words.now (shown parts.now)).second }
 {
     match parts.second {
         None => 0,
-        Some(second) => count_ids(names, second),
+        Some(second) => count_ids(words, second),
     }
 }
 
@@ -107,56 +110,64 @@ fn is_over(cells: usize, n: u64) -> bool
 }
 
 /// Whether a list or a table would pass its bound.
-fn is_too_many(setup: &Setup, names: &Names, parts: &Parts<'_>) -> bool
-    ensures { result ≡ is_too_many setup.now (declaration_of names.now (shown parts.now)) }
+fn is_too_many(setup: &Setup, words: &Vocabulary, parts: &Parts<'_>) -> bool
+    ensures { result ≡ is_too_many setup.now (declaration_of words.now (shown parts.now)) }
 {
-    if count_ids(names, parts.first) > 16 || count_second(names, parts) > 16 {
+    if count_ids(words, parts.first) > 16 || count_second(words, parts) > 16 {
         return true;
     }
     match parts.sort {
         Sort::EventCount => setup.events() > 31,
         Sort::Sequencer => setup.sequencers() > 31,
         Sort::Cells => is_over(setup.cells(), size_of(parts)),
+        Sort::Buffer => {
+            setup.events() > 30 || setup.sequencers() > 30 || is_over(setup.cells(), size_of(parts))
+        }
+        Sort::Database => {
+            setup.events() > 30 || setup.sequencers() > 31 || is_over(setup.cells(), size_of(parts))
+        }
+        Sort::Semaphore => setup.events() > 31 || setup.sequencers() > 31,
+        Sort::Both => setup.events() > 31 || setup.sequencers() > 31,
     }
 }
 
 /// Whether a worker stands in both lists of a sort that keeps them apart.
-fn has_two_roles(names: &Names, parts: &Parts<'_>) -> bool
-    ensures { result ≡ has_two_roles (declaration_of names.now (shown parts.now)) }
+fn has_two_roles(words: &Vocabulary, parts: &Parts<'_>) -> bool
+    ensures { result ≡ has_two_roles (declaration_of words.now (shown parts.now)) }
 {
     if !parts.sort.keeps_apart() {
         return false;
     }
     match parts.second {
         None => false,
-        Some(second) => has_shared(names, parts.first, second),
+        Some(second) => has_shared(words, parts.first, second),
     }
 }
 
 /// The least fault of a line of one of the forms.
 pub(crate) fn declaration_fault(
     setup: &Setup,
-    names: &Names,
+    words: &Vocabulary,
     parts: &Parts<'_>,
 ) -> Option<HeadFault>
-    ensures { result ≡ declaration_fault setup.now names.now (shown parts.now) }
+    ensures { result ≡ declaration_fault setup.now words.now (shown parts.now) }
 {
-    if !is_name(parts.name) {
+    if !parts.sort.is_called(parts.name) {
         return Some(HeadFault::BadName);
     }
-    if is_taken(names, parts) {
+    if is_taken(words, parts) {
         return Some(HeadFault::NameTaken);
     }
-    if has_unknown_word(names, parts) {
+    if has_unknown_word(words, parts) {
         return Some(HeadFault::UnknownName);
     }
-    if is_bad_number(parts.sort, size_of(parts)) {
+    if is_bad_number(parts.sort, number(parts.number)) {
         return Some(HeadFault::BadNumber);
     }
-    if is_too_many(setup, names, parts) {
+    if is_too_many(setup, words, parts) {
         return Some(HeadFault::TooMany);
     }
-    if has_two_roles(names, parts) {
+    if has_two_roles(words, parts) {
         return Some(HeadFault::TwoRoles);
     }
     None

@@ -4,10 +4,13 @@
 mod entry;
 mod fault;
 mod form;
+mod group;
 mod heading;
 mod kinds;
 mod laws;
+mod lines;
 mod lists;
+mod objects;
 mod progress;
 mod read;
 mod reading_laws;
@@ -20,6 +23,7 @@ mod write;
 mod write_heading;
 
 pub use fault::TraceFault;
+pub use group::Group;
 pub use heading::{HeadFault, Heading};
 pub use laws::{
     lines_have_an_outline, outline_lines_lead, read_declaration_is_spelled,
@@ -28,8 +32,8 @@ pub use laws::{
 pub use progress::LINE_MAX;
 pub use read::{TRACE_MAX, read_trace};
 pub use reading_laws::{
-    fault_of_the_whole, line_fault_is_the_first, no_trace_begins_another, read_is_trace,
-    trace_has_one_meaning, trace_is_read, written_is_read_again,
+    fault_of_the_whole, first_fault_is_told, line_fault_is_the_first, no_trace_begins_another,
+    read_is_trace, trace_has_one_meaning, trace_is_read, written_is_read_again,
 };
 pub use sort::Sort;
 pub use spell::Spellings;

@@ -6,7 +6,7 @@ ghost use Rattle.ec_count.specs.Members.{is_member, has_repeat};
 ghost use Rattle.ec_trace.specs.Lists.{worker_of, worker_in, ids_in, has_unknown, has_word, has_word_twice};
 
 use arrayvec::ArrayVec;
-use ec_count::{Names, Target, WorkerId};
+use ec_count::{Target, Vocabulary, WorkerId};
 use ec_text::cut_word;
 
 /// Whether two words are the same.
@@ -77,100 +77,100 @@ fn worker_of(target: Target) -> Option<WorkerId>
 }
 
 /// The worker of a name.
-pub(crate) fn worker_in(names: &Names, word: &[u8]) -> Option<WorkerId>
-    ensures { result ≡ worker_in names.now word.now }
+pub(crate) fn worker_in(words: &Vocabulary, word: &[u8]) -> Option<WorkerId>
+    ensures { result ≡ worker_in words.now word.now }
 {
-    worker_of(names.find_bytes(word)?)
+    worker_of(words.find(word)?)
 }
 
 /// Whether a word names no worker.
-pub(crate) fn has_unknown(names: &Names, list: &[u8]) -> bool
-    ensures { result ≡ has_unknown names.now (words_of list.now) }
+pub(crate) fn has_unknown(words: &Vocabulary, list: &[u8]) -> bool
+    ensures { result ≡ has_unknown words.now (words_of list.now) }
 {
     let (word, rest) = cut_word(list);
-    if worker_in(names, word).is_none() {
+    if worker_in(words, word).is_none() {
         return true;
     }
     match rest {
         None => false,
-        Some(rest) => has_unknown(names, rest),
+        Some(rest) => has_unknown(words, rest),
     }
 }
 
 /// Whether a worker is named in a list.
-fn is_named(names: &Names, list: &[u8], id: WorkerId) -> bool
-    ensures { result ≡ is_member id (ids_in names.now (words_of list.now)) }
+fn is_named(words: &Vocabulary, list: &[u8], id: WorkerId) -> bool
+    ensures { result ≡ is_member id (ids_in words.now (words_of list.now)) }
 {
     let (word, rest) = cut_word(list);
-    if let Some(other) = worker_in(names, word) {
+    if let Some(other) = worker_in(words, word) {
         if other == id {
             return true;
         }
     }
     match rest {
         None => false,
-        Some(rest) => is_named(names, rest, id),
+        Some(rest) => is_named(words, rest, id),
     }
 }
 
 /// Whether a worker is named twice.
-pub(crate) fn has_repeat(names: &Names, list: &[u8]) -> bool
-    ensures { result ≡ has_repeat (ids_in names.now (words_of list.now)) }
+pub(crate) fn has_repeat(words: &Vocabulary, list: &[u8]) -> bool
+    ensures { result ≡ has_repeat (ids_in words.now (words_of list.now)) }
 {
     let (word, Some(rest)) = cut_word(list) else {
         return false;
     };
-    if let Some(id) = worker_in(names, word) {
-        if is_named(names, rest, id) {
+    if let Some(id) = worker_in(words, word) {
+        if is_named(words, rest, id) {
             return true;
         }
     }
-    has_repeat(names, rest)
+    has_repeat(words, rest)
 }
 
 /// Whether a worker is named in both lists.
-pub(crate) fn has_shared(names: &Names, first: &[u8], second: &[u8]) -> bool
-    ensures { result ≡ list_any (λ w. is_member w (ids_in names.now (words_of second.now))) (ids_in names.now (words_of first.now)) }
+pub(crate) fn has_shared(words: &Vocabulary, first: &[u8], second: &[u8]) -> bool
+    ensures { result ≡ list_any (λ w. is_member w (ids_in words.now (words_of second.now))) (ids_in words.now (words_of first.now)) }
 {
     let (word, rest) = cut_word(first);
-    if let Some(id) = worker_in(names, word) {
-        if is_named(names, second, id) {
+    if let Some(id) = worker_in(words, word) {
+        if is_named(words, second, id) {
             return true;
         }
     }
     match rest {
         None => false,
-        Some(rest) => has_shared(names, rest, second),
+        Some(rest) => has_shared(words, rest, second),
     }
 }
 
 /// How many words name a worker.
-pub(crate) fn count_ids(names: &Names, list: &[u8]) -> usize
-    ensures count { result ≡ length (ids_in names.now (words_of list.now)) }
+pub(crate) fn count_ids(words: &Vocabulary, list: &[u8]) -> usize
+    ensures count { result ≡ length (ids_in words.now (words_of list.now)) }
     ensures few { result ≤ length list.now + 1 }
 {
     let (word, rest) = cut_word(list);
-    let one = if worker_in(names, word).is_some() {
+    let one = if worker_in(words, word).is_some() {
         1
     } else {
         0
     };
     match rest {
         None => one,
-        Some(rest) => one + count_ids(names, rest),
+        Some(rest) => one + count_ids(words, rest),
     }
 }
 
 /// Adds the workers that are named.
-pub(crate) fn push_ids(names: &Names, list: &[u8], ids: &mut ArrayVec<WorkerId, 16>)
-    requires { length ids.old.items + length (ids_in names.now (words_of list.now)) ≤ 16 }
-    ensures { ids.new.items ≡ ids.old.items ++ ids_in names.now (words_of list.now) }
+pub(crate) fn push_ids(words: &Vocabulary, list: &[u8], ids: &mut ArrayVec<WorkerId, 16>)
+    requires { length ids.old.items + length (ids_in words.now (words_of list.now)) ≤ 16 }
+    ensures { ids.new.items ≡ ids.old.items ++ ids_in words.now (words_of list.now) }
 {
     let (word, rest) = cut_word(list);
-    if let Some(id) = worker_in(names, word) {
+    if let Some(id) = worker_in(words, word) {
         ids.push(id);
     }
     if let Some(rest) = rest {
-        push_ids(names, rest, ids);
+        push_ids(words, rest, ids);
     }
 }

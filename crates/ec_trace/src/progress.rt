@@ -1,8 +1,9 @@
 //! A trace that comes in pieces: the line in progress, and what the lines before it built.
-ghost use Rattle.std.specs.Prelude.{◌≡◌, ◌≤◌, ◌<◌, ◌+◌, ◌^◌, ◌∷◌, [], length};
-ghost use Rattle.ec_trace.specs.Outcome.{Moves, Rests, Finishes, start};
+ghost use Rattle.std.specs.Prelude.{◌≡◌, ◌≢◌, ◌≤◌, ◌<◌, ◌+◌, ◌++◌, ◌^◌, ◌∷◌, [], All, length};
+ghost use Rattle.ec_trace.specs.Outcome.{Moves, Rests, Finishes, fault_at, start};
 
 use crate::fault::{LineFault, StageFault, TraceFault};
+use crate::lines::cut_line;
 use crate::stage::Stage;
 use crate::traced::Traced;
 use arrayvec::ArrayVec;
@@ -11,6 +12,18 @@ use std::marker::Model;
 
 /// The most bytes that a line may have without its LF.
 pub const LINE_MAX: usize = 8192;
+
+/// The fault of a line, with its number.
+fn fault_at(number: u64, fault: StageFault) -> TraceFault
+    ensures { result ≡ fault_at number fault }
+{
+    match fault {
+        StageFault::Memory => TraceFault::Memory,
+        StageFault::Line(LineFault::Bad) => TraceFault::BadLine(number),
+        StageFault::Line(LineFault::Refused(refusal)) => TraceFault::Refused(number, refusal),
+        StageFault::Line(LineFault::WrongReply(right)) => TraceFault::WrongReply(number, right),
+    }
+}
 
 /// The line in progress, its number, and what the lines before it built.
 #[derive(Drop)]
@@ -48,20 +61,16 @@ impl Progress {
         }
     }
 
-    /// Takes the next byte.
-    #[tactic(auto, using(crate::proofs::Goes::goes_full))]
-    fn push(&mut self, b: u8) -> Result<(), TraceFault>
-        requires { self.old.number < 2 ^ 63 }
-        ensures number { self.new.number ≤ self.old.number + 1 }
-        ensures moves { Moves result self.old self.new (b ∷ []) }
+    /// Takes in bytes of the line in progress, which go behind those that came before.
+    #[tactic(auto, using(crate::proofs::Goes::goes_held))]
+    fn hold(&mut self, bytes: &[u8]) -> Result<(), TraceFault>
+        requires { All (λ b. b ≢ 10) bytes.now }
+        ensures number { self.new.number ≡ self.old.number }
+        ensures moves { Moves result self.old self.new bytes.now }
     {
-        if b == b'\n' {
-            return self.end_line();
-        }
-        if self.line.is_full() {
+        if self.line.try_extend_from_slice(bytes).is_err() {
             return Err(TraceFault::BadLine(self.number));
         }
-        self.line.push(b);
         Ok(())
     }
 
@@ -78,27 +87,55 @@ impl Progress {
                 self.number += 1;
                 Ok(())
             }
-            Err(StageFault::Memory) => Err(TraceFault::Memory),
-            Err(StageFault::Line(LineFault::Bad)) => Err(TraceFault::BadLine(self.number)),
-            Err(StageFault::Line(LineFault::Refused(refusal))) => {
-                Err(TraceFault::Refused(self.number, refusal))
-            }
-            Err(StageFault::Line(LineFault::WrongReply(right))) => {
-                Err(TraceFault::WrongReply(self.number, right))
-            }
+            Err(fault) => Err(fault_at(self.number, fault)),
         }
     }
 
-    /// Takes the next piece.
+    /// Takes a line of which nothing came before, and its LF.
+    #[tactic(auto, using(crate::proofs::Goes::goes_at_once))]
+    fn line_at_once(&mut self, line: &[u8]) -> Result<(), TraceFault>
+        requires fresh { self.old.part ≡ [] }
+        requires plain { All (λ b. b ≢ 10) line.now }
+        requires short { length line.now ≤ 8192 }
+        requires room { self.old.number < 2 ^ 63 }
+        ensures number { self.new.number ≤ self.old.number + 1 }
+        ensures moves { Moves result self.old self.new (line.now ++ 10 ∷ []) }
+    {
+        match self.stage.line(self.alloc, line) {
+            Ok(()) => {
+                self.number += 1;
+                Ok(())
+            }
+            Err(fault) => Err(fault_at(self.number, fault)),
+        }
+    }
+
+    /// Takes what is left of the line in progress, and its LF.
+    fn rest_of_line(&mut self, bytes: &[u8]) -> Result<(), TraceFault>
+        requires plain { All (λ b. b ≢ 10) bytes.now }
+        requires room { self.old.number < 2 ^ 63 }
+        ensures number { self.new.number ≤ self.old.number + 1 }
+        ensures moves { Moves result self.old self.new (bytes.now ++ 10 ∷ []) }
+    {
+        if self.line.is_empty() && bytes.len() <= LINE_MAX {
+            return self.line_at_once(bytes);
+        }
+        self.hold(bytes)?;
+        self.end_line()
+    }
+
+    /// Takes the next piece. A line that lies in it whole is not copied.
     pub(crate) fn feed(&mut self, piece: &[u8]) -> Result<(), TraceFault>
         requires { self.old.number + length piece.now < 2 ^ 63 }
         ensures number { self.new.number ≤ self.old.number + length piece.now }
         ensures moves { Moves result self.old self.new piece.now }
     {
-        for b in piece {
-            self.push(*b)?;
+        let mut rest = piece;
+        while let Some((line, behind)) = cut_line(rest) {
+            self.rest_of_line(line)?;
+            rest = behind;
         }
-        Ok(())
+        self.hold(rest)
     }
 
     /// Whether the text may end here, as far as its lines go.

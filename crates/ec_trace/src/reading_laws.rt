@@ -1,5 +1,5 @@
 //! Laws of reading. Each is the contract of a function that does nothing.
-ghost use Rattle.ec_trace.specs.FirstFault.{LineFaultIsTheFirst, FaultOfTheWhole};
+ghost use Rattle.ec_trace.specs.FirstFault.{LineFaultIsTheFirst, FirstFaultIsTold, FaultOfTheWhole};
 ghost use Rattle.ec_trace.specs.ReadingLaws.{TraceIsRead, ReadIsTrace, TraceHasOneMeaning, NoTraceBeginsAnother, WrittenIsReadAgain};
 
 /// A trace is read as its heading and its history.
@@ -30,6 +30,12 @@ pub fn no_trace_begins_another()
 #[tactic(auto, using(crate::proofs::FirstFaults::line_fault_is_the_first))]
 pub fn line_fault_is_the_first()
     ensures { LineFaultIsTheFirst }
+{}
+
+/// The first faulty line, up to the bound of a text, gives the fault.
+#[tactic(auto, using(crate::proofs::FaultTold::first_fault_is_told))]
+pub fn first_fault_is_told()
+    ensures { FirstFaultIsTold }
 {}
 
 /// A text is too large where it has more bytes than the bound, and unfinished only where it has not.

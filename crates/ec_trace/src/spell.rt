@@ -5,7 +5,7 @@ ghost use Rattle.ec_trace.specs.Spelling.{Named, word_of, cell_word};
 ghost use Rattle.std.specs.Option.{option_map_or};
 ghost use Rattle.ec_count.specs.declared.target.Target.TheVariants.{Worker, Event, Sequencer};
 
-use ec_count::{CellId, EventId, Names, SeqId, Target, WorkerId};
+use ec_count::{CellId, EventId, SeqId, Target, Vocabulary, WorkerId};
 use std::marker::Model;
 
 /// A cell: the name of its block and its number there.
@@ -55,7 +55,7 @@ impl<'a> Words<'a> {
 /// The words by which entries name things, each found once.
 #[derive(Drop)]
 pub struct Spellings<'a> {
-    names: &'a Names,
+    vocabulary: &'a Vocabulary,
     words: Words<'a>,
 }
 
@@ -67,23 +67,23 @@ impl<'a> Model for Spellings<'a> {
 
     ghost use Rattle.ec_trace.specs.WordTables.{Spells};
 
-    ghost view = { λ s. s.names.now };
+    ghost view = { λ s. s.vocabulary.now };
 
-    ghost invariant = { λ s. Spells s.names.now s.words };
+    ghost invariant = { λ s. Spells s.vocabulary.now s.words };
 }
 
 impl<'a> Spellings<'a> {
-    /// The words of these names. It takes no memory.
-    pub fn new(names: &'a Names) -> Self
-        ensures { result ≡ names.now }
+    /// The words of a heading, as `Heading::words` gives them. It takes no memory.
+    pub fn new(vocabulary: &'a Vocabulary) -> Self
+        ensures { result ≡ vocabulary.now }
     {
         let mut words = Words::none();
-        for place in (0..names.len()).rev() {
-            if let Some((name, target)) = names.at(place) {
-                words.take_in(name.as_bytes(), target);
+        for place in (0..vocabulary.len()).rev() {
+            if let Some((word, target)) = vocabulary.at(place) {
+                words.take_in(word, target);
             }
         }
-        Spellings { names, words }
+        Spellings { vocabulary, words }
     }
 
     /// The name of a worker, of no bytes where it has none.

@@ -1,6 +1,6 @@
 //! What the lines of a trace so far have built.
-ghost use Rattle.std.specs.Prelude.{◌≡◌, true, Ok};
-ghost use Rattle.ec_trace.specs.Step.{Steps, step, limit_of, is_ended, is_declaring, run_on, ended_on};
+ghost use Rattle.std.specs.Prelude.{◌≡◌, true, false, Ok};
+ghost use Rattle.ec_trace.specs.Step.{Steps, step, limit_of, is_ended, is_running, is_declaring, run_on, ended_on};
 ghost use Rattle.ec_trace.specs.Outcome.{traced_in};
 
 use crate::fault::{LineFault, StageFault, TraceFault};
@@ -57,10 +57,26 @@ impl Stage {
                 }
                 traced.line(line)
             }
-            Stage::Ended(_) => Err(StageFault::Line(LineFault::Bad)),
+            _ => {
+                self.line_outside(alloc, line)?;
+                Ok(())
+            }
+        }
+    }
+
+    /// Takes a line before the run or behind the end.
+    #[cold]
+    #[inline(never)]
+    #[tactic(auto, unfolding(crate::specs::Step::step))]
+    fn line_outside(&mut self, alloc: Global, line: &[u8]) -> Result<(), StageFault>
+        requires { is_running self.old ≡ false }
+        ensures { Steps result (step self.old line.now) self.new }
+    {
+        match self {
             Stage::Opening => self.open(line),
             Stage::Limiting => self.limit(alloc, line),
             Stage::Declaring(_) => self.declare(alloc, line),
+            Stage::Running(_) | Stage::Ended(_) => Err(StageFault::Line(LineFault::Bad)),
         }
     }
 

@@ -103,10 +103,10 @@ pub fn write_entry<W: Write>(
     heading: &Heading,
     writer: &mut W,
 ) -> Result<(), WriteFault>
-    ensures ok { OnOk result (Appends (W.contents writer.old) (W.contents writer.new) (entry_line heading.now.names entry.now)) }
-    ensures err { OnErr result (AppendsPrefix (W.contents writer.old) (W.contents writer.new) (entry_line heading.now.names entry.now)) }
+    ensures ok { OnOk result (Appends (W.contents writer.old) (W.contents writer.new) (entry_line heading.now.words entry.now)) }
+    ensures err { OnErr result (AppendsPrefix (W.contents writer.old) (W.contents writer.new) (entry_line heading.now.words entry.now)) }
 {
-    let spellings = Spellings::new(heading.names());
+    let spellings = Spellings::new(heading.words());
     let mut buffered = Buffered::new();
     put_entry(writer, &mut buffered, &spellings, entry);
     finish(writer, buffered)
@@ -164,7 +164,7 @@ pub fn write_trace<W: Write>(run: &Run, heading: &Heading, writer: &mut W) -> Re
     ensures ok { (o : Outline) → IsOutline o → headed o ≡ heading.now → OnOk result (Appends (W.contents writer.old) (W.contents writer.new) (trace_text o run.now.entries)) }
     ensures err { (o : Outline) → IsOutline o → headed o ≡ heading.now → OnErr result (AppendsPrefix (W.contents writer.old) (W.contents writer.new) (trace_text o run.now.entries)) }
 {
-    let spellings = Spellings::new(heading.names());
+    let spellings = Spellings::new(heading.words());
     let mut buffered = Buffered::new();
     put_trace(writer, &mut buffered, &spellings, heading, run);
     finish(writer, buffered)

@@ -2,12 +2,12 @@
 ghost use Rattle.std.specs.Prelude.{◌≡◌, ◌≤◌, ◌∷◌, ◌++◌, [], Some, None, map};
 ghost use Rattle.std.specs.List.{range_with_len};
 ghost use Rattle.ec_text.specs.Puts.{Puts};
-ghost use Rattle.ec_trace.specs.Spelling.{word_of, number_words, limit_line, workers_line, text_of};
+ghost use Rattle.ec_trace.specs.Spelling.{word_of, name_words, number_words, limit_line, workers_line, text_of};
 ghost use Rattle.ec_trace.specs.Sorts.{sort_word, opener, other};
-ghost use Rattle.ec_trace.specs.Recalled.{names_of, worker_names, declaration_of, declarations_of, declared_line, declared_text, opening_text, second_names, spaced};
+ghost use Rattle.ec_trace.specs.Recalled.{names_of, worker_names, declared_group, declaration_of, declarations_of, declared_line, declared_text, opening_text, second_names, spaced};
 
-use crate::{Heading, Sort, Spellings};
-use ec_count::{Target, WorkerId};
+use crate::{Group, Heading, Sort, Spellings};
+use ec_count::{Setup, Target, WorkerId};
 use ec_text::{Buffered, put, put_byte, put_number};
 use std::io::Write;
 use std::marker::Model;
@@ -40,6 +40,42 @@ fn name_of(heading: &Heading, target: Target) -> &[u8]
     }
 }
 
+/// What was declared for a group of this name.
+fn group_line<'a>(setup: &'a Setup, name: &'a [u8], group: &Group) -> Line<'a>
+    ensures { result ≡ declared_group setup.now name.now group.now }
+{
+    match group {
+        Group::Buffer(buffer) => Line {
+            sort: Sort::Buffer,
+            name,
+            number: buffer.cells(),
+            first: setup.writers(buffer.first_cell()),
+            second: setup.readers(buffer.first_cell()),
+        },
+        Group::Database(database) => Line {
+            sort: Sort::Database,
+            name,
+            number: database.cells(),
+            first: setup.writers(database.first_cell()),
+            second: setup.readers(database.first_cell()),
+        },
+        Group::Semaphore(semaphore) => Line {
+            sort: Sort::Semaphore,
+            name,
+            number: semaphore.initial() as usize,
+            first: setup.takers(semaphore.line()),
+            second: &[],
+        },
+        Group::Both(semaphore) => Line {
+            sort: Sort::Both,
+            name: Sort::Both.word(),
+            number: 0,
+            first: setup.takers(semaphore.line()),
+            second: &[],
+        },
+    }
+}
+
 /// What was declared for a target.
 fn line_of(heading: &Heading, target: Target) -> Option<Line<'_>>
     ensures { result ≡ declaration_of heading.now target }
@@ -68,7 +104,11 @@ fn line_of(heading: &Heading, target: Target) -> Option<Line<'_>>
             first: setup.writers(*first),
             second: setup.readers(*first),
         }),
-        Target::Worker(_) | Target::Group(_) => None,
+        Target::Group(place) => match heading.groups().get(*place) {
+            None => None,
+            Some(group) => Some(group_line(setup, name, group)),
+        },
+        Target::Worker(_) => None,
     }
 }
 
@@ -91,6 +131,15 @@ fn put_names<W: Write>(
 {
     for worker in workers {
         put_word(writer, buffered, spellings.worker(*worker));
+    }
+}
+
+/// Puts a name with a space before it, where such a declaration has one.
+fn put_name<W: Write>(writer: &mut W, buffered: &mut Buffered, sort: Sort, name: &[u8])
+    ensures { Puts (W.contents writer.old) buffered.old (W.contents writer.new) buffered.new (spaced (name_words sort name.now)) }
+{
+    if sort.has_name() {
+        put_word(writer, buffered, name);
     }
 }
 
@@ -133,7 +182,7 @@ fn put_line<W: Write>(
     ensures { Puts (W.contents writer.old) buffered.old (W.contents writer.new) buffered.new (declared_line spellings.now line.now) }
 {
     put(writer, buffered, line.sort.word());
-    put_word(writer, buffered, line.name);
+    put_name(writer, buffered, line.sort, line.name);
     put_amount(writer, buffered, line.sort, line.number);
     put_word(writer, buffered, line.sort.opener());
     put_names(writer, buffered, spellings, line.first);

@@ -1,3 +1,4 @@
+pub mod AuditLemmas
 pub mod Undeclared
 pub mod TotalLemmas
 pub mod CheckLemmas

@@ -2,3 +2,5 @@ pub mod Texts
 pub mod Statuses
 pub mod Notes
 pub mod Checks
+pub mod AuditTexts
+pub mod Audits

@@ -37,3 +37,15 @@ fault_status Unfinished = statuses.Refused
 fault_status TooLarge = statuses.Refused
 fault_status Read = statuses.InputOutput
 fault_status Memory = statuses.Memory
+
+-- the entry that breaks a group, and its worker
+abbrev pub breaker_words : List ℕ → ℕ → List ℕ
+breaker_words worker k = worker ++ codes " entry " ++ decimal k ++ codes "\n"
+
+-- the group, and what is wrong with it
+abbrev pub broken_words : List ℕ → List ℕ
+broken_words group = group ++ codes " not followed: worker "
+
+-- the note on a group that is not followed
+abbrev pub break_note : List ℕ → List ℕ → ℕ → List ℕ
+break_note group worker k = broken_words group ++ breaker_words worker k

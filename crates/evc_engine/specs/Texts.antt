@@ -1,5 +1,5 @@
 -- The text that `check` writes: the calls in the order of their points, and the totals at the end.
-use Rattle.std.specs.Prelude.{ℕ, ◌+◌, zero, suc, List, [], ◌∷◌, ◌++◌, map, reverse, codes, decimal}
+use Rattle.std.specs.Prelude.{ℕ, ◌+◌, zero, suc, List, [], ◌∷◌, ◌++◌, map, reverse, Option, Some, None, codes, decimal}
 use Rattle.std.specs.List.{flat_map}
 use Rattle.ec_count.specs.declared.target.Target.{Target}
 use Rattle.ec_count.specs.declared.target.Target.TheVariants.{Worker, Event, Sequencer, Cells, Group}
@@ -9,7 +9,7 @@ use Rattle.ec_order.specs.declared.call.Call.{Call}
 use Rattle.ec_order.specs.declared.placed.Placed.{Placed}
 use Rattle.ec_order.specs.Points.{ordered_by_points}
 use Rattle.ec_trace.specs.Headed.{Headed}
-use Rattle.ec_trace.specs.Spelling.{Named, word_of, entry_line, text_of}
+use Rattle.ec_trace.specs.Spelling.{Named, entry_line, text_of}
 
 -- a finished call, spelled as an entry: what it asked for, and what it was told in the end
 abbrev pub call_entry : Call → Entry
@@ -29,21 +29,30 @@ cell_lines name past first i (suc n) = cell_line name i (cell_value (first + i) 
 abbrev pub count_line : List ℕ → List ℕ → ℕ → List ℕ
 count_line sort name count = sort ++ name ++ codes " " ++ decimal count
 
--- the totals of what was declared under one name, after a past
-abbrev pub totals_of : Named → List Entry → Target → List (List ℕ)
-totals_of names past (Event e) = count_line (codes "eventcount ") (word_of names (Event e)) (total e past) ∷ []
-totals_of names past (Sequencer q) = count_line (codes "sequencer ") (word_of names (Sequencer q)) (issued q past) ∷ []
-totals_of names past (Cells first n) = cell_lines (word_of names (Cells first n)) past first 0 n
-totals_of names past (Worker w) = []
-totals_of names past (Group g) = []
+-- the totals of what a word spells, after a past
+abbrev pub totals_of : List Entry → List ℕ → Target → List (List ℕ)
+totals_of past word (Event e) = count_line (codes "eventcount ") word (total e past) ∷ []
+totals_of past word (Sequencer q) = count_line (codes "sequencer ") word (issued q past) ∷ []
+totals_of past word (Cells first n) = cell_lines word past first 0 n
+totals_of past word (Worker w) = []
+totals_of past word (Group g) = []
 
--- the totals, in the order of the declarations
+-- and of the word at a place, if there is one
+abbrev pub totals_at : List Entry → Option (List ℕ × Target) → List (List ℕ)
+totals_at past None = []
+totals_at past (Some (word, target)) = totals_of past word target
+
+-- the totals of these words
+abbrev pub totals_by : List Entry → Named → List (List ℕ)
+totals_by past words = flat_map (λ (e : List ℕ × Target). totals_of past e.0 e.1) words
+
+-- the totals, in the order of the declarations and of the objects of each
 abbrev pub totals_lines : Headed → List Entry → List (List ℕ)
-totals_lines h past = flat_map (totals_of h.names past) h.declarations
+totals_lines h past = totals_by past h.words
 
 abbrev pub check_lines : Headed → List Entry → List Placed → List (List ℕ)
 check_lines h entries placed =
-    codes "evc-order 1" ∷ map (placed_line h.names) placed ++ codes "totals" ∷ totals_lines h (reverse entries) ++ codes "end" ∷ []
+    codes "evc-order 1" ∷ map (placed_line h.words) placed ++ codes "totals" ∷ totals_lines h (reverse entries) ++ codes "end" ∷ []
 
 -- what `check` writes for a heading and an accepted history
 unfoldable pub check_text : Headed → List Entry → List ℕ

@@ -7,13 +7,13 @@ ghost use Rattle.evc_engine.specs.Notes.{fault_status};
 use crate::notes::Notes;
 use crate::status::Status;
 use crate::text::write_text;
-use ec_order::order;
+use ec_order::in_order;
 use ec_trace::{TraceFault, Traced, read_trace};
 use std::alloc::Global;
 use std::io::{Read, Write};
 
 /// How a command ends that could not read its trace.
-fn status_of(fault: &TraceFault) -> Status
+pub(crate) fn status_of(fault: &TraceFault) -> Status
     ensures { result ≡ fault_status fault.now }
 {
     match *fault {
@@ -39,11 +39,11 @@ fn write_checked<W: Write, N: Write>(
         (record { out = W.contents out.new; notes = N.contents notes.new.writer; held = notes.new.table }) }
 {
     let run = traced.run();
-    let Ok(order) = order(alloc, run) else {
+    let Ok(order) = in_order(alloc, run) else {
         notes.say(b"no memory\n");
         return Status::Memory;
     };
-    match write_text(out, traced.heading(), run, order.as_slice()) {
+    match write_text(out, traced.heading(), run, order) {
         Ok(()) => Status::Done,
         Err(_) => {
             notes.say(b"write fault\n");

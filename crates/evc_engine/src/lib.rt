@@ -1,12 +1,16 @@
 //! What the program does with its input: texts out as a function of bytes in.
 #![tactic(auto)]
 
+mod audit_text;
+mod audited;
+mod auditing;
 mod checking;
 mod notes;
 mod status;
 mod text;
 mod totals;
 
+pub use auditing::audit;
 pub use checking::check;
 pub use notes::Notes;
 pub use status::Status;

@@ -7,7 +7,7 @@ ghost use Rattle.evc_engine.specs.Texts.{placed_line, check_lines};
 
 use crate::totals::put_totals;
 use ec_core::{Entry, Run};
-use ec_order::Placed;
+use ec_order::{InOrder, Placed};
 use ec_text::{Buffered, WriteFault, finish, put, put_number};
 use ec_trace::{Heading, Spellings, put_entry};
 use std::io::Write;
@@ -37,12 +37,12 @@ fn put_order<W: Write>(
     out: &mut W,
     table: &mut Buffered,
     spellings: &Spellings<'_>,
-    order: &[Placed],
+    order: InOrder<'_>,
 )
-    ensures { Puts (W.contents out.old) table.old (W.contents out.new) table.new (text_of (map (placed_line spellings.now) order.now)) }
+    ensures { Puts (W.contents out.old) table.old (W.contents out.new) table.new (text_of (map (placed_line spellings.now) order.entry)) }
 {
     for placed in order {
-        put_placed(out, table, spellings, placed);
+        put_placed(out, table, spellings, &placed);
     }
 }
 
@@ -52,11 +52,11 @@ fn put_text<W: Write>(
     table: &mut Buffered,
     heading: &Heading,
     run: &Run,
-    order: &[Placed],
+    order: InOrder<'_>,
 )
-    ensures { Puts (W.contents out.old) table.old (W.contents out.new) table.new (text_of (check_lines heading.now run.now.entries order.now)) }
+    ensures { Puts (W.contents out.old) table.old (W.contents out.new) table.new (text_of (check_lines heading.now run.now.entries order.entry)) }
 {
-    let spellings = Spellings::new(heading.names());
+    let spellings = Spellings::new(heading.words());
     put(out, table, b"evc-order 1\n");
     put_order(out, table, &spellings, order);
     put(out, table, b"totals\n");
@@ -69,10 +69,10 @@ pub fn write_text<W: Write>(
     out: &mut W,
     heading: &Heading,
     run: &Run,
-    order: &[Placed],
+    order: InOrder<'_>,
 ) -> Result<(), WriteFault>
-    ensures ok { OnOk result (Appends (W.contents out.old) (W.contents out.new) (text_of (check_lines heading.now run.now.entries order.now))) }
-    ensures err { OnErr result (AppendsPrefix (W.contents out.old) (W.contents out.new) (text_of (check_lines heading.now run.now.entries order.now))) }
+    ensures ok { OnOk result (Appends (W.contents out.old) (W.contents out.new) (text_of (check_lines heading.now run.now.entries order.entry))) }
+    ensures err { OnErr result (AppendsPrefix (W.contents out.old) (W.contents out.new) (text_of (check_lines heading.now run.now.entries order.entry))) }
 {
     let mut table = Buffered::new();
     put_text(out, &mut table, heading, run, order);

@@ -1,15 +1,14 @@
 //! The totals of what was declared.
-ghost use Rattle.std.specs.Prelude.{◌≡◌, ◌+◌, ◌≤◌, ◌∷◌, [], ◌++◌, ℕ, List, codes, decimal, reverse, length, unwrap_or};
+ghost use Rattle.std.specs.Prelude.{◌≡◌, ◌+◌, ◌∷◌, [], ◌++◌, List, codes, decimal, reverse, slice_get};
 ghost use Rattle.ec_text.specs.Puts.{Puts};
-ghost use Rattle.ec_count.specs.Names.{name_of};
 ghost use Rattle.ec_core.specs.Counts.{total, issued, cell_value};
 ghost use Rattle.ec_core.specs.Standing.{StandsFor};
 ghost use Rattle.ec_core.specs.declared.act.Entry.{Entry};
-ghost use Rattle.ec_trace.specs.Spelling.{word_of, text_of};
-ghost use Rattle.evc_engine.specs.Texts.{totals_of, cell_lines, cell_line, count_line, totals_lines};
+ghost use Rattle.ec_trace.specs.Spelling.{text_of};
+ghost use Rattle.evc_engine.specs.Texts.{totals_of, totals_at, cell_lines, cell_line, count_line, totals_lines};
 
 use ec_core::World;
-use ec_count::{CellId, EventId, Names, SeqId, Target};
+use ec_count::{CellId, EventId, SeqId, Target, Vocabulary};
 use ec_text::{Buffered, put, put_number};
 use ec_trace::Heading;
 use std::io::Write;
@@ -38,16 +37,6 @@ fn cell_or_zero(world: &World, cell: CellId) -> u64
     world.cell(cell).unwrap_or(0)
 }
 
-/// The name of a target, or nothing.
-fn word_of(names: &Names, target: Target) -> &[u8]
-    ensures { result.now ≡ word_of names.now target }
-{
-    match names.name_of(target) {
-        Some(name) => name.as_bytes(),
-        None => b"".as_slice(),
-    }
-}
-
 /// Puts the line of one count.
 fn put_count<W: Write>(out: &mut W, table: &mut Buffered, sort: &[u8], name: &[u8], count: u64)
     ensures { Puts (W.contents out.old) table.old (W.contents out.new) table.new (count_line sort.now name.now count ++ 10 ∷ []) }
@@ -70,7 +59,6 @@ fn put_spot<W: Write>(out: &mut W, table: &mut Buffered, name: &[u8], place: u64
 }
 
 /// Puts the line of one cell.
-
 fn put_cell<W: Write>(out: &mut W, table: &mut Buffered, name: &[u8], place: u64, value: u64)
     ensures { Puts (W.contents out.old) table.old (W.contents out.new) table.new (cell_line name.now place value ++ 10 ∷ []) }
 {
@@ -118,40 +106,56 @@ fn put_cells<W: Write>(
     }
 }
 
-/// Puts the totals of what was declared under one name.
+/// Puts the totals of what a word spells.
 fn put_target<W: Write>(
     out: &mut W,
     table: &mut Buffered,
-    names: &Names,
     world: &World,
+    word: &[u8],
     target: &Target,
 )
     ensures { (h : List Entry) → StandsFor world.now h
-        → Puts (W.contents out.old) table.old (W.contents out.new) table.new (text_of (totals_of names.now (reverse h) target.now)) }
+        → Puts (W.contents out.old) table.old (W.contents out.new) table.new (text_of (totals_of (reverse h) word.now target.now)) }
 {
-    let name = word_of(names, *target);
     match *target {
         Target::Event(event) => {
             let total = total_or_zero(world, event);
-            put_count(out, table, b"eventcount ", name, total);
+            put_count(out, table, b"eventcount ", word, total);
         }
         Target::Sequencer(sequencer) => {
             let issued = issued_or_zero(world, sequencer);
-            put_count(out, table, b"sequencer ", name, issued);
+            put_count(out, table, b"sequencer ", word, issued);
         }
-        Target::Cells(first, n) => put_cells(out, table, world, name, first, n),
+        Target::Cells(first, n) => put_cells(out, table, world, word, first, n),
         Target::Worker(_) => {}
         Target::Group(_) => {}
     }
 }
 
-/// Puts the totals of all that a heading declares.
+/// Puts the totals of what the word at a place spells, if there is one.
+fn put_place<W: Write>(
+    out: &mut W,
+    table: &mut Buffered,
+    world: &World,
+    words: &Vocabulary,
+    place: usize,
+)
+    ensures { (h : List Entry) → StandsFor world.now h
+        → Puts (W.contents out.old) table.old (W.contents out.new) table.new (text_of (totals_at (reverse h) (slice_get words.now place))) }
+{
+    if let Some((word, target)) = words.at(place) {
+        put_target(out, table, world, word, &target);
+    }
+}
+
+/// Puts the totals of all that a heading declares: in the order of the declarations, and of the
+/// objects of each.
 pub fn put_totals<W: Write>(out: &mut W, table: &mut Buffered, heading: &Heading, world: &World)
     ensures { (h : List Entry) → StandsFor world.now h
         → Puts (W.contents out.old) table.old (W.contents out.new) table.new (text_of (totals_lines heading.now (reverse h))) }
 {
-    let names = heading.names();
-    for target in heading.declarations() {
-        put_target(out, table, names, world, target);
+    let words = heading.words();
+    for place in 0..words.len() {
+        put_place(out, table, world, words, place);
     }
 }

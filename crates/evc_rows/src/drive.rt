@@ -1,7 +1,7 @@
 //! Runs made from tables of steps.
 ghost use Rattle.std.specs.Prelude.{◌<◌};
 
-use ec_core::{Act, Refusal, Reply, Run, StepFault};
+use ec_core::{Act, Procedure, Refusal, Reply, Run, StepFault};
 use ec_count::{CellId, EventId, Limit, SeqId, Setup, WorkerId};
 use std::alloc::Global;
 use std::test::Fail;
@@ -95,4 +95,21 @@ pub(crate) fn made(run: Run, steps: &[Step]) -> Result<Run, usize> {
         Some(place) => Err(place),
         None => Ok(run),
     }
+}
+
+/// So many steps of a procedure, or fewer where it ends; whether it has ended.
+pub(crate) fn go_on<P: Procedure>(
+    run: &mut Run,
+    worker: WorkerId,
+    procedure: &mut P,
+    steps: usize,
+) -> Result<bool, Fail> {
+    for _ in 0..steps {
+        let Some(act) = procedure.next() else {
+            return Ok(true);
+        };
+        let reply = run.step(worker, act)?;
+        procedure.take(reply);
+    }
+    Ok(procedure.next().is_none())
 }

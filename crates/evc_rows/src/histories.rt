@@ -38,6 +38,19 @@ pub(crate) fn two_reads(alloc: Global) -> Result<Run, Fail> {
     Ok(made(two_signallers(alloc)?, &steps)?)
 }
 
+/// A read is under way while another is made, and has the earlier moment.
+pub(crate) fn slow_read(alloc: Global) -> Result<Run, Fail> {
+    let (a, c, d, e) = (worker(0), worker(2), worker(3), event(0));
+    let steps = [
+        (c, Read(e), PENDING),
+        (a, Advance(e), DONE),
+        (d, Read(e), PENDING),
+        (d, Go, number(1)),
+        (c, Go, number(0)),
+    ];
+    Ok(made(two_signallers(alloc)?, &steps)?)
+}
+
 /// A read begins at total 0 and ends at total 2.
 pub(crate) fn total_in_the_middle(alloc: Global) -> Result<Run, Fail> {
     let (b, c, e) = (worker(1), worker(2), event(0));

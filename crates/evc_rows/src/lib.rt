@@ -4,13 +4,23 @@
 #[cfg(test)]
 mod broken_texts;
 #[cfg(test)]
+mod buffer_tests;
+#[cfg(test)]
 mod check_tests;
 #[cfg(test)]
+mod database_tests;
+#[cfg(test)]
 mod drive;
+#[cfg(test)]
+mod error_tests;
 #[cfg(test)]
 mod failing_tests;
 #[cfg(test)]
 mod fakes;
+#[cfg(test)]
+mod group_heading_tests;
+#[cfg(test)]
+mod group_texts;
 #[cfg(test)]
 mod heading_tests;
 #[cfg(test)]
@@ -24,6 +34,8 @@ mod order_tests;
 #[cfg(test)]
 mod outcome;
 #[cfg(test)]
+mod semaphore_tests;
+#[cfg(test)]
 mod setup_tests;
 #[cfg(test)]
 mod steps_tests;
@@ -31,5 +43,7 @@ mod steps_tests;
 mod texts;
 #[cfg(test)]
 mod verify_tests;
+#[cfg(test)]
+mod vocabulary_tests;
 #[cfg(test)]
 mod writing_tests;

@@ -26,6 +26,20 @@ fn names_find_their_targets(rt: HostRuntime) -> Result<(), Fail> {
     Ok(())
 }
 
+#[test]
+fn names_that_begin_and_end_alike_are_each_found(rt: HostRuntime) -> Result<(), Fail> {
+    let mut names = Names::new(rt.alloc())?;
+    let words = ["a1_x", "a2_x", "a3_x", "a_x"];
+    for (i, word) in words.iter().enumerate() {
+        names.add(word, Target::Group(i))?;
+    }
+    for (i, word) in words.iter().enumerate() {
+        assert_eq!(rt; names.find(word), Some(Target::Group(i)), "at {word}");
+    }
+    assert_eq!(rt; names.find("a4_x"), None);
+    Ok(())
+}
+
 /// Whether the first name of a target is this one.
 fn is_named(names: &Names, target: Target, name: &str) -> bool {
     match names.name_of(target) {

@@ -1,14 +1,14 @@
 //! The finished calls of the worked histories, and their order by points.
 use crate::drive::{event, worker};
 use crate::histories::{
-    await_of_rounds, await_of_zero, many_advances, overtaken_read, read_overtaken_often,
+    await_of_rounds, await_of_zero, many_advances, overtaken_read, read_overtaken_often, slow_read,
     total_in_the_middle, two_reads,
 };
 use ec_core::Act::{Advance, Await, Read};
 use ec_core::Reply::{Done, Number};
 use ec_core::{Act, Reply, Run};
 use ec_count::WorkerId;
-use ec_order::{Call, OrderFault, Placed, Verdict, calls, order, verify};
+use ec_order::{Call, OrderFault, Placed, Verdict, calls, in_order, order, verify};
 use std::alloc::Global;
 use std::test::Fail;
 
@@ -54,6 +54,29 @@ fn two_reads_at_one_moment(rt: HostRuntime) -> Result<(), Fail> {
     ];
     let run = two_reads(rt.alloc())?;
     assert!(rt; is_order(rt.alloc(), &run, &lines)?);
+    Ok(())
+}
+
+#[test]
+fn a_read_that_ends_last_and_stands_first(rt: HostRuntime) -> Result<(), Fail> {
+    let (a, c, d, e) = (worker(0), worker(2), worker(3), event(0));
+    let lines = [
+        (0, c, Read(e), Number(0)),
+        (1, a, Advance(e), Done),
+        (2, d, Read(e), Number(1)),
+    ];
+    let run = slow_read(rt.alloc())?;
+    assert!(rt; is_order(rt.alloc(), &run, &lines)?);
+    Ok(())
+}
+
+#[test]
+fn the_order_one_call_after_another(rt: HostRuntime) -> Result<(), Fail> {
+    let run = slow_read(rt.alloc())?;
+    let mut placed = in_order(rt.alloc(), &run)?;
+    let first = placed.next().ok_or("no call")?;
+    assert!(rt; is_line(&first, &(0, worker(2), Read(event(0)), Number(0))));
+    assert_eq!(rt; placed.count(), 2);
     Ok(())
 }
 

@@ -7,6 +7,7 @@ pub plain_lines_are_read : ReadsPlainLines
 unfolding clap_on_literals
 plain_lines_are_read = record {
   check = λ program. (refl, refl);
+  audit = λ program. (refl, refl);
   help = λ program. refl;
   none = λ program. refl;
   unknown = λ program. refl;

@@ -5,4 +5,6 @@
 pub enum Task {
     /// `check`: read a trace, and write the order of its calls and the totals of its objects.
     Check,
+    /// `audit`: read a trace, and write what its buffers, databases and semaphores did.
+    Audit,
 }

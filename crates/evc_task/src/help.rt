@@ -1,15 +1,16 @@
-//! The texts of `evc --help`, `evc -h` and `evc check --help`.
+//! The texts of `evc --help` and `evc -h`, and of the help on each command.
 
 pub(crate) const ABOUT: &str = "Checks recorded runs of eventcounts and sequencers";
 
 pub(crate) const LONG_ABOUT: &str = "Checks recorded runs of eventcounts and sequencers.
 
 A trace is a text that records one run: it declares the workers, eventcounts and
-sequencers, and then has a line for each step that a worker made, with its reply.";
+sequencers, alone or as parts of buffers, databases and semaphores, and then has a
+line for each step that a worker made, with its reply.";
 
 pub(crate) const AFTER_HELP: &str = "Exit status:
   0  done
-  1  the trace was refused
+  1  the trace was refused, or its workers break the rules of a group
   2  the command line was wrong
   3  a read or a write failed
   4  memory ran out
@@ -28,3 +29,16 @@ calls go to standard output, in an order that keeps who finished before whom beg
 and in which each answer is that of an object with one number; then the totals.
 Where a line is not right, nothing is written but a note on standard error, which
 says which line it is and what is wrong with it. docs/FORMATS.md has the formats.";
+
+pub(crate) const AUDIT_ABOUT: &str =
+    "Reads a trace, and writes what its buffers, databases and semaphores did";
+
+pub(crate) const AUDIT_LONG_ABOUT: &str =
+    "Reads a trace, and writes what its buffers, databases and semaphores did.
+
+The trace is read from standard input, as by `check`. For each buffer its deliveries
+go to standard output, for each database the versions that its readers accepted, for
+each semaphore its balance, and for `both` its balance and the pairs of tickets that
+were drawn under it. Where a worker's calls on one of them are not those of its role,
+nothing is written but a note on standard error, which says of which group, which
+worker, and at which entry (counted from 0). docs/FORMATS.md has the rules.";

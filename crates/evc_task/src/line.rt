@@ -20,16 +20,27 @@ fn check_command<'a>(alloc: Global) -> Command<'a>
         .long_about(help::CHECK_LONG_ABOUT)
 }
 
+fn audit_command<'a>(alloc: Global) -> Command<'a>
+    ensures app { app_of result ≡ new_app (codes "audit") }
+    ensures local { (fields_of result).has_globals ≡ false }
+{
+    Command::new(alloc, "audit")
+        .about(help::AUDIT_ABOUT)
+        .long_about(help::AUDIT_LONG_ABOUT)
+}
+
 fn evc_command<'a>(alloc: Global) -> Result<Command<'a>, AllocError>
     ensures { IfOk result (λ c. app_of c ≡ evc_app) }
 {
     let check = check_command(alloc);
+    let audit = audit_command(alloc);
     Command::new(alloc, "evc")
         .about(help::ABOUT)
         .long_about(help::LONG_ABOUT)
         .after_help(help::AFTER_HELP)
         .subcommand_required(true)
-        .subcommand(check)
+        .subcommand(check)?
+        .subcommand(audit)
 }
 
 // What clap finds in the words.
@@ -46,6 +57,7 @@ fn task_named(name: &str) -> Option<Task>
 {
     match name {
         "check" => Some(Task::Check),
+        "audit" => Some(Task::Audit),
         _ => None,
     }
 }

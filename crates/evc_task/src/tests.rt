@@ -18,6 +18,7 @@ fn answer(alloc: Global, texts: &[&str]) -> Result<(Option<Task>, u8), AllocErro
 fn the_plainest_command_lines(rt: HostRuntime) -> Result<(), Fail> {
     let alloc = rt.alloc();
     assert!(rt; answer(alloc, &["evc", "check"])? == (Some(Task::Check), 0));
+    assert!(rt; answer(alloc, &["evc", "audit"])? == (Some(Task::Audit), 0));
     assert!(rt; answer(alloc, &["evc", "--help"])? == (None, 0));
     assert!(rt; answer(alloc, &["evc"])? == (None, 2));
     assert!(rt; answer(alloc, &["evc", "frobnicate"])? == (None, 2));

@@ -1,4 +1,4 @@
-use Rattle.std.proofs.Common.{map, take}
+use Rattle.std.proofs.Common.{◌≡◌, ◌++◌, map}
 use Rattle.ec_text.specs.Puts.{Puts}
 use Rattle.ec_trace.specs.Spelling.{text_of}
 use Rattle.evc_engine.specs.Texts.{placed_line}
@@ -6,5 +6,7 @@ use Rattle.evc_engine.proofs.text.put_order.Given as goal
 
 -- the lines so far
 abbrev pub invariant-loop-placed : goal.invariant-loop-placed
-invariant-loop-placed g l =
-    Puts (g.W.Write.contents l.initial.out) l.initial.table (g.W.Write.contents l.out) l.table (text_of (map (placed_line l.spellings) (take l.placed-index l.order)))
+invariant-loop-placed g l = record {
+  put : Puts (g.W.Write.contents l.initial.out) l.initial.table (g.W.Write.contents l.out) l.table (text_of (map (placed_line l.spellings) l.yielded));
+  order : l.yielded ++ l.placed-iterator ≡ l.fn.order;
+}

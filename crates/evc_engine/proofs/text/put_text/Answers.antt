@@ -9,13 +9,13 @@ use Rattle.evc_engine.proofs.text.put_text.Goals as goal
 pub returns : goal.returns
 returns g c =
     subst (Puts (g.W.Write.contents c.args.out.now) c.args.table.now (g.W.Write.contents c.put-3.new.writer) c.put-3.new.buffered)
-    (sym (text_parts (codes "evc-order 1") (codes "totals") (codes "end") (map (placed_line c.args.heading.now.names) c.args.order.now) (totals_lines c.args.heading.now (reverse c.args.run.now.entries))))
+    (sym (text_parts (codes "evc-order 1") (codes "totals") (codes "end") (map (placed_line c.args.heading.now.words) c.args.order) (totals_lines c.args.heading.now (reverse c.args.run.now.entries))))
     (puts_then _ _ _ _ _ _ _ _
     (puts_then _ _ _ _ _ _ _ _
     (puts_then _ _ _ _ _ _ _ _
     (puts_then _ _ _ _ _ _ _ _ c.put.ensures.puts
-    (subst (λ (ns : Named). Puts (g.W.Write.contents c.put.new.writer) c.put.new.buffered (g.W.Write.contents c.put_order.new.out) c.put_order.new.table (text_of (map (placed_line ns) c.args.order.now)))
-    (c.new-spellings.ensures ∙ c.names.ensures) c.put_order.ensures))
+    (subst (λ (ns : Named). Puts (g.W.Write.contents c.put.new.writer) c.put.new.buffered (g.W.Write.contents c.put_order.new.out) c.put_order.new.table (text_of (map (placed_line ns) c.args.order)))
+    (c.new-spellings.ensures ∙ c.words.ensures) c.put_order.ensures))
     c.put-2.ensures.puts)
     (c.put_totals.ensures c.args.run.now.entries c.world.ensures.stands))
     c.put-3.ensures.puts)

@@ -2,6 +2,7 @@ use Rattle.std.proofs.Common.{◌<◌, ◌∙◌, ap, sym, arith, reverse, None}
 use Rattle.ec_core.specs.Acceptance.{refused_or}
 use Rattle.ec_core.specs.Fields.{reply_in}
 use Rattle.ec_core.proofs.Bounds.{told_small}
+use Rattle.ec_core.proofs.ReplyKinds.{kind_is}
 use Rattle.ec_core.proofs.Stepping.{answer_is}
 use Rattle.ec_core.proofs.world.World.answer.Goals as goal
 
@@ -20,3 +21,7 @@ returns-clause-answer c = λ h st.
 pub returns-clause-small : goal.returns-clause-small
 returns-clause-small c = λ h st.
     told_small c.args.self.now.setup (reverse h) c.args.worker c.args.act.now c.reply.result st.declared st.accepted (sym (returns-clause-answer c h st))
+
+pub returns-clause-kind : goal.returns-clause-kind
+returns-clause-kind c = λ h st.
+    kind_is c.args.self.now.setup (reverse h) c.args.worker c.args.act.now c.reply.result st.declared st.accepted (sym (returns-clause-answer c h st))

@@ -11,7 +11,6 @@ invariant_of-self c =
     let kept = c.self.invariant in
     record {
       few_workers = kept.few_workers;
-      sound = kept.sound;
       rights_fit = kept.rights_fit;
       takers_fit = kept.takers_fit;
       access_fits = ap (has_faulty_access c.self.inside.workers) c.push_cells.ensures ∙ more_cells c.self.inside.workers c.args.n c.self.inside.cells.items (record { write = c.args.write.now; read = c.args.read.now }) kept.access_fits new;

@@ -9,14 +9,14 @@ use Rattle.ec_trace.proofs.heading.Heading.cell_of.Goals as goal
 
 pub overflow_add-first : goal.overflow_add-first
 overflow_add-first c =
-    let e : option_and_then block_of (find_name c.args.name.now c.self.inside.names) ≡ Some (c.in_ok-first.first, c.in_ok-first.n) = grind (arith, common_steps) in
+    let e : option_and_then block_of (find_name c.args.name.now c.self.inside.words) ≡ Some (c.in_ok-first.first, c.in_ok-first.n) = grind (arith, common_steps) in
     let ends = block_ends _ c.args.name.now c.in_ok-first.first c.in_ok-first.n c.self.invariant e in
     omega (arith, ends, c.if-i-n.false)
 
 pub returns : goal.returns
 returns c =
-    let e : option_and_then block_of (find_name c.args.name.now c.self.inside.names) ≡ Some (c.in_ok-first.first, c.in_ok-first.n) = grind (arith, common_steps) in
+    let e : option_and_then block_of (find_name c.args.name.now c.self.inside.words) ≡ Some (c.in_ok-first.first, c.in_ok-first.n) = grind (arith, common_steps) in
     let ends = block_ends _ c.args.name.now c.in_ok-first.first c.in_ok-first.n c.self.invariant e in
     made c.new.result (c.in_ok-first.first + c.args.i) 256 c.new.ensures.variant c.new.ensures.value (omega (arith, ends, c.if-i-n.false))
-    ∙ sym (cell_found c.self.inside.names c.args.name.now c.args.i c.in_ok-first.first c.in_ok-first.n e c.if-i-n.false)
-    ∙ ap (λ (h : Headed). cell_of h.names c.args.name.now c.args.i) c.self.view_is
+    ∙ sym (cell_found c.self.inside.words c.args.name.now c.args.i c.in_ok-first.first c.in_ok-first.n e c.if-i-n.false)
+    ∙ ap (λ (h : Headed). cell_of h.words c.args.name.now c.args.i) c.self.view_is

@@ -6,12 +6,11 @@ use Rattle.ec_trace.proofs.spell.Spellings.new.Goals as goal
 
 pub loop-place-preserved-in-Some : goal.loop-place-preserved-in-Some
 loop-place-preserved-in-Some c =
-    let names = c.args.names.now in
+    let names = c.args.vocabulary.now in
     let place = c.loop-place.place in
-    let e = drop_before names place (c.in-Some.name.now, c.in-Some.target) (omega arith) c.in-Some.ensures in
-    let h = rw c.as_bytes.ensures.value at c.take_in.ensures in
-    subst (λ (rest : Named). Spells rest c.take_in.new.self) (sym e) (h (drop place names) c.loop-place.invariant)
+    let e = drop_before names place (c.in-Some.word.now, c.in-Some.target) (omega arith) c.in-Some.ensures in
+    subst (λ (rest : Named). Spells rest c.take_in.new.self) (sym e) (c.take_in.ensures (drop place names) c.loop-place.invariant)
 
 pub loop-place-preserved : goal.loop-place-preserved
 loop-place-preserved c =
-    absurd (none_inside c.args.names.now (c.loop-place.place - 1) (omega (arith, c.len-place.ensures)) c.in_default.ensures)
+    absurd (none_inside c.args.vocabulary.now (c.loop-place.place - 1) (omega (arith, c.len-place.ensures)) c.in_default.ensures)

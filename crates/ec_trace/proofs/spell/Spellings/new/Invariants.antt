@@ -3,4 +3,4 @@ use Rattle.ec_trace.specs.WordTables.{Spells}
 use Rattle.ec_trace.proofs.spell.Spellings.new.Given as goal
 
 abbrev pub invariant-loop-place : goal.invariant-loop-place
-invariant-loop-place l = Spells (drop l.place l.names) l.words
+invariant-loop-place l = Spells (drop l.place l.vocabulary) l.words

@@ -1,0 +1,13 @@
+pub mod Declaring
+pub mod Followed
+pub mod Gathering
+pub mod Handing
+pub mod InTime
+pub mod Moves
+pub mod Moving
+pub mod Numbering
+pub mod OneList
+pub mod Placing
+pub mod Staying
+pub mod Stock
+pub mod Written

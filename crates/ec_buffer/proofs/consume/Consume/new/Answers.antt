@@ -1,0 +1,6 @@
+use Rattle.ec_buffer.specs.CallLists.{consume_list}
+use Rattle.ec_buffer.proofs.Placing.{rest_at_start}
+use Rattle.ec_buffer.proofs.consume.Consume.new.Goals as goal
+
+pub returns-clause-whole : goal.returns-clause-whole
+returns-clause-whole c = λ calls. rest_at_start (consume_list c.args.shape) c.start.result.at c.start.result.turn calls c.start.ensures.at

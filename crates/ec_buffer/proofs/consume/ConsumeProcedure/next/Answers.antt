@@ -1,0 +1,12 @@
+use Rattle.std.proofs.Common.{Bool, [], refl, ap, sym, ◌∙◌}
+use Rattle.ec_core.specs.Procedures.{next_of}
+use Rattle.ec_buffer.specs.CallLists.{consume_list}
+use Rattle.ec_buffer.specs.Keeping.{rest_of}
+use Rattle.ec_buffer.proofs.Placing.{rest_next}
+use Rattle.ec_buffer.proofs.consume.ConsumeProcedure.next.Goals as goal
+
+pub returns-else-self : goal.returns-else-self
+returns-else-self c =
+    let s = c.args.self.now in
+    let list = consume_list s.shape in
+    c.consume_at.ensures ∙ rest_next list s.place.at s.place.turn refl ∙ ap (λ (b : Bool). next_of b (rest_of list s.place.at s.place.turn [])) (sym c.if-self.false)

@@ -1,0 +1,25 @@
+-- What is kept of a list of calls, to judge the next call of its worker or to ask for it.
+use Rattle.std.specs.Prelude.{ℕ, ◌+◌, ◌==◌, List, length, Option, slice_get, if◌then◌else◌}
+use Rattle.ec_core.specs.declared.act.Act.{Act}
+use Rattle.ec_core.specs.declared.act.Reply.{Reply}
+use Rattle.ec_core.specs.declared.protocol.Kept.{Kept}
+use Rattle.ec_core.specs.Calls.{is_pending}
+use Rattle.ec_core.specs.CallLists.{number_of}
+use Rattle.ec_core.specs.Following.{Told}
+use Rattle.ec_buffer.specs.CallLists.{turn_of}
+
+-- the place in the list, and the ticket
+abbrev pub kept_of : List Told → Kept
+kept_of calls = record { at = length calls; first = turn_of calls; second = 0 }
+
+-- how many calls are finished after a reply
+abbrev pub place_after : ℕ → Reply → ℕ
+place_after at reply = if is_pending reply then at else at + 1
+
+-- the ticket after a reply: the first finished call draws it
+abbrev pub turn_after : ℕ → ℕ → Reply → ℕ
+turn_after at turn reply = if is_pending reply then turn else (if at == 0 then number_of reply else turn)
+
+-- the call that comes after further calls, where so many are finished and the first of them drew this ticket
+abbrev pub rest_of : (ℕ → List Act) → ℕ → ℕ → List Told → Option Act
+rest_of list at turn calls = slice_get (list (if at == 0 then turn_of calls else turn)) (at + length calls)

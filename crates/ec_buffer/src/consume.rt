@@ -1,0 +1,64 @@
+//! Consuming one item.
+ghost use Rattle.std.specs.Prelude.{◌≡◌, ℕ, ◌≤◌, false, List, slice_get};
+ghost use Rattle.ec_core.specs.declared.act.TheConstants.{VALUE_MAX};
+ghost use Rattle.ec_core.specs.Following.{Told};
+ghost use Rattle.ec_buffer.specs.CallLists.{consume_call, consume_list};
+ghost use Rattle.ec_buffer.specs.Keeping.{rest_of};
+
+use crate::BufferShape;
+use crate::place::Place;
+use ec_core::{Act, Procedure, Reply, VALUE_MAX};
+
+/// Gets one item from a buffer: draws a ticket, waits for its turn and for the item, gets it and
+/// tells the producers. The number that its fourth call is told is the item.
+#[derive(Clone, Copy, Debug, PartialEq, Eq)]
+pub struct Consume {
+    shape: BufferShape,
+    place: Place,
+}
+
+impl Consume {
+    /// The whole list.
+    pub fn new(shape: BufferShape) -> Self
+        ensures whole { (calls : List Told) → ⟦<Consume as Procedure>⟧.rest result calls ≡ consume_call shape calls }
+        ensures fresh { ⟦<Consume as Procedure>⟧.is_going result ≡ false }
+    {
+        Consume {
+            shape,
+            place: Place::start(),
+        }
+    }
+}
+
+/// The call at a place of the list, where the ticket is `turn`.
+pub(crate) fn consume_at(shape: &BufferShape, at: usize, turn: u64) -> Option<Act>
+    requires { at ≡ 2 → turn ≤ VALUE_MAX }
+    ensures { result ≡ slice_get (consume_list shape.now turn) at }
+{
+    match at {
+        0 => Some(Act::Ticket(shape.take_seq())),
+        1 => Some(Act::Await(shape.out_count(), turn)),
+        2 => Some(Act::Await(shape.in_count(), turn + 1)),
+        3 => Some(Act::Get(shape.cell_of(turn))),
+        4 => Some(Act::Advance(shape.out_count())),
+        _ => None,
+    }
+}
+
+impl Procedure for Consume {
+    ghost rest = { λ s. rest_of (consume_list s.shape) s.place.at s.place.turn };
+
+    ghost is_going = { λ s. s.place.going };
+
+    fn next(&self) -> Option<Act> {
+        if self.place.going {
+            Some(Act::Go)
+        } else {
+            consume_at(&self.shape, self.place.at, self.place.turn)
+        }
+    }
+
+    fn take(&mut self, reply: Reply) {
+        self.place.take(reply);
+    }
+}

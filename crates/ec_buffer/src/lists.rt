@@ -1,0 +1,107 @@
+//! The call lists of a buffer, for the workers of a setup.
+ghost use Rattle.std.specs.Prelude.{◌≡◌, ℕ, ◌+◌, ◌==◌, Bool, true, List, [], ◌∷◌, Option, Some};
+ghost use Rattle.ec_core.specs.declared.act.Act.{Act};
+ghost use Rattle.ec_core.specs.declared.protocol.Kept.{Kept};
+ghost use Rattle.ec_core.specs.Following.{Told, Rule, block_after, is_right};
+ghost use Rattle.ec_core.specs.CallLists.{is_due, unvalued};
+ghost use Rattle.ec_buffer.specs.Follows.{is_on, is_cell, buffer_rules};
+ghost use Rattle.ec_buffer.specs.Keeping.{kept_of};
+
+use crate::BufferShape;
+use crate::consume::consume_at;
+use crate::produce::produce_at;
+use ec_core::{Act, Kept, Protocol, Reply, is_due};
+use ec_count::{EventId, SeqId, Setup, WorkerId};
+
+/// The call lists of a buffer.
+#[derive(Drop)]
+pub(crate) struct Lists<'a> {
+    pub(crate) shape: &'a BufferShape,
+    pub(crate) setup: &'a Setup,
+}
+
+fn is_count(shape: &BufferShape, event: EventId) -> bool
+    ensures { result ≡ is_on shape.now (Act.Read event) }
+{
+    event == shape.in_count() || event == shape.out_count()
+}
+
+fn is_sequencer(shape: &BufferShape, sequencer: SeqId) -> bool
+    ensures { result ≡ is_on shape.now (Act.Ticket sequencer) }
+{
+    sequencer == shape.put_seq() || sequencer == shape.take_seq()
+}
+
+/// Whether an act names an object of the buffer.
+fn is_on(shape: &BufferShape, act: &Act) -> bool
+    ensures { result ≡ is_on shape.now act.now }
+{
+    match act {
+        Act::Advance(event) => is_count(shape, *event),
+        Act::Read(event) => is_count(shape, *event),
+        Act::Await(event, _) => is_count(shape, *event),
+        Act::Go => false,
+        Act::Ticket(sequencer) => is_sequencer(shape, *sequencer),
+        Act::Put(cell, _) => shape.is_cell(*cell),
+        Act::Get(cell) => shape.is_cell(*cell),
+    }
+}
+
+/// Whether an act awaits the put of the item with this number. The number and one may be too large
+/// for their type.
+fn is_wait(shape: &BufferShape, number: u64, act: &Act) -> bool
+    ensures { result ≡ is_due (Some (Act.Await shape.now.in_count (number + 1))) (unvalued act.now) }
+{
+    match act {
+        Act::Await(event, threshold) => {
+            *event == shape.in_count() && *threshold > 0 && *threshold - 1 == number
+        }
+        _ => false,
+    }
+}
+
+impl<'a> Protocol for Lists<'a> {
+    ghost rules = { λ s. buffer_rules s.setup.now s.shape.now };
+
+    ghost keeps = { λ s. kept_of };
+
+    fn start(&self) -> Kept {
+        Kept {
+            at: 0,
+            first: 0,
+            second: 0,
+        }
+    }
+
+    fn is_right(&self, worker: WorkerId, kept: &Kept, act: &Act) -> bool {
+        if !is_on(self.shape, act) {
+            return true;
+        }
+        if self.setup.may_take(self.shape.put_seq(), worker) {
+            is_due(&produce_at(self.shape, 0, kept.at, kept.first), act)
+        } else if kept.at == 2 {
+            is_wait(self.shape, kept.first, act)
+        } else {
+            is_due(&consume_at(self.shape, kept.at, kept.first), act)
+        }
+    }
+
+    fn after(&self, _worker: WorkerId, kept: &Kept, op: &Act, reply: Reply) -> Kept {
+        let number = match reply {
+            Reply::Pending => return *kept,
+            Reply::Done => 0,
+            Reply::Number(number) => number,
+        };
+        if !is_on(self.shape, op) {
+            return *kept;
+        }
+        if kept.at >= 4 {
+            return self.start();
+        }
+        Kept {
+            at: kept.at + 1,
+            first: if kept.at == 0 { number } else { kept.first },
+            second: 0,
+        }
+    }
+}

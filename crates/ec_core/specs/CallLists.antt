@@ -1,0 +1,48 @@
+-- Written lists of calls, and the acts that stand in them.
+use Rattle.std.specs.Prelude.{ℕ, Bool, true, false, ◌==◌, ◌&&◌, not, List, Option, Some, None, is_some}
+use Rattle.ec_core.specs.declared.act.Act.{Act}
+use Rattle.ec_core.specs.declared.act.Act.TheVariants.{Advance, Read, Await, Go, Ticket, Put, Get}
+use Rattle.ec_core.specs.declared.act.Reply.{Reply}
+use Rattle.ec_core.specs.declared.act.Reply.TheVariants.{Number}
+use Rattle.ec_core.specs.Following.{Told, Rule}
+
+abbrev pub is_act : Act → Act → Bool
+is_act (Advance e) (Advance f) = e == f
+is_act (Read e) (Read f) = e == f
+is_act (Await e v) (Await f u) = e == f && v == u
+is_act Go Go = true
+is_act (Ticket q) (Ticket r) = q == r
+is_act (Put x v) (Put y u) = x == y && v == u
+is_act (Get x) (Get y) = x == y
+is_act _ _ = false
+
+abbrev pub is_due : Option Act → Act → Bool
+is_due None act = false
+is_due (Some due) act = is_act due act
+
+-- the act, with 0 for the value that it puts
+abbrev pub unvalued : Act → Act
+unvalued (Put x v) = Put x 0
+unvalued act = act
+
+abbrev pub number_of : Reply → ℕ
+number_of (Number n) = n
+number_of _ = 0
+
+-- whether an act names one of these objects
+abbrev pub is_among : (ℕ → Bool) → (ℕ → Bool) → (ℕ → Bool) → Act → Bool
+is_among events sequencers cells (Advance e) = events e
+is_among events sequencers cells (Read e) = events e
+is_among events sequencers cells (Await e v) = events e
+is_among events sequencers cells Go = false
+is_among events sequencers cells (Ticket q) = sequencers q
+is_among events sequencers cells (Put x v) = cells x
+is_among events sequencers cells (Get x) = cells x
+
+-- the rule of a written list, given as the call that comes after these
+abbrev pub rule_of : (Act → Bool) → (List Told → Option Act) → Rule
+rule_of is_on list = record {
+  concerns = λ b op. is_on op;
+  fits = λ b op. is_due (list b) (unvalued op);
+  ends = λ b. not (is_some (list b));
+}

@@ -1,0 +1,62 @@
+-- What a worker's calls on a group of objects have to be: lists of calls joined end to end, of which the
+-- last may be unfinished.
+use Rattle.std.specs.Prelude.{◌≡◌, ℕ, ◌+◌, Bool, true, ◌==◌, ◌||◌, not, List, [], ◌∷◌, ◌++◌, Option, Some, None, if◌then◌else◌, slice_get}
+use Rattle.ec_core.specs.declared.act.Act.{Act}
+use Rattle.ec_core.specs.declared.act.Act.TheVariants.{Go}
+use Rattle.ec_core.specs.declared.act.Reply.{Reply}
+use Rattle.ec_core.specs.declared.act.Reply.TheVariants.{Pending}
+use Rattle.ec_core.specs.declared.act.Entry.{Entry}
+use Rattle.ec_core.specs.Counts.{past_at}
+use Rattle.ec_core.specs.Calls.{CallSoFar, under_way}
+
+-- a finished call: the act that began it and its last reply
+pub record Told : Type 0 where
+  pub op : Act
+  pub reply : Reply
+
+-- a list of calls that a worker goes through again and again. Each test is given the finished calls of the
+-- list that the worker is in
+pub record Rule : Type 0 where
+  pub concerns : List Told → Act → Bool  -- whether a call that the act begins is one of the list's at all
+  pub fits : List Told → Act → Bool  -- whether it is the call that the list has next
+  pub ends : List Told → Bool  -- whether the calls are the whole list
+
+-- the act that began the call that an act is part of, where this call of its worker is under way
+abbrev pub opened : Act → Option CallSoFar → Act
+opened Go None = Go
+opened Go (Some call) = call.op
+opened act o = act
+
+abbrev pub extended : Rule → List Told → Told → List Told
+extended r b c = if r.concerns b c.op then (if r.ends (b ++ c ∷ []) then [] else b ++ c ∷ []) else b
+
+abbrev pub block_after : Rule → List Told → Act → Reply → List Told
+block_after r b op Pending = b
+block_after r b op reply = extended r b (record { op = op; reply = reply })
+
+-- the finished calls of the list that w is in after a past, the first of them first
+unfoldable pub block : Rule → ℕ → List Entry → List Told
+block r w [] = []
+block r w (x ∷ past) =
+    if x.worker == w
+    then block_after r (block r w past) (opened x.act (under_way w past)) x.reply
+    else block r w past
+
+-- whether an act is right there: it goes on with a call, or does not concern the list, or is next in it
+abbrev pub is_right : Rule → List Told → Act → Bool
+is_right r b Go = true
+is_right r b act = not (r.concerns b act) || r.fits b act
+
+-- each entry is right by its worker's rule
+abbrev pub Follow : (ℕ → Rule) → List Entry → Type 0
+Follow rules [] = Unit {0}
+Follow rules (x ∷ past) =
+    (is_right (rules x.worker) (block (rules x.worker) x.worker past) x.act ≡ true) × Follow rules past
+
+-- the first k entries follow, and with the next one, which w made, they don't
+pub record BreaksAt (rules : ℕ → Rule) (h : List Entry) (w k : ℕ) : Type 0 where
+  pub entry : Entry
+  pub is : slice_get h k ≡ Some entry
+  pub by : entry.worker ≡ w
+  pub before : Follow rules (past_at k h)
+  pub breaks : Follow rules (past_at (k + 1) h) → ⊥

@@ -1,0 +1,36 @@
+//! Groups of objects, each of which has its own lists of calls.
+ghost use Rattle.std.specs.Prelude.{◌≡◌, ℕ, List, []};
+ghost use Rattle.ec_core.specs.Following.{Told, Rule, block_after, is_right};
+ghost use Rattle.ec_core.specs.declared.protocol.Kept.{Kept};
+
+use crate::{Act, Reply};
+use ec_count::WorkerId;
+
+/// What is kept of the list of calls that a worker is in: how many of its calls are finished, and
+/// two numbers that they told, each 0 where a group has no use for it.
+#[derive(Clone, Copy, Debug, PartialEq, Eq)]
+pub struct Kept {
+    pub at: usize,
+    pub first: u64,
+    pub second: u64,
+}
+
+/// The lists of calls of a group of objects: a rule for each worker, and what has to be kept of the
+/// list that a worker is in to judge its next act.
+pub trait Protocol {
+    ghost rules: { Self → ℕ → Rule };
+
+    ghost keeps: { Self → List Told → Kept };
+
+    /// What is kept where no call of a list is finished.
+    fn start(&self) -> Kept
+        ensures { result ≡ keeps self.now [] };
+
+    /// Whether an act of the worker is right there.
+    fn is_right(&self, worker: WorkerId, kept: &Kept, act: &Act) -> bool
+        ensures { (calls : List Told) → kept.now ≡ keeps self.now calls → result ≡ is_right (rules self.now worker) calls act.now };
+
+    /// What is kept after one more step of a call, given the act that began the call.
+    fn after(&self, worker: WorkerId, kept: &Kept, op: &Act, reply: Reply) -> Kept
+        ensures { (calls : List Told) → kept.now ≡ keeps self.now calls → result ≡ keeps self.now (block_after (rules self.now worker) calls op.now reply) };
+}

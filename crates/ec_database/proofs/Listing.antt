@@ -1,0 +1,104 @@
+-- The accepting tries are listed in the order of their last steps.
+use Rattle.std.proofs.Common.{◌≡◌, ℕ, Bool, List, [], ◌∷◌, ◌++◌, append_assoc, length, map, reverse, Option, Some, None, refl, ap, sym, ◌∙◌, arith, ◌⊎◌, inl, inr, slice_get, get_or}
+use Rattle.std.specs.Prelude.{option_to_list, All}
+use Rattle.std.proofs.lemmas.Option.{slice_get-get_or}
+use Rattle.std.proofs.lemmas.List.{append-nil, map-append}
+use Rattle.std.specs.Option.{option_map}
+use Rattle.ec_count.specs.Tables.{Tables}
+use Rattle.ec_core.specs.declared.act.Entry.{Entry}
+use Rattle.ec_core.specs.Counts.{past_at}
+use Rattle.ec_core.proofs.Joining.{get_back}
+use Rattle.ec_database.specs.Shapes.{Database}
+use Rattle.ec_database.specs.Following.{writes}
+use Rattle.ec_database.specs.Tries.{AcceptedTry, ended_at, accepted_tries, ListsTries, IsUndisturbed}
+use Rattle.ec_database.specs.Laws.{IsFollowed, TriesAreListed}
+use Rattle.ec_database.proofs.Readers.{last_get}
+use Rattle.ec_database.proofs.CallsStand.{entry_at}
+use Rattle.ec_database.proofs.Undisturbed.{here, undisturbed}
+
+tries_step : (d : Database) (writers : ℕ → Bool) (x : Entry) (past : List Entry) → accepted_tries d writers (x ∷ past) ≡ accepted_tries d writers past ++ option_to_list (ended_at d writers x past)
+unfolding accepted_tries
+tries_step d writers x past = refl
+
+-- those of a past come first
+record TriesMore (d : Database) (writers : ℕ → Bool) (since early : List Entry) : Type 0 where
+  more : List AcceptedTry
+  is : accepted_tries d writers (since ++ early) ≡ accepted_tries d writers early ++ more
+
+tries_more : (d : Database) (writers : ℕ → Bool) (since early : List Entry) → TriesMore d writers since early
+tries_more d writers [] early = record { more = []; is = sym (append-nil (accepted_tries d writers early)) }
+tries_more d writers (x ∷ since) early =
+    let rest = tries_more d writers since early in
+    let o = option_to_list (ended_at d writers x (since ++ early)) in
+    record {
+      more = rest.more ++ o;
+      is = tries_step d writers x (since ++ early) ∙ ap (λ l. l ++ o) rest.is ∙ append_assoc (accepted_tries d writers early) rest.more o;
+    }
+
+-- where an entry of a past ends a try
+record TryStands (d : Database) (writers : ℕ → Bool) (past : List Entry) (i : ℕ) (a : AcceptedTry) : Type 0 where
+  since : List Entry
+  entry : Entry
+  early : List Entry
+  is : past ≡ since ++ entry ∷ early
+  ends : ended_at d writers entry early ≡ Some a
+  number : length (accepted_tries d writers early) ≡ i
+
+last_option : {X : Type 0} (xs : List X) (o : Option X) (i : ℕ) (a : X) → slice_get (xs ++ option_to_list o) i ≡ Some a → (slice_get xs i ≡ Some a) ⊎ ((i ≡ length xs) × (o ≡ Some a))
+last_option xs None i a h = inl (ap (λ l. slice_get l i) (sym (append-nil xs)) ∙ h)
+last_option xs (Some x) i a h =
+    elim (last_get xs x a i h) [
+      | inl k ↦ inl k.0
+      | inr k ↦ inr (k.0, ap Some k.1)
+    ]
+
+no_tries : (d : Database) (writers : ℕ → Bool) → accepted_tries d writers [] ≡ []
+unfolding accepted_tries
+no_tries d writers = refl
+
+try_stands : (d : Database) (writers : ℕ → Bool) (past : List Entry) (i : ℕ) (a : AcceptedTry) → slice_get (accepted_tries d writers past) i ≡ Some a → TryStands d writers past i a
+try_stands d writers [] i a h = (let none : slice_get (accepted_tries d writers []) i ≡ None = ap (λ l. slice_get l i) (no_tries d writers) in cc)
+try_stands d writers (x ∷ past) i a h =
+    elim (last_option (accepted_tries d writers past) (ended_at d writers x past) i a (ap (λ l. slice_get l i) (sym (tries_step d writers x past)) ∙ h)) [
+      | inl k ↦ (let r = try_stands d writers past i a k in record { since = x ∷ r.since; entry = r.entry; early = r.early; is = ap (λ p. x ∷ p) r.is; ends = r.ends; number = r.number })
+      | inr k ↦ record { since = []; entry = x; early = past; is = refl; ends = k.1; number = sym k.0 }
+    ]
+
+pub listed : TriesAreListed
+listed t d h = record {
+  each = λ i a at.
+      (let s = try_stands d (writes t d) (reverse h) i a at in
+      let place = entry_at h s.entry s.early (record { since = s.since; is = s.is }) in (
+        length s.early,
+        ap (λ p. length (accepted_tries d (writes t d) p)) place.1 ∙ s.number,
+        record { entry = s.entry; is = place.0; ends = ap (ended_at d (writes t d) s.entry) place.1 ∙ s.ends },
+      ));
+  every = λ k a e.
+      (let x = e.entry in
+      let past = past_at k h in
+      let w = here h k x e.is in
+      let rest = tries_more d (writes t d) w.since (x ∷ past) in
+      let before = accepted_tries d (writes t d) past in
+      let whole : accepted_tries d (writes t d) (reverse h) ≡ before ++ (a ∷ rest.more) =
+      ap (accepted_tries d (writes t d)) w.is ∙ rest.is ∙ ap (λ l. l ++ rest.more) (tries_step d (writes t d) x past ∙ ap (λ o. before ++ option_to_list o) e.ends)
+      ∙ append_assoc before (a ∷ []) rest.more in
+      ap (λ l. slice_get l (length before)) whole ∙ get_back before (a ∷ rest.more) (length before) 0 (omega arith));
+}
+
+pub first_tries : (d : Database) (writers : ℕ → Bool) → accepted_tries d writers [] ≡ []
+first_tries = no_tries
+
+-- one more entry, whose accepting try is told or none
+pub next_tries : {X : Type 0} (f : X → AcceptedTry) (d : Database) (writers : ℕ → Bool) (x : Entry) (past : List Entry) (list : List X) (o : Option X)
+    → map f list ≡ accepted_tries d writers past → option_map f o ≡ ended_at d writers x past → map f (list ++ option_to_list o) ≡ accepted_tries d writers (x ∷ past)
+next_tries f d writers x past list None h told =
+    ap (map f) (append-nil list) ∙ h ∙ sym (append-nil (accepted_tries d writers past)) ∙ ap (λ z. accepted_tries d writers past ++ option_to_list z) told ∙ sym (tries_step d writers x past)
+next_tries f d writers x past list (Some a) h told =
+    map-append f list (a ∷ []) ∙ ap (λ l. l ++ f a ∷ []) h ∙ ap (λ z. accepted_tries d writers past ++ option_to_list z) told ∙ sym (tries_step d writers x past)
+
+-- each try of the list is undisturbed
+pub all_undisturbed : (t : Tables) (d : Database) (h : List Entry) (list : List AcceptedTry) → IsFollowed t d h → ListsTries t d h list → All (IsUndisturbed t d h) list
+all_undisturbed t d h list f tries k z lt =
+    let a = get_or list k z in
+    let e = tries.each k a (slice_get-get_or list k z lt) in
+    undisturbed t d h f e.0 a e.2

@@ -1,0 +1,50 @@
+-- What an audit of a database keeps, and what it takes from an entry.
+use Rattle.std.specs.Prelude.{◌≡◌, ℕ, ◌+◌, ◌-◌, ◌<◌, Bool, false, ◌==◌, ◌&&◌, ◌||◌, not, nat_le, nat_lt, List, [], ◌∷◌, length, map, take, slice_get, slice_set, Option, Some, None, if◌then◌else◌}
+use Rattle.ec_core.specs.declared.act.Act.{Act}
+use Rattle.ec_core.specs.declared.act.Entry.{Entry}
+use Rattle.ec_core.specs.declared.protocol.Kept.{Kept}
+use Rattle.ec_core.specs.Calls.{is_pending}
+use Rattle.ec_core.specs.Following.{Told, block}
+use Rattle.ec_core.specs.CallLists.{number_of}
+use Rattle.ec_database.specs.declared.audit.Accepted.{Accepted}
+use Rattle.ec_database.specs.declared.audit.ReaderCall.{ReaderCall}
+use Rattle.ec_database.specs.Shapes.{Database}
+use Rattle.ec_database.specs.Following.{is_on, try_rule}
+use Rattle.ec_database.specs.Tries.{AcceptedTry}
+
+-- an accepting try, as it is told
+abbrev pub shown : Accepted → AcceptedTry
+shown a = record { worker = a.worker; version = a.version; values = a.values.items }
+
+-- the call on the database that an entry of a reader finishes, if it finishes one
+abbrev pub finished_call : Database → Bool → Kept → Act → Entry → Option ReaderCall
+finished_call d is_writer kept op x =
+    if is_writer || is_pending x.reply || not (is_on d op)
+    then None
+    else Some (record { worker = x.worker; at = kept.at; version = kept.first; number = number_of x.reply })
+
+-- what the gets of a try have answered so far
+abbrev pub got_so_far : List Told → List ℕ
+got_so_far (w ∷ a ∷ gets) = map (λ c. number_of c.reply) gets
+got_so_far _ = []
+
+-- the rows once a get of a try is kept, given its reader's row
+abbrev pub rows_after : ℕ → List (List ℕ) → List ℕ → ReaderCall → List (List ℕ)
+rows_after cells rows row c =
+    if nat_le 2 c.at && nat_lt c.at (cells + 2) then slice_set rows c.worker (slice_set row (c.at - 2) c.number) else rows
+
+-- the accepting try that the call ends, if it ends one, given its reader's row
+abbrev pub try_ended : ℕ → List ℕ → ReaderCall → Option AcceptedTry
+try_ended cells row c =
+    if c.at == cells + 2 && c.number == c.version then Some (record { worker = c.worker; version = c.version; values = take cells row }) else None
+
+-- the row of w begins with these values
+pub record HasRow (rows : List (List ℕ)) (w : ℕ) (values : List ℕ) : Type 0 where
+  pub row : List ℕ
+  pub is : slice_get rows w ≡ Some row
+  pub long : length row ≡ 256
+  pub front : take (length values) row ≡ values
+
+-- each reader's row begins with what it got in the try that it is in
+abbrev pub HoldsGot : Database → (ℕ → Bool) → List (List ℕ) → List Entry → Type 0
+HoldsGot d writers rows past = (w : ℕ) → w < 16 → writers w ≡ false → HasRow rows w (got_so_far (block (try_rule d) w past))

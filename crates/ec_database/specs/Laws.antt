@@ -1,0 +1,50 @@
+-- What the definitions mean. Histories are in order of time, and entries are counted from 0.
+use Rattle.std.specs.Prelude.{◌≡◌, ℕ, ◌<◌, ◌≤◌, List, length, reverse, slice_get}
+use Rattle.ec_count.specs.Declares.{KeepsObjects}
+use Rattle.ec_count.specs.Tables.{Tables, IsDeclared}
+use Rattle.ec_core.specs.declared.act.Entry.{Entry}
+use Rattle.ec_core.specs.Acceptance.{IsAccepted}
+use Rattle.ec_core.specs.Following.{Told}
+use Rattle.ec_core.specs.Procedures.{IsWritten}
+use Rattle.ec_database.specs.Shapes.{Database, IsShape, Fits}
+use Rattle.ec_database.specs.Calls.{first_number, turn_of, write_call, try_call, write_list, try_list}
+use Rattle.ec_database.specs.Snapshots.{snapshot_call, AreTries}
+use Rattle.ec_database.specs.Following.{writes, FollowsDatabase}
+use Rattle.ec_database.specs.Versions.{PutsValue}
+use Rattle.ec_database.specs.Tries.{AcceptedTry, EndsTry, IsUndisturbed, accepted_tries, ListsTries}
+
+-- a database that is declared stays so where more is declared
+abbrev pub DatabasesStay : Type 0
+DatabasesStay = (d : Database) (old new : Tables) → KeepsObjects old new → Fits d old → Fits d new
+
+-- an accepted history that follows a database
+pub record IsFollowed (t : Tables) (d : Database) (h : List Entry) : Type 0 where
+  pub declared : IsDeclared t
+  pub shape : IsShape d
+  pub accepted : IsAccepted t (reverse h)
+  pub followed : FollowsDatabase t d (reverse h)
+
+-- each value of a version is put once
+abbrev pub VersionsArePutOnce : Type 0
+VersionsArePutOnce = (t : Tables) (d : Database) (h : List Entry) → IsFollowed t d h
+    → (j k turn i v w : ℕ) → i < d.cells → PutsValue t d h j turn i v → PutsValue t d h k turn i w → j ≡ k
+
+-- an accepting try holds one version, and nothing is put between its gets
+abbrev pub AcceptedTriesAreUndisturbed : Type 0
+AcceptedTriesAreUndisturbed = (t : Tables) (d : Database) (h : List Entry) → IsFollowed t d h → (k : ℕ) (a : AcceptedTry) → EndsTry t d h k a → IsUndisturbed t d h a
+
+-- the accepting tries are listed, each once and no others, in the order of their last steps
+abbrev pub TriesAreListed : Type 0
+TriesAreListed = (t : Tables) (d : Database) (h : List Entry) → ListsTries t d h (accepted_tries d (writes t d) (reverse h))
+
+-- the call lists are those written out, whatever turn or version a list's calls answered
+pub record CallsAreListed (d : Database) : Type 0 where
+  pub writings : (values : List ℕ) (calls : List Told) → length values ≡ d.cells → write_call d values calls ≡ slice_get (write_list d values (turn_of calls)) (length calls)
+  pub tries : (calls : List Told) → try_call d calls ≡ slice_get (try_list d (first_number calls)) (length calls)
+
+abbrev pub CallListsAreWritten : Type 0
+CallListsAreWritten = (d : Database) → CallsAreListed d
+
+-- what a snapshot asks for are tries, up to the first whose reads agree, and at most as many as it may make
+abbrev pub SnapshotsAreTries : Type 0
+SnapshotsAreTries = (d : Database) (tries : ℕ) (calls : List Told) → 1 ≤ tries → IsWritten (snapshot_call d tries) calls → AreTries d tries calls

@@ -1,0 +1,11 @@
+pub mod Shapes
+pub mod Calls
+pub mod Following
+pub mod Versions
+pub mod Snapshots
+pub mod Places
+pub mod Tries
+pub mod Auditing
+pub mod Standing
+pub mod Laws
+pub mod Joined

@@ -1,0 +1,78 @@
+-- The call lists by place: the call at a place of the list, from the numbers that earlier calls answered.
+use Rattle.std.specs.Prelude.{ℕ, ◌+◌, ◌-◌, Bool, ◌==◌, ◌&&◌, not, nat_lt, List, [], ◌∷◌, ◌++◌, length, Option, Some, None, if◌then◌else◌, get_or}
+use Rattle.ec_core.specs.declared.act.Act.{Act}
+use Rattle.ec_core.specs.declared.act.Act.TheVariants.{Advance, Read, Await, Ticket, Put, Get}
+use Rattle.ec_core.specs.declared.protocol.Kept.{Kept}
+use Rattle.ec_core.specs.Following.{Told}
+use Rattle.ec_core.specs.CallLists.{number_of}
+use Rattle.ec_database.specs.Shapes.{Database}
+use Rattle.ec_database.specs.declared.ending.SnapshotEnd.{SnapshotEnd}
+use Rattle.ec_database.specs.declared.ending.SnapshotEnd.TheVariants.{Accepted, Disturbed}
+use Rattle.ec_database.specs.Calls.{first_number, turn_of}
+
+-- of a writing, from its turn
+abbrev pub write_at : Database → List ℕ → ℕ → ℕ → Option Act
+write_at d values at turn =
+    if at == 0 then Some (Advance d.start)
+    else (if at == 1 then Some (Ticket d.turn)
+    else (if at == 2 then Some (Await d.done turn)
+    else (if nat_lt at (d.cells + 3) then Some (Put (d.first_cell + (at - 3)) (get_or values (at - 3) 0))
+    else (if at == d.cells + 3 then Some (Advance d.done)
+    else None))))
+
+-- the turn after further calls
+abbrev pub turn_after : ℕ → ℕ → List Told → ℕ
+turn_after at turn calls = if at == 0 then turn_of calls else (if at == 1 then first_number calls else turn)
+
+-- what is left of a writing at a place
+abbrev pub write_rest : Database → List ℕ → ℕ → ℕ → List Told → Option Act
+write_rest d values at turn calls = write_at d values (at + length calls) (turn_after at turn calls)
+
+-- of a try, from the version that it read first
+abbrev pub try_at : Database → ℕ → ℕ → Option Act
+try_at d at version =
+    if at == 0 then Some (Read d.start)
+    else (if at == 1 then Some (Await d.done version)
+    else (if nat_lt at (d.cells + 2) then Some (Get (d.first_cell + (at - 2)))
+    else (if at == d.cells + 2 then Some (Read d.start)
+    else None)))
+
+-- where a snapshot stands: the tries left, this one among them; the place in this try; what it read so far; and at its
+-- end, whether its two reads agree
+pub record Place : Type 0 where
+  pub left : ℕ
+  pub at : ℕ
+  pub version : ℕ
+  pub values : List ℕ
+  pub agreed : Bool
+
+-- once the try has read its last number: it ends there, or the next try begins
+abbrev pub place_at_end : Place → Bool → Place
+place_at_end p agreed =
+    if not agreed && nat_lt 1 p.left
+    then record p { left = p.left - 1; at = 0; values = [] }
+    else record p { at = p.at + 1; agreed = agreed }
+
+-- once a call has answered n
+abbrev pub next_place : Database → Place → ℕ → Place
+next_place d p n =
+    if p.at == 0 then record p { at = 1; version = n }
+    else (if p.at == 1 then record p { at = 2 }
+    else (if nat_lt p.at (d.cells + 2) then record p { at = p.at + 1; values = p.values ++ n ∷ [] }
+    else (if p.at == d.cells + 2 then place_at_end p (n == p.version)
+    else p)))
+
+abbrev pub place_after : Database → Place → List Told → Place
+place_after d p [] = p
+place_after d p (c ∷ calls) = place_after d (next_place d p (number_of c.reply)) calls
+
+-- what is left of a snapshot at a place
+abbrev pub snapshot_rest : Database → Place → List Told → Option Act
+snapshot_rest d p calls = (let q = place_after d p calls in try_at d q.at q.version)
+
+abbrev pub end_at : Database → Place → Option SnapshotEnd
+end_at d p = if p.at == d.cells + 3 then Some (if p.agreed then Accepted p.version (record { items = p.values }) else Disturbed) else None
+
+-- what a scan keeps of a list of either kind: a writing's turn is the second number, a try's version the first
+abbrev pub kept_of : List Told → Kept
+kept_of calls = record { at = length calls; first = first_number calls; second = turn_of calls }

@@ -1,0 +1,194 @@
+//! The accepting tries of a run.
+ghost use Rattle.std.specs.Prelude.{◌≡◌, ◌<◌, ◌≤◌, ℕ, List, [], ◌∷◌, ◌++◌, option_to_list, length, map, take, reverse, slice_get, slice_set, All, Some, IfOk, OnOk, IfErr};
+ghost use Rattle.std.specs.Option.{option_map};
+ghost use Rattle.ec_core.specs.declared.act.Entry.{Entry};
+ghost use Rattle.ec_core.specs.Scanning.{IsScanned};
+ghost use Rattle.ec_core.specs.Audits.{IsAuditFault};
+ghost use Rattle.ec_database.specs.Following.{writes, rules, database_rules, FollowsDatabase};
+ghost use Rattle.ec_database.specs.Places.{kept_of};
+ghost use Rattle.ec_database.specs.Tries.{ended_at, accepted_tries, ListsTries, IsUndisturbed};
+ghost use Rattle.ec_database.specs.Auditing.{shown, finished_call, rows_after, try_ended, HasRow, HoldsGot};
+
+use crate::DatabaseShape;
+use crate::lists::{Lists, is_on};
+use ec_core::{Act, AuditFault, Entry, Kept, Reply, Run, Scan, followed};
+use ec_count::WorkerId;
+use std::alloc::{AllocError, Global};
+
+/// An accepting try: the two reads of its count of starts agree.
+#[derive(Debug, PartialEq, Eq, Drop)]
+pub struct Accepted {
+    /// The reader.
+    pub worker: WorkerId,
+    /// The version that both reads answered.
+    pub version: u64,
+    /// The values of the cells, in order.
+    pub values: Vec<u64>,
+}
+
+/// A call on the database that a reader has finished: its place in the reader's try, the version
+/// that the try read first, and what the call answered.
+#[derive(Clone, Copy)]
+struct ReaderCall {
+    worker: WorkerId,
+    at: usize,
+    version: u64,
+    number: u64,
+}
+
+/// The call of a reader on the database that an entry finishes, if it finishes one.
+fn finished_call(lists: &Lists, kept: &Kept, op: &Act, entry: &Entry) -> Option<ReaderCall>
+    ensures { result ≡ finished_call lists.now.shape.now (writes lists.now.setup.now lists.now.shape.now entry.now.worker) kept.now op.now entry.now }
+{
+    if lists.writes(entry.worker) {
+        return None;
+    }
+    let number = match entry.reply {
+        Reply::Pending => return None,
+        Reply::Done => 0,
+        Reply::Number(number) => number,
+    };
+    if !is_on(lists.shape, op) {
+        return None;
+    }
+    Some(ReaderCall {
+        worker: entry.worker,
+        at: kept.at,
+        version: kept.first,
+        number,
+    })
+}
+
+/// An array with the same element everywhere.
+fn all_alike<T: Copy, const N: usize>(x: T) -> [T; N]
+    ensures each { (i : ℕ) → i < N → slice_get result i ≡ Some x }
+    ensures long { length result ≡ N }
+{
+    [x; N]
+}
+
+/// What the readers got in the tries that they are in, by reader and place of the cell.
+#[derive(Drop)]
+struct Got {
+    rows: [[u64; 256]; 16],
+}
+
+impl Got {
+    fn new() -> Self
+        ensures { (w : ℕ) → w < 16 → HasRow result.rows w [] }
+    {
+        Got {
+            rows: all_alike(all_alike(0)),
+        }
+    }
+
+    /// Keeps the value that a reader's call answered, where that is a get.
+    fn keep(&mut self, cells: usize, call: &ReaderCall)
+        requires { cells ≤ 256 }
+        ensures { (row : List ℕ) → slice_get self.old.rows call.now.worker ≡ Some row → self.new.rows ≡ rows_after cells self.old.rows row call.now }
+    {
+        if 2 <= call.at && call.at < cells + 2 {
+            self.rows[call.worker.get()][call.at - 2] = call.number;
+        }
+    }
+
+    /// The accepting try that a reader's call ends, if it ends one.
+    fn ended(
+        &self,
+        alloc: Global,
+        cells: usize,
+        call: &ReaderCall,
+    ) -> Result<Option<Accepted>, AllocError>
+        requires { cells ≤ 256 }
+        ensures { IfOk result (λ o. (row : List ℕ) → slice_get self.now.rows call.now.worker ≡ Some row → option_map shown o ≡ try_ended cells row call.now) }
+    {
+        if call.at != cells + 2 || call.number != call.version {
+            return Ok(None);
+        }
+        let row = &self.rows[call.worker.get()];
+        Ok(Some(Accepted {
+            worker: call.worker,
+            version: call.version,
+            values: Vec::from_slice(alloc, &row[..cells])?,
+        }))
+    }
+
+    /// Takes in the next entry of a run: the accepting try that it ends, if it ends one.
+    fn take(
+        &mut self,
+        alloc: Global,
+        lists: &Lists,
+        scan: &Scan,
+        entry: &Entry,
+    ) -> Result<Option<Accepted>, AllocError>
+        ensures tries { IfOk result (λ o. (past : List Entry)
+            → IsScanned (rules lists.now.shape.now (writes lists.now.setup.now lists.now.shape.now)) kept_of scan.now past
+            → HoldsGot lists.now.shape.now (writes lists.now.setup.now lists.now.shape.now) self.old.rows past
+            → option_map shown o ≡ ended_at lists.now.shape.now (writes lists.now.setup.now lists.now.shape.now) entry.now past) }
+        ensures held { OnOk result ((past : List Entry)
+            → IsScanned (rules lists.now.shape.now (writes lists.now.setup.now lists.now.shape.now)) kept_of scan.now past
+            → HoldsGot lists.now.shape.now (writes lists.now.setup.now lists.now.shape.now) self.old.rows past
+            → HoldsGot lists.now.shape.now (writes lists.now.setup.now lists.now.shape.now) self.new.rows (entry.now ∷ past)) }
+    {
+        let _reader = entry.worker.get();
+        let kept = scan.kept(entry.worker);
+        let op = scan.op(entry);
+        let Some(call) = finished_call(lists, &kept, &op, entry) else {
+            return Ok(None);
+        };
+        let cells = lists.shape.cells();
+        self.keep(cells, &call);
+        self.ended(alloc, cells, &call)
+    }
+}
+
+/// Adds what there is to the list.
+fn add(list: &mut Vec<Accepted>, accepted: Option<Accepted>) -> Result<(), AllocError>
+    ensures { OnOk result (list.new.items ≡ list.old.items ++ option_to_list accepted) }
+{
+    if let Some(accepted) = accepted {
+        list.push(accepted)?;
+    }
+    Ok(())
+}
+
+/// The accepting tries of a run, by their last steps.
+fn accepted_tries(alloc: Global, run: &Run, lists: &Lists) -> Result<Vec<Accepted>, AllocError>
+    ensures { IfOk result (λ list. map shown list.items ≡ accepted_tries lists.now.shape.now (writes lists.now.setup.now lists.now.shape.now) (reverse run.now.entries)) }
+{
+    let mut scan = Scan::new(lists);
+    let mut got = Got::new();
+    let mut list = Vec::new(alloc);
+    for entry in run.entries() {
+        let accepted = got.take(alloc, lists, &scan, &entry)?;
+        add(&mut list, accepted)?;
+        scan.take(lists, &entry);
+    }
+    Ok(list)
+}
+
+/// The accepting tries of a database in a run, by their last steps. Where the workers don't follow
+/// the database's call lists, the first entry that breaks them is told. The run is as before,
+/// whatever is answered.
+pub fn versions(
+    alloc: Global,
+    run: &Run,
+    shape: &DatabaseShape,
+) -> Result<Vec<Accepted>, AuditFault>
+    ensures followed { OnOk result (FollowsDatabase run.now.setup shape.now (reverse run.now.entries)) }
+    ensures tries { IfOk result (λ list. ListsTries run.now.setup shape.now run.now.entries (map shown list.items)) }
+    ensures undisturbed { IfOk result (λ list. All (IsUndisturbed run.now.setup shape.now run.now.entries) (map shown list.items)) }
+    ensures err { IfErr result (IsAuditFault (database_rules run.now.setup shape.now) run.now.entries) }
+{
+    run.known();
+    shape.known();
+    let lists = Lists {
+        shape,
+        setup: run.setup(),
+    };
+    followed(run, &lists)?;
+    let Ok(list) = accepted_tries(alloc, run, &lists) else {
+        return Err(AuditFault::Memory);
+    };
+    Ok(list)
+}

@@ -1,0 +1,43 @@
+//! What the definitions mean: each function says a law and does nothing.
+ghost use Rattle.ec_database.specs.Joined.{FollowingMeansLists};
+ghost use Rattle.ec_database.specs.Laws.{DatabasesStay, VersionsArePutOnce, AcceptedTriesAreUndisturbed, TriesAreListed, CallListsAreWritten, SnapshotsAreTries};
+
+/// A database that fits declarations fits them still where more is declared.
+pub fn declared_databases_stay()
+    ensures { DatabasesStay }
+{}
+
+/// In a history that follows a database, each value of a version is put once.
+pub fn versions_are_put_once()
+    ensures { VersionsArePutOnce }
+{}
+
+/// In a history that follows a database, an accepting try holds the version that it read, and no
+/// put on the database stands between its first and its last get.
+pub fn accepted_tries_are_undisturbed()
+    ensures { AcceptedTriesAreUndisturbed }
+{}
+
+/// The accepting tries of a history are listed, each once and no others, in the order of their last
+/// steps.
+pub fn accepted_tries_are_listed()
+    ensures { TriesAreListed }
+{}
+
+/// The call lists of a writing and of a try are those written out, whatever turn the writing drew
+/// or version the try read.
+pub fn call_lists_are_written_out()
+    ensures { CallListsAreWritten }
+{}
+
+/// What a snapshot asks for are tries one after another, up to the first whose reads agree, and at
+/// most as many as it may make.
+pub fn snapshots_are_tries()
+    ensures { SnapshotsAreTries }
+{}
+
+/// An accepted history follows a database exactly where each worker's calls on it are its written
+/// lists joined end to end, and the beginning of one more.
+pub fn following_means_lists()
+    ensures { FollowingMeansLists }
+{}

@@ -1,0 +1,23 @@
+//! A database: cells that writers fill one after another, and that readers read without keeping
+//! the writers out, by a look at the versions (L. Lamport, "Concurrent Reading and Writing", CACM
+//! 20(11), 1977).
+#![tactic(auto)]
+
+mod audit;
+mod ending;
+mod laws;
+mod lists;
+mod places;
+mod shape;
+mod snapshot;
+mod write;
+
+pub use audit::{Accepted, versions};
+pub use ending::SnapshotEnd;
+pub use laws::{
+    accepted_tries_are_listed, accepted_tries_are_undisturbed, call_lists_are_written_out,
+    declared_databases_stay, following_means_lists, snapshots_are_tries, versions_are_put_once,
+};
+pub use shape::{DatabaseShape, declare_database};
+pub use snapshot::Snapshot;
+pub use write::WriteAll;

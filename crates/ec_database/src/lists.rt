@@ -1,0 +1,128 @@
+//! The lists of calls of the workers on a database.
+ghost use Rattle.std.specs.Prelude.{◌≡◌, ℕ, ◌+◌, ◌<◌, List, [], ◌∷◌, ◌++◌, length, if◌then◌else◌};
+ghost use Rattle.ec_core.specs.CallLists.{number_of};
+ghost use Rattle.ec_core.specs.declared.act.Act.{Act};
+ghost use Rattle.ec_core.specs.declared.act.Act.TheVariants.{Read, Ticket, Get};
+ghost use Rattle.ec_core.specs.Following.{Told};
+ghost use Rattle.ec_database.specs.Following.{is_cell, is_on, writes, rules};
+ghost use Rattle.ec_database.specs.Places.{kept_of};
+
+use crate::DatabaseShape;
+use crate::places::{try_at, write_at};
+use ec_core::{Act, Kept, Protocol, Reply, is_due};
+use ec_count::{CellId, EventId, SeqId, Setup, WorkerId};
+
+/// The lists of a database's writers and readers, as they are declared in a setup.
+#[derive(Drop)]
+pub(crate) struct Lists<'a> {
+    pub(crate) shape: &'a DatabaseShape,
+    pub(crate) setup: &'a Setup,
+}
+
+fn is_count(shape: &DatabaseShape, e: EventId) -> bool
+    ensures { result ≡ is_on shape.now (Act.Read e) }
+{
+    e.get() == shape.start().get() || e.get() == shape.done().get()
+}
+
+fn is_turn(shape: &DatabaseShape, q: SeqId) -> bool
+    ensures { result ≡ is_on shape.now (Act.Ticket q) }
+{
+    q.get() == shape.turn().get()
+}
+
+fn is_cell(shape: &DatabaseShape, x: CellId) -> bool
+    ensures { result ≡ is_cell shape.now x }
+{
+    let first = shape.first_cell().get();
+    first <= x.get() && x.get() < first + shape.cells()
+}
+
+/// Whether an act names an object of the database.
+pub(crate) fn is_on(shape: &DatabaseShape, act: &Act) -> bool
+    ensures { result ≡ is_on shape.now act.now }
+{
+    match act {
+        Act::Advance(e) => is_count(shape, *e),
+        Act::Read(e) => is_count(shape, *e),
+        Act::Await(e, _) => is_count(shape, *e),
+        Act::Go => false,
+        Act::Ticket(q) => is_turn(shape, *q),
+        Act::Put(x, _) => is_cell(shape, *x),
+        Act::Get(x) => is_cell(shape, *x),
+    }
+}
+
+impl Lists<'_> {
+    /// Whether the worker is a writer.
+    pub(crate) fn writes(&self, worker: WorkerId) -> bool
+        ensures { result ≡ writes self.now.setup.now self.now.shape.now worker }
+    {
+        self.setup
+            .component_of(self.shape.start(), worker)
+            .is_some()
+    }
+
+    /// The place of the last call of the worker's list.
+    fn last(&self, worker: WorkerId) -> usize
+        ensures { result ≡ (if writes self.now.setup.now self.now.shape.now worker then self.now.shape.now.cells + 3 else self.now.shape.now.cells + 2) }
+    {
+        if self.writes(worker) {
+            self.shape.cells() + 3
+        } else {
+            self.shape.cells() + 2
+        }
+    }
+}
+
+impl Protocol for Lists<'_> {
+    ghost rules = { λ s. rules s.shape.now (writes s.setup.now s.shape.now) };
+
+    ghost keeps = { λ s. kept_of };
+
+    fn start(&self) -> Kept {
+        Kept {
+            at: 0,
+            first: 0,
+            second: 0,
+        }
+    }
+
+    fn is_right(&self, worker: WorkerId, kept: &Kept, act: &Act) -> bool {
+        if !is_on(self.shape, act) {
+            return true;
+        }
+        if self.writes(worker) {
+            is_due(&write_at(self.shape, kept.at, kept.second, 0), act)
+        } else {
+            is_due(&try_at(self.shape, kept.at, kept.first), act)
+        }
+    }
+
+    fn after(&self, worker: WorkerId, kept: &Kept, op: &Act, reply: Reply) -> Kept {
+        let number = match reply {
+            Reply::Pending => return *kept,
+            Reply::Done => 0,
+            Reply::Number(number) => number,
+        };
+        if !is_on(self.shape, op) {
+            return *kept;
+        }
+        if kept.at >= self.last(worker) {
+            return self.start();
+        }
+        with_number(kept, number)
+    }
+}
+
+/// What is kept once one more call has answered.
+fn with_number(kept: &Kept, number: u64) -> Kept
+    requires { kept.now.at < usize.MAX }
+    ensures { (calls : List Told) (c : Told) → kept.now ≡ kept_of calls → number ≡ number_of c.reply → result ≡ kept_of (calls ++ c ∷ []) }
+{
+    Kept {
+        at: kept.at + 1,
+        first: if kept.at == 0 { number } else { kept.first },
+        second: if kept.at == 1 { number } else { kept.second },
+    }
+}

@@ -1,0 +1,134 @@
+//! Snapshots of all cells.
+ghost use Rattle.std.specs.Prelude.{◌≡◌, ◌+◌, ◌-◌, ◌≤◌, ◌<◌, ◌↔◌, true, false, List, [], ◌∷◌, Some, None, IsSome};
+ghost use Rattle.arrayvec.specs.ArrayVec.{array_vec_len};
+ghost use Rattle.ec_core.specs.declared.act.Act.{Act};
+ghost use Rattle.ec_core.specs.Calls.{is_pending};
+ghost use Rattle.ec_core.specs.Following.{Told};
+ghost use Rattle.ec_core.specs.Procedures.{IsReplyTo, next_of};
+ghost use Rattle.ec_database.specs.Snapshots.{snapshot_call, snapshot_end};
+
+use crate::places::try_at;
+use crate::{DatabaseShape, SnapshotEnd};
+use arrayvec::ArrayVec;
+use ec_core::{Act, Procedure, Reply};
+
+/// Reads all cells of a database in tries: each reads how many writings were started, waits until
+/// that many are done, gets each cell, and reads again how many were started. Where both reads
+/// agree, the values are those of one version; else the next try begins, until none is left.
+#[derive(Debug, Drop)]
+pub struct Snapshot {
+    shape: DatabaseShape,
+    left: usize,
+    at: usize,
+    version: u64,
+    values: ArrayVec<u64, 256>,
+    agreed: bool,
+    going: bool,
+    ghost few: { at ≤ shape.cells + 3 },
+    ghost kept: { array_vec_len values ≤ at - 2 },
+    ghost waits: { going ≡ true → at ≤ shape.cells + 2 },
+}
+
+impl Snapshot {
+    ghost use Rattle.ec_database.specs.Standing.{place_of, ending};
+    ghost use Rattle.ec_database.specs.Places.{next_place};
+
+    /// A snapshot of at most so many tries, from 1 to 1000.
+    pub fn new(shape: DatabaseShape, tries: usize) -> Self
+        requires some { 1 ≤ tries }
+        requires few { tries ≤ 1000 }
+        ensures whole { (calls : List Told) → ⟦<Snapshot as Procedure>⟧.rest result calls ≡ snapshot_call shape tries calls }
+        ensures fresh { ⟦<Snapshot as Procedure>⟧.is_going result ≡ false }
+        ensures ends { (calls : List Told) → ending result calls ≡ snapshot_end shape tries calls }
+    {
+        Snapshot {
+            shape,
+            left: tries,
+            at: 0,
+            version: 0,
+            values: ArrayVec::new(),
+            agreed: false,
+            going: false,
+        }
+    }
+
+    /// Takes in what the call at its place answered.
+    fn told(&mut self, number: u64)
+        requires { self.old.at ≤ self.old.shape.cells + 2 }
+        ensures place { place_of self.new ≡ next_place self.old.shape (place_of self.old) number }
+        ensures going { self.new.going ≡ false }
+        ensures same { self.new.shape ≡ self.old.shape }
+    {
+        self.going = false;
+        if self.at == 0 {
+            self.version = number;
+            self.at = 1;
+        } else if self.at == 1 {
+            self.at = 2;
+        } else if self.at < self.shape.cells() + 2 {
+            self.values.push(number);
+            self.at += 1;
+        } else if number != self.version && self.left > 1 {
+            self.left -= 1;
+            self.at = 0;
+            self.values.clear();
+        } else {
+            self.agreed = number == self.version;
+            self.at += 1;
+        }
+    }
+
+    /// How it has ended: None while `next` is Some.
+    pub fn ended(&self) -> Option<SnapshotEnd>
+        ensures value { result ≡ ending self.now [] }
+        ensures next { IsSome result ↔ (next_of (⟦<Snapshot as Procedure>⟧.is_going self.now) (⟦<Snapshot as Procedure>⟧.rest self.now []) ≡ None) }
+    {
+        if self.at < self.shape.cells() + 3 {
+            return None;
+        }
+        if self.agreed {
+            Some(SnapshotEnd::Accepted(self.version, self.values.clone().unwrap()))
+        } else {
+            Some(SnapshotEnd::Disturbed)
+        }
+    }
+}
+
+impl Procedure for Snapshot {
+    ghost use Rattle.ec_database.specs.Places.{snapshot_rest};
+    ghost use Rattle.ec_database.specs.Standing.{place_of, ending};
+
+    ghost rest = { λ s calls. snapshot_rest s.shape (place_of s) calls };
+
+    ghost is_going = { λ s. s.going };
+
+    fn next(&self) -> Option<Act> {
+        if self.going {
+            Some(Act::Go)
+        } else {
+            try_at(&self.shape, self.at, self.version)
+        }
+    }
+
+    fn take(&mut self, reply: Reply)
+        requires { IsReplyTo (next_of (⟦<Snapshot as Procedure>⟧.is_going self.old) (⟦<Snapshot as Procedure>⟧.rest self.old [])) reply }
+        ensures going { ⟦<Snapshot as Procedure>⟧.is_going self.new ≡ is_pending reply }
+        ensures pending { is_pending reply ≡ true → (calls : List Told)
+            → ⟦<Snapshot as Procedure>⟧.rest self.new calls ≡ ⟦<Snapshot as Procedure>⟧.rest self.old calls }
+        ensures told { is_pending reply ≡ false → (op : Act) → ⟦<Snapshot as Procedure>⟧.rest self.old [] ≡ Some op → (calls : List Told)
+            → ⟦<Snapshot as Procedure>⟧.rest self.new calls ≡ ⟦<Snapshot as Procedure>⟧.rest self.old (record { op = op; reply = reply } ∷ calls) }
+        ensures ends_pending { is_pending reply ≡ true → (calls : List Told) → ending self.new calls ≡ ending self.old calls }
+        ensures ends_told { is_pending reply ≡ false → (op : Act) → (calls : List Told)
+            → ending self.new calls ≡ ending self.old (record { op = op; reply = reply } ∷ calls) }
+    {
+        let number = match reply {
+            Reply::Pending => {
+                self.going = true;
+                return;
+            }
+            Reply::Done => 0,
+            Reply::Number(number) => number,
+        };
+        self.told(number);
+    }
+}

@@ -1,0 +1,218 @@
+-- The scan that gathers the finished reads and awaits by their points.
+use Rattle.std.proofs.Common.{◌≡◌, ℕ, zero, suc, ◌+◌, ◌-◌, ◌<◌, ◌≤◌, inl, inr, Bool, true, false, not, ◌&&◌, is_some, List, [], ◌∷◌, ◌++◌, length, map, Option, Some, None, refl, ap, sym, ◌∙◌, arith, cond, subst, ◌==◌, append-nil, reverse, take, take_all, slice_get, slice_set, Vec, Global}
+use Rattle.std.specs.Option.{option_map, option_to_list}
+use Rattle.std.specs.List.{All, Contains, filter}
+use Rattle.std.proofs.lemmas.Bool.{eqb-true}
+use Rattle.std.proofs.lemmas.List.{map-append, length-reverse, append_cancel_left}
+use Rattle.std.proofs.lemmas.List.Elements.{All-nil, All-cons, All-head, All-tail, All-contains, Contains-append_right, filter-append, filter_passes}
+use Rattle.std.proofs.lemmas.Option.{slice_get_within}
+use Rattle.ec_count.specs.Tables.{Tables, IsDeclared}
+use Rattle.ec_core.specs.declared.act.Entry.{Entry}
+use Rattle.ec_core.specs.Counts.{total}
+use Rattle.ec_core.specs.Calls.{CallSoFar, under_way, gone_on, is_go, is_pending}
+use Rattle.ec_core.specs.Rounds.{event_or}
+use Rattle.ec_core.specs.Acceptance.{IsAccepted}
+use Rattle.ec_core.proofs.Answering.{allowed}
+use Rattle.ec_order.specs.declared.call.Call.{Call}
+use Rattle.ec_order.specs.declared.placed.Placed.{Placed}
+use Rattle.ec_order.specs.declared.begun.Begun.{Begun}
+use Rattle.ec_order.specs.Calls.{call_of_entries, ended_by, finished_calls, is_reading, number_of}
+use Rattle.ec_order.specs.Points.{first_entries, first_moment, point_of, with_point, by_moments}
+use Rattle.ec_order.specs.Scan.{begun_after, begun_left, begun_at, begun_of, call_told, IsTable}
+use Rattle.ec_order.specs.Index.{point_in, IsIndex}
+use Rattle.ec_order.specs.Walk.{is_alone, reads, readings, readings_by_points, PutsIn}
+use Rattle.ec_order.proofs.Points.{first_next}
+use Rattle.ec_order.proofs.Ends.{Ends, ends}
+use Rattle.ec_order.proofs.Fits.{Fits, all_fit, point_bounds}
+use Rattle.ec_order.proofs.Scanning.{prefix_more, prefix_accepted, prefix_long, scanned}
+use Rattle.ec_order.proofs.Indexing.{IsIndexed}
+use Rattle.ec_order.proofs.Reaching.{placed_is}
+use Rattle.ec_order.proofs.Walking.{alone_from}
+use Rattle.ec_order.proofs.Inserting.{inserted}
+
+-- A POINT STAYS
+
+first_moment_agree : (f g : ℕ → Bool) (k n : ℕ) → ((j : ℕ) → k ≤ j → j < k + n → f j ≡ g j) → first_moment f k n ≡ first_moment g k n
+unfolding first_moment
+first_moment_agree f g k zero h = refl
+first_moment_agree f g k (suc n) h =
+    ap (λ b. cond b k (first_moment f (k + 1) n)) (h k (omega arith) (omega arith))
+    ∙ ap (λ z. cond (g k) k z) (first_moment_agree f g (k + 1) n (λ j a b. h j (omega arith) (omega arith)))
+
+point_later : (x : Entry) (past : List Entry) (c : Call) → Fits past c → point_of (x ∷ past) c ≡ point_of past c
+point_later x past c f =
+    let e = event_or c.op in
+    let order : c.round ≤ c.last = f.round in
+    let last : c.last < length past = f.last in
+    ap (λ k. cond (is_reading c.op) k c.last)
+    (first_moment_agree (λ k. total e (first_entries k (x ∷ past)) == number_of c.reply) (λ k. total e (first_entries k past) == number_of c.reply) c.round (c.last - c.round)
+    (λ j a b. ap (λ p. total e p == number_of c.reply) (first_next j x past (omega arith))))
+
+placed_later : (x : Entry) (past : List Entry) (cs : List Call) → All (Fits past) cs → map (with_point (x ∷ past)) cs ≡ map (with_point past) cs
+placed_later x past [] h = refl
+placed_later x past (c ∷ cs) h =
+    let at : ℕ → Placed = λ k. record { call = c; point = k } in
+    ap (λ k. at k ∷ map (with_point (x ∷ past)) cs) (point_later x past c (All-head (Fits past) c cs h))
+    ∙ ap (λ ps. with_point past c ∷ ps) (placed_later x past cs (All-tail (Fits past) c cs h))
+
+-- WHAT AN ENTRY ADDS
+
+added : (t : Tables) (x : Entry) (past : List Entry) → IsDeclared t → IsAccepted t (x ∷ past)
+    → readings t (x ∷ past) ≡ readings t past ++ filter reads (map (with_point (x ∷ past)) (ended_by t x (gone_on x.act past (under_way x.worker past))))
+unfolding finished_calls
+added t x past d acc =
+    let f = with_point (x ∷ past) in
+    let cs = finished_calls t past in
+    let more = ended_by t x (gone_on x.act past (under_way x.worker past)) in
+    ap (filter reads) (map-append f cs more) ∙ filter-append reads (map f cs) (map f more)
+    ∙ ap (λ ps. filter reads ps ++ filter reads (map f more)) (placed_later x past cs (all_fit t past d acc.1))
+
+-- a call by itself is none of them
+alone_adds : (t : Tables) (x : Entry) (past whole : List Entry) → is_alone x.act ≡ true → Ends t x past (under_way x.worker past)
+    → filter reads (map (with_point whole) (ended_by t x (gone_on x.act past (under_way x.worker past)))) ≡ []
+alone_adds t x past whole alone (inl n) = (let other : is_alone x.act ≡ false = n.goes_on in cc)
+alone_adds t x past whole alone (inr (inl r)) = (let other : is_alone x.act ≡ false = r.goes_on in cc)
+alone_adds t x past whole alone (inr (inr a)) =
+    let p = with_point whole (call_of_entries t x x.act (past ∷ [])) in
+    ap (λ cs. filter reads (map (with_point whole) cs)) a.is ∙ ap (λ b. cond b (p ∷ []) []) a.acting
+
+-- what any other entry ends is one
+others_read : (t : Tables) (x : Entry) (past : List Entry) → is_alone x.act ≡ false → Ends t x past (under_way x.worker past)
+    → All (λ (c : Call). is_reading c.op ≡ true) (ended_by t x (gone_on x.act past (under_way x.worker past)))
+others_read t x past other (inl n) = rw n.is (All-nil (λ (c : Call). is_reading c.op ≡ true))
+others_read t x past other (inr (inl r)) = rw r.is (All-cons (λ (c : Call). is_reading c.op ≡ true) (call_of_entries t x r.op (past ∷ r.rest)) [] r.reading (All-nil (λ (c : Call). is_reading c.op ≡ true)))
+others_read t x past other (inr (inr a)) = (let alone : is_alone x.act ≡ true = alone_from x.act a.begins a.acting in cc)
+
+-- A CALL BY ITSELF LEAVES THE TABLE
+
+not_some : (o : Option CallSoFar) → is_some o ≡ false → o ≡ None
+not_some None h = refl
+not_some (Some call) h = cc
+
+and_true : (a b : Bool) → (a && not b) ≡ false → b ≡ false → a ≡ false
+and_true true b h is = sym (ap not is) ∙ h
+and_true false b h is = refl
+
+alone_acts : (t : Tables) (x : Entry) (past : List Entry) → is_alone x.act ≡ true → Ends t x past (under_way x.worker past) → (is_pending x.reply ≡ false) × (is_go x.act ≡ false)
+alone_acts t x past alone (inl n) = (let other : is_alone x.act ≡ false = n.goes_on in cc)
+alone_acts t x past alone (inr (inl r)) = (let other : is_alone x.act ≡ false = r.goes_on in cc)
+alone_acts t x past alone (inr (inr a)) = (a.final, a.begins)
+
+alone_leaves : (t : Tables) (x : Entry) (past : List Entry) (w : ℕ) → IsDeclared t → IsAccepted t (x ∷ past) → is_alone x.act ≡ true → under_way w (x ∷ past) ≡ under_way w past
+unfolding under_way
+alone_leaves t x past w d acc alone =
+    let k = allowed t past x.worker x.act x.reply acc.0 in
+    let act = alone_acts t x past alone (ends t x past d acc) in
+    let none : under_way x.worker past ≡ None = not_some (under_way x.worker past) (and_true (is_some (under_way x.worker past)) (is_go x.act) k.0.free act.1) in
+    elim (x.worker == w) as (λ b. (x.worker == w) ≡ b → cond b (cond (is_pending x.reply) (gone_on x.act past (under_way w past)) None) (under_way w past) ≡ under_way w past) [
+      | true ↦ λ e. ap (λ b. cond b (gone_on x.act past (under_way w past)) None) act.0 ∙ sym none ∙ ap (λ v. under_way v past) (eqb-true x.worker w e)
+      | false ↦ λ e. refl
+    ] refl
+
+-- THE SCAN
+
+by_moments_none : (n : ℕ) → by_moments [] n ≡ []
+unfolding by_moments
+by_moments_none zero = refl
+by_moments_none (suc n) = ap (λ ps. ps ++ []) (by_moments_none n)
+
+-- what is so after the scan of the first i entries
+pub record IsGathered (t : Tables) (h : List Entry) (i : ℕ) (table : List (Option Begun)) (lists : List (Vec ℕ Global)) (ps : List Placed) : Type 0 where
+  pub kept : IsTable t (reverse (take i h)) table
+  pub long : length table ≡ 16
+  pub index : IsIndexed h i lists
+  pub gathered : ps ≡ by_moments (readings t (reverse (take i h))) (length h)
+
+pub gathered_start : (t : Tables) (h : List Entry) (table : List (Option Begun)) (lists : List (Vec ℕ Global)) → ((w : ℕ) → w < 16 → slice_get table w ≡ Some None) → length table ≡ 16
+    → IsIndexed h 0 lists → IsGathered t h 0 table lists []
+unfolding finished_calls under_way
+gathered_start t h table lists empty long index = record { kept = empty; long = long; index = index; gathered = sym (by_moments_none (length h)) }
+
+-- the scan of one call by itself
+pub gathered_alone : (t : Tables) (h : List Entry) (i : ℕ) (x : Entry) (table : List (Option Begun)) (lists lists' : List (Vec ℕ Global)) (ps : List Placed) → IsDeclared t → IsAccepted t (reverse h)
+    → Some x ≡ slice_get h i → is_alone x.act ≡ true → IsIndexed h (i + 1) lists' → IsGathered t h i table lists ps → IsGathered t h (i + 1) table lists' ps
+gathered_alone t h i x table lists lists' ps d acc at alone index s =
+    let past = reverse (take i h) in
+    let more : reverse (take (i + 1) h) ≡ x ∷ past = prefix_more h i x (sym at) in
+    let acc' : IsAccepted t (x ∷ past) = subst (IsAccepted t) more (prefix_accepted t h (i + 1) acc) in
+    let same : readings t (reverse (take (i + 1) h)) ≡ readings t past =
+    ap (readings t) more ∙ added t x past d acc' ∙ ap (λ qs. readings t past ++ qs) (alone_adds t x past (x ∷ past) alone (ends t x past d acc')) ∙ append-nil (readings t past) in
+    record {
+      kept = λ w lt. s.kept w lt ∙ ap (λ o. Some (option_map (begun_of t) o)) (sym (ap (under_way w) more ∙ alone_leaves t x past w d acc' alone));
+      long = s.long;
+      index = index;
+      gathered = s.gathered ∙ ap (λ qs. by_moments qs (length h)) (sym same);
+    }
+
+-- the scan of one entry of a read or an await
+record Goes (t : Tables) (h : List Entry) (i : ℕ) (x : Entry) (told : Option Call) (table' : List (Option Begun)) : Type 0 where
+  pub accepted : IsAccepted t (x ∷ reverse (take i h))
+  pub ended : ended_by t x (gone_on x.act (reverse (take i h)) (under_way x.worker (reverse (take i h)))) ≡ option_to_list told
+  pub kept : IsTable t (reverse (take (i + 1) h)) table'
+  pub long : length table' ≡ 16
+
+goes : (t u : Tables) (h : List Entry) (i : ℕ) (x : Entry) (told : Option Call) (table table' : List (Option Begun)) (lists : List (Vec ℕ Global)) (ps : List Placed) → IsDeclared t → IsAccepted t (reverse h)
+    → Some x ≡ slice_get h i → x.worker < 16 → IsGathered t h i table lists ps → u ≡ t
+    → told ≡ call_told x i (begun_after x.act (begun_at table x.worker) i) → table' ≡ slice_set table x.worker (begun_left u x.reply (begun_after x.act (begun_at table x.worker) i))
+    → Goes t h i x told table'
+unfolding finished_calls
+goes t u h i x told table table' lists ps d acc at small s same is left =
+    let past = reverse (take i h) in
+    let more : reverse (take (i + 1) h) ≡ x ∷ past = prefix_more h i x (sym at) in
+    let k = scanned t u h i x told (finished_calls t past) (finished_calls t past ++ option_to_list told) table table' d acc at small (record { calls = refl; kept = s.kept; long = s.long }) same is left refl in
+    record {
+      accepted = subst (IsAccepted t) more (prefix_accepted t h (i + 1) acc);
+      ended = append_cancel_left (finished_calls t past) (ended_by t x (gone_on x.act past (under_way x.worker past))) (option_to_list told) (sym (ap (finished_calls t) more) ∙ sym k.calls);
+      kept = k.kept;
+      long = k.long;
+    }
+
+-- where it ends none
+pub gathered_none : (t u : Tables) (h : List Entry) (i : ℕ) (x : Entry) (table table' : List (Option Begun)) (lists lists' : List (Vec ℕ Global)) (ps : List Placed) → IsDeclared t → IsAccepted t (reverse h)
+    → Some x ≡ slice_get h i → x.worker < 16 → IsIndexed h (i + 1) lists' → IsGathered t h i table lists ps → u ≡ t
+    → None ≡ call_told x i (begun_after x.act (begun_at table x.worker) i) → table' ≡ slice_set table x.worker (begun_left u x.reply (begun_after x.act (begun_at table x.worker) i))
+    → IsGathered t h (i + 1) table' lists' ps
+gathered_none t u h i x table table' lists lists' ps d acc at small index s same is left =
+    let past = reverse (take i h) in
+    let more : reverse (take (i + 1) h) ≡ x ∷ past = prefix_more h i x (sym at) in
+    let g = goes t u h i x None table table' lists ps d acc at small s same is left in
+    let none : readings t (reverse (take (i + 1) h)) ≡ readings t past =
+    ap (readings t) more ∙ added t x past d g.accepted ∙ ap (λ cs. readings t past ++ filter reads (map (with_point (x ∷ past)) cs)) g.ended ∙ append-nil (readings t past) in
+    record { kept = g.kept; long = g.long; index = index; gathered = s.gathered ∙ ap (λ qs. by_moments qs (length h)) (sym none) }
+
+-- where it ends one
+pub gathered_one : (t u : Tables) (h : List Entry) (i : ℕ) (x : Entry) (c : Call) (table table' : List (Option Begun)) (lists lists' ls : List (Vec ℕ Global)) (k : ℕ) (ps ps' : List Placed) → IsDeclared t → IsAccepted t (reverse h)
+    → Some x ≡ slice_get h i → is_alone x.act ≡ false → x.worker < 16 → IsIndexed h (i + 1) lists' → IsGathered t h i table lists ps → u ≡ t
+    → Some c ≡ call_told x i (begun_after x.act (begun_at table x.worker) i) → table' ≡ slice_set table x.worker (begun_left u x.reply (begun_after x.act (begun_at table x.worker) i))
+    → ls ≡ lists' → k ≡ point_in ls c → PutsIn ps ps' (record { call = c; point = k }) → IsGathered t h (i + 1) table' lists' ps'
+unfolding finished_calls
+gathered_one t u h i x c table table' lists lists' ls k ps ps' d acc at other small index s same is left here there puts =
+    let past = reverse (take i h) in
+    let more : reverse (take (i + 1) h) ≡ x ∷ past = prefix_more h i x (sym at) in
+    let g = goes t u h i x (Some c) table table' lists ps d acc at small s same is left in
+    let reading : is_reading c.op ≡ true = All-head (λ (c : Call). is_reading c.op ≡ true) c [] (subst (All (λ (c : Call). is_reading c.op ≡ true)) g.ended (others_read t x past other (ends t x past d g.accepted))) in
+    let known : Contains (finished_calls t (x ∷ past)) c =
+    Contains-append_right (finished_calls t past) (ended_by t x (gone_on x.act past (under_way x.worker past))) c (subst (λ cs. Contains cs c) (sym g.ended) (zero, omega arith, refl)) in
+    let fits : Fits (x ∷ past) c = All-contains (Fits (x ∷ past)) (finished_calls t (x ∷ past)) c (all_fit t (x ∷ past) d g.accepted) known in
+    let p = with_point (x ∷ past) c in
+    let one_at : ℕ → Placed = λ j. record { call = c; point = j } in
+    let placed : one_at k ≡ p = ap one_at (there ∙ ap (λ zs. point_in zs c) here) ∙ placed_is (x ∷ past) lists' c (subst (λ q. IsIndex q lists') more index.index) fits in
+    let one : readings t (reverse (take (i + 1) h)) ≡ readings t past ++ p ∷ [] =
+    ap (readings t) more ∙ added t x past d g.accepted ∙ ap (λ cs. readings t past ++ filter reads (map (with_point (x ∷ past)) cs)) g.ended ∙ ap (λ b. readings t past ++ cond b (p ∷ []) []) reading in
+    let in' : i < length h = slice_get_within h i x (sym at) in
+    let long : i ≡ length past = prefix_long h i x (sym at) in
+    let low : p.point < length h = (let below : point_of (x ∷ past) c < suc (length past) = (point_bounds (x ∷ past) c fits).2 in omega arith) in
+    let puts' : PutsIn ps ps' p = subst (PutsIn ps ps') placed puts in
+    record {
+      kept = g.kept;
+      long = g.long;
+      index = index;
+      gathered = puts'.is ∙ inserted (readings t past) ps p (length h) puts'.at (filter_passes reads (map (with_point past) (finished_calls t past))) reading low s.gathered puts'.place
+          ∙ ap (λ qs. by_moments qs (length h)) (sym one);
+    }
+
+-- at the end of the history
+pub gathered_all : (t : Tables) (h : List Entry) (i : ℕ) (table : List (Option Begun)) (lists : List (Vec ℕ Global)) (ps : List Placed) → IsGathered t h i table lists ps → length h ≤ i
+    → ps ≡ readings_by_points t (reverse h)
+gathered_all t h i table lists ps s le =
+    s.gathered ∙ ap (λ g. by_moments (readings t (reverse g)) (length h)) (take_all i h le) ∙ ap (by_moments (readings t (reverse h))) (sym (length-reverse h))

@@ -1,0 +1,109 @@
+//! The finished calls of a run by their points, one after another.
+ghost use Rattle.std.specs.Prelude.{◌≡◌, ◌≤◌, ◌<◌, ◌+◌, ◌∷◌, drop, reverse, slice_get, IfOk, MatchOption};
+ghost use Rattle.std.specs.Option.{option_to_list};
+ghost use Rattle.ec_core.specs.declared.act.Entry.{Entry};
+ghost use Rattle.ec_order.specs.Points.{ordered_by_points};
+ghost use Rattle.ec_order.specs.Walk.{own_calls, readings_by_points};
+
+use crate::gather::{is_alone, readings_by_points};
+use crate::{Call, OrderFault, Placed};
+use ec_core::{Entries, Entry, Run};
+use std::alloc::Global;
+use std::marker::Model;
+
+/// The finished calls of a run by their points, one after another. Of them it holds the reads and awaits alone: the
+/// others are read off the entries as it comes to them. A contract sees it as the list of those that are left.
+#[derive(Drop)]
+pub struct InOrder<'a> {
+    entries: Entries<'a>,
+    position: usize,
+    readings: Vec<Placed>,
+    given: usize,
+}
+
+impl<'a> Model for InOrder<'a> {
+    ghost use Rattle.std.specs.Prelude.{List, ◌+◌, ◌<◌, ◌^◌, length, drop};
+    ghost use Rattle.ec_order.specs.declared.placed.Placed.{Placed};
+    ghost use Rattle.ec_order.specs.Walk.{walk};
+
+    ghost Value = { List Placed };
+
+    ghost view = { λ s. walk s.position s.entries (drop s.given s.readings.items) };
+
+    ghost invariant = { λ s. s.position + length s.entries < 2 ^ 64 };
+}
+
+/// The read or await that comes next, if its point is not after a moment.
+fn due(readings: &[Placed], given: usize, moment: usize) -> Option<Placed>
+    ensures { MatchOption result
+        ((p : Placed) → slice_get readings.now given ≡ Some p → moment < p.point)
+        (λ p. (slice_get readings.now given ≡ Some p) × (p.point ≤ moment)) }
+{
+    match readings.get(given) {
+        Some(placed) if placed.point <= moment => Some(*placed),
+        _ => None,
+    }
+}
+
+/// The call that an entry is by itself, if it is one.
+fn own_call(entry: &Entry, position: usize) -> Option<Placed>
+    ensures { option_to_list result ≡ own_calls position entry.now }
+{
+    if !is_alone(entry.act) {
+        return None;
+    }
+    let call = Call {
+        worker: entry.worker,
+        op: entry.act,
+        reply: entry.reply,
+        first: position,
+        round: position,
+        last: position,
+    };
+    Some(Placed {
+        call,
+        point: position,
+    })
+}
+
+impl<'a> Iterator for InOrder<'a> {
+    ghost use Rattle.std.specs.Iterator.{YieldsFirst, item_count};
+
+    type Item = Placed;
+
+    ghost next_gives = { YieldsFirst (λ s. s) };
+
+    ghost remaining = { item_count (λ s. s) };
+
+    fn next(&mut self) -> Option<Placed> {
+        loop {
+            if let Some(placed) = due(&self.readings, self.given, self.position) {
+                self.given += 1;
+                return Some(placed);
+            }
+            let position = self.position;
+            let Some(entry) = self.entries.next() else {
+                return None;
+            };
+            self.position += 1;
+            if let Some(placed) = own_call(&entry, position) {
+                return Some(placed);
+            }
+        }
+    }
+}
+
+/// The finished calls of a run by their points, as `order` lists them, one after another. It wants memory for the reads
+/// and awaits alone. The run is as before, with want of memory too.
+pub fn in_order(alloc: Global, run: &Run) -> Result<InOrder<'_>, OrderFault>
+    ensures { IfOk result (λ calls. calls ≡ ordered_by_points run.now.setup (reverse run.now.entries)) }
+{
+    run.known();
+    let readings = readings_by_points(alloc, run)?;
+    Ok(InOrder {
+        entries: run.entries(),
+        position: 0,
+        readings,
+        given: 0,
+    })
+}

@@ -1,0 +1,11 @@
+pub mod NeverNegative
+pub mod Moments
+pub mod Staying
+pub mod TicketOrder
+pub mod Implying
+pub mod Drawing
+pub mod Lines
+pub mod Counting
+pub mod Smallness
+pub mod Latest
+pub mod Written

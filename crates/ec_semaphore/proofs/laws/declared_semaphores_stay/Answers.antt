@@ -1,0 +1,5 @@
+use Rattle.ec_semaphore.proofs.Staying.{semaphores_stay}
+use Rattle.ec_semaphore.proofs.laws.declared_semaphores_stay.Goals as goal
+
+pub returns : goal.returns
+returns c = semaphores_stay

@@ -1,0 +1,13 @@
+pub mod Shapes
+pub mod Uses
+pub mod Balances
+pub mod Both
+pub mod Pairs
+pub mod Spent
+pub mod DownPlaces
+pub mod BothPlaces
+pub mod Keeping
+pub mod Completing
+pub mod InOrder
+pub mod Joined
+pub mod Laws

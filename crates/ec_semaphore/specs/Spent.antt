@@ -1,0 +1,13 @@
+-- What a procedure keeps of its finished calls.
+use Rattle.std.specs.Prelude.{ℕ}
+use Rattle.ec_core.specs.declared.act.Act.TheVariants.{Go}
+use Rattle.ec_core.specs.declared.act.Reply.TheVariants.{Done, Number}
+use Rattle.ec_core.specs.Following.{Told}
+
+-- one of which nothing is needed any more
+abbrev pub spent : Told
+spent = record { op = Go; reply = Done }
+
+-- one of which the number that it told is needed
+abbrev pub told_number : ℕ → Told
+told_number n = record { op = Go; reply = Number n }

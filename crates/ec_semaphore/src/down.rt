@@ -1,0 +1,85 @@
+//! P on a semaphore.
+ghost use Rattle.std.specs.Prelude.{◌≡◌, ◌≤◌, false, List};
+ghost use Rattle.ec_core.specs.declared.act.TheConstants.{VALUE_MAX};
+ghost use Rattle.ec_core.specs.Following.{Told};
+ghost use Rattle.ec_semaphore.specs.DownPlaces.{ticket_of};
+ghost use Rattle.ec_semaphore.specs.Uses.{threshold, down_call};
+
+use crate::SemaphoreShape;
+use ec_core::{Act, Procedure, Reply, VALUE_MAX};
+
+/// Where a P stands: what it does next.
+#[derive(Clone, Copy, Debug, PartialEq, Eq)]
+enum Place {
+    Draw,
+    Wait { ticket: u64 },
+    Over,
+}
+
+/// P: takes one from a semaphore. It draws a ticket, and waits until enough were given back.
+#[derive(Clone, Copy, Debug, PartialEq, Eq)]
+pub struct Down {
+    shape: SemaphoreShape,
+    place: Place,
+    going: bool,
+    ghost small: { ticket_of place ≤ VALUE_MAX },
+}
+
+impl Down {
+    pub fn new(shape: SemaphoreShape) -> Self
+        ensures whole { (calls : List Told) → ⟦<Down as Procedure>⟧.rest result calls ≡ down_call shape calls }
+        ensures fresh { ⟦<Down as Procedure>⟧.is_going result ≡ false }
+    {
+        Down {
+            shape,
+            place: Place::Draw,
+            going: false,
+        }
+    }
+}
+
+/// The total that a P with this ticket waits for.
+pub(crate) fn threshold(shape: &SemaphoreShape, ticket: u64) -> u64
+    requires { ticket ≤ VALUE_MAX }
+    ensures { result ≡ threshold shape.now ticket }
+{
+    (ticket + 1).saturating_sub(shape.initial())
+}
+
+impl Procedure for Down {
+    ghost use Rattle.ec_semaphore.specs.DownPlaces.{down_rest};
+
+    ghost rest = { λ s calls. down_rest s.shape s.place calls };
+
+    ghost is_going = { λ s. s.going };
+
+    fn next(&self) -> Option<Act> {
+        if self.going {
+            return Some(Act::Go);
+        }
+        match self.place {
+            Place::Draw => Some(Act::Ticket(self.shape.line())),
+            Place::Wait { ticket } => Some(Act::Await(
+                self.shape.count(),
+                threshold(&self.shape, ticket),
+            )),
+            Place::Over => None,
+        }
+    }
+
+    fn take(&mut self, reply: Reply) {
+        let number = match reply {
+            Reply::Pending => {
+                self.going = true;
+                return;
+            }
+            Reply::Done => 0,
+            Reply::Number(number) => number,
+        };
+        self.going = false;
+        self.place = match self.place {
+            Place::Draw => Place::Wait { ticket: number },
+            Place::Wait { .. } | Place::Over => Place::Over,
+        };
+    }
+}

@@ -1,0 +1,124 @@
+//! P on two semaphores at once.
+ghost use Rattle.std.specs.Prelude.{◌≡◌, ◌≢◌, ◌≤◌, false, List, []};
+ghost use Rattle.ec_core.specs.declared.act.TheConstants.{VALUE_MAX};
+ghost use Rattle.ec_core.specs.Following.{Told};
+ghost use Rattle.ec_semaphore.specs.BothPlaces.{first_of, second_of, next_place};
+ghost use Rattle.ec_semaphore.specs.Both.{down_both_call};
+
+use crate::SemaphoreShape;
+use crate::down::threshold;
+use ec_core::{Act, Procedure, Reply, VALUE_MAX};
+
+/// Where a P on two semaphores stands: what it does next.
+#[derive(Clone, Copy, Debug, PartialEq, Eq)]
+enum Place {
+    Line,
+    Enter { turn: u64 },
+    DrawFirst,
+    DrawSecond { first: u64 },
+    Leave { first: u64, second: u64 },
+    WaitFirst { first: u64, second: u64 },
+    WaitSecond { second: u64 },
+    Over,
+}
+
+/// P on two semaphores at once. Both tickets are drawn while it has the common semaphore, so that
+/// all who want the same two stand in one order; then it waits for the one and for the other.
+#[derive(Clone, Copy, Debug, PartialEq, Eq)]
+pub struct DownBoth {
+    common: SemaphoreShape,
+    one: SemaphoreShape,
+    other: SemaphoreShape,
+    place: Place,
+    going: bool,
+    ghost small_first: { first_of place ≤ VALUE_MAX },
+    ghost small_second: { second_of place ≤ VALUE_MAX },
+}
+
+impl DownBoth {
+    /// The three semaphores are different, and the common one has initial value 1, as
+    /// `declare_both` gives it.
+    pub fn new(common: SemaphoreShape, one: SemaphoreShape, other: SemaphoreShape) -> Self
+        requires single { common.initial ≡ 1 }
+        requires apart { (common ≢ one) × (common ≢ other) × (one ≢ other) }
+        ensures whole { (calls : List Told) → ⟦<DownBoth as Procedure>⟧.rest result calls ≡ down_both_call common one other calls }
+        ensures fresh { ⟦<DownBoth as Procedure>⟧.is_going result ≡ false }
+    {
+        DownBoth {
+            common,
+            one,
+            other,
+            place: Place::Line,
+            going: false,
+        }
+    }
+
+    /// The act that is due where no call is under way.
+    fn due(&self) -> Option<Act>
+        ensures { result ≡ ⟦<DownBoth as Procedure>⟧.rest self.now [] }
+    {
+        match self.place {
+            Place::Line => Some(Act::Ticket(self.common.line())),
+            Place::Enter { turn } => Some(Act::Await(self.common.count(), turn)),
+            Place::DrawFirst => Some(Act::Ticket(self.one.line())),
+            Place::DrawSecond { .. } => Some(Act::Ticket(self.other.line())),
+            Place::Leave { .. } => Some(Act::Advance(self.common.count())),
+            Place::WaitFirst { first, .. } => {
+                Some(Act::Await(self.one.count(), threshold(&self.one, first)))
+            }
+            Place::WaitSecond { second } => Some(Act::Await(
+                self.other.count(),
+                threshold(&self.other, second),
+            )),
+            Place::Over => None,
+        }
+    }
+}
+
+/// The place after one where a call told this number; 0 where it told none.
+fn next_place(place: Place, number: u64) -> Place
+    ensures { result ≡ next_place place number }
+{
+    match place {
+        Place::Line => Place::Enter { turn: number },
+        Place::Enter { .. } => Place::DrawFirst,
+        Place::DrawFirst => Place::DrawSecond { first: number },
+        Place::DrawSecond { first } => Place::Leave {
+            first,
+            second: number,
+        },
+        Place::Leave { first, second } => Place::WaitFirst { first, second },
+        Place::WaitFirst { second, .. } => Place::WaitSecond { second },
+        Place::WaitSecond { .. } => Place::Over,
+        Place::Over => Place::Over,
+    }
+}
+
+impl Procedure for DownBoth {
+    ghost use Rattle.ec_semaphore.specs.BothPlaces.{both_rest};
+
+    ghost rest = { λ s calls. both_rest s.common s.one s.other s.place calls };
+
+    ghost is_going = { λ s. s.going };
+
+    fn next(&self) -> Option<Act> {
+        if self.going {
+            Some(Act::Go)
+        } else {
+            self.due()
+        }
+    }
+
+    fn take(&mut self, reply: Reply) {
+        let number = match reply {
+            Reply::Pending => {
+                self.going = true;
+                return;
+            }
+            Reply::Done => 0,
+            Reply::Number(number) => number,
+        };
+        self.going = false;
+        self.place = next_place(self.place, number);
+    }
+}

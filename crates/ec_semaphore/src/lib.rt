@@ -1,0 +1,30 @@
+//! Semaphores of an eventcount and a sequencer, and P on two semaphores at once. The eventcounts
+//! and sequencers are those of D. P. Reed and R. K. Kanodia, "Synchronization with Eventcounts and
+//! Sequencers", CACM 22(2), 1979; the lists of calls are this project's own.
+#![tactic(auto)]
+
+mod balancing;
+mod down;
+mod down_both;
+mod guarded;
+mod laws;
+mod pair;
+mod pairing;
+mod parts;
+mod shape;
+mod up;
+mod uses;
+
+pub use balancing::balance;
+pub use down::Down;
+pub use down_both::DownBoth;
+pub use laws::{
+    balances_are_never_negative, both_is_followed_as_a_semaphore, declared_semaphores_stay,
+    downs_count_finished_waits, following_both_means_guarded_parts, following_means_uses,
+    pairs_are_drawn, procedures_ask_for_whole_lists, tickets_agree,
+};
+pub use pair::Pair;
+pub use pairing::pairs;
+pub use parts::Balance;
+pub use shape::{INITIAL_MAX, SemaphoreShape, declare_both, declare_semaphore};
+pub use up::Up;

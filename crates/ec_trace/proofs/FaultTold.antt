@@ -1,0 +1,35 @@
+-- The first faulty line of a text gives its fault.
+use Rattle.std.proofs.Common.{◌≡◌, ◌≢◌, ℕ, ◌+◌, ◌<◌, ◌≤◌, List, [], ◌∷◌, ◌++◌, length, take, false, ltb, refl, sym, ap, ◌∙◌, arith, Err, append-nil, le-ltb, inl, inr, ◌⊎◌}
+use Rattle.std.specs.List.{All}
+use Rattle.ec_trace.specs.declared.fault.LineFault.{LineFault}
+use Rattle.ec_trace.specs.declared.fault.LineFault.TheVariants.{Bad}
+use Rattle.ec_trace.specs.declared.stage.Stage.{Stage}
+use Rattle.ec_trace.specs.declared.stage.Stage.TheVariants.{Opening}
+use Rattle.ec_trace.specs.declared.read.TheConstants.{TRACE_MAX}
+use Rattle.ec_trace.specs.Spelling.{text_of}
+use Rattle.ec_trace.specs.Outcome.{goes, goes_from, parts_of, numbered, start, outcome, bounded}
+use Rattle.ec_trace.specs.FirstFault.{IsTooLong, IsBehindTheEnd, IsRefusedThere, IsFirstFault, FirstFaultIsTold}
+use Rattle.ec_trace.proofs.Goes.{goes_line, goes_long, goes_after_end}
+use Rattle.ec_trace.proofs.Leads.{goes_lines}
+
+-- at the faulty line
+at_fault : (n : ℕ) (s : Stage) (line behind : List ℕ) (f : LineFault) → All (λ b. b ≢ 10) line → IsTooLong line f ⊎ (IsBehindTheEnd s line behind f ⊎ IsRefusedThere s line behind f) → goes n s (parts_of (line ++ behind)) ≡ Err (numbered n f)
+at_fault n s line behind f clean (inl long) = goes_long n s line behind clean long.0 ∙ ap (λ (g : LineFault). Err (numbered n g)) (sym long.1)
+at_fault n s line behind f clean (inr (inl h)) =
+    goes_after_end n s line behind clean h.1 h.2 ∙ ap (λ (g : LineFault). Err (numbered n g)) (sym h.3)
+at_fault n s line behind f clean (inr (inr h)) =
+    let l : ltb 8192 (length line) ≡ false = le-ltb _ _ h.0 in
+    ap (λ (r : List ℕ). goes n s (parts_of (line ++ r))) h.2 ∙ goes_line n s line h.1 clean ∙ rw (l, h.3) refl
+
+text_told : (text : List ℕ) (n : ℕ) (f : LineFault) → IsFirstFault text n f → goes_from start text ≡ Err (numbered n f)
+unfolding start
+text_told text n f h =
+    let k : 1 + length h.before ≡ n = omega (arith, h.number) in
+    ap (λ (t : List ℕ). goes 1 Opening (parts_of t)) h.whole
+    ∙ goes_lines 1 Opening h.stage h.before (h.line ++ h.behind) h.each h.leads
+    ∙ at_fault (1 + length h.before) h.stage h.line h.behind f h.no_lf h.why
+    ∙ ap (λ m. Err (numbered m f)) k
+
+pub first_fault_is_told : FirstFaultIsTold
+unfolding outcome
+first_fault_is_told bytes n f h = ap (bounded TRACE_MAX bytes) (text_told (take TRACE_MAX bytes) n f h)

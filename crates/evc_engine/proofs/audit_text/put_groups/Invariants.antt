@@ -1,0 +1,10 @@
+use Rattle.std.proofs.Common.{take}
+use Rattle.ec_text.specs.Puts.{Puts}
+use Rattle.ec_trace.specs.Spelling.{text_of}
+use Rattle.evc_engine.specs.AuditTexts.{groups_lines}
+use Rattle.evc_engine.proofs.audit_text.put_groups.Given as goal
+
+-- the lines so far
+abbrev pub invariant-loop-i : goal.invariant-loop-i
+invariant-loop-i g l =
+    Puts (g.W.Write.contents l.initial.out) l.initial.table (g.W.Write.contents l.out) l.table (text_of (groups_lines l.heading 0 (take l.i l.found)))

@@ -1,0 +1,11 @@
+use Rattle.std.proofs.Common.{map, take}
+use Rattle.ec_database.specs.Auditing.{shown}
+use Rattle.ec_text.specs.Puts.{Puts}
+use Rattle.ec_trace.specs.Spelling.{text_of}
+use Rattle.evc_engine.specs.AuditTexts.{version_line}
+use Rattle.evc_engine.proofs.audit_text.put_versions.Given as goal
+
+-- the lines so far
+abbrev pub invariant-loop-accepted : goal.invariant-loop-accepted
+invariant-loop-accepted g l =
+    Puts (g.W.Write.contents l.initial.out) l.initial.table (g.W.Write.contents l.out) l.table (text_of (map (λ a. version_line l.spellings l.name (shown a)) (take l.accepted-index l.list)))

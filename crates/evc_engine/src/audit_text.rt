@@ -1,0 +1,303 @@
+//! The text that `audit` writes.
+ghost use Rattle.std.specs.Prelude.{◌≡◌, ◌∷◌, [], ◌++◌, ◌+◌, ◌^◌, ◌<◌, length, OnOk, OnErr, decimal, map};
+ghost use Rattle.std.specs.Io.KnownBytes.{Appends};
+ghost use Rattle.ec_database.specs.Auditing.{shown};
+ghost use Rattle.ec_text.specs.Puts.{Puts, AppendsPrefix};
+ghost use Rattle.ec_trace.specs.Spelling.{text_of};
+ghost use Rattle.evc_engine.specs.AuditTexts.{spaced, delivered_words, delivery_line, spaced_numbers, version_words, version_line, balance_words, balance_line, ticket_words, pair_line, group_word, is_line_of, semaphore_word, audited_lines, groups_lines, audit_text};
+
+use crate::audited::Audited;
+use ec_buffer::Delivery;
+use ec_count::{Names, SeqId, Target};
+use ec_database::Accepted;
+use ec_semaphore::{Balance, Pair};
+use ec_text::{Buffered, WriteFault, finish, put, put_number};
+use ec_trace::{Group, Heading, Spellings};
+use std::io::Write;
+
+/// Puts a word behind a space.
+fn put_spaced<W: Write>(out: &mut W, table: &mut Buffered, word: &[u8])
+    ensures { Puts (W.contents out.old) table.old (W.contents out.new) table.new (spaced word.now) }
+{
+    put(out, table, b" ");
+    put(out, table, word);
+}
+
+/// Puts a number behind a space.
+fn put_spaced_number<W: Write>(out: &mut W, table: &mut Buffered, n: u64)
+    ensures { Puts (W.contents out.old) table.old (W.contents out.new) table.new (spaced (decimal n)) }
+{
+    put(out, table, b" ");
+    put_number(out, table, n);
+}
+
+/// Puts what follows the name in the line of a delivery.
+fn put_delivered<W: Write>(
+    out: &mut W,
+    table: &mut Buffered,
+    spellings: &Spellings<'_>,
+    delivery: &Delivery,
+)
+    ensures { Puts (W.contents out.old) table.old (W.contents out.new) table.new (delivered_words spellings.now delivery.now) }
+{
+    put_spaced_number(out, table, delivery.number);
+    put_spaced(out, table, spellings.worker(delivery.producer));
+    put_spaced(out, table, spellings.worker(delivery.consumer));
+    put_spaced_number(out, table, delivery.item);
+}
+
+/// Puts the line of a delivery.
+fn put_delivery<W: Write>(
+    out: &mut W,
+    table: &mut Buffered,
+    spellings: &Spellings<'_>,
+    name: &[u8],
+    delivery: &Delivery,
+)
+    ensures { Puts (W.contents out.old) table.old (W.contents out.new) table.new (delivery_line spellings.now name.now delivery.now ++ 10 ∷ []) }
+{
+    put(out, table, b"delivery ");
+    put(out, table, name);
+    put_delivered(out, table, spellings, delivery);
+    put(out, table, b"\n");
+}
+
+/// Puts numbers, each behind a space.
+fn put_spaced_numbers<W: Write>(out: &mut W, table: &mut Buffered, numbers: &[u64])
+    ensures { Puts (W.contents out.old) table.old (W.contents out.new) table.new (spaced_numbers numbers.now) }
+{
+    if let [first, rest @ ..] = numbers {
+        put_spaced_number(out, table, *first);
+        put_spaced_numbers(out, table, rest);
+    }
+}
+
+/// Puts the line of an accepting try.
+fn put_version<W: Write>(
+    out: &mut W,
+    table: &mut Buffered,
+    spellings: &Spellings<'_>,
+    name: &[u8],
+    accepted: &Accepted,
+)
+    ensures { Puts (W.contents out.old) table.old (W.contents out.new) table.new (version_line spellings.now name.now (shown accepted.now) ++ 10 ∷ []) }
+{
+    put(out, table, b"version ");
+    put(out, table, name);
+    put_accepted(out, table, spellings, accepted);
+    put(out, table, b"\n");
+}
+
+/// Puts what follows the name in the line of an accepting try.
+fn put_accepted<W: Write>(
+    out: &mut W,
+    table: &mut Buffered,
+    spellings: &Spellings<'_>,
+    accepted: &Accepted,
+)
+    ensures { Puts (W.contents out.old) table.old (W.contents out.new) table.new (version_words spellings.now (shown accepted.now)) }
+{
+    put_spaced_number(out, table, accepted.version);
+    put_spaced(out, table, spellings.worker(accepted.worker));
+    put_spaced_numbers(out, table, accepted.values.as_slice());
+}
+
+/// Puts what follows the name in the line of a balance.
+fn put_parts<W: Write>(out: &mut W, table: &mut Buffered, balance: &Balance, now: u64)
+    ensures { Puts (W.contents out.old) table.old (W.contents out.new) table.new (balance_words balance.now now) }
+{
+    put_spaced_number(out, table, balance.initial);
+    put_spaced_number(out, table, balance.downs);
+    put_spaced_number(out, table, balance.ups);
+    put_spaced_number(out, table, now);
+}
+
+/// Puts the line of a balance.
+fn put_balance<W: Write>(
+    out: &mut W,
+    table: &mut Buffered,
+    name: &[u8],
+    balance: &Balance,
+    now: u64,
+)
+    ensures { Puts (W.contents out.old) table.old (W.contents out.new) table.new (balance_line name.now balance.now now ++ 10 ∷ []) }
+{
+    put(out, table, b"balance ");
+    put(out, table, name);
+    put_parts(out, table, balance, now);
+    put(out, table, b"\n");
+}
+
+/// Puts a ticket behind the name of its semaphore.
+fn put_ticket<W: Write>(out: &mut W, table: &mut Buffered, semaphore: &[u8], ticket: u64)
+    ensures { Puts (W.contents out.old) table.old (W.contents out.new) table.new (ticket_words semaphore.now ticket) }
+{
+    put_spaced(out, table, semaphore);
+    put_spaced_number(out, table, ticket);
+}
+
+/// The name of a group; the one without a name is `both`.
+pub(crate) fn group_word(names: &Names, group: usize) -> &[u8]
+    ensures { result.now ≡ group_word names.now group }
+{
+    match names.name_of(Target::Group(group)) {
+        Some(name) => name.as_bytes(),
+        None => b"both".as_slice(),
+    }
+}
+
+/// Whether a group is the semaphore of this sequencer.
+fn is_line_of(sequencer: SeqId, group: &Group) -> bool
+    ensures { result ≡ is_line_of sequencer group.now }
+{
+    match group {
+        Group::Semaphore(shape) => shape.line() == sequencer,
+        _ => false,
+    }
+}
+
+/// The name of the semaphore of a sequencer, of no bytes where none of the groups, which are
+/// numbered from `from` on, is one.
+#[tactic(auto, unfolding(crate::specs::AuditTexts::semaphore_word))]
+fn semaphore_word<'a>(names: &'a Names, from: usize, groups: &[Group], sequencer: SeqId) -> &'a [u8]
+    requires { from + length groups.now < 2 ^ 64 }
+    ensures { result.now ≡ semaphore_word names.now from groups.now sequencer }
+{
+    let [group, rest @ ..] = groups else {
+        return b"".as_slice();
+    };
+    if is_line_of(sequencer, group) {
+        return group_word(names, from);
+    }
+    semaphore_word(names, from + 1, rest, sequencer)
+}
+
+/// Puts the line of a pair of tickets.
+fn put_pair<W: Write>(
+    out: &mut W,
+    table: &mut Buffered,
+    heading: &Heading,
+    spellings: &Spellings<'_>,
+    pair: &Pair,
+)
+    ensures { Puts (W.contents out.old) table.old (W.contents out.new) table.new (pair_line spellings.now (semaphore_word heading.now.names 0 heading.now.groups) pair.now ++ 10 ∷ []) }
+{
+    let first = semaphore_word(heading.names(), 0, heading.groups(), pair.first);
+    let second = semaphore_word(heading.names(), 0, heading.groups(), pair.second);
+    put(out, table, b"pair");
+    put_spaced(out, table, spellings.worker(pair.worker));
+    put_ticket(out, table, first, pair.first_ticket);
+    put_ticket(out, table, second, pair.second_ticket);
+    put(out, table, b"\n");
+}
+
+/// Puts the lines of deliveries.
+fn put_deliveries<W: Write>(
+    out: &mut W,
+    table: &mut Buffered,
+    spellings: &Spellings<'_>,
+    name: &[u8],
+    list: &[Delivery],
+)
+    ensures { Puts (W.contents out.old) table.old (W.contents out.new) table.new (text_of (map (delivery_line spellings.now name.now) list.now)) }
+{
+    for delivery in list {
+        put_delivery(out, table, spellings, name, delivery);
+    }
+}
+
+/// Puts the lines of accepting tries.
+fn put_versions<W: Write>(
+    out: &mut W,
+    table: &mut Buffered,
+    spellings: &Spellings<'_>,
+    name: &[u8],
+    list: &[Accepted],
+)
+    ensures { Puts (W.contents out.old) table.old (W.contents out.new) table.new (text_of (map (λ a. version_line spellings.now name.now (shown a)) list.now)) }
+{
+    for accepted in list {
+        put_version(out, table, spellings, name, accepted);
+    }
+}
+
+/// Puts the lines of pairs.
+fn put_pairs<W: Write>(
+    out: &mut W,
+    table: &mut Buffered,
+    heading: &Heading,
+    spellings: &Spellings<'_>,
+    list: &[Pair],
+)
+    ensures { Puts (W.contents out.old) table.old (W.contents out.new) table.new (text_of (map (pair_line spellings.now (semaphore_word heading.now.names 0 heading.now.groups)) list.now)) }
+{
+    for pair in list {
+        put_pair(out, table, heading, spellings, pair);
+    }
+}
+
+/// Puts the lines of what the audit of a group found.
+fn put_audited<W: Write>(
+    out: &mut W,
+    table: &mut Buffered,
+    heading: &Heading,
+    spellings: &Spellings<'_>,
+    name: &[u8],
+    audited: &Audited,
+)
+    requires { spellings.now ≡ heading.now.words }
+    ensures { Puts (W.contents out.old) table.old (W.contents out.new) table.new (text_of (audited_lines heading.now name.now audited.now)) }
+{
+    match audited {
+        Audited::Deliveries(list) => {
+            put_deliveries(out, table, spellings, name, list.as_slice());
+        }
+        Audited::Versions(list) => put_versions(out, table, spellings, name, list.as_slice()),
+        Audited::Balances(balance, now) => put_balance(out, table, name, balance, *now),
+        Audited::Pairs(balance, now, list) => {
+            put_balance(out, table, name, balance, *now);
+            put_pairs(out, table, heading, spellings, list.as_slice());
+        }
+    }
+}
+
+/// Puts what the audits of the groups found, in order.
+fn put_groups<W: Write>(
+    out: &mut W,
+    table: &mut Buffered,
+    heading: &Heading,
+    spellings: &Spellings<'_>,
+    found: &[Audited],
+)
+    requires { spellings.now ≡ heading.now.words }
+    ensures { Puts (W.contents out.old) table.old (W.contents out.new) table.new (text_of (groups_lines heading.now 0 found.now)) }
+{
+    for i in 0..found.len() {
+        let name = group_word(heading.names(), i);
+        put_audited(out, table, heading, spellings, name, &found[i]);
+    }
+}
+
+/// Puts the whole text.
+fn put_audit<W: Write>(out: &mut W, table: &mut Buffered, heading: &Heading, found: &[Audited])
+    ensures { Puts (W.contents out.old) table.old (W.contents out.new) table.new (audit_text heading.now found.now) }
+{
+    let spellings = Spellings::new(heading.words());
+    put(out, table, b"evc-audit 1\n");
+    put_groups(out, table, heading, &spellings, found);
+    put(out, table, b"end\n");
+}
+
+/// Writes the text, or a front of it.
+pub fn write_audit<W: Write>(
+    out: &mut W,
+    heading: &Heading,
+    found: &[Audited],
+) -> Result<(), WriteFault>
+    ensures ok { OnOk result (Appends (W.contents out.old) (W.contents out.new) (audit_text heading.now found.now)) }
+    ensures err { OnErr result (AppendsPrefix (W.contents out.old) (W.contents out.new) (audit_text heading.now found.now)) }
+{
+    let mut table = Buffered::new();
+    put_audit(out, &mut table, heading, found);
+    finish(out, table)
+}

@@ -1,0 +1,211 @@
+//! `audit`: a trace in; what the audits of its groups found out.
+ghost use Rattle.std.specs.Prelude.{◌≡◌, ◌↔◌, ℕ, ◌++◌, ◌∷◌, [], IsOk, IfSome, IfOk, IfErr, OnOk, reverse};
+ghost use Rattle.ec_core.specs.Audits.{IsAuditFault, IsFirstBreak};
+ghost use Rattle.ec_core.specs.Following.{Follow};
+ghost use Rattle.ec_semaphore.specs.Balances.{parts_of};
+ghost use Rattle.ec_semaphore.specs.Uses.{use_rules};
+ghost use Rattle.ec_semaphore.specs.Both.{is_line, both_rules};
+ghost use Rattle.ec_trace.specs.Groups.{FitsGroup};
+ghost use Rattle.evc_engine.specs.AuditTexts.{now_of};
+ghost use Rattle.evc_engine.specs.Audits.{semaphores_of, group_rules, IsPairsOf, IsAudited, AreAudited, IsStop, stop_status, stop_note, AuditEnds, Audits};
+ghost use Rattle.ec_text.specs.Puts.{Puts};
+
+use crate::audit_text::write_audit;
+use crate::audited::Audited;
+use crate::checking::status_of;
+use crate::notes::Notes;
+use crate::status::Status;
+use ec_buffer::deliveries;
+use ec_core::{AuditFault, Run};
+use ec_database::versions;
+use ec_semaphore::{Balance, SemaphoreShape, balance, pairs};
+use ec_trace::{Group, Heading, Traced, read_trace};
+use std::alloc::{AllocError, Global};
+use std::io::{Read, Write};
+
+/// Why a trace that was read has no text: what the audit of a group answered.
+#[derive(Clone, Copy)]
+struct Stop {
+    group: usize,
+    fault: AuditFault,
+}
+
+/// Adds the semaphores among groups, the one named `both` not among them.
+fn push_semaphores(list: &mut Vec<SemaphoreShape>, groups: &[Group]) -> Result<(), AllocError>
+    ensures { OnOk result (list.new.items ≡ list.old.items ++ semaphores_of groups.now) }
+{
+    let [group, rest @ ..] = groups else {
+        return Ok(());
+    };
+    match group {
+        Group::Semaphore(shape) => {
+            list.push(*shape)?;
+            push_semaphores(list, rest)
+        }
+        Group::Buffer(_) => push_semaphores(list, rest),
+        Group::Database(_) => push_semaphores(list, rest),
+        Group::Both(_) => push_semaphores(list, rest),
+    }
+}
+
+/// The semaphores among groups, the one named `both` not among them.
+fn semaphores_of(alloc: Global, groups: &[Group]) -> Result<Vec<SemaphoreShape>, AllocError>
+    ensures { IfOk result (λ list. list.items ≡ semaphores_of groups.now) }
+{
+    let mut list = Vec::new(alloc);
+    push_semaphores(&mut list, groups)?;
+    Ok(list)
+}
+
+/// The balance of a semaphore, by its parts and as a number.
+fn balance_now(run: &Run, shape: &SemaphoreShape) -> Result<(Balance, u64), AuditFault>
+    ensures ok { IsOk result ↔ Follow (use_rules shape.now) (reverse run.now.entries) }
+    ensures parts { IfOk result (λ b. b.0 ≡ parts_of shape.now (reverse run.now.entries)) }
+    ensures now { IfOk result (λ b. b.1 ≡ now_of b.0) }
+    ensures err { IfErr result (IsFirstBreak (use_rules shape.now) run.now.entries) }
+{
+    match balance(run, shape) {
+        Ok(parts) => Ok((parts, parts.initial + parts.ups - parts.downs)),
+        Err(fault) => Err(fault),
+    }
+}
+
+/// What the audit of `both` finds: its pairs, by its own rule, and its balance.
+fn audit_both(
+    alloc: Global,
+    run: &Run,
+    shape: &SemaphoreShape,
+    semaphores: &[SemaphoreShape],
+) -> Result<Audited, AuditFault>
+    requires { shape.now.initial ≡ 1 }
+    ensures followed { IsOk result → Follow (both_rules shape.now (is_line shape.now semaphores.now)) (reverse run.now.entries) }
+    ensures found { IfOk result (IsPairsOf run.now.entries shape.now semaphores.now) }
+    ensures err { IfErr result (IsAuditFault (both_rules shape.now (is_line shape.now semaphores.now)) run.now.entries) }
+{
+    run.known();
+    let list = pairs(alloc, run, shape, semaphores)?;
+    let Ok((parts, now)) = balance_now(run, shape) else {
+        unreachable!();
+    };
+    Ok(Audited::Pairs(parts, now, list))
+}
+
+/// What the audit of a group finds.
+fn audit_group(
+    alloc: Global,
+    traced: &Traced,
+    semaphores: &[SemaphoreShape],
+    group: &Group,
+) -> Result<Audited, AuditFault>
+    requires fits { FitsGroup traced.now.heading.setup group.now }
+    requires all { semaphores.now ≡ semaphores_of traced.now.heading.groups }
+    ensures ok { IfOk result (λ a. IsAudited traced.now.heading traced.now.entries group.now a) }
+    ensures err { IfErr result (IsAuditFault (group_rules traced.now.heading.setup traced.now.heading.groups group.now) traced.now.entries) }
+{
+    let run = traced.run();
+    match group {
+        Group::Buffer(shape) => Ok(Audited::Deliveries(deliveries(alloc, run, shape)?)),
+        Group::Database(shape) => Ok(Audited::Versions(versions(alloc, run, shape)?)),
+        Group::Semaphore(shape) => {
+            let (parts, now) = balance_now(run, shape)?;
+            Ok(Audited::Balances(parts, now))
+        }
+        Group::Both(shape) => audit_both(alloc, run, shape, semaphores),
+    }
+}
+
+/// Adds what an audit found.
+fn keep(found: &mut Vec<Audited>, audited: Audited) -> Result<(), AllocError>
+    ensures { OnOk result (found.new.items ≡ found.old.items ++ audited ∷ []) }
+{
+    found.push(audited)?;
+    Ok(())
+}
+
+/// What the audits of a trace's groups find, or why there is no text.
+fn audit_groups(alloc: Global, traced: &Traced) -> Result<Vec<Audited>, Stop>
+    ensures ok { IfOk result (λ found. AreAudited traced.now.heading traced.now.entries found.items) }
+    ensures err { IfErr result (λ stop. IsStop traced.now.heading traced.now.entries stop.group stop.fault) }
+{
+    traced.heading().known();
+    let groups = traced.heading().groups();
+    let fault = AuditFault::Memory;
+    let Ok(semaphores) = semaphores_of(alloc, groups) else {
+        return Err(Stop { group: 0, fault });
+    };
+    let mut found = Vec::new(alloc);
+    for group in 0..groups.len() {
+        let audited = match audit_group(alloc, traced, semaphores.as_slice(), &groups[group]) {
+            Ok(audited) => audited,
+            Err(fault) => return Err(Stop { group, fault }),
+        };
+        let Ok(()) = keep(&mut found, audited) else {
+            return Err(Stop { group, fault });
+        };
+    }
+    Ok(found)
+}
+
+/// Notes why there is no text.
+fn note_stop<N: Write>(heading: &Heading, stop: Stop, notes: &mut Notes<N>) -> Status
+    ensures status { result ≡ stop_status stop.fault }
+    ensures note { Puts (N.contents notes.old.writer) notes.old.table (N.contents notes.new.writer) notes.new.table (stop_note heading.now stop.group stop.fault) }
+{
+    match &stop.fault {
+        AuditFault::NotFollowed { worker, entry } => {
+            notes.not_followed(heading, stop.group, *worker, *entry);
+            Status::Refused
+        }
+        AuditFault::Memory => {
+            notes.say(b"no memory\n");
+            Status::Memory
+        }
+    }
+}
+
+/// Writes what the audits of a trace's groups find.
+fn write_audited<W: Write, N: Write>(
+    alloc: Global,
+    traced: &Traced,
+    out: &mut W,
+    notes: &mut Notes<N>,
+) -> Status
+    ensures { AuditEnds traced.now result
+        (record { out = W.contents out.old; notes = N.contents notes.old.writer; held = notes.old.table })
+        (record { out = W.contents out.new; notes = N.contents notes.new.writer; held = notes.new.table }) }
+{
+    let found = match audit_groups(alloc, traced) {
+        Ok(found) => found,
+        Err(stop) => return note_stop(traced.heading(), stop, notes),
+    };
+    match write_audit(out, traced.heading(), found.as_slice()) {
+        Ok(()) => Status::Done,
+        Err(_) => {
+            notes.say(b"write fault\n");
+            Status::InputOutput
+        }
+    }
+}
+
+/// Reads a trace, and writes what its buffers, databases and semaphores did, group by group in
+/// the order of the declarations; notes say what is wrong.
+///
+/// Nothing is written to `out` before each group was audited.
+pub fn audit<R: Read, W: Write, N: Write>(
+    alloc: Global,
+    reader: &mut R,
+    out: &mut W,
+    notes: &mut Notes<N>,
+) -> Status
+    ensures { IfSome (R.remaining reader.old) (λ bytes. Audits bytes result
+        (record { out = W.contents out.old; notes = N.contents notes.old.writer; held = notes.old.table })
+        (record { out = W.contents out.new; notes = N.contents notes.new.writer; held = notes.new.table })) }
+{
+    match read_trace(alloc, reader) {
+        Ok(traced) => write_audited(alloc, &traced, out, notes),
+        Err(fault) => {
+            notes.fault(&fault);
+            status_of(&fault)
+        }
+    }
+}
