@@ -52,8 +52,8 @@ impl Setup {
         Some(row.signal.len())
     }
 
-    /// The component of an eventcount that is the worker's own: its place, from 0, among the signallers.
-    /// None where it signals none, as where the eventcount is not declared.
+    /// The component of an eventcount that is the worker's own: its place, from 0, among the
+    /// signallers. None where the worker signals none of it, as where it is not declared.
     pub fn component_of(&self, event: EventId, worker: WorkerId) -> Option<usize>
         ensures value { result ≡ component_of self.now event worker }
         ensures few { IfSome result (λ c. c < 16) }
