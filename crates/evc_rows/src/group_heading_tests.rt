@@ -1,9 +1,9 @@
 //! Headings and traces that declare groups.
-use crate::drive::{cell, event, sequencer, worker};
 use crate::group_texts::{
     ALL_GROUPS, ALL_GROUPS_ORDER_HEAD, ALL_GROUPS_ORDER_TAIL, BOTH, BOTH_ORDER, BUFFER,
     BUFFER_ORDER, DATABASE, DATABASE_ORDER,
 };
+use crate::ids::{cell, event, sequencer, worker};
 use crate::outcome::checked;
 use ec_count::{Limit, Target};
 use ec_trace::{Group, HeadFault, Heading, Sort, read_trace, write_trace};
