@@ -116,7 +116,9 @@ fn words_stand_in_the_order_of_the_objects(rt: HostRuntime) -> Result<(), Fail> 
     ];
     assert_eq!(rt; words.len(), right.len());
     for (place, word) in right.iter().enumerate() {
-        let (found, target) = words.at(place).ok_or("no word")?;
+        let Some((found, target)) = words.at(place) else {
+            return Err(Fail::new("no word"));
+        };
         assert!(rt; found == word.as_bytes(), "at {word}");
         assert_eq!(rt; words.find(word.as_bytes()), Some(target));
     }
