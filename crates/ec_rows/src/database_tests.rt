@@ -187,49 +187,84 @@ fn acts_of(alloc: Global, run: &Run, worker: WorkerId) -> Result<Vec<Act>, Alloc
     Ok(acts)
 }
 
+/// A run of a writing of 5 and 6 within a snapshot of so many tries, and that snapshot: so many steps
+/// of the reader, of the writer, and of the reader again, or fewer where a procedure ends.
+fn interleaved(alloc: Global, tries: usize, steps: [usize; 3]) -> Result<(Run, Snapshot), Fail> {
+    let (setup, shape) = one_and_one(2)?;
+    let mut run = Run::open(alloc, setup)?;
+    let mut writing = five_and_six(shape)?;
+    let mut snapshot = snapshot_of(shape, tries)?;
+    let [first, writes, then] = steps;
+    go_on(&mut run, worker(1), &mut snapshot, first)?;
+    go_on(&mut run, worker(0), &mut writing, writes)?;
+    go_on(&mut run, worker(1), &mut snapshot, then)?;
+    Ok((run, snapshot))
+}
+
+fn snapshot_of(shape: DatabaseShape, tries: usize) -> Result<Snapshot, Fail> {
+    if tries == 0 || tries > 1000 {
+        return Err(Fail::new("no tries"));
+    }
+    Ok(Snapshot::new(shape, tries))
+}
+
+fn is_over(snapshot: &Snapshot) -> bool {
+    match snapshot.ended() {
+        None => false,
+        Some(SnapshotEnd::Disturbed) => true,
+        Some(SnapshotEnd::Accepted(_, _)) => true,
+    }
+}
+
+/// How a snapshot ended: the version and the values where it was accepted.
+fn end_of(alloc: Global, snapshot: &Snapshot) -> Result<Option<(u64, Vec<u64>)>, Fail> {
+    match snapshot.ended() {
+        Some(SnapshotEnd::Accepted(version, values)) => {
+            Ok(Some((version, values.as_slice().to_vec(alloc)?)))
+        }
+        Some(SnapshotEnd::Disturbed) => Ok(None),
+        None => Err(Fail::new("the snapshot goes on")),
+    }
+}
+
+/// Whether a worker makes the same acts in two runs.
+fn acts_alike(alloc: Global, one: &Run, other: &Run, worker: WorkerId) -> Result<bool, Fail> {
+    let acts = acts_of(alloc, one, worker)?;
+    Ok(acts.as_slice() == acts_of(alloc, other, worker)?.as_slice())
+}
+
+#[test]
+fn a_snapshot_goes_on_to_its_last_read(rt: HostRuntime) -> Result<(), Fail> {
+    let (_, snapshot) = interleaved(rt.alloc(), 1, [3, 6, 1])?;
+    assert!(rt; !is_over(&snapshot));
+    Ok(())
+}
+
 #[test]
 fn a_snapshot_of_one_try_ends_disturbed(rt: HostRuntime) -> Result<(), Fail> {
-    let (a, c) = (worker(0), worker(1));
-    let (setup, shape) = one_and_one(2)?;
-    let mut run = Run::open(rt.alloc(), setup)?;
-    let mut writing = five_and_six(shape)?;
-    let mut snapshot = Snapshot::new(shape, 1);
-    assert!(rt; !go_on(&mut run, c, &mut snapshot, 3)?);
-    assert!(rt; go_on(&mut run, a, &mut writing, 6)?);
-    assert!(rt; writing.next().is_none());
-    assert_eq!(rt; snapshot.ended(), None);
-    assert!(rt; go_on(&mut run, c, &mut snapshot, 2)?);
-    assert_eq!(rt; snapshot.ended(), Some(SnapshotEnd::Disturbed));
+    let (run, snapshot) = interleaved(rt.alloc(), 1, [3, 6, 9])?;
+    assert!(rt; end_of(rt.alloc(), &snapshot)?.is_none());
     let (same, _) = two_cells(rt.alloc(), &disturbed())?;
-    assert_eq!(rt;
-        acts_of(rt.alloc(), &run, a)?.as_slice(),
-        acts_of(rt.alloc(), &same, a)?.as_slice()
-    );
-    assert_eq!(rt;
-        acts_of(rt.alloc(), &run, c)?.as_slice(),
-        acts_of(rt.alloc(), &same, c)?.as_slice()
-    );
+    assert!(rt; acts_alike(rt.alloc(), &run, &same, worker(0))?);
+    assert!(rt; acts_alike(rt.alloc(), &run, &same, worker(1))?);
+    Ok(())
+}
+
+#[test]
+fn a_snapshot_of_two_tries_goes_on_after_its_first(rt: HostRuntime) -> Result<(), Fail> {
+    let (_, snapshot) = interleaved(rt.alloc(), 2, [3, 10, 6])?;
+    assert!(rt; !is_over(&snapshot));
     Ok(())
 }
 
 #[test]
 fn a_snapshot_of_two_tries_is_accepted(rt: HostRuntime) -> Result<(), Fail> {
-    let (a, c) = (worker(0), worker(1));
-    let (setup, shape) = one_and_one(2)?;
-    let mut run = Run::open(rt.alloc(), setup)?;
-    let mut writing = five_and_six(shape)?;
-    let mut snapshot = Snapshot::new(shape, 2);
-    assert!(rt; !go_on(&mut run, c, &mut snapshot, 3)?);
-    assert!(rt; go_on(&mut run, a, &mut writing, 10)?);
-    assert!(rt; !go_on(&mut run, c, &mut snapshot, 6)?);
-    assert_eq!(rt; snapshot.ended(), None);
-    assert!(rt; go_on(&mut run, c, &mut snapshot, 10)?);
-    let mut values = ArrayVec::new();
-    values.push(5);
-    values.push(6);
-    assert_eq!(rt; snapshot.ended(), Some(SnapshotEnd::Accepted(1, values)));
-    let list = versions(rt.alloc(), &run, &shape)?;
-    let expected = [accepted(rt.alloc(), 1, &[5, 6])?];
-    assert_eq!(rt; list.as_slice(), expected.as_slice());
+    let (run, snapshot) = interleaved(rt.alloc(), 2, [3, 10, 16])?;
+    let Some((version, values)) = end_of(rt.alloc(), &snapshot)? else {
+        return Err(Fail::new("no version"));
+    };
+    assert_eq!(rt; version, 1);
+    assert!(rt; values.as_slice() == [5, 6].as_slice());
+    assert_eq!(rt; run.len(), 16);
     Ok(())
 }
