@@ -1,5 +1,5 @@
 -- Frames added and taken at the end.
-use Rattle.std.proofs.Common.{◌≡◌, ℕ, ◌+◌, ◌-◌, ◌≤◌, ◌<◌, true, List, [], ◌∷◌, ◌++◌, length, append_assoc, arith, sym, ◌∙◌, ap, refl, zero, suc, add-zero, subst, take, drop, get_or, take_all, rules, le_refl, eqb-true, Bool, false, ◌==◌, ◌&&◌, leb-true, map, zero-add, nat_le}
+use Rattle.std.proofs.Common.{◌≡◌, ℕ, ◌+◌, ◌-◌, ◌≤◌, ◌<◌, true, List, [], ◌∷◌, ◌++◌, length, append_assoc, arith, sym, ◌∙◌, ap, refl, zero, suc, add-zero, subst, take, drop, get_or, take_all, le_refl, eqb-true, Bool, false, ◌==◌, ◌&&◌, leb-true, map, zero-add, nat_le}
 use Rattle.std.specs.List.{list_all}
 use Rattle.ec_machine.specs.declared.command.Command.{Command}
 use Rattle.ec_machine.specs.declared.remaining.Frame.{Frame}
@@ -7,7 +7,7 @@ use Rattle.std.specs.Global.{Vec}
 use Rattle.ec_machine.specs.declared.command.Command.TheVariants.{Repeat, rolls-Repeat}
 use Rattle.ec_machine.specs.declared.command.Command.TheOpen as layer
 use Rattle.ec_machine.specs.declared.command.Command.TheFolds.{fold-roll-Command}
-use Rattle.ec_machine.specs.Limits.{nesting, is_sound, is_sound_one, sound_step}
+use Rattle.ec_machine.specs.Limits.{is_sound_one, sound_step}
 use Rattle.ec_machine.specs.Written.{written, written_one, repeated, written_step}
 use Rattle.ec_machine.specs.Left.{frame_left, left_of, FrameFits, FramesFit}
 
@@ -82,14 +82,13 @@ first_true false b is = is
 pub is_done_once : (n : ℕ) (block : Vec Command) → is_sound_one (Repeat n block) ≡ true → 0 < n
 is_done_once n block sound =
     let all = sym (sound_repeat n block) ∙ sound in
-    let once : 1 ≤ n = leb-true 1 n (first_true _ _ all) in
+    let once : 1 ≤ n = leb-true 1 n (first_true _ _ (first_true _ _ (first_true _ _ all))) in
     omega (arith, once)
 
 pub left_none : (fs : List Frame) → length fs ≡ 0 → left_of fs ≡ []
 unfolding left_of
 left_none [] is = refl
 left_none (f ∷ fs) is = absurd (omega arith)
-
 
 pub left_at_none : (fs : List Frame) → (0 < length fs → false ≡ true) → left_of fs ≡ []
 unfolding left_of

@@ -1,7 +1,7 @@
 -- The steps of one worker, as a past: the newest first. They are cut into calls as the entries of a history are: a read or
 -- an await goes on with the goes after it, up to the first entry that is told more than Pending. Whose steps they are
 -- doesn't matter here.
-use Rattle.std.specs.Prelude.{◌≡◌, ℕ, Bool, ◌==◌, List, [], ◌∷◌, ◌++◌, Option, Some, None, is_some, if◌then◌else◌}
+use Rattle.std.specs.Prelude.{◌≡◌, ℕ, ◌==◌, List, [], ◌∷◌, ◌++◌, Option, Some, None, is_some, if◌then◌else◌}
 use Rattle.std.specs.List.{filter}
 use Rattle.ec_core.specs.declared.act.Act.{Act}
 use Rattle.ec_core.specs.declared.act.Act.TheVariants.{Go}

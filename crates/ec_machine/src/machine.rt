@@ -1,6 +1,7 @@
 //! What a worker asks for next.
-ghost use Rattle.std.specs.Prelude.{◌≡◌, ◌≤◌, true, false, List, [], ◌∷◌, Some, is_some};
+ghost use Rattle.std.specs.Prelude.{◌≡◌, ℕ, ◌≤◌, true, false, List, [], ◌∷◌, Some, is_some};
 ghost use Rattle.ec_core.specs.declared.act.TheConstants.{VALUE_MAX};
+ghost use Rattle.ec_core.specs.declared.act.Act.{Act};
 ghost use Rattle.ec_core.specs.declared.act.Entry.{Entry};
 ghost use Rattle.ec_core.specs.Procedures.{IsReplyTo, next_of};
 ghost use Rattle.ec_core.specs.Values.{TellsAtMost};
@@ -90,8 +91,8 @@ impl<'a> Machine<'a> {
     /// kind that the act can get, with a number of at most VALUE_MAX, as each reply of a step is.
     pub fn take(&mut self, reply: Reply)
         requires { IsReplyTo (act_of self.old) reply }
-        ensures stands { (cs : List Command) (past : List Entry) (step : Entry) → StandsFor cs self.old past
-            → act_of self.old ≡ Some step.act → step.reply ≡ reply → StandsFor cs self.new (step ∷ past) }
+        ensures stands { (cs : List Command) (past : List Entry) (worker : ℕ) (act : Act) → StandsFor cs self.old past → act_of self.old ≡ Some act
+            → StandsFor cs self.new (record { worker = worker; act = act; reply = reply } ∷ past) }
         ensures unset { is_refused self.new ≡ false }
     {
         self.last = number_after(self.last, reply);

@@ -27,7 +27,12 @@ impl<'a> Default for Frame<'a> {
 }
 
 /// Adds what is left of a block, if anything is.
-fn push_rest<'a>(frames: &mut ArrayVec<Frame<'a>, 5>, rest: &'a [Command], block: &'a [Command], times: u64)
+fn push_rest<'a>(
+    frames: &mut ArrayVec<Frame<'a>, 5>,
+    rest: &'a [Command],
+    block: &'a [Command],
+    times: u64,
+)
     requires fit { FramesFit 0 frames.old.items }
     requires room { length frames.old.items < 5 }
     requires block_some { 0 < length block.now }
@@ -109,7 +114,6 @@ pub(crate) struct Remaining<'a> {
 impl<'a> Model for Remaining<'a> {
     ghost use Rattle.std.specs.Prelude.{List};
     ghost use Rattle.ec_machine.specs.declared.command.Command.{Command};
-
     ghost use Rattle.ec_machine.specs.contracts.command.Command as command;
     ghost use Rattle.std.specs.Coded.{codes};
 

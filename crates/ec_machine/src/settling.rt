@@ -1,10 +1,12 @@
 //! The command that is due.
-ghost use Rattle.std.specs.Prelude.{◌≡◌, ◌≤◌, true, false, List, [], IsSome, is_some};
+ghost use Rattle.std.specs.Prelude.{◌≡◌, ◌≤◌, true, false, List, [], length, is_some};
+ghost use Rattle.std.specs.List.{list_all, list_any};
 ghost use Rattle.ec_core.specs.declared.act.TheConstants.{VALUE_MAX};
 ghost use Rattle.ec_core.specs.Following.{Told};
-ghost use Rattle.ec_machine.specs.Limits.{is_sound_one};
+ghost use Rattle.ec_database.specs.Calls.{write_call};
+ghost use Rattle.ec_machine.specs.Limits.{is_sound_one, is_value};
 ghost use Rattle.ec_machine.specs.Written.{is_single};
-ghost use Rattle.ec_machine.specs.Values.{has_large};
+ghost use Rattle.ec_machine.specs.Values.{has_large, is_large, values_of};
 ghost use Rattle.ec_machine.specs.Outcomes.{is_running, is_set};
 ghost use Rattle.ec_machine.specs.Runs.{command_call, outcome_in};
 ghost use Rattle.ec_machine.specs.Tasks.{task_rest, task_going};
@@ -14,10 +16,10 @@ use crate::one_call::OneCall;
 use crate::remaining::Remaining;
 use crate::task::Task;
 use crate::values::{has_large, value_of, values_of};
-use crate::{Command, Outcome};
+use crate::{Command, Outcome, Value};
 use ec_buffer::{Consume, Produce};
-use ec_core::{Act, VALUE_MAX};
-use ec_database::{Snapshot, WriteAll};
+use ec_core::{Act, Procedure, VALUE_MAX};
+use ec_database::{DatabaseShape, Snapshot, WriteAll};
 use ec_semaphore::{Down, DownBoth, Up};
 
 /// The calls of a command whose values are not too large.
@@ -27,7 +29,6 @@ fn task_of(last: u64, command: &Command) -> Task
     requires single { is_single command.now ≡ true }
     requires small { has_large last command.now ≡ false }
     ensures whole { (calls : List Told) → task_rest result calls ≡ command_call last command.now calls }
-    ensures some { IsSome (task_rest result []) }
     ensures fresh { task_going result ≡ false }
 {
     match command {
@@ -37,14 +38,17 @@ fn task_of(last: u64, command: &Command) -> Task
             Task::One(OneCall::new(Act::Await(*event, value_of(last, value))))
         }
         Command::Ticket(sequencer) => Task::One(OneCall::new(Act::Ticket(*sequencer))),
-        Command::Put(cell, value) => Task::One(OneCall::new(Act::Put(*cell, value_of(last, value)))),
+        Command::Put(cell, value) => Task::One(OneCall::new(Act::Put(
+            *cell,
+            value_of(last, value),
+        ))),
         Command::Get(cell) => Task::One(OneCall::new(Act::Get(*cell))),
         Command::Produce(shape, value) => {
             Task::Produce(Produce::new(*shape, value_of(last, value)))
         }
         Command::Consume(shape) => Task::Consume(Consume::new(*shape)),
         Command::WriteAll(shape, values) => {
-            Task::WriteAll(WriteAll::new(*shape, values_of(last, values.as_slice())))
+            Task::WriteAll(write_all(last, shape, values.as_slice()))
         }
         Command::Snapshot(shape, tries) => Task::Snapshot(Snapshot::new(*shape, *tries)),
         Command::Down(shape) => Task::Down(Down::new(*shape)),
@@ -54,6 +58,19 @@ fn task_of(last: u64, command: &Command) -> Task
         }
         Command::Repeat(_, _) => Task::Nothing,
     }
+}
+
+/// The calls of writing all cells of a database.
+fn write_all(last: u64, shape: &DatabaseShape, values: &[Value]) -> WriteAll
+    requires last { last ≤ VALUE_MAX }
+    requires many { length values.now ≡ shape.now.cells }
+    requires sound { list_all is_value values.now ≡ true }
+    requires small { list_any (is_large last) values.now ≡ false }
+    ensures whole { (calls : List Told) → ⟦<WriteAll as Procedure>⟧.rest result calls ≡ write_call shape.now (values_of last values.now) calls }
+    ensures fresh { ⟦<WriteAll as Procedure>⟧.is_going result ≡ false }
+{
+    let _cells = shape.cells();
+    WriteAll::new(*shape, values_of(last, values))
 }
 
 /// The calls of the command that is due, and whether there are any.

@@ -1,6 +1,7 @@
 //! The numbers that a command's values mean.
 ghost use Rattle.std.specs.Prelude.{◌≡◌, ◌≤◌, true, length};
 ghost use Rattle.std.specs.List.{list_all, list_any};
+ghost use Rattle.arrayvec.specs.ArrayVec.{array_vec_len};
 ghost use Rattle.ec_core.specs.declared.act.TheConstants.{VALUE_MAX};
 ghost use Rattle.ec_machine.specs.Limits.{is_value, is_sound_one};
 ghost use Rattle.ec_machine.specs.Values.{value_of, values_of, is_large, has_large};
@@ -61,7 +62,8 @@ pub(crate) fn values_of(last: u64, values: &[Value]) -> ArrayVec<u64, 256>
     requires last { last ≤ VALUE_MAX }
     requires sound { list_all is_value values.now ≡ true }
     requires few { length values.now ≤ 256 }
-    ensures { result.items ≡ values_of last values.now }
+    ensures items { result.items ≡ values_of last values.now }
+    ensures many { array_vec_len result ≡ length values.now }
 {
     let mut numbers = ArrayVec::new();
     for value in values {

@@ -1,4 +1,4 @@
-use Rattle.std.proofs.Common.{◌≡◌, ◌+◌, ◌≤◌, drop}
+use Rattle.std.proofs.Common.{◌≡◌, ◌+◌, drop}
 use Rattle.ec_machine.specs.Limits.{count}
 use Rattle.ec_machine.proofs.limits.+count.Given as goal
 

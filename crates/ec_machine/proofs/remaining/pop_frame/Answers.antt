@@ -1,4 +1,3 @@
-use Rattle.std.proofs.Common.{◌≡◌, length, arith}
 use Rattle.ec_machine.proofs.Frames.{left_at_none, popped_left, popped_fit}
 use Rattle.ec_machine.proofs.remaining.pop_frame.Goals as goal
 

@@ -1,5 +1,4 @@
-use Rattle.std.proofs.Common.{◌≡◌, length, take}
-use Rattle.std.specs.List.{list_all}
+use Rattle.std.proofs.Common.{◌≡◌, take}
 use Rattle.ec_machine.specs.Values.{values_of}
 use Rattle.arrayvec.specs.ArrayVec.{array_vec_len}
 use Rattle.ec_machine.proofs.values.values_of.Given as goal
