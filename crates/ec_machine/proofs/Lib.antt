@@ -1,3 +1,4 @@
+pub mod FirstCalls
 pub mod Frames
 pub mod Going
-pub mod FirstCalls
+pub mod OwnSteps

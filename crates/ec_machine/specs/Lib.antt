@@ -1,3 +1,4 @@
+pub mod Follows
 pub mod Left
 pub mod Limits
 pub mod Outcomes

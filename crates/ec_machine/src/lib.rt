@@ -2,6 +2,7 @@
 #![tactic(auto)]
 
 mod command;
+mod follow;
 mod limits;
 mod machine;
 mod one_call;
@@ -13,6 +14,7 @@ mod task;
 mod values;
 
 pub use command::{Command, Value};
+pub use follow::follows;
 pub use machine::Machine;
 pub use outcome::Outcome;
 pub use program::Program;
