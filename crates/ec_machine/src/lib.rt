@@ -3,6 +3,7 @@
 
 mod command;
 mod follow;
+mod laws;
 mod limits;
 mod machine;
 mod one_call;
@@ -15,6 +16,7 @@ mod values;
 
 pub use command::{Command, Value};
 pub use follow::follows;
+pub use laws::{beginnings_are_runs, own_steps_are_cut, runs_are_of_whole_lists};
 pub use machine::Machine;
 pub use outcome::Outcome;
 pub use program::Program;
