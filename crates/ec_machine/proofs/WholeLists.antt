@@ -1,5 +1,5 @@
 -- The calls of a run are whole lists of its commands, and the beginning of one more.
-use Rattle.std.proofs.Common.{◌≡◌, ℕ, zero, suc, Bool, true, false, List, [], ◌∷◌, ◌++◌, take, slice_get, Option, Some, None, IsSome, is_some, if◌then◌else◌, refl, sym, ◌∙◌, ap, subst, append_assoc, append-nil, inl, inr}
+use Rattle.std.proofs.Common.{◌≡◌, ℕ, suc, Bool, true, false, List, [], ◌∷◌, ◌++◌, take, slice_get, Option, Some, None, is_some, if◌then◌else◌, refl, sym, ◌∙◌, ap, subst, append_assoc, append-nil, inl, inr}
 use Rattle.std.specs.List.{flat_map}
 use Rattle.ec_core.specs.declared.act.Act.{Act}
 use Rattle.ec_core.specs.declared.act.Entry.{Entry}
@@ -11,8 +11,8 @@ use Rattle.ec_machine.specs.declared.command.Command.{Command}
 use Rattle.ec_machine.specs.Written.{written}
 use Rattle.ec_machine.specs.Values.{has_large}
 use Rattle.ec_machine.specs.Steps.{begun_by, opening, finished, IsRun}
-use Rattle.ec_machine.specs.Runs.{Place, start, command_call, next_call, next_in, number_after, last_number, after_call, place_after, program_call, outcome_at, IsRunOf}
-use Rattle.ec_machine.specs.Laws.{IsWholeOf, AreWhole, IsBegunOf, IsBegun, AreCallsOf, RunsAreOfWholeLists}
+use Rattle.ec_machine.specs.Runs.{Place, command_call, next_call, number_after, last_number, after_call, place_after, program_call, outcome_at}
+use Rattle.ec_machine.specs.Laws.{AreWhole, IsBegun, AreCallsOf, RunsAreOfWholeLists}
 use Rattle.ec_machine.proofs.Going.{begun_is_due, opening_is_due}
 
 -- WRITTEN LISTS

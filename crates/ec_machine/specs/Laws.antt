@@ -1,6 +1,6 @@
 -- What a run of a program is, said of its calls: they are whole lists of calls joined end to end, one for each command of the
 -- written-out program from the first on, and then the beginning of the list of the command that follows.
-use Rattle.std.specs.Prelude.{◌≡◌, ℕ, ◌⊎◌, Bool, true, false, List, [], ◌∷◌, ◌++◌, Option, Some, None, IsSome}
+use Rattle.std.specs.Prelude.{◌≡◌, ℕ, ◌⊎◌, true, false, List, [], ◌∷◌, ◌++◌, Some, None, IsSome}
 use Rattle.std.specs.List.{flat_map}
 use Rattle.ec_count.specs.Tables.{Tables}
 use Rattle.ec_core.specs.declared.act.Act.{Act}
