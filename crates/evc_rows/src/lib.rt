@@ -34,6 +34,8 @@ mod order_tests;
 #[cfg(test)]
 mod outcome;
 #[cfg(test)]
+mod program_tests;
+#[cfg(test)]
 mod semaphore_tests;
 #[cfg(test)]
 mod setup_tests;
