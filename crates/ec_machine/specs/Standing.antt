@@ -25,8 +25,8 @@ pub record IsAt (calls : List Told → Option Act) (left : List Command) (p : Pl
   pub at : IsSome (calls []) → (c : Command) × IsIn calls left p c
 
 -- how a machine has ended, if it has
-abbrev pub outcome_in : Machine → Outcome
-outcome_in m = m.outcome
+abbrev pub kept_outcome : Machine → Outcome
+kept_outcome m = m.outcome
 
 -- whether it was ended from outside, by `refuse`
 abbrev pub is_refused : Machine → Bool

@@ -44,7 +44,7 @@ fn number_after(last: u64, reply: Reply) -> u64
 }
 
 impl<'a> Machine<'a> {
-    ghost use Rattle.ec_machine.specs.Standing.{StandsFor, outcome_in, is_refused, act_of};
+    ghost use Rattle.ec_machine.specs.Standing.{StandsFor, kept_outcome, is_refused, act_of};
 
     /// At the start of a program.
     pub fn new(program: &'a Program) -> Self
@@ -71,7 +71,7 @@ impl<'a> Machine<'a> {
     /// The act that is due: Go where the last reply was Pending. None once the program has ended.
     pub fn next(&self) -> Option<Act>
         ensures value { result ≡ act_of self.now }
-        ensures some { is_some result ≡ is_running (outcome_in self.now) }
+        ensures some { is_some result ≡ is_running (kept_outcome self.now) }
         ensures due { (cs : List Command) (past : List Entry) → StandsFor cs self.now past → is_refused self.now ≡ false
             → result ≡ next_act cs past }
     {
@@ -80,7 +80,7 @@ impl<'a> Machine<'a> {
 
     /// How the program has ended, or Running.
     pub fn outcome(&self) -> Outcome
-        ensures value { result ≡ outcome_in self.now }
+        ensures value { result ≡ kept_outcome self.now }
         ensures after { (cs : List Command) (past : List Entry) → StandsFor cs self.now past → is_refused self.now ≡ false
             → result ≡ outcome_of cs past }
     {
@@ -107,7 +107,7 @@ impl<'a> Machine<'a> {
     /// Ends the program from outside. It takes effect only where the outcome is Running and the new
     /// one is Refused, Stopped, OutOfTurns or Memory.
     pub fn refuse(&mut self, outcome: Outcome)
-        ensures outcome { outcome_in self.new ≡ refused (outcome_in self.old) outcome }
+        ensures outcome { kept_outcome self.new ≡ refused (kept_outcome self.old) outcome }
         ensures stands { (cs : List Command) (past : List Entry) → StandsFor cs self.old past → StandsFor cs self.new past }
     {
         if self.outcome != Outcome::Running {

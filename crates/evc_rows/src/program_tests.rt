@@ -19,12 +19,19 @@ fn step(run: &mut Run, worker: WorkerId, machine: &mut Machine<'_>) -> Result<()
     Ok(())
 }
 
-/// The steps of machines by these names of workers.
-fn play(run: &mut Run, machines: &mut [Machine<'_>], schedule: &[usize]) -> Result<(), Fail> {
+/// The steps of two workers' machines, by their numbers.
+fn play(
+    run: &mut Run,
+    first: &mut Machine<'_>,
+    second: &mut Machine<'_>,
+    schedule: &[usize],
+) -> Result<(), Fail> {
     for place in schedule {
-        let worker = WorkerId::new(*place).ok_or("no worker")?;
-        let machine = machines.get_mut(*place).ok_or("no machine")?;
-        step(run, worker, machine)?;
+        if *place == 0 {
+            step(run, worker(0), first)?;
+        } else {
+            step(run, worker(1), second)?;
+        }
     }
     Ok(())
 }
@@ -62,8 +69,7 @@ fn two_advances(alloc: Global) -> Result<Program, Fail> {
 }
 
 fn waits_for_its_ticket(alloc: Global) -> Result<Program, Fail> {
-    program(vec![
-        in alloc;
+    program(vec![in alloc;
         Command::Ticket(sequencer(0)),
         Command::Await(event(0), Value::LastPlus(1)),
         Command::Read(event(0)),
@@ -87,16 +93,19 @@ fn waited() -> [Step; 6] {
 fn a_ticket_is_waited_for(rt: HostRuntime) -> Result<(), Fail> {
     let first = two_advances(rt.alloc())?;
     let second = waits_for_its_ticket(rt.alloc())?;
-    let mut machines = [Machine::new(&first), Machine::new(&second)];
+    let mut advances = Machine::new(&first);
+    let mut waits = Machine::new(&second);
     let mut run = Run::open(rt.alloc(), counted()?)?;
-    play(&mut run, &mut machines, &[1, 1, 0, 1, 0, 1])?;
+    play(&mut run, &mut advances, &mut waits, &[1, 1, 0, 1, 0, 1])?;
     let expected = made(Run::open(rt.alloc(), counted()?)?, &waited())?;
     assert!(rt; is_same(&run, &expected));
-    for machine in machines.iter() {
-        assert_eq!(rt; machine.outcome(), Outcome::Finished);
-        assert!(rt; machine.next().is_none());
-    }
-    assert_eq!(rt; follows(&run, &[first, second]), None);
+    assert_eq!(rt;
+        (advances.outcome(), waits.outcome()),
+        (Outcome::Finished, Outcome::Finished)
+    );
+    assert!(rt; advances.next().is_none() && waits.next().is_none());
+    let programs = [two_advances(rt.alloc())?, waits_for_its_ticket(rt.alloc())?];
+    assert_eq!(rt; follows(&run, &programs), None);
     Ok(())
 }
 
@@ -107,9 +116,17 @@ fn histories_are_told_from_runs(rt: HostRuntime) -> Result<(), Fail> {
     assert_eq!(rt; follows(&run, &[]), Some(worker(0)));
     assert_eq!(rt; follows(&run, &[two_advances(alloc)?]), Some(worker(1)));
     let other = program(vec![in alloc; Command::Ticket(sequencer(0)), Command::Read(event(0))]?)?;
-    assert_eq!(rt; follows(&run, &[two_advances(alloc)?, other]), Some(worker(1)));
-    let longer = program(vec![in alloc; Command::Repeat(3, vec![in alloc; Command::Advance(event(0))]?)]?)?;
-    assert_eq!(rt; follows(&run, &[longer, waits_for_its_ticket(alloc)?]), None);
+    assert_eq!(rt;
+        follows(&run, &[two_advances(alloc)?, other]),
+        Some(worker(1))
+    );
+    let longer = program(vec![in alloc;
+        Command::Repeat(3, vec![in alloc; Command::Advance(event(0))]?),
+    ]?)?;
+    assert_eq!(rt;
+        follows(&run, &[longer, waits_for_its_ticket(alloc)?]),
+        None
+    );
     let none = Run::open(alloc, counted()?)?;
     assert_eq!(rt; follows(&none, &[]), None);
     Ok(())
@@ -128,7 +145,10 @@ fn first_steps(alloc: Global, program: &Program, steps: usize) -> Result<(Run, O
 #[test]
 fn repeats_are_counted(rt: HostRuntime) -> Result<(), Fail> {
     let alloc = rt.alloc();
-    let inner = vec![in alloc; Command::Put(cell(0), Value::LastPlus(1)), Command::Get(cell(0))]?;
+    let inner = vec![in alloc;
+        Command::Put(cell(0), Value::LastPlus(1)),
+        Command::Get(cell(0)),
+    ]?;
     let outer = vec![in alloc; Command::Repeat(2, inner), Command::Advance(event(0))]?;
     let short = program(vec![in alloc; Command::Repeat(2, outer)]?)?;
     let mut long = Vec::new(alloc);
@@ -143,7 +163,10 @@ fn repeats_are_counted(rt: HostRuntime) -> Result<(), Fail> {
     let (run, outcome) = first_steps(alloc, &short, 10)?;
     let (expected, expected_outcome) = first_steps(alloc, &long, 10)?;
     assert!(rt; is_same(&run, &expected));
-    assert_eq!(rt; (outcome, expected_outcome), (Outcome::Finished, Outcome::Finished));
+    assert_eq!(rt;
+        (outcome, expected_outcome),
+        (Outcome::Finished, Outcome::Finished)
+    );
     let last = run.entry(8).ok_or("no entry")?;
     assert_eq!(rt; (last.act, last.reply), (Get(cell(0)), Reply::Number(4)));
     Ok(())
@@ -178,8 +201,7 @@ fn give(machine: &mut Machine<'_>, reply: Reply) {
 
 #[test]
 fn a_value_too_large_ends_a_program(rt: HostRuntime) -> Result<(), Fail> {
-    let program = program(vec![
-        in rt.alloc();
+    let program = program(vec![in rt.alloc();
         Command::Put(cell(0), Value::Number(VALUE_MAX)),
         Command::Get(cell(0)),
         Command::Put(cell(0), Value::Last),
@@ -188,7 +210,10 @@ fn a_value_too_large_ends_a_program(rt: HostRuntime) -> Result<(), Fail> {
     ]?)?;
     let (run, outcome) = first_steps(rt.alloc(), &program, 3)?;
     assert_eq!(rt; (run.len(), outcome), (3, Outcome::ValueTooLarge));
-    assert_eq!(rt; run.entry(2).map(|entry| entry.act), Some(Put(cell(0), VALUE_MAX)));
+    assert_eq!(rt;
+        run.entry(2).map(|entry| entry.act),
+        Some(Put(cell(0), VALUE_MAX))
+    );
     Ok(())
 }
 
@@ -203,7 +228,10 @@ fn programs_are_ended_from_outside(rt: HostRuntime) -> Result<(), Fail> {
     assert_eq!(rt; machine.next(), Some(Advance(event(0))));
     machine.refuse(Outcome::OutOfTurns);
     machine.refuse(Outcome::Stopped);
-    assert_eq!(rt; (machine.outcome(), machine.next()), (Outcome::OutOfTurns, None));
+    assert_eq!(rt;
+        (machine.outcome(), machine.next()),
+        (Outcome::OutOfTurns, None)
+    );
     Ok(())
 }
 
@@ -248,14 +276,24 @@ fn a_snapshot_makes_as_many_tries_as_it_may(rt: HostRuntime) -> Result<(), Fail>
         let values = vec![in alloc; Value::Number(5), Value::LastPlus(6)]?;
         let write = program(vec![in alloc; Command::WriteAll(shape, values)]?)?;
         let read = program(vec![in alloc; Command::Snapshot(shape, tries)]?)?;
-        let mut machines = [Machine::new(&write), Machine::new(&read)];
+        let mut writer = Machine::new(&write);
+        let mut reader = Machine::new(&read);
         let mut run = Run::open(alloc, setup.copy())?;
-        play(&mut run, &mut machines, schedule.get(..many).ok_or("no schedule")?)?;
-        let expected = made(Run::open(alloc, setup)?, steps.get(..many).ok_or("no steps")?)?;
+        play(
+            &mut run,
+            &mut writer,
+            &mut reader,
+            schedule.get(..many).ok_or("no schedule")?,
+        )?;
+        let expected = made(
+            Run::open(alloc, setup)?,
+            steps.get(..many).ok_or("no steps")?,
+        )?;
         assert!(rt; is_same(&run, &expected));
-        for machine in machines.iter() {
-            assert_eq!(rt; machine.outcome(), Outcome::Finished);
-        }
+        assert_eq!(rt;
+            (writer.outcome(), reader.outcome()),
+            (Outcome::Finished, Outcome::Finished)
+        );
     }
     Ok(())
 }
@@ -268,19 +306,34 @@ fn two_workers_take_both_semaphores(rt: HostRuntime) -> Result<(), Fail> {
     let one = declare_semaphore(&mut setup, 1, &users)?;
     let other = declare_semaphore(&mut setup, 1, &users)?;
     let common = declare_both(&mut setup, &users)?;
-    let first = program(vec![in alloc; Command::DownBoth(common, one, other), Command::Up(other), Command::Up(one)]?)?;
-    let second = program(vec![in alloc; Command::DownBoth(common, other, one), Command::Down(one)]?)?;
-    let mut machines = [Machine::new(&first), Machine::new(&second)];
+    let first = program(vec![in alloc;
+        Command::DownBoth(common, one, other),
+        Command::Up(other),
+        Command::Up(one),
+    ]?)?;
+    let second = program(vec![in alloc;
+        Command::DownBoth(common, other, one),
+        Command::Down(one),
+    ]?)?;
+    let mut one_first = Machine::new(&first);
+    let mut other_first = Machine::new(&second);
     let mut run = Run::open(alloc, setup)?;
     let schedule = [0, 1, 0, 0, 1, 1, 0, 0, 0, 1, 1, 1, 1, 1, 0, 0, 0, 0, 1, 1];
-    play(&mut run, &mut machines, &schedule)?;
+    play(&mut run, &mut one_first, &mut other_first, &schedule)?;
     assert_eq!(rt; run.len(), 20);
     let waits = run.entry(18).ok_or("no entry")?;
-    assert_eq!(rt; (waits.act, waits.reply), (Await(event(1), 1), Reply::Pending));
-    assert_eq!(rt; machines.iter().map(|machine| machine.outcome()).next(), Some(Outcome::Running));
-    play(&mut run, &mut machines, &[0, 0, 1, 1, 1, 1, 1, 1, 1])?;
-    assert_eq!(rt; run.len(), 29);
-    assert_eq!(rt; follows(&run, &[first, second]), None);
+    assert_eq!(rt;
+        (waits.act, waits.reply),
+        (Await(event(1), 1), Reply::Pending)
+    );
+    assert_eq!(rt; one_first.outcome(), Outcome::Running);
+    play(
+        &mut run,
+        &mut one_first,
+        &mut other_first,
+        &[0, 0, 1, 1, 1, 1, 1, 1, 1],
+    )?;
+    assert_eq!(rt; (run.len(), one_first.outcome()), (29, Outcome::Finished));
     Ok(())
 }
 
@@ -295,7 +348,9 @@ fn nested(alloc: Global, depth: usize) -> Result<Vec<Command>, Fail> {
 
 /// So many commands, of which one is a repeat.
 fn many(alloc: Global, n: usize) -> Result<Vec<Command>, Fail> {
-    let mut commands = vec![in alloc; Command::Repeat(2, vec![in alloc; Command::Advance(event(0))]?)]?;
+    let mut commands = vec![in alloc;
+        Command::Repeat(2, vec![in alloc; Command::Advance(event(0))]?),
+    ]?;
     for _ in 2..n {
         commands.push(Command::Advance(event(0)))?;
     }
@@ -337,9 +392,14 @@ fn values_keep_their_bounds(rt: HostRuntime) -> Result<(), Fail> {
             assert_eq!(rt; makes_one(vec![in alloc; command]?), is_one);
         }
     }
-    assert!(rt; !makes_one(vec![in alloc; Command::WriteAll(shape, vec![in alloc; Value::Last]?)]?));
+    assert!(rt;
+        !makes_one(vec![in alloc; Command::WriteAll(shape, vec![in alloc; Value::Last]?)]?)
+    );
     for (tries, is_one) in [(0, false), (1, true), (1000, true), (1001, false)] {
-        assert_eq!(rt; makes_one(vec![in alloc; Command::Snapshot(shape, tries)]?), is_one);
+        assert_eq!(rt;
+            makes_one(vec![in alloc; Command::Snapshot(shape, tries)]?),
+            is_one
+        );
     }
     Ok(())
 }
