@@ -1,8 +1,8 @@
 -- A world answers as its history says.
-use Rattle.std.proofs.Common.{◌≡◌, ℕ, zero, suc, ◌+◌, ◌%◌, ◌<◌, ◌≤◌, Bool, true, false, not, ◌&&◌, ◌||◌, List, [], ◌∷◌, length, Option, Some, None, is_some, nat_le, nat_lt, unwrap_or, Ok, refl, ap, ◌∙◌, arith, add-one, subst, cond, slice_get, ◌==◌}
+use Rattle.std.proofs.Common.{◌≡◌, ℕ, suc, ◌+◌, ◌%◌, ◌<◌, ◌≤◌, Bool, true, false, not, ◌&&◌, List, [], ◌∷◌, length, Option, Some, None, is_some, nat_le, unwrap_or, Ok, refl, ap, ◌∙◌, arith, add-one, subst, cond, ◌==◌}
 use Rattle.std.specs.List.{position_from}
 use Rattle.std.specs.Option.{option_map, option_map_or}
-use Rattle.std.proofs.lemmas.Bool.{or_parts, ltb-false, eqb-false, eqb-true, leb-false, leb-true}
+use Rattle.std.proofs.lemmas.Bool.{eqb-true, leb-false, leb-true}
 use Rattle.std.proofs.lemmas.Nat.{mod_below}
 use Rattle.std.proofs.Math.Nat.{suc-mod, mod_self, mod-eq_of_lt}
 use Rattle.ec_count.specs.Tables.{Tables, IsDeclared, signallers, component_of}

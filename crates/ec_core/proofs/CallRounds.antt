@@ -1,5 +1,5 @@
 -- A round of a call of an accepted history lies between the totals at its ends.
-use Rattle.std.proofs.Common.{◌≡◌, ℕ, zero, suc, ◌+◌, ◌-◌, ◌%◌, ◌<◌, ◌≤◌, Bool, true, false, List, [], ◌∷◌, ◌++◌, length, reverse, take, Option, Some, None, get_or, nat_le, refl, ap, sym, ◌∙◌, arith, subst, cond, ◌==◌, append_assoc}
+use Rattle.std.proofs.Common.{◌≡◌, ℕ, zero, suc, ◌+◌, ◌-◌, ◌%◌, ◌<◌, ◌≤◌, Bool, true, false, List, [], ◌∷◌, ◌++◌, length, reverse, take, Option, Some, None, get_or, nat_le, refl, ap, sym, ◌∙◌, arith, subst, cond, ◌==◌}
 use Rattle.std.proofs.Math.Nat.{mod-le}
 use Rattle.std.proofs.lemmas.Bool.{leb-true, leb-false}
 use Rattle.std.proofs.lemmas.Nat.{mod_below}
@@ -16,7 +16,7 @@ use Rattle.ec_core.specs.Acceptance.{IsAccepted, names_unknown_object}
 use Rattle.ec_core.specs.Laws.{RoundsOfCallsLieBetween}
 use Rattle.ec_core.proofs.Answering.{width_some, mod_next, allowed, call_reads, IsReading, IsReadingCall}
 use Rattle.ec_core.proofs.Moments.{accepted_at, accepted_of, moment_before}
-use Rattle.ec_core.proofs.Pasts.{past_itself, gone_before, call_before, IsCallBefore}
+use Rattle.ec_core.proofs.Pasts.{past_itself, past_of_past, gone_before, call_before, IsCallBefore}
 use Rattle.ec_core.proofs.Totals.{round_between}
 
 -- each moment came after all that stand below it
@@ -80,9 +80,6 @@ past_by_length h p is =
     let front : take (length p) h ≡ reverse p =
     ap (take (length p)) whole ∙ ap (λ n. take n (reverse p ++ reverse is.since)) (sym (length-reverse p)) ∙ take-append_seam (reverse p) (reverse is.since) in
     ap reverse front ∙ reverse-reverse p
-
-past_of_past : (p q r : List Entry) → IsPastOf p q → IsPastOf q r → IsPastOf p r
-past_of_past p q r a b = record { since = b.since ++ a.since; is = b.is ∙ ap (λ x. b.since ++ x) a.is ∙ sym (append_assoc b.since a.since p) }
 
 -- where a call has gone whole rounds, its last entry stands n - 1 places after its round's start
 whole_rounds : (k n : ℕ) → 0 < n → suc k % n ≡ 0 → (k % n ≡ n - 1) × (n ≤ suc k)

@@ -5,8 +5,7 @@ use Rattle.std.proofs.lemmas.Bool.{eqb-true, eqb-false, eq-eqb, le-leb, lt-leb}
 use Rattle.ec_count.specs.Tables.{Tables}
 use Rattle.ec_core.specs.declared.act.Act.{Act}
 use Rattle.ec_core.specs.declared.act.Act.TheVariants.{Advance, Read, Await, Go, Ticket, Put, Get}
-use Rattle.ec_core.specs.declared.act.Reply.{Reply}
-use Rattle.ec_core.specs.declared.act.Reply.TheVariants.{Done, Number, Pending}
+use Rattle.ec_core.specs.declared.act.Reply.TheVariants.{Pending}
 use Rattle.ec_core.specs.declared.act.Entry.{Entry}
 use Rattle.ec_core.specs.Counts.{past_at, component_total, sum_to}
 use Rattle.ec_core.specs.Calls.{CallSoFar, under_way, gone_on, is_go, is_pending}
@@ -15,6 +14,7 @@ use Rattle.ec_core.specs.Rounds.{sum_read, read_of}
 use Rattle.ec_core.specs.Laws.{CallsUnderWayAreCutInOrder, CallsUnderWayRead, RoundsAddTheirComponents}
 use Rattle.ec_core.proofs.Answering.{IsReading, IsReadingCall, call_reads}
 use Rattle.ec_core.proofs.Moments.{past_next, past_end, beginnings}
+use Rattle.ec_core.proofs.Pasts.{pending_is}
 use Rattle.ec_core.proofs.Totals.{sum_same}
 
 -- where entry k is not w's, its moments are as before
@@ -53,11 +53,6 @@ own_below w h k i x off lt at own =
 
 same_entry : (h : List Entry) (i k : ℕ) (x y : Entry) → i ≡ k → slice_get h k ≡ Some x → slice_get h i ≡ Some y → x ≡ y
 same_entry h i k x y same at there = (let both : Some x ≡ Some y = sym at ∙ ap (slice_get h) (sym same) ∙ there in cc)
-
-pending_is : (r : Reply) → is_pending r ≡ true → r ≡ Pending
-pending_is Pending h = refl
-pending_is Done h = cc
-pending_is (Number n) h = cc
 
 abbrev made : Act → List (List Entry) → CallSoFar
 made op moments = record { op = op; moments = moments }

@@ -12,7 +12,7 @@ use Rattle.ec_core.specs.Acceptance.{IsAccepted}
 use Rattle.ec_core.specs.Following.{Told, Rule, opened, extended, block_after, block, is_right, Follow}
 use Rattle.ec_core.specs.JoinedLists.{finished_by}
 use Rattle.ec_core.proofs.Answering.{allowed, call_reads, IsReading, IsReadingCall}
-use Rattle.ec_core.proofs.Following.{step_due, op_at, other_block, own_block, right_call, IsRightCall}
+use Rattle.ec_core.proofs.Following.{step_due, pending_after, op_at, other_block, own_block, right_call, IsRightCall}
 use Rattle.ec_core.proofs.Scans.{call_own, call_other}
 
 -- CALLS ONE AFTER ANOTHER
@@ -52,10 +52,6 @@ fitting_back r b (c ∷ xs) ys f = fitting_back r (extended r b c) xs ys f.1
 abbrev pub told_at : Entry → List Entry → Told
 told_at x past = record { op = op_at x past; reply = x.reply }
 
-never : (b : Bool) → (b && false) ≡ false
-never true = refl
-never false = refl
-
 pub finished_other : (w : ℕ) (x : Entry) (past : List Entry) → (x.worker == w) ≡ false → finished_by w (x ∷ past) ≡ finished_by w past
 unfolding finished_by
 finished_other w x past h = rw h refl
@@ -67,11 +63,6 @@ finished_same x past h = rw (eq-eqb x.worker x.worker refl, h) refl
 pub finished_more : (x : Entry) (past : List Entry) → is_pending x.reply ≡ false → finished_by x.worker (x ∷ past) ≡ finished_by x.worker past ++ told_at x past ∷ []
 unfolding finished_by
 finished_more x past h = rw (eq-eqb x.worker x.worker refl, h) refl
-
-after_wait : (r : Rule) (b : List Told) (op : Act) (reply : Reply) → is_pending reply ≡ true → block_after r b op reply ≡ b
-after_wait r b op Pending h = refl
-after_wait r b op Done h = cc
-after_wait r b op (Number n) h = cc
 
 after_end : (r : Rule) (b : List Told) (op : Act) (reply : Reply) → is_pending reply ≡ false → block_after r b op reply ≡ extended r b (record { op = op; reply = reply })
 after_end r b op Pending h = cc
@@ -85,7 +76,7 @@ own_is : (r : Rule) (x : Entry) (past : List Entry) → IsBlock r x.worker past 
 own_is r x past h =
     let w = x.worker in
     elim (is_pending x.reply) as (λ p. is_pending x.reply ≡ p → IsBlock r x.worker (x ∷ past)) [
-      | true ↦ λ e. own_block r x past ∙ after_wait r (block r w past) (op_at x past) x.reply e ∙ h ∙ ap (list_after r []) (sym (finished_same x past e))
+      | true ↦ λ e. own_block r x past ∙ pending_after r (block r w past) (op_at x past) x.reply e ∙ h ∙ ap (list_after r []) (sym (finished_same x past e))
       | false ↦ λ e. own_block r x past ∙ after_end r (block r w past) (op_at x past) x.reply e ∙ ap (λ b. extended r b (told_at x past)) h
           ∙ sym (after_more r [] (finished_by w past) (told_at x past ∷ [])) ∙ ap (list_after r []) (sym (finished_more x past e))
     ] refl
@@ -209,7 +200,7 @@ fits_with r t x past acc f =
     let Q : List Told → Type 0 = λ b. is_fitting r b (op_at x past) ≡ true in
     elim (is_pending x.reply) as (λ p. is_pending x.reply ≡ p → FitsWith r x past) [
       | true ↦ λ e.
-          (let here : block r w (x ∷ past) ≡ block r w past = own_block r x past ∙ after_wait r (block r w past) (op_at x past) x.reply e in
+          (let here : block r w (x ∷ past) ≡ block r w past = own_block r x past ∙ pending_after r (block r w past) (op_at x past) x.reply e in
           let call : under_way w (x ∷ past) ≡ gone_on x.act past o = call_own x past ∙ ap (λ p. cond p (gone_on x.act past o) None) e in
           let R : Option CallSoFar → Type 0 = λ c. IsFittingCall r (block r x.worker (x ∷ past)) c in
           let going = (allowed t past w x.act x.reply acc.0).0.going in

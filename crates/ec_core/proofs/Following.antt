@@ -29,6 +29,12 @@ pub own_block : (r : Rule) (x : Entry) (past : List Entry)
 unfolding block
 own_block r x past = rw (eq-eqb x.worker x.worker refl) refl
 
+-- a call that goes on leaves the list as it is
+pub pending_after : (r : Rule) (b : List Told) (op : Act) (reply : Reply) → is_pending reply ≡ true → block_after r b op reply ≡ b
+pending_after r b op Pending h = refl
+pending_after r b op Done h = cc
+pending_after r b op (Number n) h = cc
+
 -- THE ACT THAT BEGAN A CALL
 
 pub opened_is : (t : Tables) (act : Act) (o : Option CallSoFar) → (not (is_some o) && is_go act) ≡ false → IsReadingCall t o

@@ -1,13 +1,23 @@
 -- The moments of a call under way came before.
-use Rattle.std.proofs.Common.{ℕ, Bool, true, false, List, [], ◌∷◌, Option, Some, None, refl, ap, cond, ◌==◌}
+use Rattle.std.proofs.Common.{◌≡◌, ℕ, Bool, true, false, List, [], ◌∷◌, ◌++◌, append_assoc, Option, Some, None, refl, ap, sym, ◌∙◌, cond, ◌==◌}
 use Rattle.ec_core.specs.declared.act.Act.{Act}
 use Rattle.ec_core.specs.declared.act.Act.TheVariants.{Advance, Read, Await, Go, Ticket, Put, Get}
+use Rattle.ec_core.specs.declared.act.Reply.{Reply}
+use Rattle.ec_core.specs.declared.act.Reply.TheVariants.{Done, Number, Pending}
 use Rattle.ec_core.specs.declared.act.Entry.{Entry}
 use Rattle.ec_core.specs.Calls.{CallSoFar, under_way, gone_on, is_pending}
 use Rattle.ec_core.specs.Rounds.{IsPastOf, EachIsPastOf}
 
 pub past_itself : (past : List Entry) → IsPastOf past past
 past_itself past = record { since = []; is = refl }
+
+pub past_of_past : (p q r : List Entry) → IsPastOf p q → IsPastOf q r → IsPastOf p r
+past_of_past p q r a b = record { since = b.since ++ a.since; is = b.is ∙ ap (λ x. b.since ++ x) a.is ∙ sym (append_assoc b.since a.since p) }
+
+pub pending_is : (r : Reply) → is_pending r ≡ true → r ≡ Pending
+pending_is Pending h = refl
+pending_is Done h = cc
+pending_is (Number n) h = cc
 
 past_later : (p past : List Entry) (x : Entry) → IsPastOf p past → IsPastOf p (x ∷ past)
 past_later p past x h = record { since = x ∷ h.since; is = ap (λ q. x ∷ q) h.is }

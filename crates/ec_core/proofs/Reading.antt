@@ -1,24 +1,23 @@
 -- Where a call began, what a read tells of that moment, and counts by worker.
-use Rattle.std.proofs.Common.{◌≡◌, ◌≢◌, ℕ, zero, suc, ◌+◌, ◌<◌, ◌≤◌, Bool, true, false, ◌&&◌, List, [], ◌∷◌, ◌++◌, append_assoc, length, Option, Some, None, nat_le, Ok, refl, ap, sym, ◌∙◌, arith, subst, cond, ◌==◌, ◌⊎◌, inl, inr}
+use Rattle.std.proofs.Common.{◌≡◌, ◌≢◌, ℕ, zero, suc, ◌+◌, ◌<◌, ◌≤◌, Bool, true, false, ◌&&◌, List, [], ◌∷◌, length, Option, Some, None, nat_le, Ok, refl, ap, sym, ◌∙◌, arith, subst, cond, ◌==◌, ◌⊎◌, inl, inr}
 use Rattle.std.proofs.lemmas.Bool.{eqb-true, eqb-false, eq-eqb, leb-true, leb-false}
 use Rattle.std.proofs.Math.Nat.{zero-add, mod-eq_of_lt}
 use Rattle.ec_count.specs.Tables.{Tables, IsDeclared}
 use Rattle.ec_core.specs.declared.act.Act.{Act}
 use Rattle.ec_core.specs.declared.act.Act.TheVariants.{Advance, Read, Await, Go, Ticket, Put, Get}
-use Rattle.ec_core.specs.declared.act.Reply.{Reply}
-use Rattle.ec_core.specs.declared.act.Reply.TheVariants.{Done, Number, Pending}
+use Rattle.ec_core.specs.declared.act.Reply.TheVariants.{Number, Pending}
 use Rattle.ec_core.specs.declared.act.Entry.{Entry}
 use Rattle.ec_core.specs.Counts.{total, issued, sum_to, is_advance, is_ticket}
 use Rattle.ec_core.specs.Calls.{CallSoFar, under_way, gone_on, is_pending}
 use Rattle.ec_core.specs.Rounds.{width, sum_read, next_component, round_reply, read_reply, IsPastOf, IsPastOfEach, EachIsPastOf}
 use Rattle.ec_core.specs.Acceptance.{reply_of, answer_of, names_unknown_object, IsAccepted}
-use Rattle.ec_core.specs.Following.{Told, Rule, opened, block_after, block}
+use Rattle.ec_core.specs.Following.{Rule, opened, block}
 use Rattle.ec_core.proofs.Answering.{allowed, call_reads, IsReading, IsReadingCall, width_some}
 use Rattle.ec_core.proofs.Totals.{raised_sum, zeros, round_between}
-use Rattle.ec_core.proofs.Pasts.{call_before}
+use Rattle.ec_core.proofs.Pasts.{call_before, past_of_past, pending_is}
 use Rattle.ec_core.proofs.CallRounds.{IsStacked, IsCallStacked, call_stacked}
 use Rattle.ec_core.proofs.Moments.{accepted_before}
-use Rattle.ec_core.proofs.Following.{other_block, opened_is, moments_before, op_at, moments_of, reply_read}
+use Rattle.ec_core.proofs.Following.{other_block, pending_after, opened_is, moments_before, op_at, moments_of, reply_read}
 
 -- COUNTS BY WORKER
 
@@ -103,14 +102,11 @@ oldest p (q ∷ ps) = oldest q ps
 abbrev pub began : Entry → List Entry → List Entry
 began x past = oldest past (moments_of x.act (under_way x.worker past))
 
-past_past : (a b c : List Entry) → IsPastOf a b → IsPastOf b c → IsPastOf a c
-past_past a b c p q = record { since = q.since ++ p.since; is = q.is ∙ ap (λ z. q.since ++ z) p.is ∙ sym (append_assoc q.since p.since a) }
-
 oldest_past : (p : List Entry) (ps : List (List Entry)) → EachIsPastOf ps p → IsStacked ps → IsPastOf (oldest p ps) p × IsPastOfEach (oldest p ps) ps
 oldest_past p [] h n = (record { since = []; is = refl }, tt)
 oldest_past p (q ∷ ps) h n =
     (let k = oldest_past q ps n.0 n.1 in
-    (past_past (oldest q ps) q p k.0 h.0, (k.0, k.1)))
+    (past_of_past (oldest q ps) q p k.0 h.0, (k.0, k.1)))
 
 moments_stacked : (act : Act) (o : Option CallSoFar) → IsCallStacked o → IsStacked (moments_of act o)
 moments_stacked Go None h = tt
@@ -144,11 +140,6 @@ begun_on r w past now (p ∷ ps) e h = h ∙ sym e
 began_moments : (r : Rule) (w : ℕ) (past : List Entry) (ps : List (List Entry)) → IsBegunAt r w past ps → block r w (oldest past ps) ≡ block r w past
 began_moments r w past [] h = refl
 began_moments r w past (p ∷ ps) h = h
-
-pending_after : (r : Rule) (b : List Told) (op : Act) (reply : Reply) → is_pending reply ≡ true → block_after r b op reply ≡ b
-pending_after r b op Pending h = refl
-pending_after r b op Done h = cc
-pending_after r b op (Number n) h = cc
 
 pending_block : (r : Rule) (w : ℕ) (x : Entry) (past : List Entry) → (x.worker == w) ≡ true → is_pending x.reply ≡ true → block r w (x ∷ past) ≡ block r w past
 unfolding block
@@ -234,11 +225,6 @@ short_gone t past w (Advance f) o d e known r h p = tt
 short_gone t past w (Ticket q) o d e known r h p = tt
 short_gone t past w (Put y v) o d e known r h p = tt
 short_gone t past w (Get y) o d e known r h p = tt
-
-pending_is : (r : Reply) → is_pending r ≡ true → r ≡ Pending
-pending_is Pending h = refl
-pending_is Done h = cc
-pending_is (Number n) h = cc
 
 short : (t : Tables) (w : ℕ) (past : List Entry) → IsDeclared t → IsAccepted t past → IsShortCall t (under_way w past)
 unfolding under_way

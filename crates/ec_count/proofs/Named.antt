@@ -65,10 +65,6 @@ name_at names i e h at =
     subst (λ (d : List ℕ × Target). is_name d.0 ≡ true) (get_or_from_slice_get names i e e at) (h.each i e (slice_get_within names i e at))
 
 -- a name that was not added before joins the others
-none_from_test : {A : Type 0} (o : Option A) → is_some o ≡ false → o ≡ None
-none_from_test None e = refl
-none_from_test (Some x) e = absurd (true≢false e)
-
 pub none_left : {A : Type 0} (o : Option A) → ((x : A) → o ≡ Some x → ⊥) → o ≡ None
 none_left None h = refl
 none_left (Some x) h = absurd (h x refl)

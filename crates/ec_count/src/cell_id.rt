@@ -20,6 +20,7 @@ impl Model for CellId {
 }
 
 impl CellId {
+    /// The id of cell n; None where n is above 255.
     pub fn new(n: usize) -> Option<Self>
         ensures variant { IsSome result ↔ (n < 256) }
         ensures value { IfSome result (λ i. i ≡ n) }
@@ -31,6 +32,7 @@ impl CellId {
         }
     }
 
+    /// Its number, from 0 to 255.
     pub fn get(self) -> usize
         ensures value { result ≡ self }
         ensures small { result < 256 }

@@ -20,6 +20,7 @@ impl Model for Limit {
 }
 
 impl Limit {
+    /// The limit n; None where n is 0 or above 4294967295.
     pub fn new(n: u64) -> Option<Self>
         ensures variant { IsSome result ↔ ((1 ≤ n) × (n < 2 ^ 32)) }
         ensures value { IfSome result (λ l. l ≡ n) }
@@ -31,6 +32,7 @@ impl Limit {
         }
     }
 
+    /// Its number, from 1 to 4294967295.
     pub fn get(self) -> u64
         ensures value { result ≡ self }
         ensures range { (1 ≤ result) × (result < 2 ^ 32) }

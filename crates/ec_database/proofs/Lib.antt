@@ -6,6 +6,7 @@ pub mod Getting
 pub mod JoinedCalls
 pub mod Listing
 pub mod Once
+pub mod OneList
 pub mod Placed
 pub mod Readers
 pub mod Spelled

@@ -37,6 +37,10 @@ AcceptedTriesAreUndisturbed = (t : Tables) (d : Database) (h : List Entry) → I
 abbrev pub TriesAreListed : Type 0
 TriesAreListed = (t : Tables) (d : Database) (h : List Entry) → ListsTries t d h (accepted_tries d (writes t d) (reverse h))
 
+-- there is one list of them
+abbrev pub TriesAreDetermined : Type 0
+TriesAreDetermined = (t : Tables) (d : Database) (h : List Entry) (xs ys : List AcceptedTry) → ListsTries t d h xs → ListsTries t d h ys → xs ≡ ys
+
 -- the call lists are those written out, whatever turn or version a list's calls answered
 pub record CallsAreListed (d : Database) : Type 0 where
   pub writings : (values : List ℕ) (calls : List Told) → length values ≡ d.cells → write_call d values calls ≡ slice_get (write_list d values (turn_of calls)) (length calls)

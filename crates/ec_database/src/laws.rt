@@ -1,6 +1,6 @@
 //! What the definitions mean: each function says a law and does nothing.
 ghost use Rattle.ec_database.specs.Joined.{FollowingMeansLists};
-ghost use Rattle.ec_database.specs.Laws.{DatabasesStay, VersionsArePutOnce, AcceptedTriesAreUndisturbed, TriesAreListed, CallListsAreWritten, SnapshotsAreTries};
+ghost use Rattle.ec_database.specs.Laws.{DatabasesStay, VersionsArePutOnce, AcceptedTriesAreUndisturbed, TriesAreListed, TriesAreDetermined, CallListsAreWritten, SnapshotsAreTries};
 
 /// A database that fits declarations fits them still where more is declared.
 pub fn declared_databases_stay()
@@ -22,6 +22,11 @@ pub fn accepted_tries_are_undisturbed()
 /// steps.
 pub fn accepted_tries_are_listed()
     ensures { TriesAreListed }
+{}
+
+/// The accepting tries of a history make one list, and no other.
+pub fn accepted_tries_are_determined()
+    ensures { TriesAreDetermined }
 {}
 
 /// The call lists of a writing and of a try are those written out, whatever turn the writing drew

@@ -62,9 +62,6 @@ spelled n (c ∷ w) d small =
     let l : ltb n 100000000000000000 ≡ true = lt-ltb _ _ (omega (arith, value_from-ge (10 * n + (c - 48)) w)) in
     rw (p.0, l) (spelled (10 * n + (c - 48)) w p.1 small)
 
-model : IsNumeralModel (λ ds. all_ascii_digits ds ≡ true) (value_from 0)
-model = own
-
 has_form_parts : (w : List ℕ) → has_form w ≡ true → (0 < length w) × (get_or w 0 0 ≡ 48 → length w ≡ 1)
 has_form_parts w e = elim (or_cases (eqb (length w) 1) (ltb 0 (length w) && not (eqb (get_or w 0 0) 48)) e) [
   | inl one ↦ let l : length w ≡ 1 = eqb-true _ _ one in (omega arith, λ _. l)

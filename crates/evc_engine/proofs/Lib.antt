@@ -2,3 +2,4 @@ pub mod AuditLemmas
 pub mod Undeclared
 pub mod TotalLemmas
 pub mod CheckLemmas
+pub mod OneText

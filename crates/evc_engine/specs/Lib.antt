@@ -4,3 +4,4 @@ pub mod Notes
 pub mod Checks
 pub mod AuditTexts
 pub mod Audits
+pub mod AuditLaws

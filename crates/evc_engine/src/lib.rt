@@ -5,6 +5,7 @@ mod audit_text;
 mod audited;
 mod auditing;
 mod checking;
+mod laws;
 mod notes;
 mod status;
 mod text;
@@ -12,5 +13,6 @@ mod totals;
 
 pub use auditing::audit;
 pub use checking::check;
+pub use laws::{audits_end_one_way, audits_have_one_text};
 pub use notes::Notes;
 pub use status::Status;

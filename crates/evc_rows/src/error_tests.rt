@@ -1,5 +1,5 @@
 //! The texts of errors.
-use crate::drive::worker;
+use crate::ids::worker;
 use ec_core::{AuditFault, Refusal, StepFault};
 use ec_count::{AtLimit, NameFault, SetupFault};
 use ec_order::OrderFault;

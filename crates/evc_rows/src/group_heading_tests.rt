@@ -1,9 +1,9 @@
 //! Headings and traces that declare groups.
-use crate::drive::{cell, event, sequencer, worker};
 use crate::group_texts::{
     ALL_GROUPS, ALL_GROUPS_ORDER_HEAD, ALL_GROUPS_ORDER_TAIL, BOTH, BOTH_ORDER, BUFFER,
     BUFFER_ORDER, DATABASE, DATABASE_ORDER,
 };
+use crate::ids::{cell, event, sequencer, worker};
 use crate::outcome::checked;
 use ec_count::{Limit, Target};
 use ec_trace::{Group, HeadFault, Heading, Sort, read_trace, write_trace};
@@ -116,7 +116,9 @@ fn words_stand_in_the_order_of_the_objects(rt: HostRuntime) -> Result<(), Fail> 
     ];
     assert_eq!(rt; words.len(), right.len());
     for (place, word) in right.iter().enumerate() {
-        let (found, target) = words.at(place).ok_or("no word")?;
+        let Some((found, target)) = words.at(place) else {
+            return Err(Fail::new("no word"));
+        };
         assert!(rt; found == word.as_bytes(), "at {word}");
         assert_eq!(rt; words.find(word.as_bytes()), Some(target));
     }

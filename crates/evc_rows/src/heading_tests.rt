@@ -1,5 +1,5 @@
 //! Headings, line by line.
-use crate::drive::{cell, event, sequencer, worker};
+use crate::ids::{cell, event, sequencer, worker};
 use ec_count::{Limit, Target};
 use ec_trace::{HeadFault, Heading};
 use std::alloc::Global;

@@ -1,16 +1,11 @@
-//! Tests that cross the crates: worked histories and their texts, hostile input, and readers and writers that fail.
+//! Tests of texts, through the crates that read and write them: worked traces, hostile input, and readers and writers
+//! that fail.
 #![tactic(auto)]
 
 #[cfg(test)]
 mod broken_texts;
 #[cfg(test)]
-mod buffer_tests;
-#[cfg(test)]
 mod check_tests;
-#[cfg(test)]
-mod database_tests;
-#[cfg(test)]
-mod drive;
 #[cfg(test)]
 mod error_tests;
 #[cfg(test)]
@@ -24,17 +19,11 @@ mod group_texts;
 #[cfg(test)]
 mod heading_tests;
 #[cfg(test)]
-mod histories;
-#[cfg(test)]
 mod hostile_tests;
 #[cfg(test)]
-mod names_tests;
-#[cfg(test)]
-mod order_tests;
+mod ids;
 #[cfg(test)]
 mod outcome;
-#[cfg(test)]
-mod program_tests;
 #[cfg(test)]
 mod semaphore_tests;
 #[cfg(test)]
@@ -43,9 +32,5 @@ mod setup_tests;
 mod steps_tests;
 #[cfg(test)]
 mod texts;
-#[cfg(test)]
-mod verify_tests;
-#[cfg(test)]
-mod vocabulary_tests;
 #[cfg(test)]
 mod writing_tests;

@@ -1,0 +1,196 @@
+//! What is declared: how many of each thing, who has which right, and who is silent.
+ghost use Rattle.std.specs.Prelude.{◌≡◌, ◌≤◌, ◌<◌, length, IfSome};
+ghost use Rattle.ec_count.specs.Lists.{observers, takers, writers, readers};
+ghost use Rattle.ec_count.specs.Tables.{component_of, components, signaller, signallers, is_silent, signals_any, takes_any, writes_any, may_observe, may_take, may_write, may_read};
+
+use super::Setup;
+use crate::{CellId, EventId, Limit, SeqId, WorkerId};
+
+impl Setup {
+    /// The limit of each component and each sequencer.
+    pub fn limit(&self) -> Limit
+        ensures { result ≡ self.now.limit }
+    {
+        self.limit
+    }
+
+    /// How many workers are declared.
+    pub fn workers(&self) -> usize
+        ensures value { result ≡ self.now.workers }
+        ensures few { result ≤ 16 }
+    {
+        self.workers
+    }
+
+    /// How many eventcounts are declared.
+    pub fn events(&self) -> usize
+        ensures { result ≡ length self.now.events }
+    {
+        self.events.len()
+    }
+
+    /// How many sequencers are declared.
+    pub fn sequencers(&self) -> usize
+        ensures { result ≡ length self.now.takers }
+    {
+        self.takers.len()
+    }
+
+    /// How many cells are declared.
+    pub fn cells(&self) -> usize
+        ensures { result ≡ length self.now.cells }
+    {
+        self.cells.len()
+    }
+
+    /// How many components an eventcount has; None where it is not declared.
+    pub fn components(&self, event: EventId) -> Option<usize>
+        ensures value { result ≡ components self.now event }
+        ensures few { IfSome result (λ n. n ≤ 16) }
+    {
+        let row = self.events.as_slice().get(event.get())?;
+        Some(row.signal.len())
+    }
+
+    /// The component of an eventcount that is the worker's own: its place, from 0, among the
+    /// signallers. None where the worker signals none of it, as where it is not declared.
+    pub fn component_of(&self, event: EventId, worker: WorkerId) -> Option<usize>
+        ensures value { result ≡ component_of self.now event worker }
+        ensures few { IfSome result (λ c. c < 16) }
+    {
+        let row = self.events.as_slice().get(event.get())?;
+        row.signal.place(worker)
+    }
+
+    /// The one worker that signals a component; None where there is no such component.
+    pub fn signaller(&self, event: EventId, component: usize) -> Option<WorkerId>
+        ensures { result ≡ signaller self.now event component }
+    {
+        let row = self.events.as_slice().get(event.get())?;
+        row.signal.get(component)
+    }
+
+    /// Whether the worker may read and await the eventcount.
+    pub fn may_observe(&self, event: EventId, worker: WorkerId) -> bool
+        ensures { result ≡ may_observe self.now event worker }
+    {
+        match self.events.as_slice().get(event.get()) {
+            Some(row) => row.observe.contains(worker),
+            None => false,
+        }
+    }
+
+    /// Whether the worker may draw tickets of the sequencer.
+    pub fn may_take(&self, sequencer: SeqId, worker: WorkerId) -> bool
+        ensures { result ≡ may_take self.now sequencer worker }
+    {
+        match self.takers.as_slice().get(sequencer.get()) {
+            Some(take) => take.contains(worker),
+            None => false,
+        }
+    }
+
+    /// Whether the worker may put into the cell.
+    pub fn may_write(&self, cell: CellId, worker: WorkerId) -> bool
+        ensures { result ≡ may_write self.now cell worker }
+    {
+        match self.cells.as_slice().get(cell.get()) {
+            Some(access) => access.write.contains(worker),
+            None => false,
+        }
+    }
+
+    /// Whether the worker may get the cell's value.
+    pub fn may_read(&self, cell: CellId, worker: WorkerId) -> bool
+        ensures { result ≡ may_read self.now cell worker }
+    {
+        match self.cells.as_slice().get(cell.get()) {
+            Some(access) => access.read.contains(worker),
+            None => false,
+        }
+    }
+
+    /// Whether the worker is declared, signals no eventcount, takes from no sequencer and writes no
+    /// cell.
+    pub fn is_silent(&self, worker: WorkerId) -> bool
+        ensures { result ≡ is_silent self.now worker }
+    {
+        worker.get() < self.workers()
+            && !self.signals_any(worker)
+            && !self.takes_any(worker)
+            && !self.writes_any(worker)
+    }
+
+    fn signals_any(&self, worker: WorkerId) -> bool
+        ensures { result ≡ signals_any self.now worker }
+    {
+        let rows = self.events.as_slice();
+        rows.iter().any(|row| row.signal.contains(worker))
+    }
+
+    fn takes_any(&self, worker: WorkerId) -> bool
+        ensures { result ≡ takes_any self.now worker }
+    {
+        let lists = self.takers.as_slice();
+        lists.iter().any(|take| take.contains(worker))
+    }
+
+    fn writes_any(&self, worker: WorkerId) -> bool
+        ensures { result ≡ writes_any self.now worker }
+    {
+        let rows = self.cells.as_slice();
+        rows.iter().any(|access| access.write.contains(worker))
+    }
+}
+
+impl Setup {
+    /// The signallers of an eventcount, in order of component; none where it is not declared.
+    pub fn signallers(&self, event: EventId) -> &[WorkerId]
+        ensures { result.now ≡ signallers self.now event }
+    {
+        match self.events.as_slice().get(event.get()) {
+            Some(rights) => rights.signal.as_slice(),
+            None => &[],
+        }
+    }
+
+    /// The observers of an eventcount, as they were declared; none where it is not declared.
+    pub fn observers(&self, event: EventId) -> &[WorkerId]
+        ensures { result.now ≡ observers self.now event }
+    {
+        match self.events.as_slice().get(event.get()) {
+            Some(rights) => rights.observe.as_slice(),
+            None => &[],
+        }
+    }
+
+    /// The takers of a sequencer, as they were declared; none where it is not declared.
+    pub fn takers(&self, sequencer: SeqId) -> &[WorkerId]
+        ensures { result.now ≡ takers self.now sequencer }
+    {
+        match self.takers.as_slice().get(sequencer.get()) {
+            Some(take) => take.as_slice(),
+            None => &[],
+        }
+    }
+
+    /// The writers of a cell, as they were declared; none where it is not declared.
+    pub fn writers(&self, cell: CellId) -> &[WorkerId]
+        ensures { result.now ≡ writers self.now cell }
+    {
+        match self.cells.as_slice().get(cell.get()) {
+            Some(access) => access.write.as_slice(),
+            None => &[],
+        }
+    }
+
+    /// The readers of a cell, as they were declared; none where it is not declared.
+    pub fn readers(&self, cell: CellId) -> &[WorkerId]
+        ensures { result.now ≡ readers self.now cell }
+    {
+        match self.cells.as_slice().get(cell.get()) {
+            Some(access) => access.read.as_slice(),
+            None => &[],
+        }
+    }
+}

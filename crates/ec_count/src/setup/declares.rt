@@ -1,0 +1,75 @@
+//! What is declared at an id.
+ghost use Rattle.std.specs.Prelude.{IsTrue, ◌↔◌, ◌≡◌};
+ghost use Rattle.ec_count.specs.Declares.{DeclaresEvent, DeclaresSequencer, DeclaresCells};
+ghost use Rattle.ec_count.specs.Rows.{has_event_row, has_sequencer_row, has_cell_row};
+
+use super::Setup;
+use crate::{CellId, EventId, SeqId, WorkerId};
+
+impl Setup {
+    /// Whether this is an eventcount with just these signallers, in order of component, and these
+    /// observers, in the order in which they were declared.
+    pub fn declares_event(&self, event: EventId, signal: &[WorkerId], observe: &[WorkerId]) -> bool
+        ensures { IsTrue result ↔ DeclaresEvent self.now event signal.now observe.now }
+    {
+        self.has_event_row(event.get(), signal, observe)
+    }
+
+    /// Whether this is a sequencer with just these takers, in the order in which they were
+    /// declared.
+    pub fn declares_sequencer(&self, sequencer: SeqId, take: &[WorkerId]) -> bool
+        ensures { IsTrue result ↔ DeclaresSequencer self.now sequencer take.now }
+    {
+        self.has_sequencer_row(sequencer.get(), take)
+    }
+
+    /// Whether the n cells from this one on have just these writers and readers, in the order in
+    /// which they were declared.
+    pub fn declares_cells(
+        &self,
+        first: CellId,
+        n: usize,
+        write: &[WorkerId],
+        read: &[WorkerId],
+    ) -> bool
+        ensures { IsTrue result ↔ DeclaresCells self.now first n write.now read.now }
+    {
+        self.known();
+        if n > self.cells() {
+            return false;
+        }
+        for k in 0..n {
+            if !self.has_cell_row(first.get() + k, write, read) {
+                return false;
+            }
+        }
+        true
+    }
+
+    fn has_event_row(&self, event: usize, signal: &[WorkerId], observe: &[WorkerId]) -> bool
+        ensures { result ≡ has_event_row self.now event signal.now observe.now }
+    {
+        match self.events.as_slice().get(event) {
+            Some(row) => row.signal.as_slice() == signal && row.observe.as_slice() == observe,
+            None => false,
+        }
+    }
+
+    fn has_sequencer_row(&self, sequencer: usize, take: &[WorkerId]) -> bool
+        ensures { result ≡ has_sequencer_row self.now sequencer take.now }
+    {
+        match self.takers.as_slice().get(sequencer) {
+            Some(row) => row.as_slice() == take,
+            None => false,
+        }
+    }
+
+    fn has_cell_row(&self, cell: usize, write: &[WorkerId], read: &[WorkerId]) -> bool
+        ensures { result ≡ has_cell_row self.now cell write.now read.now }
+    {
+        match self.cells.as_slice().get(cell) {
+            Some(row) => row.write.as_slice() == write && row.read.as_slice() == read,
+            None => false,
+        }
+    }
+}

@@ -1,0 +1,5 @@
+use Rattle.ec_database.proofs.OneList.{determined}
+use Rattle.ec_database.proofs.laws.accepted_tries_are_determined.Goals as goal
+
+pub returns : goal.returns
+returns c = determined

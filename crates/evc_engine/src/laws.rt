@@ -1,0 +1,12 @@
+//! What the contracts of the commands mean: each function says a law and does nothing.
+ghost use Rattle.evc_engine.specs.AuditLaws.{AuditsHaveOneText, TextOrBreak};
+
+/// What `audit` writes where it is done is determined by the bytes that it read: there is one text.
+pub fn audits_have_one_text()
+    ensures { AuditsHaveOneText }
+{}
+
+/// A trace has the text of an audit or a first group that is not followed, and never both.
+pub fn audits_end_one_way()
+    ensures { TextOrBreak }
+{}
