@@ -14,6 +14,8 @@ mod names_tests;
 #[cfg(test)]
 mod order_tests;
 #[cfg(test)]
+mod program_tests;
+#[cfg(test)]
 mod semaphore_tests;
 #[cfg(test)]
 mod setup_tests;

@@ -25,6 +25,12 @@ mod ids;
 #[cfg(test)]
 mod outcome;
 #[cfg(test)]
+mod semaphore_tests;
+#[cfg(test)]
+mod setup_tests;
+#[cfg(test)]
+mod steps_tests;
+#[cfg(test)]
 mod texts;
 #[cfg(test)]
 mod writing_tests;

@@ -1,0 +1,5 @@
+use Rattle.ec_machine.proofs.OwnCalls.{own_cut}
+use Rattle.ec_machine.proofs.laws.own_steps_are_cut.Goals as goal
+
+pub returns : goal.returns
+returns c = own_cut

@@ -1,0 +1,19 @@
+//! What the definitions mean: each function says a law and does nothing.
+ghost use Rattle.ec_machine.specs.Laws.{RunsAreOfWholeLists, OwnStepsAreCut, BeginningsAreRuns};
+
+/// In a run of a program the finished calls are whole lists of calls joined end to end, one for
+/// each command from the first on, the repeats written out, and then the beginning of the list of
+/// the command that follows; the call under way is the one that comes next.
+pub fn runs_are_of_whole_lists()
+    ensures { RunsAreOfWholeLists }
+{}
+
+/// In an accepted history the calls of a worker's own steps are its calls.
+pub fn own_steps_are_cut()
+    ensures { OwnStepsAreCut }
+{}
+
+/// Each beginning of a run of a program is a run of it.
+pub fn beginnings_are_runs()
+    ensures { BeginningsAreRuns }
+{}

@@ -1,0 +1,22 @@
+//! Programs of workers: commands that stand for calls, and repeats of them.
+#![tactic(auto)]
+
+mod command;
+mod follow;
+mod laws;
+mod limits;
+mod machine;
+mod one_call;
+mod outcome;
+mod program;
+mod remaining;
+mod settling;
+mod task;
+mod values;
+
+pub use command::{Command, Value};
+pub use follow::follows;
+pub use laws::{beginnings_are_runs, own_steps_are_cut, runs_are_of_whole_lists};
+pub use machine::Machine;
+pub use outcome::Outcome;
+pub use program::Program;
