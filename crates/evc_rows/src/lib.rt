@@ -25,12 +25,6 @@ mod ids;
 #[cfg(test)]
 mod outcome;
 #[cfg(test)]
-mod semaphore_tests;
-#[cfg(test)]
-mod setup_tests;
-#[cfg(test)]
-mod steps_tests;
-#[cfg(test)]
 mod texts;
 #[cfg(test)]
 mod writing_tests;
