@@ -1,0 +1,63 @@
+//! Programs.
+ghost use Rattle.std.specs.Prelude.{◌≡◌, ◌≤◌, ◌↔◌, true, IsTrue, IsSome, IfSome};
+ghost use Rattle.ec_machine.specs.Programs.{IsProgram};
+ghost use Rattle.ec_machine.specs.Written.{written};
+
+use crate::Command;
+use crate::limits::keeps_limits;
+use crate::remaining::Remaining;
+use std::marker::Model;
+
+/// What a worker is to do: its commands, one after another. A contract sees it as their list.
+#[derive(Drop)]
+pub struct Program {
+    commands: Vec<Command>,
+}
+
+impl Model for Program {
+    ghost use Rattle.std.specs.Prelude.{List};
+    ghost use Rattle.std.specs.Coded.{codes};
+    ghost use Rattle.ec_machine.specs.declared.command.Command.{Command};
+    ghost use Rattle.ec_machine.specs.contracts.command.Command as command;
+    ghost use Rattle.ec_machine.specs.Programs.{IsProgram};
+
+    ghost Value = { List Command };
+
+    ghost coded = { Prim.hlevel (codes, command.the_row.coded) };
+
+    ghost view = { λ p. p.commands.items };
+
+    ghost invariant = { λ p. IsProgram p.commands.items };
+}
+
+impl Program {
+    /// A program of these commands, where they keep the limits: at most 4096 commands, repeats
+    /// among them, and at most four repeats in one another; each count of a repeat from 1 to
+    /// 1000000, and a command in each block; as many values of a WriteAll as cells; from 1 to 1000
+    /// tries of a Snapshot; three different semaphores of a DownBoth, the common one with initial
+    /// value 1; each written number at most VALUE_MAX, and that of LastPlus at least 1. Else None,
+    /// and the commands are dropped.
+    pub fn new(commands: Vec<Command>) -> Option<Program>
+        ensures variant { IsSome result ↔ IsProgram commands.items }
+        ensures value { IfSome result (λ p. p ≡ commands.items) }
+    {
+        if keeps_limits(commands.as_slice()) {
+            return Some(Program { commands });
+        }
+        None
+    }
+
+    /// Its commands, with their repeats written out, at their start.
+    pub(crate) fn remaining(&self) -> Remaining<'_>
+        ensures { result ≡ written self.now }
+    {
+        Remaining::new(self.commands.as_slice())
+    }
+
+    /// What is true of a program: its commands keep the limits.
+    pub fn known(&self)
+        ensures { IsProgram self.now }
+    {
+        let _ = &self.commands;
+    }
+}
