@@ -8,4 +8,4 @@ mod seats;
 mod wait;
 
 pub use board::{Board, BoardFault, Parked};
-pub use seat::Seat;
+use seat::Seat;

@@ -6,7 +6,7 @@ use ec_count::EventId;
 
 /// How a worker stands on a board.
 #[derive(Clone, Copy, Debug, PartialEq, Eq)]
-pub enum Seat {
+pub(crate) enum Seat {
     /// It has left, or was never declared.
     Gone,
     /// It is live, and doesn't wait.
