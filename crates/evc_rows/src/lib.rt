@@ -2,6 +2,8 @@
 #![tactic(auto)]
 
 #[cfg(test)]
+mod board_tests;
+#[cfg(test)]
 mod broken_texts;
 #[cfg(test)]
 mod buffer_tests;
