@@ -3,6 +3,8 @@
 #![tactic(auto)]
 
 #[cfg(test)]
+mod board_tests;
+#[cfg(test)]
 mod broken_texts;
 #[cfg(test)]
 mod check_tests;

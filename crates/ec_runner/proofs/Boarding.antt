@@ -1,0 +1,219 @@
+-- The waiters of a board after a park, a leave and a step.
+use Rattle.std.proofs.Common.{◌≡◌, ◌≢◌, ℕ, zero, suc, ◌+◌, ◌<◌, Bool, true, false, ◌==◌, ◌&&◌, ◌||◌, not, nat_le, nat_lt, inl, inr, List, [], ◌∷◌, ◌++◌, length, reverse, Option, Some, None, slice_get, slice_set, cond, refl, ap, sym, ◌∙◌, subst, arith}
+use Rattle.std.specs.Option.{option_and_then, option_map}
+use Rattle.std.specs.List.{list_any}
+use Rattle.std.proofs.lemmas.Bool.{eqb-true, eq-eqb, leb-false, and_parts}
+use Rattle.std.proofs.lemmas.Bool.Decides.{nat_tests}
+use Rattle.std.proofs.lemmas.Option.{slice_get-map}
+use Rattle.ec_count.specs.Tables.{Tables}
+use Rattle.ec_core.specs.declared.act.Act.{Act}
+use Rattle.ec_core.specs.declared.act.Act.TheVariants.{Advance, Read, Await, Go, Ticket, Put, Get}
+use Rattle.ec_core.specs.declared.act.Entry.{Entry}
+use Rattle.ec_core.specs.Counts.{total, is_advance}
+use Rattle.ec_core.specs.Calls.{CallSoFar, under_way}
+use Rattle.ec_core.specs.Rounds.{event_or, next_component}
+use Rattle.ec_core.specs.Acceptance.{IsAccepted}
+use Rattle.ec_core.proofs.Answering.{IsReading, IsReadingCall, call_reads}
+use Rattle.ec_core.proofs.Stepping.{past_after}
+use Rattle.ec_core.proofs.Scans.{call_other}
+use Rattle.ec_runner.specs.declared.seat.Seat.{Seat}
+use Rattle.ec_runner.specs.declared.seat.Seat.TheVariants.{Gone, Running, Waiting}
+use Rattle.ec_runner.specs.declared.wait.Wait.{Wait}
+use Rattle.ec_runner.specs.Seated.{is_live, is_running, seat_of, every_live_waits, is_stuck_in, kept, woken}
+use Rattle.ec_runner.specs.Boarded.{Boarded, past_of, short_at, fallen_short, awaited, unmet, wait_of, AreWaiters, with_seat, after_entry}
+use Rattle.ec_runner.proofs.Lining.{moved_to}
+
+-- WHAT IS WAITED FOR
+
+short_is : (b : Bool) (e v : ℕ) (a : Wait) → cond b (Some (record { event = e; threshold = v })) None ≡ Some a → e ≡ a.event
+short_is true e v a h = cc
+short_is false e v a h = cc
+
+short_reads : (t : Tables) (op : Act) (c : ℕ) (a : Wait) → IsReading t op → short_at op c ≡ Some a → a.event < length t.events
+short_reads t (Await e v) c a r h = (let P : ℕ → Type 0 = λ d. d < length t.events in subst P (short_is (c == 0) e v a h) r)
+short_reads t (Advance e) c a r h = cc
+short_reads t (Read e) c a r h = cc
+short_reads t Go c a r h = cc
+short_reads t (Ticket q) c a r h = cc
+short_reads t (Put x v) c a r h = cc
+short_reads t (Get x) c a r h = cc
+
+call_short : (t : Tables) (o : Option CallSoFar) (a : Wait) → IsReadingCall t o → option_and_then (fallen_short t) o ≡ Some a → a.event < length t.events
+call_short t None a r h = cc
+call_short t (Some call) a r h = short_reads t call.op (next_component t (event_or call.op) call.moments) a r h
+
+pub awaited_declared : (t : Tables) (w : ℕ) (past : List Entry) (a : Wait) → IsAccepted t past → awaited t w past ≡ Some a → a.event < length t.events
+awaited_declared t w past a acc h = call_short t (under_way w past) a (call_reads t past w acc) h
+
+awaited_other : (t : Tables) (w : ℕ) (x : Entry) (past : List Entry) → (x.worker == w) ≡ false → awaited t w (x ∷ past) ≡ awaited t w past
+awaited_other t w x past h = ap (option_and_then (fallen_short t)) (call_other w x past h)
+
+-- a wait that a worker has: it fell short, and the total is below
+pub record IsWait (b : Boarded) (w : ℕ) (a : Wait) : Type 0 where
+  pub short : awaited b.run.setup w (past_of b.run) ≡ Some a
+  pub above : total a.event (past_of b.run) < a.threshold
+
+lt_of : (m n : ℕ) → nat_lt m n ≡ true → m < n
+lt_of m n h = grind (arith, nat_tests)
+
+unmet_is : (past : List Entry) (o : Option Wait) (a : Wait) → unmet past o ≡ Some a → (o ≡ Some a) × (total a.event past < a.threshold)
+unmet_is past None a h = cc
+unmet_is past (Some d) a h =
+    elim (nat_lt (total d.event past) d.threshold) as (λ b. nat_lt (total d.event past) d.threshold ≡ b → cond b (Some d) None ≡ Some a → (Some d ≡ Some a) × (total a.event past < a.threshold)) [
+      | true ↦ λ t k. (k, (let same : d ≡ a = cc in subst (λ (z : Wait). total z.event past < z.threshold) same (lt_of (total d.event past) d.threshold t)))
+      | false ↦ λ t k. cc
+    ] refl h
+
+wait_if : (b : Bool) (o : Option Wait) (a : Wait) → cond b o None ≡ Some a → o ≡ Some a
+wait_if true o a h = h
+wait_if false o a h = cc
+
+pub is_wait : (b : Boarded) (w : ℕ) (a : Wait) → wait_of b w ≡ Some a → IsWait b w a
+is_wait b w a h =
+    let k = unmet_is (past_of b.run) (awaited b.run.setup w (past_of b.run)) a (wait_if (is_live (seat_of b.seats w)) _ a h) in
+    record { short = k.0; above = k.1 }
+
+wait_made : (a : Wait) (e v : ℕ) → a.event ≡ e → a.threshold ≡ v → a ≡ record { event = e; threshold = v }
+wait_made a e v p q =
+    ap (λ (d : ℕ). (let w : Wait = record { event = d; threshold = a.threshold } in w)) p ∙ ap (λ (n : ℕ). (let w : Wait = record { event = e; threshold = n } in w)) q
+
+-- PARK
+
+stuck_waits : (a b : Bool) → (a && b) ≡ true → b ≡ true
+stuck_waits a b h = (and_parts a b h).1
+
+pub parked : (b : Boarded) (w : ℕ) (a : Wait) → AreWaiters b → w < length b.seats → IsWait b w a
+    → AreWaiters (record { run = b.run; seats = slice_set b.seats w (Waiting a.event a.threshold); stuck = is_stuck_in (slice_set b.seats w (Waiting a.event a.threshold)) })
+parked b w a h within k = record {
+  short = λ u e v g. elim (moved_to b.seats w u (Waiting a.event a.threshold) (Waiting e v) within g) as (λ _. awaited b.run.setup u (past_of b.run) ≡ Some (record { event = e; threshold = v })) [
+    | inl p ↦ (let same : Waiting a.event a.threshold ≡ Waiting e v = p.1 in
+        let event : a.event ≡ e = cc in let threshold : a.threshold ≡ v = cc in
+        let is : a ≡ record { event = e; threshold = v } = wait_made a e v event threshold in
+        subst (λ (z : ℕ). awaited b.run.setup z (past_of b.run) ≡ Some (record { event = e; threshold = v })) (sym p.0) (k.short ∙ ap Some is))
+    | inr p ↦ h.short u e v p.1
+  ];
+  above = λ u e v g. elim (moved_to b.seats w u (Waiting a.event a.threshold) (Waiting e v) within g) as (λ _. total e (past_of b.run) < v) [
+    | inl p ↦ (let same : Waiting a.event a.threshold ≡ Waiting e v = p.1 in
+        let event : a.event ≡ e = cc in let threshold : a.threshold ≡ v = cc in
+        subst (λ (d : ℕ). total d (past_of b.run) < v) event (subst (λ (n : ℕ). total a.event (past_of b.run) < n) threshold k.above))
+    | inr p ↦ h.above u e v p.1
+  ];
+  all = λ s. stuck_waits (list_any is_live (slice_set b.seats w (Waiting a.event a.threshold))) _ s;
+}
+
+-- LEAVE
+
+none_runs : (r : Bool) (b : Bool) → (r || b) ≡ false → (r ≡ false) × (b ≡ false)
+none_runs false b h = (refl, h)
+none_runs true b h = cc
+
+gone_runs_not : (seats : List Seat) (w : ℕ) → list_any is_running seats ≡ false → list_any is_running (slice_set seats w Gone) ≡ false
+gone_runs_not [] w h = refl
+gone_runs_not (s ∷ seats) zero h = (none_runs (is_running s) _ h).1
+gone_runs_not (s ∷ seats) (suc w) h =
+    (let k = none_runs (is_running s) (list_any is_running seats) h in
+    ap (λ b. b || list_any is_running (slice_set seats w Gone)) k.0 ∙ gone_runs_not seats w k.1)
+
+not_is : (b : Bool) → not b ≡ true → b ≡ false
+not_is true h = cc
+not_is false h = refl
+
+all_wait_still : (stuck : Bool) (seats : List Seat) (w : ℕ) → (stuck ≡ true → every_live_waits seats ≡ true) → (stuck || is_stuck_in (slice_set seats w Gone)) ≡ true
+    → every_live_waits (slice_set seats w Gone) ≡ true
+all_wait_still true seats w h k = ap not (gone_runs_not seats w (not_is (list_any is_running seats) (h refl)))
+all_wait_still false seats w h k = stuck_waits (list_any is_live (slice_set seats w Gone)) _ k
+
+pub left : (b : Boarded) (w : ℕ) → AreWaiters b → w < length b.seats → AreWaiters (with_seat b w Gone)
+left b w h within = record {
+  short = λ u e v g. elim (moved_to b.seats w u Gone (Waiting e v) within g) as (λ _. awaited b.run.setup u (past_of b.run) ≡ Some (record { event = e; threshold = v })) [
+    | inl p ↦ (let same : Gone ≡ Waiting e v = p.1 in cc)
+    | inr p ↦ h.short u e v p.1
+  ];
+  above = λ u e v g. elim (moved_to b.seats w u Gone (Waiting e v) within g) as (λ _. total e (past_of b.run) < v) [
+    | inl p ↦ (let same : Gone ≡ Waiting e v = p.1 in cc)
+    | inr p ↦ h.above u e v p.1
+  ];
+  all = λ s. all_wait_still b.stuck b.seats w h.all s;
+}
+
+-- STEP
+
+-- a waiter that an advance does not let go
+still_kept : (f sum : ℕ) (s : Seat) (e v : ℕ) → kept f sum s ≡ Waiting e v → (s ≡ Waiting e v) × ((f == e) ≡ true → sum < v)
+still_kept f sum Gone e v h = cc
+still_kept f sum Running e v h = cc
+still_kept f sum (Waiting g u) e v h =
+    elim (g == f && nat_le u sum) as (λ b. (g == f && nat_le u sum) ≡ b → cond b Running (Waiting g u) ≡ Waiting e v → (Waiting g u ≡ Waiting e v) × ((f == e) ≡ true → sum < v)) [
+      | true ↦ λ t k. cc
+      | false ↦ λ t k. (
+        k,
+        λ same.
+            (let event : g ≡ e = cc in
+            let threshold : u ≡ v = cc in
+            let here : (g == f) ≡ true = eq-eqb g f (event ∙ sym (eqb-true f e same)) in
+            let above : nat_le u sum ≡ false = ap (λ b. b && nat_le u sum) (sym here) ∙ t in
+            let is : sum < u = leb-false u sum above in
+            subst (λ (n : ℕ). sum < n) threshold is),
+      )
+    ] refl h
+
+map_kept : (f sum : ℕ) (o : Option Seat) (e v : ℕ) → option_map (kept f sum) o ≡ Some (Waiting e v) → (o ≡ Some (Waiting e v)) × ((f == e) ≡ true → sum < v)
+map_kept f sum None e v h = cc
+map_kept f sum (Some s) e v h =
+    (let is : kept f sum s ≡ Waiting e v = cc in
+    let k = still_kept f sum s e v is in (ap Some k.0, k.1))
+
+woken_waits : (act : Act) (past : List Entry) (seats : List Seat) (u e v : ℕ) → slice_get (woken act past seats) u ≡ Some (Waiting e v)
+    → (slice_get seats u ≡ Some (Waiting e v)) × (is_advance e act ≡ true → total e past < v)
+woken_waits (Advance f) past seats u e v h =
+    (let k = map_kept f (total f past) (slice_get seats u) e v (sym (slice_get-map (kept f (total f past)) seats u) ∙ h) in
+    (k.0, λ t. subst (λ (d : ℕ). total d past < v) (eqb-true f e t) (k.1 t)))
+woken_waits (Read f) past seats u e v h = (h, λ t. cc)
+woken_waits (Await f n) past seats u e v h = (h, λ t. cc)
+woken_waits Go past seats u e v h = (h, λ t. cc)
+woken_waits (Ticket q) past seats u e v h = (h, λ t. cc)
+woken_waits (Put x n) past seats u e v h = (h, λ t. cc)
+woken_waits (Get x) past seats u e v h = (h, λ t. cc)
+
+total_still : (e : ℕ) (x : Entry) (past : List Entry) → is_advance e x.act ≡ false → total e (x ∷ past) ≡ total e past
+unfolding total
+total_still e x past h = ap (λ b. cond b 1 0 + total e past) h ∙ (let z : 0 + total e past ≡ total e past = omega arith in z)
+
+still_above : (e v : ℕ) (x : Entry) (past : List Entry) → total e past < v → (is_advance e x.act ≡ true → total e (x ∷ past) < v) → total e (x ∷ past) < v
+still_above e v x past before now =
+    elim (is_advance e x.act) as (λ b. is_advance e x.act ≡ b → total e (x ∷ past) < v) [
+      | true ↦ λ t. now t
+      | false ↦ λ t. subst (λ (n : ℕ). n < v) (sym (total_still e x past t)) before
+    ] refl
+
+other_worker : (x : Entry) (u : ℕ) → u ≢ x.worker → (x.worker == u) ≡ false
+other_worker x u n =
+    elim (x.worker == u) as (λ b. (x.worker == u) ≡ b → b ≡ false) [
+      | true ↦ λ t. absurd (n (sym (eqb-true x.worker u t)))
+      | false ↦ λ t. refl
+    ] refl
+
+stepped_on : (t : Tables) (seats : List Seat) (x : Entry) (past : List Entry) → x.worker < length seats
+    → ((w e v : ℕ) → slice_get seats w ≡ Some (Waiting e v) → awaited t w past ≡ Some (record { event = e; threshold = v }))
+    → ((w e v : ℕ) → slice_get seats w ≡ Some (Waiting e v) → total e past < v)
+    → (u e v : ℕ) → slice_get (woken x.act (x ∷ past) (slice_set seats x.worker Running)) u ≡ Some (Waiting e v)
+    → (awaited t u (x ∷ past) ≡ Some (record { event = e; threshold = v })) × (total e (x ∷ past) < v)
+stepped_on t seats x past within short above u e v g =
+    (let k = woken_waits x.act (x ∷ past) (slice_set seats x.worker Running) u e v g in
+    elim (moved_to seats x.worker u Running (Waiting e v) within k.0) as (λ _. (awaited t u (x ∷ past) ≡ Some (record { event = e; threshold = v })) × (total e (x ∷ past) < v)) [
+      | inl p ↦ (let same : Running ≡ Waiting e v = p.1 in cc)
+      | inr p ↦ (awaited_other t u x past (other_worker x u p.0) ∙ short u e v p.1, still_above e v x past (above u e v p.1) k.1)
+    ])
+
+pub stepped : (b : Boarded) (x : Entry) → AreWaiters b → b.stuck ≡ false → x.worker < length b.seats → AreWaiters (after_entry b x)
+stepped b x h free within =
+    let past = past_of b.run in
+    let after : reverse (b.run.entries ++ x ∷ []) ≡ x ∷ past = past_after b.run.entries x in
+    let P : List Entry → Type 0 = λ p. (u e v : ℕ) → slice_get (woken x.act p (slice_set b.seats x.worker Running)) u ≡ Some (Waiting e v)
+    → (awaited b.run.setup u p ≡ Some (record { event = e; threshold = v })) × (total e p < v) in
+    let each : P (reverse (b.run.entries ++ x ∷ [])) = subst P (sym after) (stepped_on b.run.setup b.seats x past within h.short h.above) in
+    record {
+      short = λ u e v g. (each u e v g).0;
+      above = λ u e v g. (each u e v g).1;
+      all = λ s. cc;
+    }

@@ -1,0 +1,4 @@
+pub mod Seated
+pub mod Lined
+pub mod Boarded
+pub mod BoardFaults

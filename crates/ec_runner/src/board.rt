@@ -1,0 +1,231 @@
+//! The board that workers share under one lock.
+ghost use Rattle.std.specs.Prelude.{◌≡◌, ℕ, ◌<◌, ◌++◌, ◌∷◌, true, false, [], Some, None, Ok, IfOk, OnErr, MatchResult, if◌then◌else◌, nat_lt, slice_get, length};
+ghost use Rattle.ec_core.specs.Acceptance.{names_unknown_object};
+ghost use Rattle.ec_core.specs.Values.{TellsAtMost};
+ghost use Rattle.ec_core.specs.Procedures.{IsReply};
+ghost use Rattle.ec_core.specs.Recorded.{Recorded};
+ghost use Rattle.ec_runner.specs.declared.wait.Wait.{Wait};
+ghost use Rattle.ec_runner.specs.declared.seat.Seat.TheVariants.{Gone, Running, Waiting};
+ghost use Rattle.ec_runner.specs.Seated.{is_live, is_waiting, seat_of, woken};
+
+use crate::Seat;
+use crate::seats::Seats;
+use crate::wait::Wait;
+use ec_core::{Act, Refusal, Reply, Run, StepFault, VALUE_MAX};
+use ec_count::{Setup, WorkerId};
+use std::alloc::{AllocError, Global};
+use std::marker::Model;
+use thiserror::Error;
+
+/// Why a board makes no step: the first of these that holds, in this order. After each everything is
+/// as before.
+#[derive(Clone, Copy, Debug, PartialEq, Eq, Error)]
+pub enum BoardFault {
+    /// The board is stuck, or the worker is a declared one that has left.
+    #[error("the worker is stopped")]
+    Stopped,
+    /// The step is refused.
+    #[error("the step is refused: {0}")]
+    Refused(Refusal),
+    /// The step is right, and there was no memory for its entry.
+    #[error("there was no memory for the step's entry")]
+    Memory,
+}
+
+/// What a worker that would wait is told.
+#[derive(Clone, Copy, Debug, PartialEq, Eq)]
+pub enum Parked {
+    /// Every live worker waits, for good.
+    Stuck,
+    /// There is nothing to wait for.
+    Ready,
+    /// The worker is a waiter now.
+    Asleep,
+}
+
+/// A run, who of its workers is live, who of them waits and for what, and whether all that are live
+/// wait. A waiter has begun an await whose last round fell short, and the total is still below its
+/// threshold.
+#[derive(Drop)]
+pub struct Board {
+    run: Run,
+    seats: Seats,
+    stuck: bool,
+}
+
+impl Model for Board {
+    ghost use Rattle.ec_runner.specs.Boarded.{Boarded, AreWaiters};
+
+    ghost Value = { Boarded };
+
+    ghost view = { λ b. record { run = b.run; seats = b.seats; stuck = b.stuck } };
+
+    ghost invariant = { λ b. AreWaiters (record { run = b.run; seats = b.seats; stuck = b.stuck }) };
+}
+
+ghost use Rattle.ec_runner.specs.Boarded.{AreWaiters, awaited, unmet, past_of, wait_of, with_seat, after_entry, is_stopped, has_left, answer_on};
+
+impl Board {
+    ghost use Rattle.ec_runner.specs.BoardFaults.{IsBoardFault};
+
+    /// An empty run on these declarations, which are dropped where there is no memory. Every
+    /// declared worker is live, and nobody waits.
+    pub fn open(alloc: Global, setup: Setup) -> Result<Self, AllocError>
+        ensures run { IfOk result (λ b. b.run ≡ record { setup = setup; entries = [] }) }
+        ensures seats { IfOk result (λ b. (w : ℕ) → w < 16 → slice_get b.seats w ≡ Some (if nat_lt w setup.workers then Running else Gone)) }
+        ensures stuck { IfOk result (λ b. b.stuck ≡ false) }
+    {
+        let workers = setup.workers();
+        let run = Run::open(alloc, setup)?;
+        Ok(Board {
+            run,
+            seats: Seats::open(workers),
+            stuck: false,
+        })
+    }
+
+    /// What is true of the waiters of a board.
+    pub fn known(&self)
+        ensures { AreWaiters self.now }
+    {
+        let _ = &self.run;
+    }
+
+    /// One step, which adds its entry: the worker waits no more, and after an advance those don't
+    /// whose threshold the total has come to.
+    pub fn step(&mut self, worker: WorkerId, act: Act) -> Result<Reply, BoardFault>
+        ensures answer { MatchResult result
+            (λ reply. (is_stopped self.old worker ≡ false) × (answer_on self.old worker act ≡ Ok reply))
+            (λ fault. IsBoardFault fault self.old worker act) }
+        ensures ok { IfOk result (λ reply. self.new ≡ after_entry self.old (record { worker = worker; act = act; reply = reply })) }
+        ensures small { IfOk result (TellsAtMost VALUE_MAX) }
+        ensures kind { IfOk result (IsReply act) }
+        ensures err { OnErr result (self.new ≡ self.old) }
+    {
+        if self.stuck || self.has_left(worker) {
+            return Err(BoardFault::Stopped);
+        }
+        let reply = match self.run.step(worker, act) {
+            Ok(reply) => reply,
+            Err(StepFault::Refused(refusal)) => return Err(BoardFault::Refused(refusal)),
+            Err(StepFault::Memory) => return Err(BoardFault::Memory),
+        };
+        self.seats.note(&self.run, worker, &act);
+        Ok(reply)
+    }
+
+    /// Makes a worker a waiter, where it is live and has something to wait for. It takes no memory.
+    pub fn park(&mut self, worker: WorkerId) -> Parked
+        ensures stuck { self.old.stuck ≡ true → (result ≡ Parked.Stuck) × (self.new ≡ self.old) }
+        ensures ready { self.old.stuck ≡ false → wait_of self.old worker ≡ None → (result ≡ Parked.Ready) × (self.new ≡ self.old) }
+        ensures waits { (a : Wait) → self.old.stuck ≡ false → wait_of self.old worker ≡ Some a
+            → (self.new ≡ with_seat self.old worker (Waiting a.event a.threshold)) × (result ≡ (if self.new.stuck then Parked.Stuck else Parked.Asleep)) }
+    {
+        if self.stuck {
+            return Parked::Stuck;
+        }
+        let Some(wait) = self.wait_of(worker) else {
+            return Parked::Ready;
+        };
+        self.seats.settle(worker, Seat::Running);
+        self.seats.wait(worker, wait.event, wait.threshold);
+        self.stuck = self.seats.are_stuck();
+        if self.stuck {
+            Parked::Stuck
+        } else {
+            Parked::Asleep
+        }
+    }
+
+    /// A live worker leaves for good, and waits no more. It takes no memory.
+    pub fn leave(&mut self, worker: WorkerId)
+        ensures gone { is_live (seat_of self.old.seats worker) ≡ true → self.new ≡ with_seat self.old worker Gone }
+        ensures same { is_live (seat_of self.old.seats worker) ≡ false → self.new ≡ self.old }
+    {
+        if !self.is_live(worker) {
+            return;
+        }
+        self.seats.settle(worker, Seat::Gone);
+        self.stuck = self.stuck || self.seats.are_stuck();
+    }
+
+    /// The run so far.
+    pub fn run(&self) -> &Run
+        ensures { result.now ≡ self.now.run }
+    {
+        &self.run
+    }
+
+    /// The run, once nobody makes a step any more.
+    pub fn into_run(self) -> Run
+        ensures { result ≡ self.run }
+    {
+        self.run
+    }
+
+    /// Whether the worker is a declared one that has not left.
+    pub fn is_live(&self, worker: WorkerId) -> bool
+        ensures { result ≡ is_live (seat_of self.now.seats worker) }
+    {
+        let seat = self.seats.get(worker);
+        seat.is_live()
+    }
+
+    /// Whether the worker waits.
+    pub fn is_waiting(&self, worker: WorkerId) -> bool
+        ensures { result ≡ is_waiting (seat_of self.now.seats worker) }
+    {
+        let seat = self.seats.get(worker);
+        seat.is_waiting()
+    }
+
+    /// Whether at some moment some worker was live and every live worker waited. Nobody makes a step
+    /// from then on.
+    pub fn is_stuck(&self) -> bool
+        ensures { result ≡ self.now.stuck }
+    {
+        self.stuck
+    }
+
+    fn has_left(&self, worker: WorkerId) -> bool
+        ensures { result ≡ has_left self.now worker }
+    {
+        worker.get() < self.run.setup().workers() && !self.is_live(worker)
+    }
+
+    fn wait_of(&self, worker: WorkerId) -> Option<Wait>
+        ensures { result ≡ wait_of self.now worker }
+    {
+        if !self.is_live(worker) {
+            return None;
+        }
+        self.run.known();
+        let wait = awaited(&self.run, worker);
+        unmet(&self.run, wait)
+    }
+}
+
+/// The await whose last round fell short, where the worker's latest entry ended it.
+fn awaited(run: &Run, worker: WorkerId) -> Option<Wait>
+    ensures { result ≡ awaited run.now.setup worker (past_of run.now) }
+{
+    let call = run.world().under_way(worker)?;
+    match call.op() {
+        Act::Await(event, threshold) if call.index() == 0 => Some(Wait { event, threshold }),
+        _ => None,
+    }
+}
+
+/// The same where the total has not come to the threshold since.
+fn unmet(run: &Run, wait: Option<Wait>) -> Option<Wait>
+    requires { (a : Wait) → wait ≡ Some a → a.event < length run.now.setup.events }
+    ensures { result ≡ unmet (past_of run.now) wait }
+{
+    let wait = wait?;
+    let total = run.world().total(wait.event)?;
+    if total < wait.threshold {
+        Some(wait)
+    } else {
+        None
+    }
+}

@@ -1,0 +1,17 @@
+//! Where threads of workers can be held up.
+use ec_count::WorkerId;
+
+/// Called before each hold of the lock in which a worker makes a step, and before the hold in which
+/// it leaves. A gate that waits makes the threads take turns in a chosen order.
+pub trait Gate {
+    /// `step` is how many steps this worker has asked the board for before.
+    fn before(&self, worker: WorkerId, step: u64);
+}
+
+/// A gate that holds nobody up.
+#[derive(Clone, Copy, Debug, Drop)]
+pub struct OpenGate;
+
+impl Gate for OpenGate {
+    fn before(&self, _worker: WorkerId, _step: u64) {}
+}

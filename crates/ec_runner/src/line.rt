@@ -1,0 +1,100 @@
+//! The waiters of one eventcount.
+ghost use Rattle.std.specs.Prelude.{◌≡◌, ◌<◌, ◌≤◌, [], length, drop, is_some, if◌then◌else◌, Some, IfSome};
+ghost use Rattle.ec_runner.specs.Lined.{comes_before, place_in, placed, without, first_reached};
+
+use arrayvec::ArrayVec;
+use ec_count::WorkerId;
+use std::marker::Model;
+
+/// A worker that waits until a total has come to its threshold.
+#[derive(Clone, Copy, Debug, PartialEq, Eq)]
+pub(crate) struct Waiter {
+    pub threshold: u64,
+    pub worker: WorkerId,
+}
+
+impl Waiter {
+    /// Whether it stands in line before another: by threshold, and at one threshold by worker.
+    fn comes_before(&self, other: &Waiter) -> bool
+        ensures { result ≡ comes_before self.now other.now }
+    {
+        self.threshold < other.threshold
+            || (self.threshold == other.threshold && self.worker.get() < other.worker.get())
+    }
+}
+
+impl Default for Waiter {
+    fn default() -> Self {
+        Waiter {
+            threshold: 0,
+            worker: WorkerId::default(),
+        }
+    }
+}
+
+/// The waiters of one eventcount by ascending threshold and, at one threshold, by worker.
+#[derive(Drop)]
+pub(crate) struct Line {
+    waiters: ArrayVec<Waiter, 16>,
+}
+
+impl Model for Line {
+    ghost use Rattle.std.specs.Prelude.{List};
+    ghost use Rattle.ec_runner.specs.declared.line.Waiter.{Waiter};
+
+    ghost Value = { List Waiter };
+
+    ghost view = { λ l. l.waiters.items };
+}
+
+impl Line {
+    /// Nobody waits.
+    pub fn empty() -> Self
+        ensures { result ≡ [] }
+    {
+        Line {
+            waiters: ArrayVec::new(),
+        }
+    }
+
+    /// Puts a waiter at its place.
+    pub fn join(&mut self, waiter: Waiter)
+        requires { length self.old < 16 }
+        ensures { self.new ≡ placed waiter self.old }
+    {
+        let place = place_in(self.waiters.as_slice(), &waiter);
+        self.waiters.insert(place, waiter);
+    }
+
+    /// Takes a worker off.
+    pub fn drop_out(&mut self, worker: WorkerId)
+        ensures { self.new ≡ without worker self.old }
+    {
+        self.waiters.retain(|waiter| waiter.worker != worker);
+    }
+
+    /// Takes the first off, where the total has come to its threshold.
+    pub fn take_reached(&mut self, total: u64) -> Option<Waiter>
+        ensures first { result ≡ first_reached total self.old }
+        ensures rest { self.new ≡ (if is_some result then drop 1 self.old else self.old) }
+    {
+        let first = self.waiters.as_slice().first().copied()?;
+        if first.threshold > total {
+            return None;
+        }
+        self.waiters.remove(0);
+        Some(first)
+    }
+}
+
+/// The place of one more waiter: behind those that come before it.
+fn place_in(line: &[Waiter], waiter: &Waiter) -> usize
+    requires { length line.now ≤ 16 }
+    ensures place { result ≡ place_in waiter.now line.now }
+    ensures within { result ≤ length line.now }
+{
+    match line {
+        [first, rest @ ..] if first.comes_before(waiter) => place_in(rest, waiter) + 1,
+        _ => 0,
+    }
+}
