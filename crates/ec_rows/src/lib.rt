@@ -2,6 +2,8 @@
 #![tactic(auto)]
 
 #[cfg(test)]
+mod board_tests;
+#[cfg(test)]
 mod buffer_tests;
 #[cfg(test)]
 mod database_tests;

@@ -65,9 +65,11 @@ next_shape t n ws vs none =
   where
     apart : (k : ℕ) → (k == k + 1) ≡ false
     apart k = ne_eqb k (k + 1) (λ e. absurd (omega arith))
+
     positive : (k : ℕ) → (k == 0) ≡ false → 0 < k
     positive zero e = cc
     positive (suc k) e = omega arith
+
     within : (k : ℕ) → nat_lt 256 k ≡ false → k ≤ 256
     within k e = ltb-false 256 k e
 

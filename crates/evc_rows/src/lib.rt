@@ -3,8 +3,6 @@
 #![tactic(auto)]
 
 #[cfg(test)]
-mod board_tests;
-#[cfg(test)]
 mod broken_texts;
 #[cfg(test)]
 mod check_tests;
