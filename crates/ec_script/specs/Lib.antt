@@ -1,0 +1,9 @@
+pub mod Verbs
+pub mod Forms
+pub mod Faults
+pub mod Flat
+pub mod Objects
+pub mod Orders
+pub mod Drafted
+pub mod Inner
+pub mod Kinds
