@@ -1,2 +1,10 @@
+pub mod Left
 pub mod Limits
+pub mod Outcomes
 pub mod Programs
+pub mod Runs
+pub mod Standing
+pub mod Steps
+pub mod Tasks
+pub mod Values
+pub mod Written

@@ -1,5 +1,5 @@
 -- Which commands make a program.
-use Rattle.std.specs.Prelude.{◌≡◌, ℕ, ◌+◌, ◌≤◌, Bool, true, ◌==◌, ◌&&◌, not, nat_le, List, [], ◌∷◌, length, map, max, sum}
+use Rattle.std.specs.Prelude.{ℕ, ◌+◌, Bool, true, ◌==◌, ◌&&◌, not, nat_le, List, [], ◌∷◌, length, map, max, sum}
 use Rattle.std.specs.List.{list_all}
 use Rattle.ec_core.specs.declared.act.TheConstants.{VALUE_MAX}
 use Rattle.ec_semaphore.specs.Shapes.{Semaphore}

@@ -3,9 +3,16 @@
 
 mod command;
 mod limits;
+mod machine;
+mod one_call;
 mod outcome;
 mod program;
+mod remaining;
+mod settling;
+mod task;
+mod values;
 
 pub use command::{Command, Value};
+pub use machine::Machine;
 pub use outcome::Outcome;
 pub use program::Program;

@@ -1,7 +1,7 @@
 //! Whether commands keep the limits of a program.
 ghost use Rattle.std.specs.Prelude.{◌≡◌, ◌+◌, ◌-◌, ◌≤◌, ◌<◌, ◌↔◌, IsTrue, IsSome, IfSome};
 ghost use Rattle.std.specs.List.{list_all};
-ghost use Rattle.ec_machine.specs.Limits.{nesting, count, is_value, are_apart, is_same, is_sound, is_sound_one};
+ghost use Rattle.ec_machine.specs.Limits.{nesting, count, count_one, is_value, are_apart, is_same, is_sound, is_sound_one};
 ghost use Rattle.ec_machine.specs.Programs.{IsProgram};
 
 use crate::{Command, Value};

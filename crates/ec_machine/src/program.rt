@@ -1,9 +1,11 @@
 //! Programs.
 ghost use Rattle.std.specs.Prelude.{◌≡◌, ◌≤◌, ◌↔◌, true, IsTrue, IsSome, IfSome};
 ghost use Rattle.ec_machine.specs.Programs.{IsProgram};
+ghost use Rattle.ec_machine.specs.Written.{written};
 
 use crate::Command;
 use crate::limits::keeps_limits;
+use crate::remaining::Remaining;
 use std::marker::Model;
 
 /// What a worker is to do: its commands, one after another. A contract sees it as their list.
@@ -43,6 +45,13 @@ impl Program {
             return Some(Program { commands });
         }
         None
+    }
+
+    /// Its commands, with their repeats written out, at their start.
+    pub(crate) fn remaining(&self) -> Remaining<'_>
+        ensures { result ≡ written self.now }
+    {
+        Remaining::new(self.commands.as_slice())
     }
 
     /// What is true of a program: its commands keep the limits.

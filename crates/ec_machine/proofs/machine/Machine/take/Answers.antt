@@ -1,0 +1,19 @@
+use Rattle.std.proofs.Common.{refl, sym, ◌∙◌, ap, is_some, not}
+use Rattle.ec_machine.specs.Tasks.{task_rest, task_going}
+use Rattle.ec_machine.proofs.Going.{step_on, step_over}
+use Rattle.ec_machine.proofs.machine.Machine.take.Goals as goal
+
+pub returns-then-is_none-clause-stands : goal.returns-then-is_none-clause-stands
+returns-then-is_none-clause-stands c = λ cs past worker act stands asks.
+    step_over cs c.args.self.now _ past (record { worker = worker; act = act; reply = c.args.reply }) (task_rest c.take.new.self) (task_going c.take.new.self) stands
+    (c.args.self.now.running ∙ ap is_some asks) asks c.number_after-self.ensures.value c.take.ensures.going
+    (record { pending = c.take.ensures.pending; told = c.take.ensures.told })
+    (ap is_some (sym c.next.ensures) ∙ c.is_none.ensures ∙ ap not c.if-is_none.true)
+    c.settle-task.ensures.at c.settle-task.ensures.outcome c.settle-task.ensures.fresh
+
+pub returns-else-is_none-clause-stands : goal.returns-else-is_none-clause-stands
+returns-else-is_none-clause-stands c = λ cs past worker act stands asks.
+    step_on cs c.args.self.now _ past (record { worker = worker; act = act; reply = c.args.reply }) stands
+    (c.args.self.now.running ∙ ap is_some asks) asks c.number_after-self.ensures.value refl refl c.take.ensures.going
+    (record { pending = c.take.ensures.pending; told = c.take.ensures.told })
+    (ap is_some (sym c.next.ensures) ∙ c.is_none.ensures ∙ ap not c.if-is_none.false)

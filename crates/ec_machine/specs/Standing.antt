@@ -1,0 +1,46 @@
+-- What a machine stands for.
+use Rattle.std.specs.Prelude.{◌≡◌, Bool, false, List, [], ◌∷◌, ◌++◌, Option, IsSome, is_some}
+use Rattle.ec_core.specs.declared.act.Act.{Act}
+use Rattle.ec_core.specs.declared.act.Entry.{Entry}
+use Rattle.ec_core.specs.Following.{Told}
+use Rattle.ec_core.specs.Procedures.{next_of}
+use Rattle.ec_machine.specs.declared.command.Command.{Command}
+use Rattle.ec_machine.specs.declared.outcome.Outcome.{Outcome}
+use Rattle.ec_machine.specs.declared.machine.Machine.{Machine}
+use Rattle.ec_machine.specs.Outcomes.{is_set}
+use Rattle.ec_machine.specs.Values.{has_large}
+use Rattle.ec_machine.specs.Steps.{opening, finished}
+use Rattle.ec_machine.specs.Runs.{Place, start, command_call, next_call, last_number, place_after, IsRunOf, outcome_of}
+use Rattle.ec_machine.specs.Tasks.{task_rest, task_going}
+
+-- the calls are what is left of the command c, the first at a place; after it these commands are left
+pub record IsIn (calls : List Told → Option Act) (left : List Command) (p : Place) (c : Command) : Type 0 where
+  pub commands : p.left ≡ c ∷ left
+  pub fits : has_large p.last c ≡ false
+  pub rest : (more : List Told) → calls more ≡ command_call p.last c (p.told ++ more)
+
+-- the calls are what is due at a place; where they are some, they are what is left of its first command
+pub record IsAt (calls : List Told → Option Act) (left : List Command) (p : Place) : Type 0 where
+  pub due : next_call p ≡ calls []
+  pub at : IsSome (calls []) → (c : Command) × IsIn calls left p c
+
+-- how a machine has ended, if it has
+abbrev pub outcome_in : Machine → Outcome
+outcome_in m = m.outcome
+
+-- whether it was ended from outside, by `refuse`
+abbrev pub is_refused : Machine → Bool
+is_refused m = is_set m.outcome
+
+-- the act that it asks for
+abbrev pub act_of : Machine → Option Act
+act_of m = next_of (task_going m.task) (task_rest m.task [])
+
+-- the machine stands for a run of the program: the last number, and, where nothing ended it from outside, its outcome, the call
+-- under way and the calls that are left, are those after these steps
+pub record StandsFor (cs : List Command) (m : Machine) (past : List Entry) : Type 0 where
+  pub run : IsRunOf cs past
+  pub last : m.last ≡ last_number 0 (finished past)
+  pub outcome : is_set m.outcome ≡ false → m.outcome ≡ outcome_of cs past
+  pub going : is_set m.outcome ≡ false → task_going m.task ≡ is_some (opening past)
+  pub left : is_set m.outcome ≡ false → IsAt (task_rest m.task) m.rest (place_after (start cs) (finished past))

@@ -1,0 +1,124 @@
+//! What a worker asks for next.
+ghost use Rattle.std.specs.Prelude.{◌≡◌, ℕ, ◌≤◌, true, false, List, [], ◌∷◌, Some, is_some};
+ghost use Rattle.ec_core.specs.declared.act.TheConstants.{VALUE_MAX};
+ghost use Rattle.ec_core.specs.declared.act.Act.{Act};
+ghost use Rattle.ec_core.specs.declared.act.Entry.{Entry};
+ghost use Rattle.ec_core.specs.Procedures.{IsReplyTo, next_of};
+ghost use Rattle.ec_core.specs.Values.{TellsAtMost};
+ghost use Rattle.ec_machine.specs.declared.command.Command.{Command};
+ghost use Rattle.ec_machine.specs.Outcomes.{is_running, refused};
+ghost use Rattle.ec_machine.specs.Runs.{number_after, next_act, outcome_of};
+ghost use Rattle.ec_machine.specs.Tasks.{task_rest, task_going};
+ghost use Rattle.ec_machine.specs.Written.{written};
+
+use crate::remaining::Remaining;
+use crate::settling::settle;
+use crate::task::Task;
+use crate::{Outcome, Program};
+use ec_core::{Act, Procedure, Reply, VALUE_MAX};
+
+/// What a worker asks for next, of its program. It keeps counters for repeats, and takes no memory.
+/// Who drives it asks for the next act, makes it a step, and hands its reply over, until no act is
+/// due.
+#[derive(Drop)]
+pub struct Machine<'a> {
+    rest: Remaining<'a>,
+    task: Task,
+    last: u64,
+    outcome: Outcome,
+    ghost small: { last ≤ VALUE_MAX },
+    ghost running: { is_running outcome ≡ is_some (next_of (task_going task) (task_rest task [])) },
+}
+
+/// The last number told, after one more reply.
+fn number_after(last: u64, reply: Reply) -> u64
+    requires last { last ≤ VALUE_MAX }
+    requires small { TellsAtMost VALUE_MAX reply }
+    ensures value { result ≡ number_after last reply }
+    ensures small { result ≤ VALUE_MAX }
+{
+    match reply {
+        Reply::Number(number) => number,
+        _ => last,
+    }
+}
+
+impl<'a> Machine<'a> {
+    ghost use Rattle.ec_machine.specs.Standing.{StandsFor, outcome_in, is_refused, act_of};
+
+    /// At the start of a program.
+    pub fn new(program: &'a Program) -> Self
+        ensures stands { StandsFor program.now result [] }
+        ensures unset { is_refused result ≡ false }
+    {
+        Machine::at_start(program.remaining())
+    }
+
+    /// At the start of these commands.
+    pub(crate) fn at_start(mut rest: Remaining<'a>) -> Self
+        ensures stands { (cs : List Command) → rest.entry ≡ written cs → StandsFor cs result [] }
+        ensures unset { is_refused result ≡ false }
+    {
+        let (task, outcome) = settle(&mut rest, 0);
+        Machine {
+            rest,
+            task,
+            last: 0,
+            outcome,
+        }
+    }
+
+    /// The act that is due: Go where the last reply was Pending. None once the program has ended.
+    pub fn next(&self) -> Option<Act>
+        ensures value { result ≡ act_of self.now }
+        ensures some { is_some result ≡ is_running (outcome_in self.now) }
+        ensures due { (cs : List Command) (past : List Entry) → StandsFor cs self.now past → is_refused self.now ≡ false
+            → result ≡ next_act cs past }
+    {
+        self.task.next()
+    }
+
+    /// How the program has ended, or Running.
+    pub fn outcome(&self) -> Outcome
+        ensures value { result ≡ outcome_in self.now }
+        ensures after { (cs : List Command) (past : List Entry) → StandsFor cs self.now past → is_refused self.now ≡ false
+            → result ≡ outcome_of cs past }
+    {
+        self.outcome
+    }
+
+    /// Takes the reply to the act that is due. An act has to be due, and the reply has to be of a
+    /// kind that the act can get, with a number of at most VALUE_MAX, as each reply of a step is.
+    pub fn take(&mut self, reply: Reply)
+        requires { IsReplyTo (act_of self.old) reply }
+        ensures stands { (cs : List Command) (past : List Entry) (worker : ℕ) (act : Act) → StandsFor cs self.old past → act_of self.old ≡ Some act
+            → StandsFor cs self.new (record { worker = worker; act = act; reply = reply } ∷ past) }
+        ensures unset { is_refused self.new ≡ false }
+    {
+        self.last = number_after(self.last, reply);
+        self.task.take(reply);
+        if self.task.next().is_none() {
+            let (task, outcome) = settle(&mut self.rest, self.last);
+            self.task = task;
+            self.outcome = outcome;
+        }
+    }
+
+    /// Ends the program from outside. It takes effect only where the outcome is Running and the new
+    /// one is Refused, Stopped, OutOfTurns or Memory.
+    pub fn refuse(&mut self, outcome: Outcome)
+        ensures outcome { outcome_in self.new ≡ refused (outcome_in self.old) outcome }
+        ensures stands { (cs : List Command) (past : List Entry) → StandsFor cs self.old past → StandsFor cs self.new past }
+    {
+        if self.outcome != Outcome::Running {
+            return;
+        }
+        match outcome {
+            Outcome::Running | Outcome::Finished | Outcome::ValueTooLarge => {}
+            _ => {
+                self.task = Task::Nothing;
+                self.outcome = outcome;
+            }
+        }
+    }
+}
