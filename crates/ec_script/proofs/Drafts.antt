@@ -3,6 +3,7 @@ use Rattle.std.proofs.Common.{◌≡◌, ℕ, ◌+◌, ◌-◌, ◌≤◌, ◌<�
 use Rattle.std.specs.List.{list_all}
 use Rattle.std.specs.Global.{Vec}
 use Rattle.std.proofs.lemmas.List.{length-append, length-map}
+use Rattle.std.proofs.lemmas.List.Sums.{sum-map, sum_by_push}
 use Rattle.std.proofs.lemmas.Bool.{and_parts, and_from}
 use Rattle.ec_database.specs.Shapes.{Database}
 use Rattle.ec_machine.specs.declared.command.Value.{Value}
@@ -95,11 +96,7 @@ nesting_push [] c = omega arith
 nesting_push (d ∷ cs) c = omega (arith, nesting_push cs c)
 
 count_push : (cs : List Command) (c : Command) → count (cs ++ c ∷ []) ≡ count cs + count_one c
-count_push [] c = omega arith
-count_push (d ∷ cs) c =
-    let e : count (d ∷ cs) ≡ count_one d + count cs = refl in
-    let f : count ((d ∷ cs) ++ c ∷ []) ≡ count_one d + count (cs ++ c ∷ []) = refl in
-    omega (arith, e, f, count_push cs c)
+count_push cs c = sum-map count_one (cs ++ c ∷ []) ∙ sum_by_push count_one cs c ∙ ap (λ n. n + count_one c) (sym (sum-map count_one cs))
 
 begun_push : (os : List Open) (o : Open) → begun (os ++ o ∷ []) ≡ begun os ++ (flat o.before.items ++ Begin o.times ∷ [])
 unfolding begun

@@ -1,2 +1,6 @@
 mod Words
 mod Drafts
+mod Sizes
+mod Room
+mod LineCuts
+mod Lines

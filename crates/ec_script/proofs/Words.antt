@@ -4,6 +4,7 @@ use Rattle.std.specs.List.{onto_first}
 use Rattle.std.proofs.lemmas.List.Splits.{length-slice_split}
 use Rattle.ec_text.specs.Words.{words_of}
 use Rattle.ec_script.specs.Forms.{only_in}
+use Rattle.ec_script.specs.Reading.{limit_digits}
 
 pub record HasFirst (line : List ℕ) : Type 0 where
   pub first : List ℕ
@@ -26,3 +27,6 @@ only_word a more = let r : HasFirst more = has_first more in rw r.is refl
 
 pub some_words : (line : List ℕ) → 1 ≤ length (words_of line)
 some_words line = let r : HasFirst line = has_first line in rw r.is (omega arith)
+
+pub third_word : (a b more : List ℕ) → limit_digits (a ∷ b ∷ words_of more) ≡ None
+third_word a b more = let r : HasFirst more = has_first more in rw r.is refl

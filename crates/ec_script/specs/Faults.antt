@@ -2,6 +2,8 @@
 use Rattle.std.specs.Prelude.{ℕ, List, codes}
 use Rattle.ec_script.specs.declared.fault.Kind.{Kind}
 use Rattle.ec_script.specs.declared.fault.Kind.TheVariants as kinds
+use Rattle.ec_script.specs.declared.fault.StageFault.{StageFault}
+use Rattle.ec_script.specs.declared.fault.StageFault.TheVariants as faults
 use Rattle.ec_trace.specs.declared.heading.HeadFault.{HeadFault}
 use Rattle.ec_trace.specs.declared.heading.HeadFault.TheVariants as heads
 
@@ -44,3 +46,8 @@ kind_of_head heads.TooMany = kinds.TooMany
 kind_of_head heads.Hidden = kinds.Hidden
 kind_of_head heads.TwoRoles = kinds.TwoRoles
 kind_of_head heads.Memory = kinds.BadLine
+
+-- why a line was not taken that a heading refused
+abbrev pub stage_fault : HeadFault → StageFault
+stage_fault heads.Memory = faults.Memory
+stage_fault fault = faults.Of (kind_of_head fault)

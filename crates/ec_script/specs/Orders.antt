@@ -45,9 +45,10 @@ abbrev pub buffer_order : Bool → Buffer → amounts.Value → Order
 buffer_order true b v = Do (commands.Produce b v)
 buffer_order false b v = Do (commands.Consume b)
 
-abbrev pub database_order : Bool → Database → List (List ℕ) → Order
-database_order true d ws = Write d (map amount_of ws)
-database_order false d ws = Do (commands.Snapshot d (size_in ws))
+abbrev pub database_order : Verb → Database → List (List ℕ) → Option Order
+database_order verbs.Write d ws = Some (Write d (map amount_of ws))
+database_order verbs.Snapshot d ws = Some (Do (commands.Snapshot d (size_in ws)))
+database_order _ d ws = None
 
 abbrev pub semaphore_order : Verb → Semaphore → Order
 semaphore_order verbs.Down s = Do (commands.Down s)
@@ -59,7 +60,7 @@ command_in v giving (Event e) ws = Some (event_order v e (amount_in ws))
 command_in v giving (Sequencer q) ws = Some (Do (commands.Ticket q))
 command_in v giving (Cell x) ws = Some (cell_order giving x (amount_in ws))
 command_in v giving (OfBuffer b) ws = Some (buffer_order giving b (amount_in ws))
-command_in v giving (OfDatabase d) ws = Some (database_order giving d ws)
+command_in v giving (OfDatabase d) ws = database_order v d ws
 command_in v giving (OfSemaphore s) ws = Some (semaphore_order v s)
 command_in v giving (Three common one other) ws = Some (Do (commands.DownBoth common one other))
 command_in v giving Nothing ws = None

@@ -147,3 +147,16 @@ impl Draft {
         self.many
     }
 }
+
+impl Draft {
+    /// The program that was read.
+    pub(crate) fn finish(self) -> Program
+        requires { self.depth ≡ 0 }
+        ensures { flat result ≡ self.orders }
+    {
+        let Some(program) = Program::new(self.current) else {
+            unreachable!();
+        };
+        program
+    }
+}

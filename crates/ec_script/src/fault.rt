@@ -1,7 +1,8 @@
 //! Why a text is no script.
 ghost use Rattle.std.specs.Prelude.{◌≡◌};
-ghost use Rattle.ec_script.specs.Faults.{kind_number, kind_name};
+ghost use Rattle.ec_script.specs.Faults.{kind_number, kind_name, kind_of_head, stage_fault};
 
+use ec_trace::HeadFault;
 use thiserror::Error;
 
 /// Why a line of a script is refused: the least of these that holds of it.
@@ -98,4 +99,37 @@ pub enum ScriptFault {
     /// Memory was refused.
     #[error("memory was refused")]
     Memory,
+}
+
+/// Why a line was not taken.
+#[derive(Clone, Copy, Debug, PartialEq, Eq)]
+pub(crate) enum StageFault {
+    Of(Kind),
+    Memory,
+}
+
+/// The kind of a fault of a heading's line.
+fn kind_of_head(fault: HeadFault) -> Kind
+    ensures { result ≡ kind_of_head fault }
+{
+    match fault {
+        HeadFault::BadLine | HeadFault::Memory => Kind::BadLine,
+        HeadFault::BadName => Kind::BadName,
+        HeadFault::NameTaken => Kind::NameTaken,
+        HeadFault::UnknownName => Kind::UnknownName,
+        HeadFault::BadNumber => Kind::BadNumber,
+        HeadFault::TooMany => Kind::TooMany,
+        HeadFault::Hidden => Kind::Hidden,
+        HeadFault::TwoRoles => Kind::TwoRoles,
+    }
+}
+
+/// Why a line was not taken that a heading refused.
+pub(crate) fn stage_fault(fault: HeadFault) -> StageFault
+    ensures { result ≡ stage_fault fault }
+{
+    match fault {
+        HeadFault::Memory => StageFault::Memory,
+        other => StageFault::Of(kind_of_head(other)),
+    }
 }

@@ -2,6 +2,7 @@
 ghost use Rattle.std.specs.Prelude.{◌≡◌, ◌+◌, ◌==◌, ◌||◌, not, nat_lt, length, option_map};
 ghost use Rattle.std.specs.Option.{option_and_then};
 ghost use Rattle.std.specs.List.{list_any};
+ghost use Rattle.ec_count.specs.Members.{is_member};
 ghost use Rattle.ec_text.specs.Words.{number_of};
 ghost use Rattle.ec_machine.specs.Limits.{is_same, are_apart};
 ghost use Rattle.ec_script.specs.Forms.{rest_words, shown};
@@ -54,12 +55,19 @@ fn is_allowed(verb: Verb, in_block: bool, scheduled: usize) -> bool
     }
 }
 
+/// Whether a worker stands in the list.
+fn is_member(worker: WorkerId, named: &[WorkerId]) -> bool
+    ensures { result ≡ is_member worker named.now }
+{
+    named.iter().any(|id| id.get() == worker.get())
+}
+
 /// Whether the block of this worker began before.
 fn is_named_again(named: &[WorkerId], object: &Object) -> bool
     ensures { result ≡ is_named_again named.now object.now }
 {
     match *object {
-        Object::Worker(worker) => named.iter().any(|id| *id == worker),
+        Object::Worker(worker) => is_member(worker, named),
         _ => false,
     }
 }

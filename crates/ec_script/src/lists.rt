@@ -1,7 +1,8 @@
 //! Lists of words in a line.
-ghost use Rattle.std.specs.Prelude.{◌≡◌, ◌==◌, ◌+◌, ◌++◌, ◌≤◌, length, map, OnOk};
-ghost use Rattle.std.specs.List.{list_any};
+ghost use Rattle.std.specs.Prelude.{◌≡◌, ◌==◌, ◌+◌, ◌++◌, ◌≤◌, length, map, true, OnOk};
+ghost use Rattle.std.specs.List.{list_all, list_any};
 ghost use Rattle.ec_text.specs.Words.{words_of};
+ghost use Rattle.ec_machine.specs.Limits.{is_value};
 ghost use Rattle.ec_trace.specs.Lists.{ids_in, has_unknown};
 ghost use Rattle.ec_script.specs.Kinds.{is_no_value};
 ghost use Rattle.ec_script.specs.Orders.{amount_of};
@@ -87,14 +88,20 @@ pub(crate) fn push_ids(
 
 /// The value that a word spells, `last` where it spells none.
 pub(crate) fn amount_of(word: &[u8]) -> Value
-    ensures { result ≡ amount_of word.now }
+    ensures value { result ≡ amount_of word.now }
+    ensures sound { is_value result ≡ true }
 {
-    value_of(word).unwrap_or(Value::Last)
+    match value_of(word) {
+        Some(value) => value,
+        None => Value::Last,
+    }
 }
 
 /// Adds the values that words spell.
+#[tactic(auto, using(crate::proofs::Sizes::sound_more))]
 pub(crate) fn push_values(list: &[u8], values: &mut Vec<Value>) -> Result<(), AllocError>
-    ensures { OnOk result (values.new.items ≡ values.old.items ++ map amount_of (words_of list.now)) }
+    ensures items { OnOk result (values.new.items ≡ values.old.items ++ map amount_of (words_of list.now)) }
+    ensures sound { OnOk result (list_all is_value values.old.items ≡ true → list_all is_value values.new.items ≡ true) }
 {
     let (word, rest) = cut_word(list);
     values.push(amount_of(word))?;
