@@ -1,5 +1,5 @@
 -- A draft goes on.
-use Rattle.std.proofs.Common.{◌≡◌, ℕ, ◌+◌, ◌-◌, ◌≤◌, ◌<◌, Bool, true, false, ◌&&◌, ◌==◌, List, [], ◌∷◌, ◌++◌, length, map, max, sum, append_assoc, append-nil, arith, rules, sym, ◌∙◌, ap, ap₂, refl, zero, suc, subst, eqb-true, nat_le, zero-add, add-zero, ne_eqb, le-leb}
+use Rattle.std.proofs.Common.{◌≡◌, ℕ, ◌+◌, ◌-◌, ◌≤◌, ◌<◌, Bool, true, false, ◌&&◌, ◌==◌, List, [], ◌∷◌, ◌++◌, length, map, max, sum, replicate, append_assoc, append-nil, arith, rules, sym, ◌∙◌, ap, ap₂, refl, zero, suc, subst, eqb-true, nat_le, zero-add, add-zero, ne_eqb, le-leb}
 use Rattle.std.specs.List.{list_all}
 use Rattle.std.specs.Global.{Vec}
 use Rattle.std.proofs.lemmas.List.{length-append, length-map}
@@ -247,3 +247,12 @@ pub finished : (os : List Open) (cs : List Command) (n : ℕ) (d : Drafted) → 
 finished os cs n d is none =
     let l : length os ≡ 0 = ap (λ (e : Drafted). e.depth) is ∙ none in
     ap (λ xs. xs ++ flat cs) (sym (no_begun os l)) ∙ ap (λ (e : Drafted). e.orders) is
+
+none_flat : (n : ℕ) → map flat (replicate n []) ≡ replicate n []
+unfolding all_of
+none_flat zero = refl
+none_flat (suc n) = ap (λ (xs : List (List Order)). [] ∷ xs) (none_flat n)
+
+-- no program has a line
+pub flats_none : (n : ℕ) (programs : List (List Command)) → programs ≡ replicate n [] → map flat programs ≡ replicate n []
+flats_none n programs is = ap (map flat) is ∙ none_flat n

@@ -4,3 +4,5 @@ mod Sizes
 mod Room
 mod LineCuts
 mod Lines
+mod Texts
+mod Reads

@@ -3,7 +3,7 @@ use Rattle.std.proofs.Common.{◌≡◌, ℕ, ◌+◌, ◌<◌, ◌≤◌, Bool,
 use Rattle.std.specs.Option.{option_and_then}
 use Rattle.std.proofs.lemmas.List.{length-map}
 use Rattle.std.specs.List.{list_all}
-use Rattle.std.proofs.lemmas.Bool.{and_parts, and_from}
+use Rattle.std.proofs.lemmas.Bool.{and_parts, and_from, leb-true}
 use Rattle.ec_machine.specs.declared.command.Value.{Value}
 use Rattle.ec_machine.specs.Limits.{is_value}
 use Rattle.ec_script.specs.Kinds.{is_count}
@@ -22,7 +22,7 @@ pub count_range : (most : ℕ) (o : Option ℕ) → is_count most o ≡ true →
 count_range most None is = cc
 count_range most (Some n) is =
     let p = and_parts (nat_le 1 n) (nat_le n most) is in
-    record { some = search (rules, p.0); few = search (rules, p.1) }
+    record { some = leb-true 1 n p.0; few = leb-true n most p.1 }
 
 pub size_sound : (most : ℕ) (o : Option ℕ) → is_count most o ≡ true → (nat_le 1 (unwrap_or o 0) && nat_le (unwrap_or o 0) most) ≡ true
 size_sound most None is = cc

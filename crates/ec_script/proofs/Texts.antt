@@ -3,6 +3,7 @@ use Rattle.std.proofs.Common.{◌≡◌, ◌⊎◌, inl, inr, ℕ, ◌+◌, ◌<
 use Rattle.std.specs.List.{All, AllByRecursion, flat_map, join_with_byte, onto_first}
 use Rattle.std.proofs.lemmas.List.Splits.{join_with_byte-slice_split}
 use Rattle.std.proofs.lemmas.List.Elements.{All-nil, All-cons}
+use Rattle.std.proofs.lemmas.Bool.{ltb-false}
 use Rattle.ec_script.specs.declared.fault.Kind.{Kind}
 use Rattle.ec_script.specs.declared.fault.Kind.TheVariants as kinds
 use Rattle.ec_script.specs.declared.parsing.TheConstants.{SCRIPT_MAX}
@@ -111,8 +112,18 @@ read_parts n s first (next ∷ others) p is =
       | Err k ↦ λ e h. cc
     ]) refl is
 
-pub read_is_script : (bytes : List ℕ) (p : Planned) → length bytes ≤ SCRIPT_MAX → outcome bytes ≡ Ok p → IsScript bytes p
-read_is_script bytes p within is =
+-- what is read is within the bound
+within_of : (bytes : List ℕ) (p : Planned) → outcome bytes ≡ Ok p → length bytes ≤ SCRIPT_MAX
+unfolding outcome
+within_of bytes p is =
+    (elim (nat_lt SCRIPT_MAX (length bytes)) as (λ t. nat_lt SCRIPT_MAX (length bytes) ≡ t → cond t (Err (1, long_kind (first_of (parts_of bytes)))) (goes 1 Opening (parts_of bytes)) ≡ Ok p → length bytes ≤ SCRIPT_MAX) [
+      | true ↦ λ e h. cc
+      | false ↦ λ e h. ltb-false SCRIPT_MAX (length bytes) e
+    ]) refl is
+
+pub read_is_script : (bytes : List ℕ) (p : Planned) → outcome bytes ≡ Ok p → IsScript bytes p
+read_is_script bytes p is =
+    let within = within_of bytes p is in
     let f = has_first bytes in
     let r = read_parts 1 Opening f.first f.others p (ap (goes 1 Opening) (sym f.is) ∙ sym (within_goes bytes within) ∙ is) in
     let e = f.is ∙ r.is in
@@ -141,8 +152,14 @@ record Faulty (n : ℕ) (s : Stage) (parts : List (List ℕ)) (m : ℕ) (kind : 
 here : (n : ℕ) (s : Stage) (line : List ℕ) (after : List (List ℕ)) (m : ℕ) (kind : Kind) → m ≡ n → IsRefused s line (behind_of after) kind ⊎ IsCutOff s line (behind_of after) kind → Faulty n s (line ∷ after) m kind
 here n s line after m kind number why = record { before = []; stage = s; line = line; after = after; is = refl; number = omega (arith, number); leads = refl; why = why }
 
+same_fault : (n m : ℕ) (k l : Kind) → (let r : Parsed = Err (n, k) in r) ≡ Err (m, l) → (m ≡ n) × (l ≡ k)
+same_fault n m k l is =
+    let q : (n, k) ≡ (m, l) = cc in
+    (sym (ap (λ (x : ℕ × Kind). x.0) q), sym (ap (λ (x : ℕ × Kind). x.1) q))
+
 no_plan : (n : ℕ) (o : Option Planned) (m : ℕ) (kind : Kind) → finished n o ≡ Err (m, kind) → (m ≡ n) × (kind ≡ kinds.Unfinished) × (o ≡ None)
-no_plan n None m kind is = ((cc), (cc), refl)
+no_plan n None m kind is =
+    let q = same_fault n m kinds.Unfinished kind is in (q.0, q.1, refl)
 no_plan n (Some q) m kind is = cc
 
 fault_parts : (n : ℕ) (s : Stage) (first : List ℕ) (others : List (List ℕ)) (m : ℕ) (kind : Kind) → goes n s (first ∷ others) ≡ Err (m, kind) → Faulty n s (first ∷ others) m kind
@@ -152,14 +169,14 @@ fault_parts n s [] [] m kind is =
     here n s [] [] m kind q.0 (inr (refl, q.1, inr (refl, q.2)))
 fault_parts n s (b ∷ bs) [] m kind is =
     (elim (step s (b ∷ bs)) as (λ r. step s (b ∷ bs) ≡ r → taken n r (λ t. Err (n, kinds.Unfinished)) ≡ Err (m, kind) → Faulty n s ((b ∷ bs) ∷ []) m kind) [
-      | Ok t ↦ λ e h. here n s (b ∷ bs) [] m kind (cc) (inr (refl, (cc), inl (omega arith, (t, e))))
-      | Err k ↦ λ e h. here n s (b ∷ bs) [] m kind (cc) (inl (inr (refl, omega arith), (cc)))
+      | Ok t ↦ λ e h. let q = same_fault n m kinds.Unfinished kind h in here n s (b ∷ bs) [] m kind q.0 (inr (refl, q.1, inl (omega arith, (t, e))))
+      | Err k ↦ λ e h. let q = same_fault n m k kind h in here n s (b ∷ bs) [] m kind q.0 (inl (inr (refl, omega arith), e ∙ ap Err (sym q.1)))
     ]) refl is
 fault_parts n s first (next ∷ others) m kind is =
     (elim (step s first) as (λ r. step s first ≡ r → taken n r (λ t. goes (n + 1) t (next ∷ others)) ≡ Err (m, kind) → Faulty n s (first ∷ next ∷ others) m kind) [
       | Ok t ↦ λ e h. let f = fault_parts (n + 1) t next others m kind h in
         record { before = first ∷ f.before; stage = f.stage; line = f.line; after = f.after; is = ap (λ (ps : List (List ℕ)). first ∷ ps) f.is; number = omega (arith, f.number); leads = (t, e, f.leads); why = f.why }
-      | Err k ↦ λ e h. here n s first (next ∷ others) m kind (cc) (inl (inl (join_with_byte 10 (next ∷ others), refl), (cc)))
+      | Err k ↦ λ e h. let q = same_fault n m k kind h in here n s first (next ∷ others) m kind q.0 (inl (inl (join_with_byte 10 (next ∷ others), refl), e ∙ ap Err (sym q.1)))
     ]) refl is
 
 pub fault_is_first : (text : List ℕ) (n : ℕ) (kind : Kind) → length text ≤ SCRIPT_MAX → outcome text ≡ Err (n, kind) → IsFirstFault text n kind
@@ -180,3 +197,9 @@ fault_is_first text n kind within is =
       leads = r.leads;
       why = r.why;
     }
+
+pub long_is_line_1 : (text : List ℕ) (n : ℕ) (kind : Kind) → SCRIPT_MAX < length text → outcome text ≡ Err (n, kind) → (n ≡ 1) × (kind ≡ long_kind (first_of (parts_of text)))
+long_is_line_1 text n kind long is =
+    let e = long_goes text long in
+    let q : (1, long_kind (first_of (parts_of text))) ≡ (n, kind) = cc in
+    (sym (ap (λ (x : ℕ × Kind). x.0) q), sym (ap (λ (x : ℕ × Kind). x.1) q))

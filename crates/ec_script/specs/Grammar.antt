@@ -8,7 +8,7 @@ use Rattle.ec_script.specs.declared.stage.Stage.{Stage}
 use Rattle.ec_script.specs.declared.stage.Stage.TheVariants.{Opening}
 use Rattle.ec_script.specs.Scripted.{Planned}
 use Rattle.ec_script.specs.Reading.{step}
-use Rattle.ec_script.specs.Outcome.{outcome, plan_in}
+use Rattle.ec_script.specs.Outcome.{outcome, parts_of, plan_in, first_of, long_kind}
 
 -- each line with its LF
 abbrev pub ended_line : List ℕ → List ℕ
@@ -52,13 +52,13 @@ ReadIsScript = (bytes : List ℕ) (p : Planned) → outcome bytes ≡ Ok p → I
 
 -- an LF ends the line, or it is the rest of the text and has a byte, and it is at fault in its place
 abbrev pub IsRefused : Stage → List ℕ → List ℕ → Kind → Type 0
-IsRefused s line behind kind = ((more : List ℕ) × (behind ≡ 10 ∷ more) ⊎ (behind ≡ []) × (0 < length line)) × (step s line ≡ Err kind)
+IsRefused s line behind kind = (((more : List ℕ) × (behind ≡ 10 ∷ more)) ⊎ ((behind ≡ []) × (0 < length line))) × (step s line ≡ Err kind)
 
 -- the rest of the text lacks its LF and has no other fault, or no line lacks one and no plan stands
 abbrev pub IsCutOff : Stage → List ℕ → List ℕ → Kind → Type 0
 IsCutOff s line behind kind =
     (behind ≡ []) × (kind ≡ kinds.Unfinished)
-    × ((0 < length line) × ((next : Stage) × (step s line ≡ Ok next)) ⊎ (line ≡ []) × (plan_in s ≡ None))
+    × (((0 < length line) × ((next : Stage) × (step s line ≡ Ok next))) ⊎ ((line ≡ []) × (plan_in s ≡ None)))
 
 -- line n is the first at fault, and this is its least kind: the lines before it have none
 pub record IsFirstFault (text : List ℕ) (n : ℕ) (kind : Kind) : Type 0 where
@@ -77,6 +77,6 @@ pub record IsFirstFault (text : List ℕ) (n : ℕ) (kind : Kind) : Type 0 where
 abbrev pub FaultIsTheFirst : Type 0
 FaultIsTheFirst = (text : List ℕ) (n : ℕ) (kind : Kind) → length text ≤ SCRIPT_MAX → outcome text ≡ Err (n, kind) → IsFirstFault text n kind
 
--- of a longer one line 1
+-- of a longer one it is line 1, which is a header or none
 abbrev pub LongIsLine1 : Type 0
-LongIsLine1 = (text : List ℕ) (n : ℕ) (kind : Kind) → SCRIPT_MAX < length text → outcome text ≡ Err (n, kind) → (n ≡ 1) × ((kind ≡ kinds.TooMany) ⊎ (kind ≡ kinds.BadHeader))
+LongIsLine1 = (text : List ℕ) (n : ℕ) (kind : Kind) → SCRIPT_MAX < length text → outcome text ≡ Err (n, kind) → (n ≡ 1) × (kind ≡ long_kind (first_of (parts_of text)))

@@ -11,3 +11,5 @@ pub mod Scripted
 pub mod Rooms
 pub mod Reading
 pub mod Outcome
+pub mod Grammar
+pub mod Confined

@@ -6,6 +6,7 @@ mod draft;
 mod fault;
 mod form;
 mod kinds;
+mod laws;
 mod lists;
 mod object;
 mod order;
@@ -16,6 +17,7 @@ mod stage;
 mod verb;
 
 pub use fault::{Kind, ScriptFault};
+pub use laws::{fault_is_the_first, long_is_line_1, read_is_script, script_is_read};
 pub use order::{Order, Values};
 pub use parsing::{SCRIPT_MAX, parse};
 pub use plan::Plan;

@@ -1,6 +1,7 @@
 //! Whole scripts.
-ghost use Rattle.std.specs.Prelude.{◌≡◌, ◌≢◌, ◌++◌, ◌∷◌, ◌+◌, ◌<◌, ◌^◌, All, IfNone, IfSome, length};
-ghost use Rattle.ec_script.specs.Outcome.{Tells, ended, fault_at, finished, first_of, goes, long_kind, outcome, parts_of, plan_in};
+ghost use Rattle.std.specs.Prelude.{◌≡◌, ◌≢◌, ◌++◌, ◌∷◌, ◌+◌, ◌<◌, ◌^◌, All, Err, IfNone, IfSome, length};
+ghost use Rattle.ec_script.specs.Outcome.{Tells, ended, fault_at, finished, first_of, goes, long_kind, outcome, parts_of, plan_in, taken};
+ghost use Rattle.ec_script.specs.Reading.{step};
 
 use crate::fault::{Kind, ScriptFault, StageFault};
 use crate::plan::Plan;
@@ -32,42 +33,62 @@ fn fault_at(line: u64, fault: StageFault) -> ScriptFault
     }
 }
 
-/// The kind of a text that is too long, by its line 1.
+/// The first line.
 #[tactic(auto, using(crate::proofs::Lines::first_lines))]
+fn first_line(text: &[u8]) -> &[u8]
+    ensures { result.now ≡ first_of (parts_of text.now) }
+{
+    match cut_line(text) {
+        Some((line, _)) => line,
+        None => text,
+    }
+}
+
+/// The kind of a text that is too long, by its line 1.
 fn long_kind(text: &[u8]) -> Kind
     ensures { result ≡ long_kind (first_of (parts_of text.now)) }
 {
-    let line = match cut_line(text) {
-        Some((line, _)) => line,
-        None => text,
-    };
-    if line == b"evc-script 1".as_slice() {
+    if first_line(text) == b"evc-script 1".as_slice() {
         Kind::TooMany
     } else {
         Kind::BadHeader
     }
 }
 
-/// What a text comes to that ends so in line n.
-fn finish(alloc: Global, stage: Stage, number: u64, rest: &[u8]) -> Result<Plan, ScriptFault>
-    ensures { Tells (ended number stage rest.now) result }
+/// What a text comes to that ends with the LF before line n.
+fn end_here(stage: Stage, line: u64) -> Result<Plan, ScriptFault>
+    ensures { Tells (finished line (plan_in stage)) result }
 {
-    let mut stage = stage;
-    if !rest.is_empty() {
-        return match stage.line(alloc, rest) {
-            Err(fault) => Err(fault_at(number, fault)),
-            Ok(()) => Err(ScriptFault::At {
-                line: number,
-                kind: Kind::Unfinished,
-            }),
-        };
-    }
     match stage.plan() {
         Some(plan) => Ok(plan),
         None => Err(ScriptFault::At {
-            line: number,
+            line,
             kind: Kind::Unfinished,
         }),
+    }
+}
+
+/// What a text comes to whose line n lacks its LF.
+fn cut_off(alloc: Global, stage: Stage, line: u64, rest: &[u8]) -> Result<Plan, ScriptFault>
+    ensures { Tells (taken line (step stage rest.now) (λ t. Err (line, Kind.Unfinished))) result }
+{
+    let mut stage = stage;
+    match stage.line(alloc, rest) {
+        Err(fault) => Err(fault_at(line, fault)),
+        Ok(()) => Err(ScriptFault::At {
+            line,
+            kind: Kind::Unfinished,
+        }),
+    }
+}
+
+/// What a text comes to that ends so in line n.
+fn finish(alloc: Global, stage: Stage, line: u64, rest: &[u8]) -> Result<Plan, ScriptFault>
+    ensures { Tells (ended line stage rest.now) result }
+{
+    match rest {
+        [] => end_here(stage, line),
+        [_, ..] => cut_off(alloc, stage, line, rest),
     }
 }
 

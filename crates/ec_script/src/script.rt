@@ -90,8 +90,10 @@ fn empty_program(alloc: Global) -> Program
 }
 
 /// So many empty programs.
+#[tactic(auto, using(crate::proofs::Drafts::flats_none))]
 fn empty_programs(alloc: Global, n: usize) -> Result<Vec<Program>, AllocError>
-    ensures { IfOk result (λ programs. programs.items ≡ replicate n []) }
+    ensures items { IfOk result (λ programs. programs.items ≡ replicate n []) }
+    ensures lines { IfOk result (λ programs. map flat programs.items ≡ replicate n []) }
 {
     let mut programs = Vec::new(alloc);
     for _made in 0..n {
@@ -135,6 +137,13 @@ impl Script {
         }
     }
 
+    /// How many names the schedule has.
+    fn scheduled(&self) -> usize
+        ensures { result ≡ length self.now.schedule }
+    {
+        self.schedule.len()
+    }
+
     /// The least fault of a line of one of the forms, whose word for an object means this.
     fn fault(&self, parts: &Parts<'_>, found: &Option<Object>) -> Option<Kind>
         ensures { result ≡ phrase_fault (seen self.now) (shown parts.now) found.now }
@@ -143,7 +152,7 @@ impl Script {
             heading: &self.heading,
             named: self.named.as_slice(),
             nest: self.nest(),
-            scheduled: self.schedule.len(),
+            scheduled: self.scheduled(),
         };
         phrase_fault(&view, parts, *found)
     }
@@ -166,10 +175,14 @@ impl Script {
         requires { MayOrder self.old.block order }
         ensures { OnOk result (self.new ≡ ordered self.old order) }
     {
-        let Some(block) = &mut self.block else {
+        let Some(block) = self.block.take() else {
             return Ok(());
         };
-        block.draft.take(order)
+        let Block { worker, draft } = block;
+        let mut draft = draft;
+        draft.take(order)?;
+        self.block = Some(Block { worker, draft });
+        Ok(())
     }
 
     /// Takes a command.
