@@ -5,4 +5,4 @@ mod Room
 mod LineCuts
 mod Lines
 mod Texts
-mod Reads
+mod Onward

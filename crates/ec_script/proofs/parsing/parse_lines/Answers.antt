@@ -1,7 +1,7 @@
 use Rattle.std.proofs.Common.{◌≡◌, ℕ, ◌+◌, ◌≤◌, length, Err, sym, subst, arith}
 use Rattle.ec_script.specs.declared.stage.Stage.TheVariants.{Opening}
 use Rattle.ec_script.specs.Outcome.{Tells, goes, parts_of}
-use Rattle.ec_script.proofs.Reads.{goes_on, fails_line, rests, shorter}
+use Rattle.ec_script.proofs.Onward.{goes_on, fails_line, rests, shorter}
 use Rattle.ec_script.proofs.parsing.parse_lines.Goals as goal
 
 pub returns-in-Err : goal.returns-in-Err
