@@ -69,9 +69,9 @@ plain_line c is =
 
 pub write_line : (d : Database) (vs : Vec Value) → IsLine (WriteAll d vs) (Write d vs.items)
 write_line d vs = record {
-    flat = ap flat_one (sym (rolls-WriteAll d vs)) ∙ fold-roll-Command (List Order) flat_step (layer.WriteAll d vs);
-    nesting = ap nesting_one (sym (rolls-WriteAll d vs)) ∙ fold-roll-Command ℕ nesting_step (layer.WriteAll d vs);
-    count = ap count_one (sym (rolls-WriteAll d vs)) ∙ fold-roll-Command ℕ count_step (layer.WriteAll d vs);
+  flat = ap flat_one (sym (rolls-WriteAll d vs)) ∙ fold-roll-Command (List Order) flat_step (layer.WriteAll d vs);
+  nesting = ap nesting_one (sym (rolls-WriteAll d vs)) ∙ fold-roll-Command ℕ nesting_step (layer.WriteAll d vs);
+  count = ap count_one (sym (rolls-WriteAll d vs)) ∙ fold-roll-Command ℕ count_step (layer.WriteAll d vs);
 }
 
 pub write_sound : (d : Database) (vs : Vec Value) → (length vs.items == d.cells) ≡ true → list_all is_value vs.items ≡ true → is_sound_one (WriteAll d vs) ≡ true
@@ -130,22 +130,26 @@ flat_nil = refl
 pub added_is : (os : List Open) (cs new : List Command) (n : ℕ) (c : Command) (o : Order) → new ≡ cs ++ c ∷ [] → IsLine c o → view_of os new (n + 1) ≡ added (view_of os cs n) o
 added_is os cs new n c o is line =
     let f : begun os ++ flat new ≡ (begun os ++ flat cs) ++ o ∷ [] =
-        ap (λ xs. begun os ++ flat xs) is ∙ ap (λ xs. begun os ++ xs) (flat_push cs c ∙ ap (λ xs. flat cs ++ xs) line.flat) ∙ sym (append_assoc (begun os) (flat cs) (o ∷ [])) in
+    ap (λ xs. begun os ++ flat xs) is ∙ ap (λ xs. begun os ++ xs) (flat_push cs c ∙ ap (λ xs. flat cs ++ xs) line.flat) ∙ sym (append_assoc (begun os) (flat cs) (o ∷ [])) in
     ap₂ (λ xs b. record { orders = xs; depth = length os; is_empty = b; many = n + 1 }) f (ap (λ xs. length xs == 0) is ∙ none_long cs c)
 
 pub added_fits : (os : List Open) (cs new : List Command) (n : ℕ) (c : Command) (o : Order) → new ≡ cs ++ c ∷ [] → IsLine c o → is_sound_one c ≡ true → n < 4096 → IsDraft os cs n → IsDraft os new (n + 1)
 added_fits os cs new n c o is line sound room d =
     let k = ap count is ∙ count_push cs c in
-    record { outer = d.outer; current = record {
+    record {
+      outer = d.outer;
+      current = record {
         sound = ap is_sound is ∙ sound_push cs c d.current.sound sound;
-        nesting = let m = ap nesting is ∙ nesting_push cs c in omega (arith, m, line.nesting, d.current.nesting) };
+        nesting = let m = ap nesting is ∙ nesting_push cs c in omega (arith, m, line.nesting, d.current.nesting);
+      };
       enough = omega (arith, k, line.count, d.enough);
-      few = omega (arith, room) }
+      few = omega (arith, room);
+    }
 
 pub opened_is : (os news : List Open) (cs : List Command) (n : ℕ) (o : Open) → news ≡ os ++ o ∷ [] → o.before.items ≡ cs → view_of news [] (n + 1) ≡ opened (view_of os cs n) o.times
 opened_is os news cs n o is before =
     let f : begun news ++ flat [] ≡ (begun os ++ flat cs) ++ Begin o.times ∷ [] =
-        ap (λ xs. begun news ++ xs) flat_nil ∙ append-nil (begun news) ∙ ap begun is ∙ begun_push os o ∙ ap (λ xs. begun os ++ (flat xs ++ Begin o.times ∷ [])) before ∙ sym (append_assoc (begun os) (flat cs) (Begin o.times ∷ [])) in
+    ap (λ xs. begun news ++ xs) flat_nil ∙ append-nil (begun news) ∙ ap begun is ∙ begun_push os o ∙ ap (λ xs. begun os ++ (flat xs ++ Begin o.times ∷ [])) before ∙ sym (append_assoc (begun os) (flat cs) (Begin o.times ∷ [])) in
     let m : length news ≡ length os + 1 = omega (arith, ap length is, length-append os (o ∷ [])) in
     ap₂ (λ xs k. record { orders = xs; depth = k; is_empty = true; many = n + 1 }) f m
 
@@ -155,20 +159,23 @@ opened_fits os news cs n o is before some few deep room d =
     let k = ap counted is ∙ counted_push os o in
     let j = ap count before in
     record {
-        outer = subst (AreOpen 0) (sym is) (open_push 0 os o d.outer (record {
-            part = subst (λ n. IsPart n o.before.items) (sym (zero-add (length os))) (subst (IsPart (length os)) (sym before) d.current);
-            some = some; few = few }));
-        current = record { sound = refl; nesting = omega arith };
-        enough = omega (arith, k, j, d.enough);
-        few = omega (arith, room) }
+      outer = subst (AreOpen 0) (sym is) (open_push 0 os o d.outer (record {
+        part = subst (λ n. IsPart n o.before.items) (sym (zero-add (length os))) (subst (IsPart (length os)) (sym before) d.current);
+        some = some;
+        few = few;
+      }));
+      current = record { sound = refl; nesting = omega arith };
+      enough = omega (arith, k, j, d.enough);
+      few = omega (arith, room);
+    }
 
 -- where there was no room for a repeat, the innermost block is lost
 pub lost_fits : (os : List Open) (cs : List Command) (n : ℕ) → IsDraft os cs n → IsDraft os [] n
 lost_fits os cs n d = record {
-    outer = d.outer;
-    current = record { sound = refl; nesting = omega (arith, d.current.nesting) };
-    enough = omega (arith, d.enough);
-    few = d.few;
+  outer = d.outer;
+  current = record { sound = refl; nesting = omega (arith, d.current.nesting) };
+  enough = omega (arith, d.enough);
+  few = d.few;
 }
 
 regroup : (a f g e : List Order) (b : Order) → a ++ (f ++ b ∷ (g ++ e)) ≡ ((a ++ (f ++ b ∷ [])) ++ g) ++ e
@@ -177,10 +184,10 @@ regroup a f g e b = sym (simp append_assoc)
 pub closed_is : (os olds : List Open) (cs before new : List Command) (n : ℕ) (o : Open) (b : Vec Command) → olds ≡ os ++ o ∷ [] → o.before.items ≡ before → b.items ≡ cs → new ≡ before ++ Repeat o.times b ∷ [] → view_of os new n ≡ closed (view_of olds cs n)
 closed_is os olds cs before new n o b was first block is =
     let f : begun os ++ flat new ≡ ((begun os ++ (flat before ++ Begin o.times ∷ [])) ++ flat cs) ++ End ∷ [] =
-        ap (λ xs. begun os ++ flat xs) is ∙ ap (λ xs. begun os ++ xs) (flat_push before (Repeat o.times b) ∙ ap (λ xs. flat before ++ xs) (flat_repeat o.times b))
-        ∙ ap (λ ds. begun os ++ (flat before ++ Begin o.times ∷ (flat ds ++ End ∷ []))) block ∙ regroup (begun os) (flat before) (flat cs) (End ∷ []) (Begin o.times) in
+    ap (λ xs. begun os ++ flat xs) is ∙ ap (λ xs. begun os ++ xs) (flat_push before (Repeat o.times b) ∙ ap (λ xs. flat before ++ xs) (flat_repeat o.times b))
+    ∙ ap (λ ds. begun os ++ (flat before ++ Begin o.times ∷ (flat ds ++ End ∷ []))) block ∙ regroup (begun os) (flat before) (flat cs) (End ∷ []) (Begin o.times) in
     let g : (begun os ++ (flat before ++ Begin o.times ∷ [])) ≡ begun olds =
-        ap (λ ds. begun os ++ (flat ds ++ Begin o.times ∷ [])) (sym first) ∙ sym (begun_push os o) ∙ ap begun (sym was) in
+    ap (λ ds. begun os ++ (flat ds ++ Begin o.times ∷ [])) (sym first) ∙ sym (begun_push os o) ∙ ap begun (sym was) in
     let m : length os ≡ length olds - 1 = omega (arith, ap length was, length-append os (o ∷ [])) in
     ap (λ xs. record { orders = xs; depth = length os; is_empty = length new == 0; many = n }) (f ∙ ap (λ xs. (xs ++ flat cs) ++ End ∷ []) g)
     ∙ ap₂ (λ k e. record { orders = (begun olds ++ flat cs) ++ End ∷ []; depth = k; is_empty = e; many = n }) m (ap (λ xs. length xs == 0) is ∙ none_long before (Repeat o.times b))
@@ -204,13 +211,15 @@ closed_fits os olds cs before new n o b was first block is some d =
     let u = ap counted was ∙ counted_push os o in
     let long : 1 ≤ length (map is_sound_one b.items) = omega (arith, length-map b.items is_sound_one, ap length block, some) in
     record {
-        outer = popped.0;
-        current = record {
-            sound = ap is_sound is ∙ sound_push before (Repeat o.times b) (ap is_sound (sym first) ∙ one.part.sound)
-                (sound_repeat o.times b ∙ and_from _ _ (and_from _ _ (and_from _ _ (le_true _ _ (omega (arith, one.some))) (le_true _ _ one.few)) (le_true _ _ long)) (ap is_sound block ∙ d.current.sound));
-            nesting = omega (arith, l, k, i, j, one.part.nesting, d.current.nesting, m) };
-        enough = omega (arith, p, q, r, s, u, d.enough);
-        few = d.few }
+      outer = popped.0;
+      current = record {
+        sound = ap is_sound is ∙ sound_push before (Repeat o.times b) (ap is_sound (sym first) ∙ one.part.sound)
+            (sound_repeat o.times b ∙ and_from _ _ (and_from _ _ (and_from _ _ (le_true _ _ (omega (arith, one.some))) (le_true _ _ one.few)) (le_true _ _ long)) (ap is_sound block ∙ d.current.sound));
+        nesting = omega (arith, l, k, i, j, one.part.nesting, d.current.nesting, m);
+      };
+      enough = omega (arith, p, q, r, s, u, d.enough);
+      few = d.few;
+    }
 
 start_is : view_of [] [] 0 ≡ record { orders = []; depth = 0; is_empty = true; many = 0 }
 unfolding begun all_of
@@ -225,10 +234,11 @@ half_fits os olds cs new n o was is d =
     let u = ap counted was ∙ counted_push os o in
     let r = ap count is in
     record {
-        outer = popped.0;
-        current = subst (IsPart (length os)) (sym is) (subst (λ n. IsPart n o.before.items) (zero-add (length os)) popped.1.part);
-        enough = omega (arith, u, r, d.enough);
-        few = d.few }
+      outer = popped.0;
+      current = subst (IsPart (length os)) (sym is) (subst (λ n. IsPart n o.before.items) (zero-add (length os)) popped.1.part);
+      enough = omega (arith, u, r, d.enough);
+      few = d.few;
+    }
 
 pub some_long : (cs : List Command) → (length cs == 0) ≡ false → 0 < length cs
 some_long [] is = cc

@@ -28,7 +28,7 @@ pub fails_line : (n : ℕ) (s : Stage) (line more rest : List ℕ) (o : Parsed) 
     → Tells o (Err (fault_at n fault))
 fails_line n s line more rest o fault none whole is fails =
     told n (step s line) (λ u. goes (n + 1) u (parts_of more)) o fault
-        (sym (goes_line n s line more (no_lf line none)) ∙ ap (λ (bs : List ℕ). goes n s (parts_of bs)) (sym whole) ∙ is) fails
+    (sym (goes_line n s line more (no_lf line none)) ∙ ap (λ (bs : List ℕ). goes n s (parts_of bs)) (sym whole) ∙ is) fails
 
 -- the end of the text
 pub rests : (n : ℕ) (s : Stage) (rest : List ℕ) (o : Parsed) (result : Result Plan ScriptFault) → All (λ b. b ≢ 10) rest → goes n s (parts_of rest) ≡ o → Tells (ended n s rest) result → Tells o result

@@ -77,8 +77,8 @@ nine t1 t2 t3 t4 t5 t6 t7 t8 t9 is =
 pub no_fault : (s : Seen) (p : Phrase) (o : Option Object) → phrase_fault s p o ≡ None → NoFault s p o
 no_fault s p o is =
     let f = nine (not (is_allowed p.verb (is_some s.nest) s.scheduled)) (is_named_again s.named (or_nothing o)) (is_none o || has_unknown_name s.heading p.verb p.rest)
-        (is_bad_tail (tail_of p.verb) p.verb p.rest (or_nothing o)) (is_too_many p.verb p.rest s.nest s.scheduled) (is_owned s.heading.groups (or_nothing o))
-        (has_two_roles (or_nothing o)) (lacks_right s.heading.setup s.nest p.verb (or_nothing o)) (is_badly_nested p.verb s.nest) is in
+    (is_bad_tail (tail_of p.verb) p.verb p.rest (or_nothing o)) (is_too_many p.verb p.rest s.nest s.scheduled) (is_owned s.heading.groups (or_nothing o))
+    (has_two_roles (or_nothing o)) (lacks_right s.heading.setup s.nest p.verb (or_nothing o)) (is_badly_nested p.verb s.nest) is in
     record { number = f.no_number; many = f.no_many; roles = f.no_roles; nested = f.no_nested }
 
 -- A BLOCK

@@ -108,7 +108,7 @@ read_parts n s (b ∷ bs) [] p is = absurd (cut_plan n (step s (b ∷ bs)) p is)
 read_parts n s first (next ∷ others) p is =
     (elim (step s first) as (λ r. step s first ≡ r → taken n r (λ t. goes (n + 1) t (next ∷ others)) ≡ Ok p → Reads s (first ∷ next ∷ others) p) [
       | Ok t ↦ λ e h. let m = read_parts (n + 1) t next others p h in
-        record { lines = first ∷ m.lines; stage = m.stage; is = ap (λ (ps : List (List ℕ)). first ∷ ps) m.is; leads = (t, e, m.leads); plan = m.plan }
+          record { lines = first ∷ m.lines; stage = m.stage; is = ap (λ (ps : List (List ℕ)). first ∷ ps) m.is; leads = (t, e, m.leads); plan = m.plan }
       | Err k ↦ λ e h. cc
     ]) refl is
 
@@ -175,7 +175,7 @@ fault_parts n s (b ∷ bs) [] m kind is =
 fault_parts n s first (next ∷ others) m kind is =
     (elim (step s first) as (λ r. step s first ≡ r → taken n r (λ t. goes (n + 1) t (next ∷ others)) ≡ Err (m, kind) → Faulty n s (first ∷ next ∷ others) m kind) [
       | Ok t ↦ λ e h. let f = fault_parts (n + 1) t next others m kind h in
-        record { before = first ∷ f.before; stage = f.stage; line = f.line; after = f.after; is = ap (λ (ps : List (List ℕ)). first ∷ ps) f.is; number = omega (arith, f.number); leads = (t, e, f.leads); why = f.why }
+          record { before = first ∷ f.before; stage = f.stage; line = f.line; after = f.after; is = ap (λ (ps : List (List ℕ)). first ∷ ps) f.is; number = omega (arith, f.number); leads = (t, e, f.leads); why = f.why }
       | Err k ↦ λ e h. let q = same_fault n m k kind h in here n s first (next ∷ others) m kind q.0 (inl (inl (join_with_byte 10 (next ∷ others), refl), e ∙ ap Err (sym q.1)))
     ]) refl is
 

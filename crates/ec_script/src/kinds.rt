@@ -283,7 +283,11 @@ pub(crate) fn or_nothing(object: Option<Object>) -> Object
 }
 
 /// The least fault of a line of one of the forms, whose word for an object means this.
-pub(crate) fn phrase_fault(view: &View<'_>, parts: &Parts<'_>, found: Option<Object>) -> Option<Kind>
+pub(crate) fn phrase_fault(
+    view: &View<'_>,
+    parts: &Parts<'_>,
+    found: Option<Object>,
+) -> Option<Kind>
     ensures { result ≡ phrase_fault (seen_of view.now) (shown parts.now) found }
 {
     let object = or_nothing(found);

@@ -21,7 +21,11 @@ fn one_line_changed(rt: HostRuntime) -> Result<(), Fail> {
         (12, "await E last+0", (12, 6)),
         (3, "workers a a", (3, 4)),
         (3, "workers a end", (3, 3)),
-        (3, "workers w0 w1 w2 w3 w4 w5 w6 w7 w8 w9 w10 w11 w12 w13 w14 w15 w16", (3, 7)),
+        (
+            3,
+            "workers w0 w1 w2 w3 w4 w5 w6 w7 w8 w9 w10 w11 w12 w13 w14 w15 w16",
+            (3, 7),
+        ),
         (2, "limit 01", (2, 2)),
         (2, "limit 0", (2, 6)),
         (2, "limit 4294967296", (2, 6)),
@@ -44,7 +48,13 @@ fn one_line_changed(rt: HostRuntime) -> Result<(), Fail> {
 
 #[test]
 fn a_group_among_the_declarations(rt: HostRuntime) -> Result<(), Fail> {
-    let front = ["evc-script 1", "limit 10", "workers a c", "eventcount E signal a observe c", "sequencer T take c"];
+    let front = [
+        "evc-script 1",
+        "limit 10",
+        "workers a c",
+        "eventcount E signal a observe c",
+        "sequencer T take c",
+    ];
     let mut lines = [""; 8];
     lines[..5].copy_from_slice(&front);
     lines[5] = "buffer B 1 produce a consume a";

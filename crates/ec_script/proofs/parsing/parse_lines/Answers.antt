@@ -7,7 +7,7 @@ use Rattle.ec_script.proofs.parsing.parse_lines.Goals as goal
 pub returns-in-Err : goal.returns-in-Err
 returns-in-Err c =
     subst (λ f. Tells (goes 1 Opening (parts_of c.args.text.now)) (Err f)) (sym c.fault_at.ensures)
-        (fails_line c.loop-line.number c.loop-line.stage c.in-Some.line.now c.in-Some.behind.now c.loop-line.rest.now _ c.in-Err.fault c.in-Some.ensures.plain c.in-Some.ensures.whole c.loop-line.invariant.goes c.in-Err.ensures)
+    (fails_line c.loop-line.number c.loop-line.stage c.in-Some.line.now c.in-Some.behind.now c.loop-line.rest.now _ c.in-Err.fault c.in-Some.ensures.plain c.in-Some.ensures.whole c.loop-line.invariant.goes c.in-Err.ensures)
 
 pub loop-line-preserved : goal.loop-line-preserved
 loop-line-preserved c = record {

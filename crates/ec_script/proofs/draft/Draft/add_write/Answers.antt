@@ -13,7 +13,7 @@ invariant_of-self-2 c =
     let k = ap (λ (vs : List Value). length vs == c.args.shape.cells) c.values.view_is in
     let v = ap (λ (vs : List Value). list_all is_value vs) c.values.view_is in
     added_fits _ _ _ c.self.inside.many _ _ c.in_ok-push.ensures.items (write_line c.args.shape c.values.inside.items)
-        (write_sound c.args.shape c.values.inside.items (k ∙ c.requires.as_many) (v ∙ c.requires.sound)) (omega (arith, n, c.requires.room)) c.self.invariant
+    (write_sound c.args.shape c.values.inside.items (k ∙ c.requires.as_many) (v ∙ c.requires.sound)) (omega (arith, n, c.requires.room)) c.self.invariant
 
 pub returns : goal.returns
 returns c =

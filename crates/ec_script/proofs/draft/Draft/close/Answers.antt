@@ -13,7 +13,7 @@ invariant_of-self-2 c =
     let e = ap (λ (v : Vec Command). v.items) c.replace-block.ensures.after in
     let f = ap (λ (v : Vec Command). v.items) c.replace-block.ensures.value in
     closed_fits _ _ _ _ _ _ c.in-Some.open c.replace-block.result c.in-Some.ensures.items (sym e) f c.in_ok-push.ensures.items
-        (some_long _ (ap (λ (d : Drafted). d.is_empty) c.self.view_is ∙ c.requires.some)) c.self.invariant
+    (some_long _ (ap (λ (d : Drafted). d.is_empty) c.self.view_is ∙ c.requires.some)) c.self.invariant
 
 pub returns : goal.returns
 returns c =

@@ -13,7 +13,7 @@ invariant_of-self-2 c =
     let k = ap (λ (d : Drafted). d.depth) c.self.view_is in
     let n = ap (λ (d : Drafted). d.many) c.self.view_is in
     subst (λ cs. IsDraft c.push.new.self.items cs (c.self.inside.many + 1)) (sym e)
-        (opened_fits _ _ _ c.self.inside.many _ c.in_ok-push.ensures.items f c.requires.some c.requires.few (omega (arith, k, c.requires.depth)) (omega (arith, n, c.requires.room)) c.self.invariant)
+    (opened_fits _ _ _ c.self.inside.many _ c.in_ok-push.ensures.items f c.requires.some c.requires.few (omega (arith, k, c.requires.depth)) (omega (arith, n, c.requires.room)) c.self.invariant)
 
 pub returns : goal.returns
 returns c =

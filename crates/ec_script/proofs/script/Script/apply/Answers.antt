@@ -11,7 +11,7 @@ use Rattle.ec_script.proofs.script.Script.apply.Goals as goal
 pub order-requires : goal.order-requires
 order-requires c =
     subst (λ n. MayOrder c.args.self.now.block (Begin n)) (sym c.size_in.ensures)
-        (repeat_may c.args.self.now c.args.parts.now.verb c.args.parts.now.object.now (rest_words c.args.parts.now.rest) c.args.found.now c.in-Repeat.is c.requires)
+    (repeat_may c.args.self.now c.args.parts.now.verb c.args.parts.now.object.now (rest_words c.args.parts.now.rest) c.args.found.now c.in-Repeat.is c.requires)
 
 pub end-requires : goal.end-requires
 end-requires c = end_may c.args.self.now c.args.parts.now.verb c.args.parts.now.object.now (rest_words c.args.parts.now.rest) c.args.found.now c.in-End.is c.requires

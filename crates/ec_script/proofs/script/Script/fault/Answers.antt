@@ -18,5 +18,5 @@ pub returns : goal.returns
 returns c =
     let v = c.self.view_is in
     let e = seen_same c.self.inside.heading c.as_slice.result.now c.nest.result c.scheduled.result c.args.self.now
-        (ap (λ (s : Scripted). s.heading) v) (c.as_slice.ensures.value ∙ ap (λ (s : Scripted). s.named) v) c.nest.ensures c.scheduled.ensures in
+    (ap (λ (s : Scripted). s.heading) v) (c.as_slice.ensures.value ∙ ap (λ (s : Scripted). s.named) v) c.nest.ensures c.scheduled.ensures in
     c.phrase_fault.ensures ∙ ap (λ (s : Seen). phrase_fault s (shown c.args.parts.now) c.args.found.now) e
