@@ -166,7 +166,8 @@ fn repeats_in_one_another(rt: HostRuntime) -> Result<(), Fail> {
     for line in lines[16..20].iter_mut() {
         *line = "end";
     }
-    assert_eq!(rt; last_fault(rt.alloc(), &lines)?, 12);
+    let text = text_of(rt.alloc(), &lines)?;
+    assert_eq!(rt; fault_of(rt.alloc(), text.as_slice()), (21, 12));
     Ok(())
 }
 
