@@ -1,0 +1,142 @@
+-- A line without fault may go on with its block.
+use Rattle.std.proofs.Common.{◌≡◌, ℕ, ◌<◌, ◌≤◌, ◌&&◌, ◌||◌, Bool, true, false, not, List, length, Option, Some, None, option_map, is_some, is_none, nat_le, nat_lt, unwrap_or, arith, rules, refl, sym, ap, ◌∙◌, lt-ltb, [], ◌∷◌}
+use Rattle.std.specs.Option.{option_and_then}
+use Rattle.std.proofs.lemmas.Bool.{leb-false}
+use Rattle.ec_count.specs.Tables.{first_that}
+use Rattle.ec_text.specs.Words.{number_of}
+use Rattle.ec_script.specs.declared.fault.Kind.{Kind}
+use Rattle.ec_script.specs.declared.fault.Kind.TheVariants as kinds
+use Rattle.ec_script.specs.declared.object.Object.{Object}
+use Rattle.ec_script.specs.declared.script.Block.{Block}
+use Rattle.ec_script.specs.declared.order.Order.{Order}
+use Rattle.ec_script.specs.declared.order.Order.TheVariants.{Do, Write, Begin, End}
+use Rattle.ec_script.specs.declared.verb.Verb.{Verb}
+use Rattle.ec_script.specs.declared.verb.Verb.TheVariants as verbs
+use Rattle.ec_script.specs.Verbs.{is_counted, tail_of}
+use Rattle.ec_script.specs.Forms.{Phrase, only_in}
+use Rattle.ec_script.specs.Objects.{is_owned}
+use Rattle.ec_script.specs.Kinds.{Seen, phrase_fault, or_nothing, is_allowed, is_named_again, has_unknown_name, is_bad_tail, is_count, is_too_many, has_two_roles, lacks_right, is_badly_nested}
+use Rattle.ec_script.specs.Orders.{IsSound, size_in}
+use Rattle.ec_script.specs.Scripted.{Scripted}
+use Rattle.ec_script.specs.Reading.{nest_of, seen}
+use Rattle.ec_script.specs.Rooms.{MayOrder, MayEnd, HasRoom}
+use Rattle.ec_script.proofs.Sizes.{InRange, count_range}
+
+pub may_command : (b : Option Block) (o : Order) → HasRoom b → IsSound o → MayOrder b o
+may_command None o room sound = tt
+may_command (Some b) (Do c) room sound = (sound.0, sound.1, room)
+may_command (Some b) (Write d vs) room sound = (sound.0, sound.1, room)
+may_command (Some b) (Begin n) room sound = absurd sound
+may_command (Some b) End room sound = absurd sound
+
+-- WHERE NO TEST HOLDS
+
+first_false : (b : Bool) (k : Kind) (rest : List (Bool × Kind)) → first_that ((b, k) ∷ rest) ≡ None → b ≡ false
+first_false true k rest is = cc
+first_false false k rest is = refl
+
+rest_none : (b : Bool) (k : Kind) (rest : List (Bool × Kind)) → first_that ((b, k) ∷ rest) ≡ None → first_that rest ≡ None
+rest_none true k rest is = cc
+rest_none false k rest is = is
+
+pub record NoFault (s : Seen) (p : Phrase) (o : Option Object) : Type 0 where
+  pub number : is_bad_tail (tail_of p.verb) p.verb p.rest (or_nothing o) ≡ false
+  pub many : is_too_many p.verb p.rest s.nest s.scheduled ≡ false
+  pub roles : has_two_roles (or_nothing o) ≡ false
+  pub nested : is_badly_nested p.verb s.nest ≡ false
+
+-- of nine tests in order
+record Four (number many roles nested : Bool) : Type 0 where
+  pub no_number : number ≡ false
+  pub no_many : many ≡ false
+  pub no_roles : roles ≡ false
+  pub no_nested : nested ≡ false
+
+nine : (t1 t2 t3 t4 t5 t6 t7 t8 t9 : Bool)
+    → first_that ((t1, kinds.BadLine) ∷ (t2, kinds.NameTaken) ∷ (t3, kinds.UnknownName) ∷ (t4, kinds.BadNumber) ∷ (t5, kinds.TooMany) ∷ (t6, kinds.Hidden) ∷ (t7, kinds.TwoRoles) ∷ (t8, kinds.NoRight) ∷ (t9, kinds.BadNesting) ∷ []) ≡ None
+    → Four t4 t5 t7 t9
+nine t1 t2 t3 t4 t5 t6 t7 t8 t9 is =
+    let l9 : List (Bool × Kind) = (t9, kinds.BadNesting) ∷ [] in
+    let l8 : List (Bool × Kind) = (t8, kinds.NoRight) ∷ l9 in
+    let l7 : List (Bool × Kind) = (t7, kinds.TwoRoles) ∷ l8 in
+    let l6 : List (Bool × Kind) = (t6, kinds.Hidden) ∷ l7 in
+    let l5 : List (Bool × Kind) = (t5, kinds.TooMany) ∷ l6 in
+    let l4 : List (Bool × Kind) = (t4, kinds.BadNumber) ∷ l5 in
+    let l3 : List (Bool × Kind) = (t3, kinds.UnknownName) ∷ l4 in
+    let l2 : List (Bool × Kind) = (t2, kinds.NameTaken) ∷ l3 in
+    let r1 = rest_none t1 kinds.BadLine l2 is in
+    let r2 = rest_none t2 kinds.NameTaken l3 r1 in
+    let r3 = rest_none t3 kinds.UnknownName l4 r2 in
+    let r4 = rest_none t4 kinds.BadNumber l5 r3 in
+    let r5 = rest_none t5 kinds.TooMany l6 r4 in
+    let r6 = rest_none t6 kinds.Hidden l7 r5 in
+    let r7 = rest_none t7 kinds.TwoRoles l8 r6 in
+    let r8 = rest_none t8 kinds.NoRight l9 r7 in
+    record { no_number = first_false t4 kinds.BadNumber l5 r3; no_many = first_false t5 kinds.TooMany l6 r4; no_roles = first_false t7 kinds.TwoRoles l8 r6; no_nested = first_false t9 kinds.BadNesting [] r8 }
+
+pub no_fault : (s : Seen) (p : Phrase) (o : Option Object) → phrase_fault s p o ≡ None → NoFault s p o
+no_fault s p o is =
+    let f = nine (not (is_allowed p.verb (is_some s.nest) s.scheduled)) (is_named_again s.named (or_nothing o)) (is_none o || has_unknown_name s.heading p.verb p.rest)
+    (is_bad_tail (tail_of p.verb) p.verb p.rest (or_nothing o)) (is_too_many p.verb p.rest s.nest s.scheduled) (is_owned s.heading.groups (or_nothing o))
+    (has_two_roles (or_nothing o)) (lacks_right s.heading.setup s.nest p.verb (or_nothing o)) (is_badly_nested p.verb s.nest) is in
+    record { number = f.no_number; many = f.no_many; roles = f.no_roles; nested = f.no_nested }
+
+-- A BLOCK
+
+below : (m n : ℕ) → nat_le m n ≡ false → n < m
+below m n h = leb-false m n h
+
+pub room_for : (v : Verb) (ws : List (List ℕ)) (b : Option Block) (n : ℕ) → is_counted v ≡ true → is_too_many v ws (option_map nest_of b) n ≡ false → HasRoom b
+room_for v ws None n counted h = tt
+room_for verbs.Schedule ws (Some b) n counted h = cc
+room_for verbs.Worker ws (Some b) n counted h = cc
+room_for verbs.End ws (Some b) n counted h = cc
+room_for v ws (Some b) n counted h = below 4096 b.draft.many h
+
+not_false : (b : Bool) → not b ≡ false → b ≡ true
+not_false true h = refl
+not_false false h = cc
+
+pub may_repeat : (ws : List (List ℕ)) (b : Option Block) (n : ℕ) (o : Object)
+    → is_bad_tail (tail_of verbs.Repeat) verbs.Repeat ws o ≡ false → is_too_many verbs.Repeat ws (option_map nest_of b) n ≡ false → is_badly_nested verbs.Repeat (option_map nest_of b) ≡ false
+    → MayOrder b (Begin (size_in ws))
+may_repeat ws None n o number many nested = tt
+may_repeat ws (Some b) n o number many nested =
+    let r = count_range 1000000 (option_and_then number_of (only_in ws)) (not_false _ number) in
+    (omega (arith, r.some), r.few, below 4 b.draft.depth nested, below 4096 b.draft.many many)
+
+end_deep : (d : ℕ) (e : Bool) → (nat_lt 0 d && e) ≡ false → 0 < d → e ≡ false
+end_deep d false h deep = refl
+end_deep d true h deep = let l : nat_lt 0 d ≡ true = lt-ltb 0 d deep in let g : (nat_lt 0 d && true) ≡ true = rw l refl in cc
+
+pub may_end : (b : Option Block) → is_badly_nested verbs.End (option_map nest_of b) ≡ false → MayEnd b
+may_end None nested = tt
+may_end (Some b) nested = λ deep. end_deep b.draft.depth b.draft.is_empty nested deep
+
+-- BY ITS VERB
+
+abbrev made : Verb → List ℕ → List (List ℕ) → Phrase
+made v object ws = record { verb = v; object = object; rest = ws }
+
+-- a repeat without fault
+pub repeat_may : (s : Scripted) (v : Verb) (object : List ℕ) (ws : List (List ℕ)) (o : Option Object) → v ≡ verbs.Repeat → phrase_fault (seen s) (made v object ws) o ≡ None → MayOrder s.block (Begin (size_in ws))
+repeat_may s v object ws o is none =
+    let f = no_fault (seen s) (made verbs.Repeat object ws) o (ap (λ w. phrase_fault (seen s) (made w object ws) o) (sym is) ∙ none) in
+    may_repeat ws s.block (length s.schedule) (or_nothing o) f.number f.many f.nested
+
+-- an `end` without fault
+pub end_may : (s : Scripted) (v : Verb) (object : List ℕ) (ws : List (List ℕ)) (o : Option Object) → v ≡ verbs.End → phrase_fault (seen s) (made v object ws) o ≡ None → MayEnd s.block
+end_may s v object ws o is none =
+    let f = no_fault (seen s) (made verbs.End object ws) o (ap (λ w. phrase_fault (seen s) (made w object ws) o) (sym is) ∙ none) in
+    may_end s.block f.nested
+
+counted_else : (v : Verb) → (v ≡ verbs.Worker → ⊥) → (v ≡ verbs.Schedule → ⊥) → (v ≡ verbs.End → ⊥) → is_counted v ≡ true
+counted_else verbs.Worker a b c = absurd (a refl)
+counted_else verbs.Schedule a b c = absurd (b refl)
+counted_else verbs.End a b c = absurd (c refl)
+counted_else v a b c = refl
+
+-- a command without fault
+pub command_room : (s : Scripted) (v : Verb) (object : List ℕ) (ws : List (List ℕ)) (o : Option Object) → (v ≡ verbs.Worker → ⊥) → (v ≡ verbs.Schedule → ⊥) → (v ≡ verbs.End → ⊥) → phrase_fault (seen s) (made v object ws) o ≡ None → HasRoom s.block
+command_room s v object ws o a b c none =
+    room_for v ws s.block (length s.schedule) (counted_else v a b c) (no_fault (seen s) (made v object ws) o none).many

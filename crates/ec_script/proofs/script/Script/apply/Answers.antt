@@ -1,0 +1,27 @@
+use Rattle.std.proofs.Common.{◌≡◌, sym, ap, ◌∙◌, subst}
+use Rattle.ec_script.specs.declared.order.Order.TheVariants.{Begin}
+use Rattle.ec_script.specs.Verbs.{tail_of}
+use Rattle.ec_script.specs.Forms.{rest_words, shown}
+use Rattle.ec_script.specs.Kinds.{is_bad_tail, has_two_roles}
+use Rattle.ec_script.specs.Reading.{seen}
+use Rattle.ec_script.specs.Rooms.{MayOrder}
+use Rattle.ec_script.proofs.Room.{repeat_may, end_may, command_room, no_fault}
+use Rattle.ec_script.proofs.script.Script.apply.Goals as goal
+
+pub order-requires : goal.order-requires
+order-requires c =
+    subst (λ n. MayOrder c.args.self.now.block (Begin n)) (sym c.size_in.ensures)
+    (repeat_may c.args.self.now c.args.parts.now.verb c.args.parts.now.object.now (rest_words c.args.parts.now.rest) c.args.found.now c.in-Repeat.is c.requires)
+
+pub end-requires : goal.end-requires
+end-requires c = end_may c.args.self.now c.args.parts.now.verb c.args.parts.now.object.now (rest_words c.args.parts.now.rest) c.args.found.now c.in-End.is c.requires
+
+pub command-requires : goal.command-requires
+command-requires c =
+    let parts = c.args.parts.now in
+    let f = no_fault (seen c.args.self.now) (shown parts) c.args.found.now c.requires in
+    record {
+      numbers = ap (λ o. is_bad_tail (tail_of parts.verb) parts.verb (rest_words parts.rest) o) c.or_nothing-object.ensures ∙ f.number;
+      roles = ap has_two_roles c.or_nothing-object.ensures ∙ f.roles;
+      room = command_room c.args.self.now parts.verb parts.object.now (rest_words parts.rest) c.args.found.now c.in_default.not-Worker c.in_default.not-Schedule c.in_default.not-End c.requires;
+    }

@@ -1,0 +1,48 @@
+-- Which lines use the objects of groups by the groups' own procedures alone.
+use Rattle.std.specs.Prelude.{◌≡◌, ℕ, ◌<◌, false, List, length, map, Some}
+use Rattle.std.specs.List.{All, AllByRecursion, Contains}
+use Rattle.ec_machine.specs.declared.command.Command.{Command}
+use Rattle.ec_machine.specs.declared.command.Command.TheViews.{out-Command}
+use Rattle.ec_machine.specs.declared.command.Command.TheOpen.{Command-F}
+use Rattle.ec_machine.specs.declared.command.Command.TheOpen as layer
+use Rattle.ec_trace.specs.declared.group.Group.{Group}
+use Rattle.ec_trace.specs.declared.group.Group.TheVariants as groups
+use Rattle.ec_script.specs.declared.object.Object.TheVariants.{Event, Sequencer, Cell}
+use Rattle.ec_script.specs.declared.order.Order.{Order}
+use Rattle.ec_script.specs.declared.order.Order.TheVariants.{Do, Write, Begin, End}
+use Rattle.ec_script.specs.Objects.{is_owned, both_of}
+use Rattle.ec_script.specs.Scripted.{Planned}
+
+-- a raw command names no object of a group; a procedure is one of a declared group of its sort; P on two semaphores is by the common
+-- one, on two that are declared
+abbrev pub UsesGroups : List Group → Command-F Command → Type 0
+UsesGroups gs (layer.Advance e) = is_owned gs (Event e) ≡ false
+UsesGroups gs (layer.Read e) = is_owned gs (Event e) ≡ false
+UsesGroups gs (layer.Await e v) = is_owned gs (Event e) ≡ false
+UsesGroups gs (layer.Ticket q) = is_owned gs (Sequencer q) ≡ false
+UsesGroups gs (layer.Put x v) = is_owned gs (Cell x) ≡ false
+UsesGroups gs (layer.Get x) = is_owned gs (Cell x) ≡ false
+UsesGroups gs (layer.Produce b v) = Contains gs (groups.Buffer b)
+UsesGroups gs (layer.Consume b) = Contains gs (groups.Buffer b)
+UsesGroups gs (layer.WriteAll d vs) = Contains gs (groups.Database d)
+UsesGroups gs (layer.Snapshot d n) = Contains gs (groups.Database d)
+UsesGroups gs (layer.Down s) = Contains gs (groups.Semaphore s)
+UsesGroups gs (layer.Up s) = Contains gs (groups.Semaphore s)
+UsesGroups gs (layer.DownBoth common one other) = (both_of gs ≡ Some common) × Contains gs (groups.Semaphore one) × Contains gs (groups.Semaphore other)
+UsesGroups gs (layer.Repeat n block) = Unit {0}
+
+abbrev pub IsConfined : List Group → Order → Type 0
+IsConfined gs (Do c) = UsesGroups gs (out-Command c)
+IsConfined gs (Write d vs) = Contains gs (groups.Database d)
+IsConfined gs (Begin n) = Unit {0}
+IsConfined gs End = Unit {0}
+
+-- each line of each program
+abbrev pub AreConfined : List Group → List (List Order) → Type 0
+AreConfined gs programs = AllByRecursion (AllByRecursion (IsConfined gs)) programs
+
+-- a program for each declared worker, each confined, and a schedule of declared workers
+pub record IsPlan (p : Planned) : Type 0 where
+  pub programs : length p.programs ≡ p.heading.setup.workers
+  pub confined : AreConfined p.heading.groups p.programs
+  pub schedule : AllByRecursion (λ w. w < p.heading.setup.workers) p.schedule

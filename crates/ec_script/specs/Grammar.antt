@@ -1,0 +1,82 @@
+-- The grammar of scripts: which bytes say which plan, and which line is the first at fault. It says nothing of how a text is read.
+use Rattle.std.specs.Prelude.{◌≡◌, ◌⊎◌, ℕ, ◌==◌, false, ◌+◌, ◌<◌, ◌≤◌, List, [], ◌∷◌, ◌++◌, length, Some, None, Ok, Err}
+use Rattle.std.specs.List.{All, AllByRecursion, flat_map}
+use Rattle.ec_script.specs.declared.fault.Kind.{Kind}
+use Rattle.ec_script.specs.declared.fault.Kind.TheVariants as kinds
+use Rattle.ec_script.specs.declared.parsing.TheConstants.{SCRIPT_MAX}
+use Rattle.ec_script.specs.declared.stage.Stage.{Stage}
+use Rattle.ec_script.specs.declared.stage.Stage.TheVariants.{Opening}
+use Rattle.ec_script.specs.Scripted.{Planned}
+use Rattle.ec_script.specs.Reading.{step}
+use Rattle.ec_script.specs.Outcome.{outcome, parts_of, plan_in, first_of, long_kind}
+
+-- each line with its LF
+abbrev pub ended_line : List ℕ → List ℕ
+ended_line line = line ++ 10 ∷ []
+
+abbrev pub text_of : List (List ℕ) → List ℕ
+text_of lines = flat_map ended_line lines
+
+-- a line holds no LF
+abbrev pub IsLine : List ℕ → Type 0
+IsLine line = All (λ b. (b == 10) ≡ false) line
+
+-- each line in its turn is without fault, and they lead from one stage to another
+abbrev pub Leads : Stage → List (List ℕ) → Stage → Type 0
+Leads s [] t = s ≡ t
+Leads s (line ∷ lines) t = (next : Stage) × (step s line ≡ Ok next) × Leads next lines t
+
+-- the bytes are a script that says this plan
+pub record IsScript (bytes : List ℕ) (p : Planned) : Type 0 where
+  pub lines : List (List ℕ)
+  pub stage : Stage
+  pub text : bytes ≡ text_of lines
+  pub each : AllByRecursion IsLine lines
+  pub leads : Leads Opening lines stage
+  pub plan : plan_in stage ≡ Some p
+  pub within : length bytes ≤ SCRIPT_MAX
+
+-- the bytes say no plan
+abbrev pub IsNoScript : List ℕ → Type 0
+IsNoScript bytes = (p : Planned) → IsScript bytes p → ⊥
+
+-- a script is read as its plan
+abbrev pub ScriptIsRead : Type 0
+ScriptIsRead = (bytes : List ℕ) (p : Planned) → IsScript bytes p → outcome bytes ≡ Ok p
+
+-- what is read is a script
+abbrev pub ReadIsScript : Type 0
+ReadIsScript = (bytes : List ℕ) (p : Planned) → outcome bytes ≡ Ok p → IsScript bytes p
+
+-- THE FIRST FAULTY LINE
+
+-- an LF ends the line, or it is the rest of the text and has a byte, and it is at fault in its place
+abbrev pub IsRefused : Stage → List ℕ → List ℕ → Kind → Type 0
+IsRefused s line behind kind = (((more : List ℕ) × (behind ≡ 10 ∷ more)) ⊎ ((behind ≡ []) × (0 < length line))) × (step s line ≡ Err kind)
+
+-- the rest of the text lacks its LF and has no other fault, or no line lacks one and no plan stands
+abbrev pub IsCutOff : Stage → List ℕ → List ℕ → Kind → Type 0
+IsCutOff s line behind kind =
+    (behind ≡ []) × (kind ≡ kinds.Unfinished)
+    × (((0 < length line) × ((next : Stage) × (step s line ≡ Ok next))) ⊎ ((line ≡ []) × (plan_in s ≡ None)))
+
+-- line n is the first at fault, and this is its least kind: the lines before it have none
+pub record IsFirstFault (text : List ℕ) (n : ℕ) (kind : Kind) : Type 0 where
+  pub before : List (List ℕ)
+  pub stage : Stage
+  pub line : List ℕ
+  pub behind : List ℕ
+  pub whole : text ≡ text_of before ++ (line ++ behind)
+  pub number : n ≡ length before + 1
+  pub each : AllByRecursion IsLine before
+  pub plain : IsLine line
+  pub leads : Leads Opening before stage
+  pub why : IsRefused stage line behind kind ⊎ IsCutOff stage line behind kind
+
+-- what is told of a text within the bound is its first faulty line
+abbrev pub FaultIsTheFirst : Type 0
+FaultIsTheFirst = (text : List ℕ) (n : ℕ) (kind : Kind) → length text ≤ SCRIPT_MAX → outcome text ≡ Err (n, kind) → IsFirstFault text n kind
+
+-- of a longer one it is line 1, which is a header or none
+abbrev pub LongIsLine1 : Type 0
+LongIsLine1 = (text : List ℕ) (n : ℕ) (kind : Kind) → SCRIPT_MAX < length text → outcome text ≡ Err (n, kind) → (n ≡ 1) × (kind ≡ long_kind (first_of (parts_of text)))

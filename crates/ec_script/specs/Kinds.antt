@@ -1,0 +1,148 @@
+-- Why a line behind the declarations is refused: each kind of fault is a test of its own.
+use Rattle.std.specs.Prelude.{ℕ, ◌+◌, Bool, true, false, ◌&&◌, ◌||◌, ◌==◌, not, nat_le, nat_lt, List, [], ◌∷◌, length, Option, Some, None, option_map, is_some, is_none, unwrap_or, if◌then◌else◌}
+use Rattle.std.specs.Option.{option_and_then, option_map_or}
+use Rattle.std.specs.List.{list_any}
+use Rattle.ec_count.specs.Tables.{Tables, first_that, component_of, may_observe, may_take, may_write, may_read}
+use Rattle.ec_count.specs.Members.{is_member}
+use Rattle.ec_text.specs.Words.{number_of}
+use Rattle.ec_machine.specs.Limits.{are_apart}
+use Rattle.ec_trace.specs.declared.group.Group.{Group}
+use Rattle.ec_trace.specs.Headed.{Headed}
+use Rattle.ec_trace.specs.Lists.{has_unknown}
+use Rattle.ec_script.specs.declared.fault.Kind.{Kind}
+use Rattle.ec_script.specs.declared.fault.Kind.TheVariants as kinds
+use Rattle.ec_script.specs.declared.verb.Verb.{Verb}
+use Rattle.ec_script.specs.declared.verb.Verb.TheVariants as verbs
+use Rattle.ec_script.specs.declared.verb.Tail.{Tail}
+use Rattle.ec_script.specs.declared.verb.Tail.TheVariants as tails
+use Rattle.ec_script.specs.declared.object.Object.{Object}
+use Rattle.ec_script.specs.declared.object.Object.TheVariants.{Nothing, Worker, Event, Sequencer, Cell, OfBuffer, OfDatabase, OfSemaphore, Three}
+use Rattle.ec_script.specs.declared.kinds.Nest.{Nest}
+use Rattle.ec_script.specs.declared.kinds.View.{View}
+use Rattle.ec_script.specs.Verbs.{tail_of, is_giving, is_outer, is_counted}
+use Rattle.ec_script.specs.Forms.{Phrase, only_in, value_of}
+use Rattle.ec_script.specs.Objects.{is_owned}
+
+-- where a line stands: the heading, the workers whose blocks began, the block that it stands in, if it stands in one, and how many
+-- names the schedule has
+pub record Seen : Type 0 where
+  pub heading : Headed
+  pub named : List ℕ
+  pub nest : Option Nest
+  pub scheduled : ℕ
+
+abbrev pub seen_of : View → Seen
+seen_of v = record { heading = v.heading.now; named = v.named.now; nest = v.nest; scheduled = v.scheduled }
+
+-- BAD LINE
+
+-- whether such a line may stand there: commands, `repeat` and `end` in a block; `worker` in a block, where it is badly nested,
+-- and before the schedule; `schedule` anywhere
+abbrev pub is_allowed : Verb → Bool → ℕ → Bool
+is_allowed verbs.Schedule in_block scheduled = true
+is_allowed verbs.Worker in_block scheduled = in_block || scheduled == 0
+is_allowed _ in_block scheduled = in_block
+
+-- NAME TAKEN
+
+-- whether the block of this worker began before
+abbrev pub is_named_again : List ℕ → Object → Bool
+is_named_again named (Worker w) = is_member w named
+is_named_again named _ = false
+
+-- UNKNOWN NAME
+
+-- whether a name of the schedule is no worker's
+abbrev pub has_unknown_name : Headed → Verb → List (List ℕ) → Bool
+has_unknown_name h verbs.Schedule ws = has_unknown h.words ws
+has_unknown_name h _ ws = false
+
+-- BAD NUMBER
+
+abbrev pub is_no_value : List ℕ → Bool
+is_no_value w = is_none (value_of w)
+
+-- how many cells a database has
+abbrev pub cells_of : Object → ℕ
+cells_of (OfDatabase d) = d.cells
+cells_of _ = 0
+
+-- the greatest count of a repeat, and of tries
+abbrev pub greatest : Verb → ℕ
+greatest verbs.Repeat = 1000000
+greatest _ = 1000
+
+-- whether digits spell a number from 1 to the greatest
+abbrev pub is_count : ℕ → Option ℕ → Bool
+is_count most None = false
+is_count most (Some n) = nat_le 1 n && nat_le n most
+
+-- whether a number is out of range, or the values are not as many as the cells
+abbrev pub is_bad_tail : Tail → Verb → List (List ℕ) → Object → Bool
+is_bad_tail tails.Amount v ws o = option_map_or is_no_value (only_in ws) false
+is_bad_tail tails.Amounts v ws o = list_any is_no_value ws || not (length ws == cells_of o)
+is_bad_tail tails.Digits v ws o = not (is_count (greatest v) (option_and_then number_of (only_in ws)))
+is_bad_tail _ v ws o = false
+
+-- TOO MANY
+
+-- whether the commands of the block, or the names of the schedule, become too many
+abbrev pub is_too_many : Verb → List (List ℕ) → Option Nest → ℕ → Bool
+is_too_many verbs.Schedule ws nest scheduled = nat_lt 65536 (scheduled + length ws)
+is_too_many v ws None scheduled = false
+is_too_many v ws (Some n) scheduled = is_counted v && nat_le 4096 n.many
+
+-- TWO ROLES
+
+-- whether two of the three semaphores are one
+abbrev pub has_two_roles : Object → Bool
+has_two_roles (Three common one other) = not (are_apart common one other)
+has_two_roles _ = false
+
+-- NO RIGHT
+
+abbrev pub has_right : Tables → ℕ → Bool → Object → Bool
+has_right t w giving (Event e) = if giving then is_some (component_of t e w) else may_observe t e w
+has_right t w giving (Sequencer q) = may_take t q w
+has_right t w giving (Cell x) = if giving then may_write t x w else may_read t x w
+has_right t w giving (OfBuffer b) = may_take t (if giving then b.put_seq else b.take_seq) w
+has_right t w giving (OfDatabase d) = if giving then may_take t d.turn w else may_observe t d.start w
+has_right t w giving (OfSemaphore s) = may_take t s.line w
+has_right t w giving (Three common one other) = may_take t common.line w && may_take t one.line w && may_take t other.line w
+has_right t w giving _ = true
+
+-- whether the worker of the block lacks the right to do such a thing with the object
+abbrev pub lacks_right : Tables → Option Nest → Verb → Object → Bool
+lacks_right t None v o = false
+lacks_right t (Some n) v o = not (has_right t n.worker (is_giving v) o)
+
+-- BAD NESTING
+
+-- whether a line stands inside a block that must not, a fifth repeat in the others, or an `end` of a repeat without a command
+abbrev pub is_badly_nested : Verb → Option Nest → Bool
+is_badly_nested v None = false
+is_badly_nested verbs.Worker (Some n) = true
+is_badly_nested verbs.Schedule (Some n) = true
+is_badly_nested verbs.Repeat (Some n) = nat_le 4 n.depth
+is_badly_nested verbs.End (Some n) = nat_lt 0 n.depth && n.is_empty
+is_badly_nested v (Some n) = false
+
+-- THE LEAST
+
+-- the object that is sought is none where no declared one is spelled
+abbrev pub or_nothing : Option Object → Object
+or_nothing o = unwrap_or o Nothing
+
+-- the least fault of a line of one of the forms, whose word for an object means this
+abbrev pub phrase_fault : Seen → Phrase → Option Object → Option Kind
+phrase_fault s p o = first_that (
+    (not (is_allowed p.verb (is_some s.nest) s.scheduled), kinds.BadLine)
+    ∷ (is_named_again s.named (or_nothing o), kinds.NameTaken)
+    ∷ (is_none o || has_unknown_name s.heading p.verb p.rest, kinds.UnknownName)
+    ∷ (is_bad_tail (tail_of p.verb) p.verb p.rest (or_nothing o), kinds.BadNumber)
+    ∷ (is_too_many p.verb p.rest s.nest s.scheduled, kinds.TooMany)
+    ∷ (is_owned s.heading.groups (or_nothing o), kinds.Hidden)
+    ∷ (has_two_roles (or_nothing o), kinds.TwoRoles)
+    ∷ (lacks_right s.heading.setup s.nest p.verb (or_nothing o), kinds.NoRight)
+    ∷ (is_badly_nested p.verb s.nest, kinds.BadNesting)
+    ∷ [])

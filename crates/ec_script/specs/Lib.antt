@@ -1,0 +1,15 @@
+pub mod Verbs
+pub mod Forms
+pub mod Faults
+pub mod Flat
+pub mod Objects
+pub mod Orders
+pub mod Drafted
+pub mod Inner
+pub mod Kinds
+pub mod Scripted
+pub mod Rooms
+pub mod Reading
+pub mod Outcome
+pub mod Grammar
+pub mod Confined

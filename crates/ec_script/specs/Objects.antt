@@ -1,0 +1,117 @@
+-- What the word of an object stands for, and which objects belong to groups.
+use Rattle.std.specs.Prelude.{ℕ, ◌+◌, Bool, false, ◌&&◌, ◌||◌, ◌==◌, nat_le, nat_lt, List, [], ◌∷◌, Option, Some, None, option_map, slice_get}
+use Rattle.std.specs.Option.{option_and_then}
+use Rattle.std.specs.List.{list_any}
+use Rattle.ec_count.specs.Names.{find_name}
+use Rattle.ec_count.specs.declared.target.Target as targets
+use Rattle.ec_count.specs.declared.target.Target.TheVariants as target
+use Rattle.ec_buffer.specs.Shapes as buffers
+use Rattle.ec_database.specs.Shapes as databases
+use Rattle.ec_semaphore.specs.Shapes.{Semaphore}
+use Rattle.ec_trace.specs.declared.group.Group.{Group}
+use Rattle.ec_trace.specs.declared.group.Group.TheVariants as groups
+use Rattle.ec_trace.specs.Headed.{Headed}
+use Rattle.ec_trace.specs.Lists.{worker_in}
+use Rattle.ec_trace.specs.Spelled.{event_in, sequencer_in, cell_in_word}
+use Rattle.ec_script.specs.declared.verb.Verb.{Verb}
+use Rattle.ec_script.specs.declared.verb.Verb.TheVariants as verbs
+use Rattle.ec_script.specs.declared.object.Object.{Object}
+use Rattle.ec_script.specs.declared.object.Object.TheVariants.{Nothing, Worker, Event, Sequencer, Cell, OfBuffer, OfDatabase, OfSemaphore, Three}
+use Rattle.ec_script.specs.Forms.{Phrase, only_in}
+
+-- GROUPS BY NAME
+
+abbrev pub place_of : targets.Target → Option ℕ
+place_of (target.Group i) = Some i
+place_of _ = None
+
+-- the group of this name
+abbrev pub group_in : Headed → List ℕ → Option Group
+group_in h w = option_and_then (λ i. slice_get h.groups i) (option_and_then place_of (find_name w h.names))
+
+abbrev pub buffer_of : Group → Option buffers.Buffer
+buffer_of (groups.Buffer b) = Some b
+buffer_of _ = None
+
+abbrev pub database_of : Group → Option databases.Database
+database_of (groups.Database d) = Some d
+database_of _ = None
+
+abbrev pub semaphore_of : Group → Option Semaphore
+semaphore_of (groups.Semaphore s) = Some s
+semaphore_of _ = None
+
+abbrev pub buffer_in : Headed → List ℕ → Option buffers.Buffer
+buffer_in h w = option_and_then buffer_of (group_in h w)
+
+abbrev pub database_in : Headed → List ℕ → Option databases.Database
+database_in h w = option_and_then database_of (group_in h w)
+
+-- a semaphore by its name: `both` has none
+abbrev pub semaphore_in : Headed → List ℕ → Option Semaphore
+semaphore_in h w = option_and_then semaphore_of (group_in h w)
+
+-- the common semaphore, if one is declared
+abbrev pub both_of : List Group → Option Semaphore
+both_of [] = None
+both_of (groups.Both s ∷ gs) = Some s
+both_of (g ∷ gs) = both_of gs
+
+-- THE OBJECT OF A LINE
+
+abbrev pub three_of : Option Semaphore → Option Semaphore → Option Semaphore → Option Object
+three_of (Some common) (Some one) (Some other) = Some (Three common one other)
+three_of _ _ _ = None
+
+-- what a line is about: the declared object, of the sort that its verb asks for, that the word spells
+abbrev pub object_for : Headed → Verb → List ℕ → List (List ℕ) → Option Object
+object_for h verbs.Advance w ws = option_map Event (event_in h.words w)
+object_for h verbs.Read w ws = option_map Event (event_in h.words w)
+object_for h verbs.Await w ws = option_map Event (event_in h.words w)
+object_for h verbs.Ticket w ws = option_map Sequencer (sequencer_in h.words w)
+object_for h verbs.Put w ws = option_map Cell (cell_in_word h.words w)
+object_for h verbs.Get w ws = option_map Cell (cell_in_word h.words w)
+object_for h verbs.Produce w ws = option_map OfBuffer (buffer_in h w)
+object_for h verbs.Consume w ws = option_map OfBuffer (buffer_in h w)
+object_for h verbs.Write w ws = option_map OfDatabase (database_in h w)
+object_for h verbs.Snapshot w ws = option_map OfDatabase (database_in h w)
+object_for h verbs.Down w ws = option_map OfSemaphore (semaphore_in h w)
+object_for h verbs.Up w ws = option_map OfSemaphore (semaphore_in h w)
+object_for h verbs.DownBoth w ws = three_of (both_of h.groups) (semaphore_in h w) (option_and_then (semaphore_in h) (only_in ws))
+object_for h verbs.Worker w ws = option_map Worker (worker_in h.words w)
+object_for h verbs.Repeat w ws = Some Nothing
+object_for h verbs.End w ws = Some Nothing
+object_for h verbs.Schedule w ws = Some Nothing
+
+abbrev pub object_in : Headed → Phrase → Option Object
+object_in h p = object_for h p.verb p.object p.rest
+
+-- OBJECTS OF GROUPS
+
+abbrev pub has_count : Group → ℕ → Bool
+has_count (groups.Buffer b) e = b.in_count == e || b.out_count == e
+has_count (groups.Database d) e = d.start == e || d.done == e
+has_count (groups.Semaphore s) e = s.count == e
+has_count (groups.Both s) e = s.count == e
+
+abbrev pub has_line : Group → ℕ → Bool
+has_line (groups.Buffer b) q = b.put_seq == q || b.take_seq == q
+has_line (groups.Database d) q = d.turn == q
+has_line (groups.Semaphore s) q = s.line == q
+has_line (groups.Both s) q = s.line == q
+
+abbrev pub has_cell : Group → ℕ → Bool
+has_cell (groups.Buffer b) x = nat_le b.first_cell x && nat_lt x (b.first_cell + b.cells)
+has_cell (groups.Database d) x = nat_le d.first_cell x && nat_lt x (d.first_cell + d.cells)
+has_cell (groups.Semaphore s) x = false
+has_cell (groups.Both s) x = false
+
+-- whether an eventcount, a sequencer or a cell belongs to the group
+abbrev pub owns : Object → Group → Bool
+owns (Event e) g = has_count g e
+owns (Sequencer q) g = has_line g q
+owns (Cell x) g = has_cell g x
+owns _ g = false
+
+abbrev pub is_owned : List Group → Object → Bool
+is_owned gs o = list_any (owns o) gs

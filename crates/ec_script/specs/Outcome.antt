@@ -1,0 +1,85 @@
+-- What a text comes to: a function of its bytes.
+use Rattle.std.specs.Prelude.{◌≡◌, ℕ, ◌+◌, ◌==◌, List, [], ◌∷◌, length, map, Option, Some, None, Result, Ok, Err, if◌then◌else◌, nat_lt, bytes_eq, codes}
+use Rattle.std.specs.List.{slice_split}
+use Rattle.ec_script.specs.declared.fault.Kind.{Kind}
+use Rattle.ec_script.specs.declared.fault.Kind.TheVariants as kinds
+use Rattle.ec_script.specs.declared.fault.ScriptFault.{ScriptFault}
+use Rattle.ec_script.specs.declared.fault.ScriptFault.TheVariants as faults
+use Rattle.ec_script.specs.declared.fault.StageFault.{StageFault}
+use Rattle.ec_script.specs.declared.fault.StageFault.TheVariants as stages
+use Rattle.ec_script.specs.declared.parsing.TheConstants.{SCRIPT_MAX}
+use Rattle.ec_script.specs.declared.plan.Plan.{Plan}
+use Rattle.ec_script.specs.declared.script.Block.{Block}
+use Rattle.ec_script.specs.declared.stage.Stage.{Stage}
+use Rattle.ec_script.specs.declared.stage.Stage.TheVariants.{Opening, Limiting, Naming, Reading}
+use Rattle.ec_script.specs.Flat.{flat}
+use Rattle.ec_script.specs.Scripted.{Scripted, Planned}
+use Rattle.ec_script.specs.Reading.{step}
+
+-- a plan, or the line at fault and its kind
+abbrev pub Parsed : Type 0
+Parsed = Result Planned (ℕ × Kind)
+
+-- the lines of a text: each part but the last ends in an LF
+abbrev pub parts_of : List ℕ → List (List ℕ)
+parts_of bytes = slice_split (λ b. b == 10) bytes
+
+-- THE END OF A TEXT
+
+-- a plan stands where no block is open
+abbrev pub plan_or : Scripted → Option Block → Option Planned
+plan_or s None = Some (record { heading = s.heading; programs = s.programs; schedule = s.schedule })
+plan_or s (Some b) = None
+
+abbrev pub plan_in : Stage → Option Planned
+plan_in (Reading s) = plan_or s s.block
+plan_in _ = None
+
+abbrev pub finished : ℕ → Option Planned → Parsed
+finished n None = Err (n, kinds.Unfinished)
+finished n (Some p) = Ok p
+
+-- goes on where the line was taken
+abbrev pub taken : ℕ → Result Stage Kind → (Stage → Parsed) → Parsed
+taken n (Ok s) others = others s
+taken n (Err kind) others = Err (n, kind)
+
+-- behind the last LF stands nothing, or a line that lacks its LF, which is judged like every line
+abbrev pub ended : ℕ → Stage → List ℕ → Parsed
+ended n s [] = finished n (plan_in s)
+ended n s (b ∷ bs) = taken n (step s (b ∷ bs)) (λ t. Err (n, kinds.Unfinished))
+
+-- WHOLE TEXTS
+
+-- the lines in turn, from line n on in the stage s, up to the first fault
+unfoldable pub goes : ℕ → Stage → List (List ℕ) → Parsed
+goes n s [] = ended n s []
+goes n s (rest ∷ []) = ended n s rest
+goes n s (line ∷ next ∷ others) = taken n (step s line) (λ t. goes (n + 1) t (next ∷ others))
+
+abbrev pub first_of : List (List ℕ) → List ℕ
+first_of [] = []
+first_of (line ∷ lines) = line
+
+-- of a text that is too long line 1 alone is looked at
+abbrev pub long_kind : List ℕ → Kind
+long_kind line = if bytes_eq line (codes "evc-script 1") then kinds.TooMany else kinds.BadHeader
+
+-- what a text comes to
+unfoldable pub outcome : List ℕ → Parsed
+outcome bytes = if nat_lt SCRIPT_MAX (length bytes) then Err (1, long_kind (first_of (parts_of bytes))) else goes 1 Opening (parts_of bytes)
+
+-- what a plan shows: its programs by their lines
+abbrev pub shown_plan : Plan → Planned
+shown_plan p = record { heading = p.heading; programs = map flat p.programs.items; schedule = p.schedule.items }
+
+-- what was answered for a text; want of memory says nothing of it
+abbrev pub Tells : Parsed → Result Plan ScriptFault → Type 0
+Tells o (Ok plan) = o ≡ Ok (shown_plan plan)
+Tells o (Err (faults.At line kind)) = o ≡ Err (line, kind)
+Tells o (Err faults.Memory) = Unit {0}
+
+-- why a line was not taken, with its number
+abbrev pub fault_at : ℕ → StageFault → ScriptFault
+fault_at n stages.Memory = faults.Memory
+fault_at n (stages.Of kind) = faults.At n kind

@@ -1,0 +1,161 @@
+-- What the lines of a script build, line by line.
+use Rattle.std.specs.Prelude.{◌≡◌, ℕ, ◌<◌, Bool, true, false, ◌&&◌, ◌==◌, not, nat_le, nat_lt, List, [], ◌∷◌, ◌++◌, length, map, replicate, slice_set, Option, Some, None, option_map, is_some, Result, Ok, Err, if◌then◌else◌, bytes_eq, codes}
+use Rattle.std.specs.Option.{option_and_then, option_map_or}
+use Rattle.ec_text.specs.Words.{words_of, number_of, is_number_form}
+use Rattle.ec_trace.specs.Headed.{Headed}
+use Rattle.ec_trace.specs.Outline.{opened}
+use Rattle.ec_trace.specs.Heading.{head_step, is_no_line}
+use Rattle.ec_trace.specs.Lists.{ids_in}
+use Rattle.ec_trace.specs.declared.heading.HeadFault.{HeadFault}
+use Rattle.ec_script.specs.declared.fault.Kind.{Kind}
+use Rattle.ec_script.specs.declared.fault.Kind.TheVariants as kinds
+use Rattle.ec_script.specs.declared.fault.StageFault.{StageFault}
+use Rattle.ec_script.specs.declared.fault.StageFault.TheVariants as faults
+use Rattle.ec_script.specs.declared.verb.Verb.{Verb}
+use Rattle.ec_script.specs.declared.verb.Verb.TheVariants as verbs
+use Rattle.ec_script.specs.declared.object.Object.{Object}
+use Rattle.ec_script.specs.declared.object.Object.TheVariants.{Nothing, Worker}
+use Rattle.ec_script.specs.declared.order.Order.{Order}
+use Rattle.ec_script.specs.declared.order.Order.TheVariants.{Begin, End}
+use Rattle.ec_script.specs.declared.kinds.Nest.{Nest}
+use Rattle.ec_script.specs.declared.script.Block.{Block}
+use Rattle.ec_script.specs.declared.stage.Stage.{Stage}
+use Rattle.ec_script.specs.declared.stage.Stage.TheVariants.{Opening, Limiting, Naming, Reading}
+use Rattle.ec_script.specs.Faults.{kind_of_head}
+use Rattle.ec_script.specs.Verbs.{verb_of, is_giving, is_outer}
+use Rattle.ec_script.specs.Forms.{Phrase, phrase_in}
+use Rattle.ec_script.specs.Objects.{object_in}
+use Rattle.ec_script.specs.Drafted.{nothing_drafted, with_order}
+use Rattle.ec_script.specs.Kinds.{Seen, phrase_fault, or_nothing}
+use Rattle.ec_script.specs.Orders.{size_in, command_in}
+use Rattle.ec_script.specs.Scripted.{Scripted}
+
+-- WHAT IS SEEN OF A SCRIPT BY A LINE
+
+abbrev pub nest_of : Block → Nest
+nest_of b = record { worker = b.worker; depth = b.draft.depth; is_empty = b.draft.is_empty; many = b.draft.many }
+
+abbrev pub seen : Scripted → Seen
+seen s = record { heading = s.heading; named = s.named; nest = option_map nest_of s.block; scheduled = length s.schedule }
+
+-- WHAT A LINE MAKES OF A SCRIPT
+
+-- the block of a worker begins
+abbrev pub began : Scripted → Object → Scripted
+began s (Worker w) = record s { named = s.named ++ w ∷ []; block = Some (record { worker = w; draft = nothing_drafted }) }
+began s _ = s
+
+-- one more line in the block
+abbrev pub ordered_in : Scripted → Option Block → Order → Scripted
+ordered_in s None o = s
+ordered_in s (Some b) o = record s { block = Some (record { worker = b.worker; draft = with_order b.draft o }) }
+
+abbrev pub ordered : Scripted → Order → Scripted
+ordered s o = ordered_in s s.block o
+
+abbrev pub commanded : Scripted → Option Order → Scripted
+commanded s None = s
+commanded s (Some o) = ordered s o
+
+-- an `end` is that of the innermost repeat, else of the block, which then is the worker's program
+abbrev pub ended_in : Scripted → Option Block → Scripted
+ended_in s None = s
+ended_in s (Some b) =
+    if b.draft.depth == 0 then record s { programs = slice_set s.programs b.worker b.draft.orders; block = None }
+    else ordered_in s (Some b) End
+
+abbrev pub after_verb : Verb → Scripted → Object → List (List ℕ) → Scripted
+after_verb verbs.Worker s o ws = began s o
+after_verb verbs.Schedule s o ws = record s { schedule = s.schedule ++ ids_in s.heading.words ws }
+after_verb verbs.Repeat s o ws = ordered s (Begin (size_in ws))
+after_verb verbs.End s o ws = ended_in s s.block
+after_verb v s o ws = commanded s (command_in v (is_giving v) o ws)
+
+-- the script after a line of one of the forms
+abbrev pub after : Scripted → Phrase → Scripted
+after s p = after_verb p.verb s (or_nothing (object_in s.heading p)) p.rest
+
+-- LINES BEHIND THE WORKERS
+
+abbrev pub fault_or : Option Kind → Scripted → Result Scripted Kind
+fault_or None s = Ok s
+fault_or (Some kind) s = Err kind
+
+abbrev pub phrased : Scripted → Option Phrase → Result Scripted Kind
+phrased s None = Err kinds.BadLine
+phrased s (Some p) = fault_or (phrase_fault (seen s) p (object_in s.heading p)) (after s p)
+
+abbrev pub headed_on : Scripted → Result Headed HeadFault → Result Scripted Kind
+headed_on s (Ok h) = Ok (record s { heading = h })
+headed_on s (Err fault) = Err (kind_of_head fault)
+
+-- no `worker` and no `schedule` line came yet
+abbrev pub is_declaring : Scripted → Bool
+is_declaring s = length s.named == 0 && length s.schedule == 0
+
+-- whether the words open with `worker` or `schedule`
+abbrev pub opens_outer : List (List ℕ) → Bool
+opens_outer [] = false
+opens_outer (w ∷ ws) = option_map_or is_outer (verb_of w) false
+
+-- declarations stand before the first `worker` and `schedule` line
+unfoldable pub script_step : Scripted → List ℕ → Result Scripted Kind
+script_step s line =
+    if is_declaring s && not (opens_outer (words_of line)) then headed_on s (head_step s.heading line)
+    else (if is_no_line line then Err kinds.BadLine else phrased s (phrase_in (words_of line)))
+
+-- THE FIRST LINES
+
+abbrev pub in_range : ℕ → Bool
+in_range n = nat_le 1 n && nat_lt n 4294967296
+
+abbrev pub limited : Option ℕ → Result Stage Kind
+limited None = Err kinds.BadNumber
+limited (Some n) = if in_range n then Ok (Naming n) else Err kinds.BadNumber
+
+-- the digits behind the word `limit`, which are all that stands there
+abbrev pub limit_digits : List (List ℕ) → Option (List ℕ)
+limit_digits (w ∷ n ∷ []) = if bytes_eq w (codes "limit") && is_number_form n then Some n else None
+limit_digits _ = None
+
+abbrev pub limit_or : Option (List ℕ) → Result Stage Kind
+limit_or None = Err kinds.BadLine
+limit_or (Some n) = limited (number_of n)
+
+-- the limit that was answered, or the kind
+abbrev pub LimitIs : Result ℕ Kind → Result Stage Kind → Type 0
+LimitIs (Ok n) stepped = stepped ≡ Ok (Naming n)
+LimitIs (Err kind) stepped = stepped ≡ Err kind
+
+unfoldable pub limit_step : List ℕ → Result Stage Kind
+limit_step line = if nat_lt 8192 (length line) then Err kinds.BadLine else limit_or (limit_digits (words_of line))
+
+-- a script of this heading, before its blocks: each worker has the empty program
+abbrev pub script_of : Headed → Scripted
+script_of h = record { heading = h; named = []; programs = replicate h.setup.workers []; block = None; schedule = [] }
+
+abbrev pub named_on : Result Headed HeadFault → Result Stage Kind
+named_on (Ok h) = Ok (Reading (script_of h))
+named_on (Err fault) = Err (kind_of_head fault)
+
+abbrev pub read_on : Result Scripted Kind → Result Stage Kind
+read_on (Ok s) = Ok (Reading s)
+read_on (Err kind) = Err kind
+
+-- ANY LINE
+
+-- the stage after a line, or the least kind of fault of the line
+unfoldable pub step : Stage → List ℕ → Result Stage Kind
+step Opening line = if bytes_eq line (codes "evc-script 1") then Ok Limiting else Err kinds.BadHeader
+step Limiting line = limit_step line
+step (Naming n) line = named_on (head_step (opened n []) line)
+step (Reading s) line = read_on (script_step s line)
+
+-- what a call answered and left is what the step gives, unless memory ran out
+abbrev pub StepFails : {S : Type 0} → StageFault → Result S Kind → Type 0
+StepFails faults.Memory stepped = Unit {0}
+StepFails (faults.Of kind) stepped = stepped ≡ Err kind
+
+abbrev pub Steps : {S : Type 0} → Result (Unit {0}) StageFault → Result S Kind → S → Type 0
+Steps (Ok x) stepped new = stepped ≡ Ok new
+Steps (Err e) stepped new = StepFails e stepped

@@ -1,0 +1,20 @@
+-- Where there is room for one more line of a block.
+use Rattle.std.specs.Prelude.{◌≡◌, ℕ, ◌<◌, false, Option, Some, None}
+use Rattle.ec_script.specs.declared.script.Block.{Block}
+use Rattle.ec_script.specs.declared.order.Order.{Order}
+use Rattle.ec_script.specs.Drafted.{MayFollow}
+
+-- the line may go on with the block, if one is open
+abbrev pub MayOrder : Option Block → Order → Type 0
+MayOrder None o = Unit {0}
+MayOrder (Some b) o = MayFollow b.draft o
+
+-- the innermost repeat of the block, if one is open, has a command
+abbrev pub MayEnd : Option Block → Type 0
+MayEnd None = Unit {0}
+MayEnd (Some b) = 0 < b.draft.depth → b.draft.is_empty ≡ false
+
+-- the block has room for a command
+abbrev pub HasRoom : Option Block → Type 0
+HasRoom None = Unit {0}
+HasRoom (Some b) = b.draft.many < 4096

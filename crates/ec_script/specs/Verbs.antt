@@ -1,0 +1,89 @@
+-- The lines of blocks and of the schedule, as a table over the word that opens them.
+use Rattle.std.specs.Prelude.{ℕ, Bool, true, false, List, Option, Some, None, if◌then◌else◌, bytes_eq, codes}
+use Rattle.ec_script.specs.declared.verb.Verb.{Verb}
+use Rattle.ec_script.specs.declared.verb.Verb.TheVariants as verbs
+use Rattle.ec_script.specs.declared.verb.Tail.{Tail}
+use Rattle.ec_script.specs.declared.verb.Tail.TheVariants as tails
+
+-- THE WORDS
+
+-- the words of raw calls
+abbrev pub raw_verb_of : List ℕ → Option Verb
+raw_verb_of w =
+    if bytes_eq w (codes "advance") then Some verbs.Advance
+    else (if bytes_eq w (codes "read") then Some verbs.Read
+    else (if bytes_eq w (codes "await") then Some verbs.Await
+    else (if bytes_eq w (codes "ticket") then Some verbs.Ticket
+    else (if bytes_eq w (codes "put") then Some verbs.Put
+    else (if bytes_eq w (codes "get") then Some verbs.Get else None)))))
+
+-- the words of procedures
+abbrev pub procedure_verb_of : List ℕ → Option Verb
+procedure_verb_of w =
+    if bytes_eq w (codes "produce") then Some verbs.Produce
+    else (if bytes_eq w (codes "consume") then Some verbs.Consume
+    else (if bytes_eq w (codes "write") then Some verbs.Write
+    else (if bytes_eq w (codes "snapshot") then Some verbs.Snapshot
+    else (if bytes_eq w (codes "p") then Some verbs.Down
+    else (if bytes_eq w (codes "v") then Some verbs.Up
+    else (if bytes_eq w (codes "pboth") then Some verbs.DownBoth else None))))))
+
+-- the words that order the lines
+abbrev pub order_verb_of : List ℕ → Option Verb
+order_verb_of w =
+    if bytes_eq w (codes "repeat") then Some verbs.Repeat
+    else (if bytes_eq w (codes "end") then Some verbs.End
+    else (if bytes_eq w (codes "worker") then Some verbs.Worker
+    else (if bytes_eq w (codes "schedule") then Some verbs.Schedule else None)))
+
+abbrev pub or_else : Option Verb → Option Verb → Option Verb
+or_else None other = other
+or_else (Some v) other = Some v
+
+-- what a line that opens with this word does
+abbrev pub verb_of : List ℕ → Option Verb
+verb_of w = or_else (raw_verb_of w) (or_else (procedure_verb_of w) (order_verb_of w))
+
+-- THE FORMS
+
+-- whether the word of an object or of a worker stands behind it
+abbrev pub has_object : Verb → Bool
+has_object verbs.Repeat = false
+has_object verbs.End = false
+has_object verbs.Schedule = false
+has_object _ = true
+
+-- what stands behind that
+abbrev pub tail_of : Verb → Tail
+tail_of verbs.Await = tails.Amount
+tail_of verbs.Put = tails.Amount
+tail_of verbs.Produce = tails.Amount
+tail_of verbs.Write = tails.Amounts
+tail_of verbs.Snapshot = tails.Digits
+tail_of verbs.Repeat = tails.Digits
+tail_of verbs.DownBoth = tails.Word
+tail_of verbs.Schedule = tails.Words
+tail_of _ = tails.Nothing
+
+-- WHAT THEY DO
+
+-- whether it signals, writes or produces; else it observes, reads or consumes
+abbrev pub is_giving : Verb → Bool
+is_giving verbs.Advance = true
+is_giving verbs.Put = true
+is_giving verbs.Produce = true
+is_giving verbs.Write = true
+is_giving _ = false
+
+-- whether it opens a block or goes on with the schedule; else it stands in a block
+abbrev pub is_outer : Verb → Bool
+is_outer verbs.Worker = true
+is_outer verbs.Schedule = true
+is_outer _ = false
+
+-- whether it counts as a command of the block
+abbrev pub is_counted : Verb → Bool
+is_counted verbs.End = false
+is_counted verbs.Worker = false
+is_counted verbs.Schedule = false
+is_counted _ = true

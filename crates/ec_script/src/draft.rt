@@ -1,0 +1,162 @@
+//! A block of commands that is being read.
+ghost use Rattle.std.specs.Prelude.{◌≡◌, ◌<◌, ◌≤◌, ◌∷◌, [], ◌++◌, length, true, false, OnOk, ◌==◌};
+ghost use Rattle.std.specs.List.{list_all};
+ghost use Rattle.ec_machine.specs.Limits.{is_sound_one, is_value};
+ghost use Rattle.ec_script.specs.Flat.{flat, is_plain};
+ghost use Rattle.ec_script.specs.Drafted.{added, closed, nothing_drafted, opened, with_order, MayFollow};
+
+use crate::order::{Order, Values};
+use ec_database::DatabaseShape;
+use ec_machine::{Command, Program};
+use std::alloc::{AllocError, Global};
+use std::marker::Model;
+use std::mem;
+
+/// A repeat that is not closed yet: how many times, and the commands before it.
+#[derive(Drop)]
+pub(crate) struct Open {
+    times: u64,
+    before: Vec<Command>,
+}
+
+/// A block that is being read: the commands of its innermost open repeat, and those round it, the
+/// outermost first.
+#[derive(Drop)]
+pub(crate) struct Draft {
+    current: Vec<Command>,
+    outer: Vec<Open>,
+    many: usize,
+    alloc: Global,
+}
+
+impl Model for Draft {
+    ghost use Rattle.std.specs.Prelude.{◌==◌, length, ◌++◌};
+    ghost use Rattle.std.specs.Coded.{codes};
+    ghost use Rattle.ec_machine.specs.contracts.command.Command as command;
+    ghost use Rattle.ec_script.specs.contracts.order.Order as order;
+    ghost use Rattle.ec_script.specs.Drafted.{Drafted};
+    ghost use Rattle.ec_script.specs.Flat.{flat};
+    ghost use Rattle.ec_script.specs.Inner.{begun, IsDraft};
+
+    ghost Value = { Drafted };
+
+    ghost coded = { Prim.hlevel (codes, command.the_row.coded, order.the_row.coded) };
+
+    ghost view = { λ d. record { orders = begun d.outer.items ++ flat d.current.items; depth = length d.outer.items; is_empty = length d.current.items == 0; many = d.many } };
+
+    ghost invariant = { λ d. IsDraft d.outer.items d.current.items d.many };
+}
+
+impl Draft {
+    /// A block without a line.
+    pub(crate) fn new(alloc: Global) -> Self
+        ensures { result ≡ nothing_drafted }
+    {
+        Draft {
+            current: Vec::new(alloc),
+            outer: Vec::new(alloc),
+            many: 0,
+            alloc,
+        }
+    }
+
+    /// Adds a command that holds no list.
+    fn add(&mut self, command: Command) -> Result<(), AllocError>
+        requires plain { is_plain command ≡ true }
+        requires sound { is_sound_one command ≡ true }
+        requires room { self.old.many < 4096 }
+        ensures { OnOk result (self.new ≡ added self.old (Order.Do command)) }
+    {
+        self.current.push(command)?;
+        self.many += 1;
+        Ok(())
+    }
+
+    /// Adds a command that writes these values.
+    fn add_write(&mut self, shape: DatabaseShape, values: Values) -> Result<(), AllocError>
+        requires as_many { (length values == shape.cells) ≡ true }
+        requires sound { list_all is_value values ≡ true }
+        requires room { self.old.many < 4096 }
+        ensures { OnOk result (self.new ≡ added self.old (Order.Write shape values)) }
+    {
+        let Values { items } = values;
+        self.current.push(Command::WriteAll(shape, items))?;
+        self.many += 1;
+        Ok(())
+    }
+
+    /// Begins a repeat.
+    fn open(&mut self, times: u64) -> Result<(), AllocError>
+        requires some { 0 < times }
+        requires few { times ≤ 1000000 }
+        requires depth { self.old.depth < 4 }
+        requires room { self.old.many < 4096 }
+        ensures { OnOk result (self.new ≡ opened self.old times) }
+    {
+        let before = mem::replace(&mut self.current, Vec::new(self.alloc));
+        self.outer.push(Open { times, before })?;
+        self.many += 1;
+        Ok(())
+    }
+
+    /// Ends the innermost repeat.
+    fn close(&mut self) -> Result<(), AllocError>
+        requires some { self.old.is_empty ≡ false }
+        requires open { 0 < self.old.depth }
+        ensures { OnOk result (self.new ≡ closed self.old) }
+    {
+        let Some(open) = self.outer.pop() else {
+            return Ok(());
+        };
+        let block = mem::replace(&mut self.current, open.before);
+        self.current.push(Command::Repeat(open.times, block))?;
+        Ok(())
+    }
+
+    /// Takes one more line.
+    pub(crate) fn take(&mut self, order: Order) -> Result<(), AllocError>
+        requires { MayFollow self.old order }
+        ensures { OnOk result (self.new ≡ with_order self.old order) }
+    {
+        match order {
+            Order::Do(command) => self.add(command),
+            Order::Write(shape, values) => self.add_write(shape, values),
+            Order::Begin(times) => self.open(times),
+            Order::End => self.close(),
+        }
+    }
+
+    /// Whether the innermost block has no command yet.
+    pub(crate) fn is_empty(&self) -> bool
+        ensures { result ≡ self.now.is_empty }
+    {
+        self.current.is_empty()
+    }
+
+    /// How many repeats are open.
+    pub(crate) fn depth(&self) -> usize
+        ensures { result ≡ self.now.depth }
+    {
+        self.outer.len()
+    }
+
+    /// How many commands there are.
+    pub(crate) fn many(&self) -> usize
+        ensures { result ≡ self.now.many }
+    {
+        self.many
+    }
+}
+
+impl Draft {
+    /// The program that was read.
+    pub(crate) fn finish(self) -> Program
+        requires { self.depth ≡ 0 }
+        ensures { flat result ≡ self.orders }
+    {
+        let Some(program) = Program::new(self.current) else {
+            unreachable!();
+        };
+        program
+    }
+}

@@ -1,0 +1,135 @@
+//! Why a text is no script.
+ghost use Rattle.std.specs.Prelude.{◌≡◌};
+ghost use Rattle.ec_script.specs.Faults.{kind_number, kind_name, kind_of_head, stage_fault};
+
+use ec_trace::HeadFault;
+use thiserror::Error;
+
+/// Why a line of a script is refused: the least of these that holds of it.
+#[derive(Clone, Copy, Debug, PartialEq, Eq, Error)]
+pub enum Kind {
+    /// Line 1 is not `evc-script 1`.
+    #[error("line 1 is not the header")]
+    BadHeader,
+    /// The line has more than 8192 bytes or none of the forms allowed in its place.
+    #[error("bad line")]
+    BadLine,
+    /// A word in the place of a new name is not a name.
+    #[error("a word is no name")]
+    BadName,
+    /// A new name was used before, a list names a worker twice, or a block of the worker was begun.
+    #[error("a name was used before")]
+    NameTaken,
+    /// A word in the place of a worker or object spells none of the right sort.
+    #[error("a name is not declared")]
+    UnknownName,
+    /// A number is outside its range, or there are not as many values as cells.
+    #[error("a number is out of range")]
+    BadNumber,
+    /// A table, the commands of a worker or the schedule would pass their bound. On line 1: the
+    /// script has more than 1048576 bytes.
+    #[error("a table would pass its bound")]
+    TooMany,
+    /// A raw command names an object of a group.
+    #[error("the object belongs to a group")]
+    Hidden,
+    /// A worker stands in both lists of a group, or P on two semaphores names one twice.
+    #[error("one stands in both roles")]
+    TwoRoles,
+    /// The worker of the block lacks the right.
+    #[error("the worker lacks the right")]
+    NoRight,
+    /// A line stands inside a block that must not, a fifth repeat inside the others, or an `end` of
+    /// a repeat without a command.
+    #[error("bad nesting")]
+    BadNesting,
+    /// The text ends before its line of workers, inside a block, or without its last LF.
+    #[error("unfinished")]
+    Unfinished,
+}
+
+impl Kind {
+    /// Its place in the order, from 1 to 12.
+    pub fn number(self) -> u64
+        ensures { result ≡ kind_number self }
+    {
+        match self {
+            Kind::BadHeader => 1,
+            Kind::BadLine => 2,
+            Kind::BadName => 3,
+            Kind::NameTaken => 4,
+            Kind::UnknownName => 5,
+            Kind::BadNumber => 6,
+            Kind::TooMany => 7,
+            Kind::Hidden => 8,
+            Kind::TwoRoles => 9,
+            Kind::NoRight => 10,
+            Kind::BadNesting => 11,
+            Kind::Unfinished => 12,
+        }
+    }
+
+    /// Its name, as notes print it.
+    pub fn name(self) -> &'static str
+        ensures { result.now ≡ kind_name self }
+    {
+        match self {
+            Kind::BadHeader => "BadHeader",
+            Kind::BadLine => "BadLine",
+            Kind::BadName => "BadName",
+            Kind::NameTaken => "NameTaken",
+            Kind::UnknownName => "UnknownName",
+            Kind::BadNumber => "BadNumber",
+            Kind::TooMany => "TooMany",
+            Kind::Hidden => "Hidden",
+            Kind::TwoRoles => "TwoRoles",
+            Kind::NoRight => "NoRight",
+            Kind::BadNesting => "BadNesting",
+            Kind::Unfinished => "Unfinished",
+        }
+    }
+}
+
+/// Why no plan was read.
+#[derive(Clone, Copy, Debug, PartialEq, Eq, Error)]
+pub enum ScriptFault {
+    /// The first faulty line, counted from 1, and its least kind.
+    #[error("line {line}: {kind}")]
+    At { line: u64, kind: Kind },
+    /// Memory was refused.
+    #[error("memory was refused")]
+    Memory,
+}
+
+/// Why a line was not taken.
+#[derive(Clone, Copy, Debug, PartialEq, Eq)]
+pub(crate) enum StageFault {
+    Of(Kind),
+    Memory,
+}
+
+/// The kind of a fault of a heading's line.
+fn kind_of_head(fault: HeadFault) -> Kind
+    ensures { result ≡ kind_of_head fault }
+{
+    match fault {
+        HeadFault::BadLine | HeadFault::Memory => Kind::BadLine,
+        HeadFault::BadName => Kind::BadName,
+        HeadFault::NameTaken => Kind::NameTaken,
+        HeadFault::UnknownName => Kind::UnknownName,
+        HeadFault::BadNumber => Kind::BadNumber,
+        HeadFault::TooMany => Kind::TooMany,
+        HeadFault::Hidden => Kind::Hidden,
+        HeadFault::TwoRoles => Kind::TwoRoles,
+    }
+}
+
+/// Why a line was not taken that a heading refused.
+pub(crate) fn stage_fault(fault: HeadFault) -> StageFault
+    ensures { result ≡ stage_fault fault }
+{
+    match fault {
+        HeadFault::Memory => StageFault::Memory,
+        other => StageFault::Of(kind_of_head(other)),
+    }
+}

@@ -1,0 +1,135 @@
+//! The form of a line of a block or of the schedule.
+ghost use Rattle.std.specs.Prelude.{◌≡◌, ◌∷◌, [], option_map, IfSome, true, length, ◌<◌};
+ghost use Rattle.std.specs.List.{list_all};
+ghost use Rattle.ec_text.specs.Words.{words_of};
+ghost use Rattle.ec_machine.specs.Limits.{is_value};
+ghost use Rattle.ec_script.specs.Forms.{more_in, is_value_form, value_of, only_in, is_tail, tailed_in, phrase_in, rest_words, shown};
+
+use crate::verb::{Tail, Verb, verb_of};
+use ec_machine::Value;
+use ec_text::{cut_word, is_number_form, number};
+
+/// A line of one of the forms, by its words: the object has no bytes where the form has none.
+#[derive(Clone, Copy)]
+pub(crate) struct Parts<'a> {
+    pub(crate) verb: Verb,
+    pub(crate) object: &'a [u8],
+    pub(crate) rest: Option<&'a [u8]>,
+}
+
+/// The digits behind `last+`.
+fn more_of(word: &[u8]) -> Option<&[u8]>
+    ensures { option_map (λ m. m.now) result ≡ more_in word.now }
+{
+    word.strip_prefix(b"last+".as_slice())
+}
+
+/// Whether a word has the form of a value.
+fn is_value_form(word: &[u8]) -> bool
+    ensures { result ≡ is_value_form word.now }
+{
+    if word == b"last".as_slice() {
+        return true;
+    }
+    match more_of(word) {
+        Some(digits) => is_number_form(digits),
+        None => is_number_form(word),
+    }
+}
+
+/// The value that a word spells, where its number is in range.
+#[tactic(auto, unfolding(crate::specs::Forms::value_of))]
+pub(crate) fn value_of(word: &[u8]) -> Option<Value>
+    ensures value { result ≡ value_of word.now }
+    ensures small { IfSome result (λ v. is_value v ≡ true) }
+{
+    if word == b"last".as_slice() {
+        return Some(Value::Last);
+    }
+    match more_of(word) {
+        Some(digits) => {
+            let n = number(digits)?;
+            if n < 1 {
+                return None;
+            }
+            Some(Value::LastPlus(n))
+        }
+        None => Some(Value::Number(number(word)?)),
+    }
+}
+
+/// Whether each word has the form of a value.
+fn are_value_forms(list: &[u8]) -> bool
+    ensures { result ≡ list_all is_value_form (words_of list.now) }
+{
+    let (word, rest) = cut_word(list);
+    if !is_value_form(word) {
+        return false;
+    }
+    match rest {
+        None => true,
+        Some(rest) => are_value_forms(rest),
+    }
+}
+
+/// The only word that is left, where it is the only one.
+#[tactic(auto, using(crate::proofs::Words::only_word))]
+pub(crate) fn only_word(rest: Option<&[u8]>) -> Option<&[u8]>
+    ensures { option_map (λ w. w.now) result ≡ only_in (rest_words rest.entry) }
+{
+    let (word, None) = cut_word(rest?) else {
+        return None;
+    };
+    Some(word)
+}
+
+/// Whether this is such a tail.
+#[tactic(auto, using(crate::proofs::Words::some_words))]
+fn is_tail(tail: Tail, rest: Option<&[u8]>) -> bool
+    ensures { result ≡ is_tail tail (rest_words rest.entry) }
+{
+    match tail {
+        Tail::Nothing => rest.is_none(),
+        Tail::Amount => match only_word(rest) {
+            Some(word) => is_value_form(word),
+            None => false,
+        },
+        Tail::Amounts => match rest {
+            Some(rest) => are_value_forms(rest),
+            None => false,
+        },
+        Tail::Digits => match only_word(rest) {
+            Some(word) => is_number_form(word),
+            None => false,
+        },
+        Tail::Word => only_word(rest).is_some(),
+        Tail::Words => rest.is_some(),
+    }
+}
+
+/// The parts of a line from what stands behind its object on.
+fn tailed<'a>(verb: Verb, object: &'a [u8], rest: Option<&'a [u8]>) -> Option<Parts<'a>>
+    ensures { option_map shown result ≡ tailed_in verb object.now (rest_words rest.entry) }
+{
+    if !is_tail(verb.tail(), rest) {
+        return None;
+    }
+    Some(Parts { verb, object, rest })
+}
+
+/// The parts of a line of one of the forms.
+#[tactic(auto, unfolding(crate::specs::Forms::phrase_in))]
+pub(crate) fn parts_of(line: &[u8]) -> Option<Parts<'_>>
+    ensures { option_map shown result ≡ phrase_in (words_of line.now) }
+{
+    let (word, rest) = cut_word(line);
+    let verb = verb_of(word)?;
+    if !verb.has_object() {
+        return tailed(verb, b"".as_slice(), rest);
+    }
+    let Some(rest) = rest else {
+        return None;
+    };
+    let (object, rest) = cut_word(rest);
+    tailed(verb, object, rest)
+}

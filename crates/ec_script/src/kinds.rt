@@ -1,0 +1,322 @@
+//! Why a line behind the declarations is refused.
+ghost use Rattle.std.specs.Prelude.{◌≡◌, ◌+◌, ◌==◌, ◌||◌, not, nat_lt, length, option_map};
+ghost use Rattle.std.specs.Option.{option_and_then};
+ghost use Rattle.std.specs.List.{list_any};
+ghost use Rattle.ec_count.specs.Members.{is_member};
+ghost use Rattle.ec_text.specs.Words.{number_of};
+ghost use Rattle.ec_machine.specs.Limits.{is_same, are_apart};
+ghost use Rattle.ec_script.specs.Forms.{rest_words, shown};
+ghost use Rattle.ec_script.specs.Verbs.{tail_of};
+ghost use Rattle.ec_script.specs.Kinds.{seen_of, is_no_value, is_count, is_allowed, is_named_again, has_unknown_name, cells_of, greatest, is_bad_tail, is_too_many, has_two_roles, has_right, lacks_right, is_badly_nested, or_nothing, phrase_fault};
+
+use crate::fault::Kind;
+use crate::form::{Parts, only_word, value_of};
+use crate::lists::{count_words, has_no_value, has_unknown};
+use crate::object::{Object, is_owned};
+use crate::verb::{Tail, Verb};
+use ec_count::{Setup, WorkerId};
+use ec_semaphore::SemaphoreShape;
+use ec_text::number;
+use ec_trace::Heading;
+
+/// The block that a line stands in: its worker, how many repeats are open there, whether the
+/// innermost has no command yet, and how many commands there are.
+#[derive(Clone, Copy)]
+pub(crate) struct Nest {
+    pub(crate) worker: WorkerId,
+    pub(crate) depth: usize,
+    pub(crate) is_empty: bool,
+    pub(crate) many: usize,
+}
+
+/// Where a line stands.
+#[derive(Clone, Copy)]
+pub(crate) struct View<'a> {
+    pub(crate) heading: &'a Heading,
+    pub(crate) named: &'a [WorkerId],
+    pub(crate) nest: Option<Nest>,
+    pub(crate) scheduled: usize,
+}
+
+/// The greatest number of names in a schedule.
+const SCHEDULE_MAX: usize = 65536;
+
+/// The greatest number of commands of a worker.
+const COMMANDS_MAX: usize = 4096;
+
+/// Whether such a line may stand there.
+fn is_allowed(verb: Verb, in_block: bool, scheduled: usize) -> bool
+    ensures { result ≡ is_allowed verb in_block scheduled }
+{
+    match verb {
+        Verb::Schedule => true,
+        Verb::Worker => in_block || scheduled == 0,
+        _ => in_block,
+    }
+}
+
+/// Whether a worker stands in the list.
+fn is_member(worker: WorkerId, named: &[WorkerId]) -> bool
+    ensures { result ≡ is_member worker named.now }
+{
+    named.iter().any(|id| id.get() == worker.get())
+}
+
+/// Whether the block of this worker began before.
+fn is_named_again(named: &[WorkerId], object: &Object) -> bool
+    ensures { result ≡ is_named_again named.now object.now }
+{
+    match *object {
+        Object::Worker(worker) => is_member(worker, named),
+        _ => false,
+    }
+}
+
+/// Whether a name of the schedule is no worker's.
+fn has_unknown_name(heading: &Heading, parts: &Parts<'_>) -> bool
+    ensures { result ≡ has_unknown_name heading.now parts.now.verb (rest_words parts.now.rest) }
+{
+    match (parts.verb, parts.rest) {
+        (Verb::Schedule, Some(rest)) => has_unknown(heading, rest),
+        _ => false,
+    }
+}
+
+/// How many cells a database has.
+fn cells_of(object: &Object) -> usize
+    ensures { result ≡ cells_of object.now }
+{
+    match *object {
+        Object::OfDatabase(shape) => shape.cells(),
+        _ => 0,
+    }
+}
+
+/// The greatest count of a repeat, and of tries.
+fn greatest(verb: Verb) -> u64
+    ensures { result ≡ greatest verb }
+{
+    match verb {
+        Verb::Repeat => 1_000_000,
+        _ => 1000,
+    }
+}
+
+/// Whether this is no value in its range.
+fn is_no_value(word: &[u8]) -> bool
+    ensures { result ≡ is_no_value word.now }
+{
+    value_of(word).is_none()
+}
+
+/// Whether the values are out of range, or not so many.
+fn are_bad_values(rest: Option<&[u8]>, cells: usize) -> bool
+    ensures { result ≡ list_any is_no_value (rest_words rest.entry) || not (length (rest_words rest.entry) == cells) }
+{
+    match rest {
+        None => cells != 0,
+        Some(list) => has_no_value(list) || count_words(list) != cells,
+    }
+}
+
+/// Whether digits spell a number from 1 to the greatest.
+fn is_count(most: u64, digits: Option<&[u8]>) -> bool
+    ensures { result ≡ is_count most (option_and_then number_of (option_map (λ w. w.now) digits.entry)) }
+{
+    let Some(word) = digits else {
+        return false;
+    };
+    match number(word) {
+        Some(n) => 1 <= n && n <= most,
+        None => false,
+    }
+}
+
+/// Whether a number is out of range, or the values are not as many as the cells.
+fn is_bad_tail(parts: &Parts<'_>, object: &Object) -> bool
+    ensures { result ≡ is_bad_tail (tail_of parts.now.verb) parts.now.verb (rest_words parts.now.rest) object.now }
+{
+    match parts.verb.tail() {
+        Tail::Amount => match only_word(parts.rest) {
+            Some(word) => is_no_value(word),
+            None => false,
+        },
+        Tail::Amounts => are_bad_values(parts.rest, cells_of(object)),
+        Tail::Digits => !is_count(greatest(parts.verb), only_word(parts.rest)),
+        _ => false,
+    }
+}
+
+/// How many words are left.
+fn count_rest(rest: Option<&[u8]>) -> usize
+    ensures { result ≡ length (rest_words rest.entry) }
+{
+    match rest {
+        None => 0,
+        Some(list) => count_words(list),
+    }
+}
+
+/// Whether so many names and so many more are too many for a schedule.
+fn is_over(scheduled: usize, more: usize) -> bool
+    ensures { result ≡ nat_lt 65536 (scheduled + more) }
+{
+    scheduled > SCHEDULE_MAX || more > SCHEDULE_MAX - scheduled
+}
+
+/// Whether the commands of the block, or the names of the schedule, become too many.
+fn is_too_many(parts: &Parts<'_>, nest: Option<Nest>, scheduled: usize) -> bool
+    ensures { result ≡ is_too_many parts.now.verb (rest_words parts.now.rest) nest scheduled }
+{
+    match (parts.verb, nest) {
+        (Verb::Schedule, _) => is_over(scheduled, count_rest(parts.rest)),
+        (verb, Some(nest)) => verb.is_counted() && nest.many >= COMMANDS_MAX,
+        (_, None) => false,
+    }
+}
+
+fn is_same(one: &SemaphoreShape, other: &SemaphoreShape) -> bool
+    ensures { result ≡ is_same one.now other.now }
+{
+    one.count() == other.count() && one.line() == other.line() && one.initial() == other.initial()
+}
+
+/// Whether the common one has initial value 1 and the three are different.
+fn are_apart(common: &SemaphoreShape, one: &SemaphoreShape, other: &SemaphoreShape) -> bool
+    ensures { result ≡ are_apart common.now one.now other.now }
+{
+    common.initial() == 1
+        && !is_same(common, one)
+        && !is_same(common, other)
+        && !is_same(one, other)
+}
+
+/// Whether two of the three semaphores are one.
+fn has_two_roles(object: &Object) -> bool
+    ensures { result ≡ has_two_roles object.now }
+{
+    match object {
+        Object::Three(common, one, other) => !are_apart(common, one, other),
+        _ => false,
+    }
+}
+
+/// Whether the worker has the right to do such a thing with the object.
+fn has_right(setup: &Setup, worker: WorkerId, giving: bool, object: &Object) -> bool
+    ensures { result ≡ has_right setup.now worker giving object.now }
+{
+    match *object {
+        Object::Event(event) => {
+            if giving {
+                setup.component_of(event, worker).is_some()
+            } else {
+                setup.may_observe(event, worker)
+            }
+        }
+        Object::Sequencer(sequencer) => setup.may_take(sequencer, worker),
+        Object::Cell(cell) => {
+            if giving {
+                setup.may_write(cell, worker)
+            } else {
+                setup.may_read(cell, worker)
+            }
+        }
+        Object::OfBuffer(shape) => {
+            let line = if giving {
+                shape.put_seq()
+            } else {
+                shape.take_seq()
+            };
+            setup.may_take(line, worker)
+        }
+        Object::OfDatabase(shape) => {
+            if giving {
+                setup.may_take(shape.turn(), worker)
+            } else {
+                setup.may_observe(shape.start(), worker)
+            }
+        }
+        Object::OfSemaphore(shape) => setup.may_take(shape.line(), worker),
+        Object::Three(common, one, other) => {
+            setup.may_take(common.line(), worker)
+                && setup.may_take(one.line(), worker)
+                && setup.may_take(other.line(), worker)
+        }
+        Object::Nothing | Object::Worker(_) => true,
+    }
+}
+
+/// Whether the worker of the block lacks the right to do such a thing with the object.
+fn lacks_right(setup: &Setup, nest: Option<Nest>, verb: Verb, object: &Object) -> bool
+    ensures { result ≡ lacks_right setup.now nest verb object.now }
+{
+    match nest {
+        None => false,
+        Some(nest) => !has_right(setup, nest.worker, verb.is_giving(), object),
+    }
+}
+
+/// Whether a line stands inside a block that must not, a fifth repeat in the others, or an `end` of
+/// a repeat without a command.
+fn is_badly_nested(verb: Verb, nest: Option<Nest>) -> bool
+    ensures { result ≡ is_badly_nested verb nest }
+{
+    let Some(nest) = nest else {
+        return false;
+    };
+    match verb {
+        Verb::Worker | Verb::Schedule => true,
+        Verb::Repeat => nest.depth >= 4,
+        Verb::End => nest.depth > 0 && nest.is_empty,
+        _ => false,
+    }
+}
+
+/// The object, or nothing.
+pub(crate) fn or_nothing(object: Option<Object>) -> Object
+    ensures { result ≡ or_nothing object }
+{
+    match object {
+        Some(object) => object,
+        None => Object::Nothing,
+    }
+}
+
+/// The least fault of a line of one of the forms, whose word for an object means this.
+pub(crate) fn phrase_fault(
+    view: &View<'_>,
+    parts: &Parts<'_>,
+    found: Option<Object>,
+) -> Option<Kind>
+    ensures { result ≡ phrase_fault (seen_of view.now) (shown parts.now) found }
+{
+    let object = or_nothing(found);
+    if !is_allowed(parts.verb, view.nest.is_some(), view.scheduled) {
+        return Some(Kind::BadLine);
+    }
+    if is_named_again(view.named, &object) {
+        return Some(Kind::NameTaken);
+    }
+    if found.is_none() || has_unknown_name(view.heading, parts) {
+        return Some(Kind::UnknownName);
+    }
+    if is_bad_tail(parts, &object) {
+        return Some(Kind::BadNumber);
+    }
+    if is_too_many(parts, view.nest, view.scheduled) {
+        return Some(Kind::TooMany);
+    }
+    if is_owned(view.heading.groups(), &object) {
+        return Some(Kind::Hidden);
+    }
+    if has_two_roles(&object) {
+        return Some(Kind::TwoRoles);
+    }
+    if lacks_right(view.heading.setup(), view.nest, parts.verb, &object) {
+        return Some(Kind::NoRight);
+    }
+    if is_badly_nested(parts.verb, view.nest) {
+        return Some(Kind::BadNesting);
+    }
+    None
+}

@@ -1,0 +1,22 @@
+//! Laws of scripts. Each is the contract of a function that does nothing.
+ghost use Rattle.ec_script.specs.Grammar.{FaultIsTheFirst, LongIsLine1, ReadIsScript, ScriptIsRead};
+
+/// A script is read as the plan that it says.
+pub fn script_is_read()
+    ensures { ScriptIsRead }
+{}
+
+/// What is read is a script, and says the plan that is read.
+pub fn read_is_script()
+    ensures { ReadIsScript }
+{}
+
+/// The fault that is told of a text within the bound is that of its first faulty line.
+pub fn fault_is_the_first()
+    ensures { FaultIsTheFirst }
+{}
+
+/// The fault that is told of a longer text is that of line 1.
+pub fn long_is_line_1()
+    ensures { LongIsLine1 }
+{}

@@ -1,0 +1,112 @@
+//! Lists of words in a line.
+ghost use Rattle.std.specs.Prelude.{◌≡◌, ◌==◌, ◌+◌, ◌++◌, ◌≤◌, length, map, true, OnOk};
+ghost use Rattle.std.specs.List.{list_all, list_any};
+ghost use Rattle.ec_text.specs.Words.{words_of};
+ghost use Rattle.ec_machine.specs.Limits.{is_value};
+ghost use Rattle.ec_trace.specs.Lists.{ids_in, has_unknown};
+ghost use Rattle.ec_script.specs.Kinds.{is_no_value};
+ghost use Rattle.ec_script.specs.Orders.{amount_of};
+
+use crate::form::value_of;
+use ec_count::WorkerId;
+use ec_machine::Value;
+use ec_text::cut_word;
+use ec_trace::Heading;
+use std::alloc::AllocError;
+
+/// Whether a word is empty.
+pub(crate) fn has_blank(list: &[u8]) -> bool
+    ensures { result ≡ list_any (λ w. length w == 0) (words_of list.now) }
+{
+    let (word, rest) = cut_word(list);
+    if word.is_empty() {
+        return true;
+    }
+    match rest {
+        None => false,
+        Some(rest) => has_blank(rest),
+    }
+}
+
+/// How many words there are.
+pub(crate) fn count_words(list: &[u8]) -> usize
+    ensures count { result ≡ length (words_of list.now) }
+    ensures few { result ≤ length list.now + 1 }
+{
+    let (_, rest) = cut_word(list);
+    match rest {
+        None => 1,
+        Some(rest) => count_words(rest) + 1,
+    }
+}
+
+/// Whether a word names no worker.
+pub(crate) fn has_unknown(heading: &Heading, list: &[u8]) -> bool
+    ensures { result ≡ has_unknown heading.now.words (words_of list.now) }
+{
+    let (word, rest) = cut_word(list);
+    if heading.worker(word).is_none() {
+        return true;
+    }
+    match rest {
+        None => false,
+        Some(rest) => has_unknown(heading, rest),
+    }
+}
+
+/// Whether a word spells no value in its range.
+pub(crate) fn has_no_value(list: &[u8]) -> bool
+    ensures { result ≡ list_any is_no_value (words_of list.now) }
+{
+    let (word, rest) = cut_word(list);
+    if value_of(word).is_none() {
+        return true;
+    }
+    match rest {
+        None => false,
+        Some(rest) => has_no_value(rest),
+    }
+}
+
+/// Adds the workers that are named.
+pub(crate) fn push_ids(
+    heading: &Heading,
+    list: &[u8],
+    ids: &mut Vec<WorkerId>,
+) -> Result<(), AllocError>
+    ensures { OnOk result (ids.new.items ≡ ids.old.items ++ ids_in heading.now.words (words_of list.now)) }
+{
+    let (word, rest) = cut_word(list);
+    if let Some(id) = heading.worker(word) {
+        ids.push(id)?;
+    }
+    match rest {
+        None => Ok(()),
+        Some(rest) => push_ids(heading, rest, ids),
+    }
+}
+
+/// The value that a word spells, `last` where it spells none.
+pub(crate) fn amount_of(word: &[u8]) -> Value
+    ensures value { result ≡ amount_of word.now }
+    ensures sound { is_value result ≡ true }
+{
+    match value_of(word) {
+        Some(value) => value,
+        None => Value::Last,
+    }
+}
+
+/// Adds the values that words spell.
+#[tactic(auto, using(crate::proofs::Sizes::sound_more))]
+pub(crate) fn push_values(list: &[u8], values: &mut Vec<Value>) -> Result<(), AllocError>
+    ensures items { OnOk result (values.new.items ≡ values.old.items ++ map amount_of (words_of list.now)) }
+    ensures sound { OnOk result (list_all is_value values.old.items ≡ true → list_all is_value values.new.items ≡ true) }
+{
+    let (word, rest) = cut_word(list);
+    values.push(amount_of(word))?;
+    match rest {
+        None => Ok(()),
+        Some(rest) => push_values(rest, values),
+    }
+}

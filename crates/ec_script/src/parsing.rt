@@ -1,0 +1,130 @@
+//! Whole scripts.
+ghost use Rattle.std.specs.Prelude.{◌≡◌, ◌≢◌, ◌++◌, ◌∷◌, ◌+◌, ◌<◌, ◌^◌, All, Err, IfNone, IfSome, length};
+ghost use Rattle.ec_script.specs.Outcome.{Tells, ended, fault_at, finished, first_of, goes, long_kind, outcome, parts_of, plan_in, taken};
+ghost use Rattle.ec_script.specs.Reading.{step};
+
+use crate::fault::{Kind, ScriptFault, StageFault};
+use crate::plan::Plan;
+use crate::stage::Stage;
+use memchr::memchr;
+use std::alloc::Global;
+
+/// The most bytes that a script may have.
+pub const SCRIPT_MAX: usize = 1_048_576;
+
+/// The bytes before the first LF, and those behind it, where there is an LF.
+#[tactic(auto, using(crate::proofs::LineCuts::line_cuts))]
+fn cut_line(bytes: &[u8]) -> Option<(&[u8], &[u8])>
+    ensures none { IfNone result (All (λ b. b ≢ 10) bytes.now) }
+    ensures plain { IfSome result (λ p. All (λ b. b ≢ 10) p.0.now) }
+    ensures whole { IfSome result (λ p. bytes.now ≡ p.0.now ++ 10 ∷ p.1.now) }
+{
+    let end = memchr(b'\n', bytes)?;
+    Some((&bytes[..end], &bytes[end + 1..]))
+}
+
+/// Why a line was not taken, with its number.
+fn fault_at(line: u64, fault: StageFault) -> ScriptFault
+    ensures { result ≡ fault_at line fault }
+{
+    match fault {
+        StageFault::Memory => ScriptFault::Memory,
+        StageFault::Of(kind) => ScriptFault::At { line, kind },
+    }
+}
+
+/// The first line.
+#[tactic(auto, using(crate::proofs::Lines::first_lines))]
+fn first_line(text: &[u8]) -> &[u8]
+    ensures { result.now ≡ first_of (parts_of text.now) }
+{
+    match cut_line(text) {
+        Some((line, _)) => line,
+        None => text,
+    }
+}
+
+/// The kind of a text that is too long, by its line 1.
+fn long_kind(text: &[u8]) -> Kind
+    ensures { result ≡ long_kind (first_of (parts_of text.now)) }
+{
+    if first_line(text) == b"evc-script 1".as_slice() {
+        Kind::TooMany
+    } else {
+        Kind::BadHeader
+    }
+}
+
+/// What a text comes to that ends with the LF before line n.
+fn end_here(stage: Stage, line: u64) -> Result<Plan, ScriptFault>
+    ensures { Tells (finished line (plan_in stage)) result }
+{
+    match stage.plan() {
+        Some(plan) => Ok(plan),
+        None => Err(ScriptFault::At {
+            line,
+            kind: Kind::Unfinished,
+        }),
+    }
+}
+
+/// What a text comes to whose line n lacks its LF.
+fn cut_off(alloc: Global, stage: Stage, line: u64, rest: &[u8]) -> Result<Plan, ScriptFault>
+    ensures { Tells (taken line (step stage rest.now) (λ t. Err (line, Kind.Unfinished))) result }
+{
+    let mut stage = stage;
+    match stage.line(alloc, rest) {
+        Err(fault) => Err(fault_at(line, fault)),
+        Ok(()) => Err(ScriptFault::At {
+            line,
+            kind: Kind::Unfinished,
+        }),
+    }
+}
+
+/// What a text comes to that ends so in line n.
+fn finish(alloc: Global, stage: Stage, line: u64, rest: &[u8]) -> Result<Plan, ScriptFault>
+    ensures { Tells (ended line stage rest.now) result }
+{
+    match rest {
+        [] => end_here(stage, line),
+        [_, ..] => cut_off(alloc, stage, line, rest),
+    }
+}
+
+/// What a text within the bound comes to.
+fn parse_lines(alloc: Global, text: &[u8]) -> Result<Plan, ScriptFault>
+    requires { length text.now < 2 ^ 32 }
+    ensures { Tells (goes 1 Stage.Opening (parts_of text.now)) result }
+{
+    let mut stage = Stage::Opening;
+    let mut number = 1u64;
+    let mut rest = text;
+    while let Some((line, behind)) = cut_line(rest) {
+        if let Err(fault) = stage.line(alloc, line) {
+            return Err(fault_at(number, fault));
+        }
+        number += 1;
+        rest = behind;
+    }
+    finish(alloc, stage, number, rest)
+}
+
+/// The plan that a script says, or its first faulty line with the least kind of its faults.
+///
+/// Lines are counted from 1. A line is judged by those before it. A last line without its LF is
+/// judged like every line, and then the text is unfinished; so is one that ends before its line of
+/// workers or inside a block. Of a text of more than 1048576 bytes line 1 alone is looked at: too
+/// many where it is the header.
+#[tactic(auto, unfolding(crate::specs::Outcome::outcome))]
+pub fn parse(alloc: Global, text: &[u8]) -> Result<Plan, ScriptFault>
+    ensures tells { Tells (outcome text.now) result }
+{
+    if text.len() > SCRIPT_MAX {
+        return Err(ScriptFault::At {
+            line: 1,
+            kind: long_kind(text),
+        });
+    }
+    parse_lines(alloc, text)
+}

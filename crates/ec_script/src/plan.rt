@@ -1,0 +1,13 @@
+//! Plans.
+use ec_count::WorkerId;
+use ec_machine::Program;
+use ec_trace::Heading;
+
+/// What a script says: its heading, a program for each declared worker, in order of declaration,
+/// and the workers of its schedule in order.
+#[derive(Drop)]
+pub struct Plan {
+    pub heading: Heading,
+    pub programs: Vec<Program>,
+    pub schedule: Vec<WorkerId>,
+}

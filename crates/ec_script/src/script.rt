@@ -1,0 +1,322 @@
+//! What the lines of a script have built, behind its line of workers.
+ghost use Rattle.std.specs.Prelude.{◌≡◌, ◌++◌, [], false, map, option_map, replicate, length, slice_set, OnOk, IfOk, None, Some};
+ghost use Rattle.ec_trace.specs.Heading.{head_step};
+ghost use Rattle.ec_trace.specs.Lists.{ids_in};
+ghost use Rattle.ec_text.specs.Words.{words_of};
+ghost use Rattle.ec_script.specs.Flat.{flat};
+ghost use Rattle.ec_script.specs.Forms.{rest_words, shown};
+ghost use Rattle.ec_script.specs.Kinds.{phrase_fault, or_nothing, is_bad_tail, has_two_roles};
+ghost use Rattle.ec_script.specs.Orders.{command_in};
+ghost use Rattle.ec_script.specs.Verbs.{is_giving, tail_of};
+ghost use Rattle.ec_script.specs.Reading.{nest_of, seen, began, ordered, commanded, ended_in, after_verb, phrased, headed_on, is_declaring, opens_outer, script_of, script_step, Steps};
+ghost use Rattle.ec_script.specs.Outcome.{plan_or, shown_plan};
+ghost use Rattle.ec_script.specs.Rooms.{MayOrder, MayEnd, HasRoom};
+
+use crate::command::{command_in, size_in};
+use crate::draft::Draft;
+use crate::fault::{Kind, StageFault, stage_fault};
+use crate::form::{Parts, parts_of};
+use crate::kinds::{Nest, View, or_nothing, phrase_fault};
+use crate::lists::{has_blank, push_ids};
+use crate::object::{Object, object_in};
+use crate::order::Order;
+use crate::plan::Plan;
+use crate::verb::{Verb, verb_of};
+use ec_count::WorkerId;
+use ec_machine::Program;
+use ec_text::cut_word;
+use ec_trace::Heading;
+use std::alloc::{AllocError, Global};
+use std::marker::Model;
+
+/// The most bytes that a line may have without its LF.
+const LINE_MAX: usize = 8192;
+
+/// The block of a worker that is being read.
+#[derive(Drop)]
+pub(crate) struct Block {
+    worker: WorkerId,
+    draft: Draft,
+}
+
+impl Block {
+    /// What a line sees of it.
+    fn nest(&self) -> Nest
+        ensures { result ≡ nest_of self.now }
+    {
+        Nest {
+            worker: self.worker,
+            depth: self.draft.depth(),
+            is_empty: self.draft.is_empty(),
+            many: self.draft.many(),
+        }
+    }
+}
+
+/// What the lines have built.
+#[derive(Drop)]
+pub(crate) struct Script {
+    heading: Heading,
+    named: Vec<WorkerId>,
+    programs: Vec<Program>,
+    block: Option<Block>,
+    schedule: Vec<WorkerId>,
+    alloc: Global,
+}
+
+impl Model for Script {
+    ghost use Rattle.std.specs.Prelude.{map};
+    ghost use Rattle.std.specs.Coded.{codes};
+    ghost use Rattle.ec_machine.specs.contracts.command.Command as command;
+    ghost use Rattle.ec_script.specs.contracts.order.Order as order;
+    ghost use Rattle.ec_script.specs.Flat.{flat};
+    ghost use Rattle.ec_script.specs.Scripted.{Scripted};
+
+    ghost Value = { Scripted };
+
+    ghost coded = { Prim.hlevel (codes, command.the_row.coded, order.the_row.coded) };
+
+    ghost view = { λ s. record { heading = s.heading; named = s.named.items; programs = map flat s.programs.items; block = s.block; schedule = s.schedule.items } };
+}
+
+/// The empty program.
+fn empty_program(alloc: Global) -> Program
+    ensures { result ≡ [] }
+{
+    let Some(program) = Program::new(Vec::new(alloc)) else {
+        unreachable!();
+    };
+    program
+}
+
+/// So many empty programs.
+#[tactic(auto, using(crate::proofs::Drafts::flats_none))]
+fn empty_programs(alloc: Global, n: usize) -> Result<Vec<Program>, AllocError>
+    ensures items { IfOk result (λ programs. programs.items ≡ replicate n []) }
+    ensures lines { IfOk result (λ programs. map flat programs.items ≡ replicate n []) }
+{
+    let mut programs = Vec::new(alloc);
+    for _made in 0..n {
+        programs.push(empty_program(alloc))?;
+    }
+    Ok(programs)
+}
+
+/// Puts a program at a place, where there is one.
+fn set_program(programs: &mut Vec<Program>, place: usize, program: Program)
+    ensures { map flat programs.new.items ≡ slice_set (map flat programs.old.items) place (flat program) }
+{
+    if place < programs.len() {
+        programs[place] = program;
+    }
+}
+
+impl Script {
+    /// A script of this heading, before its blocks.
+    pub(crate) fn new(alloc: Global, heading: Heading) -> Result<Self, AllocError>
+        ensures { IfOk result (λ script. script ≡ script_of heading) }
+    {
+        let programs = empty_programs(alloc, heading.setup().workers())?;
+        Ok(Script {
+            heading,
+            named: Vec::new(alloc),
+            programs,
+            block: None,
+            schedule: Vec::new(alloc),
+            alloc,
+        })
+    }
+
+    /// The block that a line stands in.
+    fn nest(&self) -> Option<Nest>
+        ensures { result ≡ option_map nest_of self.now.block }
+    {
+        match &self.block {
+            None => None,
+            Some(block) => Some(block.nest()),
+        }
+    }
+
+    /// How many names the schedule has.
+    fn scheduled(&self) -> usize
+        ensures { result ≡ length self.now.schedule }
+    {
+        self.schedule.len()
+    }
+
+    /// The least fault of a line of one of the forms, whose word for an object means this.
+    fn fault(&self, parts: &Parts<'_>, found: &Option<Object>) -> Option<Kind>
+        ensures { result ≡ phrase_fault (seen self.now) (shown parts.now) found.now }
+    {
+        let view = View {
+            heading: &self.heading,
+            named: self.named.as_slice(),
+            nest: self.nest(),
+            scheduled: self.scheduled(),
+        };
+        phrase_fault(&view, parts, *found)
+    }
+
+    /// Begins the block of a worker.
+    fn begin(&mut self, object: &Object) -> Result<(), AllocError>
+        ensures { OnOk result (self.new ≡ began self.old object.now) }
+    {
+        let Object::Worker(worker) = *object else {
+            return Ok(());
+        };
+        self.named.push(worker)?;
+        let draft = Draft::new(self.alloc);
+        self.block = Some(Block { worker, draft });
+        Ok(())
+    }
+
+    /// Takes one more line of the block.
+    fn order(&mut self, order: Order) -> Result<(), AllocError>
+        requires { MayOrder self.old.block order }
+        ensures { OnOk result (self.new ≡ ordered self.old order) }
+    {
+        let Some(block) = self.block.take() else {
+            return Ok(());
+        };
+        let Block { worker, draft } = block;
+        let mut draft = draft;
+        draft.take(order)?;
+        self.block = Some(Block { worker, draft });
+        Ok(())
+    }
+
+    /// Takes a command.
+    #[tactic(auto, using(crate::proofs::Room::may_command))]
+    fn command(&mut self, parts: &Parts<'_>, object: &Object) -> Result<(), AllocError>
+        requires numbers { is_bad_tail (tail_of parts.now.verb) parts.now.verb (rest_words parts.now.rest) object.now ≡ false }
+        requires roles { has_two_roles object.now ≡ false }
+        requires room { HasRoom self.old.block }
+        ensures { OnOk result (self.new ≡ commanded self.old (command_in parts.now.verb (is_giving parts.now.verb) object.now (rest_words parts.now.rest))) }
+    {
+        let Some(order) = command_in(self.alloc, parts, object)? else {
+            return Ok(());
+        };
+        self.order(order)
+    }
+
+    /// Ends the innermost repeat, or the block, which then is the worker's program.
+    fn end(&mut self) -> Result<(), AllocError>
+        requires { MayEnd self.old.block }
+        ensures { OnOk result (self.new ≡ ended_in self.old self.old.block) }
+    {
+        let Some(block) = self.block.take() else {
+            return Ok(());
+        };
+        let Block { worker, draft } = block;
+        if draft.depth() == 0 {
+            set_program(&mut self.programs, worker.get(), draft.finish());
+            return Ok(());
+        }
+        let mut draft = draft;
+        draft.take(Order::End)?;
+        self.block = Some(Block { worker, draft });
+        Ok(())
+    }
+
+    /// Adds names to the schedule.
+    fn extend(&mut self, rest: Option<&[u8]>) -> Result<(), AllocError>
+        ensures { OnOk result (self.new ≡ record self.old { schedule = self.old.schedule ++ ids_in self.old.heading.words (rest_words rest.entry) }) }
+    {
+        match rest {
+            None => Ok(()),
+            Some(list) => push_ids(&self.heading, list, &mut self.schedule),
+        }
+    }
+}
+
+impl Script {
+    /// Does what a line without fault says.
+    fn apply(&mut self, parts: &Parts<'_>, found: &Option<Object>) -> Result<(), AllocError>
+        requires { phrase_fault (seen self.old) (shown parts.now) found.now ≡ None }
+        ensures { OnOk result (self.new ≡ after_verb parts.now.verb self.old (or_nothing found.now) (rest_words parts.now.rest)) }
+    {
+        let object = or_nothing(*found);
+        match parts.verb {
+            Verb::Worker => self.begin(&object),
+            Verb::Schedule => self.extend(parts.rest),
+            Verb::Repeat => self.order(Order::Begin(size_in(parts.rest))),
+            Verb::End => self.end(),
+            _ => self.command(parts, &object),
+        }
+    }
+
+    /// Takes a line of one of the forms.
+    fn phrase(&mut self, parts: &Parts<'_>) -> Result<(), StageFault>
+        ensures { Steps result (phrased self.old (Some (shown parts.now))) self.new }
+    {
+        let found = object_in(&self.heading, parts);
+        if let Some(kind) = self.fault(parts, &found) {
+            return Err(StageFault::Of(kind));
+        }
+        match self.apply(parts, &found) {
+            Ok(()) => Ok(()),
+            Err(_) => Err(StageFault::Memory),
+        }
+    }
+
+    /// Takes a declaration.
+    fn declare(&mut self, line: &[u8]) -> Result<(), StageFault>
+        ensures { Steps result (headed_on self.old (head_step self.old.heading line.now)) self.new }
+    {
+        match self.heading.line(line) {
+            Ok(()) => Ok(()),
+            Err(fault) => Err(stage_fault(fault)),
+        }
+    }
+
+    /// Whether no `worker` and no `schedule` line came yet.
+    fn is_declaring(&self) -> bool
+        ensures { result ≡ is_declaring self.now }
+    {
+        self.named.is_empty() && self.schedule.is_empty()
+    }
+
+    /// Takes the next line, without its LF.
+    #[tactic(auto, unfolding(crate::specs::Reading::script_step))]
+    pub(crate) fn line(&mut self, line: &[u8]) -> Result<(), StageFault>
+        ensures { Steps result (script_step self.old line.now) self.new }
+    {
+        if self.is_declaring() && !opens_outer(line) {
+            return self.declare(line);
+        }
+        if line.len() > LINE_MAX || has_blank(line) {
+            return Err(StageFault::Of(Kind::BadLine));
+        }
+        match parts_of(line) {
+            Some(parts) => self.phrase(&parts),
+            None => Err(StageFault::Of(Kind::BadLine)),
+        }
+    }
+}
+
+/// Whether a line opens with `worker` or `schedule`.
+fn opens_outer(line: &[u8]) -> bool
+    ensures { result ≡ opens_outer (words_of line.now) }
+{
+    let (word, _) = cut_word(line);
+    match verb_of(word) {
+        Some(verb) => verb.is_outer(),
+        None => false,
+    }
+}
+
+impl Script {
+    /// The plan, where no block is open.
+    pub(crate) fn plan(self) -> Option<Plan>
+        ensures { option_map shown_plan result ≡ plan_or self self.block }
+    {
+        if self.block.is_some() {
+            return None;
+        }
+        Some(Plan {
+            heading: self.heading,
+            programs: self.programs,
+            schedule: self.schedule,
+        })
+    }
+}

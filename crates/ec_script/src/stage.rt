@@ -1,0 +1,141 @@
+//! What the lines of a script so far have built, from its first line on.
+ghost use Rattle.std.specs.Prelude.{◌≡◌, option_map};
+ghost use Rattle.ec_script.specs.Reading.{Steps, limit_digits, limit_or, LimitIs, step};
+ghost use Rattle.ec_script.specs.Outcome.{plan_in, shown_plan};
+ghost use Rattle.ec_text.specs.Words.{words_of};
+
+use crate::fault::{Kind, StageFault, stage_fault};
+use crate::plan::Plan;
+use crate::script::Script;
+use ec_count::Limit;
+use ec_text::{cut_word, is_number_form, number};
+use ec_trace::Heading;
+use std::alloc::Global;
+
+/// What the lines so far have built.
+#[derive(Drop)]
+pub(crate) enum Stage {
+    /// Nothing.
+    Opening,
+    /// The first line came.
+    Limiting,
+    /// The limit came, and the workers are due.
+    Naming(Limit),
+    /// The workers came.
+    Reading(Script),
+}
+
+/// The digits behind the word `limit`, which are all that stands there.
+#[tactic(auto, using(crate::proofs::Words::third_word))]
+fn limit_digits(line: &[u8]) -> Option<&[u8]>
+    ensures { option_map (λ w. w.now) result ≡ limit_digits (words_of line.now) }
+{
+    let (word, Some(rest)) = cut_word(line) else {
+        return None;
+    };
+    let (digits, None) = cut_word(rest) else {
+        return None;
+    };
+    if word == b"limit".as_slice() && is_number_form(digits) {
+        Some(digits)
+    } else {
+        None
+    }
+}
+
+/// The limit that a line gives.
+fn limit_of(line: &[u8]) -> Result<Limit, Kind>
+    ensures { LimitIs result (limit_or (limit_digits (words_of line.now))) }
+{
+    let Some(digits) = limit_digits(line) else {
+        return Err(Kind::BadLine);
+    };
+    let Some(n) = number(digits) else {
+        return Err(Kind::BadNumber);
+    };
+    match Limit::new(n) {
+        Some(limit) => Ok(limit),
+        None => Err(Kind::BadNumber),
+    }
+}
+
+impl Stage {
+    /// Takes the first line.
+    #[tactic(auto, unfolding(crate::specs::Reading::step))]
+    fn open(&mut self, line: &[u8]) -> Result<(), StageFault>
+        requires { self.old ≡ Stage.Opening }
+        ensures { Steps result (step self.old line.now) self.new }
+    {
+        if line == b"evc-script 1".as_slice() {
+            *self = Stage::Limiting;
+            Ok(())
+        } else {
+            Err(StageFault::Of(Kind::BadHeader))
+        }
+    }
+
+    /// Takes the line of the limit.
+    #[tactic(auto, unfolding(crate::specs::Reading::step, crate::specs::Reading::limit_step))]
+    fn limit(&mut self, line: &[u8]) -> Result<(), StageFault>
+        requires { self.old ≡ Stage.Limiting }
+        ensures { Steps result (step self.old line.now) self.new }
+    {
+        if line.len() > 8192 {
+            return Err(StageFault::Of(Kind::BadLine));
+        }
+        match limit_of(line) {
+            Ok(limit) => {
+                *self = Stage::Naming(limit);
+                Ok(())
+            }
+            Err(kind) => Err(StageFault::Of(kind)),
+        }
+    }
+
+    /// Takes the line of the workers.
+    #[tactic(auto, unfolding(crate::specs::Reading::step))]
+    fn name(&mut self, alloc: Global, limit: Limit, line: &[u8]) -> Result<(), StageFault>
+        requires { self.old ≡ Stage.Naming limit }
+        ensures { Steps result (step self.old line.now) self.new }
+    {
+        let Ok(mut heading) = Heading::new(alloc, limit) else {
+            return Err(StageFault::Memory);
+        };
+        if let Err(fault) = heading.line(line) {
+            return Err(stage_fault(fault));
+        }
+        let Ok(script) = Script::new(alloc, heading) else {
+            return Err(StageFault::Memory);
+        };
+        *self = Stage::Reading(script);
+        Ok(())
+    }
+
+    /// Takes the next line, without its LF.
+    #[tactic(auto, unfolding(crate::specs::Reading::step))]
+    pub(crate) fn line(&mut self, alloc: Global, line: &[u8]) -> Result<(), StageFault>
+        ensures { Steps result (step self.old line.now) self.new }
+    {
+        match self {
+            Stage::Reading(script) => script.line(line),
+            Stage::Naming(limit) => {
+                let limit = *limit;
+                self.name(alloc, limit, line)
+            }
+            Stage::Opening => self.open(line),
+            Stage::Limiting => self.limit(line),
+        }
+    }
+}
+
+impl Stage {
+    /// The plan, where the text may end here.
+    pub(crate) fn plan(self) -> Option<Plan>
+        ensures { option_map shown_plan result ≡ plan_in self }
+    {
+        match self {
+            Stage::Reading(script) => script.plan(),
+            Stage::Opening | Stage::Limiting | Stage::Naming(_) => None,
+        }
+    }
+}

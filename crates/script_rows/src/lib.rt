@@ -1,0 +1,11 @@
+//! Tests of scripts: worked ones, each fault of their lines, and texts that end early.
+#![tactic(auto)]
+
+#[cfg(test)]
+mod drive;
+#[cfg(test)]
+mod ending_tests;
+#[cfg(test)]
+mod fault_tests;
+#[cfg(test)]
+mod plan_tests;
