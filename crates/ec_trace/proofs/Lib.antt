@@ -30,6 +30,7 @@ pub mod SpelledLines
 pub mod Standing
 pub mod Stops
 pub mod WorkersLine
+pub mod FrontLemmas
 pub mod EntryParts
 pub mod Places
 pub mod LineParts

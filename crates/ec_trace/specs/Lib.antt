@@ -15,6 +15,7 @@ pub mod Recalled
 pub mod Spelled
 pub mod WordTables
 pub mod Entries
+pub mod Fronts
 pub mod Recounted
 pub mod Step
 pub mod Outcome

@@ -4,6 +4,7 @@
 mod entry;
 mod fault;
 mod form;
+mod fronts;
 mod group;
 mod heading;
 mod kinds;

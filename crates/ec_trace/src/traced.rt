@@ -1,8 +1,8 @@
 //! A heading and a run on it.
 ghost use Rattle.std.specs.Prelude.{◌≡◌, [], IfOk};
 
-use crate::entry::read_entry;
 use crate::fault::{LineFault, StageFault};
+use crate::fronts::Fronts;
 use crate::heading::Heading;
 use ec_core::{Run, StepFault};
 use std::alloc::{AllocError, Global};
@@ -13,17 +13,19 @@ use std::marker::Model;
 pub struct Traced {
     run: Run,
     heading: Heading,
+    fronts: Fronts,
 }
 
 impl Model for Traced {
     ghost use Rattle.std.specs.Prelude.{◌≡◌};
+    ghost use Rattle.ec_trace.specs.Fronts.{AreKept};
     ghost use Rattle.ec_trace.specs.Recounted.{Recounted};
 
     ghost Value = { Recounted };
 
     ghost view = { λ t. record { heading = t.heading; entries = t.run.entries } };
 
-    ghost invariant = { λ t. t.run.setup ≡ t.heading.setup };
+    ghost invariant = { λ t. (t.run.setup ≡ t.heading.setup) × AreKept t.heading.words t.fronts.slots };
 }
 
 impl Traced {
@@ -34,7 +36,11 @@ impl Traced {
         ensures { IfOk result (λ traced. traced ≡ record { heading = heading; entries = [] }) }
     {
         let run = Run::open(alloc, heading.setup().copy())?;
-        Ok(Traced { run, heading })
+        Ok(Traced {
+            run,
+            heading,
+            fronts: Fronts::none(),
+        })
     }
 
     /// What the trace declares.
@@ -56,7 +62,7 @@ impl Traced {
     pub(crate) fn line(&mut self, line: &[u8]) -> Result<(), StageFault>
         ensures { Steps result (entry_step self.old line.now) self.new }
     {
-        let Some(entry) = read_entry(&self.heading, line) else {
+        let Some(entry) = self.fronts.read(&self.heading, line) else {
             return Err(StageFault::Line(LineFault::Bad));
         };
         match self.run.step(entry.worker, entry.act) {

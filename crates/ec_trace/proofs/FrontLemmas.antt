@@ -1,0 +1,284 @@
+-- A line is cut before its last word; and what an entry's front tells of one reply it tells of each.
+use Rattle.std.proofs.Common.{◌≡◌, ℕ, zero, suc, replicate, ◌+◌, ◌-◌, ◌<◌, ◌≤◌, List, [], ◌∷◌, ◌++◌, length, take, drop, get_or, Bool, true, false, cond, eqb, Option, None, Some, refl, sym, ap, subst, ◌∙◌, arith, codes, add-one, drop-cons, length-drop, ne_eqb, true≢false, inl, inr, ◌⊎◌}
+use Rattle.std.specs.Prelude.{bytes_eq, slice_get, slice_set, ◌==◌}
+use Rattle.std.specs.List.{All, slice_split, onto_first}
+use Rattle.std.proofs.lemmas.List.{take-append-drop, take_all, get_or-drop}
+use Rattle.std.proofs.lemmas.List.Elements.{All-from_get_or}
+use Rattle.std.proofs.lemmas.Slice.Eq.{bytes_eq-Decides}
+use Rattle.ec_core.proofs.Places.{get_set}
+use Rattle.ec_core.specs.declared.act.Act.{Act}
+use Rattle.ec_core.specs.declared.act.Act.TheVariants as acts
+use Rattle.ec_core.specs.declared.act.Reply.{Reply}
+use Rattle.ec_core.specs.declared.act.Reply.TheVariants.{Done, Pending}
+use Rattle.ec_core.specs.declared.act.Entry.{Entry}
+use Rattle.ec_text.specs.Words.{words_of, number_of, IsWord}
+use Rattle.ec_text.proofs.WordLemmas.{HasFirst, has_first, words_alone, literal_word}
+use Rattle.ec_text.proofs.NumberLemmas.{guarded}
+use Rattle.ec_trace.specs.Spelled.{Named, event_in, sequencer_in, cell_in_word}
+use Rattle.ec_trace.specs.Lists.{worker_in}
+use Rattle.ec_trace.specs.Entries.{◌>>=◌, act_alone, act_on, act_with, reply_of, entry_by, entry_in, entry_of}
+use Rattle.ec_trace.specs.Fronts.{with_reply, with_value, with_both, is_valued, headed, HasFront, HasValue, EndsIn, Tells, TellsWhole, TellsValued, AreKept}
+use Rattle.ec_trace.specs.declared.fronts.Front.{Front}
+
+-- as the code's `&line[..i]` and `&line[i + 1..]` say it
+pub last_whole : (line : List ℕ) (i : ℕ) → i < length line → get_or line i 0 ≡ 32 → line ≡ take i line ++ 32 ∷ take (length line - (i + 1)) (drop (i + 1) line)
+last_whole line i within at =
+    let e : take (length line - (i + 1)) (drop (i + 1) line) ≡ drop (i + 1) line = take_all _ _ (omega (arith, length-drop (i + 1) line)) in
+    let f : drop i line ≡ 32 ∷ drop (i + 1) line = rw (add-one, drop-cons line i 0) (rw at) in
+    sym (take-append-drop i line) ∙ ap (λ (r : List ℕ). take i line ++ r) (f ∙ ap (λ (r : List ℕ). 32 ∷ r) (sym e))
+
+pub last_word : (line : List ℕ) (i : ℕ) → i < length line → ((k : ℕ) → i + 1 ≤ k → k < length line → get_or line k 0 ≡ 32 → ⊥) → IsWord (take (length line - (i + 1)) (drop (i + 1) line))
+last_word line i within none =
+    let e : take (length line - (i + 1)) (drop (i + 1) line) ≡ drop (i + 1) line = take_all _ _ (omega (arith, length-drop (i + 1) line)) in
+    subst IsWord (sym e) (All-from_get_or (λ b. eqb b 32 ≡ false) (drop (i + 1) line) 0 (λ k h.
+    ne_eqb _ _ (λ at. none (i + 1 + k) (omega arith) (omega (arith, length-drop (i + 1) line)) (sym (get_or-drop (i + 1) line k 0) ∙ at))))
+
+pub ruleset last_cuts = (last_whole, last_word)
+
+onto_front : (b : ℕ) (ws vs : List (List ℕ)) (w : List ℕ) → onto_first b ((w ∷ ws) ++ vs) ≡ onto_first b (w ∷ ws) ++ vs
+onto_front b ws vs w = refl
+
+onto_any : (b : ℕ) (xs : List ℕ) (vs : List (List ℕ)) → onto_first b (words_of xs ++ vs) ≡ onto_first b (words_of xs) ++ vs
+onto_any b xs vs = let r : HasFirst xs = has_first xs in rw r.is refl
+
+step_split : (t : Bool) (b : ℕ) (xs : List ℕ) (vs : List (List ℕ)) → cond t ([] ∷ (words_of xs ++ vs)) (onto_first b (words_of xs ++ vs)) ≡ cond t ([] ∷ words_of xs) (onto_first b (words_of xs)) ++ vs
+step_split true b xs vs = refl
+step_split false b xs vs = onto_any b xs vs
+
+-- the words before a space, and those behind it
+pub words_behind : (xs ys : List ℕ) → words_of (xs ++ 32 ∷ ys) ≡ words_of xs ++ words_of ys
+words_behind [] ys = refl
+words_behind (b ∷ xs) ys =
+    ap (λ (ws : List (List ℕ)). cond (eqb b 32) ([] ∷ ws) (onto_first b ws)) (words_behind xs ys) ∙ step_split (eqb b 32) b xs (words_of ys)
+
+bound : {A B : Type 0} (o : Option A) (f : A → Option B) (y : B) → (o >>= f) ≡ Some y → (x : A) × (o ≡ Some x) × (f x ≡ Some y)
+bound None f y e = cc
+bound (Some x) f y e = (x, refl, e)
+
+replied : (w : ℕ) (a : Act) (o : Option Reply) → (o >>= λ reply. Some (record { worker = w; act = a; reply = reply })) ≡ with_reply w a o
+replied w a None = refl
+replied w a (Some r) = refl
+
+by_parts : (names : Named) (w : List ℕ) (o : Option Act) (equals r : List ℕ) (v : ℕ) (a : Act) → o ≡ Some a → worker_in names w ≡ Some v → bytes_eq equals (codes "=") ≡ true
+    → entry_by names w o equals r ≡ with_reply v a (reply_of r)
+unfolding entry_by
+by_parts names w o equals r v a what who sign = rw (what, who, sign) (replied v a (reply_of r))
+
+by_front : (names : Named) (w : List ℕ) (o : Option Act) (equals answer : List ℕ) (e : Entry) → entry_by names w o equals answer ≡ Some e
+    → (r : List ℕ) → entry_by names w o equals r ≡ with_reply e.worker e.act (reply_of r)
+unfolding entry_by
+by_front names w o equals answer e h r =
+    let a = bound o _ e h in
+    let v = bound (worker_in names w) _ e a.2 in
+    let g = guarded (bytes_eq equals (codes "=")) _ e v.2 in
+    let q = bound (reply_of answer) _ e g.1 in
+    let is : record { worker = v.0; act = a.0; reply = q.0 } ≡ e = cc in
+    by_parts names w o equals r v.0 a.0 a.1 v.1 g.0 ∙ ap (λ (x : Entry). with_reply x.worker x.act (reply_of r)) is
+
+in_front : (names : Named) (ws : List (List ℕ)) (answer : List ℕ) (e : Entry) → entry_in names (ws ++ answer ∷ []) ≡ Some e
+    → (r : List ℕ) → entry_in names (ws ++ r ∷ []) ≡ with_reply e.worker e.act (reply_of r)
+unfolding entry_in
+in_front names [] answer e h r = cc
+in_front names (a ∷ []) answer e h r = cc
+in_front names (a ∷ b ∷ []) answer e h r = cc
+in_front names (w ∷ verb ∷ equals ∷ []) answer e h r = by_front names w (act_alone verb) equals answer e h r
+in_front names (w ∷ verb ∷ object ∷ equals ∷ []) answer e h r = by_front names w (act_on names verb object) equals answer e h r
+in_front names (w ∷ verb ∷ object ∷ value ∷ equals ∷ []) answer e h r = by_front names w (act_with names verb object value) equals answer e h r
+in_front names (a ∷ b ∷ c ∷ d ∷ f ∷ g ∷ []) answer e h r = cc
+in_front names (a ∷ b ∷ c ∷ d ∷ f ∷ g ∷ k ∷ ws) answer e h r = cc
+
+lined : (front answer : List ℕ) → IsWord answer → words_of (front ++ 32 ∷ answer) ≡ words_of front ++ answer ∷ []
+lined front answer word = words_behind front answer ∙ ap (λ (vs : List (List ℕ)). words_of front ++ vs) (words_alone answer word)
+
+-- a front without a value that one entry has tells that entry's worker and act
+pub tells : (names : Named) (line front : List ℕ) (e : Entry) → HasFront line front → entry_of names line ≡ Some e → is_valued e.act ≡ false → Tells names front e.worker e.act
+unfolding entry_of
+tells names line front e has h unvalued =
+    let one : entry_in names (words_of front ++ has.0 ∷ []) ≡ Some e = sym (ap (entry_in names) (ap words_of has.1 ∙ lined front has.0 has.2)) ∙ h in
+    record {
+      whole = λ _ r plain. ap (entry_in names) (lined front r plain) ∙ in_front names (words_of front) has.0 e one r;
+      valued = λ valued. absurd (true≢false (sym valued ∙ unvalued));
+    }
+
+-- VALUES
+
+either : {X : Type 0} (b : Bool) (x y : Option X) (m : X) → cond b x y ≡ Some m → ((b ≡ true) × (x ≡ Some m)) ⊎ (y ≡ Some m)
+either true x y m e = inl (refl, e)
+either false x y m e = inr e
+
+alone_unvalued : (verb : List ℕ) (a : Act) → act_alone verb ≡ Some a → is_valued a ≡ false
+unfolding act_alone
+alone_unvalued verb a h =
+    let g = guarded (bytes_eq verb (codes "go")) (Some acts.Go) a h in
+    let is : acts.Go ≡ a = cc in
+    sym (ap is_valued is)
+
+on_unvalued : (names : Named) (verb object : List ℕ) (a : Act) → act_on names verb object ≡ Some a → is_valued a ≡ false
+unfolding act_on
+on_unvalued names verb object a h = elim (either (bytes_eq verb (codes "advance")) _ _ a h) [
+  | inl k ↦ (let e = bound (event_in names object) (λ e. Some (acts.Advance e)) a k.1 in let is : acts.Advance e.0 ≡ a = cc in sym (ap is_valued is))
+  | inr h2 ↦ elim (either (bytes_eq verb (codes "read")) _ _ a h2) [
+    | inl k ↦ (let e = bound (event_in names object) (λ e. Some (acts.Read e)) a k.1 in let is : acts.Read e.0 ≡ a = cc in sym (ap is_valued is))
+    | inr h3 ↦ elim (either (bytes_eq verb (codes "ticket")) _ _ a h3) [
+      | inl k ↦ (let q = bound (sequencer_in names object) (λ q. Some (acts.Ticket q)) a k.1 in let is : acts.Ticket q.0 ≡ a = cc in sym (ap is_valued is))
+      | inr h4 ↦
+          let k = guarded (bytes_eq verb (codes "get")) _ a h4 in
+          let x = bound (cell_in_word names object) (λ x. Some (acts.Get x)) a k.1 in
+          let is : acts.Get x.0 ≡ a = cc in
+          sym (ap is_valued is)
+    ]
+  ]
+]
+
+abbrev valued_by : Act → Option ℕ → Option Act
+valued_by a None = None
+valued_by a (Some n) = Some (with_value a n)
+
+await_valued : (e m : ℕ) (o : Option ℕ) → (o >>= λ n. Some (acts.Await e n)) ≡ valued_by (acts.Await e m) o
+await_valued e m None = refl
+await_valued e m (Some n) = refl
+
+put_valued : (x m : ℕ) (o : Option ℕ) → (o >>= λ n. Some (acts.Put x n)) ≡ valued_by (acts.Put x m) o
+put_valued x m None = refl
+put_valued x m (Some n) = refl
+
+await_so : (names : Named) (verb object v : List ℕ) (e m : ℕ) → bytes_eq verb (codes "await") ≡ true → event_in names object ≡ Some e → act_with names verb object v ≡ valued_by (acts.Await e m) (number_of v)
+unfolding act_with
+await_so names verb object v e m is found = rw (is, found) (await_valued e m (number_of v))
+
+put_so : (names : Named) (verb object v : List ℕ) (x m : ℕ) → bytes_eq verb (codes "await") ≡ false → bytes_eq verb (codes "put") ≡ true → cell_in_word names object ≡ Some x → act_with names verb object v ≡ valued_by (acts.Put x m) (number_of v)
+unfolding act_with
+put_so names verb object v x m other is found = rw (other, is, found) (put_valued x m (number_of v))
+
+-- an act with one value shows the act with each
+with_act : (names : Named) (verb object value : List ℕ) (a : Act) → act_with names verb object value ≡ Some a → (v : List ℕ) → act_with names verb object v ≡ valued_by a (number_of v)
+unfolding act_with
+with_act names verb object value a h v = elim (either (bytes_eq verb (codes "await")) _ _ a h) [
+  | inl k ↦
+      let e = bound (event_in names object) (λ e. number_of value >>= λ v. Some (acts.Await e v)) a k.1 in
+      let n = bound (number_of value) (λ v. Some (acts.Await e.0 v)) a e.2 in
+      let is : acts.Await e.0 n.0 ≡ a = cc in
+      await_so names verb object v e.0 n.0 k.0 e.1 ∙ ap (λ (x : Act). valued_by x (number_of v)) is
+  | inr h2 ↦
+      let k = guarded (bytes_eq verb (codes "put")) _ a h2 in
+      let x = bound (cell_in_word names object) (λ x. number_of value >>= λ v. Some (acts.Put x v)) a k.1 in
+      let n = bound (number_of value) (λ v. Some (acts.Put x.0 v)) a x.2 in
+      let is : acts.Put x.0 n.0 ≡ a = cc in
+      let other : bytes_eq verb (codes "await") ≡ false = ap (λ (w : List ℕ). bytes_eq w (codes "await")) ((bytes_eq-Decides verb (codes "put")).0 k.0) in
+      put_so names verb object v x.0 n.0 other k.0 x.1 ∙ ap (λ (y : Act). valued_by y (number_of v)) is
+]
+
+-- what an entry shows of its worker and its act
+record Shows (names : Named) (w : List ℕ) (o : Option Act) (e : Entry) : Type 0 where
+  act : o ≡ Some e.act
+  who : worker_in names w ≡ Some e.worker
+
+shows : (names : Named) (w : List ℕ) (o : Option Act) (equals answer : List ℕ) (e : Entry) → entry_by names w o equals answer ≡ Some e → Shows names w o e
+unfolding entry_by
+shows names w o equals answer e h =
+    let a = bound o _ e h in
+    let v = bound (worker_in names w) _ e a.2 in
+    let g = guarded (bytes_eq equals (codes "=")) _ e v.2 in
+    let q = bound (reply_of answer) _ e g.1 in
+    let is : record { worker = v.0; act = a.0; reply = q.0 } ≡ e = cc in
+    record {
+      act = a.1 ∙ ap (λ (x : Entry). Some x.act) is;
+      who = v.1 ∙ ap (λ (x : Entry). Some x.worker) is;
+    }
+
+by_both : (names : Named) (w r : List ℕ) (v : ℕ) (a : Act) (o : Option ℕ) → worker_in names w ≡ Some v → entry_by names w (valued_by a o) (codes "=") r ≡ with_both v a o (reply_of r)
+unfolding entry_by
+by_both names w r v a None who = refl
+by_both names w r v a (Some n) who = rw who (replied v (with_value a n) (reply_of r))
+
+in_opening : (names : Named) (ws : List (List ℕ)) (value answer : List ℕ) (e : Entry) → is_valued e.act ≡ true → entry_in names (((ws ++ value ∷ []) ++ codes "=" ∷ []) ++ answer ∷ []) ≡ Some e
+    → (v r : List ℕ) → entry_in names (((ws ++ v ∷ []) ++ codes "=" ∷ []) ++ r ∷ []) ≡ with_both e.worker e.act (number_of v) (reply_of r)
+unfolding entry_in
+in_opening names [] value answer e valued h v r = cc
+in_opening names (w ∷ []) value answer e valued h v r =
+    let s = shows names w (act_alone value) (codes "=") answer e h in
+    absurd (true≢false (sym valued ∙ alone_unvalued value e.act s.act))
+in_opening names (w ∷ verb ∷ []) value answer e valued h v r =
+    let s = shows names w (act_on names verb value) (codes "=") answer e h in
+    absurd (true≢false (sym valued ∙ on_unvalued names verb value e.act s.act))
+in_opening names (w ∷ verb ∷ object ∷ []) value answer e valued h v r =
+    let s = shows names w (act_with names verb object value) (codes "=") answer e h in
+    ap (λ (o : Option Act). entry_by names w o (codes "=") r) (with_act names verb object value e.act s.act v) ∙ by_both names w r e.worker e.act (number_of v) s.who
+in_opening names (a ∷ b ∷ c ∷ d ∷ []) value answer e valued h v r = cc
+in_opening names (a ∷ b ∷ c ∷ d ∷ f ∷ []) value answer e valued h v r = cc
+in_opening names (a ∷ b ∷ c ∷ d ∷ f ∷ g ∷ []) value answer e valued h v r = cc
+in_opening names (a ∷ b ∷ c ∷ d ∷ f ∷ g ∷ k ∷ ws) value answer e valued h v r = cc
+
+lined_value : (opening value answer : List ℕ) → IsWord value → IsWord answer → words_of (headed opening value ++ 32 ∷ answer) ≡ ((words_of opening ++ value ∷ []) ++ codes "=" ∷ []) ++ answer ∷ []
+lined_value opening value answer v r =
+    lined (headed opening value) answer r ∙ ap (λ (ws : List (List ℕ)). ws ++ answer ∷ []) (lined (opening ++ 32 ∷ value) (codes "=") (literal_word (codes "=") refl)
+    ∙ ap (λ (ws : List (List ℕ)). ws ++ codes "=" ∷ []) (lined opening value v))
+
+-- an opening that one entry has, whose act has a value
+pub opens : (names : Named) (line front opening value : List ℕ) (e : Entry) → HasFront line front → HasValue front opening value → entry_of names line ≡ Some e → is_valued e.act ≡ true → Tells names opening e.worker e.act
+unfolding entry_of
+opens names line front opening value e has cut h valued =
+    let is : line ≡ headed opening value ++ 32 ∷ has.0 = has.1 ∙ ap (λ (f : List ℕ). f ++ 32 ∷ has.0) cut.0 in
+    let one : entry_in names (((words_of opening ++ value ∷ []) ++ codes "=" ∷ []) ++ has.0 ∷ []) ≡ Some e = sym (ap (entry_in names) (ap words_of is ∙ lined_value opening value has.0 cut.1 has.2)) ∙ h in
+    record {
+      whole = λ unvalued. absurd (true≢false (sym valued ∙ unvalued));
+      valued = λ _ v r p q. ap (entry_in names) (lined_value opening v r p q) ∙ in_opening names (words_of opening) value has.0 e valued one v r;
+    }
+
+-- a known opening, and the value and the reply behind it
+pub opened : (names : Named) (line front opening value : List ℕ) (w : ℕ) (a : Act) (r : Reply) → EndsIn line front r → HasValue front opening value → TellsValued names opening w a
+    → entry_of names line ≡ with_both w a (number_of value) (Some r)
+opened names line front opening value w a r ends cut tell =
+    let is : line ≡ headed opening value ++ 32 ∷ ends.0 = ends.1 ∙ ap (λ (f : List ℕ). f ++ 32 ∷ ends.0) cut.0 in
+    ap (entry_of names) is ∙ tell value ends.0 cut.1 ends.2 ∙ ap (with_both w a (number_of value)) ends.3
+
+-- what stands before a reply that was found at the end
+before : (line front tail : List ℕ) → bytes_eq (drop (length line - length tail) line) tail ≡ true → front ≡ take (length line - length tail) line → line ≡ front ++ tail
+before line front tail same is =
+    sym (take-append-drop (length line - length tail) line) ∙ ap (λ (r : List ℕ). take (length line - length tail) line ++ r) ((bytes_eq-Decides _ _).0 same) ∙ ap (λ (r : List ℕ). r ++ tail) (sym is)
+
+pub ends_done : (line front : List ℕ) → bytes_eq (drop (length line - length (codes " done")) line) (codes " done") ≡ true → front ≡ take (length line - length (codes " done")) line → EndsIn line front Done
+unfolding reply_of
+ends_done line front same is = (codes "done", before line front (codes " done") same is, literal_word (codes "done") refl, refl)
+
+pub ends_pending : (line front : List ℕ) → bytes_eq (drop (length line - length (codes " pending")) line) (codes " pending") ≡ true → front ≡ take (length line - length (codes " pending")) line → EndsIn line front Pending
+unfolding reply_of
+ends_pending line front same is = (codes "pending", before line front (codes " pending") same is, literal_word (codes "pending") refl, refl)
+
+pub ends_so : (line front answer : List ℕ) (r : Reply) → line ≡ front ++ 32 ∷ answer → IsWord answer → reply_of answer ≡ Some r → EndsIn line front r
+ends_so line front answer r is word told = (answer, is, word, told)
+
+pub ruleset ends = (ends_done, ends_pending, ends_so)
+
+pub has_front : (line front : List ℕ) (r : Reply) → EndsIn line front r → HasFront line front
+has_front line front r ends = (ends.0, ends.1, ends.2)
+
+-- a known front, and the reply behind it
+pub told : (names : Named) (line front : List ℕ) (w : ℕ) (a : Act) (r : Reply) → EndsIn line front r → TellsWhole names front w a → entry_of names line ≡ Some (record { worker = w; act = a; reply = r })
+told names line front w a r ends tell = ap (entry_of names) ends.1 ∙ tell ends.0 ends.2 ∙ ap (with_reply w a) ends.3
+
+pub value_so : (front head opening value : List ℕ) → bytes_eq (drop (length front - length (codes " =")) front) (codes " =") ≡ true → head ≡ take (length front - length (codes " =")) front → head ≡ opening ++ 32 ∷ value → IsWord value → HasValue front opening value
+value_so front head opening value same is cut word = (before front head (codes " =") same is ∙ ap (λ (h : List ℕ). h ++ codes " =") cut, word)
+
+pub ruleset values = (value_so)
+
+kept_at : (names : Named) (b : Bool) (o : Option (Option Front)) (f g : Front) → cond b (Some (Some f)) o ≡ Some (Some g) → Tells names (take f.len f.bytes) f.worker f.act
+    → (o ≡ Some (Some g) → Tells names (take g.len g.bytes) g.worker g.act) → Tells names (take g.len g.bytes) g.worker g.act
+kept_at names true o f g h new old = (let is : f ≡ g = cc in subst (λ (x : Front). Tells names (take x.len x.bytes) x.worker x.act) is new)
+kept_at names false o f g h new old = old h
+
+-- one more front is kept, perhaps in the place of another
+pub kept : (names : Named) (fronts : List (Option Front)) (place : ℕ) (f : Front) → place < length fronts → AreKept names fronts → Tells names (take f.len f.bytes) f.worker f.act
+    → AreKept names (slice_set fronts place (Some f))
+kept names fronts place f within all new i g at = kept_at names (place == i) (slice_get fronts i) f g (sym (get_set fronts place i (Some f) within) ∙ at) new (all i g)
+
+-- a front with other bytes, which are the same
+pub told_of : (names : Named) (front : List ℕ) (f : Front) (e : Entry) → take f.len f.bytes ≡ front → f.worker ≡ e.worker → f.act ≡ e.act → Tells names front e.worker e.act
+    → Tells names (take f.len f.bytes) f.worker f.act
+told_of names front f e is who what new = rw (is, who, what) new
+
+-- no front is kept yet
+pub none_kept : (names : Named) (n : ℕ) → AreKept names (replicate n None)
+none_kept names zero i f at = cc
+none_kept names (suc n) zero f at = cc
+none_kept names (suc n) (suc i) f at = none_kept names n i f at

@@ -1,0 +1,313 @@
+//! Fronts of entries, each read once.
+//!
+//! The front of an entry is its line up to the space before the reply. But for the values in them, the entries of a
+//! trace have few different fronts, so that one which was read lately is found again by its bytes: then the reply alone
+//! is read anew, and the value of an await or a put.
+ghost use Rattle.std.specs.Prelude.{◌≡◌, ◌≤◌, ℕ, List, Some, ◌++◌, ◌∷◌, IfSome, IsTrue, length, take};
+ghost use Rattle.ec_text.specs.Words.{IsWord};
+ghost use Rattle.ec_trace.specs.Entries.{entry_of};
+ghost use Rattle.ec_trace.specs.Fronts.{HasFront, HasValue, EndsIn, Tells, TellsWhole, TellsValued, AreKept, is_valued, with_value, with_both};
+ghost use Rattle.ec_trace.specs.Spelled.{Named};
+
+use crate::entry::{read_entry, reply_of};
+use crate::heading::Heading;
+use ec_core::{Act, Entry, Reply};
+use ec_count::WorkerId;
+use ec_text::number;
+
+/// A front of at most 32 bytes, and the worker and the act of each entry with this front. Of an await or a put it is what
+/// stands before the value, and the act has any value.
+#[derive(Clone, Copy)]
+pub(crate) struct Front {
+    bytes: [u8; 32],
+    len: u8,
+    worker: WorkerId,
+    act: Act,
+}
+
+impl Front {
+    /// The front with these bytes, if they are not too many.
+    fn of(bytes: &[u8], entry: &Entry) -> Option<Front>
+        ensures bytes { IfSome result (λ f. take f.len f.bytes ≡ bytes.now) }
+        ensures worker { IfSome result (λ f. f.worker ≡ entry.now.worker) }
+        ensures act { IfSome result (λ f. f.act ≡ entry.now.act) }
+    {
+        let len = bytes.len();
+        if len > 32 {
+            return None;
+        }
+        let mut held = [0u8; 32];
+        held[..len].copy_from_slice(bytes);
+        Some(Front {
+            bytes: held,
+            len: len as u8,
+            worker: entry.worker,
+            act: entry.act,
+        })
+    }
+
+    /// Whether this is the front with these bytes.
+    #[inline(always)]
+    fn has(&self, bytes: &[u8]) -> bool
+        ensures { IsTrue result → take self.now.len self.now.bytes ≡ bytes.now }
+    {
+        let len = self.len as usize;
+        len <= 32 && &self.bytes[..len] == bytes
+    }
+}
+
+/// The fronts that were read lately, each at one of two places that its bytes give.
+#[derive(Drop)]
+pub(crate) struct Fronts {
+    pub(crate) slots: [Option<Front>; 512],
+}
+
+impl Fronts {
+    /// No fronts.
+    pub(crate) fn none() -> Self
+        ensures { (names : Named) → AreKept names result.slots }
+    {
+        Fronts { slots: [None; 512] }
+    }
+
+    /// The front at a place, where it has these bytes: its worker and act.
+    #[inline(always)]
+    fn at(&self, place: usize, front: &[u8]) -> Option<(WorkerId, Act)>
+        ensures { (names : Named) → AreKept names self.now.slots → IfSome result (λ p. Tells names front.now p.0 p.1) }
+    {
+        match &self.slots[place % 512] {
+            Some(known) if known.has(front) => Some((known.worker, known.act)),
+            _ => None,
+        }
+    }
+
+    /// The worker and the act of a front, where it was read lately.
+    #[inline(always)]
+    fn find(&self, front: &[u8]) -> Option<(WorkerId, Act)>
+        ensures { (names : Named) → AreKept names self.now.slots → IfSome result (λ p. Tells names front.now p.0 p.1) }
+    {
+        let place = mark(front);
+        match self.at(place, front) {
+            Some(known) => Some(known),
+            None => self.at(place ^ 1, front),
+        }
+    }
+
+    /// Keeps the front of an entry.
+    #[tactic(auto, using(crate::proofs::FrontLemmas::kept, crate::proofs::FrontLemmas::told_of))]
+    fn keep(&mut self, front: &[u8], entry: &Entry)
+        ensures { (names : Named) → AreKept names self.old.slots → Tells names front.now entry.now.worker entry.now.act → AreKept names self.new.slots }
+    {
+        let Some(known) = Front::of(front, entry) else {
+            return;
+        };
+        let place = mark(front);
+        let place = if self.slots[place % 512].is_some() {
+            place ^ 1
+        } else {
+            place
+        };
+        self.slots[place % 512] = Some(known);
+    }
+
+    /// Keeps the front of an entry, or what stands in it before the value.
+    #[tactic(auto, using(crate::proofs::FrontLemmas::tells, crate::proofs::FrontLemmas::opens))]
+    fn keep_part(&mut self, front: &[u8], entry: &Entry)
+        ensures { (names : Named) (line : List ℕ) → AreKept names self.old.slots → HasFront line front.now → entry_of names line ≡ Some entry.now → AreKept names self.new.slots }
+    {
+        if !is_valued(&entry.act) {
+            self.keep(front, entry);
+            return;
+        }
+        let Some((opening, _value)) = cut_value(front) else {
+            return;
+        };
+        self.keep(opening, entry);
+    }
+
+    /// The entry that a line spells, whose front is kept.
+    #[cold]
+    #[inline(never)]
+    fn read_anew(&mut self, heading: &Heading, line: &[u8], front: &[u8]) -> Option<Entry>
+        requires { HasFront line.now front.now }
+        ensures value { result ≡ entry_of heading.now.words line.now }
+        ensures kept { AreKept heading.now.words self.old.slots → AreKept heading.now.words self.new.slots }
+    {
+        let entry = read_entry(heading, line)?;
+        self.keep_part(front, &entry);
+        Some(entry)
+    }
+
+    /// The worker and the act of a front without a value, where it was read lately.
+    #[inline(always)]
+    fn find_whole(&self, front: &[u8]) -> Option<(WorkerId, Act)>
+        ensures { (names : Named) → AreKept names self.now.slots → IfSome result (λ p. TellsWhole names front.now p.0 p.1) }
+    {
+        let (worker, act) = self.find(front)?;
+        if is_valued(&act) {
+            return None;
+        }
+        Some((worker, act))
+    }
+
+    /// The worker and an act of what stands before a value, where it was read lately.
+    #[inline(always)]
+    fn find_opening(&self, opening: &[u8]) -> Option<(WorkerId, Act)>
+        ensures { (names : Named) → AreKept names self.now.slots → IfSome result (λ p. TellsValued names opening.now p.0 p.1) }
+    {
+        let (worker, act) = self.find(opening)?;
+        if !is_valued(&act) {
+            return None;
+        }
+        Some((worker, act))
+    }
+
+    /// The entry that a line spells whose front was not read lately, but perhaps what stands in it before a value.
+    #[inline(never)]
+    #[tactic(auto, using(crate::proofs::FrontLemmas::has_front, crate::proofs::FrontLemmas::opened))]
+    fn read_value(
+        &mut self,
+        heading: &Heading,
+        line: &[u8],
+        front: &[u8],
+        reply: Reply,
+    ) -> Option<Entry>
+        requires kept { AreKept heading.now.words self.old.slots }
+        requires ends { EndsIn line.now front.now reply }
+        ensures value { result ≡ entry_of heading.now.words line.now }
+        ensures kept { AreKept heading.now.words self.new.slots }
+    {
+        let Some((opening, value)) = cut_value(front) else {
+            return self.read_anew(heading, line, front);
+        };
+        let Some((worker, act)) = self.find_opening(opening) else {
+            return self.read_anew(heading, line, front);
+        };
+        with_both(worker, act, number(value), reply)
+    }
+
+    /// The entry that a line without its LF spells, if it spells one.
+    #[inline(always)]
+    #[tactic(auto, using(crate::proofs::FrontLemmas::told))]
+    pub(crate) fn read(&mut self, heading: &Heading, line: &[u8]) -> Option<Entry>
+        requires { AreKept heading.now.words self.old.slots }
+        ensures value { result ≡ entry_of heading.now.words line.now }
+        ensures kept { AreKept heading.now.words self.new.slots }
+    {
+        let Some((front, reply)) = cut_reply(line) else {
+            return read_entry(heading, line);
+        };
+        let Some((worker, act)) = self.find_whole(front) else {
+            return self.read_value(heading, line, front, reply);
+        };
+        Some(Entry { worker, act, reply })
+    }
+}
+
+/// Whether an act has a value.
+#[inline(always)]
+fn is_valued(act: &Act) -> bool
+    ensures { result ≡ is_valued act.now }
+{
+    match *act {
+        Act::Await(_, _) | Act::Put(_, _) => true,
+        Act::Advance(_) | Act::Read(_) | Act::Go | Act::Ticket(_) | Act::Get(_) => false,
+    }
+}
+
+/// The act with another value, where it has one.
+#[inline(always)]
+fn with_value(act: Act, value: u64) -> Act
+    ensures { result ≡ with_value act value }
+{
+    match act {
+        Act::Await(event, _) => Act::Await(event, value),
+        Act::Put(cell, _) => Act::Put(cell, value),
+        other => other,
+    }
+}
+
+/// The entry of a worker and an act with this value, where there is one, and a reply.
+#[inline(always)]
+fn with_both(worker: WorkerId, act: Act, value: Option<u64>, reply: Reply) -> Option<Entry>
+    ensures { result ≡ with_both worker act value (Some reply) }
+{
+    match value {
+        None => None,
+        Some(value) => Some(Entry {
+            worker,
+            act: with_value(act, value),
+            reply,
+        }),
+    }
+}
+
+/// The last word before the `=` that ends a front, and what stands before the space before it.
+#[inline(always)]
+#[tactic(auto, using(crate::proofs::FrontLemmas::values))]
+fn cut_value(front: &[u8]) -> Option<(&[u8], &[u8])>
+    ensures { IfSome result (λ p. HasValue front.now p.0.now p.1.now) }
+{
+    let head = front.strip_suffix(b" =".as_slice())?;
+    let (opening, value) = cut_last(head)?;
+    Some((opening, value))
+}
+
+/// Whether this is the last byte.
+#[inline(always)]
+fn ends_on(line: &[u8], byte: u8) -> bool {
+    let n = line.len();
+    n > 0 && line[n - 1] == byte
+}
+
+/// The reply that the last word of a line spells, and what stands before the space before it.
+#[inline(always)]
+#[tactic(auto, using(crate::proofs::FrontLemmas::ends))]
+fn cut_reply(line: &[u8]) -> Option<(&[u8], Reply)>
+    ensures { IfSome result (λ p. EndsIn line.now p.0.now p.1) }
+{
+    if ends_on(line, b'e') {
+        if let Some(front) = line.strip_suffix(b" done".as_slice()) {
+            return Some((front, Reply::Done));
+        }
+    }
+    if ends_on(line, b'g') {
+        if let Some(front) = line.strip_suffix(b" pending".as_slice()) {
+            return Some((front, Reply::Pending));
+        }
+    }
+    let (front, answer) = cut_last(line)?;
+    let reply = reply_of(answer)?;
+    Some((front, reply))
+}
+
+/// The last word of a line, and what stands before the space before it.
+#[inline(never)]
+#[tactic(auto, using(crate::proofs::FrontLemmas::last_cuts))]
+fn cut_last(line: &[u8]) -> Option<(&[u8], &[u8])>
+    ensures whole { IfSome result (λ p. line.now ≡ p.0.now ++ 32 ∷ p.1.now) }
+    ensures word { IfSome result (λ p. IsWord p.1.now) }
+{
+    for i in (0..line.len()).rev() {
+        if line[i] == b' ' {
+            return Some((&line[..i], &line[i + 1..]));
+        }
+    }
+    None
+}
+
+/// A mark of a front, which fronts mostly have for themselves. For speed it is made of five bytes and the length.
+#[inline(always)]
+fn mark(front: &[u8]) -> usize {
+    let n = front.len();
+    if n < 4 {
+        return 0;
+    }
+    let mut mark = (n % 64) as u32;
+    mark = mark.wrapping_mul(31).wrapping_add(front[0] as u32);
+    mark = mark.wrapping_mul(31).wrapping_add(front[1] as u32);
+    mark = mark.wrapping_mul(31).wrapping_add(front[n / 2] as u32);
+    mark = mark.wrapping_mul(31).wrapping_add(front[n - 4] as u32);
+    mark = mark.wrapping_mul(31).wrapping_add(front[n - 3] as u32);
+    (mark ^ (mark >> 8) ^ (mark >> 16)) as usize
+}
