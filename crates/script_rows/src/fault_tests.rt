@@ -7,6 +7,9 @@ use std::test::Fail;
 /// The fault of the script of tickets with one line changed.
 fn changed(alloc: Global, line: usize, to: &str) -> Result<(u64, u64), Fail> {
     let mut lines = TICKETS;
+    if line < 1 || line > lines.len() {
+        return Err(Fail::new("no such line"));
+    }
     lines[line - 1] = to;
     let text = text_of(alloc, &lines)?;
     Ok(fault_of(alloc, text.as_slice()))
