@@ -76,7 +76,9 @@ fn the_order_one_call_after_another(rt: HostRuntime) -> Result<(), Fail> {
     let mut placed = in_order(rt.alloc(), &run)?;
     let first = placed.next().ok_or("no call")?;
     assert!(rt; is_line(&first, &(0, worker(2), Read(event(0)), Number(0))));
-    assert_eq!(rt; placed.count(), 2);
+    assert!(rt; placed.next().is_some());
+    assert!(rt; placed.next().is_some());
+    assert!(rt; placed.next().is_none());
     Ok(())
 }
 

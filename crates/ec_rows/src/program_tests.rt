@@ -110,25 +110,19 @@ fn a_ticket_is_waited_for(rt: HostRuntime) -> Result<(), Fail> {
 }
 
 #[test]
-fn histories_are_told_from_runs(rt: HostRuntime) -> Result<(), Fail> {
-    let alloc = rt.alloc();
-    let run = made(Run::open(alloc, counted()?)?, &waited())?;
+fn a_missing_program_is_empty(rt: HostRuntime) -> Result<(), Fail> {
+    let run = made(Run::open(rt.alloc(), counted()?)?, &waited())?;
     assert_eq!(rt; follows(&run, &[]), Some(worker(0)));
-    assert_eq!(rt; follows(&run, &[two_advances(alloc)?]), Some(worker(1)));
-    let other = program(vec![in alloc; Command::Ticket(sequencer(0)), Command::Read(event(0))]?)?;
-    assert_eq!(rt;
-        follows(&run, &[two_advances(alloc)?, other]),
-        Some(worker(1))
-    );
-    let longer = program(vec![in alloc;
-        Command::Repeat(3, vec![in alloc; Command::Advance(event(0))]?),
-    ]?)?;
-    assert_eq!(rt;
-        follows(&run, &[longer, waits_for_its_ticket(alloc)?]),
-        None
-    );
-    let none = Run::open(alloc, counted()?)?;
+    let none = Run::open(rt.alloc(), counted()?)?;
     assert_eq!(rt; follows(&none, &[]), None);
+    Ok(())
+}
+
+#[test]
+fn the_first_worker_off_its_program_is_named(rt: HostRuntime) -> Result<(), Fail> {
+    let run = made(Run::open(rt.alloc(), counted()?)?, &waited())?;
+    let programs = [two_advances(rt.alloc())?];
+    assert_eq!(rt; follows(&run, &programs), Some(worker(1)));
     Ok(())
 }
 
