@@ -28,7 +28,7 @@ use Rattle.ec_core.specs.declared.audit.AuditFault.{AuditFault}
 use Rattle.ec_core.specs.declared.audit.AuditFault.TheVariants.{NotFollowed}
 use Rattle.ec_core.specs.declared.audit.AuditFault.TheVariants as faults
 use Rattle.evc_engine.specs.declared.status.Status.{Status}
-use Rattle.evc_engine.specs.declared.status.Status.TheVariants.{Done, Refused, Usage, InputOutput, Memory}
+use Rattle.evc_engine.specs.declared.status.Status.TheVariants.{Done, Refused, Usage, InputOutput, Memory, Stopped}
 use Rattle.evc_engine.specs.AuditTexts.{now_of, audit_text, group_word, worker_word}
 use Rattle.evc_engine.specs.Checks.{Outlets, Notes, ReadsAs, RefusedFor}
 use Rattle.evc_engine.specs.Notes.{fault_note, break_note}
@@ -128,6 +128,7 @@ AuditEnds t Refused old new = Names t old new
 AuditEnds t InputOutput old new = Reports t InputOutput old new
 AuditEnds t Memory old new = Keeps old.out new.out × Notes old new (codes "no memory\n")
 AuditEnds t Usage old new = ⊥
+AuditEnds t Stopped old new = ⊥
 
 -- how `audit` ended: the bytes are a trace, each of its groups is followed, and what their audits found was written; or
 -- they are a trace with a group that is not followed, or no trace, and nothing was written but the note of the first such
@@ -142,3 +143,4 @@ Audits bytes InputOutput old new =
     ⊎ (HasNoFault TRACE_MAX bytes × Keeps old.out new.out × Notes old new (codes "read fault\n"))
 Audits bytes Memory old new = Keeps old.out new.out × Notes old new (codes "no memory\n")
 Audits bytes Usage old new = ⊥
+Audits bytes Stopped old new = ⊥

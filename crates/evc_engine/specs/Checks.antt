@@ -8,7 +8,7 @@ use Rattle.ec_trace.specs.ReadingLaws.{IsTraceOf, IsNoTrace}
 use Rattle.ec_trace.specs.declared.fault.TraceFault.{TraceFault}
 use Rattle.ec_trace.specs.declared.read.TheConstants.{TRACE_MAX}
 use Rattle.evc_engine.specs.declared.status.Status.{Status}
-use Rattle.evc_engine.specs.declared.status.Status.TheVariants.{Done, Refused, Usage, InputOutput, Memory}
+use Rattle.evc_engine.specs.declared.status.Status.TheVariants.{Done, Refused, Usage, InputOutput, Memory, Stopped}
 use Rattle.evc_engine.specs.Notes.{fault_note}
 use Rattle.evc_engine.specs.Texts.{check_text}
 
@@ -34,6 +34,7 @@ Writes t InputOutput old new = AppendsPrefix old.out new.out (text_for t) × Not
 Writes t Memory old new = Keeps old.out new.out × Notes old new (codes "no memory\n")
 Writes t Refused old new = ⊥
 Writes t Usage old new = ⊥
+Writes t Stopped old new = ⊥
 
 -- the bytes are a trace, of this heading and this history, and they are read as such
 pub record ReadsAs (bytes : List ℕ) (t : Recounted) : Type 0 where
@@ -55,3 +56,4 @@ Checks bytes InputOutput old new =
     ⊎ (HasNoFault TRACE_MAX bytes × Keeps old.out new.out × Notes old new (codes "read fault\n"))
 Checks bytes Memory old new = Keeps old.out new.out × Notes old new (codes "no memory\n")
 Checks bytes Usage old new = ⊥
+Checks bytes Stopped old new = ⊥

@@ -1,7 +1,7 @@
 -- The exit statuses.
 use Rattle.std.specs.Prelude.{ℕ}
 use Rattle.evc_engine.specs.declared.status.Status.{Status}
-use Rattle.evc_engine.specs.declared.status.Status.TheVariants.{Done, Refused, Usage, InputOutput, Memory}
+use Rattle.evc_engine.specs.declared.status.Status.TheVariants.{Done, Refused, Usage, InputOutput, Memory, Stopped}
 
 abbrev pub status_code : Status → ℕ
 status_code Done = 0
@@ -9,3 +9,4 @@ status_code Refused = 1
 status_code Usage = 2
 status_code InputOutput = 3
 status_code Memory = 4
+status_code Stopped = 5

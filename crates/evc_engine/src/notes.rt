@@ -40,7 +40,7 @@ impl<W: Write> Notes<W> {
 }
 
 /// Puts what a note says of a refused act.
-fn put_refused<W: Write>(writer: &mut W, table: &mut Buffered, refusal: Refusal)
+pub fn put_refused<W: Write>(writer: &mut W, table: &mut Buffered, refusal: Refusal)
     ensures { Puts (W.contents writer.old) table.old (W.contents writer.new) table.new (refused_words refusal) }
 {
     put(writer, table, b"refused ");
@@ -58,7 +58,7 @@ fn put_wrong<W: Write>(writer: &mut W, table: &mut Buffered, right: &Reply)
 }
 
 /// Puts the beginning of a note on a line.
-fn put_line<W: Write>(writer: &mut W, table: &mut Buffered, line: u64)
+pub fn put_line<W: Write>(writer: &mut W, table: &mut Buffered, line: u64)
     ensures { Puts (W.contents writer.old) table.old (W.contents writer.new) table.new (line_words line) }
 {
     put(writer, table, b"line ");

@@ -15,10 +15,12 @@ pub enum Status {
     InputOutput,
     /// Memory was refused.
     Memory,
+    /// A worker was stopped or out of turns, or what the workers did is not what they were told.
+    Stopped,
 }
 
 impl Status {
-    /// The exit status of the process, from 0 to 4.
+    /// The exit status of the process, from 0 to 5.
     pub fn code(self) -> u8
         ensures { result ≡ status_code self }
     {
@@ -28,6 +30,7 @@ impl Status {
             Status::Usage => 2,
             Status::InputOutput => 3,
             Status::Memory => 4,
+            Status::Stopped => 5,
         }
     }
 }
