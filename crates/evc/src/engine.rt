@@ -4,6 +4,7 @@ ghost use Rattle.evc_engine.specs.Checks.{Checks};
 ghost use Rattle.evc.specs.Tasks.{Does};
 
 use evc_engine::{Notes, Status, audit, check};
+use evc_scripts::sim;
 use evc_task::Task;
 use std::alloc::Global;
 use std::io::{Read, Write};
@@ -23,5 +24,6 @@ pub fn engine<R: Read, W: Write, N: Write>(
     match task {
         Task::Check => check(alloc, reader, out, notes),
         Task::Audit => audit(alloc, reader, out, notes),
+        Task::Sim => sim(alloc, reader, out, notes),
     }
 }

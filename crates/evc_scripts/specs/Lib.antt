@@ -1,0 +1,4 @@
+pub mod Inputs
+pub mod OutcomeNotes
+pub mod Sims
+pub mod SimLaws

@@ -1,0 +1,102 @@
+-- What `sim` answered and wrote, for an input whose bytes are known.
+use Rattle.std.specs.Prelude.{◌≡◌, ◌⊎◌, ℕ, List, map, reverse, Ok, Err, codes}
+use Rattle.std.specs.Io.KnownBytes.{Appends, Keeps}
+use Rattle.ec_core.specs.declared.act.Entry.{Entry}
+use Rattle.ec_text.specs.Puts.{AppendsPrefix}
+use Rattle.ec_machine.specs.declared.command.Command.{Command}
+use Rattle.ec_machine.specs.declared.outcome.Outcome.{Outcome}
+use Rattle.ec_trace.specs.Headed.{Headed}
+use Rattle.ec_trace.specs.Outline.{Outline, IsOutline, headed}
+use Rattle.ec_trace.specs.Spelling.{trace_text}
+use Rattle.ec_script.specs.declared.fault.Kind.{Kind}
+use Rattle.ec_script.specs.declared.parsing.TheConstants.{SCRIPT_MAX}
+use Rattle.ec_script.specs.Flat.{flat}
+use Rattle.ec_script.specs.Grammar.{IsScript, IsNoScript}
+use Rattle.ec_script.specs.Outcome.{outcome}
+use Rattle.ec_script.specs.Scripted.{Planned}
+use Rattle.ec_runner.specs.Reported.{AreOutcomes}
+use Rattle.ec_runner.specs.Schedules.{Turn, Plays, HasEnded, entries_of}
+use Rattle.evc_engine.specs.declared.status.Status.{Status}
+use Rattle.evc_engine.specs.declared.status.Status.TheVariants.{Done, Refused, Usage, InputOutput, Memory, Stopped}
+use Rattle.evc_engine.specs.Checks.{Outlets, Notes}
+use Rattle.evc_scripts.specs.Inputs.{looked_at}
+use Rattle.evc_scripts.specs.OutcomeNotes.{outcomes_note, script_note, ended_note}
+
+-- PLANS
+
+-- the programs are those of the plan: commands of the same lines
+abbrev pub AreProgramsOf : Planned → List (List Command) → Type 0
+AreProgramsOf p programs = map flat programs ≡ p.programs
+
+-- the turns are those of the plan's schedule, and the outcomes those after them
+pub record PlaysPlan (p : Planned) (turns : List Turn) (outcomes : List Outcome) : Type 0 where
+  pub programs : List (List Command)
+  pub lines : AreProgramsOf p programs
+  pub plays : Plays p.heading.setup programs p.schedule turns
+  pub outcomes : AreOutcomes programs p.heading.setup.workers turns outcomes
+
+-- worker w, whom the plan's schedule names at this place, has ended before it
+pub record EndsEarly (p : Planned) (place w : ℕ) : Type 0 where
+  pub programs : List (List Command)
+  pub lines : AreProgramsOf p programs
+  pub ended : HasEnded p.heading.setup programs p.schedule place w
+
+-- the trace of a history under a heading
+pub record IsTraceUnder (h : Headed) (entries : List Entry) (trace : List ℕ) : Type 0 where
+  pub outline : Outline
+  pub is : IsOutline outline
+  pub declares : headed outline ≡ h
+  pub text : trace ≡ trace_text outline entries
+
+-- a plan was played: this is the trace of what its workers did, and this is how they ended
+pub record IsPlayed (p : Planned) (trace note : List ℕ) : Type 0 where
+  pub turns : List Turn
+  pub outcomes : List Outcome
+  pub played : PlaysPlan p turns outcomes
+  pub trace : IsTraceUnder p.heading (reverse (entries_of turns)) trace
+  pub note : note ≡ outcomes_note p.heading outcomes
+
+-- how the command ended for a plan
+abbrev pub PlanEnds : Planned → Status → Outlets → Outlets → Type 0
+PlanEnds p Done old new = (trace note : List ℕ) × IsPlayed p trace note × Appends old.out new.out trace × Notes old new note
+PlanEnds p Refused old new = (place w : ℕ) × EndsEarly p place w × Keeps old.out new.out × Notes old new (ended_note p.heading place w)
+PlanEnds p InputOutput old new = (trace note : List ℕ) × IsPlayed p trace note × AppendsPrefix old.out new.out trace × Notes old new (codes "write fault\n")
+PlanEnds p Memory old new = Keeps old.out new.out × Notes old new (codes "no memory\n")
+PlanEnds p Usage old new = ⊥
+PlanEnds p Stopped old new = ⊥
+
+-- TEXTS
+
+-- how the command ended for a text that was read
+abbrev pub TextEnds : List ℕ → Status → Outlets → Outlets → Type 0
+TextEnds text Refused old new =
+    ((p : Planned) × (outcome text ≡ Ok p) × PlanEnds p Refused old new)
+    ⊎ ((n : ℕ) × (kind : Kind) × (outcome text ≡ Err (n, kind)) × Keeps old.out new.out × Notes old new (script_note n kind))
+TextEnds text Memory old new = Keeps old.out new.out × Notes old new (codes "no memory\n")
+TextEnds text status old new = (p : Planned) × (outcome text ≡ Ok p) × PlanEnds p status old new
+
+-- THE COMMAND
+
+-- the bytes are a script that says this plan, and they are read as such
+pub record SaysPlan (bytes : List ℕ) (p : Planned) : Type 0 where
+  pub script : IsScript bytes p
+  pub told : outcome (looked_at SCRIPT_MAX bytes) ≡ Ok p
+
+-- the bytes are no script, and this line is their first at fault
+pub record RefusedAt (bytes : List ℕ) (n : ℕ) (kind : Kind) : Type 0 where
+  pub none : IsNoScript bytes
+  pub told : outcome (looked_at SCRIPT_MAX bytes) ≡ Err (n, kind)
+
+-- how `sim` ended: the bytes are a script, its schedule was played, and the trace was written; or they are a script whose
+-- schedule names a worker that has ended, or no script, and nothing was written but a note; or a read, a write or memory failed
+abbrev pub Sims : List ℕ → Status → Outlets → Outlets → Type 0
+Sims bytes Done old new = (p : Planned) × SaysPlan bytes p × PlanEnds p Done old new
+Sims bytes Refused old new =
+    ((p : Planned) × SaysPlan bytes p × PlanEnds p Refused old new)
+    ⊎ ((n : ℕ) × (kind : Kind) × RefusedAt bytes n kind × Keeps old.out new.out × Notes old new (script_note n kind))
+Sims bytes InputOutput old new =
+    ((p : Planned) × SaysPlan bytes p × PlanEnds p InputOutput old new)
+    ⊎ (Keeps old.out new.out × Notes old new (codes "read fault\n"))
+Sims bytes Memory old new = Keeps old.out new.out × Notes old new (codes "no memory\n")
+Sims bytes Usage old new = ⊥
+Sims bytes Stopped old new = ⊥

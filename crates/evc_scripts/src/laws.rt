@@ -1,0 +1,8 @@
+//! What the contracts of the commands mean: each function says a law and does nothing.
+ghost use Rattle.evc_scripts.specs.SimLaws.{SimulatedIsReadAgain};
+
+/// The trace that `sim` writes is read again as the run of the schedule, where it is within the
+/// bound of traces.
+pub fn simulated_is_read_again()
+    ensures { SimulatedIsReadAgain }
+{}

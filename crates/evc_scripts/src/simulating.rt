@@ -1,0 +1,116 @@
+//! `sim`: a script in; the trace of its schedule out, and in the notes how each worker's program has
+//! ended.
+ghost use Rattle.std.specs.Prelude.{◌≡◌, ◌×◌, Ok, IfSome};
+ghost use Rattle.ec_text.specs.Puts.{Puts};
+ghost use Rattle.ec_script.specs.Outcome.{outcome, shown_plan};
+ghost use Rattle.evc_scripts.specs.Sims.{PlanEnds, TextEnds, Sims};
+
+use crate::input::{InputFault, read_script};
+use crate::outcomes::{note_ended, note_kind, note_outcomes};
+use ec_runner::{Report, SimFault, simulate};
+use ec_script::{Plan, ScriptFault, parse};
+use ec_trace::write_trace;
+use evc_engine::{Notes, Status};
+use std::alloc::Global;
+use std::io::{Read, Write};
+
+/// Writes the trace of a report, and notes how the workers have ended.
+fn write_report<W: Write, N: Write>(
+    plan: &Plan,
+    report: &Report,
+    out: &mut W,
+    notes: &mut Notes<N>,
+) -> Status
+    requires { IsReport plan.now.heading.setup plan.now.programs.items plan.now.schedule.items report.now }
+    ensures { PlanEnds (shown_plan plan.now) result
+        (record { out = W.contents out.old; notes = N.contents notes.old.writer; held = notes.old.table })
+        (record { out = W.contents out.new; notes = N.contents notes.new.writer; held = notes.new.table }) }
+{
+    plan.heading.known();
+    match write_trace(&report.run, &plan.heading, out) {
+        Ok(()) => {
+            note_outcomes(notes, &plan.heading, report.outcomes.as_slice());
+            Status::Done
+        }
+        Err(_) => {
+            notes.say(b"write fault\n");
+            Status::InputOutput
+        }
+    }
+}
+
+/// Plays a plan's schedule, and writes what its workers did.
+fn sim_plan<W: Write, N: Write>(
+    alloc: Global,
+    plan: &Plan,
+    out: &mut W,
+    notes: &mut Notes<N>,
+) -> Status
+    requires { IsPlan (shown_plan plan.now) }
+    ensures { PlanEnds (shown_plan plan.now) result
+        (record { out = W.contents out.old; notes = N.contents notes.old.writer; held = notes.old.table })
+        (record { out = W.contents out.new; notes = N.contents notes.new.writer; held = notes.new.table }) }
+{
+    match simulate(alloc, plan) {
+        Ok(report) => write_report(plan, &report, out, notes),
+        Err(SimFault::Ended { place, worker }) => {
+            note_ended(notes, &plan.heading, place, worker);
+            Status::Refused
+        }
+        Err(SimFault::Memory) => {
+            notes.say(b"no memory\n");
+            Status::Memory
+        }
+    }
+}
+
+/// Reads a text as a script, and plays its schedule.
+fn sim_text<W: Write, N: Write>(
+    alloc: Global,
+    text: &[u8],
+    out: &mut W,
+    notes: &mut Notes<N>,
+) -> Status
+    ensures { TextEnds text.now result
+        (record { out = W.contents out.old; notes = N.contents notes.old.writer; held = notes.old.table })
+        (record { out = W.contents out.new; notes = N.contents notes.new.writer; held = notes.new.table }) }
+{
+    match parse(alloc, text) {
+        Ok(plan) => sim_plan(alloc, &plan, out, notes),
+        Err(ScriptFault::At { line, kind }) => {
+            note_kind(notes, line, kind);
+            Status::Refused
+        }
+        Err(ScriptFault::Memory) => {
+            notes.say(b"no memory\n");
+            Status::Memory
+        }
+    }
+}
+
+/// Reads a script, and writes the trace of what its workers do by its schedule; then notes say how
+/// each worker's program has ended. Where the script or its schedule is refused, a note says why.
+///
+/// Nothing is written to `out` before the schedule was played to its end.
+pub fn sim<R: Read, W: Write, N: Write>(
+    alloc: Global,
+    reader: &mut R,
+    out: &mut W,
+    notes: &mut Notes<N>,
+) -> Status
+    ensures { IfSome (R.remaining reader.old) (λ bytes. Sims bytes result
+        (record { out = W.contents out.old; notes = N.contents notes.old.writer; held = notes.old.table })
+        (record { out = W.contents out.new; notes = N.contents notes.new.writer; held = notes.new.table })) }
+{
+    match read_script(alloc, reader) {
+        Ok(text) => sim_text(alloc, text.as_slice(), out, notes),
+        Err(InputFault::Read) => {
+            notes.say(b"read fault\n");
+            Status::InputOutput
+        }
+        Err(InputFault::Memory) => {
+            notes.say(b"no memory\n");
+            Status::Memory
+        }
+    }
+}
