@@ -8,6 +8,7 @@ unfolding clap_on_literals
 plain_lines_are_read = record {
   check = λ program. (refl, refl);
   audit = λ program. (refl, refl);
+  sim = λ program. (refl, refl);
   help = λ program. refl;
   none = λ program. refl;
   unknown = λ program. refl;

@@ -17,7 +17,7 @@ bare_app = let new : App = new_app (codes "evc") in record new { top = record ne
 
 -- `evc` as clap knows it
 abbrev pub evc_app : App
-evc_app = with_subcommand (with_subcommand bare_app (new_app (codes "check")).top) (new_app (codes "audit")).top
+evc_app = with_subcommand (with_subcommand (with_subcommand bare_app (new_app (codes "check")).top) (new_app (codes "audit")).top) (new_app (codes "sim")).top
 
 -- the names of its commands
 abbrev pub command_names : List Text
@@ -32,6 +32,7 @@ IsOneOf (x ∷ xs) name = (name ≡ x) ⊎ IsOneOf xs name
 abbrev pub name_of : Task → Text
 name_of tasks.Check = codes "check"
 name_of tasks.Audit = codes "audit"
+name_of tasks.Sim = codes "sim"
 
 -- the words name the task: its command is the one that clap finds in them
 abbrev pub Names : List Text → Task → Type 0
@@ -50,11 +51,12 @@ status_by kinds.DisplayVersion = 0
 status_by kinds.OutOfMemory = 4
 status_by _ = 2
 
--- the plainest command lines, under any name of the program: `check` and `audit` are right and name their tasks,
--- `--help` asks for help, and no word and an unknown word are wrong
+-- the plainest command lines, under any name of the program: `check`, `audit` and `sim` are right and name their
+-- tasks, `--help` asks for help, and no word and an unknown word are wrong
 pub record ReadsPlainLines : Type 0 where
   pub check : (program : Text) → (faults_in (program ∷ codes "check" ∷ []) ≡ []) × Names (program ∷ codes "check" ∷ []) tasks.Check
   pub audit : (program : Text) → (faults_in (program ∷ codes "audit" ∷ []) ≡ []) × Names (program ∷ codes "audit" ∷ []) tasks.Audit
+  pub sim : (program : Text) → (faults_in (program ∷ codes "sim" ∷ []) ≡ []) × Names (program ∷ codes "sim" ∷ []) tasks.Sim
   pub help : (program : Text) → faults_in (program ∷ codes "--help" ∷ []) ≡ kinds.DisplayHelp ∷ []
   pub none : (program : Text) → faults_in (program ∷ []) ≡ kinds.MissingSubcommand ∷ []
   pub unknown : (program : Text) → faults_in (program ∷ codes "frobnicate" ∷ []) ≡ kinds.UnknownArgument ∷ kinds.InvalidSubcommand ∷ []

@@ -7,4 +7,6 @@ pub enum Task {
     Check,
     /// `audit`: read a trace, and write what its buffers, databases and semaphores did.
     Audit,
+    /// `sim`: read a script, and write the trace of what its workers do by its schedule.
+    Sim,
 }

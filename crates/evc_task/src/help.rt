@@ -1,22 +1,28 @@
 //! The texts of `evc --help` and `evc -h`, and of the help on each command.
 
-pub(crate) const ABOUT: &str = "Checks recorded runs of eventcounts and sequencers";
+pub(crate) const ABOUT: &str =
+    "Checks recorded runs of eventcounts and sequencers, and makes runs from scripts";
 
-pub(crate) const LONG_ABOUT: &str = "Checks recorded runs of eventcounts and sequencers.
+pub(crate) const LONG_ABOUT: &str =
+    "Checks recorded runs of eventcounts and sequencers, and makes runs from scripts.
 
 A trace is a text that records one run: it declares the workers, eventcounts and
 sequencers, alone or as parts of buffers, databases and semaphores, and then has a
-line for each step that a worker made, with its reply.";
+line for each step that a worker made, with its reply. `check` and `audit` read one.
+
+A script declares the same, and then has a block of commands for each worker. `sim`
+reads one, and writes a trace that `check` and `audit` read.";
 
 pub(crate) const AFTER_HELP: &str = "Exit status:
   0  done
-  1  the trace was refused, or its workers break the rules of a group
+  1  the trace or script was refused, or the workers of a trace break the rules of a group
   2  the command line was wrong
   3  a read or a write failed
   4  memory ran out
 
-Example:
-  bin/evc check < examples/three-advances.trace";
+Examples:
+  bin/evc check < examples/three-advances.trace
+  bin/evc sim < examples/tickets.script | bin/evc check";
 
 pub(crate) const CHECK_ABOUT: &str =
     "Reads a trace, and writes the order of its calls and the totals";
@@ -42,3 +48,17 @@ each semaphore its balance, and for `both` its balance and the pairs of tickets 
 were drawn under it. Where a worker's calls on one of them are not those of its role,
 nothing is written but a note on standard error, which says of which group, which
 worker, and at which entry (counted from 0). docs/FORMATS.md has the rules.";
+
+pub(crate) const SIM_ABOUT: &str =
+    "Reads a script, and writes the trace of what its workers do by its schedule";
+
+pub(crate) const SIM_LONG_ABOUT: &str =
+    "Reads a script, and writes the trace of what its workers do by its schedule.
+
+The script is read from standard input. It declares workers and objects as a trace
+does, has a block of commands for each worker, and then lines that say whose turn it
+is. The trace of these turns goes to standard output. Notes on standard error say how
+each worker's program ended, as `outcome a finished` or `outcome a running`. Where the
+script or its schedule is refused, nothing is written but a note, which says which
+line it is and what kind of fault it has, or which turn belongs to a worker whose
+program has ended. docs/FORMATS.md has the format.";

@@ -29,18 +29,29 @@ fn audit_command<'a>(alloc: Global) -> Command<'a>
         .long_about(help::AUDIT_LONG_ABOUT)
 }
 
+fn sim_command<'a>(alloc: Global) -> Command<'a>
+    ensures app { app_of result ≡ new_app (codes "sim") }
+    ensures local { (fields_of result).has_globals ≡ false }
+{
+    Command::new(alloc, "sim")
+        .about(help::SIM_ABOUT)
+        .long_about(help::SIM_LONG_ABOUT)
+}
+
 fn evc_command<'a>(alloc: Global) -> Result<Command<'a>, AllocError>
     ensures { IfOk result (λ c. app_of c ≡ evc_app) }
 {
     let check = check_command(alloc);
     let audit = audit_command(alloc);
+    let sim = sim_command(alloc);
     Command::new(alloc, "evc")
         .about(help::ABOUT)
         .long_about(help::LONG_ABOUT)
         .after_help(help::AFTER_HELP)
         .subcommand_required(true)
         .subcommand(check)?
-        .subcommand(audit)
+        .subcommand(audit)?
+        .subcommand(sim)
 }
 
 // What clap finds in the words.
@@ -58,6 +69,7 @@ fn task_named(name: &str) -> Option<Task>
     match name {
         "check" => Some(Task::Check),
         "audit" => Some(Task::Audit),
+        "sim" => Some(Task::Sim),
         _ => None,
     }
 }
