@@ -6,8 +6,3 @@ mod LineCuts
 mod Lines
 mod Texts
 mod Onward
-mod Apart
-mod Declaring
-mod Confining
-mod WrittenOut
-mod Keeping

@@ -32,9 +32,13 @@ outcome_lines words w (o ∷ os) = outcome_line words w o ∷ outcome_lines word
 abbrev pub outcomes_note : Headed → List Outcome → List ℕ
 outcomes_note h outcomes = text_of (outcome_lines h.words 0 outcomes)
 
+-- the number and the name of a kind
+abbrev pub kind_words : Kind → List ℕ
+kind_words kind = decimal (kind_number kind) ++ codes " " ++ kind_name kind
+
 -- the note on a line of a script
 abbrev pub script_note : ℕ → Kind → List ℕ
-script_note n kind = line_words n ++ decimal (kind_number kind) ++ codes " " ++ kind_name kind ++ codes "\n"
+script_note n kind = line_words n ++ kind_words kind ++ codes "\n"
 
 -- the note on a place of a schedule
 abbrev pub ended_words : ℕ → List ℕ → List ℕ

@@ -1,8 +1,8 @@
 //! The notes of the commands on scripts.
-ghost use Rattle.std.specs.Prelude.{◌≤◌, ◌∷◌, [], length};
+ghost use Rattle.std.specs.Prelude.{◌≡◌, ◌≤◌, ◌∷◌, [], length, slice_get};
 ghost use Rattle.ec_text.specs.Puts.{Puts};
 ghost use Rattle.ec_trace.specs.Spelling.{text_of};
-ghost use Rattle.evc_scripts.specs.OutcomeNotes.{outcome_words, outcome_line, outcome_lines, outcomes_note, script_note, ended_words, ended_note};
+ghost use Rattle.evc_scripts.specs.OutcomeNotes.{outcome_words, outcome_line, outcome_lines, outcomes_note, kind_words, script_note, ended_words, ended_note};
 
 use ec_count::WorkerId;
 use ec_machine::Outcome;
@@ -57,6 +57,12 @@ fn put_outcome_line<W: Write>(
     put_byte(writer, table, b'\n');
 }
 
+fn outcome_at(outcomes: &[Outcome], place: usize) -> Option<Outcome>
+    ensures { result ≡ slice_get outcomes.now place }
+{
+    outcomes.get(place).copied()
+}
+
 /// Puts a line for each worker.
 fn put_outcomes<W: Write>(
     writer: &mut W,
@@ -69,7 +75,10 @@ fn put_outcomes<W: Write>(
 {
     for place in 0..outcomes.len() {
         let worker = WorkerId::new(place).unwrap();
-        put_outcome_line(writer, table, spellings, worker, &outcomes[place]);
+        let Some(outcome) = outcome_at(outcomes, place) else {
+            unreachable!();
+        };
+        put_outcome_line(writer, table, spellings, worker, &outcome);
     }
 }
 
@@ -87,14 +96,21 @@ pub(crate) fn note_outcomes<N: Write>(
     flush(&mut notes.writer, &mut notes.table);
 }
 
-/// Puts the note on a line of a script.
-fn put_kind<W: Write>(writer: &mut W, table: &mut Buffered, line: u64, kind: Kind)
-    ensures { Puts (W.contents writer.old) table.old (W.contents writer.new) table.new (script_note line kind) }
+/// Puts the number and the name of a kind.
+fn put_kind<W: Write>(writer: &mut W, table: &mut Buffered, kind: Kind)
+    ensures { Puts (W.contents writer.old) table.old (W.contents writer.new) table.new (kind_words kind) }
 {
-    put_line(writer, table, line);
     put_number(writer, table, kind.number());
     put(writer, table, b" ");
     put(writer, table, kind.name().as_bytes());
+}
+
+/// Puts the note on a line of a script.
+fn put_script_fault<W: Write>(writer: &mut W, table: &mut Buffered, line: u64, kind: Kind)
+    ensures { Puts (W.contents writer.old) table.old (W.contents writer.new) table.new (script_note line kind) }
+{
+    put_line(writer, table, line);
+    put_kind(writer, table, kind);
     put(writer, table, b"\n");
 }
 
@@ -102,7 +118,7 @@ fn put_kind<W: Write>(writer: &mut W, table: &mut Buffered, line: u64, kind: Kin
 pub(crate) fn note_kind<N: Write>(notes: &mut Notes<N>, line: u64, kind: Kind)
     ensures { Puts (N.contents notes.old.writer) notes.old.table (N.contents notes.new.writer) notes.new.table (script_note line kind) }
 {
-    put_kind(&mut notes.writer, &mut notes.table, line, kind);
+    put_script_fault(&mut notes.writer, &mut notes.table, line, kind);
     flush(&mut notes.writer, &mut notes.table);
 }
 
