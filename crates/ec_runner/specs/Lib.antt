@@ -4,3 +4,4 @@ pub mod Boarded
 pub mod BoardFaults
 pub mod Schedules
 pub mod Reported
+pub mod Machines

@@ -4,6 +4,7 @@
 mod board;
 mod gate;
 mod line;
+mod playing;
 mod report;
 mod seat;
 mod seats;
