@@ -1,3 +1,4 @@
 pub mod Lining
 pub mod Boarding
 pub mod Turning
+pub mod Places

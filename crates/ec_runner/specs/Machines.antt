@@ -10,7 +10,9 @@ use Rattle.ec_machine.specs.Standing.{StandsFor, kept_outcome}
 use Rattle.ec_machine.specs.Steps.{own}
 use Rattle.ec_runner.specs.declared.playing.Played.{Played}
 use Rattle.ec_runner.specs.declared.playing.Played.TheVariants as played
-use Rattle.ec_runner.specs.Schedules.{Turn, IsTurn, AreTurns, entries_of, outcome_after}
+use Rattle.ec_runner.specs.declared.report.SimFault.{SimFault}
+use Rattle.ec_runner.specs.Reported.{IsSimFault}
+use Rattle.ec_runner.specs.Schedules.{Turn, IsTurn, Plays, entries_of, outcome_after}
 
 -- the machine is that of w after these turns
 pub record IsMachineOf (programs : List (List Command)) (turns : List Turn) (w : ℕ) (m : Machine) : Type 0 where
@@ -39,3 +41,28 @@ abbrev pub Takes : Played → Tables → List (List Command) → List Turn → �
 Takes played.Made t programs turns w run m = HasTurn t programs turns w run m
 Takes played.Ended t programs turns w run m = outcome_after programs w turns ≢ Running
 Takes played.Memory t programs turns w run m = Unit {0}
+
+-- the schedule was played by these turns, the newest first, and the run and the machines are those after them
+pub record IsPlayed (t : Tables) (programs : List (List Command)) (schedule : List ℕ) (turns : List Turn) (run : Recorded) (machines : List Machine) : Type 0 where
+  pub plays : Plays t programs schedule turns
+  pub made : IsRunOf t turns run
+  pub each : AreMachines programs turns machines
+
+-- w had one more turn, and each machine is that of its worker
+pub record HasPlayed (t : Tables) (programs : List (List Command)) (turns : List Turn) (w : ℕ) (run : Recorded) (machines : List Machine) : Type 0 where
+  pub turn : Turn
+  pub worker : turn.worker ≡ w
+  pub right : IsTurn t programs turns turn
+  pub made : IsRunOf t (turn ∷ turns) run
+  pub each : AreMachines programs (turn ∷ turns) machines
+
+-- what became of the place of w after these turns
+abbrev pub PlaysOne : Played → Tables → List (List Command) → List Turn → ℕ → Recorded → List Machine → Type 0
+PlaysOne played.Made t programs turns w run machines = HasPlayed t programs turns w run machines
+PlaysOne played.Ended t programs turns w run machines = outcome_after programs w turns ≢ Running
+PlaysOne played.Memory t programs turns w run machines = Unit {0}
+
+-- what became of a schedule
+abbrev pub PlaysAll : Result Unit SimFault → Tables → List (List Command) → List ℕ → Recorded → List Machine → Type 0
+PlaysAll (Ok done) t programs schedule run machines = (turns : List Turn) × IsPlayed t programs schedule turns run machines
+PlaysAll (Err fault) t programs schedule run machines = IsSimFault t programs schedule fault
