@@ -1,7 +1,8 @@
 -- One more place of a schedule.
-use Rattle.std.proofs.Common.{◌≡◌, ◌≢◌, ◌<◌, ℕ, Bool, true, false, ◌==◌, List, [], ◌∷◌, length, Option, Some, None, Result, Ok, Err, cond, refl, sym, ◌∙◌, ap, subst, eqb-true, ne_eqb}
+use Rattle.std.proofs.Common.{◌≡◌, ◌≢◌, ◌<◌, ◌+◌, ℕ, Bool, true, false, ◌==◌, List, [], ◌∷◌, ◌++◌, take, map, reverse, get_or, length, Option, Some, None, Result, Ok, Err, cond, refl, sym, ◌∙◌, ap, subst, eqb-true, ne_eqb}
 use Rattle.std.specs.Prelude.{slice_get, slice_set}
 use Rattle.std.proofs.lemmas.Bool.{eqb-false}
+use Rattle.std.proofs.lemmas.List.{reverse-append, take_more}
 use Rattle.ec_count.specs.Tables.{Tables}
 use Rattle.ec_core.specs.declared.act.Act.{Act}
 use Rattle.ec_core.specs.declared.act.Entry.{Entry}
@@ -17,7 +18,7 @@ use Rattle.ec_machine.specs.Standing.{StandsFor}
 use Rattle.ec_machine.specs.Steps.{own}
 use Rattle.ec_runner.specs.declared.playing.Played.{Played}
 use Rattle.ec_runner.specs.declared.playing.Played.TheVariants as played
-use Rattle.ec_runner.specs.Machines.{IsMachineOf, AreMachines, HasTurn, Takes, HasPlayed, PlaysOne}
+use Rattle.ec_runner.specs.Machines.{IsMachineOf, AreMachines, HasTurn, Takes, HasPlayed, IsPlayed, PlaysOne}
 use Rattle.ec_runner.specs.Schedules.{Turn, with_answer, entries_of, refusal_told, refusal_or, ended_by, outcome_after}
 
 own_other : (i w : ℕ) (act : Act) (answer : Result Reply Refusal) (past : List Entry) → w ≢ i → own i (with_answer w act answer past) ≡ own i past
@@ -60,3 +61,24 @@ place_played t programs turns machines w new n played.Made within each has = rec
 }
 place_played t programs turns machines w new n played.Ended within each ended = ended
 place_played t programs turns machines w new n played.Memory within each none = tt
+
+-- one place more of a schedule has been played
+pub place_more : (t : Tables) (programs : List (List Command)) (schedule : List ℕ) (k w : ℕ) (run new : Recorded) (machines others : List Machine)
+    → k < length schedule → w ≡ get_or schedule k w
+    → (turns : List Turn) × IsPlayed t programs (take k schedule) turns run machines
+    → ((turns : List Turn) → IsPlayed t programs (take k schedule) turns run machines → HasPlayed t programs turns w new others)
+    → (turns : List Turn) × IsPlayed t programs (take (k + 1) schedule) turns new others
+place_more t programs schedule k w run new machines others within at so_far more =
+    let turns = so_far.0 in
+    let before = so_far.1 in
+    let one = more turns before in
+    let named : reverse (take (k + 1) schedule) ≡ w ∷ reverse (take k schedule) =
+    ap reverse (take_more schedule k w within) ∙ reverse-append (take k schedule) (get_or schedule k w ∷ []) ∙ ap (λ v. v ∷ reverse (take k schedule)) (sym at) in
+    (one.turn ∷ turns, record {
+      plays = record {
+        workers = ap (λ v. v ∷ map (λ (x : Turn). x.worker) turns) one.worker ∙ ap (λ ws. w ∷ ws) before.plays.workers ∙ sym named;
+        each = (one.right, before.plays.each);
+      };
+      made = one.made;
+      each = one.each;
+    })
