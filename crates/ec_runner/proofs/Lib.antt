@@ -2,3 +2,4 @@ pub mod Lining
 pub mod Boarding
 pub mod Turning
 pub mod Places
+pub mod Starting

@@ -4,8 +4,10 @@
 mod board;
 mod gate;
 mod line;
+mod logs;
 mod playing;
 mod report;
+mod schedule;
 mod seat;
 mod seats;
 mod wait;
