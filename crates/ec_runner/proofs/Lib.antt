@@ -3,3 +3,4 @@ pub mod Boarding
 pub mod Turning
 pub mod Places
 pub mod Starting
+pub mod Logging
