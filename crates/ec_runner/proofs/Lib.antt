@@ -4,3 +4,4 @@ pub mod Turning
 pub mod Places
 pub mod Starting
 pub mod Logging
+pub mod Reporting
