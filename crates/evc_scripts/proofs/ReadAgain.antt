@@ -38,4 +38,4 @@ pub simulated_again : SimulatedIsReadAgain
 simulated_again p trace note played short =
     let past = entries_of played.turns in
     let accepted = accepted_turns p.heading.setup played.played.programs played.turns played.played.plays.each in
-    read_under p.heading (reverse past) trace (subst (IsAccepted p.heading.setup) (sym (reverse-reverse past)) accepted) played.trace short
+    read_under p.heading (reverse past) trace (subst (IsAccepted p.heading.setup) (sym (reverse-reverse past)) accepted) played.written short

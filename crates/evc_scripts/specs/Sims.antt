@@ -33,7 +33,7 @@ pub record PlaysPlan (p : Planned) (turns : List Turn) (outcomes : List Outcome)
   pub programs : List (List Command)
   pub lines : AreProgramsOf p programs
   pub plays : Plays p.heading.setup programs p.schedule turns
-  pub outcomes : AreOutcomes programs p.heading.setup.workers turns outcomes
+  pub after : AreOutcomes programs p.heading.setup.workers turns outcomes
 
 -- worker w, whom the plan's schedule names at this place, has ended before it
 pub record EndsEarly (p : Planned) (place w : ℕ) : Type 0 where
@@ -53,8 +53,8 @@ pub record IsPlayed (p : Planned) (trace note : List ℕ) : Type 0 where
   pub turns : List Turn
   pub outcomes : List Outcome
   pub played : PlaysPlan p turns outcomes
-  pub trace : IsTraceUnder p.heading (reverse (entries_of turns)) trace
-  pub note : note ≡ outcomes_note p.heading outcomes
+  pub written : IsTraceUnder p.heading (reverse (entries_of turns)) trace
+  pub noted : note ≡ outcomes_note p.heading outcomes
 
 -- how the command ended for a plan
 abbrev pub PlanEnds : Planned → Status → Outlets → Outlets → Type 0

@@ -3,7 +3,6 @@ ghost use Rattle.evc_scripts.specs.SimLaws.{SimulatedIsReadAgain};
 
 /// The trace that `sim` writes is read again as the run of the schedule, where it is within the
 /// bound of traces.
-#[tactic(auto, using(crate::proofs::ReadAgain::simulated_again))]
 pub fn simulated_is_read_again()
     ensures { SimulatedIsReadAgain }
 {}
