@@ -23,7 +23,7 @@ logged h k logs log so_far is = record {
   entries = λ w within. ⊎_elim
       (λ before. get_before logs log w (omega (arith, so_far.each)) ∙ so_far.entries w before)
       (λ last. let here : w ≡ k = omega arith in
-          get_last logs log w (so_far.each ∙ sym here) ∙ ap (λ l. Some l) (is ∙ ap (λ v. own v h) (sym here)))
+      get_last logs log w (so_far.each ∙ sym here) ∙ ap (λ l. Some l) (is ∙ ap (λ v. own v h) (sym here)))
       (cases_lt w k);
 }
 

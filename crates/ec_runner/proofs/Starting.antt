@@ -25,8 +25,8 @@ pub machines_more : (programs : List (List Command)) (machines : List Machine) (
 machines_more programs machines k program new count each within at stands unset = λ w m found.
     ⊎_elim (λ old. each w m old)
     (λ last.
-        let place : w ≡ k = last.0 ∙ count in
-        let is : program ≡ program_at programs w = at ∙ get_or_default programs k program [] within ∙ ap (program_at programs) (sym place) in
-        machine_new programs w m (subst (λ n. StandsFor (program_at programs w) n []) last.1 (subst (λ cs. StandsFor cs new []) is stands))
-        (subst (λ n. is_refused n ≡ false) last.1 unset))
+    let place : w ≡ k = last.0 ∙ count in
+    let is : program ≡ program_at programs w = at ∙ get_or_default programs k program [] within ∙ ap (program_at programs) (sym place) in
+    machine_new programs w m (subst (λ n. StandsFor (program_at programs w) n []) last.1 (subst (λ cs. StandsFor cs new []) is stands))
+    (subst (λ n. is_refused n ≡ false) last.1 unset))
     (get_push machines new w m found)

@@ -15,4 +15,5 @@ mod wait;
 pub use board::{Board, BoardFault, Parked};
 pub use gate::{Gate, OpenGate};
 pub use report::{Report, SimFault};
+pub use schedule::simulate;
 use seat::Seat;

@@ -1,6 +1,6 @@
 //! Schedules.
 ghost use Rattle.std.specs.Prelude.{◌≡◌, ◌<◌, ℕ, List, [], IfOk, MatchResult, Some, Vec, length, map, slice_get};
-ghost use Rattle.std.specs.List.{All};
+ghost use Rattle.std.specs.List.{All, AllByRecursion};
 ghost use Rattle.std.specs.declared.alloc.Global.{Global};
 ghost use Rattle.ec_core.specs.declared.act.Entry.{Entry};
 ghost use Rattle.ec_machine.specs.declared.command.Command.{Command};
@@ -15,6 +15,7 @@ use crate::{Report, SimFault};
 use ec_core::Run;
 use ec_count::{Setup, WorkerId};
 use ec_machine::{Machine, Outcome, Program};
+use ec_script::Plan;
 use std::alloc::{AllocError, Global};
 
 /// A machine at the start of each program.
@@ -95,4 +96,23 @@ fn play(
         return Err(SimFault::Memory);
     };
     play_out(alloc, run, machines.as_mut_slice(), schedule)
+}
+
+/// Plays the schedule of a plan, one turn for each place, on one thread. In its turn a worker makes
+/// the step that its program asks for next; where the step is refused, no entry is made, and the
+/// program has ended. The time is linear in the number of places.
+pub fn simulate(alloc: Global, plan: &Plan) -> Result<Report, SimFault>
+    requires programs { length plan.now.programs.items ≡ plan.now.heading.setup.workers }
+    requires schedule { AllByRecursion (λ w. w < plan.now.heading.setup.workers) plan.now.schedule.items }
+    ensures { MatchResult result
+        (IsReport plan.now.heading.setup plan.now.programs.items plan.now.schedule.items)
+        (IsSimFault plan.now.heading.setup plan.now.programs.items plan.now.schedule.items) }
+{
+    let setup = plan.heading.setup().copy();
+    play(
+        alloc,
+        setup,
+        plan.programs.as_slice(),
+        plan.schedule.as_slice(),
+    )
 }

@@ -9,5 +9,5 @@ loop-program-preserved c = record {
   each = ap length c.in_ok-push.ensures.items ∙ length_push c.loop-program.machines.items c.new.result ∙ ap (λ n. n + 1) c.loop-program.invariant.each;
   start = subst (AreMachines c.args.programs.now []) (sym c.in_ok-push.ensures.items)
       (machines_more c.args.programs.now c.loop-program.machines.items c.loop-program.program-index c.program-item.result c.new.result c.loop-program.invariant.each c.loop-program.invariant.start
-          c.loop-program-test.true c.program-item.is c.new.ensures.stands c.new.ensures.unset);
+      c.loop-program-test.true c.program-item.is c.new.ensures.stands c.new.ensures.unset);
 }
