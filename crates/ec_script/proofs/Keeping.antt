@@ -261,7 +261,7 @@ leads_keeps s (line ∷ lines) t keeps leads = leads_keeps leads.0 lines t (step
 plan_of : (s : Scripted) (b : Option Block) (p : Planned) → Keeps s → plan_or s b ≡ Some p → IsPlan p
 plan_of s None p keeps is =
     let e : (let q : Planned = record { heading = s.heading; programs = s.programs; schedule = s.schedule } in q) ≡ p = cc in
-    subst IsPlan e (record { apart = keeps.head.apart.apart; programs = keeps.programs; confined = keeps.confined; schedule = keeps.schedule })
+    subst IsPlan e (record { some = keeps.head.some; apart = keeps.head.apart.apart; programs = keeps.programs; confined = keeps.confined; schedule = keeps.schedule })
 plan_of s (Some b) p keeps is = cc
 
 plan_keeps : (t : Stage) (p : Planned) → StageKeeps t → plan_in t ≡ Some p → IsPlan p

@@ -1,13 +1,13 @@
-mod Words
-mod Drafts
-mod Sizes
-mod Room
-mod LineCuts
-mod Lines
-mod Texts
-mod Onward
-mod Apart
-mod Declaring
-mod Confining
-mod WrittenOut
-mod Keeping
+pub mod Words
+pub mod Drafts
+pub mod Sizes
+pub mod Room
+pub mod LineCuts
+pub mod Lines
+pub mod Texts
+pub mod Onward
+pub mod Apart
+pub mod Declaring
+pub mod Confining
+pub mod WrittenOut
+pub mod Keeping

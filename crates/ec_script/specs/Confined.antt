@@ -1,5 +1,5 @@
 -- Which commands use the objects of groups by the groups' own procedures alone.
-use Rattle.std.specs.Prelude.{◌≡◌, ◌≢◌, ℕ, ◌<◌, true, false, List, length, map, Some, Ok}
+use Rattle.std.specs.Prelude.{◌≡◌, ◌≢◌, ℕ, ◌<◌, ◌≤◌, true, false, List, length, map, Some, Ok}
 use Rattle.std.specs.List.{AllByRecursion, Contains}
 use Rattle.ec_machine.specs.declared.command.Command.{Command}
 use Rattle.ec_machine.specs.declared.command.Command.TheViews.{out-Command}
@@ -54,8 +54,10 @@ AreConfined gs programs = AllByRecursion (AllByRecursion (IsConfined gs)) progra
 abbrev pub AreApart : List Group → Type 0
 AreApart gs = (o : Object) (g k : Group) → Contains gs g → Contains gs k → owns o g ≡ true → owns o k ≡ true → g ≡ k
 
--- groups that are apart, a program for each declared worker, each confined, and a schedule of declared workers
+-- some worker is declared, the groups are apart, there is a program for each declared worker, each confined, and a schedule of declared
+-- workers
 pub record IsPlan (p : Planned) : Type 0 where
+  pub some : 1 ≤ p.heading.setup.workers
   pub apart : AreApart p.heading.groups
   pub programs : length p.programs ≡ p.heading.setup.workers
   pub confined : AreConfined p.heading.groups p.programs

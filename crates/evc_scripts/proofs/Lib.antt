@@ -1,3 +1,4 @@
 pub mod InputLemmas
 pub mod OutcomeLines
 pub mod ReadAgain
+pub mod SimEnds

@@ -15,6 +15,9 @@ use Rattle.ec_script.specs.Grammar.{IsScript, IsNoScript}
 use Rattle.ec_script.specs.Outcome.{outcome}
 use Rattle.ec_script.specs.Scripted.{Planned}
 use Rattle.ec_runner.specs.Reported.{AreOutcomes}
+use Rattle.ec_runner.specs.declared.report.SimFault.{SimFault}
+use Rattle.ec_runner.specs.declared.report.SimFault.TheVariants.{Ended}
+use Rattle.ec_runner.specs.declared.report.SimFault.TheVariants as faults
 use Rattle.ec_runner.specs.Schedules.{Turn, Plays, HasEnded, entries_of}
 use Rattle.evc_engine.specs.declared.status.Status.{Status}
 use Rattle.evc_engine.specs.declared.status.Status.TheVariants.{Done, Refused, Usage, InputOutput, Memory, Stopped}
@@ -55,6 +58,15 @@ pub record IsPlayed (p : Planned) (trace note : List ℕ) : Type 0 where
   pub played : PlaysPlan p turns outcomes
   pub written : IsTraceUnder p.heading (reverse (entries_of turns)) trace
   pub noted : note ≡ outcomes_note p.heading outcomes
+
+-- how the command ends where the schedule was not played, and its note
+abbrev pub fault_status : SimFault → Status
+fault_status (Ended place w) = Refused
+fault_status faults.Memory = Memory
+
+abbrev pub sim_fault_note : Headed → SimFault → List ℕ
+sim_fault_note h (Ended place w) = ended_note h place w
+sim_fault_note h faults.Memory = codes "no memory\n"
 
 -- how the command ended for a plan
 abbrev pub PlanEnds : Planned → Status → Outlets → Outlets → Type 0

@@ -1,15 +1,17 @@
 //! `sim`: a script in; the trace of its schedule out, and in the notes how each worker's program has
 //! ended.
-ghost use Rattle.std.specs.Prelude.{◌≡◌, ◌×◌, Ok, IfSome};
+ghost use Rattle.std.specs.Prelude.{◌≡◌, IfSome};
 ghost use Rattle.ec_text.specs.Puts.{Puts};
-ghost use Rattle.ec_script.specs.Outcome.{outcome, shown_plan};
-ghost use Rattle.evc_scripts.specs.Sims.{PlanEnds, TextEnds, Sims};
+ghost use Rattle.ec_runner.specs.Reported.{IsReport};
+ghost use Rattle.ec_script.specs.Confined.{IsPlan};
+ghost use Rattle.ec_script.specs.Outcome.{shown_plan};
+ghost use Rattle.evc_scripts.specs.Sims.{PlanEnds, TextEnds, Sims, fault_status, sim_fault_note};
 
 use crate::input::{InputFault, read_script};
 use crate::outcomes::{note_ended, note_kind, note_outcomes};
 use ec_runner::{Report, SimFault, simulate};
 use ec_script::{Plan, ScriptFault, parse};
-use ec_trace::write_trace;
+use ec_trace::{Heading, write_trace};
 use evc_engine::{Notes, Status};
 use std::alloc::Global;
 use std::io::{Read, Write};
@@ -21,12 +23,14 @@ fn write_report<W: Write, N: Write>(
     out: &mut W,
     notes: &mut Notes<N>,
 ) -> Status
-    requires { IsReport plan.now.heading.setup plan.now.programs.items plan.now.schedule.items report.now }
+    requires plan { IsPlan (shown_plan plan.now) }
+    requires report { IsReport plan.now.heading.setup plan.now.programs.items plan.now.schedule.items report.now }
     ensures { PlanEnds (shown_plan plan.now) result
         (record { out = W.contents out.old; notes = N.contents notes.old.writer; held = notes.old.table })
         (record { out = W.contents out.new; notes = N.contents notes.new.writer; held = notes.new.table }) }
 {
     plan.heading.known();
+    report.run.known();
     match write_trace(&report.run, &plan.heading, out) {
         Ok(()) => {
             note_outcomes(notes, &plan.heading, report.outcomes.as_slice());
@@ -35,6 +39,23 @@ fn write_report<W: Write, N: Write>(
         Err(_) => {
             notes.say(b"write fault\n");
             Status::InputOutput
+        }
+    }
+}
+
+/// Notes why a plan's schedule was not played.
+fn note_fault<N: Write>(heading: &Heading, fault: SimFault, notes: &mut Notes<N>) -> Status
+    ensures status { result ≡ fault_status fault }
+    ensures note { Puts (N.contents notes.old.writer) notes.old.table (N.contents notes.new.writer) notes.new.table (sim_fault_note heading.now fault) }
+{
+    match fault {
+        SimFault::Ended { place, worker } => {
+            note_ended(notes, heading, place, worker);
+            Status::Refused
+        }
+        SimFault::Memory => {
+            notes.say(b"no memory\n");
+            Status::Memory
         }
     }
 }
@@ -53,14 +74,7 @@ fn sim_plan<W: Write, N: Write>(
 {
     match simulate(alloc, plan) {
         Ok(report) => write_report(plan, &report, out, notes),
-        Err(SimFault::Ended { place, worker }) => {
-            note_ended(notes, &plan.heading, place, worker);
-            Status::Refused
-        }
-        Err(SimFault::Memory) => {
-            notes.say(b"no memory\n");
-            Status::Memory
-        }
+        Err(fault) => note_fault(&plan.heading, fault, notes),
     }
 }
 

@@ -1,0 +1,91 @@
+-- What `sim` has written, by what its parts have.
+use Rattle.std.proofs.Common.{◌≡◌, ◌≤◌, ◌<◌, ◌+◌, ◌⊎◌, inl, inr, ℕ, List, length, map, reverse, take, Option, Some, None, IfSome, Result, Ok, Err, refl, sym, ap, subst, ◌∙◌, arith}
+use Rattle.std.proofs.lemmas.List.{reverse-reverse, take_all, length-take}
+use Rattle.ec_count.specs.Tables.{Tables}
+use Rattle.ec_core.specs.declared.act.Entry.{Entry}
+use Rattle.ec_machine.specs.declared.outcome.Outcome.{Outcome}
+use Rattle.ec_trace.specs.Outline.{Outline, IsOutline, headed}
+use Rattle.ec_trace.specs.Outlined.{HasOutline}
+use Rattle.ec_trace.specs.Spelling.{trace_text}
+use Rattle.ec_runner.specs.Reported.{IsReport}
+use Rattle.ec_runner.specs.declared.report.Report.{Report}
+use Rattle.ec_script.specs.declared.fault.Kind.{Kind}
+use Rattle.ec_script.specs.declared.parsing.TheConstants.{SCRIPT_MAX}
+use Rattle.ec_script.specs.declared.plan.Plan.{Plan}
+use Rattle.ec_script.specs.Grammar.{IsScript, IsNoScript}
+use Rattle.ec_script.specs.Outcome.{outcome, shown_plan}
+use Rattle.ec_script.specs.Scripted.{Planned}
+use Rattle.ec_script.proofs.Texts.{read_is_script, script_is_read}
+use Rattle.evc_engine.specs.declared.status.Status.{Status}
+use Rattle.evc_engine.specs.declared.status.Status.TheVariants.{Done, Refused, Usage, InputOutput, Memory, Stopped}
+use Rattle.evc_engine.specs.Checks.{Outlets}
+use Rattle.evc_scripts.specs.Inputs.{looked_at}
+use Rattle.evc_scripts.specs.OutcomeNotes.{outcomes_note}
+use Rattle.evc_scripts.specs.Sims.{IsPlayed, TextEnds, SaysPlan, RefusedAt, Sims}
+
+-- A REPORT
+
+-- a report of a plan, and its trace by an outline of the heading
+pub is_played : (plan : Plan) (report : Report) (h : HasOutline plan.heading) → IsReport plan.heading.setup plan.programs.items plan.schedule.items report
+    → IsPlayed (shown_plan plan) (trace_text h.outline report.run.entries) (outcomes_note plan.heading report.outcomes.items)
+is_played plan report h r = record {
+  turns = r.turns;
+  outcomes = report.outcomes.items;
+  played = record { programs = plan.programs.items; lines = refl; plays = r.plays; after = r.outcomes };
+  written = record {
+    outline = h.outline;
+    is = h.is;
+    declares = h.declares;
+    text = ap (trace_text h.outline) (sym (reverse-reverse report.run.entries) ∙ ap reverse r.entries);
+  };
+  noted = refl;
+}
+
+-- BYTES
+
+-- a text that is within its bound is all that there is
+all_of_it : (max : ℕ) (bytes : List ℕ) → length (looked_at max bytes) ≤ max → looked_at max bytes ≡ bytes
+all_of_it max bytes short =
+    let small : length bytes ≤ max + 1 = omega (arith, length-take (max + 1) bytes, short) in
+    take_all (max + 1) bytes small
+
+looked_at_all : (max : ℕ) (bytes : List ℕ) → length bytes ≤ max → looked_at max bytes ≡ bytes
+looked_at_all max bytes short = take_all (max + 1) bytes (omega (arith, short))
+
+pub says : (bytes : List ℕ) (p : Planned) → outcome (looked_at SCRIPT_MAX bytes) ≡ Ok p → SaysPlan bytes p
+says bytes p told =
+    let s : IsScript (looked_at SCRIPT_MAX bytes) p = read_is_script (looked_at SCRIPT_MAX bytes) p told in
+    record { script = subst (λ (b : List ℕ). IsScript b p) (all_of_it SCRIPT_MAX bytes s.within) s; told = told }
+
+pub refused_at : (bytes : List ℕ) (n : ℕ) (kind : Kind) → outcome (looked_at SCRIPT_MAX bytes) ≡ Err (n, kind) → RefusedAt bytes n kind
+refused_at bytes n kind told = record {
+  none = λ p s.
+    let read : outcome (looked_at SCRIPT_MAX bytes) ≡ Ok p = ap outcome (looked_at_all SCRIPT_MAX bytes s.within) ∙ script_is_read bytes p s in
+    (let never : Ok p ≡ Err (n, kind) = sym read ∙ told in cc);
+  told = told;
+}
+
+-- THE COMMAND
+
+sims : (bytes : List ℕ) (status : Status) (old new : Outlets) → TextEnds (looked_at SCRIPT_MAX bytes) status old new → Sims bytes status old new
+sims bytes Done old new e = (e.0, says bytes e.0 e.1, e.2)
+sims bytes Refused old new (inl e) = inl (e.0, says bytes e.0 e.1, e.2)
+sims bytes Refused old new (inr e) = inr (e.0, e.1, refused_at bytes e.0 e.1 e.2, e.3, e.4)
+sims bytes InputOutput old new e = inl (e.0, says bytes e.0 e.1, e.2)
+sims bytes Memory old new e = e
+sims bytes Usage old new e = e.2
+sims bytes Stopped old new e = e.2
+
+pub text_sims : (known : Option (List ℕ)) (text : List ℕ) (status : Status) (old new : Outlets) → IfSome known (λ bytes. text ≡ looked_at SCRIPT_MAX bytes)
+    → TextEnds text status old new → IfSome known (λ bytes. Sims bytes status old new)
+text_sims None text status old new is e = tt
+text_sims (Some bytes) text status old new is e = sims bytes status old new (subst (λ (t : List ℕ). TextEnds t status old new) is e)
+
+-- there are as few outcomes as workers
+pub few_outcomes : (plan : Plan) (report : Report) (os : List Outcome) → os ≡ report.outcomes.items → IsReport plan.heading.setup plan.programs.items plan.schedule.items report → report.run.setup.workers ≤ 16
+    → length os ≤ 16
+few_outcomes plan report os are r few =
+    let each : length report.outcomes.items ≡ plan.heading.setup.workers = r.outcomes.each in
+    let same : report.run.setup.workers ≡ plan.heading.setup.workers = ap (λ (t : Tables). t.workers) r.setup in
+    let long : length os ≡ length report.outcomes.items = ap length are in
+    omega (arith, long, each, same, few)
