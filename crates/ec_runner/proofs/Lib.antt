@@ -5,3 +5,4 @@ pub mod Places
 pub mod Starting
 pub mod Logging
 pub mod Reporting
+pub mod InOrder

@@ -32,7 +32,7 @@ running_is outcomes.Memory is = cc
 pub not_set : (o : Outcome) → is_running o ≡ true → is_set o ≡ false
 not_set o is = ap is_set (running_is o is)
 
-none_told : (o : Option Refusal) (outcome : Outcome) → ended_by o outcome ≡ outcomes.Running → o ≡ None
+pub none_told : (o : Option Refusal) (outcome : Outcome) → ended_by o outcome ≡ outcomes.Running → o ≡ None
 none_told None outcome is = refl
 none_told (Some r) outcome is = cc
 
@@ -40,7 +40,7 @@ either : (b : Bool) (o : Option Refusal) → cond b o o ≡ o
 either true o = refl
 either false o = refl
 
-own_mine : (w : ℕ) (x : Entry) (past : List Entry) → x.worker ≡ w → own w (x ∷ past) ≡ x ∷ own w past
+pub own_mine : (w : ℕ) (x : Entry) (past : List Entry) → x.worker ≡ w → own w (x ∷ past) ≡ x ∷ own w past
 own_mine w x past is = ap (λ b. cond b (x ∷ own w past) (own w past)) (eq-eqb _ _ is)
 
 answer_then : (t : Tables) (turns : List Turn) (w : ℕ) (r : Recorded) (act : Act) → IsRunOf t turns r

@@ -5,3 +5,4 @@ pub mod BoardFaults
 pub mod Schedules
 pub mod Reported
 pub mod Machines
+pub mod ScheduleLaws

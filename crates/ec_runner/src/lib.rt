@@ -3,6 +3,7 @@
 
 mod board;
 mod gate;
+mod laws;
 mod line;
 mod logs;
 mod playing;
@@ -14,6 +15,7 @@ mod wait;
 
 pub use board::{Board, BoardFault, Parked};
 pub use gate::{Gate, OpenGate};
+pub use laws::{ended_is_not_played, schedules_are_played_in_order, schedules_have_one_run};
 pub use report::{Report, SimFault};
 pub use schedule::simulate;
 use seat::Seat;

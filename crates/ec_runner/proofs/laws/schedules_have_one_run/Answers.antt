@@ -1,0 +1,5 @@
+use Rattle.ec_runner.proofs.InOrder.{one_run}
+use Rattle.ec_runner.proofs.laws.schedules_have_one_run.Goals as goal
+
+pub returns : goal.returns
+returns c = one_run

@@ -1,0 +1,77 @@
+-- What it means to play a schedule, in the order of time.
+use Rattle.std.specs.Prelude.{◌≡◌, ℕ, ◌+◌, ◌<◌, List, [], ◌∷◌, length, map, reverse, take, slice_get, Option, Some, None, Result, Ok, Err}
+use Rattle.ec_count.specs.Tables.{Tables}
+use Rattle.ec_core.specs.declared.act.Act.{Act}
+use Rattle.ec_core.specs.declared.act.Entry.{Entry}
+use Rattle.ec_core.specs.declared.act.Reply.{Reply}
+use Rattle.ec_core.specs.declared.act.Refusal.{Refusal}
+use Rattle.ec_core.specs.Acceptance.{answer_of}
+use Rattle.ec_core.specs.Counts.{past_at}
+use Rattle.ec_machine.specs.declared.command.Command.{Command}
+use Rattle.ec_machine.specs.declared.outcome.Outcome.{Outcome}
+use Rattle.ec_machine.specs.declared.outcome.Outcome.TheVariants.{Running, Refused}
+use Rattle.ec_machine.specs.Follows.{program_at, Follows}
+use Rattle.ec_machine.specs.Runs.{next_act, outcome_of}
+use Rattle.ec_machine.specs.Steps.{own}
+use Rattle.ec_runner.specs.Schedules.{Turn, Plays, HasEnded, entries_of, outcome_after}
+
+-- THE PLACES OF A SCHEDULE, each with a mark: the refusal that was told there, or none where an entry was made
+
+-- how many of these places made an entry
+abbrev pub made : List (Option Refusal) → ℕ
+made [] = 0
+made (None ∷ marks) = made marks + 1
+made (Some r ∷ marks) = made marks
+
+-- the schedule without the places that were refused
+abbrev pub unrefused : List ℕ → List (Option Refusal) → List ℕ
+unrefused [] marks = []
+unrefused (w ∷ schedule) [] = []
+unrefused (w ∷ schedule) (None ∷ marks) = w ∷ unrefused schedule marks
+unrefused (w ∷ schedule) (Some r ∷ marks) = unrefused schedule marks
+
+-- what a mark says of the answer to an act of w, where k entries had been made: it is refused so, or the act is the next entry
+abbrev pub IsMarked : Option Refusal → List Entry → ℕ → ℕ → Act → Result Reply Refusal → Type 0
+IsMarked None h k w act answer =
+    (reply : Reply) × (answer ≡ Ok reply) × (slice_get h k ≡ Some (record { worker = w; act = act; reply = reply }))
+IsMarked (Some r) h k w act answer = answer ≡ Err r
+
+-- a place of w with this mark, where k entries had been made before: the program of w is running after its entries among them, and
+-- the mark tells the answer to the act that comes next in it
+pub record IsPlace (t : Tables) (cs : List Command) (h : List Entry) (k w : ℕ) (mark : Option Refusal) : Type 0 where
+  pub act : Act
+  pub running : outcome_of cs (own w (past_at k h)) ≡ Running
+  pub due : next_act cs (own w (past_at k h)) ≡ Some act
+  pub answer : IsMarked mark h k w act (answer_of t (past_at k h) w act)
+
+-- a place of w was refused with r
+abbrev pub IsRefusedWith : List ℕ → List (Option Refusal) → ℕ → Refusal → Type 0
+IsRefusedWith schedule marks w r = (i : ℕ) × (slice_get schedule i ≡ Some w) × (slice_get marks i ≡ Some (Some r))
+
+-- A HISTORY OF A SCHEDULE. Its workers are those of the schedule without the places that were refused; the entries of each are a run of
+-- its program; each place is as its mark says, and a worker that was refused has no place after it; and this is how the programs ended
+pub record IsHistoryOf (t : Tables) (programs : List (List Command)) (schedule : List ℕ) (h : List Entry) (outcome : ℕ → Outcome) : Type 0 where
+  pub marks : List (Option Refusal)
+  pub each : length marks ≡ length schedule
+  pub workers : map (λ (x : Entry). x.worker) h ≡ unrefused schedule marks
+  pub parts : (w : ℕ) → Follows programs h w
+  pub places : (i w : ℕ) (mark : Option Refusal) → slice_get schedule i ≡ Some w → slice_get marks i ≡ Some mark
+      → IsPlace t (program_at programs w) h (made (take i marks)) w mark
+  pub last : (i j w : ℕ) (r : Refusal) → slice_get schedule i ≡ Some w → slice_get marks i ≡ Some (Some r) → slice_get schedule j ≡ Some w → i < j → ⊥
+  pub refused : (w : ℕ) (r : Refusal) → IsRefusedWith schedule marks w r → outcome w ≡ Refused r
+  pub others : (w : ℕ) → ((r : Refusal) → IsRefusedWith schedule marks w r → ⊥) → outcome w ≡ outcome_of (program_at programs w) (own w (reverse h))
+
+-- turns of a schedule make such a history
+abbrev pub SchedulesArePlayedInOrder : Type 0
+SchedulesArePlayedInOrder = (t : Tables) (programs : List (List Command)) (schedule : List ℕ) (turns : List Turn) (h : List Entry)
+    → Plays t programs schedule turns → reverse h ≡ entries_of turns → IsHistoryOf t programs schedule h (λ w. outcome_after programs w turns)
+
+-- a schedule is played in one way
+abbrev pub SchedulesHaveOneRun : Type 0
+SchedulesHaveOneRun = (t : Tables) (programs : List (List Command)) (schedule : List ℕ) (turns others : List Turn)
+    → Plays t programs schedule turns → Plays t programs schedule others → turns ≡ others
+
+-- where it names a worker that has ended, in none
+abbrev pub EndedIsNotPlayed : Type 0
+EndedIsNotPlayed = (t : Tables) (programs : List (List Command)) (schedule : List ℕ) (place w : ℕ) (turns : List Turn)
+    → HasEnded t programs schedule place w → Plays t programs schedule turns → ⊥
