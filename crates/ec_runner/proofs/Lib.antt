@@ -1,2 +1,3 @@
 pub mod Lining
 pub mod Boarding
+pub mod Walking

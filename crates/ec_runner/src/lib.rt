@@ -4,10 +4,15 @@
 mod board;
 mod gate;
 mod line;
+mod replay;
 mod seat;
 mod seats;
+mod told;
 mod wait;
+mod walk;
+mod workers;
 
 pub use board::{Board, BoardFault, Parked};
 pub use gate::{Gate, OpenGate};
 use seat::Seat;
+pub use workers::Report;
