@@ -31,6 +31,10 @@ pub take_next : (xs : List Entry) (k : ℕ) (x : Entry) → slice_get xs k ≡ S
 take_next xs k x is =
     take_more xs k x (slice_get_within xs k x is) ∙ ap (λ y. take k xs ++ y ∷ []) (get_or_from_slice_get xs k x x is)
 
+-- where the entry at a place is another worker's, a worker has no more entries after it
+pub none_there : (w : ℕ) (h : List Entry) (k : ℕ) (x : Entry) → slice_get h k ≡ Some x → (x.worker == w) ≡ false → own w (take (k + 1) h) ≡ own w (take k h)
+none_there w h k x is not = ap (own w) (take_next h k x is) ∙ own_same w (take k h) x not
+
 set_here : (cursors : List ℕ) (v n : ℕ) → v < length cursors → slice_index (slice_set cursors v n) v ≡ n
 set_here cursors v n in_table = grind (arith, common_steps)
 

@@ -2,8 +2,10 @@
 #![tactic(auto)]
 
 mod board;
+mod caught;
 mod gate;
 mod line;
+mod refused;
 mod replay;
 mod seat;
 mod seats;
