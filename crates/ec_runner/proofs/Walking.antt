@@ -1,11 +1,16 @@
 -- One step of the walk over a run and the logs of its workers.
-use Rattle.std.proofs.Common.{◌≡◌, ◌≢◌, ℕ, ◌+◌, ◌<◌, ◌≤◌, Bool, true, false, ◌==◌, inl, inr, List, [], ◌∷◌, ◌++◌, length, take, Option, Some, None, IfNone, cond, slice_get, slice_index, slice_set, get_or, refl, ap, sym, subst, ◌∙◌, arith}
+use Rattle.std.proofs.Common.{◌≡◌, ◌≢◌, ℕ, ◌+◌, ◌<◌, ◌≤◌, Bool, true, false, ◌==◌, inl, inr, List, [], ◌∷◌, ◌++◌, length, reverse, take, All, Option, Some, None, IfNone, cond, slice_get, slice_index, slice_set, get_or, refl, ap, sym, subst, ◌∙◌, arith}
 use Rattle.std.proofs.lemmas.Grind.{common_steps}
 use Rattle.std.proofs.lemmas.Bool.{cases_eq, eqb-true, eq-eqb}
 use Rattle.std.proofs.lemmas.List.{take_more}
 use Rattle.std.proofs.Math.Seq.{take-length}
-use Rattle.std.proofs.lemmas.Option.{slice_get_within, get_or_from_slice_get}
+use Rattle.std.proofs.lemmas.List.Elements.{All-filter}
+use Rattle.std.proofs.lemmas.Option.{slice_get_within, get_or_from_slice_get, slice_get-get_or}
+use Rattle.ec_count.specs.Tables.{Tables, IsDeclared}
 use Rattle.ec_core.specs.declared.act.Entry.{Entry}
+use Rattle.ec_core.specs.Acceptance.{IsAccepted}
+use Rattle.ec_core.specs.Procedures.{IsReply}
+use Rattle.ec_core.specs.Laws.{RepliesFitTheirActs}
 use Rattle.ec_machine.specs.Steps.{own}
 use Rattle.ec_machine.proofs.OwnSteps.{own_append}
 use Rattle.ec_runner.specs.declared.told.Told.{Told}
@@ -91,3 +96,9 @@ pub all_walked : (tolds : List Told) (cursors : List ℕ) (done : List Entry) �
     → AreLogsOf tolds done
 all_walked tolds cursors done h ends w told is =
     h.walked w told is ∙ ap (λ n. take n told.log.items) (ends w told is) ∙ take-length told.log.items
+
+-- the replies in a log fit their acts, since they are replies of the run
+pub own_replies : (t : Tables) (w : ℕ) (h : List Entry) → RepliesFitTheirActs → IsDeclared t → IsAccepted t (reverse h) → All (λ (x : Entry). IsReply x.act x.reply) (own w h)
+own_replies t w h fits declared accepted =
+    All-filter (λ (x : Entry). x.worker == w) (λ (x : Entry). IsReply x.act x.reply) h
+    (λ k d within. fits t h k (get_or h k d) declared accepted (slice_get-get_or h k d within))

@@ -3,6 +3,7 @@
 
 mod board;
 mod caught;
+mod ending;
 mod gate;
 mod line;
 mod refused;
