@@ -1,5 +1,5 @@
 -- What a report of workers on threads says.
-use Rattle.std.specs.Prelude.{◌≡◌, ℕ, ◌<◌, ◌≤◌, List, length, reverse, take, Some, Err, slice_get, vec_len}
+use Rattle.std.specs.Prelude.{◌≡◌, ℕ, ◌<◌, ◌≤◌, List, length, reverse, take, Some, Err, slice_get}
 use Rattle.std.specs.Global.{Vec}
 use Rattle.ec_count.specs.Tables.{Tables}
 use Rattle.ec_core.specs.declared.act.Act.{Act}
@@ -15,7 +15,7 @@ use Rattle.ec_machine.specs.Follows.{program_at}
 use Rattle.ec_machine.specs.Runs.{IsRunOf, next_act, outcome_of}
 use Rattle.ec_machine.specs.Steps.{own}
 use Rattle.ec_runner.specs.declared.wait.Wait.{Wait}
-use Rattle.ec_runner.specs.declared.workers.Report.{Report}
+use Rattle.ec_runner.specs.declared.report.Report.{Report}
 use Rattle.ec_runner.specs.Boarded.{past_of, awaited}
 
 -- the call of w that is under way at the end is an await that has just fallen short, and its threshold is above the total
@@ -57,7 +57,7 @@ pub record IsTold (run : Recorded) (w : ℕ) (cs : List Command) (turns : ℕ) (
 -- THE REPORT: the run is on these declarations, and each declared worker has a log and an outcome that are its own
 pub record IsReportOf (t : Tables) (programs : List (List Command)) (turns : ℕ) (r : Report) : Type 0 where
   pub setup : r.run.setup ≡ t
-  pub logs : vec_len r.logs ≡ t.workers
-  pub outcomes : vec_len r.outcomes ≡ t.workers
+  pub logs : length r.logs.items ≡ t.workers
+  pub outcomes : length r.outcomes.items ≡ t.workers
   pub told : (w : ℕ) (log : Vec Entry) (outcome : Outcome) → slice_get r.logs.items w ≡ Some log → slice_get r.outcomes.items w ≡ Some outcome
       → IsTold r.run w (program_at programs w) turns log.items outcome

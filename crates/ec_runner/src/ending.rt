@@ -96,7 +96,7 @@ pub(crate) fn worker_of(number: usize) -> WorkerId
 }
 
 /// The first worker whose log is no run of its program, or that ended otherwise than it was told.
-fn first_untold(run: &Run, programs: &[Program], turns: u64, tolds: &[Told]) -> Option<WorkerId>
+pub(crate) fn first_untold(run: &Run, programs: &[Program], turns: u64, tolds: &[Told]) -> Option<WorkerId>
     requires few { length tolds.now ≤ 16 }
     requires logs { AreLogsOf tolds.now run.now.entries }
     ensures { IfNone result ((w : ℕ) (told : Told) → slice_get tolds.now w ≡ Some told
