@@ -1,3 +1,5 @@
 pub mod Lining
 pub mod Boarding
 pub mod Walking
+pub mod Turning
+pub mod Places

@@ -4,3 +4,6 @@ pub mod Boarded
 pub mod BoardFaults
 pub mod RunReports
 pub mod Walks
+pub mod Schedules
+pub mod Reported
+pub mod Machines

@@ -1,4 +1,4 @@
-//! Workers on one run: the board that they share.
+//! Workers on one run: the board that they share, and the playing of a schedule.
 #![tactic(auto)]
 
 mod board;
@@ -9,6 +9,8 @@ mod line;
 mod mismatch;
 mod refused;
 mod replay;
+mod playing;
+mod report;
 mod seat;
 mod seats;
 mod told;
@@ -18,4 +20,5 @@ mod workers;
 
 pub use board::{Board, BoardFault, Parked};
 pub use gate::{Gate, OpenGate};
+pub use report::{Report, SimFault};
 use seat::Seat;
