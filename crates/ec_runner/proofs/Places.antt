@@ -35,8 +35,8 @@ others_stay programs turns x i m other machine =
     record {
       stands = subst (StandsFor (program_at programs i) m) (sym same) machine.stands;
       outcome = machine.outcome
-      ∙ sym (ap (λ o. ended_by o (outcome_of (program_at programs i) (own i (entries_of (x ∷ turns))))) told
-      ∙ ap (λ past. ended_by (refusal_told i turns) (outcome_of (program_at programs i) past)) same);
+          ∙ sym (ap (λ o. ended_by o (outcome_of (program_at programs i) (own i (entries_of (x ∷ turns))))) told
+          ∙ ap (λ past. ended_by (refusal_told i turns) (outcome_of (program_at programs i) past)) same);
     }
 
 some_is : (m k : Machine) → Some m ≡ Some k → m ≡ k
@@ -73,12 +73,14 @@ place_more t programs schedule k w run new machines others within at so_far more
     let before = so_far.1 in
     let one = more turns before in
     let named : reverse (take (k + 1) schedule) ≡ w ∷ reverse (take k schedule) =
-    ap reverse (take_more schedule k w within) ∙ reverse-append (take k schedule) (get_or schedule k w ∷ []) ∙ ap (λ v. v ∷ reverse (take k schedule)) (sym at) in
-    (one.turn ∷ turns, record {
-      plays = record {
-        workers = ap (λ v. v ∷ map (λ (x : Turn). x.worker) turns) one.worker ∙ ap (λ ws. w ∷ ws) before.plays.workers ∙ sym named;
-        each = (one.right, before.plays.each);
-      };
-      made = one.made;
-      each = one.each;
-    })
+    ap reverse (take_more schedule k w within) ∙ reverse-append (take k schedule) (get_or schedule k w ∷ []) ∙ ap (λ v. v ∷ reverse (take k schedule)) (sym at) in (
+      one.turn ∷ turns,
+      record {
+        plays = record {
+          workers = ap (λ v. v ∷ map (λ (x : Turn). x.worker) turns) one.worker ∙ ap (λ ws. w ∷ ws) before.plays.workers ∙ sym named;
+          each = (one.right, before.plays.each);
+        };
+        made = one.made;
+        each = one.each;
+      },
+    )

@@ -73,7 +73,7 @@ turn_made t programs turns w old new m n act reply of machine running due answer
       machine = record {
         stands = stand;
         outcome = stand.outcome unset
-        ∙ ap (λ o. ended_by o (outcome_of (program_at programs w) (own w (x ∷ entries_of turns)))) (sym (either (w == w) (refusal_told w turns) ∙ told));
+            ∙ ap (λ o. ended_by o (outcome_of (program_at programs w) (own w (x ∷ entries_of turns)))) (sym (either (w == w) (refusal_told w turns) ∙ told));
       };
     }
 
@@ -97,6 +97,6 @@ turn_refused t programs turns w old new m n act r of machine running due answer 
       machine = record {
         stands = stands;
         outcome = ends ∙ ap (λ o. refused o (outcomes.Refused r)) is
-        ∙ ap (λ o. ended_by o (outcome_of (program_at programs w) (own w (entries_of turns)))) (sym (told_now w r (refusal_told w turns)));
+            ∙ ap (λ o. ended_by o (outcome_of (program_at programs w) (own w (entries_of turns)))) (sym (told_now w r (refusal_told w turns)));
       };
     }

@@ -28,7 +28,13 @@ fn is_at(machine: &Machine<'_>, outcome: Outcome) -> bool
 }
 
 /// Whether the act that the program asks for was refused so at the moment that was told.
-fn was_refused(run: &Run, worker: WorkerId, machine: &Machine<'_>, told: &Told, refusal: Refusal) -> bool
+fn was_refused(
+    run: &Run,
+    worker: WorkerId,
+    machine: &Machine<'_>,
+    told: &Told,
+    refusal: Refusal,
+) -> bool
     requires { own worker run.now.entries ≡ told.now.log.items }
     ensures { (cs : List Command) → StandsFor cs machine.now (reverse told.now.log.items) → is_refused machine.now ≡ false → IsTrue result
         → WasRefused run.now worker cs told.now.log.items refusal }
@@ -96,7 +102,12 @@ pub(crate) fn worker_of(number: usize) -> WorkerId
 }
 
 /// The first worker whose log is no run of its program, or that ended otherwise than it was told.
-pub(crate) fn first_untold(run: &Run, programs: &[Program], turns: u64, tolds: &[Told]) -> Option<WorkerId>
+pub(crate) fn first_untold(
+    run: &Run,
+    programs: &[Program],
+    turns: u64,
+    tolds: &[Told],
+) -> Option<WorkerId>
     requires few { length tolds.now ≤ 16 }
     requires logs { AreLogsOf tolds.now run.now.entries }
     ensures { IfNone result ((w : ℕ) (told : Told) → slice_get tolds.now w ≡ Some told

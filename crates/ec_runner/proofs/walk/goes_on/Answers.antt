@@ -20,5 +20,5 @@ returns c = λ done walked yes.
     ap (λ xs. slice_get xs (slice_index cursors w)) (sym c.as_slice.ensures.value) ∙ c.stands_at.ensures c.if-not-stands_at.false in
     subst (λ (v : ℕ). AreWalked tolds (slice_set cursors v (slice_index cursors v + 1)) (done ++ x ∷ [])) (sym is)
     (walks tolds cursors done x told walked (subst (λ (v : ℕ). v < 16) is c.get-w.ensures.small)
-        (ap (slice_get tolds) (sym is) ∙ there)
-        (ap (λ v. slice_get told.log.items (slice_index cursors v)) (sym is) ∙ next)))
+    (ap (slice_get tolds) (sym is) ∙ there)
+    (ap (λ v. slice_get told.log.items (slice_index cursors v)) (sym is) ∙ next)))
