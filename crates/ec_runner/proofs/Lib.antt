@@ -3,3 +3,4 @@ pub mod Boarding
 pub mod Walking
 pub mod Turning
 pub mod Places
+pub mod Reporting

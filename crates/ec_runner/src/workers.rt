@@ -121,8 +121,9 @@ pub(crate) fn run_on<R: Threads + Wait + Sync, G: Gate + Sync>(
 {
     let _workers = setup.workers();
     let (run, tolds) = ran(rt, alloc, setup, programs, gate, turns)?;
-    if let Some(worker) = mismatched(setup, programs, turns, &run, tolds.as_slice()) {
-        return Err(RunFault::Mismatch(worker));
+    match mismatched(setup, programs, turns, &run, tolds.as_slice()) {
+        Some(worker) => return Err(RunFault::Mismatch(worker)),
+        None => {}
     }
     match made_report(alloc, run, tolds) {
         Ok(report) => Ok(report),
