@@ -1,46 +1,58 @@
--- What workers tell, as a report.
-use Rattle.std.proofs.Common.{◌≡◌, ℕ, List, length, map, Option, Some, None, slice_get, refl, ap, sym, ◌∙◌, subst}
-use Rattle.std.proofs.lemmas.List.{length-map}
-use Rattle.std.specs.Global.{Vec}
+-- What is told of a schedule that was played.
+use Rattle.std.proofs.Common.{◌≡◌, ◌<◌, ℕ, List, [], ◌∷◌, length, map, reverse, get_or, Some, Vec, Global, refl, sym, ◌∙◌, ap, subst, arith}
+use Rattle.std.specs.Prelude.{slice_get}
 use Rattle.std.specs.Option.{option_map}
-use Rattle.std.proofs.lemmas.Option.{slice_get-map}
+use Rattle.std.proofs.lemmas.Option.{slice_get-get_or, slice_get-map}
+use Rattle.std.proofs.lemmas.List.{length-map}
 use Rattle.ec_count.specs.Tables.{Tables}
 use Rattle.ec_core.specs.declared.act.Entry.{Entry}
 use Rattle.ec_core.specs.Recorded.{Recorded}
 use Rattle.ec_machine.specs.declared.command.Command.{Command}
+use Rattle.ec_machine.specs.declared.machine.Machine.{Machine}
 use Rattle.ec_machine.specs.declared.outcome.Outcome.{Outcome}
-use Rattle.ec_machine.specs.Follows.{program_at}
+use Rattle.ec_machine.specs.Standing.{kept_outcome}
 use Rattle.ec_runner.specs.declared.report.Report.{Report}
-use Rattle.ec_runner.specs.declared.told.Told.{Told}
-use Rattle.ec_runner.specs.RunReports.{IsTold, IsReportOf}
-use Rattle.ec_runner.specs.Walks.{AreTold}
+use Rattle.ec_runner.specs.Machines.{AreMachines, IsPlayed}
+use Rattle.ec_runner.specs.Reported.{AreLogs, AreOutcomes, IsReport}
+use Rattle.ec_runner.specs.Schedules.{Turn, outcome_after}
 
-abbrev log_of : Told → Vec Entry
-log_of t = t.log
-
-abbrev outcome_in : Told → Outcome
-outcome_in t = t.outcome
-
-told_at : (run : Recorded) (w : ℕ) (cs : List Command) (turns : ℕ) (o : Option Told) (log : Vec Entry) (outcome : Outcome)
-    → ((told : Told) → o ≡ Some told → IsTold run w cs turns told.log.items told.outcome)
-    → option_map log_of o ≡ Some log → option_map outcome_in o ≡ Some outcome → IsTold run w cs turns log.items outcome
-told_at run w cs turns None log outcome h a b = cc
-told_at run w cs turns (Some told) log outcome h a b =
-    let p : told.log ≡ log = cc in
-    let q : told.outcome ≡ outcome = cc in
-    subst (λ (l : Vec Entry). IsTold run w cs turns l.items outcome) p
-    (subst (λ (o : Outcome). IsTold run w cs turns told.log.items o) q (h told refl))
-
-pub report_of : (t : Tables) (programs : List (List Command)) (turns : ℕ) (run : Recorded) (tolds : List Told) (r : Report) → AreTold t programs turns run tolds
-    → r.run ≡ run → r.logs.items ≡ map (λ (d : Told). d.log) tolds → r.outcomes.items ≡ map (λ (d : Told). d.outcome) tolds
-    → IsReportOf t programs turns r
-report_of t programs turns run tolds r h same logs outcomes = record {
-  setup = ap (λ (d : Recorded). d.setup) same ∙ h.setup;
-  logs = ap length logs ∙ length-map tolds log_of ∙ h.many;
-  outcomes = ap length outcomes ∙ length-map tolds outcome_in ∙ h.many;
-  told = λ w log outcome p q.
-      subst (λ (d : Recorded). IsTold d w (program_at programs w) turns log.items outcome) (sym same)
-      (told_at run w (program_at programs w) turns (slice_get tolds w) log outcome (λ told is. h.told w told is)
-          (sym (slice_get-map log_of tolds w) ∙ ap (λ xs. slice_get xs w) (sym logs) ∙ p)
-          (sym (slice_get-map outcome_in tolds w) ∙ ap (λ xs. slice_get xs w) (sym outcomes) ∙ q));
+-- at first nothing has been played
+pub nothing_played : (programs : List (List Command)) (run : Recorded) (machines : List Machine) → run.entries ≡ [] → AreMachines programs [] machines
+    → IsPlayed run.setup programs [] [] run machines
+nothing_played programs run machines none each = record {
+  plays = record { workers = refl; each = tt };
+  made = record { setup = refl; entries = ap reverse none };
+  each = each;
 }
+
+outcomes_are : (programs : List (List Command)) (n : ℕ) (turns : List Turn) (machines : List Machine) (outcomes : List Outcome) → length machines ≡ n → AreMachines programs turns machines
+    → outcomes ≡ map kept_outcome machines → AreOutcomes programs n turns outcomes
+outcomes_are programs n turns machines outcomes count each is = record {
+  each = ap length is ∙ length-map machines kept_outcome ∙ count;
+  after = λ w within.
+      elim machines as (λ ms. machines ≡ ms → slice_get outcomes w ≡ Some (outcome_after programs w turns)) [
+        | [] ↦ λ none. absurd (omega (arith, ap length none))
+        | m ∷ ms ↦ λ some.
+            let at : slice_get machines w ≡ Some (get_or machines w m) = slice_get-get_or machines w m (omega (arith, count)) in
+            ap (λ os. slice_get os w) is ∙ slice_get-map kept_outcome machines w ∙ ap (option_map kept_outcome) at
+            ∙ ap (λ o. Some o) (each w (get_or machines w m) at).outcome
+      ] refl;
+}
+
+-- the schedule has been played
+pub all_played : (t : Tables) (programs : List (List Command)) (schedule : List ℕ) (run : Recorded) (machines : List Machine) (r : Report)
+    → (turns : List Turn) × IsPlayed t programs schedule turns run machines → length machines ≡ t.workers → r.run ≡ run
+    → AreLogs run.setup.workers run.entries (map (λ (log : Vec Entry Global). log.items) r.logs.items) → r.outcomes.items ≡ map kept_outcome machines
+    → IsReport t programs schedule r
+all_played t programs schedule run machines r so_far count same logs outcomes =
+    let turns = so_far.0 in
+    let played = so_far.1 in
+    record {
+      turns = turns;
+      plays = played.plays;
+      setup = ap (λ (x : Recorded). x.setup) same ∙ played.made.setup;
+      entries = ap (λ (x : Recorded). reverse x.entries) same ∙ played.made.entries;
+      logs = subst (λ (x : Recorded). AreLogs t.workers x.entries (map (λ (log : Vec Entry Global). log.items) r.logs.items)) (sym same)
+          (subst (λ (s : Tables). AreLogs s.workers run.entries (map (λ (log : Vec Entry Global). log.items) r.logs.items)) played.made.setup logs);
+      outcomes = outcomes_are programs t.workers turns machines r.outcomes.items count played.each outcomes;
+    }

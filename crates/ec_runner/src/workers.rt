@@ -12,6 +12,7 @@ use crate::told::Told;
 use ec_core::Run;
 use ec_count::Setup;
 use ec_machine::Program;
+use ec_script::Plan;
 use std::alloc::{AllocError, Global};
 use std::sync::{Condvar, Mutex, Wait};
 use std::thread;
@@ -106,9 +107,8 @@ fn ran<R: Threads + Wait + Sync, G: Gate + Sync>(
     Ok((board.into_inner().into_run(), tolds))
 }
 
-/// Runs the programs of the workers of these declarations, each in a thread of its own, and reports
-/// a run whose entries of each worker are its log.
-pub(crate) fn run_on<R: Threads + Wait + Sync, G: Gate + Sync>(
+/// Runs programs of the workers of these declarations, each in a thread of its own.
+fn run_on<R: Threads + Wait + Sync, G: Gate + Sync>(
     rt: &R,
     alloc: Global,
     setup: &Setup,
@@ -129,4 +129,30 @@ pub(crate) fn run_on<R: Threads + Wait + Sync, G: Gate + Sync>(
         Ok(report) => Ok(report),
         Err(_) => Err(RunFault::Memory),
     }
+}
+
+/// Runs the programs of a plan, each worker's in a thread of its own, all at once, on one board
+/// under one lock; the plan's schedule is not used. A turn is one step that a worker asks the board
+/// for, in one hold of the lock, and no worker has more than `turns`. Where a worker's await has
+/// fallen short it sleeps until the total may have come to its threshold, or until no live worker is
+/// left that doesn't wait. The gate is called before each hold. When all have ended, what they were
+/// told is held against the run and against their programs.
+pub fn run_workers<R: Threads + Wait + Sync, G: Gate + Sync>(
+    rt: &R,
+    alloc: Global,
+    plan: &Plan,
+    gate: &G,
+    turns: u64,
+) -> Result<Report, RunFault>
+    requires { length plan.now.programs.items ≡ plan.now.heading.setup.workers }
+    ensures { IfOk result (IsReportOf plan.now.heading.setup plan.now.programs.items turns) }
+{
+    run_on(
+        rt,
+        alloc,
+        plan.heading.setup(),
+        plan.programs.as_slice(),
+        gate,
+        turns,
+    )
 }

@@ -1,7 +1,7 @@
 use Rattle.std.proofs.Common.{List, subst}
 use Rattle.ec_runner.specs.declared.told.Told.{Told}
 use Rattle.ec_runner.specs.Walks.{AreTold}
-use Rattle.ec_runner.proofs.Reporting.{report_of}
+use Rattle.ec_runner.proofs.Telling.{report_of}
 use Rattle.ec_runner.proofs.workers.run_on.Goals as goal
 
 pub returns-in-Ok : goal.returns-in-Ok
