@@ -41,6 +41,6 @@ report_of t programs turns run tolds r h same logs outcomes = record {
   told = λ w log outcome p q.
       subst (λ (d : Recorded). IsTold d w (program_at programs w) turns log.items outcome) (sym same)
       (told_at run w (program_at programs w) turns (slice_get tolds w) log outcome (λ told is. h.told w told is)
-          (sym (slice_get-map log_of tolds w) ∙ ap (λ xs. slice_get xs w) (sym logs) ∙ p)
-          (sym (slice_get-map outcome_in tolds w) ∙ ap (λ xs. slice_get xs w) (sym outcomes) ∙ q));
+      (sym (slice_get-map log_of tolds w) ∙ ap (λ xs. slice_get xs w) (sym logs) ∙ p)
+      (sym (slice_get-map outcome_in tolds w) ∙ ap (λ xs. slice_get xs w) (sym outcomes) ∙ q));
 }
