@@ -1,8 +1,10 @@
 pub mod Lining
 pub mod Boarding
+pub mod Walking
 pub mod Turning
 pub mod Places
 pub mod Starting
 pub mod Logging
 pub mod Reporting
 pub mod InOrder
+pub mod Telling

@@ -2,20 +2,32 @@
 #![tactic(auto)]
 
 mod board;
+mod caught;
+mod ending;
 mod gate;
 mod laws;
 mod line;
 mod logs;
+mod mismatch;
 mod playing;
+mod refused;
+mod replay;
 mod report;
+mod run_fault;
 mod schedule;
 mod seat;
 mod seats;
+mod threads;
+mod told;
 mod wait;
+mod walk;
+mod workers;
 
 pub use board::{Board, BoardFault, Parked};
 pub use gate::{Gate, OpenGate};
 pub use laws::{ended_is_not_played, schedules_are_played_in_order, schedules_have_one_run};
 pub use report::{Report, SimFault};
+pub use run_fault::RunFault;
 pub use schedule::simulate;
 use seat::Seat;
+pub use workers::run_workers;

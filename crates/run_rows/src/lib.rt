@@ -1,0 +1,11 @@
+//! Tests of workers on threads: gates that hold them up, and scripts that are run.
+#![tactic(auto)]
+
+#[cfg(test)]
+mod drive;
+#[cfg(test)]
+mod gate_tests;
+#[cfg(test)]
+mod many_tests;
+#[cfg(test)]
+mod script_tests;
