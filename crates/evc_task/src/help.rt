@@ -71,12 +71,12 @@ pub(crate) const RUN_LONG_ABOUT: &str =
     "Runs a script's workers on threads, and writes the trace of what they did.
 
 The script is read from standard input, as by `sim`; its lines that say whose turn it
-is are not used. Each worker runs on a thread of its own, and an await sleeps until
-another worker's advance wakes it. The trace goes to standard output. Notes on standard
-error say how each worker's program ended, as `outcome a finished`: it is stopped where
-all who are left wait for one another, and out of turns where it has made as many steps
-as `--turns` gives it. Where the script is refused, nothing is written but a note, which
-says which line it is and what kind of fault it has. docs/FORMATS.md has the format.";
+is are not used. Each worker runs on a thread of its own, and sleeps while an await of
+its own falls short. The trace goes to standard output. Notes on standard error say how
+each worker's program ended, as `outcome a finished`: it is stopped where all who are
+left wait for one another, and out of turns where it has made as many steps as `--turns`
+gives it. Where the script is refused, nothing is written but a note, which says which
+line it is and what kind of fault it has. docs/FORMATS.md has the format.";
 
 pub(crate) const TURNS: &str =
     "How many steps each worker may make, from 1 to 1000000; 10000 where it is left out";
