@@ -1,2 +1,5 @@
 pub mod CommandMet
+pub mod Found
 pub mod PlainLines
+pub mod TurnsPass
+pub mod TurnsRead

@@ -1,14 +1,18 @@
 -- The plainest command lines, by computing what clap makes of them.
-use Rattle.std.proofs.Common.{refl}
+use Rattle.std.proofs.Common.{arith, refl}
 use Rattle.clap.proofs.OnLiterals.{clap_on_literals}
 use Rattle.evc_task.specs.CommandLine.{ReadsPlainLines}
 
 pub plain_lines_are_read : ReadsPlainLines
 unfolding clap_on_literals
 plain_lines_are_read = record {
-  check = λ program. (refl, refl);
-  audit = λ program. (refl, refl);
-  sim = λ program. (refl, refl);
+  check = λ program. (refl, (refl, tt));
+  audit = λ program. (refl, (refl, tt));
+  sim = λ program. (refl, (refl, tt));
+  run = λ program. (refl, (refl, refl));
+  seven = λ program. (refl, (refl, (((omega arith), (omega arith, tt)), refl)));
+  zero = λ program. refl;
+  too_many = λ program. refl;
   help = λ program. refl;
   none = λ program. refl;
   unknown = λ program. refl;
