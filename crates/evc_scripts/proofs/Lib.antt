@@ -2,3 +2,4 @@ pub mod InputLemmas
 pub mod OutcomeLines
 pub mod ReadAgain
 pub mod SimEnds
+pub mod RunLemmas

@@ -2,3 +2,4 @@ pub mod Inputs
 pub mod OutcomeNotes
 pub mod Sims
 pub mod SimLaws
+pub mod Runs

@@ -4,7 +4,10 @@
 mod input;
 mod laws;
 mod outcomes;
+mod running;
 mod simulating;
+mod writing;
 
 pub use laws::simulated_is_read_again;
+pub use running::run;
 pub use simulating::sim;

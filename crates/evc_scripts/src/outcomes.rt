@@ -3,6 +3,8 @@ ghost use Rattle.std.specs.Prelude.{◌≡◌, ◌≤◌, ◌∷◌, [], length,
 ghost use Rattle.ec_text.specs.Puts.{Puts};
 ghost use Rattle.ec_trace.specs.Spelling.{text_of};
 ghost use Rattle.evc_scripts.specs.OutcomeNotes.{outcome_words, outcome_line, outcome_lines, outcomes_note, kind_words, script_note, ended_words, ended_note};
+ghost use Rattle.evc_engine.specs.AuditTexts.{worker_word};
+ghost use Rattle.evc_scripts.specs.Runs.{mismatch_words};
 
 use ec_count::WorkerId;
 use ec_machine::Outcome;
@@ -147,6 +149,28 @@ pub(crate) fn note_ended<N: Write>(
         &mut notes.writer,
         &mut notes.table,
         place as u64,
+        spellings.worker(worker),
+    );
+    flush(&mut notes.writer, &mut notes.table);
+}
+
+/// Puts the note on a worker whose log does not fit the run.
+fn put_mismatch<W: Write>(writer: &mut W, table: &mut Buffered, worker: &[u8])
+    ensures { Puts (W.contents writer.old) table.old (W.contents writer.new) table.new (mismatch_words worker.now) }
+{
+    put(writer, table, b"mismatch ");
+    put(writer, table, worker);
+    put(writer, table, b"\n");
+}
+
+/// Notes that what a worker was told is not what it did, and writes it.
+pub(crate) fn note_mismatch<N: Write>(notes: &mut Notes<N>, heading: &Heading, worker: WorkerId)
+    ensures { Puts (N.contents notes.old.writer) notes.old.table (N.contents notes.new.writer) notes.new.table (mismatch_words (worker_word heading.now.words worker)) }
+{
+    let spellings = Spellings::new(heading.words());
+    put_mismatch(
+        &mut notes.writer,
+        &mut notes.table,
         spellings.worker(worker),
     );
     flush(&mut notes.writer, &mut notes.table);

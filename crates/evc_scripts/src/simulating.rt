@@ -8,10 +8,11 @@ ghost use Rattle.ec_script.specs.Outcome.{shown_plan};
 ghost use Rattle.evc_scripts.specs.Sims.{PlanEnds, TextEnds, Sims, fault_status, sim_fault_note};
 
 use crate::input::{InputFault, read_script};
-use crate::outcomes::{note_ended, note_kind, note_outcomes};
+use crate::outcomes::{note_ended, note_kind};
+use crate::writing::write_run;
 use ec_runner::{Report, SimFault, simulate};
 use ec_script::{Plan, ScriptFault, parse};
-use ec_trace::{Heading, write_trace};
+use ec_trace::Heading;
 use evc_engine::{Notes, Status};
 use std::alloc::Global;
 use std::io::{Read, Write};
@@ -31,15 +32,11 @@ fn write_report<W: Write, N: Write>(
 {
     plan.heading.known();
     report.run.known();
-    match write_trace(&report.run, &plan.heading, out) {
-        Ok(()) => {
-            note_outcomes(notes, &plan.heading, report.outcomes.as_slice());
-            Status::Done
-        }
-        Err(_) => {
-            notes.say(b"write fault\n");
-            Status::InputOutput
-        }
+    let outcomes = report.outcomes.as_slice();
+    if write_run(&plan.heading, &report.run, outcomes, out, notes) {
+        Status::Done
+    } else {
+        Status::InputOutput
     }
 }
 

@@ -1,0 +1,80 @@
+-- What `run` has written, by what its parts have.
+use Rattle.std.proofs.Common.{◌≡◌, ◌≤◌, ◌⊎◌, inl, inr, ℕ, Bool, true, false, cond, List, length, Option, Some, None, IfSome, Ok, Err, refl, sym, ap, subst, ◌∙◌, arith}
+use Rattle.std.specs.Io.KnownBytes.{Appends, Keeps}
+use Rattle.std.specs.List.{list_any}
+use Rattle.ec_machine.specs.declared.outcome.Outcome.{Outcome}
+use Rattle.ec_trace.specs.Outlined.{HasOutline}
+use Rattle.ec_trace.specs.Spelling.{trace_text}
+use Rattle.ec_runner.specs.RunReports.{IsReportOf}
+use Rattle.ec_runner.specs.declared.report.Report.{Report}
+use Rattle.ec_runner.specs.declared.run_fault.RunFault.{RunFault}
+use Rattle.ec_runner.specs.declared.run_fault.RunFault.TheVariants.{Mismatch, Spawn}
+use Rattle.ec_runner.specs.declared.run_fault.RunFault.TheVariants as faults
+use Rattle.ec_script.specs.declared.parsing.TheConstants.{SCRIPT_MAX}
+use Rattle.ec_script.specs.declared.plan.Plan.{Plan}
+use Rattle.ec_script.specs.Outcome.{shown_plan}
+use Rattle.ec_script.specs.Scripted.{Planned}
+use Rattle.evc_engine.specs.declared.status.Status.{Status}
+use Rattle.evc_engine.specs.declared.status.Status.TheVariants.{Done, Refused, Usage, InputOutput, Memory, Stopped}
+use Rattle.evc_engine.specs.Checks.{Outlets, Notes}
+use Rattle.evc_scripts.specs.Inputs.{looked_at}
+use Rattle.evc_scripts.specs.OutcomeNotes.{outcomes_note}
+use Rattle.evc_scripts.specs.Runs.{HaveRun, IsTold, HasNoReport, Says, RunEnds, TextRuns, Runs, status_for, is_memory, is_cut_short, run_fault_status, run_fault_note}
+use Rattle.evc_scripts.proofs.SimEnds.{says, refused_at}
+
+-- a report of a plan, and its trace by an outline of the heading
+pub have_run : (plan : Plan) (report : Report) (turns : ℕ) (h : HasOutline plan.heading) → IsReportOf plan.heading.setup plan.programs.items turns report
+    → HaveRun (shown_plan plan) turns (status_for report.outcomes.items) (trace_text h.outline report.run.entries) (outcomes_note plan.heading report.outcomes.items)
+have_run plan report turns h told = record {
+  programs = plan.programs.items;
+  lines = refl;
+  report = report;
+  told = told;
+  written = record { outline = h.outline; is = h.is; declares = h.declares; text = refl };
+  noted = refl;
+  ended = refl;
+}
+
+-- a report ends the command in one of three ways
+three_ways : (s : Status) (a b : Bool) → s ≡ cond a Memory (cond b Stopped Done) → (s ≡ Refused) ⊎ (s ≡ Usage) ⊎ (s ≡ InputOutput) → ⊥
+three_ways s true b is (inl e) = (let never : Memory ≡ Refused = sym is ∙ e in cc)
+three_ways s false true is (inl e) = (let never : Stopped ≡ Refused = sym is ∙ e in cc)
+three_ways s false false is (inl e) = (let never : Done ≡ Refused = sym is ∙ e in cc)
+three_ways s true b is (inr (inl e)) = (let never : Memory ≡ Usage = sym is ∙ e in cc)
+three_ways s false true is (inr (inl e)) = (let never : Stopped ≡ Usage = sym is ∙ e in cc)
+three_ways s false false is (inr (inl e)) = (let never : Done ≡ Usage = sym is ∙ e in cc)
+three_ways s true b is (inr (inr e)) = (let never : Memory ≡ InputOutput = sym is ∙ e in cc)
+three_ways s false true is (inr (inr e)) = (let never : Stopped ≡ InputOutput = sym is ∙ e in cc)
+three_ways s false false is (inr (inr e)) = (let never : Done ≡ InputOutput = sym is ∙ e in cc)
+
+pub told_ends : (p : Planned) (turns : ℕ) (s : Status) (old new : Outlets) → IsTold p turns s old new → RunEnds p turns s old new
+told_ends p turns Done old new t = t
+told_ends p turns Memory old new t = inl t
+told_ends p turns Stopped old new t = inl t
+told_ends p turns Refused old new t = three_ways Refused _ _ t.2.ended (inl refl)
+told_ends p turns Usage old new t = absurd (three_ways Usage _ _ t.2.ended (inr (inl refl)))
+told_ends p turns InputOutput old new t = absurd (three_ways InputOutput _ _ t.2.ended (inr (inr refl)))
+
+pub fault_ends : (p : Planned) (turns : ℕ) (fault : RunFault) (s : Status) (old new : Outlets) → s ≡ run_fault_status fault → Says old new (run_fault_note p.heading fault) → RunEnds p turns s old new
+fault_ends p turns (Mismatch w) s old new is said =
+    subst (λ (k : Status). RunEnds p turns k old new) (sym is) (inr (record { fault = Mismatch w; ended = refl; says = said }))
+fault_ends p turns Spawn s old new is said =
+    subst (λ (k : Status). RunEnds p turns k old new) (sym is) (inr (record { fault = Spawn; ended = refl; says = said }))
+fault_ends p turns faults.Memory s old new is said =
+    subst (λ (k : Status). RunEnds p turns k old new) (sym is) (inr (record { fault = faults.Memory; ended = refl; says = said }))
+
+-- THE COMMAND
+
+runs : (bytes : List ℕ) (turns : ℕ) (status : Status) (old new : Outlets) → TextRuns (looked_at SCRIPT_MAX bytes) turns status old new → Runs turns bytes status old new
+runs bytes turns Done old new e = (e.0, says bytes e.0 e.1, e.2)
+runs bytes turns Refused old new e = (e.0, e.1, refused_at bytes e.0 e.1 e.2, e.3)
+runs bytes turns InputOutput old new e = inl (e.0, says bytes e.0 e.1, e.2)
+runs bytes turns Memory old new (inl e) = inl (e.0, says bytes e.0 e.1, e.2)
+runs bytes turns Memory old new (inr e) = inr e
+runs bytes turns Stopped old new e = (e.0, says bytes e.0 e.1, e.2)
+runs bytes turns Usage old new e = e.2
+
+pub text_runs : (known : Option (List ℕ)) (text : List ℕ) (turns : ℕ) (status : Status) (old new : Outlets) → IfSome known (λ bytes. text ≡ looked_at SCRIPT_MAX bytes)
+    → TextRuns text turns status old new → IfSome known (λ bytes. Runs turns bytes status old new)
+text_runs None text turns status old new is e = tt
+text_runs (Some bytes) text turns status old new is e = runs bytes turns status old new (subst (λ (t : List ℕ). TextRuns t turns status old new) is e)

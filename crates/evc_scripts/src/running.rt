@@ -1,0 +1,169 @@
+//! `run`: a script in; the trace of what its workers did on threads out, and in the notes how each
+//! worker's program has ended.
+ghost use Rattle.std.specs.Prelude.{◌≡◌, ℕ, IfSome, length};
+ghost use Rattle.std.specs.List.{list_any};
+ghost use Rattle.ec_text.specs.Puts.{Puts};
+ghost use Rattle.ec_script.specs.Outcome.{shown_plan};
+ghost use Rattle.ec_script.specs.Confined.{IsPlan};
+ghost use Rattle.ec_runner.specs.RunReports.{IsReportOf};
+ghost use Rattle.evc_scripts.specs.Runs.{RunEnds, TextRuns, Runs, status_for, is_memory, is_cut_short, run_fault_status, run_fault_note};
+
+use crate::input::{InputFault, read_script};
+use crate::outcomes::{note_kind, note_mismatch};
+use crate::writing::write_run;
+use ec_machine::Outcome;
+use ec_runner::{OpenGate, Report, RunFault, run_workers};
+use ec_script::{Plan, ScriptFault, parse};
+use ec_trace::Heading;
+use evc_engine::{Notes, Status};
+use std::alloc::Global;
+use std::io::{Read, Write};
+use std::sync::Wait;
+use std::thread::Threads;
+
+fn has_memory(outcomes: &[Outcome]) -> bool
+    ensures { result ≡ list_any is_memory outcomes.now }
+{
+    outcomes.iter().any(|outcome| *outcome == Outcome::Memory)
+}
+
+fn has_cut_short(outcomes: &[Outcome]) -> bool
+    ensures { result ≡ list_any is_cut_short outcomes.now }
+{
+    outcomes
+        .iter()
+        .any(|outcome| matches!(outcome, Outcome::Stopped | Outcome::OutOfTurns))
+}
+
+/// How the command ends where the trace and the outcomes were written.
+fn status_for(outcomes: &[Outcome]) -> Status
+    ensures { result ≡ status_for outcomes.now }
+{
+    if has_memory(outcomes) {
+        Status::Memory
+    } else if has_cut_short(outcomes) {
+        Status::Stopped
+    } else {
+        Status::Done
+    }
+}
+
+/// Notes why there is no report of the workers.
+fn note_fault<N: Write>(heading: &Heading, fault: RunFault, notes: &mut Notes<N>) -> Status
+    ensures status { result ≡ run_fault_status fault }
+    ensures note { Puts (N.contents notes.old.writer) notes.old.table (N.contents notes.new.writer) notes.new.table (run_fault_note heading.now fault) }
+{
+    match fault {
+        RunFault::Mismatch(worker) => {
+            note_mismatch(notes, heading, worker);
+            Status::Stopped
+        }
+        RunFault::Spawn => {
+            notes.say(b"no thread\n");
+            Status::InputOutput
+        }
+        RunFault::Memory => {
+            notes.say(b"no memory\n");
+            Status::Memory
+        }
+    }
+}
+
+/// Writes the trace of what the workers did, and notes how they have ended.
+fn write_report<W: Write, N: Write>(
+    plan: &Plan,
+    report: &Report,
+    out: &mut W,
+    notes: &mut Notes<N>,
+) -> Status
+    requires plan { IsPlan (shown_plan plan.now) }
+    requires few { length report.now.outcomes.items ≡ plan.now.heading.setup.workers }
+    ensures { (turns : ℕ) → IsReportOf plan.now.heading.setup plan.now.programs.items turns report.now → RunEnds (shown_plan plan.now) turns result
+        (record { out = W.contents out.old; notes = N.contents notes.old.writer; held = notes.old.table })
+        (record { out = W.contents out.new; notes = N.contents notes.new.writer; held = notes.new.table }) }
+{
+    plan.heading.known();
+    plan.heading.setup().known();
+    let outcomes = report.outcomes.as_slice();
+    if write_run(&plan.heading, &report.run, outcomes, out, notes) {
+        status_for(outcomes)
+    } else {
+        Status::InputOutput
+    }
+}
+
+/// Runs a plan's workers, and writes what they did.
+fn run_plan<H: Threads + Wait + Sync, W: Write, N: Write>(
+    rt: &H,
+    alloc: Global,
+    turns: u64,
+    plan: &Plan,
+    out: &mut W,
+    notes: &mut Notes<N>,
+) -> Status
+    requires { IsPlan (shown_plan plan.now) }
+    ensures { RunEnds (shown_plan plan.now) turns result
+        (record { out = W.contents out.old; notes = N.contents notes.old.writer; held = notes.old.table })
+        (record { out = W.contents out.new; notes = N.contents notes.new.writer; held = notes.new.table }) }
+{
+    match run_workers(rt, alloc, plan, &OpenGate, turns) {
+        Ok(report) => write_report(plan, &report, out, notes),
+        Err(fault) => note_fault(&plan.heading, fault, notes),
+    }
+}
+
+/// Reads a text as a script, and runs its workers.
+fn run_text<H: Threads + Wait + Sync, W: Write, N: Write>(
+    rt: &H,
+    alloc: Global,
+    turns: u64,
+    text: &[u8],
+    out: &mut W,
+    notes: &mut Notes<N>,
+) -> Status
+    ensures { TextRuns text.now turns result
+        (record { out = W.contents out.old; notes = N.contents notes.old.writer; held = notes.old.table })
+        (record { out = W.contents out.new; notes = N.contents notes.new.writer; held = notes.new.table }) }
+{
+    match parse(alloc, text) {
+        Ok(plan) => run_plan(rt, alloc, turns, &plan, out, notes),
+        Err(ScriptFault::At { line, kind }) => {
+            note_kind(notes, line, kind);
+            Status::Refused
+        }
+        Err(ScriptFault::Memory) => {
+            notes.say(b"no memory\n");
+            Status::Memory
+        }
+    }
+}
+
+/// Reads a script, runs its workers, each on a thread of its own and for at most so many turns, and
+/// writes the trace of what they did; then notes say how each worker's program has ended. The
+/// schedule of the script is checked, and not used.
+///
+/// Nothing is written to `out` before all workers have ended.
+pub fn run<H: Threads + Wait + Sync, R: Read, W: Write, N: Write>(
+    rt: &H,
+    alloc: Global,
+    turns: u64,
+    reader: &mut R,
+    out: &mut W,
+    notes: &mut Notes<N>,
+) -> Status
+    ensures { IfSome (R.remaining reader.old) (λ bytes. Runs turns bytes result
+        (record { out = W.contents out.old; notes = N.contents notes.old.writer; held = notes.old.table })
+        (record { out = W.contents out.new; notes = N.contents notes.new.writer; held = notes.new.table })) }
+{
+    match read_script(alloc, reader) {
+        Ok(text) => run_text(rt, alloc, turns, text.as_slice(), out, notes),
+        Err(InputFault::Read) => {
+            notes.say(b"read fault\n");
+            Status::InputOutput
+        }
+        Err(InputFault::Memory) => {
+            notes.say(b"no memory\n");
+            Status::Memory
+        }
+    }
+}

@@ -1,0 +1,40 @@
+//! What the commands on scripts write: a trace, and how the workers have ended.
+ghost use Rattle.std.specs.Prelude.{◌≡◌, ◌≤◌, true, false, length, codes, if◌then◌else◌};
+ghost use Rattle.std.specs.Io.KnownBytes.{Appends};
+ghost use Rattle.ec_text.specs.Puts.{Puts, AppendsPrefix};
+ghost use Rattle.ec_trace.specs.Outline.{Outline, IsOutline, headed};
+ghost use Rattle.ec_trace.specs.Spelling.{trace_text};
+ghost use Rattle.evc_scripts.specs.OutcomeNotes.{outcomes_note};
+
+use crate::outcomes::note_outcomes;
+use ec_core::Run;
+use ec_machine::Outcome;
+use ec_trace::{Heading, write_trace};
+use evc_engine::Notes;
+use std::io::Write;
+
+/// Writes the trace of a run, and then notes how the workers have ended; where a write fails, notes
+/// that. Tells whether all was written.
+pub(crate) fn write_run<W: Write, N: Write>(
+    heading: &Heading,
+    run: &Run,
+    outcomes: &[Outcome],
+    out: &mut W,
+    notes: &mut Notes<N>,
+) -> bool
+    requires { length outcomes.now ≤ 16 }
+    ensures all { (o : Outline) → IsOutline o → headed o ≡ heading.now → result ≡ true → Appends (W.contents out.old) (W.contents out.new) (trace_text o run.now.entries) }
+    ensures front { (o : Outline) → IsOutline o → headed o ≡ heading.now → result ≡ false → AppendsPrefix (W.contents out.old) (W.contents out.new) (trace_text o run.now.entries) }
+    ensures noted { Puts (N.contents notes.old.writer) notes.old.table (N.contents notes.new.writer) notes.new.table (if result then outcomes_note heading.now outcomes.now else codes "write fault\n") }
+{
+    match write_trace(run, heading, out) {
+        Ok(()) => {
+            note_outcomes(notes, heading, outcomes);
+            true
+        }
+        Err(_) => {
+            notes.say(b"write fault\n");
+            false
+        }
+    }
+}
