@@ -1,0 +1,8 @@
+//! What the definitions mean: each function says a law and does nothing.
+ghost use Rattle.ec_confined.specs.Laws.{SemaphoresAreFollowed};
+
+/// In an accepted history in which each worker's entries are a run of its program, a semaphore is
+/// followed that the programs use by P and V alone.
+pub fn semaphores_are_followed()
+    ensures { SemaphoresAreFollowed }
+{}

@@ -1,0 +1,7 @@
+//! Programs that use groups of objects by the groups' own procedures alone: their histories follow
+//! the groups. The crate has no code, only laws.
+#![tactic(auto)]
+
+mod laws;
+
+pub use laws::semaphores_are_followed;
