@@ -1,3 +1,4 @@
 pub mod Granted
 pub mod Suiting
 pub mod Workers
+pub mod Semaphores

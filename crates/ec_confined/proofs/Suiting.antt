@@ -35,9 +35,10 @@ AreAsked list done (c ∷ calls) = (list done ≡ Some c.op) × AreAsked list (d
 asked_from : (list : List Told → Option Act) (done calls : List Told) → IsWritten list (done ++ calls) → AreAsked list done calls
 asked_from list done [] written = tt
 asked_from list done (c ∷ calls) written =
-    let at : slice_get (done ++ c ∷ calls) (length done) ≡ Some c = get_back done (c ∷ calls) (length done) 0 (omega arith) in
-    (ap list (sym (take-append_seam done (c ∷ calls))) ∙ written (length done) c at,
-    asked_from list (done ++ c ∷ []) calls (subst (IsWritten list) (sym (append_assoc done (c ∷ []) calls)) written))
+    let at : slice_get (done ++ c ∷ calls) (length done) ≡ Some c = get_back done (c ∷ calls) (length done) 0 (omega arith) in (
+      ap list (sym (take-append_seam done (c ∷ calls))) ∙ written (length done) c at,
+      asked_from list (done ++ c ∷ []) calls (subst (IsWritten list) (sym (append_assoc done (c ∷ []) calls)) written),
+    )
 
 pub asked_all : (list : List Told → Option Act) (calls : List Told) → IsWritten list calls → AreAsked list [] calls
 asked_all list calls written = asked_from list [] calls written
@@ -59,9 +60,10 @@ fits_from : (may : Act → Type 0) (r : Rule) (list : List Told → Option Act) 
 fits_from may r list suits done [] before might asked allowed = tt
 fits_from may r list suits done (c ∷ calls) before might asked allowed =
     let more : AreFitting r (list_after r [] (done ++ c ∷ [])) calls =
-    fits_from may r list suits (done ++ c ∷ []) calls (asked_more list [] done c before asked.0) (allowed_more may done (c ∷ []) might (allowed.0, tt)) asked.1 allowed.1 in
-    (suits.next done c.op before might allowed.0 asked.0,
-    subst (λ b. AreFitting r b calls) (after_more r [] done (c ∷ [])) more)
+    fits_from may r list suits (done ++ c ∷ []) calls (asked_more list [] done c before asked.0) (allowed_more may done (c ∷ []) might (allowed.0, tt)) asked.1 allowed.1 in (
+      suits.next done c.op before might allowed.0 asked.0,
+      subst (λ b. AreFitting r b calls) (after_more r [] done (c ∷ [])) more,
+    )
 
 -- what was done of such a list fits
 pub suited : (may : Act → Type 0) (r : Rule) (list : List Told → Option Act) (calls : List Told) → Suits may r list → AreAsked list [] calls → AreAllowed may calls → AreFitting r [] calls
@@ -74,6 +76,7 @@ blocked may r list none = record { next = next; ends = ends }
     next : (calls : List Told) (op : Act) → AreAsked list [] calls → AreAllowed may calls → may op → list calls ≡ Some op → is_fitting r (list_after r [] calls) op ≡ true
     next [] op asked allowed may_op is = absurd (none op is may_op)
     next (c ∷ calls) op asked allowed may_op is = absurd (none c.op asked.0 allowed.0)
+
     ends : (calls : List Told) → AreAsked list [] calls → AreAllowed may calls → list calls ≡ None → list_after r [] calls ≡ []
     ends [] asked allowed is = refl
     ends (c ∷ calls) asked allowed is = absurd (none c.op asked.0 allowed.0)
@@ -115,6 +118,16 @@ extended_off r b c is = rw is refl
 
 pub extended_on : (r : Rule) (b : List Told) (c : Told) → r.concerns b c.op ≡ true → extended r b c ≡ cond (r.ends (b ++ c ∷ [])) [] (b ++ c ∷ [])
 extended_on r b c is = rw is refl
+
+pub fitting : (r : Rule) (b : List Told) (op : Act) → r.fits b op ≡ true → is_fitting r b op ≡ true
+fitting r b op is = fits_on (r.concerns b op) (r.fits b op) is
+
+pub unconcerned : (r : Rule) (b : List Told) (op : Act) → r.concerns b op ≡ false → is_fitting r b op ≡ true
+unconcerned r b op is = fits_off (r.concerns b op) (r.fits b op) is
+
+-- what holds of the act that a list has next holds of the act that comes
+pub at_op : (P : Act → Type 0) (a op : Act) → Some a ≡ Some op → P a → P op
+at_op P a op is h = let same : a ≡ op = cc in subst P same h
 
 -- a list without calls that concern the rule
 pub suits_apart : (may : Act → Type 0) (r : Rule) (list : List Told → Option Act) → ((calls : List Told) (op : Act) → list calls ≡ Some op → r.concerns [] op ≡ false) → Suits may r list

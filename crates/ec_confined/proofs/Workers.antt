@@ -37,9 +37,10 @@ abbrev AreRight : Rule → List Told → Type 0
 AreRight r calls = AreFitting r [] calls × (list_after r [] calls ≡ [])
 
 right_more : (r : Rule) (xs ys : List Told) → AreRight r xs → AreRight r ys → AreRight r (xs ++ ys)
-right_more r xs ys a b =
-    (fitting_more r [] xs ys a.0 (subst (λ z. AreFitting r z ys) (sym a.1) b.0),
-    after_more r [] xs ys ∙ ap (λ z. list_after r z ys) a.1 ∙ b.1)
+right_more r xs ys a b = (
+  fitting_more r [] xs ys a.0 (subst (λ z. AreFitting r z ys) (sym a.1) b.0),
+  after_more r [] xs ys ∙ ap (λ z. list_after r z ys) a.1 ∙ b.1,
+)
 
 whole_right : (may : Act → Type 0) (r : Rule) (last : ℕ) (done rest : List Command) (lists : List (List Told)) → AllSuit may r (done ++ rest) → AreWhole last done lists
     → AreAllowed may (joined lists) → AreRight r (joined lists) × AllSuit may r rest
