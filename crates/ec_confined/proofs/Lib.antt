@@ -2,3 +2,4 @@ pub mod Granted
 pub mod Suiting
 pub mod Workers
 pub mod Semaphores
+pub mod Both

@@ -1,15 +1,21 @@
 -- Where programs use a group by its procedures alone, their accepted histories follow the group.
-use Rattle.std.specs.Prelude.{ℕ, List, reverse}
+use Rattle.std.specs.Prelude.{ℕ, Bool, List, reverse}
 use Rattle.ec_count.specs.Tables.{Tables}
 use Rattle.ec_core.specs.declared.act.Entry.{Entry}
 use Rattle.ec_core.specs.Acceptance.{IsAccepted}
 use Rattle.ec_core.specs.Following.{Follow}
 use Rattle.ec_semaphore.specs.Shapes.{Semaphore}
 use Rattle.ec_semaphore.specs.Uses.{use_rules}
+use Rattle.ec_semaphore.specs.Both.{both_rules}
 use Rattle.ec_machine.specs.declared.command.Command.{Command}
-use Rattle.ec_confined.specs.Uses.{UsesSemaphore, EachCommand, AreRuns}
+use Rattle.ec_confined.specs.Uses.{UsesSemaphore, UsesBoth, EachCommand, AreRuns}
 
 -- an accepted history of programs whose commands use a semaphore by P and V alone follows it
 abbrev pub SemaphoresAreFollowed : Type 0
 SemaphoresAreFollowed = (t : Tables) (s : Semaphore) (programs : ℕ → List Command) (h : List Entry) → IsAccepted t (reverse h)
     → EachCommand (UsesSemaphore s) programs → AreRuns programs (reverse h) → Follow (use_rules s) (reverse h)
+
+-- one whose commands use the common semaphore of `both` by P on two semaphores with these sequencers alone follows `both`
+abbrev pub BothIsFollowed : Type 0
+BothIsFollowed = (t : Tables) (s : Semaphore) (lines : ℕ → Bool) (programs : ℕ → List Command) (h : List Entry) → IsAccepted t (reverse h)
+    → EachCommand (UsesBoth s lines) programs → AreRuns programs (reverse h) → Follow (both_rules s lines) (reverse h)

@@ -1,8 +1,13 @@
 //! What the definitions mean: each function says a law and does nothing.
-ghost use Rattle.ec_confined.specs.Laws.{SemaphoresAreFollowed};
+ghost use Rattle.ec_confined.specs.Laws.{SemaphoresAreFollowed, BothIsFollowed};
 
 /// In an accepted history in which each worker's entries are a run of its program, a semaphore is
 /// followed that the programs use by P and V alone.
 pub fn semaphores_are_followed()
     ensures { SemaphoresAreFollowed }
+{}
+
+/// The same of `both`, whose common semaphore the programs use by P on two semaphores alone.
+pub fn both_is_followed()
+    ensures { BothIsFollowed }
 {}
