@@ -4,13 +4,20 @@ use Rattle.ec_count.specs.Tables.{Tables}
 use Rattle.ec_core.specs.declared.act.Entry.{Entry}
 use Rattle.ec_core.specs.Acceptance.{IsAccepted}
 use Rattle.ec_core.specs.Following.{Follow}
+use Rattle.ec_buffer.specs.Shapes as buffers
+use Rattle.ec_buffer.specs.Follows.{FollowsBuffer}
 use Rattle.ec_semaphore.specs.Shapes.{Semaphore}
 use Rattle.ec_semaphore.specs.Uses.{use_rules}
 use Rattle.ec_semaphore.specs.Both.{both_rules}
 use Rattle.ec_machine.specs.declared.command.Command.{Command}
-use Rattle.ec_confined.specs.Uses.{UsesSemaphore, UsesBoth, EachCommand, AreRuns}
+use Rattle.ec_confined.specs.Uses.{UsesBuffer, UsesSemaphore, UsesBoth, EachCommand, AreRuns}
 
--- an accepted history of programs whose commands use a semaphore by P and V alone follows it
+-- an accepted history of programs whose commands use a declared buffer by Produce and Consume alone follows it
+abbrev pub BuffersAreFollowed : Type 0
+BuffersAreFollowed = (t : Tables) (b : buffers.Buffer) (programs : ℕ → List Command) (h : List Entry) → buffers.IsShape b → buffers.Fits b t → IsAccepted t (reverse h)
+    → EachCommand (UsesBuffer b) programs → AreRuns programs (reverse h) → FollowsBuffer t b (reverse h)
+
+-- one whose commands use a semaphore by P and V alone follows it
 abbrev pub SemaphoresAreFollowed : Type 0
 SemaphoresAreFollowed = (t : Tables) (s : Semaphore) (programs : ℕ → List Command) (h : List Entry) → IsAccepted t (reverse h)
     → EachCommand (UsesSemaphore s) programs → AreRuns programs (reverse h) → Follow (use_rules s) (reverse h)
