@@ -6,3 +6,4 @@ pub mod Both
 pub mod Buffers
 pub mod Roles
 pub mod Rules
+pub mod Databases

@@ -6,16 +6,23 @@ use Rattle.ec_core.specs.Acceptance.{IsAccepted}
 use Rattle.ec_core.specs.Following.{Follow}
 use Rattle.ec_buffer.specs.Shapes as buffers
 use Rattle.ec_buffer.specs.Follows.{FollowsBuffer}
+use Rattle.ec_database.specs.Shapes as databases
+use Rattle.ec_database.specs.Following.{FollowsDatabase}
 use Rattle.ec_semaphore.specs.Shapes.{Semaphore}
 use Rattle.ec_semaphore.specs.Uses.{use_rules}
 use Rattle.ec_semaphore.specs.Both.{both_rules}
 use Rattle.ec_machine.specs.declared.command.Command.{Command}
-use Rattle.ec_confined.specs.Uses.{UsesBuffer, UsesSemaphore, UsesBoth, EachCommand, AreRuns}
+use Rattle.ec_confined.specs.Uses.{UsesBuffer, UsesDatabase, UsesSemaphore, UsesBoth, EachCommand, AreRuns}
 
 -- an accepted history of programs whose commands use a declared buffer by Produce and Consume alone follows it
 abbrev pub BuffersAreFollowed : Type 0
 BuffersAreFollowed = (t : Tables) (b : buffers.Buffer) (programs : ℕ → List Command) (h : List Entry) → buffers.IsShape b → buffers.Fits b t → IsAccepted t (reverse h)
     → EachCommand (UsesBuffer b) programs → AreRuns programs (reverse h) → FollowsBuffer t b (reverse h)
+
+-- one whose commands use a declared database by WriteAll and Snapshot alone follows it
+abbrev pub DatabasesAreFollowed : Type 0
+DatabasesAreFollowed = (t : Tables) (d : databases.Database) (programs : ℕ → List Command) (h : List Entry) → databases.Fits d t → IsAccepted t (reverse h)
+    → EachCommand (UsesDatabase d) programs → AreRuns programs (reverse h) → FollowsDatabase t d (reverse h)
 
 -- one whose commands use a semaphore by P and V alone follows it
 abbrev pub SemaphoresAreFollowed : Type 0

@@ -1,10 +1,15 @@
 //! What the definitions mean: each function says a law and does nothing.
-ghost use Rattle.ec_confined.specs.Laws.{BuffersAreFollowed, SemaphoresAreFollowed, BothIsFollowed};
+ghost use Rattle.ec_confined.specs.Laws.{BuffersAreFollowed, DatabasesAreFollowed, SemaphoresAreFollowed, BothIsFollowed};
 
 /// In an accepted history in which each worker's entries are a run of its program, a declared buffer
 /// is followed that the programs use by Produce and Consume alone.
 pub fn buffers_are_followed()
     ensures { BuffersAreFollowed }
+{}
+
+/// The same of a declared database that the programs use by WriteAll and Snapshot alone.
+pub fn databases_are_followed()
+    ensures { DatabasesAreFollowed }
 {}
 
 /// The same of a semaphore that the programs use by P and V alone.

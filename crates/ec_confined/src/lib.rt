@@ -4,4 +4,6 @@
 
 mod laws;
 
-pub use laws::{both_is_followed, buffers_are_followed, semaphores_are_followed};
+pub use laws::{
+    both_is_followed, buffers_are_followed, databases_are_followed, semaphores_are_followed,
+};
