@@ -63,7 +63,7 @@ produce_free b item (t ∷ i ∷ o ∷ []) = refl
 produce_free b item (t ∷ i ∷ o ∷ p ∷ []) = refl
 produce_free b item (t ∷ i ∷ o ∷ p ∷ a ∷ rest) = refl
 
-produce_on : (b : Buffer) (item : ℕ) → 0 < b.cells → IsOn (is_on b) (produce_call b item)
+pub produce_on : (b : Buffer) (item : ℕ) → 0 < b.cells → IsOn (is_on b) (produce_call b item)
 produce_on b item some [] op is = at_op (λ x. is_on b x ≡ true) (Ticket b.put_seq) op is (on_put b)
 produce_on b item some (t ∷ []) op is = at_op (λ x. is_on b x ≡ true) _ op is (on_in b)
 produce_on b item some (t ∷ i ∷ []) op is = at_op (λ x. is_on b x ≡ true) _ op is (on_out b)
@@ -79,7 +79,7 @@ consume_free b (t ∷ i ∷ o ∷ []) = refl
 consume_free b (t ∷ i ∷ o ∷ g ∷ []) = refl
 consume_free b (t ∷ i ∷ o ∷ g ∷ a ∷ rest) = refl
 
-consume_on : (b : Buffer) → 0 < b.cells → IsOn (is_on b) (consume_call b)
+pub consume_on : (b : Buffer) → 0 < b.cells → IsOn (is_on b) (consume_call b)
 consume_on b some [] op is = at_op (λ x. is_on b x ≡ true) (Ticket b.take_seq) op is (on_take b)
 consume_on b some (t ∷ []) op is = at_op (λ x. is_on b x ≡ true) _ op is (on_out b)
 consume_on b some (t ∷ o ∷ []) op is = at_op (λ x. is_on b x ≡ true) _ op is (on_in b)

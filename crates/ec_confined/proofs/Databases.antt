@@ -74,7 +74,7 @@ rest_on P true last cell end op here there is = at_op P cell op is (here refl)
 rest_on P false true cell end op here there is = at_op P end op is there
 rest_on P false false cell end op here there is = cc
 
-write_on : (d : Database) (values : List ℕ) → IsOn (is_on d) (write_call d values)
+pub write_on : (d : Database) (values : List ℕ) → IsOn (is_on d) (write_call d values)
 write_on d values [] op is = at_op (λ x. is_on d x ≡ true) (Advance d.start) op is (on_start d)
 write_on d values (a ∷ []) op is = at_op (λ x. is_on d x ≡ true) (Ticket d.turn) op is (eq-eqb d.turn d.turn refl)
 write_on d values (a ∷ t ∷ []) op is = at_op (λ x. is_on d x ≡ true) (Await d.done (number_of t.reply)) op is (on_done d)
@@ -95,7 +95,7 @@ try_free d [] = refl
 try_free d (w ∷ []) = refl
 try_free d (w ∷ a ∷ gets) = try_rest (nat_lt (length gets) d.cells) (length gets == d.cells) (d.first_cell + length gets) (Read d.start) refl
 
-try_on : (d : Database) → IsOn (is_on d) (try_call d)
+pub try_on : (d : Database) → IsOn (is_on d) (try_call d)
 try_on d [] op is = at_op (λ x. is_on d x ≡ true) (Read d.start) op is (on_start d)
 try_on d (w ∷ []) op is = at_op (λ x. is_on d x ≡ true) (Await d.done (number_of w.reply)) op is (on_done d)
 try_on d (w ∷ a ∷ gets) op is =

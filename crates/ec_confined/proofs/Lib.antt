@@ -7,3 +7,8 @@ pub mod Buffers
 pub mod Roles
 pub mod Rules
 pub mod Databases
+pub mod Owned
+pub mod Confining
+pub mod Shaped
+pub mod AllGroups
+pub mod Apart

@@ -13,7 +13,7 @@ use Rattle.ec_semaphore.specs.Uses.{threshold, down_call, up_call, is_whole, is_
 use Rattle.ec_semaphore.specs.Both.{down_both_call}
 use Rattle.ec_machine.specs.declared.command.Command.{Command, Down, Up, DownBoth}
 use Rattle.ec_machine.specs.Runs.{command_call}
-use Rattle.ec_confined.specs.Uses.{IsApart, AreApart, AreThree, IsOfSemaphore, UsesSemaphore}
+use Rattle.ec_confined.specs.Uses.{IsApart, AreSeparate, AreThree, IsOfSemaphore, UsesSemaphore}
 use Rattle.ec_confined.specs.Laws.{SemaphoresAreFollowed}
 use Rattle.ec_confined.proofs.Suiting.{AreAsked, Suits, Tracks, IsOwn, suits_tracked, suits_own, suits_apart, fitting, unconcerned, extended_on, extended_off, at_op}
 use Rattle.ec_confined.proofs.Workers.{programs_follow}
@@ -29,10 +29,10 @@ on_wait s n = eq-eqb s.count s.count refl
 pub on_advance : (s : Semaphore) → is_on s (Advance s.count) ≡ true
 on_advance s = eq-eqb s.count s.count refl
 
-other_way : (m n : ℕ) → (m == n) ≡ false → (n == m) ≡ false
+pub other_way : (m n : ℕ) → (m == n) ≡ false → (n == m) ≡ false
 other_way m n is = ne_eqb n m (λ e. (let same : (m == n) ≡ true = eq-eqb m n (sym e) in let no : false ≡ true = sym is ∙ same in cc))
 
-pub apart_back : (s u : Semaphore) → AreApart s u → AreApart u s
+pub apart_back : (s u : Semaphore) → AreSeparate s u → AreSeparate u s
 apart_back s u apart = record { counts = other_way s.count u.count apart.counts; lines = other_way s.line u.line apart.lines }
 
 -- RIGHT CALLS

@@ -1,2 +1,4 @@
-pub mod Laws
 pub mod Uses
+pub mod Laws
+pub mod Trial
+pub mod Headings

@@ -44,16 +44,16 @@ UsesDatabase d c = IsOfDatabase d c ⊎ IsApart (databases.is_on d) c
 -- A SEMAPHORE
 
 -- two semaphores without a common object
-pub record AreApart (s u : Semaphore) : Type 0 where
+pub record AreSeparate (s u : Semaphore) : Type 0 where
   pub counts : (s.count == u.count) ≡ false
   pub lines : (s.line == u.line) ≡ false
 
 -- three semaphores without common objects, of which the first has initial value 1
 pub record AreThree (common one other : Semaphore) : Type 0 where
   pub initial : common.initial ≡ 1
-  pub first : AreApart common one
-  pub second : AreApart common other
-  pub pair : AreApart one other
+  pub first : AreSeparate common one
+  pub second : AreSeparate common other
+  pub pair : AreSeparate one other
 
 abbrev pub IsOfSemaphore : Semaphore → Command → Type 0
 IsOfSemaphore s (Down u) = u ≡ s

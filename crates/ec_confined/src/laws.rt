@@ -1,4 +1,5 @@
 //! What the definitions mean: each function says a law and does nothing.
+ghost use Rattle.ec_confined.specs.Headings.{GroupsAreFollowed};
 ghost use Rattle.ec_confined.specs.Laws.{BuffersAreFollowed, DatabasesAreFollowed, SemaphoresAreFollowed, BothIsFollowed};
 
 /// In an accepted history in which each worker's entries are a run of its program, a declared buffer
@@ -20,4 +21,11 @@ pub fn semaphores_are_followed()
 /// The same of `both`, whose common semaphore the programs use by P on two semaphores alone.
 pub fn both_is_followed()
     ensures { BothIsFollowed }
+{}
+
+/// Where no object belongs to two groups of a heading, and the commands of the programs use their
+/// objects by the groups' procedures alone, an accepted history in which each worker's entries are
+/// a run of its program follows every group.
+pub fn groups_are_followed()
+    ensures { GroupsAreFollowed }
 {}

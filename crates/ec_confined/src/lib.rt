@@ -5,5 +5,6 @@
 mod laws;
 
 pub use laws::{
-    both_is_followed, buffers_are_followed, databases_are_followed, semaphores_are_followed,
+    both_is_followed, buffers_are_followed, databases_are_followed, groups_are_followed,
+    semaphores_are_followed,
 };
