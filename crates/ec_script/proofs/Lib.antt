@@ -6,3 +6,8 @@ mod LineCuts
 mod Lines
 mod Texts
 mod Onward
+mod Apart
+mod Declaring
+mod Confining
+mod WrittenOut
+mod Keeping

@@ -42,19 +42,21 @@ rest_none false k rest is = is
 pub record NoFault (s : Seen) (p : Phrase) (o : Option Object) : Type 0 where
   pub number : is_bad_tail (tail_of p.verb) p.verb p.rest (or_nothing o) ≡ false
   pub many : is_too_many p.verb p.rest s.nest s.scheduled ≡ false
+  pub owned : is_owned s.heading.groups (or_nothing o) ≡ false
   pub roles : has_two_roles (or_nothing o) ≡ false
   pub nested : is_badly_nested p.verb s.nest ≡ false
 
 -- of nine tests in order
-record Four (number many roles nested : Bool) : Type 0 where
+record Five (number many owned roles nested : Bool) : Type 0 where
   pub no_number : number ≡ false
   pub no_many : many ≡ false
+  pub no_owned : owned ≡ false
   pub no_roles : roles ≡ false
   pub no_nested : nested ≡ false
 
 nine : (t1 t2 t3 t4 t5 t6 t7 t8 t9 : Bool)
     → first_that ((t1, kinds.BadLine) ∷ (t2, kinds.NameTaken) ∷ (t3, kinds.UnknownName) ∷ (t4, kinds.BadNumber) ∷ (t5, kinds.TooMany) ∷ (t6, kinds.Hidden) ∷ (t7, kinds.TwoRoles) ∷ (t8, kinds.NoRight) ∷ (t9, kinds.BadNesting) ∷ []) ≡ None
-    → Four t4 t5 t7 t9
+    → Five t4 t5 t6 t7 t9
 nine t1 t2 t3 t4 t5 t6 t7 t8 t9 is =
     let l9 : List (Bool × Kind) = (t9, kinds.BadNesting) ∷ [] in
     let l8 : List (Bool × Kind) = (t8, kinds.NoRight) ∷ l9 in
@@ -72,14 +74,14 @@ nine t1 t2 t3 t4 t5 t6 t7 t8 t9 is =
     let r6 = rest_none t6 kinds.Hidden l7 r5 in
     let r7 = rest_none t7 kinds.TwoRoles l8 r6 in
     let r8 = rest_none t8 kinds.NoRight l9 r7 in
-    record { no_number = first_false t4 kinds.BadNumber l5 r3; no_many = first_false t5 kinds.TooMany l6 r4; no_roles = first_false t7 kinds.TwoRoles l8 r6; no_nested = first_false t9 kinds.BadNesting [] r8 }
+    record { no_number = first_false t4 kinds.BadNumber l5 r3; no_many = first_false t5 kinds.TooMany l6 r4; no_owned = first_false t6 kinds.Hidden l7 r5; no_roles = first_false t7 kinds.TwoRoles l8 r6; no_nested = first_false t9 kinds.BadNesting [] r8 }
 
 pub no_fault : (s : Seen) (p : Phrase) (o : Option Object) → phrase_fault s p o ≡ None → NoFault s p o
 no_fault s p o is =
     let f = nine (not (is_allowed p.verb (is_some s.nest) s.scheduled)) (is_named_again s.named (or_nothing o)) (is_none o || has_unknown_name s.heading p.verb p.rest)
     (is_bad_tail (tail_of p.verb) p.verb p.rest (or_nothing o)) (is_too_many p.verb p.rest s.nest s.scheduled) (is_owned s.heading.groups (or_nothing o))
     (has_two_roles (or_nothing o)) (lacks_right s.heading.setup s.nest p.verb (or_nothing o)) (is_badly_nested p.verb s.nest) is in
-    record { number = f.no_number; many = f.no_many; roles = f.no_roles; nested = f.no_nested }
+    record { number = f.no_number; many = f.no_many; owned = f.no_owned; roles = f.no_roles; nested = f.no_nested }
 
 -- A BLOCK
 

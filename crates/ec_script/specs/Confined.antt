@@ -1,20 +1,26 @@
--- Which lines use the objects of groups by the groups' own procedures alone.
-use Rattle.std.specs.Prelude.{◌≡◌, ℕ, ◌<◌, false, List, length, map, Some}
-use Rattle.std.specs.List.{All, AllByRecursion, Contains}
+-- Which commands use the objects of groups by the groups' own procedures alone.
+use Rattle.std.specs.Prelude.{◌≡◌, ◌≢◌, ℕ, ◌<◌, true, false, List, length, map, Some, Ok}
+use Rattle.std.specs.List.{AllByRecursion, Contains}
 use Rattle.ec_machine.specs.declared.command.Command.{Command}
 use Rattle.ec_machine.specs.declared.command.Command.TheViews.{out-Command}
 use Rattle.ec_machine.specs.declared.command.Command.TheOpen.{Command-F}
 use Rattle.ec_machine.specs.declared.command.Command.TheOpen as layer
+use Rattle.ec_machine.specs.Written.{written}
 use Rattle.ec_trace.specs.declared.group.Group.{Group}
 use Rattle.ec_trace.specs.declared.group.Group.TheVariants as groups
+use Rattle.ec_script.specs.declared.object.Object.{Object}
 use Rattle.ec_script.specs.declared.object.Object.TheVariants.{Event, Sequencer, Cell}
 use Rattle.ec_script.specs.declared.order.Order.{Order}
 use Rattle.ec_script.specs.declared.order.Order.TheVariants.{Do, Write, Begin, End}
-use Rattle.ec_script.specs.Objects.{is_owned, both_of}
+use Rattle.ec_script.specs.Objects.{owns, is_owned, both_of}
+use Rattle.ec_script.specs.Flat.{flat}
 use Rattle.ec_script.specs.Scripted.{Planned}
+use Rattle.ec_script.specs.Outcome.{outcome}
+
+-- ONE COMMAND
 
 -- a raw command names no object of a group; a procedure is one of a declared group of its sort; P on two semaphores is by the common
--- one, on two that are declared
+-- one, on two declared ones that differ (a semaphore is told by its sequencer)
 abbrev pub UsesGroups : List Group → Command-F Command → Type 0
 UsesGroups gs (layer.Advance e) = is_owned gs (Event e) ≡ false
 UsesGroups gs (layer.Read e) = is_owned gs (Event e) ≡ false
@@ -28,8 +34,11 @@ UsesGroups gs (layer.WriteAll d vs) = Contains gs (groups.Database d)
 UsesGroups gs (layer.Snapshot d n) = Contains gs (groups.Database d)
 UsesGroups gs (layer.Down s) = Contains gs (groups.Semaphore s)
 UsesGroups gs (layer.Up s) = Contains gs (groups.Semaphore s)
-UsesGroups gs (layer.DownBoth common one other) = (both_of gs ≡ Some common) × Contains gs (groups.Semaphore one) × Contains gs (groups.Semaphore other)
+UsesGroups gs (layer.DownBoth common one other) =
+    (both_of gs ≡ Some common) × Contains gs (groups.Semaphore one) × Contains gs (groups.Semaphore other) × (one.line ≢ other.line)
 UsesGroups gs (layer.Repeat n block) = Unit {0}
+
+-- BY THEIR LINES
 
 abbrev pub IsConfined : List Group → Order → Type 0
 IsConfined gs (Do c) = UsesGroups gs (out-Command c)
@@ -41,8 +50,30 @@ IsConfined gs End = Unit {0}
 abbrev pub AreConfined : List Group → List (List Order) → Type 0
 AreConfined gs programs = AllByRecursion (AllByRecursion (IsConfined gs)) programs
 
--- a program for each declared worker, each confined, and a schedule of declared workers
+-- no object belongs to two groups
+abbrev pub AreApart : List Group → Type 0
+AreApart gs = (o : Object) (g k : Group) → Contains gs g → Contains gs k → owns o g ≡ true → owns o k ≡ true → g ≡ k
+
+-- groups that are apart, a program for each declared worker, each confined, and a schedule of declared workers
 pub record IsPlan (p : Planned) : Type 0 where
+  pub apart : AreApart p.heading.groups
   pub programs : length p.programs ≡ p.heading.setup.workers
   pub confined : AreConfined p.heading.groups p.programs
   pub schedule : AllByRecursion (λ w. w < p.heading.setup.workers) p.schedule
+
+-- every script is such a plan
+abbrev pub PlansAreConfined : Type 0
+PlansAreConfined = (bytes : List ℕ) (p : Planned) → outcome bytes ≡ Ok p → IsPlan p
+
+-- WRITTEN OUT
+
+-- each command that a program comes to, with its repeats written out
+abbrev pub IsConfinedProgram : List Group → List Command → Type 0
+IsConfinedProgram gs cs = AllByRecursion (λ c. UsesGroups gs (out-Command c)) (written cs)
+
+abbrev pub AreConfinedPrograms : List Group → List (List Command) → Type 0
+AreConfinedPrograms gs programs = AllByRecursion (IsConfinedProgram gs) programs
+
+-- programs whose lines are confined come to confined commands alone
+abbrev pub ConfinedLinesAreConfinedCommands : Type 0
+ConfinedLinesAreConfinedCommands = (gs : List Group) (programs : List (List Command)) → AreConfined gs (map flat programs) → AreConfinedPrograms gs programs

@@ -1,4 +1,5 @@
 //! Laws of scripts. Each is the contract of a function that does nothing.
+ghost use Rattle.ec_script.specs.Confined.{ConfinedLinesAreConfinedCommands, PlansAreConfined};
 ghost use Rattle.ec_script.specs.Grammar.{FaultIsTheFirst, LongIsLine1, ReadIsScript, ScriptIsRead};
 
 /// A script is read as the plan that it says.
@@ -19,4 +20,16 @@ pub fn fault_is_the_first()
 /// The fault that is told of a longer text is that of line 1.
 pub fn long_is_line_1()
     ensures { LongIsLine1 }
+{}
+
+/// Every plan has a program for each declared worker and a schedule of declared workers, and its
+/// commands use the objects of the heading's groups by those groups' procedures alone.
+pub fn plans_are_confined()
+    ensures { PlansAreConfined }
+{}
+
+/// Where the lines of programs are confined, so is each command that they come to with their
+/// repeats written out.
+pub fn confined_lines_are_confined_commands()
+    ensures { ConfinedLinesAreConfinedCommands }
 {}

@@ -17,7 +17,10 @@ mod stage;
 mod verb;
 
 pub use fault::{Kind, ScriptFault};
-pub use laws::{fault_is_the_first, long_is_line_1, read_is_script, script_is_read};
+pub use laws::{
+    confined_lines_are_confined_commands, fault_is_the_first, long_is_line_1, plans_are_confined,
+    read_is_script, script_is_read,
+};
 pub use order::{Order, Values};
 pub use parsing::{SCRIPT_MAX, parse};
 pub use plan::Plan;

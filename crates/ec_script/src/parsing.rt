@@ -1,6 +1,7 @@
 //! Whole scripts.
-ghost use Rattle.std.specs.Prelude.{◌≡◌, ◌≢◌, ◌++◌, ◌∷◌, ◌+◌, ◌<◌, ◌^◌, All, Err, IfNone, IfSome, length};
-ghost use Rattle.ec_script.specs.Outcome.{Tells, ended, fault_at, finished, first_of, goes, long_kind, outcome, parts_of, plan_in, taken};
+ghost use Rattle.std.specs.Prelude.{◌≡◌, ◌≢◌, ◌++◌, ◌∷◌, ◌+◌, ◌<◌, ◌^◌, All, Err, IfNone, IfOk, IfSome, length};
+ghost use Rattle.ec_script.specs.Confined.{AreConfinedPrograms, IsPlan};
+ghost use Rattle.ec_script.specs.Outcome.{Tells, ended, fault_at, finished, first_of, goes, long_kind, outcome, parts_of, plan_in, shown_plan, taken};
 ghost use Rattle.ec_script.specs.Reading.{step};
 
 use crate::fault::{Kind, ScriptFault, StageFault};
@@ -119,6 +120,8 @@ fn parse_lines(alloc: Global, text: &[u8]) -> Result<Plan, ScriptFault>
 #[tactic(auto, unfolding(crate::specs::Outcome::outcome))]
 pub fn parse(alloc: Global, text: &[u8]) -> Result<Plan, ScriptFault>
     ensures tells { Tells (outcome text.now) result }
+    ensures plan { IfOk result (λ plan. IsPlan (shown_plan plan)) }
+    ensures commands { IfOk result (λ plan. AreConfinedPrograms plan.heading.groups plan.programs.items) }
 {
     if text.len() > SCRIPT_MAX {
         return Err(ScriptFault::At {

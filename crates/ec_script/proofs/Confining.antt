@@ -1,0 +1,180 @@
+-- A line without fault makes confined commands alone.
+use Rattle.std.proofs.Common.{◌≡◌, ◌≢◌, ℕ, ◌+◌, ◌<◌, List, [], ◌∷◌, Bool, true, false, not, ◌&&◌, eqb, Option, Some, None, option_map, option_and_then, refl, sym, ap, ◌∙◌, subst, eq-eqb}
+use Rattle.std.specs.List.{Contains, slice_get}
+use Rattle.std.specs.Option.{IfSome}
+use Rattle.std.proofs.lemmas.Bool.{and_parts, not-false, true≢false}
+use Rattle.std.proofs.lemmas.Option.{slice_get_within, get_or_from_slice_get, option_and_then_some}
+use Rattle.ec_buffer.specs.Shapes.{Buffer}
+use Rattle.ec_database.specs.Shapes.{Database}
+use Rattle.ec_semaphore.specs.Shapes.{Semaphore}
+use Rattle.ec_count.specs.Names.{find_name}
+use Rattle.ec_machine.specs.declared.command.Value as amounts
+use Rattle.ec_machine.specs.declared.command.Command.TheOpen as layer
+use Rattle.ec_machine.specs.declared.command.Command.TheVariants as commands
+use Rattle.ec_machine.specs.Limits.{is_same, are_apart}
+use Rattle.ec_trace.specs.declared.group.Group.{Group}
+use Rattle.ec_trace.specs.declared.group.Group.TheVariants as groups
+use Rattle.ec_trace.specs.Headed.{Headed}
+use Rattle.ec_trace.specs.Lists.{worker_in}
+use Rattle.ec_trace.specs.Spelled.{event_in, sequencer_in, cell_in_word}
+use Rattle.ec_script.specs.declared.verb.Verb.{Verb}
+use Rattle.ec_script.specs.declared.verb.Verb.TheVariants as verbs
+use Rattle.ec_script.specs.declared.object.Object.{Object}
+use Rattle.ec_script.specs.declared.object.Object.TheVariants.{Nothing, Worker, Event, Sequencer, Cell, OfBuffer, OfDatabase, OfSemaphore, Three}
+use Rattle.ec_script.specs.declared.order.Order.{Order}
+use Rattle.ec_script.specs.Forms.{only_in}
+use Rattle.ec_script.specs.Objects.{place_of, group_in, buffer_of, database_of, semaphore_of, semaphore_in, both_of, three_of, object_for, is_owned}
+use Rattle.ec_script.specs.Kinds.{or_nothing, has_two_roles}
+use Rattle.ec_script.specs.Orders.{event_order, cell_order, buffer_order, database_order, semaphore_order, command_in, amount_in, size_in}
+use Rattle.ec_script.specs.Confined.{IsConfined, AreApart}
+use Rattle.ec_script.proofs.WrittenOut.{uses_of}
+
+-- OBJECTS
+
+-- what an object must be of which confined commands are made
+abbrev pub IsFit : List Group → Object → Type 0
+IsFit gs (Event e) = is_owned gs (Event e) ≡ false
+IsFit gs (Sequencer q) = is_owned gs (Sequencer q) ≡ false
+IsFit gs (Cell x) = is_owned gs (Cell x) ≡ false
+IsFit gs (OfBuffer b) = Contains gs (groups.Buffer b)
+IsFit gs (OfDatabase d) = Contains gs (groups.Database d)
+IsFit gs (OfSemaphore s) = Contains gs (groups.Semaphore s)
+IsFit gs (Three common one other) = (both_of gs ≡ Some common) × Contains gs (groups.Semaphore one) × Contains gs (groups.Semaphore other) × (one.line ≢ other.line)
+IsFit gs (Worker w) = Unit {0}
+IsFit gs Nothing = Unit {0}
+
+-- a raw object belongs to no group
+event_fits : (gs : List Group) (o : Option ℕ) → is_owned gs (or_nothing (option_map Event o)) ≡ false → IsFit gs (or_nothing (option_map Event o))
+event_fits gs None free = tt
+event_fits gs (Some e) free = free
+
+sequencer_fits : (gs : List Group) (o : Option ℕ) → is_owned gs (or_nothing (option_map Sequencer o)) ≡ false → IsFit gs (or_nothing (option_map Sequencer o))
+sequencer_fits gs None free = tt
+sequencer_fits gs (Some q) free = free
+
+cell_fits : (gs : List Group) (o : Option ℕ) → is_owned gs (or_nothing (option_map Cell o)) ≡ false → IsFit gs (or_nothing (option_map Cell o))
+cell_fits gs None free = tt
+cell_fits gs (Some x) free = free
+
+worker_fits : (gs : List Group) (o : Option ℕ) → IsFit gs (or_nothing (option_map Worker o))
+worker_fits gs None = tt
+worker_fits gs (Some w) = tt
+
+-- a group that is found is declared
+at_place : (gs : List Group) (i : ℕ) (g : Group) → slice_get gs i ≡ Some g → Contains gs g
+at_place gs i g is = (i, slice_get_within gs i g is, get_or_from_slice_get gs i g g is)
+
+found_group : (h : Headed) (word : List ℕ) (g : Group) → group_in h word ≡ Some g → Contains h.groups g
+found_group h word g is = option_and_then_some (λ (i : ℕ). slice_get h.groups i) (option_and_then place_of (find_name word h.names)) g is (λ i at e. at_place h.groups i g e)
+
+buffer_fits : (gs : List Group) (o : Option Group) → ((g : Group) → o ≡ Some g → Contains gs g) → IsFit gs (or_nothing (option_map OfBuffer (option_and_then buffer_of o)))
+buffer_fits gs None found = tt
+buffer_fits gs (Some (groups.Buffer b)) found = found (groups.Buffer b) refl
+buffer_fits gs (Some _) found = tt
+
+database_fits : (gs : List Group) (o : Option Group) → ((g : Group) → o ≡ Some g → Contains gs g) → IsFit gs (or_nothing (option_map OfDatabase (option_and_then database_of o)))
+database_fits gs None found = tt
+database_fits gs (Some (groups.Database d)) found = found (groups.Database d) refl
+database_fits gs (Some _) found = tt
+
+semaphore_in_groups : (gs : List Group) (o : Option Group) (s : Semaphore) → ((g : Group) → o ≡ Some g → Contains gs g) → option_and_then semaphore_of o ≡ Some s → Contains gs (groups.Semaphore s)
+semaphore_in_groups gs None s found is = cc
+semaphore_in_groups gs (Some (groups.Semaphore u)) s found is = let e : u ≡ s = cc in subst (λ (t : Semaphore). Contains gs (groups.Semaphore t)) e (found (groups.Semaphore u) refl)
+semaphore_in_groups gs (Some _) s found is = cc
+
+found_semaphore : (h : Headed) (word : List ℕ) (s : Semaphore) → semaphore_in h word ≡ Some s → Contains h.groups (groups.Semaphore s)
+found_semaphore h word s is = semaphore_in_groups h.groups (group_in h word) s (found_group h word) is
+
+semaphore_fits : (gs : List Group) (o : Option Semaphore) → ((s : Semaphore) → o ≡ Some s → Contains gs (groups.Semaphore s)) → IsFit gs (or_nothing (option_map OfSemaphore o))
+semaphore_fits gs None found = tt
+semaphore_fits gs (Some s) found = found s refl
+
+-- TWO SEMAPHORES
+
+itself : (s : Semaphore) → is_same s s ≡ true
+itself s = rw (eq-eqb s.count s.count refl, eq-eqb s.line s.line refl, eq-eqb s.initial s.initial refl) refl
+
+not_true : (t : Bool) → not t ≡ true → t ≡ false
+not_true true is = sym is
+not_true false is = refl
+
+-- two declared ones have different sequencers
+lines_differ : (gs : List Group) (common one other : Semaphore) → AreApart gs → Contains gs (groups.Semaphore one) → Contains gs (groups.Semaphore other) → are_apart common one other ≡ true → one.line ≢ other.line
+lines_differ gs common one other apart a b differ = λ e.
+    let f : groups.Semaphore one ≡ groups.Semaphore other =
+    apart (Sequencer one.line) (groups.Semaphore one) (groups.Semaphore other) a b (eq-eqb one.line one.line refl) (eq-eqb other.line one.line (sym e)) in
+    let g : one ≡ other = cc in
+    let p = and_parts _ _ differ in
+    true≢false (sym (itself one) ∙ ap (is_same one) g ∙ not_true (is_same one other) p.1)
+
+three_fits : (gs : List Group) (c o u : Option Semaphore) → AreApart gs → both_of gs ≡ c → ((s : Semaphore) → o ≡ Some s → Contains gs (groups.Semaphore s)) → ((s : Semaphore) → u ≡ Some s → Contains gs (groups.Semaphore s))
+    → has_two_roles (or_nothing (three_of c o u)) ≡ false → IsFit gs (or_nothing (three_of c o u))
+three_fits gs (Some common) (Some one) (Some other) apart both first second roles =
+    let a = first one refl in
+    let b = second other refl in
+    (both, a, b, lines_differ gs common one other apart a b (not-false (are_apart common one other) roles))
+three_fits gs None _ _ apart both first second roles = tt
+three_fits gs (Some common) None _ apart both first second roles = tt
+three_fits gs (Some common) (Some one) None apart both first second roles = tt
+
+only_semaphore : (h : Headed) (word : Option (List ℕ)) (s : Semaphore) → option_and_then (semaphore_in h) word ≡ Some s → Contains h.groups (groups.Semaphore s)
+only_semaphore h None s is = cc
+only_semaphore h (Some w) s is = found_semaphore h w s is
+
+-- the object of a line without fault
+pub object_fits : (h : Headed) (v : Verb) (w : List ℕ) (ws : List (List ℕ)) → AreApart h.groups
+    → is_owned h.groups (or_nothing (object_for h v w ws)) ≡ false → has_two_roles (or_nothing (object_for h v w ws)) ≡ false → IsFit h.groups (or_nothing (object_for h v w ws))
+object_fits h verbs.Advance w ws apart free roles = event_fits h.groups (event_in h.words w) free
+object_fits h verbs.Read w ws apart free roles = event_fits h.groups (event_in h.words w) free
+object_fits h verbs.Await w ws apart free roles = event_fits h.groups (event_in h.words w) free
+object_fits h verbs.Ticket w ws apart free roles = sequencer_fits h.groups (sequencer_in h.words w) free
+object_fits h verbs.Put w ws apart free roles = cell_fits h.groups (cell_in_word h.words w) free
+object_fits h verbs.Get w ws apart free roles = cell_fits h.groups (cell_in_word h.words w) free
+object_fits h verbs.Produce w ws apart free roles = buffer_fits h.groups (group_in h w) (found_group h w)
+object_fits h verbs.Consume w ws apart free roles = buffer_fits h.groups (group_in h w) (found_group h w)
+object_fits h verbs.Write w ws apart free roles = database_fits h.groups (group_in h w) (found_group h w)
+object_fits h verbs.Snapshot w ws apart free roles = database_fits h.groups (group_in h w) (found_group h w)
+object_fits h verbs.Down w ws apart free roles = semaphore_fits h.groups (semaphore_in h w) (found_semaphore h w)
+object_fits h verbs.Up w ws apart free roles = semaphore_fits h.groups (semaphore_in h w) (found_semaphore h w)
+object_fits h verbs.DownBoth w ws apart free roles =
+    three_fits h.groups (both_of h.groups) (semaphore_in h w) (option_and_then (semaphore_in h) (only_in ws)) apart refl (found_semaphore h w) (only_semaphore h (only_in ws)) roles
+object_fits h verbs.Worker w ws apart free roles = worker_fits h.groups (worker_in h.words w)
+object_fits h verbs.Repeat w ws apart free roles = tt
+object_fits h verbs.End w ws apart free roles = tt
+object_fits h verbs.Schedule w ws apart free roles = tt
+
+-- COMMANDS
+
+event_confined : (gs : List Group) (v : Verb) (e : ℕ) (x : amounts.Value) → is_owned gs (Event e) ≡ false → IsConfined gs (event_order v e x)
+event_confined gs verbs.Advance e x free = uses_of gs (layer.Advance e) (commands.Advance e) (commands.rolls-Advance e) free
+event_confined gs verbs.Read e x free = uses_of gs (layer.Read e) (commands.Read e) (commands.rolls-Read e) free
+event_confined gs _ e x free = uses_of gs (layer.Await e x) (commands.Await e x) (commands.rolls-Await e x) free
+
+cell_confined : (gs : List Group) (giving : Bool) (i : ℕ) (x : amounts.Value) → is_owned gs (Cell i) ≡ false → IsConfined gs (cell_order giving i x)
+cell_confined gs true i x free = uses_of gs (layer.Put i x) (commands.Put i x) (commands.rolls-Put i x) free
+cell_confined gs false i x free = uses_of gs (layer.Get i) (commands.Get i) (commands.rolls-Get i) free
+
+buffer_confined : (gs : List Group) (giving : Bool) (b : Buffer) (x : amounts.Value) → Contains gs (groups.Buffer b) → IsConfined gs (buffer_order giving b x)
+buffer_confined gs true b x declared = uses_of gs (layer.Produce b x) (commands.Produce b x) (commands.rolls-Produce b x) declared
+buffer_confined gs false b x declared = uses_of gs (layer.Consume b) (commands.Consume b) (commands.rolls-Consume b) declared
+
+database_confined : (gs : List Group) (v : Verb) (d : Database) (ws : List (List ℕ)) → Contains gs (groups.Database d) → IfSome (database_order v d ws) (IsConfined gs)
+database_confined gs verbs.Write d ws declared = declared
+database_confined gs verbs.Snapshot d ws declared = uses_of gs (layer.Snapshot d (size_in ws)) (commands.Snapshot d (size_in ws)) (commands.rolls-Snapshot d (size_in ws)) declared
+database_confined gs _ d ws declared = tt
+
+semaphore_confined : (gs : List Group) (v : Verb) (s : Semaphore) → Contains gs (groups.Semaphore s) → IsConfined gs (semaphore_order v s)
+semaphore_confined gs verbs.Down s declared = uses_of gs (layer.Down s) (commands.Down s) (commands.rolls-Down s) declared
+semaphore_confined gs _ s declared = uses_of gs (layer.Up s) (commands.Up s) (commands.rolls-Up s) declared
+
+-- the command that is made with such an object
+pub command_confined : (gs : List Group) (v : Verb) (giving : Bool) (o : Object) (ws : List (List ℕ)) → IsFit gs o → IfSome (command_in v giving o ws) (IsConfined gs)
+command_confined gs v giving (Event e) ws fit = event_confined gs v e (amount_in ws) fit
+command_confined gs v giving (Sequencer q) ws fit = uses_of gs (layer.Ticket q) (commands.Ticket q) (commands.rolls-Ticket q) fit
+command_confined gs v giving (Cell x) ws fit = cell_confined gs giving x (amount_in ws) fit
+command_confined gs v giving (OfBuffer b) ws fit = buffer_confined gs giving b (amount_in ws) fit
+command_confined gs v giving (OfDatabase d) ws fit = database_confined gs v d ws fit
+command_confined gs v giving (OfSemaphore s) ws fit = semaphore_confined gs v s fit
+command_confined gs v giving (Three common one other) ws fit = uses_of gs (layer.DownBoth common one other) (commands.DownBoth common one other) (commands.rolls-DownBoth common one other) fit
+command_confined gs v giving Nothing ws fit = tt
+command_confined gs v giving (Worker w) ws fit = tt
