@@ -21,7 +21,7 @@ use Rattle.ec_trace.specs.declared.group.Group.{Group}
 use Rattle.ec_trace.specs.declared.group.Group.TheVariants as groups
 use Rattle.ec_trace.specs.Groups.{FitsGroup}
 use Rattle.ec_trace.proofs.Standing.{heading_fits}
-use Rattle.ec_confined.specs.Trial.{UsesGroups, IsConfinedProgram, AreConfinedPrograms}
+use Rattle.ec_script.specs.Confined.{UsesGroups, IsConfinedProgram, AreConfinedPrograms}
 use Rattle.ec_confined.specs.Uses.{IsApart, UsesBuffer, UsesDatabase, UsesSemaphore, UsesBoth, EachCommand, AreRuns}
 use Rattle.ec_confined.specs.Headings.{semaphores_of, FollowsGroup, GroupsAreFollowed}
 use Rattle.ec_confined.proofs.Buffers.{buffers_follow}
@@ -39,15 +39,15 @@ all_use : (t : Tables) (gs : List Group) (g : Group) (cs : List Command) → Are
 all_use t gs g [] are has uses = tt
 all_use t gs g (c ∷ cs) are has uses = (command_uses t gs g c are has uses.0, all_use t gs g cs are has uses.1)
 
-each_uses : (t : Tables) (gs : List Group) (g : Group) (programs : ℕ → List Command) → AreGroups t gs → Contains gs g → ((w : ℕ) → IsConfinedProgram gs (programs w)) → EachCommand (UsesGroup gs g) programs
-each_uses t gs g programs are has confined w = All-from_recursion (UsesGroup gs g) (written (programs w)) (all_use t gs g (written (programs w)) are has (confined w))
+each_uses : (t : Tables) (gs : List Group) (g : Group) (programs : ℕ → List Command) → AreGroups t gs → Contains gs g → ((w : ℕ) → IsConfinedProgram gs (programs w)) → EachCommand t (UsesGroup gs g) programs
+each_uses t gs g programs are has confined w lt = All-from_recursion (UsesGroup gs g) (written (programs w)) (all_use t gs g (written (programs w)) are has (confined w))
 
 -- a command that is apart by the one test is so by the other
 same_apart : (on also : Act → Bool) → ((op : Act) → on op ≡ also op) → (c : Command) → IsApart also c → IsApart on c
 same_apart on also same c apart last calls op is = same op ∙ apart last calls op is
 
-weaker : (P Q : Command → Type 0) → ((c : Command) → P c → Q c) → (programs : ℕ → List Command) → EachCommand P programs → EachCommand Q programs
-weaker P Q to programs each w = All-weaker P Q to (written (programs w)) (each w)
+weaker : (t : Tables) (P Q : Command → Type 0) → ((c : Command) → P c → Q c) → (programs : ℕ → List Command) → EachCommand t P programs → EachCommand t Q programs
+weaker t P Q to programs each w lt = All-weaker P Q to (written (programs w)) (each w lt)
 
 uses_buffer : (gs : List Group) (b : Buffer) (c : Command) → UsesGroup gs (groups.Buffer b) c → UsesBuffer b c
 uses_buffer gs b c (inl own) = inl own
@@ -68,19 +68,19 @@ uses_both gs s c (inr apart) = inr (same_apart (semaphores.is_on s) (acts_on (gr
 -- EACH GROUP
 
 group_follows : (t : Tables) (gs : List Group) (programs : ℕ → List Command) (h : List Entry) → AreGroups t gs → ((w : ℕ) → IsConfinedProgram gs (programs w)) → IsAccepted t (reverse h)
-    → AreRuns programs (reverse h) → (g : Group) → Contains gs g → FollowsGroup t gs (reverse h) g
+    → AreRuns t programs h → (g : Group) → Contains gs g → FollowsGroup t gs (reverse h) g
 group_follows t gs programs h are confined acc runs (groups.Buffer b) has =
     buffers_follow t b programs h (All-contains IsShaped gs (groups.Buffer b) are.shaped has) (All-contains (FitsGroup t) gs (groups.Buffer b) are.fit has) acc
-    (weaker (UsesGroup gs (groups.Buffer b)) (UsesBuffer b) (uses_buffer gs b) programs (each_uses t gs (groups.Buffer b) programs are has confined)) runs
+    (weaker t (UsesGroup gs (groups.Buffer b)) (UsesBuffer b) (uses_buffer gs b) programs (each_uses t gs (groups.Buffer b) programs are has confined)) runs
 group_follows t gs programs h are confined acc runs (groups.Database d) has =
     databases_follow t d programs h (All-contains (FitsGroup t) gs (groups.Database d) are.fit has) acc
-    (weaker (UsesGroup gs (groups.Database d)) (UsesDatabase d) (uses_database gs d) programs (each_uses t gs (groups.Database d) programs are has confined)) runs
+    (weaker t (UsesGroup gs (groups.Database d)) (UsesDatabase d) (uses_database gs d) programs (each_uses t gs (groups.Database d) programs are has confined)) runs
 group_follows t gs programs h are confined acc runs (groups.Semaphore s) has =
     semaphores_follow t s programs h acc
-    (weaker (UsesGroup gs (groups.Semaphore s)) (UsesSemaphore s) (uses_semaphore gs s) programs (each_uses t gs (groups.Semaphore s) programs are has confined)) runs
+    (weaker t (UsesGroup gs (groups.Semaphore s)) (UsesSemaphore s) (uses_semaphore gs s) programs (each_uses t gs (groups.Semaphore s) programs are has confined)) runs
 group_follows t gs programs h are confined acc runs (groups.Both s) has =
     both_follows t s (is_line s (semaphores_of gs)) programs h acc
-    (weaker (UsesGroup gs (groups.Both s)) (UsesBoth s (is_line s (semaphores_of gs))) (uses_both gs s) programs (each_uses t gs (groups.Both s) programs are has confined)) runs
+    (weaker t (UsesGroup gs (groups.Both s)) (UsesBoth s (is_line s (semaphores_of gs))) (uses_both gs s) programs (each_uses t gs (groups.Both s) programs are has confined)) runs
 
 -- THE PROGRAM OF EACH WORKER
 

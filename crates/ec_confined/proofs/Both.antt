@@ -98,4 +98,4 @@ command_suits may s lines last c (inr apart) = suits_apart may (both_rule s line
 
 pub both_follows : BothIsFollowed
 both_follows t s lines programs h acc each runs =
-    programs_follow t (both_rules s lines) (UsesBoth s lines) programs _ acc (λ w last c is. command_suits _ s lines last c is) each runs
+    programs_follow t (both_rules s lines) (UsesBoth s lines) programs h acc (λ w last c is. command_suits _ s lines last c is) each runs

@@ -22,17 +22,10 @@ use Rattle.ec_confined.proofs.Suiting.{Suits, suits_apart, blocked, at_op}
 use Rattle.ec_confined.proofs.Granted.{IsGranted}
 use Rattle.ec_confined.proofs.Rules.{IsFree, IsOn, suits_free}
 use Rattle.ec_confined.proofs.Roles.{one_role}
+use Rattle.ec_confined.proofs.Tests.{or_first, or_second}
 use Rattle.ec_confined.proofs.Workers.{programs_follow}
 
 -- THE OBJECTS OF A BUFFER
-
-or_second : (a b : Bool) → b ≡ true → (a || b) ≡ true
-or_second true b is = refl
-or_second false b is = is
-
-or_first : (a b : Bool) → a ≡ true → (a || b) ≡ true
-or_first true b is = refl
-or_first false b is = cc
 
 on_in : (b : Buffer) → (b.in_count == b.in_count || b.in_count == b.out_count) ≡ true
 on_in b = or_first (b.in_count == b.in_count) (b.in_count == b.out_count) (eq-eqb b.in_count b.in_count refl)
@@ -137,4 +130,4 @@ command_suits t b w last c some fits (inr apart) =
 
 pub buffers_follow : BuffersAreFollowed
 buffers_follow t b programs h shape fits acc each runs =
-    programs_follow t (buffer_rules t b) (UsesBuffer b) programs _ acc (λ w last c is. command_suits t b w last c shape.some fits is) each runs
+    programs_follow t (buffer_rules t b) (UsesBuffer b) programs h acc (λ w last c is. command_suits t b w last c shape.some fits is) each runs

@@ -27,11 +27,12 @@ use Rattle.ec_machine.specs.Runs.{one_call, command_call}
 use Rattle.ec_trace.specs.declared.group.Group.{Group}
 use Rattle.ec_trace.specs.declared.group.Group.TheVariants as groups
 use Rattle.ec_trace.specs.Groups.{FitsGroup}
-use Rattle.ec_confined.specs.Trial.{UsesGroups}
+use Rattle.ec_script.specs.Confined.{UsesGroups}
 use Rattle.ec_confined.specs.Uses.{IsApart, IsOfBuffer, IsOfDatabase, IsOfSemaphore, IsOfBoth, AreSeparate, AreThree}
 use Rattle.ec_confined.specs.Headings.{semaphores_of}
 use Rattle.ec_confined.proofs.Suiting.{at_op}
-use Rattle.ec_confined.proofs.Semaphores.{on_line, on_wait, on_advance, other_way}
+use Rattle.ec_confined.proofs.Semaphores.{on_line, on_wait, on_advance}
+use Rattle.ec_confined.proofs.Tests.{other_way}
 use Rattle.ec_confined.proofs.Buffers.{produce_on, consume_on}
 use Rattle.ec_confined.proofs.Databases.{write_on, try_on}
 use Rattle.ec_confined.proofs.Owned.{acts_on, AreApart, on_buffer, on_database, on_semaphore, on_both, same_or_not, not_on, none_passes, both_there, semaphore_listed}

@@ -24,17 +24,10 @@ use Rattle.ec_confined.proofs.Suiting.{AreAsked, Suits, Tracks, suits_tracked, s
 use Rattle.ec_confined.proofs.Granted.{IsGranted}
 use Rattle.ec_confined.proofs.Rules.{IsFree, IsOn, due_free, suits_free}
 use Rattle.ec_confined.proofs.Roles.{one_role, placed_is_member}
+use Rattle.ec_confined.proofs.Tests.{or_first, or_second, turned}
 use Rattle.ec_confined.proofs.Workers.{programs_follow}
 
 -- THE OBJECTS OF A DATABASE
-
-or_second : (a b : Bool) → b ≡ true → (a || b) ≡ true
-or_second true b is = refl
-or_second false b is = is
-
-or_first : (a b : Bool) → a ≡ true → (a || b) ≡ true
-or_first true b is = refl
-or_first false b is = cc
 
 on_start : (d : Database) → (d.start == d.start || d.start == d.done) ≡ true
 on_start d = or_first (d.start == d.start) (d.start == d.done) (eq-eqb d.start d.start refl)
@@ -50,10 +43,6 @@ on_cell d n within =
     (lt-ltb (d.first_cell + n) (d.first_cell + d.cells) (omega arith))
 
 -- WRITINGS
-
--- the call after the await, given whether it is a put, and else whether it is the last
-rest_call : Bool → Bool → Act → Act → Option Act
-rest_call more last cell end = cond more (Some cell) (cond last (Some end) None)
 
 write_rest : (more last : Bool) (x v : ℕ) (end : Act) → unvalued end ≡ end
     → (if more then Some (Put x 0) else (if last then Some end else None)) ≡ option_map unvalued (if more then Some (Put x v) else (if last then Some end else None))
@@ -142,13 +131,9 @@ again_open : (d : Database) (left : ℕ) (calls : List Told) → open_try d (try
 unfolding open_try chosen
 again_open d left calls = again_if d left calls (is_some (try_call d calls)) refl
 
-turned : (b : Bool) (xs : List Told) → cond (not b) [] xs ≡ cond b xs []
-turned true xs = refl
-turned false xs = refl
-
 open_now : (d : Database) (calls : List Told) → cond (not (is_some (try_call d calls))) [] calls ≡ open_try d calls
 unfolding open_try
-open_now d calls = turned (is_some (try_call d calls)) calls
+open_now d calls = turned (is_some (try_call d calls)) [] calls
 
 -- one more call of a try that goes on
 try_goes : (d : Database) (s : Trying) (c : Told) → try_call d s.calls ≡ Some c.op → extended (try_rule d) (open_try d s.calls) c ≡ open_try d (after_call d s c).calls
@@ -226,4 +211,4 @@ command_suits t d w last c fits (inr apart) =
 
 pub databases_follow : DatabasesAreFollowed
 databases_follow t d programs h fits acc each runs =
-    programs_follow t (database_rules t d) (UsesDatabase d) programs _ acc (λ w last c is. command_suits t d w last c fits is) each runs
+    programs_follow t (database_rules t d) (UsesDatabase d) programs h acc (λ w last c is. command_suits t d w last c fits is) each runs

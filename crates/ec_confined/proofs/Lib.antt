@@ -12,3 +12,4 @@ pub mod Confining
 pub mod Shaped
 pub mod AllGroups
 pub mod Apart
+pub mod Tests

@@ -14,7 +14,7 @@ use Rattle.ec_trace.specs.declared.group.Group.{Group}
 use Rattle.ec_trace.specs.declared.group.Group.TheVariants as groups
 use Rattle.ec_script.specs.Objects.{has_count, has_line, has_cell, both_of}
 use Rattle.ec_confined.specs.Headings.{semaphores_of}
-use Rattle.ec_confined.proofs.Semaphores.{other_way}
+use Rattle.ec_confined.proofs.Tests.{or_first, or_second, same_test}
 
 -- MEMBERS OF A LIST
 
@@ -45,13 +45,6 @@ acts_on g Go = false
 acts_on g (Ticket q) = has_line g q
 acts_on g (Put x v) = has_cell g x
 acts_on g (Get x) = has_cell g x
-
-same_test : (m n : ℕ) → (m == n) ≡ (n == m)
-same_test m n =
-    elim (m == n) as (λ b. (m == n) ≡ b → b ≡ (n == m)) [
-      | true ↦ λ is. sym (eq-eqb n m (sym (eqb-true m n is)))
-      | false ↦ λ is. sym (other_way m n is)
-    ] refl
 
 same_tests : (e m n : ℕ) → (e == m || e == n) ≡ (m == e || n == e)
 same_tests e m n = ap (λ b. b || e == n) (same_test e m) ∙ ap (λ b. m == e || b) (same_test e n)
@@ -104,14 +97,6 @@ count_of (groups.Buffer b) = b.in_count
 count_of (groups.Database d) = d.start
 count_of (groups.Semaphore s) = s.count
 count_of (groups.Both s) = s.count
-
-or_first : (a b : Bool) → a ≡ true → (a || b) ≡ true
-or_first true b is = refl
-or_first false b is = cc
-
-or_second : (a b : Bool) → b ≡ true → (a || b) ≡ true
-or_second true b is = refl
-or_second false b is = is
 
 has_its_count : (g : Group) → acts_on g (Advance (count_of g)) ≡ true
 unfolding count_of

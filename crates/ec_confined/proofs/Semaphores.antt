@@ -16,6 +16,7 @@ use Rattle.ec_machine.specs.Runs.{command_call}
 use Rattle.ec_confined.specs.Uses.{IsApart, AreSeparate, AreThree, IsOfSemaphore, UsesSemaphore}
 use Rattle.ec_confined.specs.Laws.{SemaphoresAreFollowed}
 use Rattle.ec_confined.proofs.Suiting.{AreAsked, Suits, Tracks, IsOwn, suits_tracked, suits_own, suits_apart, fitting, unconcerned, extended_on, extended_off, at_op}
+use Rattle.ec_confined.proofs.Tests.{or_first, or_second, other_way}
 use Rattle.ec_confined.proofs.Workers.{programs_follow}
 
 -- THE OBJECTS OF A SEMAPHORE
@@ -29,27 +30,16 @@ on_wait s n = eq-eqb s.count s.count refl
 pub on_advance : (s : Semaphore) → is_on s (Advance s.count) ≡ true
 on_advance s = eq-eqb s.count s.count refl
 
-pub other_way : (m n : ℕ) → (m == n) ≡ false → (n == m) ≡ false
-other_way m n is = ne_eqb n m (λ e. (let same : (m == n) ≡ true = eq-eqb m n (sym e) in let no : false ≡ true = sym is ∙ same in cc))
-
 pub apart_back : (s u : Semaphore) → AreSeparate s u → AreSeparate u s
 apart_back s u apart = record { counts = other_way s.count u.count apart.counts; lines = other_way s.line u.line apart.lines }
 
 -- RIGHT CALLS
 
-or_left : (a b : Bool) → a ≡ true → (a || b) ≡ true
-or_left true b is = refl
-or_left false b is = cc
-
-or_right : (a b : Bool) → b ≡ true → (a || b) ≡ true
-or_right true b is = refl
-or_right false b is = is
-
 right_down : (s : Semaphore) (b : List Told) (op : Act) → is_due (down_call s b) op ≡ true → (use_rule s).fits b op ≡ true
-right_down s b op is = or_left (is_due (down_call s b) op) (is_due (up_call s b) op) is
+right_down s b op is = or_first (is_due (down_call s b) op) (is_due (up_call s b) op) is
 
 right_up : (s : Semaphore) (b : List Told) (op : Act) → is_due (up_call s b) op ≡ true → (use_rule s).fits b op ≡ true
-right_up s b op is = or_right (is_due (down_call s b) op) (is_due (up_call s b) op) is
+right_up s b op is = or_second (is_due (down_call s b) op) (is_due (up_call s b) op) is
 
 -- a ticket begins a P
 ticket_fits : (s : Semaphore) → (use_rule s).fits [] (Ticket s.line) ≡ true
@@ -306,4 +296,4 @@ semaphore_suits may s last c (inr apart) = suits_apart may (use_rule s) (command
 
 pub semaphores_follow : SemaphoresAreFollowed
 semaphores_follow t s programs h acc each runs =
-    programs_follow t (use_rules s) (UsesSemaphore s) programs _ acc (λ w last c is. semaphore_suits _ s last c is) each runs
+    programs_follow t (use_rules s) (UsesSemaphore s) programs h acc (λ w last c is. semaphore_suits _ s last c is) each runs

@@ -6,6 +6,7 @@ use Rattle.ec_core.specs.declared.act.Act.{Act}
 use Rattle.ec_core.specs.Following.{Told, Rule, extended}
 use Rattle.ec_core.specs.Procedures.{IsWritten}
 use Rattle.ec_core.proofs.Joining.{get_back}
+use Rattle.ec_confined.proofs.Tests.{turned}
 use Rattle.ec_core.proofs.FittingCalls.{is_fitting, list_after, AreFitting, after_more}
 
 -- ASKED AND ALLOWED CALLS
@@ -151,10 +152,6 @@ none_left : (b : Bool) (xs : List Told) → cond b xs xs ≡ xs
 none_left true xs = refl
 none_left false xs = refl
 
-turned : (b : Bool) (xs : List Told) → cond (not b) [] xs ≡ cond b xs []
-turned true xs = refl
-turned false xs = refl
-
 pub suits_own : (may : Act → Type 0) (r : Rule) (list : List Told → Option Act) → IsOwn r list → Suits may r list
 unfolding own_place
 suits_own may r list own = suits_tracked may r list (own_place list) (record {
@@ -164,6 +161,6 @@ suits_own may r list own = suits_tracked may r list (own_place list) (record {
       ap (λ (o : Option Act). extended r (cond (is_some o) calls []) c) is
       ∙ extended_on r calls c (own.concerns calls c.op is)
       ∙ ap (λ b. cond b [] (calls ++ c ∷ [])) (own.ends calls c is)
-      ∙ turned (is_some (list (calls ++ c ∷ []))) (calls ++ c ∷ []);
+      ∙ turned (is_some (list (calls ++ c ∷ []))) [] (calls ++ c ∷ []);
   ends = λ calls is. ap (λ (o : Option Act). cond (is_some o) calls []) is;
 })

@@ -1,8 +1,9 @@
 -- A worker whose program's commands suit its rule is right by the rule.
-use Rattle.std.proofs.Common.{◌≡◌, ℕ, Bool, true, false, List, [], ◌∷◌, ◌++◌, All, Option, Some, None, if◌then◌else◌, refl, sym, ◌∙◌, ap, subst}
+use Rattle.std.proofs.Common.{◌≡◌, ℕ, ◌<◌, ◌≤◌, Bool, true, false, ◌==◌, nat_lt, nat_le, cond, arith, reverse, List, [], ◌∷◌, ◌++◌, All, Option, Some, None, if◌then◌else◌, refl, sym, ◌∙◌, ap, subst}
 use Rattle.std.specs.List.{flat_map}
 use Rattle.std.specs.List.{AllByRecursion}
 use Rattle.std.proofs.lemmas.List.Elements.{recursion_from_All}
+use Rattle.std.proofs.lemmas.Bool.{eqb-true, ltb-true, ltb-false, leb-false}
 use Rattle.ec_count.specs.Tables.{Tables}
 use Rattle.ec_core.specs.declared.act.Act.{Act}
 use Rattle.ec_core.specs.declared.act.Entry.{Entry}
@@ -14,7 +15,8 @@ use Rattle.ec_core.proofs.FittingCalls.{is_fitting, list_after, AreFitting, afte
 use Rattle.ec_machine.specs.declared.command.Command.{Command}
 use Rattle.ec_machine.specs.Values.{has_large}
 use Rattle.ec_machine.specs.Written.{written}
-use Rattle.ec_machine.specs.Steps.{opening, finished, own}
+use Rattle.ec_core.proofs.Answering.{allowed}
+use Rattle.ec_machine.specs.Steps.{opening, finished, own, IsRun}
 use Rattle.ec_machine.specs.Runs.{command_call, last_number, next_in, program_call, IsRunOf}
 use Rattle.ec_machine.specs.Laws.{AreWhole, IsBegun, AreCallsOf}
 use Rattle.ec_machine.proofs.WholeLists.{runs_of_lists}
@@ -118,13 +120,38 @@ worker_fits t r w cs past acc suits run =
           going.goes);
     }
 
--- where the commands of each worker's program suit its rule, what the programs did follows the rules
-pub programs_follow : (t : Tables) (rules : ℕ → Rule) (P : Command → Type 0) (programs : ℕ → List Command) (past : List Entry) → IsAccepted t past
-    → ((w last : ℕ) (c : Command) → P c → Suits (IsGranted t w) (rules w) (command_call last c)) → EachCommand P programs → AreRuns programs past → Follow rules past
-programs_follow t rules P programs past acc suits each runs =
-    follow_alone rules t past acc (λ w. worker_fits t (rules w) w (programs w) past acc
-    (suit_all (IsGranted t w) (rules w) P (written (programs w)) (λ c is last. suits w last c is) (recursion_from_All P (written (programs w)) (each w))) (runs w))
-  where
-    suit_all : (may : Act → Type 0) (r : Rule) (Q : Command → Type 0) (cs : List Command) → ((c : Command) → Q c → (last : ℕ) → Suits may r (command_call last c)) → AllByRecursion Q cs → AllSuit may r cs
-    suit_all may r Q [] each all = tt
-    suit_all may r Q (c ∷ cs) each all = (each c all.0, suit_all may r Q cs each all.1)
+suit_all : (may : Act → Type 0) (r : Rule) (P : Command → Type 0) (cs : List Command) → ((c : Command) → P c → (last : ℕ) → Suits may r (command_call last c)) → AllByRecursion P cs → AllSuit may r cs
+suit_all may r P [] each all = tt
+suit_all may r P (c ∷ cs) each all = (each c all.0, suit_all may r P cs each all.1)
+
+-- a worker that is not declared has no entries
+undeclared_own : (t : Tables) (w : ℕ) (past : List Entry) → IsAccepted t past → nat_lt w t.workers ≡ false → own w past ≡ []
+undeclared_own t w [] acc none = refl
+undeclared_own t w (x ∷ past) acc none =
+    elim (x.worker == w) as (λ b. (x.worker == w) ≡ b → cond b (x ∷ own w past) (own w past) ≡ []) [
+      | true ↦ λ mine.
+          (let known : nat_le t.workers x.worker ≡ false = (allowed t past x.worker x.act x.reply acc.0).0.declared in
+          let low : x.worker < t.workers = leb-false t.workers x.worker known in
+          let high : t.workers ≤ w = ltb-false w t.workers none in
+          let same : x.worker ≡ w = eqb-true x.worker w mine in
+          absurd (omega arith))
+      | false ↦ λ other. undeclared_own t w past acc.1 none
+    ] refl
+
+idle_run : (past : List Entry) → past ≡ [] → IsRunOf [] past
+unfolding IsRun
+idle_run past none = subst (IsRunOf []) (sym none) tt
+
+-- where the commands of each declared worker's program suit its rule, what the programs did follows the rules
+pub programs_follow : (t : Tables) (rules : ℕ → Rule) (P : Command → Type 0) (programs : ℕ → List Command) (h : List Entry) → IsAccepted t (reverse h)
+    → ((w last : ℕ) (c : Command) → P c → Suits (IsGranted t w) (rules w) (command_call last c)) → EachCommand t P programs → AreRuns t programs h → Follow rules (reverse h)
+programs_follow t rules P programs h acc suits each runs =
+    follow_alone rules t (reverse h) acc (λ w.
+    elim (nat_lt w t.workers) as (λ b. nat_lt w t.workers ≡ b → FitsAlone (rules w) w (reverse h)) [
+      | true ↦ λ is.
+          (let lt : w < t.workers = ltb-true w t.workers is in
+          worker_fits t (rules w) w (programs w) (reverse h) acc
+          (suit_all (IsGranted t w) (rules w) P (written (programs w)) (λ c uses last. suits w last c uses) (recursion_from_All P (written (programs w)) (each w lt)))
+          (runs w lt))
+      | false ↦ λ is. worker_fits t (rules w) w [] (reverse h) acc tt (idle_run (own w (reverse h)) (undeclared_own t w (reverse h) acc is))
+    ] refl)

@@ -1,5 +1,5 @@
 -- The groups of a heading: programs that use their objects by the groups' own procedures alone follow them all.
-use Rattle.std.specs.Prelude.{ℕ, List, [], ◌∷◌, reverse}
+use Rattle.std.specs.Prelude.{ℕ, ◌<◌, List, [], ◌∷◌, reverse}
 use Rattle.std.specs.List.{All}
 use Rattle.ec_count.specs.Tables.{Tables}
 use Rattle.ec_core.specs.declared.act.Entry.{Entry}
@@ -16,7 +16,7 @@ use Rattle.ec_trace.specs.declared.group.Group.{Group}
 use Rattle.ec_trace.specs.declared.group.Group.TheVariants as groups
 use Rattle.ec_trace.specs.Headed.{Headed}
 use Rattle.ec_trace.specs.Outlined.{IsHeading}
-use Rattle.ec_confined.specs.Trial.{AreConfinedPrograms}
+use Rattle.ec_script.specs.Confined.{AreConfinedPrograms}
 
 -- the semaphores among these groups, the one named `both` not among them
 abbrev pub semaphores_of : List Group → List Semaphore
@@ -36,7 +36,7 @@ abbrev pub FollowsGroup : Tables → List Group → List Entry → Group → Typ
 FollowsGroup t gs past g = Follow (group_rules t gs g) past
 
 -- where each command of the programs, written out, uses the objects of a heading's groups by the groups' procedures alone: an
--- accepted history in which each worker's entries are a run of its program follows every group
+-- accepted history in which each declared worker's entries are a run of its program follows every group
 abbrev pub GroupsAreFollowed : Type 0
 GroupsAreFollowed = (heading : Headed) (programs : List (List Command)) (h : List Entry) → IsHeading heading → AreConfinedPrograms heading.groups programs
-    → IsAccepted heading.setup (reverse h) → ((w : ℕ) → Follows programs h w) → All (FollowsGroup heading.setup heading.groups (reverse h)) heading.groups
+    → IsAccepted heading.setup (reverse h) → ((w : ℕ) → w < heading.setup.workers → Follows programs h w) → All (FollowsGroup heading.setup heading.groups (reverse h)) heading.groups

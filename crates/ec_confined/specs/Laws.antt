@@ -17,19 +17,19 @@ use Rattle.ec_confined.specs.Uses.{UsesBuffer, UsesDatabase, UsesSemaphore, Uses
 -- an accepted history of programs whose commands use a declared buffer by Produce and Consume alone follows it
 abbrev pub BuffersAreFollowed : Type 0
 BuffersAreFollowed = (t : Tables) (b : buffers.Buffer) (programs : ℕ → List Command) (h : List Entry) → buffers.IsShape b → buffers.Fits b t → IsAccepted t (reverse h)
-    → EachCommand (UsesBuffer b) programs → AreRuns programs (reverse h) → FollowsBuffer t b (reverse h)
+    → EachCommand t (UsesBuffer b) programs → AreRuns t programs h → FollowsBuffer t b (reverse h)
 
 -- one whose commands use a declared database by WriteAll and Snapshot alone follows it
 abbrev pub DatabasesAreFollowed : Type 0
 DatabasesAreFollowed = (t : Tables) (d : databases.Database) (programs : ℕ → List Command) (h : List Entry) → databases.Fits d t → IsAccepted t (reverse h)
-    → EachCommand (UsesDatabase d) programs → AreRuns programs (reverse h) → FollowsDatabase t d (reverse h)
+    → EachCommand t (UsesDatabase d) programs → AreRuns t programs h → FollowsDatabase t d (reverse h)
 
 -- one whose commands use a semaphore by P and V alone follows it
 abbrev pub SemaphoresAreFollowed : Type 0
 SemaphoresAreFollowed = (t : Tables) (s : Semaphore) (programs : ℕ → List Command) (h : List Entry) → IsAccepted t (reverse h)
-    → EachCommand (UsesSemaphore s) programs → AreRuns programs (reverse h) → Follow (use_rules s) (reverse h)
+    → EachCommand t (UsesSemaphore s) programs → AreRuns t programs h → Follow (use_rules s) (reverse h)
 
 -- one whose commands use the common semaphore of `both` by P on two semaphores with these sequencers alone follows `both`
 abbrev pub BothIsFollowed : Type 0
 BothIsFollowed = (t : Tables) (s : Semaphore) (lines : ℕ → Bool) (programs : ℕ → List Command) (h : List Entry) → IsAccepted t (reverse h)
-    → EachCommand (UsesBoth s lines) programs → AreRuns programs (reverse h) → Follow (both_rules s lines) (reverse h)
+    → EachCommand t (UsesBoth s lines) programs → AreRuns t programs h → Follow (both_rules s lines) (reverse h)

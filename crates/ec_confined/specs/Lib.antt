@@ -1,4 +1,3 @@
 pub mod Uses
 pub mod Laws
-pub mod Trial
 pub mod Headings

@@ -1,6 +1,7 @@
 -- Which commands use a group of objects by its own procedures alone.
-use Rattle.std.specs.Prelude.{◌≡◌, ℕ, ◌⊎◌, Bool, true, false, ◌==◌, List, Some}
+use Rattle.std.specs.Prelude.{◌≡◌, ℕ, ◌<◌, ◌⊎◌, Bool, true, false, ◌==◌, List, reverse, Some}
 use Rattle.std.specs.List.{All}
+use Rattle.ec_count.specs.Tables.{Tables}
 use Rattle.ec_core.specs.declared.act.Act.{Act}
 use Rattle.ec_core.specs.declared.act.Entry.{Entry}
 use Rattle.ec_core.specs.Following.{Told}
@@ -77,10 +78,10 @@ UsesBoth s lines c = IsOfBoth s lines c ⊎ IsApart (semaphores.is_on s) c
 
 -- PROGRAMS
 
--- each command of each worker's program, the repeats written out
-abbrev pub EachCommand : (Command → Type 0) → (ℕ → List Command) → Type 0
-EachCommand P programs = (w : ℕ) → All P (written (programs w))
+-- each command of each declared worker's program, the repeats written out
+abbrev pub EachCommand : Tables → (Command → Type 0) → (ℕ → List Command) → Type 0
+EachCommand t P programs = (w : ℕ) → w < t.workers → All P (written (programs w))
 
--- each worker's entries, the past with the newest first, are a run of its program, perhaps unfinished
-abbrev pub AreRuns : (ℕ → List Command) → List Entry → Type 0
-AreRuns programs past = (w : ℕ) → IsRunOf (programs w) (own w past)
+-- each declared worker's entries are a run of its program, perhaps unfinished
+abbrev pub AreRuns : Tables → (ℕ → List Command) → List Entry → Type 0
+AreRuns t programs h = (w : ℕ) → w < t.workers → IsRunOf (programs w) (own w (reverse h))
