@@ -13,3 +13,4 @@ pub mod Shaped
 pub mod AllGroups
 pub mod Apart
 pub mod Tests
+pub mod TurnedRound

@@ -1,5 +1,5 @@
 -- Where programs use a group by its procedures alone, their accepted histories follow the group.
-use Rattle.std.specs.Prelude.{ℕ, Bool, List, reverse}
+use Rattle.std.specs.Prelude.{◌≡◌, ℕ, Bool, List, reverse}
 use Rattle.ec_count.specs.Tables.{Tables}
 use Rattle.ec_core.specs.declared.act.Entry.{Entry}
 use Rattle.ec_core.specs.Acceptance.{IsAccepted}
@@ -12,6 +12,7 @@ use Rattle.ec_semaphore.specs.Shapes.{Semaphore}
 use Rattle.ec_semaphore.specs.Uses.{use_rules}
 use Rattle.ec_semaphore.specs.Both.{both_rules}
 use Rattle.ec_machine.specs.declared.command.Command.{Command}
+use Rattle.ec_machine.specs.Steps.{own}
 use Rattle.ec_confined.specs.Uses.{UsesBuffer, UsesDatabase, UsesSemaphore, UsesBoth, EachCommand, AreRuns}
 
 -- an accepted history of programs whose commands use a declared buffer by Produce and Consume alone follows it
@@ -33,3 +34,7 @@ SemaphoresAreFollowed = (t : Tables) (s : Semaphore) (programs : ℕ → List Co
 abbrev pub BothIsFollowed : Type 0
 BothIsFollowed = (t : Tables) (s : Semaphore) (lines : ℕ → Bool) (programs : ℕ → List Command) (h : List Entry) → IsAccepted t (reverse h)
     → EachCommand t (UsesBoth s lines) programs → AreRuns t programs h → Follow (both_rules s lines) (reverse h)
+
+-- the entries of a worker, turned round, are those of the history turned round
+abbrev pub OwnEntriesTurnRound : Type 0
+OwnEntriesTurnRound = (w : ℕ) (h : List Entry) → own w (reverse h) ≡ reverse (own w h)

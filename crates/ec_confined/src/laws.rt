@@ -1,6 +1,6 @@
 //! What the definitions mean: each function says a law and does nothing.
 ghost use Rattle.ec_confined.specs.Headings.{GroupsAreFollowed};
-ghost use Rattle.ec_confined.specs.Laws.{BuffersAreFollowed, DatabasesAreFollowed, SemaphoresAreFollowed, BothIsFollowed};
+ghost use Rattle.ec_confined.specs.Laws.{BuffersAreFollowed, DatabasesAreFollowed, SemaphoresAreFollowed, BothIsFollowed, OwnEntriesTurnRound};
 
 /// In an accepted history in which each worker's entries are a run of its program, a declared buffer
 /// is followed that the programs use by Produce and Consume alone.
@@ -28,4 +28,10 @@ pub fn both_is_followed()
 /// a run of its program follows every group.
 pub fn groups_are_followed()
     ensures { GroupsAreFollowed }
+{}
+
+/// The entries of a worker, turned round, are those of the history turned round: so what is said of
+/// the one list is said of the other.
+pub fn own_entries_turn_round()
+    ensures { OwnEntriesTurnRound }
 {}
