@@ -1,5 +1,5 @@
 -- Confined programs follow each group of their heading.
-use Rattle.std.proofs.Common.{◌≡◌, ◌⊎◌, inl, inr, ℕ, Bool, zero, suc, ◌<◌, List, [], ◌∷◌, All, length, reverse, slice_index_or, refl, sym, ◌∙◌, ap, subst, arith}
+use Rattle.std.proofs.Common.{◌≡◌, inl, inr, ℕ, Bool, zero, suc, List, [], ◌∷◌, reverse, ◌∙◌}
 use Rattle.std.specs.List.{AllByRecursion, Contains}
 use Rattle.std.proofs.lemmas.List.Elements.{All-from_recursion, All-contains, All-contains_itself, All-weaker}
 use Rattle.ec_count.specs.Tables.{Tables}
@@ -29,7 +29,7 @@ use Rattle.ec_confined.proofs.Databases.{databases_follow}
 use Rattle.ec_confined.proofs.Semaphores.{semaphores_follow}
 use Rattle.ec_confined.proofs.Both.{both_follows}
 use Rattle.ec_confined.proofs.Owned.{acts_on, on_buffer, on_database, on_semaphore, on_both}
-use Rattle.ec_confined.proofs.Confining.{IsOfGroup, UsesGroup, AreGroups, IsShaped, command_uses}
+use Rattle.ec_confined.proofs.Confining.{UsesGroup, AreGroups, IsShaped, command_uses}
 use Rattle.ec_confined.proofs.Shaped.{heading_shaped}
 use Rattle.ec_confined.proofs.Apart.{heading_apart}
 

@@ -1,5 +1,5 @@
 -- No act is on two groups of a heading: each declaration takes the objects that come next.
-use Rattle.std.proofs.Common.{◌≡◌, ◌⊎◌, inl, inr, ℕ, ◌+◌, ◌<◌, ◌≤◌, List, [], ◌∷◌, ◌++◌, length, replicate, Bool, true, false, ◌&&◌, ◌||◌, ◌==◌, Option, Some, None, refl, sym, ◌∙◌, subst, arith, append-nil, length-append, nat_le, nat_lt, eqb-true, leb-true, ltb-true}
+use Rattle.std.proofs.Common.{◌≡◌, ◌⊎◌, inl, inr, ℕ, ◌+◌, ◌<◌, ◌≤◌, List, [], ◌∷◌, ◌++◌, length, true, ◌&&◌, ◌||◌, ◌==◌, Option, Some, None, sym, ◌∙◌, subst, arith, append-nil, length-append, nat_le, nat_lt, eqb-true, leb-true, ltb-true}
 use Rattle.std.specs.List.{Contains, cons_option}
 use Rattle.std.proofs.lemmas.Bool.{and_parts, or_cases}
 use Rattle.std.proofs.lemmas.List.{length-replicate}
@@ -10,12 +10,11 @@ use Rattle.ec_count.specs.declared.setup.Access.{Access}
 use Rattle.ec_core.specs.declared.act.Act.{Act}
 use Rattle.ec_core.specs.declared.act.Act.TheVariants.{Advance, Read, Await, Go, Ticket, Put, Get}
 use Rattle.ec_trace.specs.declared.group.Group.{Group}
-use Rattle.ec_trace.specs.declared.group.Group.TheVariants as groups
 use Rattle.ec_trace.specs.declared.sort.Sort.{Sort}
 use Rattle.ec_trace.specs.declared.sort.Sort.TheVariants as sorts
 use Rattle.ec_trace.specs.Objects.{group_of}
 use Rattle.ec_trace.specs.Headed.{Headed}
-use Rattle.ec_trace.specs.Outline.{Declaration, Outline, with_objects, opened, declared_by, declared_all, headed}
+use Rattle.ec_trace.specs.Outline.{Declaration, Outline, with_objects, opened, declared_by, declared_all}
 use Rattle.ec_trace.specs.Outlined.{IsHeading}
 use Rattle.ec_confined.proofs.Owned.{acts_on, AreApart}
 

@@ -1,6 +1,6 @@
 -- P on two semaphores suits the rule of `both`.
-use Rattle.std.proofs.Common.{◌≡◌, ℕ, Bool, true, false, not, ◌&&◌, ◌||◌, ◌==◌, cond, List, [], ◌∷◌, ◌++◌, Option, Some, None, is_some, refl, sym, ◌∙◌, ap, subst, inl, inr}
-use Rattle.std.proofs.lemmas.Bool.{eq-eqb, and_from}
+use Rattle.std.proofs.Common.{◌≡◌, ℕ, Bool, true, false, not, ◌&&◌, ◌==◌, List, [], ◌∷◌, ◌++◌, Option, Some, None, refl, ◌∙◌, ap, subst, inl, inr}
+use Rattle.std.proofs.lemmas.Bool.{and_from}
 use Rattle.ec_core.specs.declared.act.Act.{Act}
 use Rattle.ec_core.specs.declared.act.Act.TheVariants.{Advance, Await, Ticket}
 use Rattle.ec_core.specs.Following.{Told, extended}
@@ -9,7 +9,7 @@ use Rattle.ec_core.proofs.Following.{is_act-same}
 use Rattle.ec_core.proofs.FittingCalls.{is_fitting}
 use Rattle.ec_semaphore.specs.Shapes.{Semaphore}
 use Rattle.ec_semaphore.specs.Uses.{threshold, is_on}
-use Rattle.ec_semaphore.specs.Both.{down_both_call, guarded_call, line_of, is_choice, is_begun, both_rule, both_rules, is_line}
+use Rattle.ec_semaphore.specs.Both.{down_both_call, guarded_call, line_of, is_choice, both_rule, both_rules}
 use Rattle.ec_machine.specs.declared.command.Command.{Command, DownBoth}
 use Rattle.ec_machine.specs.Runs.{command_call}
 use Rattle.ec_confined.specs.Uses.{AreThree, IsOfBoth, UsesBoth}

@@ -1,5 +1,5 @@
 -- Producing and consuming suit the rules of a buffer.
-use Rattle.std.proofs.Common.{◌≡◌, ℕ, ◌+◌, ◌-◌, ◌%◌, ◌<◌, ◌≤◌, Bool, true, false, ◌&&◌, ◌||◌, ◌==◌, nat_le, nat_lt, List, [], ◌∷◌, Option, Some, None, if◌then◌else◌, refl, sym, ◌∙◌, ap, subst, arith, inl, inr}
+use Rattle.std.proofs.Common.{◌≡◌, ℕ, ◌+◌, ◌%◌, ◌<◌, true, false, ◌||◌, ◌==◌, nat_le, nat_lt, List, [], ◌∷◌, Option, if◌then◌else◌, refl, sym, ◌∙◌, ap, subst, arith, inl, inr}
 use Rattle.std.specs.Option.{option_map_or}
 use Rattle.std.proofs.lemmas.Bool.{eq-eqb, and_from, le-leb, lt-ltb}
 use Rattle.std.proofs.lemmas.Nat.{mod_below}
@@ -7,12 +7,10 @@ use Rattle.ec_count.specs.Members.{is_member}
 use Rattle.ec_count.specs.Declares.{DeclaresSequencer}
 use Rattle.ec_count.specs.Tables.{Tables, may_take}
 use Rattle.ec_core.specs.declared.act.Act.{Act}
-use Rattle.ec_core.specs.declared.act.Act.TheVariants.{Advance, Await, Ticket, Put, Get}
-use Rattle.ec_core.specs.CallLists.{unvalued}
-use Rattle.ec_core.specs.Following.{Told, Rule}
-use Rattle.ec_buffer.specs.Shapes.{Buffer, IsShape, DeclaresBuffer, Fits}
+use Rattle.ec_core.specs.declared.act.Act.TheVariants.{Ticket}
+use Rattle.ec_buffer.specs.Shapes.{Buffer, DeclaresBuffer, Fits}
 use Rattle.ec_buffer.specs.CallLists.{turn_of, produce_call, consume_call}
-use Rattle.ec_buffer.specs.Follows.{is_cell, is_on, produce_rule, consume_rule, role_rules, buffer_rules}
+use Rattle.ec_buffer.specs.Follows.{is_cell, is_on, produce_rule, consume_rule, buffer_rules}
 use Rattle.ec_machine.specs.declared.command.Command.{Command, Produce, Consume}
 use Rattle.ec_machine.specs.Values.{value_of}
 use Rattle.ec_machine.specs.Runs.{command_call}

@@ -1,6 +1,6 @@
 -- A confined command is of a group by its procedures, or apart from the group.
-use Rattle.std.proofs.Common.{◌≡◌, ◌≢◌, ◌⊎◌, inl, inr, ℕ, ◌<◌, Bool, true, false, not, ◌&&◌, ◌||◌, ◌==◌, List, [], ◌∷◌, All, Option, Some, None, refl, sym, ◌∙◌, ap, subst, eqb-true}
-use Rattle.std.specs.List.{AllByRecursion, Contains, list_any}
+use Rattle.std.proofs.Common.{◌≡◌, ◌≢◌, ◌⊎◌, inl, inr, ℕ, ◌<◌, true, false, not, ◌==◌, List, [], ◌∷◌, All, Some, None, refl, sym, ◌∙◌, ap, subst}
+use Rattle.std.specs.List.{Contains, list_any}
 use Rattle.std.proofs.lemmas.Bool.{eq-eqb, ne_eqb, and_from}
 use Rattle.std.proofs.lemmas.List.Elements.{All-contains}
 use Rattle.ec_count.specs.Tables.{Tables}
@@ -10,17 +10,14 @@ use Rattle.ec_core.specs.CallLists.{number_of}
 use Rattle.ec_core.specs.Following.{Told}
 use Rattle.ec_buffer.specs.Shapes as buffers
 use Rattle.ec_buffer.specs.Shapes.{Buffer}
-use Rattle.ec_buffer.specs.CallLists.{produce_call, consume_call}
-use Rattle.ec_database.specs.Shapes.{Database}
-use Rattle.ec_database.specs.Calls.{write_call}
-use Rattle.ec_database.specs.Snapshots.{trying, snapshot_call}
+use Rattle.ec_database.specs.Snapshots.{trying}
 use Rattle.ec_semaphore.specs.Shapes.{Semaphore}
 use Rattle.ec_semaphore.specs.Uses.{threshold, down_call, up_call, is_on}
 use Rattle.ec_semaphore.specs.Both.{is_line, down_both_call}
-use Rattle.ec_machine.specs.declared.command.Command.{Command, Advance, Read, Await, Ticket, Put, Get, Produce, Consume, WriteAll, Snapshot, Down, Up, DownBoth}
+use Rattle.ec_machine.specs.declared.command.Command.{Command, Produce, Consume, WriteAll, Snapshot, Down, Up, DownBoth}
 use Rattle.ec_machine.specs.declared.command.Command.TheOpen.{Command-F}
 use Rattle.ec_machine.specs.declared.command.Command.TheOpen as layer
-use Rattle.ec_machine.specs.declared.command.Command.TheVariants.{Repeat, rolls-Advance, rolls-Read, rolls-Await, rolls-Ticket, rolls-Put, rolls-Get, rolls-Produce, rolls-Consume, rolls-WriteAll, rolls-Snapshot, rolls-Down, rolls-Up, rolls-DownBoth, rolls-Repeat}
+use Rattle.ec_machine.specs.declared.command.Command.TheVariants.{rolls-Advance, rolls-Read, rolls-Await, rolls-Ticket, rolls-Put, rolls-Get, rolls-Produce, rolls-Consume, rolls-WriteAll, rolls-Snapshot, rolls-Down, rolls-Up, rolls-DownBoth, rolls-Repeat}
 use Rattle.ec_machine.specs.declared.command.Command.TheViews.{roll-Command, out-Command, roll-out-Command}
 use Rattle.ec_machine.specs.Values.{value_of, values_of}
 use Rattle.ec_machine.specs.Runs.{one_call, command_call}

@@ -3,13 +3,12 @@ use Rattle.std.proofs.Common.{◌≡◌, ℕ, ◌+◌, ◌-◌, ◌<◌, Bool, t
 use Rattle.std.specs.Option.{option_map_or}
 use Rattle.std.proofs.lemmas.Bool.{eq-eqb, and_from, le-leb, lt-ltb, ltb-true}
 use Rattle.ec_count.specs.declared.setup.Rights.{Rights}
-use Rattle.ec_count.specs.Declares.{DeclaresEvent}
 use Rattle.ec_count.specs.Members.{is_member, place_of}
-use Rattle.ec_count.specs.Tables.{Tables, component_of, may_observe}
+use Rattle.ec_count.specs.Tables.{Tables, may_observe}
 use Rattle.ec_core.specs.declared.act.Act.{Act}
 use Rattle.ec_core.specs.declared.act.Act.TheVariants.{Advance, Read, Await, Ticket, Put, Get}
 use Rattle.ec_core.specs.CallLists.{unvalued, number_of}
-use Rattle.ec_core.specs.Following.{Told, Rule, extended}
+use Rattle.ec_core.specs.Following.{Told, extended}
 use Rattle.ec_core.proofs.FittingCalls.{is_fitting}
 use Rattle.ec_database.specs.Shapes.{Database, DeclaresDatabase, Fits}
 use Rattle.ec_database.specs.Calls.{write_call, try_call}
@@ -20,7 +19,7 @@ use Rattle.ec_machine.specs.Values.{values_of}
 use Rattle.ec_machine.specs.Runs.{command_call}
 use Rattle.ec_confined.specs.Uses.{IsOfDatabase, UsesDatabase}
 use Rattle.ec_confined.specs.Laws.{DatabasesAreFollowed}
-use Rattle.ec_confined.proofs.Suiting.{AreAsked, Suits, Tracks, suits_tracked, suits_apart, blocked, fitting, extended_on, at_op}
+use Rattle.ec_confined.proofs.Suiting.{Suits, Tracks, suits_tracked, suits_apart, blocked, fitting, extended_on, at_op}
 use Rattle.ec_confined.proofs.Granted.{IsGranted}
 use Rattle.ec_confined.proofs.Rules.{IsFree, IsOn, due_free, suits_free}
 use Rattle.ec_confined.proofs.Roles.{one_role, placed_is_member}

@@ -1,5 +1,5 @@
 -- What a worker does in an accepted history it may do: it has the right to begin each of its calls.
-use Rattle.std.proofs.Common.{◌≡◌, ℕ, Bool, true, false, not, ◌&&◌, ◌==◌, cond, if◌then◌else◌, List, [], ◌∷◌, ◌++◌, Option, Some, None, is_some, refl, sym, ◌∙◌, ap, subst}
+use Rattle.std.proofs.Common.{◌≡◌, ℕ, Bool, true, false, not, ◌&&◌, ◌==◌, List, [], ◌∷◌, Option, Some, None, is_some, refl, subst}
 use Rattle.std.proofs.lemmas.Bool.{eqb-true}
 use Rattle.ec_count.specs.Tables.{Tables, component_of, may_observe, may_take, may_write, may_read}
 use Rattle.ec_core.specs.declared.act.Act.{Act}
@@ -7,7 +7,7 @@ use Rattle.ec_core.specs.declared.act.Act.TheVariants.{Advance, Read, Await, Go,
 use Rattle.ec_core.specs.declared.act.Entry.{Entry}
 use Rattle.ec_core.specs.Acceptance.{has_right, IsAccepted}
 use Rattle.ec_core.specs.Calls.{CallSoFar, is_go, is_pending, gone_on, under_way}
-use Rattle.ec_core.specs.Following.{Told, opened}
+use Rattle.ec_core.specs.Following.{opened}
 use Rattle.ec_core.specs.JoinedLists.{finished_by}
 use Rattle.ec_core.proofs.Answering.{allowed}
 use Rattle.ec_confined.proofs.Suiting.{AreAllowed, allowed_more}

@@ -1,5 +1,5 @@
 -- Two roles that share no worker.
-use Rattle.std.proofs.Common.{◌≡◌, ℕ, ◌+◌, Bool, true, false, ◌||◌, ◌==◌, cond, List, [], ◌∷◌, Option, Some, None, is_some, refl, sym, ◌∙◌, ap, subst}
+use Rattle.std.proofs.Common.{◌≡◌, ℕ, ◌+◌, true, false, ◌||◌, ◌==◌, cond, List, [], ◌∷◌, Some, is_some, refl, subst}
 use Rattle.std.specs.List.{position_from}
 use Rattle.std.proofs.lemmas.Bool.{or_parts, eqb-true}
 use Rattle.ec_count.specs.Members.{is_member, place_of}

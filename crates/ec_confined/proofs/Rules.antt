@@ -1,10 +1,10 @@
 -- A list that a rule was written from suits it, whatever values it puts.
-use Rattle.std.proofs.Common.{◌≡◌, ℕ, Bool, true, false, not, List, [], ◌∷◌, ◌++◌, Option, Some, None, is_some, option_map, refl, sym, ◌∙◌, ap, subst}
+use Rattle.std.proofs.Common.{◌≡◌, Bool, true, not, List, [], ◌∷◌, ◌++◌, Option, Some, None, is_some, option_map, refl, ◌∙◌, ap}
 use Rattle.ec_core.specs.declared.act.Act.{Act}
 use Rattle.ec_core.specs.Following.{Told}
 use Rattle.ec_core.specs.CallLists.{unvalued, is_due, rule_of}
 use Rattle.ec_core.proofs.Following.{is_act-same}
-use Rattle.ec_confined.proofs.Suiting.{Suits, IsOwn, suits_own}
+use Rattle.ec_confined.proofs.Suiting.{Suits, suits_own}
 
 -- the list of the rule has the same calls, with 0 for the values that are put
 abbrev pub IsFree : (List Told → Option Act) → (List Told → Option Act) → Type 0

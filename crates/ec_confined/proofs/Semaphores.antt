@@ -1,21 +1,21 @@
 -- P, V and P on two semaphores suit the rule of a semaphore.
-use Rattle.std.proofs.Common.{◌≡◌, ℕ, ◌+◌, ◌-◌, Bool, true, false, not, ◌&&◌, ◌||◌, ◌==◌, cond, List, [], ◌∷◌, ◌++◌, Option, Some, None, is_some, refl, sym, ◌∙◌, ap, subst, arith, ◌⊎◌, inl, inr}
-use Rattle.std.proofs.lemmas.Bool.{eq-eqb, eqb-true, ne_eqb, and_from}
+use Rattle.std.proofs.Common.{◌≡◌, ℕ, ◌+◌, ◌-◌, true, false, ◌==◌, cond, List, [], ◌∷◌, ◌++◌, Some, None, refl, sym, ◌∙◌, ap, subst, arith, ◌⊎◌, inl, inr}
+use Rattle.std.proofs.lemmas.Bool.{eq-eqb, and_from}
 use Rattle.ec_core.specs.declared.act.Act.{Act}
 use Rattle.ec_core.specs.declared.act.Act.TheVariants.{Advance, Await, Ticket}
 use Rattle.ec_core.specs.Counts.{is_advance}
-use Rattle.ec_core.specs.Following.{Told, Rule, extended}
-use Rattle.ec_core.specs.CallLists.{is_act, is_due, number_of}
+use Rattle.ec_core.specs.Following.{Told, extended}
+use Rattle.ec_core.specs.CallLists.{is_due, number_of}
 use Rattle.ec_core.proofs.Following.{is_act-same}
 use Rattle.ec_core.proofs.FittingCalls.{is_fitting}
 use Rattle.ec_semaphore.specs.Shapes.{Semaphore}
-use Rattle.ec_semaphore.specs.Uses.{threshold, down_call, up_call, is_whole, is_on, use_rule, use_rules}
+use Rattle.ec_semaphore.specs.Uses.{threshold, down_call, up_call, is_on, use_rule, use_rules}
 use Rattle.ec_semaphore.specs.Both.{down_both_call}
 use Rattle.ec_machine.specs.declared.command.Command.{Command, Down, Up, DownBoth}
 use Rattle.ec_machine.specs.Runs.{command_call}
-use Rattle.ec_confined.specs.Uses.{IsApart, AreSeparate, AreThree, IsOfSemaphore, UsesSemaphore}
+use Rattle.ec_confined.specs.Uses.{AreSeparate, AreThree, IsOfSemaphore, UsesSemaphore}
 use Rattle.ec_confined.specs.Laws.{SemaphoresAreFollowed}
-use Rattle.ec_confined.proofs.Suiting.{AreAsked, Suits, Tracks, IsOwn, suits_tracked, suits_own, suits_apart, fitting, unconcerned, extended_on, extended_off, at_op}
+use Rattle.ec_confined.proofs.Suiting.{Suits, suits_tracked, suits_apart, fitting, unconcerned, extended_on, extended_off, at_op}
 use Rattle.ec_confined.proofs.Tests.{or_first, or_second, other_way}
 use Rattle.ec_confined.proofs.Workers.{programs_follow}
 

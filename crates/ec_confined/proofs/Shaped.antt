@@ -1,5 +1,5 @@
 -- The buffers of a heading are shapes.
-use Rattle.std.proofs.Common.{◌≡◌, ℕ, ◌+◌, ◌<◌, ◌≤◌, Bool, false, ◌==◌, ◌||◌, nat_lt, List, [], ◌∷◌, ◌++◌, length, All, Option, Some, None, inl, inr, refl, sym, subst, arith, ne_eqb}
+use Rattle.std.proofs.Common.{◌≡◌, ℕ, ◌+◌, ◌==◌, ◌||◌, nat_lt, List, [], ◌∷◌, ◌++◌, length, All, None, inl, inr, sym, subst, arith, ne_eqb}
 use Rattle.std.specs.List.{AllByRecursion, cons_option}
 use Rattle.std.proofs.lemmas.Bool.{or_parts, ltb-false, eqb-false}
 use Rattle.std.proofs.lemmas.List.Elements.{All-from_recursion}

@@ -1,5 +1,5 @@
 -- The entries of a worker in a history that is turned round.
-use Rattle.std.proofs.Common.{◌≡◌, ℕ, Bool, true, false, ◌==◌, cond, List, [], ◌∷◌, ◌++◌, reverse, refl, sym, ◌∙◌, ap}
+use Rattle.std.proofs.Common.{◌≡◌, Bool, true, false, ◌==◌, cond, List, [], ◌∷◌, ◌++◌, reverse, refl, sym, ◌∙◌, ap}
 use Rattle.std.proofs.lemmas.List.{append-nil, reverse-append}
 use Rattle.ec_core.specs.declared.act.Entry.{Entry}
 use Rattle.ec_machine.specs.Steps.{own}

@@ -1,5 +1,5 @@
 -- A worker whose program's commands suit its rule is right by the rule.
-use Rattle.std.proofs.Common.{◌≡◌, ℕ, ◌<◌, ◌≤◌, Bool, true, false, ◌==◌, nat_lt, nat_le, cond, arith, reverse, List, [], ◌∷◌, ◌++◌, All, Option, Some, None, if◌then◌else◌, refl, sym, ◌∙◌, ap, subst}
+use Rattle.std.proofs.Common.{◌≡◌, ℕ, ◌<◌, ◌≤◌, Bool, true, false, ◌==◌, nat_lt, nat_le, cond, arith, reverse, List, [], ◌∷◌, ◌++◌, Option, Some, None, if◌then◌else◌, refl, sym, ◌∙◌, ap, subst}
 use Rattle.std.specs.List.{flat_map}
 use Rattle.std.specs.List.{AllByRecursion}
 use Rattle.std.proofs.lemmas.List.Elements.{recursion_from_All}
@@ -16,13 +16,13 @@ use Rattle.ec_machine.specs.declared.command.Command.{Command}
 use Rattle.ec_machine.specs.Values.{has_large}
 use Rattle.ec_machine.specs.Written.{written}
 use Rattle.ec_core.proofs.Answering.{allowed}
-use Rattle.ec_machine.specs.Steps.{opening, finished, own, IsRun}
+use Rattle.ec_machine.specs.Steps.{own, IsRun}
 use Rattle.ec_machine.specs.Runs.{command_call, last_number, next_in, program_call, IsRunOf}
 use Rattle.ec_machine.specs.Laws.{AreWhole, IsBegun, AreCallsOf}
 use Rattle.ec_machine.proofs.WholeLists.{runs_of_lists}
 use Rattle.ec_machine.proofs.OwnCalls.{own_cut}
 use Rattle.ec_confined.specs.Uses.{EachCommand, AreRuns}
-use Rattle.ec_confined.proofs.Suiting.{AreAllowed, allowed_front, allowed_back, AreAsked, asked_all, Suits, suited}
+use Rattle.ec_confined.proofs.Suiting.{AreAllowed, allowed_front, allowed_back, asked_all, Suits, suited}
 use Rattle.ec_confined.proofs.Granted.{IsGranted, IsGrantedCall, granted}
 
 -- the calls of each of the commands suit the rule, whatever number was told before them
