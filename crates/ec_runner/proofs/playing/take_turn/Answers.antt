@@ -1,0 +1,22 @@
+use Rattle.std.proofs.Common.{sym}
+use Rattle.ec_machine.specs.Follows.{program_at}
+use Rattle.ec_machine.specs.Steps.{own}
+use Rattle.ec_runner.specs.Schedules.{entries_of}
+use Rattle.ec_runner.proofs.Turning.{not_set, turn_made, turn_refused}
+use Rattle.ec_runner.proofs.playing.take_turn.Goals as goal
+
+pub returns-in-Ok : goal.returns-in-Ok
+returns-in-Ok c = λ t programs turns of machine.
+    turn_made t programs turns c.args.worker c.args.run.now c.step.new.self c.args.machine.now c.take.new.self c.in-Some.act c.in-Ok.reply of machine
+    (sym c.in-Some.ensures.some)
+    (sym (c.in-Some.ensures.due _ _ machine.stands (not_set _ (sym c.in-Some.ensures.some))))
+    c.in-Ok.ensures.answer c.in-Ok.ensures.ok
+    (c.take.ensures.stands _ _ c.args.worker c.in-Some.act machine.stands (sym c.in-Some.ensures.value)) c.take.ensures.unset
+
+pub returns-in-Err-Refused : goal.returns-in-Err-Refused
+returns-in-Err-Refused c = λ t programs turns of machine.
+    turn_refused t programs turns c.args.worker c.args.run.now c.step.new.self c.args.machine.now c.refuse.new.self c.in-Some.act c.in-Err-Refused.refusal of machine
+    (sym c.in-Some.ensures.some)
+    (sym (c.in-Some.ensures.due _ _ machine.stands (not_set _ (sym c.in-Some.ensures.some))))
+    (rw c.in-Err-Refused.field-0-is at c.in-Err-Refused.ensures.answer) c.in-Err-Refused.ensures.err
+    (c.refuse.ensures.stands _ _ machine.stands) c.refuse.ensures.outcome

@@ -1,0 +1,68 @@
+-- How the run and the machines stand while a schedule is played.
+use Rattle.std.specs.Prelude.{◌≡◌, ◌≢◌, ℕ, List, [], ◌∷◌, reverse, take, map, slice_get, Some, Result, Ok, Err}
+use Rattle.ec_count.specs.Tables.{Tables}
+use Rattle.ec_core.specs.Recorded.{Recorded}
+use Rattle.ec_machine.specs.declared.command.Command.{Command}
+use Rattle.ec_machine.specs.declared.machine.Machine.{Machine}
+use Rattle.ec_machine.specs.declared.outcome.Outcome.TheVariants.{Running}
+use Rattle.ec_machine.specs.Follows.{program_at}
+use Rattle.ec_machine.specs.Standing.{StandsFor, kept_outcome}
+use Rattle.ec_machine.specs.Steps.{own}
+use Rattle.ec_runner.specs.declared.playing.Played.{Played}
+use Rattle.ec_runner.specs.declared.playing.Played.TheVariants as played
+use Rattle.ec_runner.specs.declared.report.SimFault.{SimFault}
+use Rattle.ec_runner.specs.Reported.{IsSimFault}
+use Rattle.ec_runner.specs.Schedules.{Turn, IsTurn, Plays, entries_of, outcome_after}
+
+-- the machine is that of w after these turns
+pub record IsMachineOf (programs : List (List Command)) (turns : List Turn) (w : ℕ) (m : Machine) : Type 0 where
+  pub stands : StandsFor (program_at programs w) m (own w (entries_of turns))
+  pub outcome : kept_outcome m ≡ outcome_after programs w turns
+
+-- each machine is that of its worker
+abbrev pub AreMachines : List (List Command) → List Turn → List Machine → Type 0
+AreMachines programs turns machines = (w : ℕ) (m : Machine) → slice_get machines w ≡ Some m → IsMachineOf programs turns w m
+
+-- the run is the one that these turns made
+pub record IsRunOf (t : Tables) (turns : List Turn) (run : Recorded) : Type 0 where
+  pub setup : run.setup ≡ t
+  pub entries : reverse run.entries ≡ entries_of turns
+
+-- w had one more turn
+pub record HasTurn (t : Tables) (programs : List (List Command)) (turns : List Turn) (w : ℕ) (run : Recorded) (m : Machine) : Type 0 where
+  pub turn : Turn
+  pub worker : turn.worker ≡ w
+  pub right : IsTurn t programs turns turn
+  pub made : IsRunOf t (turn ∷ turns) run
+  pub machine : IsMachineOf programs (turn ∷ turns) w m
+
+-- what became of the turn of w after these turns
+abbrev pub Takes : Played → Tables → List (List Command) → List Turn → ℕ → Recorded → Machine → Type 0
+Takes played.Made t programs turns w run m = HasTurn t programs turns w run m
+Takes played.Ended t programs turns w run m = outcome_after programs w turns ≢ Running
+Takes played.Memory t programs turns w run m = Unit {0}
+
+-- the schedule was played by these turns, the newest first, and the run and the machines are those after them
+pub record IsPlayed (t : Tables) (programs : List (List Command)) (schedule : List ℕ) (turns : List Turn) (run : Recorded) (machines : List Machine) : Type 0 where
+  pub plays : Plays t programs schedule turns
+  pub made : IsRunOf t turns run
+  pub each : AreMachines programs turns machines
+
+-- w had one more turn, and each machine is that of its worker
+pub record HasPlayed (t : Tables) (programs : List (List Command)) (turns : List Turn) (w : ℕ) (run : Recorded) (machines : List Machine) : Type 0 where
+  pub turn : Turn
+  pub worker : turn.worker ≡ w
+  pub right : IsTurn t programs turns turn
+  pub made : IsRunOf t (turn ∷ turns) run
+  pub each : AreMachines programs (turn ∷ turns) machines
+
+-- what became of the place of w after these turns
+abbrev pub PlaysOne : Played → Tables → List (List Command) → List Turn → ℕ → Recorded → List Machine → Type 0
+PlaysOne played.Made t programs turns w run machines = HasPlayed t programs turns w run machines
+PlaysOne played.Ended t programs turns w run machines = outcome_after programs w turns ≢ Running
+PlaysOne played.Memory t programs turns w run machines = Unit {0}
+
+-- what became of a schedule
+abbrev pub PlaysAll : Result Unit SimFault → Tables → List (List Command) → List ℕ → Recorded → List Machine → Type 0
+PlaysAll (Ok done) t programs schedule run machines = (turns : List Turn) × IsPlayed t programs schedule turns run machines
+PlaysAll (Err fault) t programs schedule run machines = IsSimFault t programs schedule fault

@@ -1,0 +1,56 @@
+//! The entries of each worker.
+ghost use Rattle.std.specs.Prelude.{◌≡◌, ◌==◌, ◌∷◌, ◌++◌, [], IfOk, OnOk, map, Vec};
+ghost use Rattle.std.specs.declared.alloc.Global.{Global};
+ghost use Rattle.ec_core.specs.declared.act.Entry.{Entry};
+ghost use Rattle.ec_machine.specs.Steps.{own};
+ghost use Rattle.ec_runner.specs.Reported.{AreLogs};
+
+use ec_core::{Act, Entry, Reply, Run};
+use ec_count::WorkerId;
+use std::alloc::{AllocError, Global};
+
+fn is_own(entry: &Entry, worker: WorkerId) -> bool
+    ensures { result ≡ (entry.now.worker == worker) }
+{
+    entry.worker.get() == worker.get()
+}
+
+/// One entry more.
+fn add_step(
+    log: &mut Vec<Entry>,
+    worker: WorkerId,
+    act: Act,
+    reply: Reply,
+) -> Result<(), AllocError>
+    ensures { OnOk result (log.new.items ≡ log.old.items ++ record { worker = worker; act = act; reply = reply } ∷ []) }
+{
+    log.push(Entry { worker, act, reply })?;
+    Ok(())
+}
+
+/// The entries of a worker in order.
+fn log_of(alloc: Global, run: &Run, worker: WorkerId) -> Result<Vec<Entry>, AllocError>
+    ensures { IfOk result (λ log. log.items ≡ own worker run.now.entries) }
+{
+    let mut log = Vec::new(alloc);
+    for entry in run.entries() {
+        if !is_own(&entry, worker) {
+            continue;
+        }
+        add_step(&mut log, entry.worker, entry.act, entry.reply)?;
+    }
+    Ok(log)
+}
+
+/// The entries of each declared worker in order.
+pub(crate) fn logs_of(alloc: Global, run: &Run) -> Result<Vec<Vec<Entry>>, AllocError>
+    ensures { IfOk result (λ logs. AreLogs run.now.setup.workers run.now.entries (map (λ (log : Vec Entry Global). log.items) logs.items)) }
+{
+    let mut logs = Vec::new(alloc);
+    for place in 0..run.setup().workers() {
+        let worker = WorkerId::new(place).unwrap();
+        let log = log_of(alloc, run, worker)?;
+        logs.push(log)?;
+    }
+    Ok(logs)
+}
