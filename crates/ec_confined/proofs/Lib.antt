@@ -14,3 +14,4 @@ pub mod AllGroups
 pub mod Apart
 pub mod Tests
 pub mod TurnedRound
+pub mod Played

@@ -1,5 +1,6 @@
 //! What the definitions mean: each function says a law and does nothing.
 ghost use Rattle.ec_confined.specs.Headings.{GroupsAreFollowed};
+ghost use Rattle.ec_confined.specs.Reports.{PlayedGroupsAreFollowed};
 ghost use Rattle.ec_confined.specs.Laws.{BuffersAreFollowed, DatabasesAreFollowed, SemaphoresAreFollowed, BothIsFollowed, OwnEntriesTurnRound};
 
 /// In an accepted history in which each worker's entries are a run of its program, a declared buffer
@@ -34,4 +35,10 @@ pub fn groups_are_followed()
 /// the one list is said of the other.
 pub fn own_entries_turn_round()
     ensures { OwnEntriesTurnRound }
+{}
+
+/// Where a schedule of such programs was played, the run that is reported follows every group of
+/// the heading.
+pub fn played_groups_are_followed()
+    ensures { PlayedGroupsAreFollowed }
 {}

@@ -1,0 +1,16 @@
+-- What is told of plans that were run: each group of the heading is followed.
+use Rattle.std.specs.Prelude.{ℕ, List, reverse}
+use Rattle.std.specs.List.{All}
+use Rattle.ec_machine.specs.declared.command.Command.{Command}
+use Rattle.ec_trace.specs.Headed.{Headed}
+use Rattle.ec_trace.specs.Outlined.{IsHeading}
+use Rattle.ec_script.specs.Confined.{AreConfinedPrograms}
+use Rattle.ec_runner.specs.declared.report.Report.{Report}
+use Rattle.ec_runner.specs.Reported.{IsReport}
+use Rattle.ec_confined.specs.Headings.{FollowsGroup}
+
+-- where a schedule of confined programs was played, the run follows every group of the heading
+abbrev pub PlayedGroupsAreFollowed : Type 0
+PlayedGroupsAreFollowed = (heading : Headed) (programs : List (List Command)) (schedule : List ℕ) (report : Report) → IsHeading heading
+    → AreConfinedPrograms heading.groups programs → IsReport heading.setup programs schedule report
+    → All (FollowsGroup heading.setup heading.groups (reverse report.run.entries)) heading.groups
