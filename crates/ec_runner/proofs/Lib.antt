@@ -1,7 +1,9 @@
 pub mod Lining
 pub mod Boarding
+pub mod Walking
 pub mod Turning
 pub mod Places
 pub mod Starting
 pub mod Logging
 pub mod Reporting
+pub mod Telling

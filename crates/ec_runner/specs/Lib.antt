@@ -2,6 +2,8 @@ pub mod Seated
 pub mod Lined
 pub mod Boarded
 pub mod BoardFaults
+pub mod RunReports
+pub mod Walks
 pub mod Schedules
 pub mod Reported
 pub mod Machines

@@ -2,18 +2,30 @@
 #![tactic(auto)]
 
 mod board;
+mod caught;
+mod ending;
 mod gate;
 mod line;
+mod mismatch;
 mod logs;
 mod playing;
+mod refused;
+mod replay;
 mod report;
+mod run_fault;
 mod schedule;
 mod seat;
 mod seats;
+mod threads;
+mod told;
 mod wait;
+mod walk;
+mod workers;
 
 pub use board::{Board, BoardFault, Parked};
 pub use gate::{Gate, OpenGate};
 pub use report::{Report, SimFault};
+pub use run_fault::RunFault;
 pub use schedule::simulate;
 use seat::Seat;
+pub use workers::run_workers;

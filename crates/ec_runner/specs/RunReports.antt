@@ -1,0 +1,63 @@
+-- What a report of workers on threads says.
+use Rattle.std.specs.Prelude.{◌≡◌, ℕ, ◌<◌, ◌≤◌, List, length, reverse, take, Some, Err, slice_get}
+use Rattle.std.specs.Global.{Vec}
+use Rattle.ec_count.specs.Tables.{Tables}
+use Rattle.ec_core.specs.declared.act.Act.{Act}
+use Rattle.ec_core.specs.declared.act.Entry.{Entry}
+use Rattle.ec_core.specs.declared.act.Refusal.{Refusal}
+use Rattle.ec_core.specs.Recorded.{Recorded}
+use Rattle.ec_core.specs.Counts.{total, past_at}
+use Rattle.ec_core.specs.Acceptance.{answer_of}
+use Rattle.ec_machine.specs.declared.command.Command.{Command}
+use Rattle.ec_machine.specs.declared.outcome.Outcome.{Outcome}
+use Rattle.ec_machine.specs.declared.outcome.Outcome.TheVariants as outcomes
+use Rattle.ec_machine.specs.Follows.{program_at}
+use Rattle.ec_machine.specs.Runs.{IsRunOf, next_act, outcome_of}
+use Rattle.ec_machine.specs.Steps.{own}
+use Rattle.ec_runner.specs.declared.wait.Wait.{Wait}
+use Rattle.ec_runner.specs.declared.report.Report.{Report}
+use Rattle.ec_runner.specs.Boarded.{past_of, awaited}
+
+-- the call of w that is under way at the end is an await that has just fallen short, and its threshold is above the total
+pub record IsCaught (run : Recorded) (w : ℕ) : Type 0 where
+  pub wait : Wait
+  pub short : awaited run.setup w (past_of run) ≡ Some wait
+  pub above : total wait.event (past_of run) < wait.threshold
+
+-- the act due after the log was refused with r at a moment by which the whole log had happened
+pub record WasRefused (run : Recorded) (w : ℕ) (cs : List Command) (log : List Entry) (r : Refusal) : Type 0 where
+  pub act : Act
+  pub due : next_act cs (reverse log) ≡ Some act
+  pub moment : ℕ
+  pub within : moment ≤ length run.entries
+  pub whole : own w (take moment run.entries) ≡ log
+  pub refused : answer_of run.setup (past_at moment run.entries) w act ≡ Err r
+
+-- what more there is to say of a worker whose program had not ended after its log, where there were so many turns
+abbrev pub IsCutOff : Outcome → Recorded → ℕ → List Command → ℕ → List Entry → Type 0
+IsCutOff (outcomes.Refused r) run w cs turns log = WasRefused run w cs log r
+IsCutOff outcomes.Stopped run w cs turns log = IsCaught run w
+IsCutOff outcomes.OutOfTurns run w cs turns log = length log ≡ turns
+IsCutOff outcomes.Memory run w cs turns log = Unit {0}
+IsCutOff _ run w cs turns log = ⊥
+
+-- how a worker ended: its program had ended so after its log, or else had not ended
+abbrev pub HasEnded : Outcome → Recorded → ℕ → List Command → ℕ → List Entry → Type 0
+HasEnded outcomes.Finished run w cs turns log = outcome_of cs (reverse log) ≡ outcomes.Finished
+HasEnded outcomes.ValueTooLarge run w cs turns log = outcome_of cs (reverse log) ≡ outcomes.ValueTooLarge
+HasEnded outcome run w cs turns log = (outcome_of cs (reverse log) ≡ outcomes.Running) × IsCutOff outcome run w cs turns log
+
+-- a worker's log and outcome: the log is exactly its entries in the run, and a run of its program of at most so many steps
+pub record IsTold (run : Recorded) (w : ℕ) (cs : List Command) (turns : ℕ) (log : List Entry) (outcome : Outcome) : Type 0 where
+  pub entries : own w run.entries ≡ log
+  pub follows : IsRunOf cs (reverse log)
+  pub few : length log ≤ turns
+  pub ended : HasEnded outcome run w cs turns log
+
+-- THE REPORT: the run is on these declarations, and each declared worker has a log and an outcome that are its own
+pub record IsReportOf (t : Tables) (programs : List (List Command)) (turns : ℕ) (r : Report) : Type 0 where
+  pub setup : r.run.setup ≡ t
+  pub logs : length r.logs.items ≡ t.workers
+  pub outcomes : length r.outcomes.items ≡ t.workers
+  pub told : (w : ℕ) (log : Vec Entry) (outcome : Outcome) → slice_get r.logs.items w ≡ Some log → slice_get r.outcomes.items w ≡ Some outcome
+      → IsTold r.run w (program_at programs w) turns log.items outcome

@@ -1,0 +1,69 @@
+//! The run held against the logs of the workers.
+ghost use Rattle.std.specs.Prelude.{◌≡◌, ◌≤◌, ◌↔◌, ℕ, List, [], ◌∷◌, ◌++◌, length, slice_get, slice_index, Some, IsTrue, IfNone};
+ghost use Rattle.ec_core.specs.declared.act.Entry.{Entry};
+ghost use Rattle.ec_runner.specs.declared.told.Told.{Told};
+ghost use Rattle.ec_runner.specs.Walks.{AreWalked, AreLogsOf};
+
+use crate::told::Told;
+use ec_core::{Entry, Run};
+use ec_count::WorkerId;
+
+fn is_same(entry: &Entry, other: &Entry) -> bool
+    ensures { IsTrue result ↔ (entry.now ≡ other.now) }
+{
+    entry == other
+}
+
+/// Whether the entry stands in the log at this place.
+fn stands_at(log: &[Entry], at: usize, entry: &Entry) -> bool
+    ensures { IsTrue result → slice_get log.now at ≡ Some entry.now }
+{
+    match log.get(at) {
+        Some(found) => is_same(found, entry),
+        None => false,
+    }
+}
+
+/// Goes one further in the log of the entry's worker, if the entry is what comes next there.
+fn goes_on(cursors: &mut [usize; 16], tolds: &[Told], entry: &Entry) -> bool
+    ensures { (done : List Entry) → AreWalked tolds.now cursors.old done → IsTrue result → AreWalked tolds.now cursors.new (done ++ entry.now ∷ []) }
+{
+    let w = entry.worker.get();
+    let at = cursors[w];
+    let Some(told) = tolds.get(w) else {
+        return false;
+    };
+    if !stands_at(told.log.as_slice(), at, entry) {
+        return false;
+    }
+    cursors[w] = at + 1;
+    true
+}
+
+/// The first worker whose log goes on beyond its cursor.
+fn first_unfinished(cursors: &[usize; 16], tolds: &[Told]) -> Option<WorkerId>
+    requires { length tolds.now ≤ 16 }
+    ensures { IfNone result ((w : ℕ) (told : Told) → slice_get tolds.now w ≡ Some told → slice_index cursors.now w ≡ length told.log.items) }
+{
+    for w in 0..tolds.len() {
+        if cursors[w] != tolds[w].log.len() {
+            return Some(WorkerId::new(w).unwrap());
+        }
+    }
+    None
+}
+
+/// A worker whose entries in the run are not its log, found in one walk over the entries with a
+/// cursor for each worker.
+pub(crate) fn first_unlike(run: &Run, tolds: &[Told]) -> Option<WorkerId>
+    requires { length tolds.now ≤ 16 }
+    ensures { IfNone result (AreLogsOf tolds.now run.now.entries) }
+{
+    let mut cursors = [0; 16];
+    for entry in run.entries() {
+        if !goes_on(&mut cursors, tolds, &entry) {
+            return Some(entry.worker);
+        }
+    }
+    first_unfinished(&cursors, tolds)
+}
