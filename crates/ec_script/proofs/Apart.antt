@@ -1,14 +1,13 @@
 -- No object belongs to two groups of a heading: each declaration takes the objects that come next.
-use Rattle.std.proofs.Common.{◌≡◌, ◌⊎◌, inl, inr, ℕ, ◌+◌, ◌<◌, ◌≤◌, List, [], ◌∷◌, ◌++◌, length, replicate, Bool, true, false, ◌&&◌, ◌||◌, Option, Some, None, refl, sym, ◌∙◌, subst, arith, append-nil, length-append, nat_le, nat_lt, eqb, eqb-true, leb-true, ltb-true}
+use Rattle.std.proofs.Common.{◌≡◌, ◌⊎◌, inl, inr, ℕ, ◌+◌, ◌<◌, ◌≤◌, List, [], ◌∷◌, ◌++◌, length, true, ◌&&◌, ◌||◌, Option, Some, None, sym, ◌∙◌, subst, arith, append-nil, length-append, nat_le, nat_lt, eqb, eqb-true, leb-true, ltb-true}
 use Rattle.std.specs.List.{Contains, cons_option}
-use Rattle.std.proofs.lemmas.Bool.{and_parts, or_cases, true≢false}
+use Rattle.std.proofs.lemmas.Bool.{and_parts, or_cases}
 use Rattle.std.proofs.lemmas.List.{length-replicate}
 use Rattle.std.proofs.lemmas.List.Elements.{Contains-push_cases}
 use Rattle.ec_count.specs.Tables.{Tables}
 use Rattle.ec_count.specs.declared.setup.Rights.{Rights}
 use Rattle.ec_count.specs.declared.setup.Access.{Access}
 use Rattle.ec_trace.specs.declared.group.Group.{Group}
-use Rattle.ec_trace.specs.declared.group.Group.TheVariants as groups
 use Rattle.ec_trace.specs.declared.sort.Sort.{Sort}
 use Rattle.ec_trace.specs.declared.sort.Sort.TheVariants as sorts
 use Rattle.ec_trace.specs.Objects.{group_of}
@@ -38,10 +37,7 @@ stays t u (Sequencer q) grow of = omega (arith, grow.takers, of)
 stays t u (Cell x) grow of = omega (arith, grow.cells, of)
 stays t u _ grow of = tt
 
-abbrev with : Sort → Tables → ℕ → List ℕ → List ℕ → Tables
-with s t n first second = with_objects s t n first second
-
-pub tables_grow : (s : Sort) (t : Tables) (n : ℕ) (first second : List ℕ) → Grow t (with s t n first second)
+pub tables_grow : (s : Sort) (t : Tables) (n : ℕ) (first second : List ℕ) → Grow t (with_objects s t n first second)
 tables_grow sorts.EventCount t n first second = record { events = omega (arith, length-append {A = Rights}); takers = omega arith; cells = omega arith }
 tables_grow sorts.Sequencer t n first second = record { events = omega arith; takers = omega (arith, length-append {A = List ℕ}); cells = omega arith }
 tables_grow sorts.Cells t n first second = record { events = omega arith; takers = omega arith; cells = omega (arith, length-append {A = Access}) }
@@ -69,7 +65,7 @@ either_is a b e is = elim (or_cases (eqb a e) (eqb b e) is) [ inl f ↦ inl (one
 within : (first n x : ℕ) → (nat_le first x && nat_lt x (first + n)) ≡ true → (first ≤ x) × (x < first + n)
 within first n x is = let p = and_parts (nat_le first x) (nat_lt x (first + n)) is in (leb-true first x p.0, ltb-true x (first + n) p.1)
 
-buffer_new : (t : Tables) (n : ℕ) (first second : List ℕ) → AreNew t (with sorts.Buffer t n first second) (group_of sorts.Buffer t n)
+buffer_new : (t : Tables) (n : ℕ) (first second : List ℕ) → AreNew t (with_objects sorts.Buffer t n first second) (group_of sorts.Buffer t n)
 buffer_new t n first second (Event e) own =
     let i = either_is (length t.events) (length t.events + 1) e own in
     ((λ of. omega (arith, i, of)), omega (arith, i, length-append {A = Rights}))
@@ -81,7 +77,7 @@ buffer_new t n first second (Cell x) own =
     ((λ of. omega (arith, i, of)), omega (arith, i, length-append {A = Access}, length-replicate {A = Access}))
 buffer_new t n first second _ own = cc
 
-database_new : (t : Tables) (n : ℕ) (first second : List ℕ) → AreNew t (with sorts.Database t n first second) (group_of sorts.Database t n)
+database_new : (t : Tables) (n : ℕ) (first second : List ℕ) → AreNew t (with_objects sorts.Database t n first second) (group_of sorts.Database t n)
 database_new t n first second (Event e) own =
     let i = either_is (length t.events) (length t.events + 1) e own in
     ((λ of. omega (arith, i, of)), omega (arith, i, length-append {A = Rights}))
@@ -93,7 +89,7 @@ database_new t n first second (Cell x) own =
     ((λ of. omega (arith, i, of)), omega (arith, i, length-append {A = Access}, length-replicate {A = Access}))
 database_new t n first second _ own = cc
 
-semaphore_new : (t : Tables) (n : ℕ) (first second : List ℕ) → AreNew t (with sorts.Semaphore t n first second) (group_of sorts.Semaphore t n)
+semaphore_new : (t : Tables) (n : ℕ) (first second : List ℕ) → AreNew t (with_objects sorts.Semaphore t n first second) (group_of sorts.Semaphore t n)
 semaphore_new t n first second (Event e) own =
     let i = one_is (length t.events) e own in
     ((λ of. omega (arith, i, of)), omega (arith, i, length-append {A = Rights}))
@@ -102,7 +98,7 @@ semaphore_new t n first second (Sequencer q) own =
     ((λ of. omega (arith, i, of)), omega (arith, i, length-append {A = List ℕ}))
 semaphore_new t n first second _ own = cc
 
-both_new : (t : Tables) (n : ℕ) (first second : List ℕ) → AreNew t (with sorts.Both t n first second) (group_of sorts.Both t n)
+both_new : (t : Tables) (n : ℕ) (first second : List ℕ) → AreNew t (with_objects sorts.Both t n first second) (group_of sorts.Both t n)
 both_new t n first second (Event e) own =
     let i = one_is (length t.events) e own in
     ((λ of. omega (arith, i, of)), omega (arith, i, length-append {A = Rights}))
@@ -111,7 +107,7 @@ both_new t n first second (Sequencer q) own =
     ((λ of. omega (arith, i, of)), omega (arith, i, length-append {A = List ℕ}))
 both_new t n first second _ own = cc
 
-group_new : (s : Sort) (t : Tables) (n : ℕ) (first second : List ℕ) → AreNew t (with s t n first second) (group_of s t n)
+group_new : (s : Sort) (t : Tables) (n : ℕ) (first second : List ℕ) → AreNew t (with_objects s t n first second) (group_of s t n)
 group_new sorts.EventCount t n first second = tt
 group_new sorts.Sequencer t n first second = tt
 group_new sorts.Cells t n first second = tt
@@ -154,4 +150,4 @@ apart_more t u gs (Some g) grow new keep = apart_push t u gs g grow new keep
 
 -- and so it stays with one more declaration
 pub declared_apart : (s : Sort) (t : Tables) (n : ℕ) (first second : List ℕ) (gs : List Group) → KeepApart t gs → KeepApart (with_objects s t n first second) (gs ++ cons_option (group_of s t n) [])
-declared_apart s t n first second gs keep = apart_more t (with s t n first second) gs (group_of s t n) (tables_grow s t n first second) (group_new s t n first second) keep
+declared_apart s t n first second gs keep = apart_more t (with_objects s t n first second) gs (group_of s t n) (tables_grow s t n first second) (group_new s t n first second) keep

@@ -1,5 +1,5 @@
 -- A line without fault makes confined commands alone.
-use Rattle.std.proofs.Common.{◌≡◌, ◌≢◌, ℕ, ◌+◌, ◌<◌, List, [], ◌∷◌, Bool, true, false, not, ◌&&◌, eqb, Option, Some, None, option_map, option_and_then, refl, sym, ap, ◌∙◌, subst, eq-eqb}
+use Rattle.std.proofs.Common.{◌≡◌, ◌≢◌, ℕ, List, Bool, true, false, not, Option, Some, None, option_map, option_and_then, refl, sym, ap, ◌∙◌, subst, eq-eqb}
 use Rattle.std.specs.List.{Contains, slice_get}
 use Rattle.std.specs.Option.{IfSome}
 use Rattle.std.proofs.lemmas.Bool.{and_parts, not-false, true≢false}
@@ -21,7 +21,6 @@ use Rattle.ec_script.specs.declared.verb.Verb.{Verb}
 use Rattle.ec_script.specs.declared.verb.Verb.TheVariants as verbs
 use Rattle.ec_script.specs.declared.object.Object.{Object}
 use Rattle.ec_script.specs.declared.object.Object.TheVariants.{Nothing, Worker, Event, Sequencer, Cell, OfBuffer, OfDatabase, OfSemaphore, Three}
-use Rattle.ec_script.specs.declared.order.Order.{Order}
 use Rattle.ec_script.specs.Forms.{only_in}
 use Rattle.ec_script.specs.Objects.{place_of, group_in, buffer_of, database_of, semaphore_of, semaphore_in, both_of, three_of, object_for, is_owned}
 use Rattle.ec_script.specs.Kinds.{or_nothing, has_two_roles}

@@ -1,5 +1,5 @@
 -- A draft goes on.
-use Rattle.std.proofs.Common.{◌≡◌, ℕ, ◌+◌, ◌-◌, ◌≤◌, ◌<◌, Bool, true, false, ◌&&◌, ◌==◌, List, [], ◌∷◌, ◌++◌, length, map, max, sum, replicate, append_assoc, append-nil, arith, rules, sym, ◌∙◌, ap, ap₂, refl, zero, suc, subst, eqb-true, nat_le, zero-add, add-zero, ne_eqb, le-leb}
+use Rattle.std.proofs.Common.{◌≡◌, ℕ, ◌+◌, ◌-◌, ◌≤◌, ◌<◌, Bool, true, false, ◌&&◌, ◌==◌, List, [], ◌∷◌, ◌++◌, length, map, max, replicate, append_assoc, append-nil, arith, rules, sym, ◌∙◌, ap, ap₂, refl, zero, suc, subst, nat_le, zero-add, add-zero, ne_eqb}
 use Rattle.std.specs.List.{list_all}
 use Rattle.std.specs.Global.{Vec}
 use Rattle.std.proofs.lemmas.List.{length-append, length-map}
@@ -12,7 +12,7 @@ use Rattle.ec_machine.specs.declared.command.Command.TheViews.{roll-Command, out
 use Rattle.ec_machine.specs.declared.command.Command.TheVariants.{Repeat, WriteAll, rolls-Repeat, rolls-Advance, rolls-Read, rolls-Await, rolls-Ticket, rolls-Put, rolls-Get, rolls-Produce, rolls-Consume, rolls-WriteAll, rolls-Snapshot, rolls-Down, rolls-Up, rolls-DownBoth}
 use Rattle.ec_machine.specs.declared.command.Command.TheOpen as layer
 use Rattle.ec_machine.specs.declared.command.Command.TheFolds.{fold-roll-Command}
-use Rattle.ec_machine.specs.Limits.{is_sound, is_sound_one, sound_step, is_value, nesting, nesting_one, nesting_step, most, count, count_one, count_step}
+use Rattle.ec_machine.specs.Limits.{is_sound, is_sound_one, sound_step, is_value, nesting, nesting_one, nesting_step, count, count_one, count_step}
 use Rattle.ec_machine.specs.Programs.{IsProgram}
 use Rattle.ec_script.specs.declared.order.Order.{Order}
 use Rattle.ec_script.specs.declared.order.Order.TheVariants.{Do, Write, Begin, End}

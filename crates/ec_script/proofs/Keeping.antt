@@ -1,12 +1,12 @@
 -- The lines of a script keep its programs confined, and so every plan is.
-use Rattle.std.proofs.Common.{◌≡◌, ℕ, ◌+◌, ◌≤◌, ◌<◌, List, [], ◌∷◌, ◌++◌, length, replicate, zero, suc, Bool, true, false, cond, not, ◌&&◌, eqb, Option, Some, None, is_some, Result, Ok, Err, refl, sym, ap, ◌∙◌, subst, arith, bytes_eq, codes, nat_lt, eqb-true, length-append, length-set, slice_set}
+use Rattle.std.proofs.Common.{◌≡◌, ℕ, ◌<◌, List, [], ◌∷◌, ◌++◌, length, replicate, zero, suc, Bool, true, false, cond, not, ◌&&◌, eqb, Option, Some, None, Result, Ok, Err, refl, sym, ap, ◌∙◌, subst, arith, bytes_eq, codes, nat_lt, eqb-true, length-append, length-set, slice_set}
 use Rattle.std.specs.List.{AllByRecursion}
 use Rattle.std.specs.Option.{IfSome}
 use Rattle.std.specs.Result.{IfOk}
 use Rattle.std.proofs.lemmas.Bool.{and_parts}
 use Rattle.std.proofs.lemmas.List.{length-replicate}
 use Rattle.std.proofs.lemmas.List.Elements.{All-from_recursion, recursion_from_All, All-set}
-use Rattle.ec_text.specs.Words.{words_of, number_of, is_number_form}
+use Rattle.ec_text.specs.Words.{words_of, number_of}
 use Rattle.ec_trace.specs.declared.group.Group.{Group}
 use Rattle.ec_trace.specs.declared.heading.HeadFault.{HeadFault}
 use Rattle.ec_trace.specs.Headed.{Headed}
@@ -33,7 +33,7 @@ use Rattle.ec_script.specs.Drafted.{Drafted, with_order}
 use Rattle.ec_script.specs.Kinds.{phrase_fault, or_nothing, has_two_roles}
 use Rattle.ec_script.specs.Orders.{size_in, command_in}
 use Rattle.ec_script.specs.Scripted.{Scripted, Planned}
-use Rattle.ec_script.specs.Reading.{seen, began, ordered_in, ordered, commanded, ended_in, after_verb, after, fault_or, phrased, headed_on, is_declaring, opens_outer, script_step, in_range, limited, limit_digits, limit_or, limit_step, script_of, named_on, read_on, step}
+use Rattle.ec_script.specs.Reading.{seen, began, ordered_in, commanded, ended_in, after_verb, after, fault_or, phrased, headed_on, is_declaring, opens_outer, script_step, in_range, limited, limit_digits, limit_or, limit_step, script_of, named_on, read_on, step}
 use Rattle.ec_script.specs.Outcome.{plan_or, plan_in, outcome, Tells, shown_plan}
 use Rattle.ec_script.specs.Grammar.{Leads, IsScript}
 use Rattle.ec_script.specs.Confined.{IsConfined, AreConfined, IsPlan, AreConfinedPrograms}

@@ -1,5 +1,5 @@
 -- A line without fault may go on with its block.
-use Rattle.std.proofs.Common.{◌≡◌, ℕ, ◌<◌, ◌≤◌, ◌&&◌, ◌||◌, Bool, true, false, not, List, length, Option, Some, None, option_map, is_some, is_none, nat_le, nat_lt, unwrap_or, arith, rules, refl, sym, ap, ◌∙◌, lt-ltb, [], ◌∷◌}
+use Rattle.std.proofs.Common.{◌≡◌, ℕ, ◌<◌, ◌&&◌, ◌||◌, Bool, true, false, not, List, length, Option, Some, None, option_map, is_some, is_none, nat_le, nat_lt, arith, refl, sym, ap, ◌∙◌, lt-ltb, [], ◌∷◌}
 use Rattle.std.specs.Option.{option_and_then}
 use Rattle.std.proofs.lemmas.Bool.{leb-false}
 use Rattle.ec_count.specs.Tables.{first_that}
@@ -15,12 +15,12 @@ use Rattle.ec_script.specs.declared.verb.Verb.TheVariants as verbs
 use Rattle.ec_script.specs.Verbs.{is_counted, tail_of}
 use Rattle.ec_script.specs.Forms.{Phrase, only_in}
 use Rattle.ec_script.specs.Objects.{is_owned}
-use Rattle.ec_script.specs.Kinds.{Seen, phrase_fault, or_nothing, is_allowed, is_named_again, has_unknown_name, is_bad_tail, is_count, is_too_many, has_two_roles, lacks_right, is_badly_nested}
+use Rattle.ec_script.specs.Kinds.{Seen, phrase_fault, or_nothing, is_allowed, is_named_again, has_unknown_name, is_bad_tail, is_too_many, has_two_roles, lacks_right, is_badly_nested}
 use Rattle.ec_script.specs.Orders.{IsSound, size_in}
 use Rattle.ec_script.specs.Scripted.{Scripted}
 use Rattle.ec_script.specs.Reading.{nest_of, seen}
 use Rattle.ec_script.specs.Rooms.{MayOrder, MayEnd, HasRoom}
-use Rattle.ec_script.proofs.Sizes.{InRange, count_range}
+use Rattle.ec_script.proofs.Sizes.{count_range}
 
 pub may_command : (b : Option Block) (o : Order) → HasRoom b → IsSound o → MayOrder b o
 may_command None o room sound = tt

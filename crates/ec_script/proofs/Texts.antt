@@ -1,6 +1,6 @@
 -- A text and its lines: what is read is a script, a script is read, and a fault is that of the first faulty line.
-use Rattle.std.proofs.Common.{◌≡◌, ◌⊎◌, inl, inr, ℕ, ◌+◌, ◌<◌, ◌≤◌, List, [], ◌∷◌, ◌++◌, length, Bool, true, false, cond, eqb, Option, Some, None, Result, Ok, Err, refl, sym, ap, ap₂, ◌∙◌, subst, arith, append_assoc, append-nil, nat_lt, le-ltb, lt-ltb}
-use Rattle.std.specs.List.{All, AllByRecursion, flat_map, join_with_byte, onto_first}
+use Rattle.std.proofs.Common.{◌≡◌, ◌⊎◌, inl, inr, ℕ, ◌+◌, ◌<◌, ◌≤◌, List, [], ◌∷◌, ◌++◌, length, Bool, true, false, cond, eqb, Option, Some, None, Result, Ok, Err, refl, sym, ap, ◌∙◌, subst, arith, append_assoc, append-nil, nat_lt, le-ltb, lt-ltb}
+use Rattle.std.specs.List.{AllByRecursion, join_with_byte, onto_first}
 use Rattle.std.proofs.lemmas.List.Splits.{join_with_byte-slice_split}
 use Rattle.std.proofs.lemmas.List.Elements.{All-nil, All-cons}
 use Rattle.std.proofs.lemmas.Bool.{ltb-false}
@@ -11,9 +11,9 @@ use Rattle.ec_script.specs.declared.stage.Stage.{Stage}
 use Rattle.ec_script.specs.declared.stage.Stage.TheVariants.{Opening}
 use Rattle.ec_script.specs.Scripted.{Planned}
 use Rattle.ec_script.specs.Reading.{step}
-use Rattle.ec_script.specs.Outcome.{Parsed, parts_of, plan_in, finished, taken, ended, goes, outcome, first_of, long_kind}
-use Rattle.ec_script.specs.Grammar.{ended_line, text_of, IsLine, Leads, IsScript, IsRefused, IsCutOff, IsFirstFault}
-use Rattle.ec_script.proofs.Lines.{HasFirst, has_first, goes_line, goes_rest}
+use Rattle.ec_script.specs.Outcome.{Parsed, parts_of, plan_in, finished, taken, goes, outcome, first_of, long_kind}
+use Rattle.ec_script.specs.Grammar.{text_of, IsLine, Leads, IsScript, IsRefused, IsCutOff, IsFirstFault}
+use Rattle.ec_script.proofs.Lines.{has_first, goes_line, goes_rest}
 
 -- A SCRIPT IS READ
 

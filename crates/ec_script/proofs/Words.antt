@@ -1,7 +1,6 @@
 -- The words of a line: there is one at least.
-use Rattle.std.proofs.Common.{◌≡◌, ℕ, ◌+◌, ◌<◌, ◌≤◌, List, [], ◌∷◌, length, Option, Some, None, Bool, true, false, cond, eqb, ltb, refl, sym, ap, ◌∙◌, arith, ne_eqb}
+use Rattle.std.proofs.Common.{◌≡◌, ℕ, ◌≤◌, List, [], ◌∷◌, length, None, Bool, true, false, cond, eqb, refl, arith}
 use Rattle.std.specs.List.{onto_first}
-use Rattle.std.proofs.lemmas.List.Splits.{length-slice_split}
 use Rattle.ec_text.specs.Words.{words_of}
 use Rattle.ec_script.specs.Forms.{only_in}
 use Rattle.ec_script.specs.Reading.{limit_digits}

@@ -1,5 +1,5 @@
 -- The commands of a program, line by line.
-use Rattle.std.specs.Prelude.{ℕ, Bool, true, false, List, [], ◌∷◌, ◌++◌, map}
+use Rattle.std.specs.Prelude.{Bool, true, false, List, [], ◌∷◌, ◌++◌, map}
 use Rattle.ec_machine.specs.declared.command.Command.{Command}
 use Rattle.ec_machine.specs.declared.command.Command.TheVariants as commands
 use Rattle.ec_machine.specs.declared.command.Command.TheOpen.{Command-F}

@@ -1,12 +1,11 @@
 -- Why a line behind the declarations is refused: each kind of fault is a test of its own.
-use Rattle.std.specs.Prelude.{ℕ, ◌+◌, Bool, true, false, ◌&&◌, ◌||◌, ◌==◌, not, nat_le, nat_lt, List, [], ◌∷◌, length, Option, Some, None, option_map, is_some, is_none, unwrap_or, if◌then◌else◌}
+use Rattle.std.specs.Prelude.{ℕ, ◌+◌, Bool, true, false, ◌&&◌, ◌||◌, ◌==◌, not, nat_le, nat_lt, List, [], ◌∷◌, length, Option, Some, None, is_some, is_none, unwrap_or, if◌then◌else◌}
 use Rattle.std.specs.Option.{option_and_then, option_map_or}
 use Rattle.std.specs.List.{list_any}
 use Rattle.ec_count.specs.Tables.{Tables, first_that, component_of, may_observe, may_take, may_write, may_read}
 use Rattle.ec_count.specs.Members.{is_member}
 use Rattle.ec_text.specs.Words.{number_of}
 use Rattle.ec_machine.specs.Limits.{are_apart}
-use Rattle.ec_trace.specs.declared.group.Group.{Group}
 use Rattle.ec_trace.specs.Headed.{Headed}
 use Rattle.ec_trace.specs.Lists.{has_unknown}
 use Rattle.ec_script.specs.declared.fault.Kind.{Kind}
@@ -19,7 +18,7 @@ use Rattle.ec_script.specs.declared.object.Object.{Object}
 use Rattle.ec_script.specs.declared.object.Object.TheVariants.{Nothing, Worker, Event, Sequencer, Cell, OfBuffer, OfDatabase, OfSemaphore, Three}
 use Rattle.ec_script.specs.declared.kinds.Nest.{Nest}
 use Rattle.ec_script.specs.declared.kinds.View.{View}
-use Rattle.ec_script.specs.Verbs.{tail_of, is_giving, is_outer, is_counted}
+use Rattle.ec_script.specs.Verbs.{tail_of, is_giving, is_counted}
 use Rattle.ec_script.specs.Forms.{Phrase, only_in, value_of}
 use Rattle.ec_script.specs.Objects.{is_owned}
 

@@ -1,6 +1,6 @@
 -- What the lines of a script build, line by line.
-use Rattle.std.specs.Prelude.{◌≡◌, ℕ, ◌<◌, Bool, true, false, ◌&&◌, ◌==◌, not, nat_le, nat_lt, List, [], ◌∷◌, ◌++◌, length, map, replicate, slice_set, Option, Some, None, option_map, is_some, Result, Ok, Err, if◌then◌else◌, bytes_eq, codes}
-use Rattle.std.specs.Option.{option_and_then, option_map_or}
+use Rattle.std.specs.Prelude.{◌≡◌, ℕ, Bool, false, ◌&&◌, ◌==◌, not, nat_le, nat_lt, List, [], ◌∷◌, ◌++◌, length, replicate, slice_set, Option, Some, None, option_map, Result, Ok, Err, if◌then◌else◌, bytes_eq, codes}
+use Rattle.std.specs.Option.{option_map_or}
 use Rattle.ec_text.specs.Words.{words_of, number_of, is_number_form}
 use Rattle.ec_trace.specs.Headed.{Headed}
 use Rattle.ec_trace.specs.Outline.{opened}
@@ -14,7 +14,7 @@ use Rattle.ec_script.specs.declared.fault.StageFault.TheVariants as faults
 use Rattle.ec_script.specs.declared.verb.Verb.{Verb}
 use Rattle.ec_script.specs.declared.verb.Verb.TheVariants as verbs
 use Rattle.ec_script.specs.declared.object.Object.{Object}
-use Rattle.ec_script.specs.declared.object.Object.TheVariants.{Nothing, Worker}
+use Rattle.ec_script.specs.declared.object.Object.TheVariants.{Worker}
 use Rattle.ec_script.specs.declared.order.Order.{Order}
 use Rattle.ec_script.specs.declared.order.Order.TheVariants.{Begin, End}
 use Rattle.ec_script.specs.declared.kinds.Nest.{Nest}

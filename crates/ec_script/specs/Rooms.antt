@@ -1,5 +1,5 @@
 -- Where there is room for one more line of a block.
-use Rattle.std.specs.Prelude.{◌≡◌, ℕ, ◌<◌, false, Option, Some, None}
+use Rattle.std.specs.Prelude.{◌≡◌, ◌<◌, false, Option, Some, None}
 use Rattle.ec_script.specs.declared.script.Block.{Block}
 use Rattle.ec_script.specs.declared.order.Order.{Order}
 use Rattle.ec_script.specs.Drafted.{MayFollow}

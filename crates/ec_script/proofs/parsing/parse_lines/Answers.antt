@@ -1,4 +1,4 @@
-use Rattle.std.proofs.Common.{◌≡◌, ℕ, ◌+◌, ◌≤◌, length, Err, sym, subst, arith}
+use Rattle.std.proofs.Common.{Err, sym, subst, arith}
 use Rattle.ec_script.specs.declared.stage.Stage.TheVariants.{Opening}
 use Rattle.ec_script.specs.Outcome.{Tells, goes, parts_of}
 use Rattle.ec_script.proofs.Onward.{goes_on, fails_line, rests, shorter}

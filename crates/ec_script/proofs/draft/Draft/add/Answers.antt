@@ -1,4 +1,4 @@
-use Rattle.std.proofs.Common.{◌<◌, ◌∙◌, ap, arith}
+use Rattle.std.proofs.Common.{◌∙◌, ap, arith}
 use Rattle.ec_script.specs.Drafted.{Drafted, added}
 use Rattle.ec_script.specs.declared.order.Order.TheVariants.{Do}
 use Rattle.ec_script.proofs.Drafts.{plain_line, added_is, added_fits}

@@ -1,4 +1,4 @@
-use Rattle.std.proofs.Common.{◌≡◌, ◌<◌, ◌==◌, Bool, true, List, length, ◌∙◌, ap, arith}
+use Rattle.std.proofs.Common.{◌==◌, List, length, ◌∙◌, ap, arith}
 use Rattle.std.specs.List.{list_all}
 use Rattle.ec_machine.specs.Limits.{is_value}
 use Rattle.ec_machine.specs.declared.command.Value.{Value}

@@ -1,9 +1,9 @@
-use Rattle.std.proofs.Common.{◌<◌, ◌+◌, length, sym, ◌∙◌, ap, subst, arith}
+use Rattle.std.proofs.Common.{◌+◌, sym, ◌∙◌, ap, subst, arith}
 use Rattle.std.specs.Global.{Vec}
 use Rattle.ec_machine.specs.declared.command.Command.{Command}
 use Rattle.ec_script.specs.Inner.{IsDraft}
 use Rattle.ec_script.specs.Drafted.{Drafted, opened}
-use Rattle.ec_script.proofs.Drafts.{view_of, opened_is, opened_fits, lost_fits}
+use Rattle.ec_script.proofs.Drafts.{view_of, opened_is, opened_fits}
 use Rattle.ec_script.proofs.draft.Draft.open.Goals as goal
 
 pub invariant_of-self-2 : goal.invariant_of-self-2

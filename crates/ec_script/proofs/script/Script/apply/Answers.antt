@@ -1,4 +1,4 @@
-use Rattle.std.proofs.Common.{◌≡◌, sym, ap, ◌∙◌, subst}
+use Rattle.std.proofs.Common.{sym, ap, ◌∙◌, subst}
 use Rattle.ec_script.specs.declared.order.Order.TheVariants.{Begin}
 use Rattle.ec_script.specs.Verbs.{tail_of}
 use Rattle.ec_script.specs.Forms.{rest_words, shown}
