@@ -15,3 +15,4 @@ pub mod Apart
 pub mod Tests
 pub mod TurnedRound
 pub mod Played
+pub mod Reported

@@ -1,6 +1,5 @@
 -- What turns made is accepted, and each worker's part of it is a run of its program.
-use Rattle.std.proofs.Common.{◌≡◌, ℕ, ◌<◌, Bool, true, false, ◌==◌, cond, List, [], ◌∷◌, reverse, Some, Result, Ok, Err, refl, sym, ◌∙◌, ap, subst, eqb-true}
-use Rattle.std.specs.List.{All}
+use Rattle.std.proofs.Common.{◌≡◌, ℕ, Bool, true, false, ◌==◌, cond, List, [], ◌∷◌, Some, Result, Ok, Err, refl, sym, subst, eqb-true}
 use Rattle.ec_count.specs.Tables.{Tables}
 use Rattle.ec_core.specs.declared.act.Act.{Act}
 use Rattle.ec_core.specs.declared.act.Entry.{Entry}
@@ -9,10 +8,9 @@ use Rattle.ec_core.specs.declared.act.Refusal.{Refusal}
 use Rattle.ec_core.specs.Acceptance.{answer_of, IsAccepted}
 use Rattle.ec_machine.specs.declared.command.Command.{Command}
 use Rattle.ec_machine.specs.Follows.{program_at}
-use Rattle.ec_machine.specs.Runs.{program_call, next_act, IsRunOf}
+use Rattle.ec_machine.specs.Runs.{next_act, IsRunOf}
 use Rattle.ec_machine.specs.Steps.{IsRun, own}
 use Rattle.ec_runner.specs.Schedules.{Turn, with_answer, entries_of, AreTurns}
-use Rattle.ec_confined.specs.Headings.{FollowsGroup}
 use Rattle.ec_confined.specs.Reports.{PlayedGroupsAreFollowed}
 use Rattle.ec_confined.proofs.AllGroups.{groups_follow}
 

@@ -1,6 +1,6 @@
 //! What the definitions mean: each function says a law and does nothing.
 ghost use Rattle.ec_confined.specs.Headings.{GroupsAreFollowed};
-ghost use Rattle.ec_confined.specs.Reports.{PlayedGroupsAreFollowed};
+ghost use Rattle.ec_confined.specs.Reports.{PlayedGroupsAreFollowed, ReportedGroupsAreFollowed};
 ghost use Rattle.ec_confined.specs.Laws.{BuffersAreFollowed, DatabasesAreFollowed, SemaphoresAreFollowed, BothIsFollowed, OwnEntriesTurnRound};
 
 /// In an accepted history in which each worker's entries are a run of its program, a declared buffer
@@ -41,4 +41,10 @@ pub fn own_entries_turn_round()
 /// the heading.
 pub fn played_groups_are_followed()
     ensures { PlayedGroupsAreFollowed }
+{}
+
+/// Where workers ran such programs on threads, the run that is reported follows every group of the
+/// heading.
+pub fn reported_groups_are_followed()
+    ensures { ReportedGroupsAreFollowed }
 {}
