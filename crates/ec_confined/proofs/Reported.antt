@@ -1,0 +1,30 @@
+-- What workers on threads tell of a run: each worker's part of it is a run of its program.
+use Rattle.std.proofs.Common.{◌≡◌, ℕ, zero, suc, ◌<◌, List, [], ◌∷◌, length, reverse, slice_get, Some, refl, sym, ◌∙◌, ap, subst, arith}
+use Rattle.ec_count.specs.Tables.{Tables}
+use Rattle.ec_machine.specs.declared.command.Command.{Command}
+use Rattle.ec_machine.specs.Follows.{program_at}
+use Rattle.ec_machine.specs.Runs.{IsRunOf}
+use Rattle.ec_machine.specs.Steps.{own}
+use Rattle.ec_runner.specs.declared.report.Report.{Report}
+use Rattle.ec_runner.specs.RunReports.{IsReportOf}
+use Rattle.ec_confined.specs.Reports.{ReportedGroupsAreFollowed}
+use Rattle.ec_confined.proofs.AllGroups.{groups_follow}
+use Rattle.ec_confined.proofs.TurnedRound.{own_turned}
+
+-- what stands at a place within a list
+there_is : {X : Type 0} (xs : List X) (i : ℕ) → i < length xs → (x : X) × (slice_get xs i ≡ Some x)
+there_is [] i within = absurd (omega arith)
+there_is (x ∷ xs) zero within = (x, refl)
+there_is (x ∷ xs) (suc i) within = there_is xs i (omega arith)
+
+told_run : (t : Tables) (programs : List (List Command)) (turns w : ℕ) (report : Report) → IsReportOf t programs turns report → w < t.workers
+    → IsRunOf (program_at programs w) (own w (reverse report.run.entries))
+told_run t programs turns w report is lt =
+    let log = there_is report.logs.items w (omega (arith, is.logs, lt)) in
+    let outcome = there_is report.outcomes.items w (omega (arith, is.outcomes, lt)) in
+    let told = is.told w log.0 outcome.0 log.1 outcome.1 in
+    subst (IsRunOf (program_at programs w)) (ap reverse (sym told.entries) ∙ sym (own_turned w report.run.entries)) told.follows
+
+pub reported_follow : ReportedGroupsAreFollowed
+reported_follow heading programs turns report is confined acc reported =
+    groups_follow heading programs report.run.entries is confined acc (λ w lt. told_run heading.setup programs turns w report reported lt)

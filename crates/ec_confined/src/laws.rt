@@ -1,0 +1,50 @@
+//! What the definitions mean: each function says a law and does nothing.
+ghost use Rattle.ec_confined.specs.Headings.{GroupsAreFollowed};
+ghost use Rattle.ec_confined.specs.Reports.{PlayedGroupsAreFollowed, ReportedGroupsAreFollowed};
+ghost use Rattle.ec_confined.specs.Laws.{BuffersAreFollowed, DatabasesAreFollowed, SemaphoresAreFollowed, BothIsFollowed, OwnEntriesTurnRound};
+
+/// In an accepted history in which each worker's entries are a run of its program, a declared buffer
+/// is followed that the programs use by Produce and Consume alone.
+pub fn buffers_are_followed()
+    ensures { BuffersAreFollowed }
+{}
+
+/// The same of a declared database that the programs use by WriteAll and Snapshot alone.
+pub fn databases_are_followed()
+    ensures { DatabasesAreFollowed }
+{}
+
+/// The same of a semaphore that the programs use by P and V alone.
+pub fn semaphores_are_followed()
+    ensures { SemaphoresAreFollowed }
+{}
+
+/// The same of `both`, whose common semaphore the programs use by P on two semaphores alone.
+pub fn both_is_followed()
+    ensures { BothIsFollowed }
+{}
+
+/// Where no object belongs to two groups of a heading, and the commands of the programs use their
+/// objects by the groups' procedures alone, an accepted history in which each worker's entries are
+/// a run of its program follows every group.
+pub fn groups_are_followed()
+    ensures { GroupsAreFollowed }
+{}
+
+/// The entries of a worker, turned round, are those of the history turned round: so what is said of
+/// the one list is said of the other.
+pub fn own_entries_turn_round()
+    ensures { OwnEntriesTurnRound }
+{}
+
+/// Where a schedule of such programs was played, the run that is reported follows every group of
+/// the heading.
+pub fn played_groups_are_followed()
+    ensures { PlayedGroupsAreFollowed }
+{}
+
+/// Where workers ran such programs on threads, the run that is reported follows every group of the
+/// heading.
+pub fn reported_groups_are_followed()
+    ensures { ReportedGroupsAreFollowed }
+{}
