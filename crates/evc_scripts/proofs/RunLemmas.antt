@@ -51,7 +51,7 @@ pub told_ends : (p : Planned) (turns : ℕ) (s : Status) (old new : Outlets) →
 told_ends p turns Done old new t = t
 told_ends p turns Memory old new t = inl t
 told_ends p turns Stopped old new t = inl t
-told_ends p turns Refused old new t = three_ways Refused _ _ t.2.ended (inl refl)
+told_ends p turns Refused old new t = absurd (three_ways Refused _ _ t.2.ended (inl refl))
 told_ends p turns Usage old new t = absurd (three_ways Usage _ _ t.2.ended (inr (inl refl)))
 told_ends p turns InputOutput old new t = absurd (three_ways InputOutput _ _ t.2.ended (inr (inr refl)))
 
@@ -72,7 +72,7 @@ runs bytes turns InputOutput old new e = inl (e.0, says bytes e.0 e.1, e.2)
 runs bytes turns Memory old new (inl e) = inl (e.0, says bytes e.0 e.1, e.2)
 runs bytes turns Memory old new (inr e) = inr e
 runs bytes turns Stopped old new e = (e.0, says bytes e.0 e.1, e.2)
-runs bytes turns Usage old new e = e.2
+runs bytes turns Usage old new e = absurd e.2
 
 pub text_runs : (known : Option (List ℕ)) (text : List ℕ) (turns : ℕ) (status : Status) (old new : Outlets) → IfSome known (λ bytes. text ≡ looked_at SCRIPT_MAX bytes)
     → TextRuns text turns status old new → IfSome known (λ bytes. Runs turns bytes status old new)
