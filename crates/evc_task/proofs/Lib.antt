@@ -1,3 +1,4 @@
+pub mod AnyTurns
 pub mod CommandMet
 pub mod Found
 pub mod PlainLines

@@ -1,5 +1,5 @@
 -- The plainest command lines, by computing what clap makes of them.
-use Rattle.std.proofs.Common.{arith, refl}
+use Rattle.std.proofs.Common.{refl}
 use Rattle.clap.proofs.OnLiterals.{clap_on_literals}
 use Rattle.evc_task.specs.CommandLine.{ReadsPlainLines}
 
@@ -10,9 +10,6 @@ plain_lines_are_read = record {
   audit = λ program. (refl, (refl, tt));
   sim = λ program. (refl, (refl, tt));
   run = λ program. (refl, (refl, refl));
-  seven = λ program. (refl, (refl, (((omega arith), (omega arith, tt)), refl)));
-  zero = λ program. refl;
-  too_many = λ program. refl;
   help = λ program. refl;
   none = λ program. refl;
   unknown = λ program. refl;

@@ -1,12 +1,12 @@
 -- What the words of a command line ask for. The first word is the program's name.
-use Rattle.std.specs.Prelude.{◌≡◌, ◌⊎◌, ℕ, List, [], ◌∷◌, Option, Some, String, true, codes, map, option_and_then, option_map}
+use Rattle.std.specs.Prelude.{◌≡◌, ◌⊎◌, ℕ, List, [], ◌∷◌, ◌++◌, Option, Some, String, true, codes, map, option_and_then, option_map}
 use Rattle.std.specs.Global.{Global}
 use Rattle.clap.specs.Words.{App, Kinds, Shape, Text, fault_of, first_of, new_app, subcommand_of, with_subcommand}
 use Rattle.clap.specs.declared.error.kind.ErrorKind.{ErrorKind}
 use Rattle.clap.specs.declared.error.kind.ErrorKind.TheVariants as kinds
 use Rattle.evc_task.specs.declared.choice.Task.{Task}
 use Rattle.evc_task.specs.declared.choice.Task.TheVariants as tasks
-use Rattle.evc_task.specs.Turns.{HasTurnsOf, run_app}
+use Rattle.evc_task.specs.Turns.{HasTurnsOf, IsInRange, Writes, run_app}
 
 -- the words as texts
 abbrev pub texts_of : List (String Global) → List Text
@@ -66,17 +66,25 @@ status_by kinds.OutOfMemory = 4
 status_by _ = 2
 
 -- the plainest command lines, under any name of the program: each command is right and asks for its task, `run` for
--- 10000 turns or for the number that stands behind `--turns`, which 0 and 1000001 are not; `--help` asks for help; and no
--- word and an unknown word are wrong
+-- 10000 turns; `--help` asks for help; and no word and an unknown word are wrong
 pub record ReadsPlainLines : Type 0 where
   pub check : (program : Text) → (faults_in (program ∷ codes "check" ∷ []) ≡ []) × AskFor (program ∷ codes "check" ∷ []) tasks.Check
   pub audit : (program : Text) → (faults_in (program ∷ codes "audit" ∷ []) ≡ []) × AskFor (program ∷ codes "audit" ∷ []) tasks.Audit
   pub sim : (program : Text) → (faults_in (program ∷ codes "sim" ∷ []) ≡ []) × AskFor (program ∷ codes "sim" ∷ []) tasks.Sim
   pub run : (program : Text) → (faults_in (program ∷ codes "run" ∷ []) ≡ []) × AskFor (program ∷ codes "run" ∷ []) (tasks.Run 10000)
-  pub seven : (program : Text)
-      → (faults_in (program ∷ codes "run" ∷ codes "--turns" ∷ codes "7" ∷ []) ≡ []) × AskFor (program ∷ codes "run" ∷ codes "--turns" ∷ codes "7" ∷ []) (tasks.Run 7)
-  pub zero : (program : Text) → faults_in (program ∷ codes "run" ∷ codes "--turns" ∷ codes "0" ∷ []) ≡ kinds.ValueValidation ∷ []
-  pub too_many : (program : Text) → faults_in (program ∷ codes "run" ∷ codes "--turns" ∷ codes "1000001" ∷ []) ≡ kinds.ValueValidation ∷ []
   pub help : (program : Text) → faults_in (program ∷ codes "--help" ∷ []) ≡ kinds.DisplayHelp ∷ []
   pub none : (program : Text) → faults_in (program ∷ []) ≡ kinds.MissingSubcommand ∷ []
   pub unknown : (program : Text) → faults_in (program ∷ codes "frobnicate" ∷ []) ≡ kinds.UnknownArgument ∷ kinds.InvalidSubcommand ∷ []
+
+-- the words are `run --turns N` or `run --turns=N` with that text, under any name of the program
+abbrev pub RunWith : Text → List Text → Type 0
+RunWith text words = (program : Text) × ((words ≡ program ∷ codes "run" ∷ codes "--turns" ∷ text ∷ [])
+    ⊎ (words ≡ program ∷ codes "run" ∷ (codes "--turns=" ++ text) ∷ []))
+
+-- where the text writes a number, these words are right exactly where that is a number of turns that a worker may get,
+-- and then ask for that many
+pub record ReadsTurns : Type 0 where
+  pub right : (turns : ℕ) (text : Text) (words : List Text) → RunWith text words → Writes turns text → IsInRange turns
+      → (faults_in words ≡ []) × AskFor words (tasks.Run turns)
+  pub wrong : (turns : ℕ) (text : Text) (words : List Text) → RunWith text words → Writes turns text → (IsInRange turns → ⊥)
+      → faults_in words ≡ kinds.ValueValidation ∷ []

@@ -3,7 +3,7 @@ ghost use Rattle.std.specs.Prelude.{◌≡◌, IfNone, IfOk, IfSome, codes, fals
 ghost use Rattle.clap.specs.Words.{FailsBy, app_of, first_of, found_of, kind_of, new_app};
 ghost use Rattle.clap.specs.Words.{rows_of, rule_of, subcommand_of, subcommand_rows_of};
 ghost use Rattle.clap.specs.declared.builder.command.Command.TheViews.{out-Command as fields_of};
-ghost use Rattle.evc_task.specs.CommandLine.{IsOneOf, Names, ReadsPlainLines, command_names, evc_app};
+ghost use Rattle.evc_task.specs.CommandLine.{IsOneOf, Names, ReadsPlainLines, ReadsTurns, command_names, evc_app};
 ghost use Rattle.evc_task.specs.CommandLine.{faults_in, name_of, status_by, texts_of, trace_app, turns_text};
 ghost use Rattle.evc_task.specs.Turns.{HasTurnsInRange, HasTurnsOf, IsInRange, IsTurnsOf, PassTurns};
 ghost use Rattle.evc_task.specs.Turns.{run_app, turns_rule};
@@ -159,4 +159,11 @@ pub fn status_of(error: &Error) -> u8
 #[tactic(auto, using(crate::proofs::PlainLines::plain_lines_are_read))]
 pub fn plain_lines()
     ensures { ReadsPlainLines }
+{}
+
+/// The law that `run --turns N` is right for exactly the numbers from 1 to 1000000, and asks for
+/// that many turns.
+#[tactic(auto, using(crate::proofs::AnyTurns::turns_are_read))]
+pub fn turns_lines()
+    ensures { ReadsTurns }
 {}
