@@ -4,13 +4,16 @@ ghost use Rattle.evc_engine.specs.Checks.{Checks};
 ghost use Rattle.evc.specs.Tasks.{Does};
 
 use evc_engine::{Notes, Status, audit, check};
-use evc_scripts::sim;
+use evc_scripts::{run, sim};
 use evc_task::Task;
 use std::alloc::Global;
 use std::io::{Read, Write};
+use std::sync::Wait;
+use std::thread::Threads;
 
 /// Does what the task says: the input from `reader`, the text to `out`, the notes to `notes`.
-pub fn engine<R: Read, W: Write, N: Write>(
+pub fn engine<H: Threads + Wait + Sync, R: Read, W: Write, N: Write>(
+    rt: &H,
     alloc: Global,
     task: Task,
     reader: &mut R,
@@ -25,5 +28,6 @@ pub fn engine<R: Read, W: Write, N: Write>(
         Task::Check => check(alloc, reader, out, notes),
         Task::Audit => audit(alloc, reader, out, notes),
         Task::Sim => sim(alloc, reader, out, notes),
+        Task::Run(turns) => run(rt, alloc, turns, reader, out, notes),
     }
 }

@@ -16,7 +16,7 @@ use Rattle.ec_trace.specs.declared.read.TheConstants.{TRACE_MAX}
 use Rattle.ec_trace.proofs.ReadTraces.{written_is_read}
 use Rattle.ec_runner.specs.Schedules.{Turn, AreTurns, entries_of, with_answer}
 use Rattle.evc_scripts.specs.Sims.{IsTraceUnder}
-use Rattle.evc_scripts.specs.SimLaws.{SimulatedIsReadAgain}
+use Rattle.evc_scripts.specs.SimLaws.{SimulatedIsReadAgain, RanIsReadAgain}
 
 answered : (t : Tables) (past : List Entry) (w : ℕ) (act : Act) (a : Result Reply Refusal) → answer_of t past w act ≡ a → IsAccepted t past → IsAccepted t (with_answer w act a past)
 answered t past w act (Ok reply) is accepted = (is, accepted)
@@ -39,3 +39,6 @@ simulated_again p trace note played short =
     let past = entries_of played.turns in
     let accepted = accepted_turns p.heading.setup played.played.programs played.turns played.played.plays.each in
     read_under p.heading (reverse past) trace (subst (IsAccepted p.heading.setup) (sym (reverse-reverse past)) accepted) played.written short
+
+pub ran_again : RanIsReadAgain
+ran_again p turns status trace note ran short = read_under p.heading ran.report.run.entries trace ran.accepted ran.written short

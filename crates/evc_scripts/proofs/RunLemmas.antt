@@ -1,7 +1,9 @@
 -- What `run` has written, by what its parts have.
-use Rattle.std.proofs.Common.{◌≡◌, ◌≤◌, ◌⊎◌, inl, inr, ℕ, Bool, true, false, cond, List, length, Option, Some, None, IfSome, Ok, Err, refl, sym, ap, subst, ◌∙◌, arith}
+use Rattle.std.proofs.Common.{◌≡◌, ◌≤◌, ◌⊎◌, inl, inr, ℕ, Bool, true, false, cond, List, length, reverse, Option, Some, None, IfSome, Ok, Err, refl, sym, ap, subst, ◌∙◌, arith}
 use Rattle.std.specs.Io.KnownBytes.{Appends, Keeps}
 use Rattle.std.specs.List.{list_any}
+use Rattle.ec_count.specs.Tables.{Tables}
+use Rattle.ec_core.specs.Acceptance.{IsAccepted}
 use Rattle.ec_machine.specs.declared.outcome.Outcome.{Outcome}
 use Rattle.ec_trace.specs.Outlined.{HasOutline}
 use Rattle.ec_trace.specs.Spelling.{trace_text}
@@ -24,12 +26,14 @@ use Rattle.evc_scripts.proofs.SimEnds.{says, refused_at}
 
 -- a report of a plan, and its trace by an outline of the heading
 pub have_run : (plan : Plan) (report : Report) (turns : ℕ) (h : HasOutline plan.heading) → IsReportOf plan.heading.setup plan.programs.items turns report
+    → IsAccepted report.run.setup (reverse report.run.entries)
     → HaveRun (shown_plan plan) turns (status_for report.outcomes.items) (trace_text h.outline report.run.entries) (outcomes_note plan.heading report.outcomes.items)
-have_run plan report turns h told = record {
+have_run plan report turns h told accepted = record {
   programs = plan.programs.items;
   lines = refl;
   report = report;
   told = told;
+  accepted = subst (λ (t : Tables). IsAccepted t (reverse report.run.entries)) told.setup accepted;
   written = record { outline = h.outline; is = h.is; declares = h.declares; text = refl };
   noted = refl;
   ended = refl;

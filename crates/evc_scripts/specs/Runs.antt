@@ -1,7 +1,8 @@
 -- What `run` answered and wrote, for an input whose bytes are known.
-use Rattle.std.specs.Prelude.{◌≡◌, ◌⊎◌, ℕ, Bool, true, false, ◌||◌, List, Ok, Err, codes, if◌then◌else◌, ◌++◌}
+use Rattle.std.specs.Prelude.{◌≡◌, ◌⊎◌, ℕ, Bool, true, false, ◌||◌, List, reverse, Ok, Err, codes, if◌then◌else◌, ◌++◌}
 use Rattle.std.specs.List.{list_any}
 use Rattle.std.specs.Io.KnownBytes.{Appends, Keeps}
+use Rattle.ec_core.specs.Acceptance.{IsAccepted}
 use Rattle.ec_text.specs.Puts.{AppendsPrefix}
 use Rattle.ec_machine.specs.declared.command.Command.{Command}
 use Rattle.ec_machine.specs.declared.outcome.Outcome.{Outcome}
@@ -39,13 +40,14 @@ status_for os = if list_any is_memory os then Memory else (if list_any is_cut_sh
 
 -- WHAT THE WORKERS DID
 
--- a report of workers that ran by the programs of the plan, each with so many turns at most; the trace of their run, and the note on
--- how they ended
+-- a report of workers that ran by the programs of the plan, each with so many turns at most; their run, which is accepted, its trace, and
+-- the note on how they ended
 pub record HaveRun (p : Planned) (turns : ℕ) (status : Status) (trace note : List ℕ) : Type 0 where
   pub programs : List (List Command)
   pub lines : AreProgramsOf p programs
   pub report : Report
   pub told : IsReportOf p.heading.setup programs turns report
+  pub accepted : IsAccepted p.heading.setup (reverse report.run.entries)
   pub written : IsTraceUnder p.heading report.run.entries trace
   pub noted : note ≡ outcomes_note p.heading report.outcomes.items
   pub ended : status ≡ status_for report.outcomes.items

@@ -8,6 +8,6 @@ mod running;
 mod simulating;
 mod writing;
 
-pub use laws::simulated_is_read_again;
+pub use laws::{ran_is_read_again, simulated_is_read_again};
 pub use running::run;
 pub use simulating::sim;

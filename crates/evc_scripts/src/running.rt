@@ -84,6 +84,7 @@ fn write_report<W: Write, N: Write>(
 {
     plan.heading.known();
     plan.heading.setup().known();
+    report.run.known();
     let outcomes = report.outcomes.as_slice();
     if write_run(&plan.heading, &report.run, outcomes, out, notes) {
         status_for(outcomes)

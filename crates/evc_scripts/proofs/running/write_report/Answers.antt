@@ -19,11 +19,11 @@ returns-then-write_run g c = λ turns told.
       (record { out = g.W.Write.contents c.write_run.new.out; notes = g.N.Write.contents c.write_run.new.notes.writer; held = c.write_run.new.notes.table }))
     (sym same)
     (told_ends (shown_plan c.args.plan.now) turns (status_for c.args.report.now.outcomes.items) _ _
-    (_, _, have_run c.args.plan.now c.args.report.now turns h told, c.if-write_run.ensures.all h.outline h.is h.declares refl,
+    (_, _, have_run c.args.plan.now c.args.report.now turns h told c.known-3.ensures.accepted, c.if-write_run.ensures.all h.outline h.is h.declares refl,
     subst (λ (os : List Outcome). Puts (g.N.Write.contents c.args.notes.now.writer) c.args.notes.now.table (g.N.Write.contents c.write_run.new.notes.writer) c.write_run.new.notes.table (outcomes_note c.args.plan.now.heading os))
     c.as_slice-outcomes.ensures.value c.if-write_run.ensures.noted))
 
 pub returns-else-write_run : goal.returns-else-write_run
 returns-else-write_run g c = λ turns told.
     let h : HasOutline c.args.plan.now.heading = c.known.ensures.outline c.requires.plan.some in
-    inl (_, _, _, have_run c.args.plan.now c.args.report.now turns h told, c.if-write_run.ensures.front h.outline h.is h.declares refl, c.if-write_run.ensures.noted)
+    inl (_, _, _, have_run c.args.plan.now c.args.report.now turns h told c.known-3.ensures.accepted, c.if-write_run.ensures.front h.outline h.is h.declares refl, c.if-write_run.ensures.noted)

@@ -1,0 +1,5 @@
+use Rattle.evc_scripts.proofs.ReadAgain.{ran_again}
+use Rattle.evc_scripts.proofs.laws.ran_is_read_again.Goals as goal
+
+pub returns : goal.returns
+returns c = ran_again
