@@ -1,7 +1,7 @@
 -- Schedules in the order of time.
-use Rattle.std.proofs.Common.{◌≡◌, ◌≢◌, ◌<◌, ◌≤◌, ◌+◌, ◌⊎◌, inl, inr, ⊎_elim, ℕ, zero, suc, Bool, true, false, ◌==◌, List, [], ◌∷◌, ◌++◌, length, map, reverse, take, Option, Some, None, Result, Ok, Err, cond, refl, sym, ◌∙◌, ap, subst, eq-eqb, append_assoc, append-nil, eqb-true, arith}
+use Rattle.std.proofs.Common.{◌≡◌, ◌<◌, ◌+◌, ⊎_elim, ℕ, zero, suc, Bool, true, false, ◌==◌, List, [], ◌∷◌, ◌++◌, length, map, reverse, take, Option, Some, None, Result, Ok, Err, cond, refl, sym, ◌∙◌, ap, subst, eq-eqb, append_assoc, append-nil, eqb-true, arith}
 use Rattle.std.specs.Prelude.{slice_get}
-use Rattle.std.proofs.lemmas.List.{reverse-append, reverse-reverse, length-reverse, length-map, map-append, take_at, length_push}
+use Rattle.std.proofs.lemmas.List.{reverse-append, reverse-reverse, length-reverse, length-map, map-append, take_at}
 use Rattle.std.proofs.lemmas.Option.{slice_get_within, same_Some}
 use Rattle.ec_count.specs.Tables.{Tables}
 use Rattle.ec_core.specs.declared.act.Act.{Act}
@@ -12,14 +12,14 @@ use Rattle.ec_core.specs.Acceptance.{answer_of}
 use Rattle.ec_core.specs.Counts.{past_at}
 use Rattle.ec_machine.specs.declared.command.Command.{Command}
 use Rattle.ec_machine.specs.declared.outcome.Outcome.{Outcome}
-use Rattle.ec_machine.specs.declared.outcome.Outcome.TheVariants.{Running, Refused}
-use Rattle.ec_machine.specs.Follows.{program_at, Follows}
+use Rattle.ec_machine.specs.declared.outcome.Outcome.TheVariants.{Running}
+use Rattle.ec_machine.specs.Follows.{program_at}
 use Rattle.ec_machine.specs.Runs.{IsRunOf, next_act, outcome_of}
 use Rattle.ec_machine.specs.Steps.{IsRun, own}
 use Rattle.ec_runner.specs.Schedules.{Turn, IsTurn, AreTurns, Plays, HasEnded, with_answer, entries_of, refusal_or, refusal_told, ended_by, outcome_after}
 use Rattle.ec_runner.specs.ScheduleLaws.{made, unrefused, IsMarked, IsPlace, IsRefusedWith, IsHistoryOf}
 use Rattle.ec_runner.proofs.Starting.{get_push}
-use Rattle.ec_runner.proofs.Turning.{none_told, own_mine}
+use Rattle.ec_runner.proofs.Turning.{none_told}
 
 -- LISTS
 

@@ -1,5 +1,5 @@
 -- One more place of a schedule.
-use Rattle.std.proofs.Common.{◌≡◌, ◌≢◌, ◌<◌, ◌+◌, ℕ, Bool, true, false, ◌==◌, List, [], ◌∷◌, ◌++◌, take, map, reverse, get_or, length, Option, Some, None, Result, Ok, Err, cond, refl, sym, ◌∙◌, ap, subst, eqb-true, ne_eqb}
+use Rattle.std.proofs.Common.{◌≡◌, ◌≢◌, ◌<◌, ◌+◌, ℕ, true, false, ◌==◌, List, [], ◌∷◌, take, map, reverse, get_or, length, Some, Result, Ok, Err, cond, refl, sym, ◌∙◌, ap, subst, eqb-true, ne_eqb}
 use Rattle.std.specs.Prelude.{slice_get, slice_set}
 use Rattle.std.proofs.lemmas.Bool.{eqb-false}
 use Rattle.std.proofs.lemmas.List.{reverse-append, take_more}
@@ -18,8 +18,8 @@ use Rattle.ec_machine.specs.Standing.{StandsFor}
 use Rattle.ec_machine.specs.Steps.{own}
 use Rattle.ec_runner.specs.declared.playing.Played.{Played}
 use Rattle.ec_runner.specs.declared.playing.Played.TheVariants as played
-use Rattle.ec_runner.specs.Machines.{IsMachineOf, AreMachines, HasTurn, Takes, HasPlayed, IsPlayed, PlaysOne}
-use Rattle.ec_runner.specs.Schedules.{Turn, with_answer, entries_of, refusal_told, refusal_or, ended_by, outcome_after}
+use Rattle.ec_runner.specs.Machines.{IsMachineOf, AreMachines, Takes, HasPlayed, IsPlayed, PlaysOne}
+use Rattle.ec_runner.specs.Schedules.{Turn, with_answer, entries_of, refusal_told, refusal_or, ended_by}
 
 own_other : (i w : ℕ) (act : Act) (answer : Result Reply Refusal) (past : List Entry) → w ≢ i → own i (with_answer w act answer past) ≡ own i past
 own_other i w act (Ok reply) past other =

@@ -1,5 +1,5 @@
 -- How the run and the machines stand while a schedule is played.
-use Rattle.std.specs.Prelude.{◌≡◌, ◌≢◌, ℕ, List, [], ◌∷◌, reverse, take, map, slice_get, Some, Result, Ok, Err}
+use Rattle.std.specs.Prelude.{◌≡◌, ◌≢◌, ℕ, List, ◌∷◌, reverse, slice_get, Some, Result, Ok, Err}
 use Rattle.ec_count.specs.Tables.{Tables}
 use Rattle.ec_core.specs.Recorded.{Recorded}
 use Rattle.ec_machine.specs.declared.command.Command.{Command}

@@ -1,6 +1,6 @@
 //! Schedules.
 ghost use Rattle.std.specs.Prelude.{◌≡◌, ◌<◌, ℕ, List, [], IfOk, MatchResult, Some, Vec, length, map, slice_get};
-ghost use Rattle.std.specs.List.{All, AllByRecursion};
+ghost use Rattle.std.specs.List.{All};
 ghost use Rattle.std.specs.declared.alloc.Global.{Global};
 ghost use Rattle.ec_core.specs.declared.act.Entry.{Entry};
 ghost use Rattle.ec_machine.specs.declared.command.Command.{Command};
@@ -103,7 +103,7 @@ fn play(
 /// program has ended. The time is linear in the number of places.
 pub fn simulate(alloc: Global, plan: &Plan) -> Result<Report, SimFault>
     requires programs { length plan.now.programs.items ≡ plan.now.heading.setup.workers }
-    requires schedule { AllByRecursion (λ w. w < plan.now.heading.setup.workers) plan.now.schedule.items }
+    requires schedule { All (λ w. w < plan.now.heading.setup.workers) plan.now.schedule.items }
     ensures { MatchResult result
         (IsReport plan.now.heading.setup plan.now.programs.items plan.now.schedule.items)
         (IsSimFault plan.now.heading.setup plan.now.programs.items plan.now.schedule.items) }

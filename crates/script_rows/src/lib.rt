@@ -9,3 +9,5 @@ mod ending_tests;
 mod fault_tests;
 #[cfg(test)]
 mod plan_tests;
+#[cfg(test)]
+mod schedule_tests;

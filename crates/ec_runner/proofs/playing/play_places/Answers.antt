@@ -1,4 +1,4 @@
-use Rattle.std.proofs.Common.{[], ◌∙◌, sym, ap, subst, Some, take, arith}
+use Rattle.std.proofs.Common.{[], ◌∙◌, sym, ap, subst, Some, arith}
 use Rattle.std.proofs.lemmas.List.{take_all}
 use Rattle.std.proofs.lemmas.Option.{slice_get-get_or}
 use Rattle.ec_runner.specs.Machines.{IsPlayed}

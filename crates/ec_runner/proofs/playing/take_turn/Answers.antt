@@ -1,7 +1,4 @@
 use Rattle.std.proofs.Common.{sym}
-use Rattle.ec_machine.specs.Follows.{program_at}
-use Rattle.ec_machine.specs.Steps.{own}
-use Rattle.ec_runner.specs.Schedules.{entries_of}
 use Rattle.ec_runner.proofs.Turning.{not_set, turn_made, turn_refused}
 use Rattle.ec_runner.proofs.playing.take_turn.Goals as goal
 

@@ -1,7 +1,6 @@
-use Rattle.std.proofs.Common.{sym, ap, subst, MatchResult}
+use Rattle.std.proofs.Common.{ap, subst, MatchResult}
 use Rattle.ec_count.specs.Tables.{Tables}
 use Rattle.ec_core.specs.Recorded.{Recorded}
-use Rattle.ec_runner.specs.Machines.{AreMachines}
 use Rattle.ec_runner.specs.Reported.{IsReport, IsSimFault}
 use Rattle.ec_runner.proofs.schedule.play.Goals as goal
 
