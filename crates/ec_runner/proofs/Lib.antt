@@ -7,3 +7,4 @@ pub mod Starting
 pub mod Logging
 pub mod Reporting
 pub mod Telling
+pub mod Interleaving

@@ -7,3 +7,4 @@ pub mod Walks
 pub mod Schedules
 pub mod Reported
 pub mod Machines
+pub mod RunLaws

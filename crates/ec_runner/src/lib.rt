@@ -5,6 +5,7 @@ mod board;
 mod caught;
 mod ending;
 mod gate;
+mod laws;
 mod line;
 mod logs;
 mod mismatch;
@@ -24,6 +25,7 @@ mod workers;
 
 pub use board::{Board, BoardFault, Parked};
 pub use gate::{Gate, OpenGate};
+pub use laws::{outcomes_are_theirs, reports_interleave};
 pub use report::{Report, SimFault};
 pub use run_fault::RunFault;
 pub use schedule::simulate;
