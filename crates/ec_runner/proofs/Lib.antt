@@ -8,3 +8,4 @@ pub mod Logging
 pub mod Reporting
 pub mod InOrder
 pub mod Telling
+pub mod Interleaving

@@ -1,5 +1,5 @@
 -- One step of the walk over a run and the logs of its workers.
-use Rattle.std.proofs.Common.{◌≡◌, ◌≢◌, ℕ, ◌+◌, ◌<◌, ◌≤◌, Bool, true, false, ◌==◌, inl, inr, List, [], ◌∷◌, ◌++◌, length, reverse, take, All, Option, Some, None, IfNone, cond, slice_get, slice_index, slice_set, get_or, refl, ap, sym, subst, ◌∙◌, arith}
+use Rattle.std.proofs.Common.{◌≡◌, ◌≢◌, ℕ, ◌+◌, ◌<◌, true, false, ◌==◌, inl, inr, List, [], ◌∷◌, ◌++◌, length, reverse, take, All, Option, Some, None, IfNone, cond, slice_get, slice_index, slice_set, get_or, refl, ap, sym, subst, ◌∙◌, arith}
 use Rattle.std.proofs.lemmas.Grind.{common_steps}
 use Rattle.std.proofs.lemmas.Bool.{cases_eq, eqb-true, eq-eqb}
 use Rattle.std.proofs.lemmas.List.{take_more}

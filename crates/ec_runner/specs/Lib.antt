@@ -8,3 +8,4 @@ pub mod Schedules
 pub mod Reported
 pub mod Machines
 pub mod ScheduleLaws
+pub mod RunLaws

@@ -1,5 +1,6 @@
 //! What the definitions mean: each function says a law and does nothing.
-ghost use Rattle.ec_runner.specs.ScheduleLaws.{SchedulesArePlayedInOrder, SchedulesHaveOneRun, EndedIsNotPlayed};
+ghost use Rattle.ec_runner.specs.RunLaws.{OutcomesAreTheirs, ReportsInterleave};
+ghost use Rattle.ec_runner.specs.ScheduleLaws.{EndedIsNotPlayed, SchedulesArePlayedInOrder, SchedulesHaveOneRun};
 
 /// In the order of time: the workers of a history of a schedule are those of the schedule without
 /// the places that were refused; the entries of each are a run of its program; at each place its
@@ -17,4 +18,16 @@ pub fn schedules_have_one_run()
 /// A schedule that names a worker that has ended has none.
 pub fn ended_is_not_played()
     ensures { EndedIsNotPlayed }
+{}
+
+/// In a report of workers on threads each entry of the run stands in the log of its worker, behind
+/// as many as the worker had made before. So the run is the logs, interleaved, and nothing else.
+pub fn reports_interleave()
+    ensures { ReportsInterleave }
+{}
+
+/// In a report of workers on threads no outcome is Running, and where a program has ended after its
+/// worker's log the outcome says how.
+pub fn outcomes_are_theirs()
+    ensures { OutcomesAreTheirs }
 {}

@@ -46,8 +46,16 @@ fn exchanges(alloc: Global) -> Result<Vec<u8>, Fail> {
         "buffer B 4 produce w0 w1 w2 w3 w4 w5 w6 w7 consume w8 w9 w10 w11 w12 w13 w14 w15",
     ];
     add_lines(&mut text, &head)?;
-    add_blocks(&mut text, &FIRST, &["repeat 100", "produce B 7", "end", "end"])?;
-    add_blocks(&mut text, &SECOND, &["repeat 100", "consume B", "end", "end"])?;
+    add_blocks(
+        &mut text,
+        &FIRST,
+        &["repeat 100", "produce B 7", "end", "end"],
+    )?;
+    add_blocks(
+        &mut text,
+        &SECOND,
+        &["repeat 100", "consume B", "end", "end"],
+    )?;
     Ok(text)
 }
 

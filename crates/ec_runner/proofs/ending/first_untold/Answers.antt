@@ -1,4 +1,4 @@
-use Rattle.std.proofs.Common.{◌≡◌, ◌<◌, ℕ, List, length, arith, inl, inr, sym, ◌∙◌, subst, []}
+use Rattle.std.proofs.Common.{◌≡◌, ℕ, List, arith, inl, inr, sym, ◌∙◌, subst, []}
 use Rattle.std.proofs.lemmas.Bool.{cases_eq}
 use Rattle.std.proofs.lemmas.Option.{slice_get_within, get_or_from_slice_get}
 use Rattle.ec_machine.specs.declared.command.Command.{Command}

@@ -1,5 +1,4 @@
-use Rattle.std.proofs.Common.{◌≡◌, sym, ◌∙◌, ap, List, ◌++◌, subst, Option, Some, None, IfNone}
-use Rattle.ec_core.specs.declared.act.Entry.{Entry}
+use Rattle.std.proofs.Common.{◌≡◌, sym, ◌∙◌, ap, ◌++◌, subst}
 use Rattle.ec_machine.proofs.OwnSteps.{order_more}
 use Rattle.ec_runner.specs.Walks.{AreLogsOf}
 use Rattle.ec_runner.proofs.Walking.{all_walked, append_none, then_none}

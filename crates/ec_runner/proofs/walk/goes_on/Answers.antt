@@ -1,7 +1,5 @@
-use Rattle.std.proofs.Common.{◌≡◌, ◌<◌, ℕ, List, ◌∷◌, ◌++◌, [], Some, slice_get, slice_set, slice_index, sym, ◌∙◌, ap, subst, ◌+◌}
+use Rattle.std.proofs.Common.{◌≡◌, ◌<◌, ℕ, ◌∷◌, ◌++◌, [], Some, slice_get, slice_set, slice_index, sym, ◌∙◌, ap, subst, ◌+◌}
 use Rattle.std.proofs.lemmas.Option.{slice_get-get_or}
-use Rattle.ec_core.specs.declared.act.Entry.{Entry}
-use Rattle.ec_runner.specs.declared.told.Told.{Told}
 use Rattle.ec_runner.specs.Walks.{AreWalked}
 use Rattle.ec_runner.proofs.Walking.{walks}
 use Rattle.ec_runner.proofs.walk.goes_on.Goals as goal
