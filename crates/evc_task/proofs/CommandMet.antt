@@ -21,15 +21,15 @@ use Rattle.clap.specs.declared.error.kind.ErrorKind.TheVariants as kind
 use Rattle.clap.proofs.WalkLemmas.{both}
 use Rattle.evc_task.specs.CommandLine.{IsOneOf, command_names, evc_app}
 
-not_empty : (k : ErrorKind) (ks : Kinds) → k ∷ ks ≡ [] → ⊥
+pub not_empty : (k : ErrorKind) (ks : Kinds) → k ∷ ks ≡ [] → ⊥
 not_empty k ks e = let bad : length (k ∷ ks) ≡ 0 = ap length e in absurd (omega arith)
 
 -- a step that finds no fault
-first_none : (a b : Kinds) → or_else a b ≡ [] → a ≡ []
+pub first_none : (a b : Kinds) → or_else a b ≡ [] → a ≡ []
 first_none [] b e = refl
 first_none (k ∷ ks) b e = absurd (not_empty k ks e)
 
-second_none : (a b : Kinds) → or_else a b ≡ [] → b ≡ []
+pub second_none : (a b : Kinds) → or_else a b ≡ [] → b ≡ []
 second_none [] b e = e
 second_none (k ∷ ks) b e = absurd (not_empty k ks e)
 
@@ -178,7 +178,7 @@ level_parts s names h words has_command below e =
     (first_none walks _ e, second_none defaults checks (second_none settles _ (second_none below _ rest)))
 
 -- `evc` as clap has built it
-abbrev ready : App
+abbrev pub ready : App
 ready = built evc_app
 
 -- where a walk without `help` stops, there is one of the program's commands

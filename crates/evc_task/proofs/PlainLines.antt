@@ -6,9 +6,10 @@ use Rattle.evc_task.specs.CommandLine.{ReadsPlainLines}
 pub plain_lines_are_read : ReadsPlainLines
 unfolding clap_on_literals
 plain_lines_are_read = record {
-  check = λ program. (refl, refl);
-  audit = λ program. (refl, refl);
-  sim = λ program. (refl, refl);
+  check = λ program. (refl, (refl, tt));
+  audit = λ program. (refl, (refl, tt));
+  sim = λ program. (refl, (refl, tt));
+  run = λ program. (refl, (refl, refl));
   help = λ program. refl;
   none = λ program. refl;
   unknown = λ program. refl;

@@ -9,4 +9,7 @@ pub enum Task {
     Audit,
     /// `sim`: read a script, and write the trace of what its workers do by its schedule.
     Sim,
+    /// `run`: read a script, run its workers on threads, each for at most so many turns, and write
+    /// the trace of what they did.
+    Run(u64),
 }

@@ -11,14 +11,15 @@ sequencers, alone or as parts of buffers, databases and semaphores, and then has
 line for each step that a worker made, with its reply. `check` and `audit` read one.
 
 A script declares the same, and then has a block of commands for each worker. `sim`
-reads one, and writes a trace that `check` and `audit` read.";
+and `run` read one, and write a trace that `check` and `audit` read.";
 
 pub(crate) const AFTER_HELP: &str = "Exit status:
   0  done
   1  the trace or script was refused, or the workers of a trace break the rules of a group
   2  the command line was wrong
-  3  a read or a write failed
+  3  a read or a write failed, or a thread could not be started
   4  memory ran out
+  5  a worker was stopped or out of turns
 
 Examples:
   bin/evc check < examples/three-advances.trace
@@ -62,3 +63,20 @@ each worker's program ended, as `outcome a finished` or `outcome a running`. Whe
 script or its schedule is refused, nothing is written but a note, which says which
 line it is and what kind of fault it has, or which turn belongs to a worker whose
 program has ended. docs/FORMATS.md has the format.";
+
+pub(crate) const RUN_ABOUT: &str =
+    "Runs a script's workers on threads, and writes the trace of what they did";
+
+pub(crate) const RUN_LONG_ABOUT: &str =
+    "Runs a script's workers on threads, and writes the trace of what they did.
+
+The script is read from standard input, as by `sim`; its lines that say whose turn it
+is are not used. Each worker runs on a thread of its own, and sleeps while an await of
+its own falls short. The trace goes to standard output. Notes on standard error say how
+each worker's program ended, as `outcome a finished`: it is stopped where all who are
+left wait for one another, and out of turns where it has made as many steps as `--turns`
+gives it. Where the script is refused, nothing is written but a note, which says which
+line it is and what kind of fault it has. docs/FORMATS.md has the format.";
+
+pub(crate) const TURNS: &str =
+    "How many steps each worker may make, from 1 to 1000000; 10000 where it is left out";

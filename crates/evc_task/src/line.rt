@@ -1,15 +1,21 @@
 //! Reads the command line.
 ghost use Rattle.std.specs.Prelude.{◌≡◌, IfNone, IfOk, IfSome, codes, false};
-ghost use Rattle.clap.specs.Words.{FailsBy, app_of, kind_of, new_app, subcommand_of, subcommand_rows_of};
+ghost use Rattle.clap.specs.Words.{FailsBy, app_of, first_of, found_of, kind_of, new_app};
+ghost use Rattle.clap.specs.Words.{rows_of, rule_of, subcommand_of, subcommand_rows_of};
 ghost use Rattle.clap.specs.declared.builder.command.Command.TheViews.{out-Command as fields_of};
-ghost use Rattle.evc_task.specs.CommandLine.{IsOneOf, Names, ReadsPlainLines, command_names, evc_app};
-ghost use Rattle.evc_task.specs.CommandLine.{faults_in, name_of, status_by, texts_of};
+ghost use Rattle.evc_task.specs.CommandLine.{IsOneOf, Names, ReadsPlainLines, ReadsTurns, command_names, evc_app};
+ghost use Rattle.evc_task.specs.CommandLine.{faults_in, name_of, status_by, texts_of, trace_app, turns_text};
+ghost use Rattle.evc_task.specs.Turns.{HasTurnsInRange, HasTurnsOf, IsInRange, IsTurnsOf, PassTurns};
+ghost use Rattle.evc_task.specs.Turns.{run_app, turns_rule};
 
 use crate::choice::Task;
 use crate::help;
 use clap::error::ErrorKind;
-use clap::{ArgMatches, Command, Error};
+use clap::{Arg, ArgAction, ArgMatches, Command, Error, value_parser};
 use std::alloc::{AllocError, Global};
+
+// The turns of each worker of `run`, where the command line doesn't say.
+const DEFAULT_TURNS: u64 = 10_000;
 
 fn check_command<'a>(alloc: Global) -> Command<'a>
     ensures app { app_of result ≡ new_app (codes "check") }
@@ -38,20 +44,51 @@ fn sim_command<'a>(alloc: Global) -> Command<'a>
         .long_about(help::SIM_LONG_ABOUT)
 }
 
-fn evc_command<'a>(alloc: Global) -> Result<Command<'a>, AllocError>
-    ensures { IfOk result (λ c. app_of c ≡ evc_app) }
+fn turns_argument<'a>(alloc: Global) -> Arg<'a>
+    ensures rule { rule_of result ≡ turns_rule }
+    ensures local { result.global ≡ false }
+{
+    Arg::new(alloc, "turns")
+        .long("turns")
+        .value_name("N")
+        .help(help::TURNS)
+        .action(ArgAction::Set)
+        .value_parser(value_parser!(u64).range(1..=1_000_000))
+}
+
+fn run_command<'a>(alloc: Global) -> Result<Command<'a>, AllocError>
+    ensures app { IfOk result (λ c. app_of c ≡ run_app) }
+    ensures local { IfOk result (λ c. (fields_of c).has_globals ≡ false) }
+{
+    let turns = turns_argument(alloc);
+    Command::new(alloc, "run")
+        .about(help::RUN_ABOUT)
+        .long_about(help::RUN_LONG_ABOUT)
+        .arg(turns)
+}
+
+// The program with the commands that read traces.
+fn trace_command<'a>(alloc: Global) -> Result<Command<'a>, AllocError>
+    ensures { IfOk result (λ c. app_of c ≡ trace_app) }
 {
     let check = check_command(alloc);
     let audit = audit_command(alloc);
-    let sim = sim_command(alloc);
     Command::new(alloc, "evc")
         .about(help::ABOUT)
         .long_about(help::LONG_ABOUT)
         .after_help(help::AFTER_HELP)
         .subcommand_required(true)
         .subcommand(check)?
-        .subcommand(audit)?
-        .subcommand(sim)
+        .subcommand(audit)
+}
+
+// And with those that read scripts.
+fn evc_command<'a>(alloc: Global) -> Result<Command<'a>, AllocError>
+    ensures { IfOk result (λ c. app_of c ≡ evc_app) }
+{
+    let sim = sim_command(alloc);
+    let run = run_command(alloc)?;
+    trace_command(alloc)?.subcommand(sim)?.subcommand(run)
 }
 
 // What clap finds in the words.
@@ -62,14 +99,27 @@ fn matches_in<'a>(alloc: Global, words: &'a [String]) -> Result<ArgMatches<'a>, 
     evc_command(alloc)?.try_get_matches_from(words)
 }
 
-fn task_named(name: &str) -> Option<Task>
+// The number given for `--turns`, among what clap found behind `run`.
+fn turns_given(found: &ArgMatches<'_>) -> u64
+    requires { PassTurns (rows_of (found_of found.now)) }
+    ensures given { IsTurnsOf (first_of (codes "turns") (rows_of (found_of found.now))) result }
+    ensures range { IsInRange result }
+{
+    found.get_one::<u64>("turns").unwrap_or(DEFAULT_TURNS)
+}
+
+fn task_named(name: &str, found: &ArgMatches<'_>) -> Option<Task>
+    requires { name.now ≡ codes "run" → PassTurns (rows_of (found_of found.now)) }
     ensures found { IfSome result (λ t. name_of t ≡ name.now) }
+    ensures turns { IfSome result (HasTurnsOf (first_of (codes "turns") (rows_of (found_of found.now)))) }
+    ensures range { IfSome result HasTurnsInRange }
     ensures unknown { IfNone result (¬ IsOneOf command_names name.now) }
 {
     match name {
         "check" => Some(Task::Check),
         "audit" => Some(Task::Audit),
         "sim" => Some(Task::Sim),
+        "run" => Some(Task::Run(turns_given(found))),
         _ => None,
     }
 }
@@ -80,13 +130,15 @@ fn task_named(name: &str) -> Option<Task>
 /// that they ask for. `Error::print` writes it where it belongs.
 pub fn task(alloc: Global, words: &[String]) -> Result<Task, Error>
     ensures names { IfOk result (λ t. Names (texts_of words.now) t) }
+    ensures turns { IfOk result (λ t. HasTurnsOf (turns_text (texts_of words.now)) t) }
+    ensures range { IfOk result HasTurnsInRange }
     ensures faults { FailsBy (faults_in (texts_of words.now)) result }
 {
     let matches = matches_in(alloc, words)?;
-    let Some(name) = matches.subcommand_name() else {
+    let Some((name, found)) = matches.subcommand() else {
         unreachable!()
     };
-    let Some(task) = task_named(name) else {
+    let Some(task) = task_named(name, found) else {
         unreachable!()
     };
     Ok(task)
@@ -107,4 +159,11 @@ pub fn status_of(error: &Error) -> u8
 #[tactic(auto, using(crate::proofs::PlainLines::plain_lines_are_read))]
 pub fn plain_lines()
     ensures { ReadsPlainLines }
+{}
+
+/// The law that `run --turns N` is right for exactly the numbers from 1 to 1000000, and asks for
+/// that many turns.
+#[tactic(auto, using(crate::proofs::AnyTurns::turns_are_read))]
+pub fn turns_lines()
+    ensures { ReadsTurns }
 {}

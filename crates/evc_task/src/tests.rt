@@ -25,3 +25,17 @@ fn the_plainest_command_lines(rt: HostRuntime) -> Result<(), Fail> {
     assert!(rt; answer(alloc, &["evc", "frobnicate"])? == (None, 2));
     Ok(())
 }
+
+#[test]
+fn the_turns_of_run(rt: HostRuntime) -> Result<(), Fail> {
+    let alloc = rt.alloc();
+    assert!(rt; answer(alloc, &["evc", "run"])? == (Some(Task::Run(10000)), 0));
+    assert!(rt; answer(alloc, &["evc", "run", "--turns", "7"])? == (Some(Task::Run(7)), 0));
+    assert!(rt;
+        answer(alloc, &["evc", "run", "--turns=1000000"])? == (Some(Task::Run(1000000)), 0)
+    );
+    assert!(rt; answer(alloc, &["evc", "run", "--turns", "0"])? == (None, 2));
+    assert!(rt; answer(alloc, &["evc", "run", "--turns", "1000001"])? == (None, 2));
+    assert!(rt; answer(alloc, &["evc", "sim", "--turns", "7"])? == (None, 2));
+    Ok(())
+}
