@@ -25,7 +25,11 @@ fn parses(alloc: Global, text: &[u8]) -> bool {
 fn parse_input(rt: &HostRuntime) -> io::Result<ExitCode> {
     let mut text = Vec::new(rt.alloc());
     rt.stdin().read_to_end(&mut text)?;
-    Ok(ExitCode::from(if parses(rt.alloc(), text.as_slice()) { 0 } else { 1 }))
+    Ok(ExitCode::from(if parses(rt.alloc(), text.as_slice()) {
+        0
+    } else {
+        1
+    }))
 }
 
 fn copy_trace(rt: &HostRuntime, writes: bool) -> io::Result<ExitCode> {

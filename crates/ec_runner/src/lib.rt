@@ -25,8 +25,10 @@ mod workers;
 
 pub use board::{Board, BoardFault, Parked};
 pub use gate::{Gate, OpenGate};
-pub use laws::{ended_is_not_played, schedules_are_played_in_order, schedules_have_one_run};
-pub use laws::{outcomes_are_theirs, reports_interleave};
+pub use laws::{
+    ended_is_not_played, outcomes_are_theirs, reports_interleave, schedules_are_played_in_order,
+    schedules_have_one_run,
+};
 pub use report::{Report, SimFault};
 pub use run_fault::RunFault;
 pub use schedule::simulate;

@@ -30,7 +30,14 @@ fn main(rt: HostRuntime) -> ExitCode {
     };
     match task(alloc, words.as_slice()) {
         Ok(task) => {
-            let status = engine(&rt, alloc, task, &mut rt.stdin(), &mut rt.stdout(), &mut notes);
+            let status = engine(
+                &rt,
+                alloc,
+                task,
+                &mut rt.stdin(),
+                &mut rt.stdout(),
+                &mut notes,
+            );
             ExitCode::from(status.code())
         }
         Err(error) => {

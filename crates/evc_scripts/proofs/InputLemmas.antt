@@ -39,7 +39,7 @@ enough_read max room n (Some o) (Some m) (Some r) text buf full within small a b
     let rest : List ℕ = drop room (take n buf) in
     let parts : front ++ rest ≡ take n buf = ap (λ x. x ++ rest) (sym (take-take room n buf within)) ∙ take-append-drop room (take n buf) in
     let whole : o ≡ (text ++ front) ++ (rest ++ r) =
-        a ∙ ap (λ t. text ++ t) (b ∙ ap (λ t. t ++ r) (sym parts) ∙ append_assoc front rest r) ∙ sym (append_assoc text front (rest ++ r)) in
+    a ∙ ap (λ t. text ++ t) (b ∙ ap (λ t. t ++ r) (sym parts) ∙ append_assoc front rest r) ∙ sym (append_assoc text front (rest ++ r)) in
     let len : length (text ++ front) ≡ max + 1 =
-        length-append text front ∙ ap (λ k. length text + k) (length-take-le room buf (omega (arith, within, small))) ∙ full in
+    length-append text front ∙ ap (λ k. length text + k) (length-take-le room buf (omega (arith, within, small))) ∙ full in
     sym (take_at (text ++ front) (rest ++ r) (max + 1) len) ∙ ap (λ t. take (max + 1) t) (sym whole)

@@ -60,8 +60,8 @@ says bytes p told =
 pub refused_at : (bytes : List ℕ) (n : ℕ) (kind : Kind) → outcome (looked_at SCRIPT_MAX bytes) ≡ Err (n, kind) → RefusedAt bytes n kind
 refused_at bytes n kind told = record {
   none = λ p s.
-    let read : outcome (looked_at SCRIPT_MAX bytes) ≡ Ok p = ap outcome (looked_at_all SCRIPT_MAX bytes s.within) ∙ script_is_read bytes p s in
-    (let never : Ok p ≡ Err (n, kind) = sym read ∙ told in cc);
+      let read : outcome (looked_at SCRIPT_MAX bytes) ≡ Ok p = ap outcome (looked_at_all SCRIPT_MAX bytes s.within) ∙ script_is_read bytes p s in
+      (let never : Ok p ≡ Err (n, kind) = sym read ∙ told in cc);
   told = told;
 }
 

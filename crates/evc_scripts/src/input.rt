@@ -29,11 +29,7 @@ fn read_piece<R: Read>(reader: &mut R, table: &mut ArrayVec<u8, 8192>) -> io::Re
 }
 
 /// Keeps the front of the table.
-fn keep_front(
-    text: &mut Vec<u8>,
-    table: &ArrayVec<u8, 8192>,
-    n: usize,
-) -> Result<(), AllocError>
+fn keep_front(text: &mut Vec<u8>, table: &ArrayVec<u8, 8192>, n: usize) -> Result<(), AllocError>
     requires { n ≤ length table.now.items }
     ensures { OnOk result (text.new.items ≡ text.old.items ++ take n table.now.items) }
 {

@@ -85,11 +85,7 @@ fn put_outcomes<W: Write>(
 }
 
 /// Notes how the programs of the workers have ended, and writes it.
-pub(crate) fn note_outcomes<N: Write>(
-    notes: &mut Notes<N>,
-    heading: &Heading,
-    outcomes: &[Outcome],
-)
+pub(crate) fn note_outcomes<N: Write>(notes: &mut Notes<N>, heading: &Heading, outcomes: &[Outcome])
     requires { length outcomes.now ≤ 16 }
     ensures { Puts (N.contents notes.old.writer) notes.old.table (N.contents notes.new.writer) notes.new.table (outcomes_note heading.now outcomes.now) }
 {

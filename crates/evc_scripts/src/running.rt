@@ -30,9 +30,7 @@ fn has_memory(outcomes: &[Outcome]) -> bool
 fn has_cut_short(outcomes: &[Outcome]) -> bool
     ensures { result ≡ list_any is_cut_short outcomes.now }
 {
-    outcomes
-        .iter()
-        .any(|outcome| matches!(outcome, Outcome::Stopped | Outcome::OutOfTurns))
+    outcomes.iter().any(|outcome| matches!(outcome, Outcome::Stopped | Outcome::OutOfTurns))
 }
 
 /// How the command ends where the trace and the outcomes were written.

@@ -33,7 +33,7 @@ loop-n-preserved g c =
     let more = c.in-Ok-keep_front-2.ensures in
     let small : length (take c.in-Ok.n c.read_piece.new.table.items) ≡ c.in-Ok.n = length-take-le c.in-Ok.n c.read_piece.new.table.items b.bound.0 in
     let len : length c.keep_front-in-loop-n.new.text.items ≡ length c.loop-n.text.items + c.in-Ok.n =
-        ap length more ∙ length-append c.loop-n.text.items (take c.in-Ok.n c.read_piece.new.table.items) ∙ ap (λ k. length c.loop-n.text.items + k) small in record {
+    ap length more ∙ length-append c.loop-n.text.items (take c.in-Ok.n c.read_piece.new.table.items) ∙ ap (λ k. length c.loop-n.text.items + k) small in record {
       within = omega (arith, len, c.if-n-room.false, c.len.ensures);
       table = search rules;
       stands = rw more (consumes_on _ (g.R.Read.remaining c.loop-n.reader) (g.R.Read.remaining c.read_piece.new.reader) c.loop-n.text.items (take c.in-Ok.n c.read_piece.new.table.items) c.loop-n.invariant.stands b.bytes.0);

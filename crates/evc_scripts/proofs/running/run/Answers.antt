@@ -10,6 +10,6 @@ returns-in-Ok g c =
     (record { out = g.W.Write.contents c.run_text.new.out; notes = g.N.Write.contents c.run_text.new.notes.writer; held = c.run_text.new.notes.table })
     c.in-Ok.ensures
     (subst (λ (text : List ℕ). TextRuns text c.args.turns c.run_text.result
-      (record { out = g.W.Write.contents c.args.out.now; notes = g.N.Write.contents c.args.notes.now.writer; held = c.args.notes.now.table })
-      (record { out = g.W.Write.contents c.run_text.new.out; notes = g.N.Write.contents c.run_text.new.notes.writer; held = c.run_text.new.notes.table }))
+    (record { out = g.W.Write.contents c.args.out.now; notes = g.N.Write.contents c.args.notes.now.writer; held = c.args.notes.now.table })
+    (record { out = g.W.Write.contents c.run_text.new.out; notes = g.N.Write.contents c.run_text.new.notes.writer; held = c.run_text.new.notes.table }))
     c.as_slice.ensures.value c.run_text.ensures)

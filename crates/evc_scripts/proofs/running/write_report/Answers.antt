@@ -15,13 +15,17 @@ returns-then-write_run g c = λ turns told.
     let h : HasOutline c.args.plan.now.heading = c.known.ensures.outline c.requires.plan.some in
     let same : c.status_for.result ≡ status_for c.args.report.now.outcomes.items = c.status_for.ensures ∙ ap status_for c.as_slice-outcomes.ensures.value in
     subst (λ (s : Status). RunEnds (shown_plan c.args.plan.now) turns s
-      (record { out = g.W.Write.contents c.args.out.now; notes = g.N.Write.contents c.args.notes.now.writer; held = c.args.notes.now.table })
-      (record { out = g.W.Write.contents c.write_run.new.out; notes = g.N.Write.contents c.write_run.new.notes.writer; held = c.write_run.new.notes.table }))
+    (record { out = g.W.Write.contents c.args.out.now; notes = g.N.Write.contents c.args.notes.now.writer; held = c.args.notes.now.table })
+    (record { out = g.W.Write.contents c.write_run.new.out; notes = g.N.Write.contents c.write_run.new.notes.writer; held = c.write_run.new.notes.table }))
     (sym same)
-    (told_ends (shown_plan c.args.plan.now) turns (status_for c.args.report.now.outcomes.items) _ _
-    (_, _, have_run c.args.plan.now c.args.report.now turns h told c.known-3.ensures.accepted, c.if-write_run.ensures.all h.outline h.is h.declares refl,
-    subst (λ (os : List Outcome). Puts (g.N.Write.contents c.args.notes.now.writer) c.args.notes.now.table (g.N.Write.contents c.write_run.new.notes.writer) c.write_run.new.notes.table (outcomes_note c.args.plan.now.heading os))
-    c.as_slice-outcomes.ensures.value c.if-write_run.ensures.noted))
+    (told_ends (shown_plan c.args.plan.now) turns (status_for c.args.report.now.outcomes.items) _ _ (
+      _,
+      _,
+      have_run c.args.plan.now c.args.report.now turns h told c.known-3.ensures.accepted,
+      c.if-write_run.ensures.all h.outline h.is h.declares refl,
+      subst (λ (os : List Outcome). Puts (g.N.Write.contents c.args.notes.now.writer) c.args.notes.now.table (g.N.Write.contents c.write_run.new.notes.writer) c.write_run.new.notes.table (outcomes_note c.args.plan.now.heading os))
+          c.as_slice-outcomes.ensures.value c.if-write_run.ensures.noted,
+    ))
 
 pub returns-else-write_run : goal.returns-else-write_run
 returns-else-write_run g c = λ turns told.

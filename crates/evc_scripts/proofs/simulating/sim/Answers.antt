@@ -10,6 +10,6 @@ returns-in-Ok g c =
     (record { out = g.W.Write.contents c.sim_text.new.out; notes = g.N.Write.contents c.sim_text.new.notes.writer; held = c.sim_text.new.notes.table })
     c.in-Ok.ensures
     (subst (λ (text : List ℕ). TextEnds text c.sim_text.result
-      (record { out = g.W.Write.contents c.args.out.now; notes = g.N.Write.contents c.args.notes.now.writer; held = c.args.notes.now.table })
-      (record { out = g.W.Write.contents c.sim_text.new.out; notes = g.N.Write.contents c.sim_text.new.notes.writer; held = c.sim_text.new.notes.table }))
+    (record { out = g.W.Write.contents c.args.out.now; notes = g.N.Write.contents c.args.notes.now.writer; held = c.args.notes.now.table })
+    (record { out = g.W.Write.contents c.sim_text.new.out; notes = g.N.Write.contents c.sim_text.new.notes.writer; held = c.sim_text.new.notes.table }))
     c.as_slice.ensures.value c.sim_text.ensures)

@@ -8,10 +8,14 @@ use Rattle.evc_scripts.proofs.simulating.write_report.Goals as goal
 
 pub returns-then-write_run : goal.returns-then-write_run
 returns-then-write_run g c =
-    let h : HasOutline c.args.plan.now.heading = c.known.ensures.outline c.requires.plan.some in
-    (_, _, is_played c.args.plan.now c.args.report.now h c.requires.report, c.if-write_run.ensures.all h.outline h.is h.declares refl,
-    subst (λ (os : List Outcome). Puts (g.N.Write.contents c.args.notes.now.writer) c.args.notes.now.table (g.N.Write.contents c.write_run.new.notes.writer) c.write_run.new.notes.table (outcomes_note c.args.plan.now.heading os))
-    c.as_slice-outcomes.ensures.value c.if-write_run.ensures.noted)
+    let h : HasOutline c.args.plan.now.heading = c.known.ensures.outline c.requires.plan.some in (
+      _,
+      _,
+      is_played c.args.plan.now c.args.report.now h c.requires.report,
+      c.if-write_run.ensures.all h.outline h.is h.declares refl,
+      subst (λ (os : List Outcome). Puts (g.N.Write.contents c.args.notes.now.writer) c.args.notes.now.table (g.N.Write.contents c.write_run.new.notes.writer) c.write_run.new.notes.table (outcomes_note c.args.plan.now.heading os))
+          c.as_slice-outcomes.ensures.value c.if-write_run.ensures.noted,
+    )
 
 pub returns-else-write_run : goal.returns-else-write_run
 returns-else-write_run g c =
