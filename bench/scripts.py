@@ -74,3 +74,14 @@ def write_script(path, kind):
     with open(path, "w", encoding="ascii", newline="\n") as file:
         file.write(text_of(script))
     return text_of(trace)
+
+
+def write_advances(path, workers, times):
+    """Writes a script whose workers advance one eventcount, each so often, and nothing else."""
+    names = [f"w{it}" for it in range(workers)]
+    everybody = " ".join(names)
+    script = ["evc-script 1", "limit 4294967295", f"workers {everybody}", f"eventcount E signal {everybody}"]
+    for name in names:
+        script += block(name, [f"repeat {times}", "advance E", "end"])
+    with open(path, "w", encoding="ascii", newline="\n") as file:
+        file.write(text_of(script))
