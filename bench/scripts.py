@@ -19,8 +19,9 @@ def block(worker, commands):
 
 
 def many_names():
-    """16 workers, each with as many commands as it may have, of one step each, in an order of turns drawn at random."""
-    workers = list("abcdefghijklmnop")
+    """16 workers, each with as many commands as it may have, of one step each, in an order of turns drawn at random.
+    (`p` is a word of scripts, and no name.)"""
+    workers = list("abcdefghijklmnoq")
     draw = random.Random(1)
     all_of_them = " ".join(workers)
     declared = [
