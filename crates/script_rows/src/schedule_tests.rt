@@ -58,8 +58,8 @@ fn played(alloc: Global, lines: &[&str]) -> Result<Result<Report, SimFault>, Fai
 /// What comes of these lines with one more.
 fn played_with(
     alloc: Global,
-    lines: &[&str],
-    last: &str,
+    lines: &[&'static str],
+    last: &'static str,
 ) -> Result<Result<Report, SimFault>, Fail> {
     let mut all = Vec::from_slice(alloc, lines)?;
     all.push(last)?;
@@ -184,7 +184,11 @@ fn disturbed_steps() -> [(usize, Act, Reply); 16] {
 }
 
 /// The lines of the disturbed snapshot with at most so many tries, and this schedule.
-fn disturbed(alloc: Global, tries: &str, schedule: &str) -> Result<Result<Report, SimFault>, Fail> {
+fn disturbed(
+    alloc: Global,
+    tries: &'static str,
+    schedule: &'static str,
+) -> Result<Result<Report, SimFault>, Fail> {
     let mut lines = Vec::from_slice(alloc, &DISTURBED)?;
     lines[8] = tries;
     lines.push(schedule)?;
