@@ -102,11 +102,19 @@ fn report_in(came: Result<Report, SimFault>) -> Result<Report, Fail> {
     }
 }
 
+/// The place and the worker that a fault tells.
+fn told_by(fault: &SimFault) -> (usize, usize) {
+    match fault {
+        SimFault::Ended { place, worker } => (*place, worker.get()),
+        SimFault::Memory => (99, 99),
+    }
+}
+
 /// The place and the worker that are told as ended.
-fn ended_in(came: Result<Report, SimFault>) -> (usize, usize) {
+fn ended_in(came: &Result<Report, SimFault>) -> (usize, usize) {
     match came {
-        Err(SimFault::Ended { place, worker }) => (place, worker.get()),
-        _ => (99, 99),
+        Err(fault) => told_by(fault),
+        Ok(_) => (99, 99),
     }
 }
 
@@ -136,7 +144,7 @@ fn the_schedule_of_tickets(rt: HostRuntime) -> Result<(), Fail> {
 #[test]
 fn a_place_of_a_worker_that_has_ended(rt: HostRuntime) -> Result<(), Fail> {
     let came = played_with(rt.alloc(), &TICKETS[..14], "schedule a a a")?;
-    assert_eq!(rt; ended_in(came), (2, 0));
+    assert_eq!(rt; ended_in(&came), (2, 0));
     Ok(())
 }
 
@@ -220,7 +228,7 @@ fn a_snapshot_of_one_try(rt: HostRuntime) -> Result<(), Fail> {
 #[test]
 fn a_snapshot_of_one_try_ends(rt: HostRuntime) -> Result<(), Fail> {
     let came = disturbed(rt.alloc(), "snapshot D 1", SIXTEEN)?;
-    assert_eq!(rt; ended_in(came), (11, 1));
+    assert_eq!(rt; ended_in(&came), (11, 1));
     Ok(())
 }
 
@@ -233,7 +241,7 @@ fn one_more_than_the_greatest_value(rt: HostRuntime) -> Result<(), Fail> {
         [Outcome::ValueTooLarge].as_slice()
     );
     let came = played_with(rt.alloc(), &GREATEST, "schedule a a a")?;
-    assert_eq!(rt; ended_in(came), (2, 0));
+    assert_eq!(rt; ended_in(&came), (2, 0));
     Ok(())
 }
 
@@ -251,6 +259,7 @@ fn a_step_that_is_refused(rt: HostRuntime) -> Result<(), Fail> {
         [refused, Outcome::Running].as_slice()
     );
     lines.push("schedule a")?;
-    assert_eq!(rt; ended_in(played(rt.alloc(), lines.as_slice())?), (3, 0));
+    let came = played(rt.alloc(), lines.as_slice())?;
+    assert_eq!(rt; ended_in(&came), (3, 0));
     Ok(())
 }
