@@ -1,71 +1,127 @@
 //! A board, by calls: who waits, who is let go, and when all are stuck.
-use crate::drive::{event, worker, workers};
-use ec_core::Act::{Advance, Await, Go};
+use crate::drive::Ask::{Advance, Await, Go};
+use crate::drive::{Ask, Line, World, act_of, declared};
+use crate::ids::worker;
 use ec_core::Reply;
 use ec_runner::{Board, BoardFault, Parked};
 use std::alloc::Global;
 use std::test::Fail;
 
-/// Four workers, of whom the first signals an eventcount and the others have awaited it: the second
-/// for 2, the third and the fourth for 1.
-fn three_awaits(alloc: Global) -> Result<Board, Fail> {
-    let mut setup = workers(10, 4)?;
-    setup.add_event(&[worker(0)], &[worker(1), worker(2), worker(3)])?;
-    let mut board = Board::open(alloc, setup)?;
-    for (n, threshold) in [(1, 2), (2, 1), (3, 1)] {
-        if board.step(worker(n), Await(event(0), threshold)) != Ok(Reply::Pending) {
-            return Err("an await that falls short")?;
+/// A call, and the answer that is right.
+#[derive(Clone, Copy)]
+enum Row {
+    Step(usize, Ask, Result<Reply, BoardFault>),
+    Park(usize, Parked),
+    Leave(usize),
+    Live(usize, bool),
+    /// Who waits, of the four.
+    Waiting([bool; 4]),
+    Stuck(bool),
+    /// How many entries the run has.
+    Length(usize),
+}
+
+/// Whether these are the ones, of four, who wait.
+fn are_waiting(board: &Board, right: &[bool; 4]) -> bool {
+    for (n, waits) in right.iter().enumerate() {
+        if board.is_waiting(worker(n)) != *waits {
+            return false;
         }
     }
+    true
+}
+
+fn leave(board: &mut Board, n: usize) -> bool {
+    board.leave(worker(n));
+    true
+}
+
+/// Whether a call gets its answer.
+fn is_right(board: &mut Board, row: &Row) -> bool {
+    match *row {
+        Row::Step(n, ask, answer) => board.step(worker(n), act_of(ask)) == answer,
+        Row::Park(n, answer) => board.park(worker(n)) == answer,
+        Row::Leave(n) => leave(board, n),
+        Row::Live(n, yes) => board.is_live(worker(n)) == yes,
+        Row::Waiting(right) => are_waiting(board, &right),
+        Row::Stuck(yes) => board.is_stuck() == yes,
+        Row::Length(n) => board.run().len() == n,
+    }
+}
+
+/// Makes the calls of a table, which get their answers.
+fn go_through(board: &mut Board, rows: &[Row]) -> Result<(), Fail> {
+    for (place, row) in rows.iter().enumerate() {
+        if !is_right(board, row) {
+            return Err(Fail::new(format_args!("another answer at row {place}")));
+        }
+    }
+    Ok(())
+}
+
+/// Four workers, of whom the first signals an eventcount and the others observe it.
+static ONE_AND_THREE: World = World {
+    limit: 10,
+    workers: 4,
+    lines: &[Line::Event(&[0], &[1, 2, 3])],
+};
+
+/// The second worker awaits 2, the third and the fourth 1, and all four are parked, the first, which has nothing
+/// to wait for, as the last.
+static FOUR_PARKS: [Row; 7] = [
+    Row::Step(1, Await(0, 2), Ok(Reply::Pending)),
+    Row::Step(2, Await(0, 1), Ok(Reply::Pending)),
+    Row::Step(3, Await(0, 1), Ok(Reply::Pending)),
+    Row::Park(1, Parked::Asleep),
+    Row::Park(2, Parked::Asleep),
+    Row::Park(3, Parked::Asleep),
+    Row::Park(0, Parked::Ready),
+];
+
+/// A board after that.
+fn parked(alloc: Global) -> Result<Board, Fail> {
+    let setup = declared(alloc, &ONE_AND_THREE)?;
+    let mut board = Board::open(alloc, setup)?;
+    go_through(&mut board, &FOUR_PARKS)?;
     Ok(board)
 }
 
-/// The same after all four were parked, the first, which has nothing to wait for, as the last.
-fn four_parks(alloc: Global) -> Result<(Board, [Parked; 4]), Fail> {
-    let mut board = three_awaits(alloc)?;
-    let b = board.park(worker(1));
-    let c = board.park(worker(2));
-    let d = board.park(worker(3));
-    let a = board.park(worker(0));
-    Ok((board, [a, b, c, d]))
-}
-
-/// Who waits, of the four.
-fn waiting(board: &Board) -> [bool; 4] {
-    [
-        board.is_waiting(worker(0)),
-        board.is_waiting(worker(1)),
-        board.is_waiting(worker(2)),
-        board.is_waiting(worker(3)),
-    ]
-}
+static LET_GO: [Row; 8] = [
+    Row::Waiting([false, true, true, true]),
+    Row::Step(0, Advance(0), Ok(Reply::Done)),
+    Row::Waiting([false, true, false, false]),
+    Row::Step(0, Advance(0), Ok(Reply::Done)),
+    Row::Waiting([false, false, false, false]),
+    Row::Step(1, Go, Ok(Reply::Number(2))),
+    Row::Stuck(false),
+    Row::Length(6),
+];
 
 #[test]
 fn waiters_are_let_go_at_their_thresholds(rt: HostRuntime) -> Result<(), Fail> {
-    let (mut board, parked) = four_parks(rt.alloc())?;
-    let asleep = Parked::Asleep;
-    assert_eq!(rt; parked, [Parked::Ready, asleep, asleep, asleep]);
-    assert_eq!(rt; waiting(&board), [false, true, true, true]);
-    assert_eq!(rt; board.step(worker(0), Advance(event(0))), Ok(Reply::Done));
-    assert_eq!(rt; waiting(&board), [false, true, false, false]);
-    assert_eq!(rt; board.step(worker(0), Advance(event(0))), Ok(Reply::Done));
-    assert_eq!(rt; waiting(&board), [false, false, false, false]);
-    assert_eq!(rt; board.step(worker(1), Go), Ok(Reply::Number(2)));
-    assert_eq!(rt; board.is_stuck(), false);
-    assert_eq!(rt; board.run().len(), 6);
-    Ok(())
+    let mut board = parked(rt.alloc())?;
+    go_through(&mut board, &LET_GO)
+}
+
+static STUCK: [Row; 7] = [
+    Row::Stuck(false),
+    Row::Live(0, true),
+    Row::Leave(0),
+    Row::Live(0, false),
+    Row::Stuck(true),
+    Row::Step(1, Go, Err(BoardFault::Stopped)),
+    Row::Park(1, Parked::Stuck),
+];
+
+/// How many entries the run of a board has in the end.
+fn length_in_the_end(board: Board) -> usize {
+    board.into_run().len()
 }
 
 #[test]
 fn a_board_is_stuck_once_all_who_are_live_wait(rt: HostRuntime) -> Result<(), Fail> {
-    let (mut board, _) = four_parks(rt.alloc())?;
-    assert_eq!(rt; board.is_stuck(), false);
-    assert_eq!(rt; board.is_live(worker(0)), true);
-    board.leave(worker(0));
-    assert_eq!(rt; board.is_live(worker(0)), false);
-    assert_eq!(rt; board.is_stuck(), true);
-    assert_eq!(rt; board.step(worker(1), Go), Err(BoardFault::Stopped));
-    assert_eq!(rt; board.park(worker(1)), Parked::Stuck);
-    assert_eq!(rt; board.into_run().len(), 3);
+    let mut board = parked(rt.alloc())?;
+    go_through(&mut board, &STUCK)?;
+    assert!(rt; length_in_the_end(board) == 3);
     Ok(())
 }

@@ -1,209 +1,215 @@
 //! Bounded buffers: how they are declared, worked histories, and runs made by procedures.
-ghost use Rattle.std.specs.Prelude.{◌<◌};
-
-use crate::drive::{
-    DONE, PENDING, Step, cell, event, go_on, made, number, sequencer, worker, workers,
-};
+use crate::drive::Ask::{Advance, Await, Get, Go, Put, Ticket};
+use crate::drive::Told::{Done, Number, Pending};
+use crate::drive::{Step, go_on, go_through, run_on, workers};
+use crate::ids::{cell, event, list, sequencer, worker};
 use ec_buffer::{BufferShape, Consume, Delivery, Produce, declare_buffer, deliveries};
-use ec_core::Act::{Advance, Await, Get, Go, Put, Ticket};
 use ec_core::{AuditFault, Run};
 use ec_count::{Setup, SetupFault, WorkerId, joined, shares_worker};
 use std::alloc::Global;
 use std::test::Fail;
 
+/// Declares a buffer of so many cells for these producers and consumers.
+fn declare(
+    alloc: Global,
+    setup: &mut Setup,
+    n: usize,
+    produce: &[usize],
+    consume: &[usize],
+) -> Result<Result<BufferShape, SetupFault>, Fail> {
+    let produce = list(alloc, produce)?;
+    let consume = list(alloc, consume)?;
+    Ok(declare_buffer(setup, n, produce.as_slice(), consume.as_slice()))
+}
+
 /// Four workers, of whom the first two produce and the last two consume, and their buffer.
-fn two_and_two(n: usize) -> Result<(Setup, BufferShape), Fail> {
+fn two_and_two(alloc: Global, n: usize) -> Result<(Setup, BufferShape), Fail> {
     let mut setup = workers(10, 4)?;
-    let produce = [worker(0), worker(1)];
-    let consume = [worker(2), worker(3)];
-    let shape = declare_buffer(&mut setup, n, &produce, &consume)?;
+    let shape = declare(alloc, &mut setup, n, &[0, 1], &[2, 3])??;
     Ok((setup, shape))
 }
 
 /// A run of these steps on a buffer of one cell, and the buffer.
 fn one_cell(alloc: Global, steps: &[Step]) -> Result<(Run, BufferShape), Fail> {
-    let (setup, shape) = two_and_two(1)?;
-    Ok((made(Run::open(alloc, setup)?, steps)?, shape))
+    let (setup, shape) = two_and_two(alloc, 1)?;
+    let mut run = run_on(alloc, setup)?;
+    go_through(&mut run, steps)?;
+    Ok((run, shape))
 }
 
-/// A put 7, and B waits for room.
-fn one_put() -> [Step; 10] {
-    let (a, b) = (worker(0), worker(1));
-    let (puts, gets) = (event(0), event(1));
-    [
-        (a, Ticket(sequencer(0)), number(0)),
-        (b, Ticket(sequencer(0)), number(1)),
-        (a, Await(puts, 0), PENDING),
-        (a, Go, number(0)),
-        (a, Await(gets, 0), PENDING),
-        (a, Go, number(0)),
-        (a, Put(cell(0), 7), DONE),
-        (a, Advance(puts), DONE),
-        (b, Await(puts, 1), PENDING),
-        (b, Go, number(1)),
-    ]
-}
+/// The first worker put 7, and the second waits for room.
+static ONE_PUT: [Step; 10] = [
+    (0, Ticket(0), Number(0)),
+    (1, Ticket(0), Number(1)),
+    (0, Await(0, 0), Pending),
+    (0, Go, Number(0)),
+    (0, Await(1, 0), Pending),
+    (0, Go, Number(0)),
+    (0, Put(0, 7), Done),
+    (0, Advance(0), Done),
+    (1, Await(0, 1), Pending),
+    (1, Go, Number(1)),
+];
 
-/// C gets 7 while B waits for room.
-fn one_get() -> [Step; 9] {
-    let (b, c) = (worker(1), worker(2));
-    let (puts, gets) = (event(0), event(1));
-    [
-        (b, Await(gets, 1), PENDING),
-        (b, Go, PENDING),
-        (c, Ticket(sequencer(1)), number(0)),
-        (c, Await(gets, 0), PENDING),
-        (c, Go, number(0)),
-        (c, Await(puts, 1), PENDING),
-        (c, Go, number(1)),
-        (c, Get(cell(0)), number(7)),
-        (c, Advance(gets), DONE),
-    ]
-}
+/// The third gets 7 while the second waits for room; the second finds room and puts 8, and the fourth gets it.
+static TWO_GETS: [Step; 20] = [
+    (1, Await(1, 1), Pending),
+    (1, Go, Pending),
+    (2, Ticket(1), Number(0)),
+    (2, Await(1, 0), Pending),
+    (2, Go, Number(0)),
+    (2, Await(0, 1), Pending),
+    (2, Go, Number(1)),
+    (2, Get(0), Number(7)),
+    (2, Advance(1), Done),
+    (1, Go, Pending),
+    (1, Go, Number(1)),
+    (1, Put(0, 8), Done),
+    (1, Advance(0), Done),
+    (3, Ticket(1), Number(1)),
+    (3, Await(1, 1), Pending),
+    (3, Go, Number(1)),
+    (3, Await(0, 2), Pending),
+    (3, Go, Number(2)),
+    (3, Get(0), Number(8)),
+    (3, Advance(1), Done),
+];
 
-/// B finds room and puts 8, and D gets it.
-fn one_more() -> [Step; 11] {
-    let (b, d) = (worker(1), worker(3));
-    let (puts, gets) = (event(0), event(1));
-    [
-        (b, Go, PENDING),
-        (b, Go, number(1)),
-        (b, Put(cell(0), 8), DONE),
-        (b, Advance(puts), DONE),
-        (d, Ticket(sequencer(1)), number(1)),
-        (d, Await(gets, 1), PENDING),
-        (d, Go, number(1)),
-        (d, Await(puts, 2), PENDING),
-        (d, Go, number(2)),
-        (d, Get(cell(0)), number(8)),
-        (d, Advance(gets), DONE),
-    ]
-}
+/// A delivery: its number, who put the item, who got it, and the item.
+type Row = (u64, usize, usize, u64);
 
-fn delivery(number: u64, producer: WorkerId, consumer: WorkerId, item: u64) -> Delivery {
-    Delivery {
-        number,
-        producer,
-        consumer,
-        item,
+/// Whether a delivery is that of a row.
+fn is_delivery(found: Option<&Delivery>, row: &Row) -> bool {
+    let (number, producer, consumer, item) = *row;
+    match found {
+        Some(found) => {
+            found.number == number
+                && found.producer == worker(producer)
+                && found.consumer == worker(consumer)
+                && found.item == item
+        }
+        None => false,
     }
 }
 
+/// The deliveries of a run are these.
+fn delivers(alloc: Global, run: &Run, shape: &BufferShape, rows: &[Row]) -> Result<(), Fail> {
+    let found = deliveries(alloc, run, shape)?;
+    for (place, row) in rows.iter().enumerate() {
+        if !is_delivery(found.get(place), row) {
+            return Err(Fail::new(format_args!("another delivery at place {place}")));
+        }
+    }
+    if found.len() == rows.len() {
+        Ok(())
+    } else {
+        Err(Fail::new("more deliveries"))
+    }
+}
+
+static SEVEN_AND_EIGHT: [Row; 2] = [(0, 0, 2, 7), (1, 1, 3, 8)];
+
 #[test]
 fn two_producers_two_consumers_one_cell(rt: HostRuntime) -> Result<(), Fail> {
-    let (run, shape) = one_cell(rt.alloc(), &one_put())?;
-    let run = made(run, &one_get())?;
-    let run = made(run, &one_more())?;
-    assert_eq!(rt; run.len(), 30);
-    let list = deliveries(rt.alloc(), &run, &shape)?;
-    let first = delivery(0, worker(0), worker(2), 7);
-    let second = delivery(1, worker(1), worker(3), 8);
-    assert_eq!(rt; list.as_slice(), [first, second].as_slice());
-    Ok(())
+    let (mut run, shape) = one_cell(rt.alloc(), &ONE_PUT)?;
+    go_through(&mut run, &TWO_GETS)?;
+    assert!(rt; run.len() == 30);
+    delivers(rt.alloc(), &run, &shape, &SEVEN_AND_EIGHT)
 }
+
+/// Whether an entry of a worker's is the first that breaks the lists.
+fn breaks(alloc: Global, run: &Run, shape: &BufferShape, n: usize, entry: usize) -> bool {
+    let worker = worker(n);
+    deliveries(alloc, run, shape).err() == Some(AuditFault::NotFollowed { worker, entry })
+}
+
+static EARLY_PUT: [Step; 1] = [(1, Put(0, 8), Done)];
 
 #[test]
 fn a_put_before_there_is_room(rt: HostRuntime) -> Result<(), Fail> {
-    let b = worker(1);
-    let (run, shape) = one_cell(rt.alloc(), &one_put())?;
-    let run = made(run, &[(b, Put(cell(0), 8), DONE)])?;
-    let broken = deliveries(rt.alloc(), &run, &shape).err();
-    let entry = 10;
-    assert_eq!(rt; broken, Some(AuditFault::NotFollowed { worker: b, entry }));
+    let (mut run, shape) = one_cell(rt.alloc(), &ONE_PUT)?;
+    go_through(&mut run, &EARLY_PUT)?;
+    assert!(rt; breaks(rt.alloc(), &run, &shape, 1, 10));
     Ok(())
 }
+
+static GET_ALONE: [Step; 1] = [(2, Get(0), Number(0))];
 
 #[test]
 fn a_get_without_a_ticket(rt: HostRuntime) -> Result<(), Fail> {
-    let c = worker(2);
-    let (run, shape) = one_cell(rt.alloc(), &[(c, Get(cell(0)), number(0))])?;
-    let broken = deliveries(rt.alloc(), &run, &shape).err();
-    let entry = 0;
-    assert_eq!(rt; broken, Some(AuditFault::NotFollowed { worker: c, entry }));
+    let (run, shape) = one_cell(rt.alloc(), &GET_ALONE)?;
+    assert!(rt; breaks(rt.alloc(), &run, &shape, 2, 0));
     Ok(())
 }
 
+static OTHER_TICKET: [Step; 2] = [(0, Ticket(0), Number(0)), (0, Await(0, 1), Pending)];
+
 #[test]
 fn an_await_of_another_ticket(rt: HostRuntime) -> Result<(), Fail> {
-    let a = worker(0);
-    let steps = [
-        (a, Ticket(sequencer(0)), number(0)),
-        (a, Await(event(0), 1), PENDING),
-    ];
-    let (run, shape) = one_cell(rt.alloc(), &steps)?;
-    let broken = deliveries(rt.alloc(), &run, &shape).err();
-    let entry = 1;
-    assert_eq!(rt; broken, Some(AuditFault::NotFollowed { worker: a, entry }));
+    let (run, shape) = one_cell(rt.alloc(), &OTHER_TICKET)?;
+    assert!(rt; breaks(rt.alloc(), &run, &shape, 0, 1));
     Ok(())
+}
+
+/// Whether the objects of a buffer of three cells are the first of each sort.
+fn has_first_objects(shape: &BufferShape) -> bool {
+    shape.known();
+    shape.in_count() == event(0)
+        && shape.out_count() == event(1)
+        && shape.put_seq() == sequencer(0)
+        && shape.take_seq() == sequencer(1)
+        && shape.first_cell() == cell(0)
+        && shape.cells() == 3
 }
 
 #[test]
 fn the_objects_of_a_buffer(rt: HostRuntime) -> Result<(), Fail> {
-    let (setup, shape) = two_and_two(3)?;
-    shape.known();
-    assert_eq!(rt; (shape.in_count(), shape.out_count()), (event(0), event(1)));
-    assert_eq!(rt;
-        (shape.put_seq(), shape.take_seq()),
-        (sequencer(0), sequencer(1))
-    );
-    assert_eq!(rt; (shape.first_cell(), shape.cells()), (cell(0), 3));
+    let (setup, shape) = two_and_two(rt.alloc(), 3)?;
+    assert!(rt; has_first_objects(&shape));
     assert!(rt; shape.fits(&setup));
     assert!(rt; !shape.fits(&workers(10, 4)?));
     assert!(rt; setup.may_write(cell(2), worker(1)) && setup.may_read(cell(2), worker(3)));
     Ok(())
 }
 
+/// How many cells, who produces, who consumes, and the fault.
+type Fault = (usize, &'static [usize], &'static [usize], SetupFault);
+
+/// Each declaration on two workers gets its fault, and adds nothing.
+fn are_refused(alloc: Global, cases: &[Fault]) -> Result<(), Fail> {
+    let mut setup = workers(10, 2)?;
+    for (place, (n, produce, consume, fault)) in cases.iter().enumerate() {
+        if declare(alloc, &mut setup, *n, produce, consume)?.err() != Some(*fault) {
+            return Err(Fail::new(format_args!("another fault at row {place}")));
+        }
+    }
+    if setup == workers(10, 2)? {
+        Ok(())
+    } else {
+        Err(Fail::new("something was added"))
+    }
+}
+
+static TWO_ROLES: [Fault; 1] = [(1, &[0, 1], &[1], SetupFault::TwoRoles)];
+
 #[test]
 fn a_worker_in_both_roles_adds_nothing(rt: HostRuntime) -> Result<(), Fail> {
-    let (a, b) = (worker(0), worker(1));
-    let before = workers(10, 2)?;
-    let mut setup = before.copy();
-    let both = declare_buffer(&mut setup, 1, &[a, b], &[b]).err();
-    assert_eq!(rt; both, Some(SetupFault::TwoRoles));
-    assert!(rt; setup == before);
-    Ok(())
+    are_refused(rt.alloc(), &TWO_ROLES)
 }
+
+static FAULTS: [Fault; 7] = [
+    (257, &[2], &[0], SetupFault::TooMany),
+    (1, &[0; 17], &[1], SetupFault::TooMany),
+    (1, &[0, 0], &[2], SetupFault::UnknownWorker),
+    (0, &[0, 0], &[1], SetupFault::Repeated),
+    (0, &[0], &[0], SetupFault::Empty),
+    (1, &[], &[1], SetupFault::Empty),
+    (1, &[0], &[], SetupFault::Empty),
+];
 
 #[test]
 fn each_fault_of_a_buffer(rt: HostRuntime) -> Result<(), Fail> {
-    let (a, b, unknown) = (worker(0), worker(1), worker(2));
-    let mut setup = workers(10, 2)?;
-    let cases: [(usize, &[_], &[_], _); 7] = [
-        (257, &[unknown], &[a], SetupFault::TooMany),
-        (1, &[a; 17], &[b], SetupFault::TooMany),
-        (1, &[a, a], &[unknown], SetupFault::UnknownWorker),
-        (0, &[a, a], &[b], SetupFault::Repeated),
-        (0, &[a], &[a], SetupFault::Empty),
-        (1, &[], &[b], SetupFault::Empty),
-        (1, &[a], &[], SetupFault::Empty),
-    ];
-    for (n, produce, consume, fault) in cases {
-        assert_eq!(rt;
-            declare_buffer(&mut setup, n, produce, consume).err(),
-            Some(fault)
-        );
-    }
-    assert_eq!(rt;
-        (setup.events(), setup.sequencers(), setup.cells()),
-        (0, 0, 0)
-    );
-    Ok(())
-}
-
-#[test]
-fn all_sixteen_workers_share_a_buffer(rt: HostRuntime) -> Result<(), Fail> {
-    let mut setup = workers(10, 16)?;
-    let (produce, consume) = sixteen();
-    let shape = declare_buffer(&mut setup, 256, &produce, &consume)?;
-    assert!(rt; shape.fits(&setup));
-    assert_eq!(rt; setup.components(shape.in_count()), Some(1));
-    assert_eq!(rt; setup.components(shape.out_count()), Some(15));
-    let all = joined(&produce, &consume);
-    assert_eq!(rt; setup.observers(shape.in_count()), all.as_slice());
-    assert!(rt; !shares_worker(&produce, &consume));
-    assert!(rt; shares_worker(&consume, all.as_slice()));
-    assert_eq!(rt; setup.roles_fault(false, &produce, &consume, false), None);
-    Ok(())
+    are_refused(rt.alloc(), &FAULTS)
 }
 
 /// The first of sixteen workers, and the others.
@@ -215,35 +221,142 @@ fn sixteen() -> ([WorkerId; 1], [WorkerId; 15]) {
     ([worker(0)], others)
 }
 
-#[test]
-fn what_is_declared_just_so(rt: HostRuntime) -> Result<(), Fail> {
-    let (setup, shape) = two_and_two(2)?;
-    let (produce, consume) = ([worker(0), worker(1)], [worker(2), worker(3)]);
+/// Whether the first of sixteen workers produces and the others consume, as the declarations tell.
+fn is_shared(setup: &Setup, shape: &BufferShape) -> bool {
+    let (produce, consume) = sixteen();
     let all = joined(&produce, &consume);
-    assert!(rt; setup.declares_event(shape.in_count(), &produce, all.as_slice()));
-    assert!(rt; !setup.declares_event(shape.in_count(), &produce, &consume));
-    assert!(rt; setup.declares_sequencer(shape.take_seq(), &consume));
-    assert!(rt; !setup.declares_sequencer(shape.take_seq(), &produce));
-    assert!(rt; setup.declares_cells(shape.first_cell(), 2, &produce, &consume));
-    assert!(rt; !setup.declares_cells(shape.first_cell(), 3, &produce, &consume));
-    Ok(())
+    setup.components(shape.in_count()) == Some(1)
+        && setup.components(shape.out_count()) == Some(15)
+        && setup.observers(shape.in_count()) == all.as_slice()
+        && shape.fits(setup)
+}
+
+/// Whether who shares a worker with whom is told rightly.
+fn are_apart(setup: &Setup) -> bool {
+    let (produce, consume) = sixteen();
+    let all = joined(&produce, &consume);
+    !shares_worker(&produce, &consume)
+        && shares_worker(&consume, all.as_slice())
+        && setup
+            .roles_fault(false, &produce, &consume, false)
+            .is_none()
+}
+
+/// Sixteen workers, and a buffer of 256 cells from the first to the others.
+fn shared_by_sixteen() -> Result<(Setup, BufferShape), Fail> {
+    let mut setup = workers(10, 16)?;
+    let (produce, consume) = sixteen();
+    let shape = declare_buffer(&mut setup, 256, &produce, &consume)?;
+    Ok((setup, shape))
 }
 
 #[test]
-fn items_move_by_procedures(rt: HostRuntime) -> Result<(), Fail> {
-    let (a, b, c) = (worker(0), worker(1), worker(2));
-    let (setup, shape) = two_and_two(1)?;
-    let mut run = Run::open(rt.alloc(), setup)?;
-    let (mut first, mut second) = (Produce::new(shape, 5), Produce::new(shape, 6));
-    let (mut one, mut another) = (Consume::new(shape), Consume::new(shape));
-    assert!(rt; !go_on(&mut run, c, &mut one, 1)?);
-    assert!(rt; go_on(&mut run, b, &mut first, 10)?);
-    assert!(rt; !go_on(&mut run, a, &mut second, 9)?);
-    assert!(rt; go_on(&mut run, c, &mut one, 10)?);
-    assert!(rt; go_on(&mut run, a, &mut second, 10)?);
-    assert!(rt; go_on(&mut run, c, &mut another, 10)?);
-    let list = deliveries(rt.alloc(), &run, &shape)?;
-    let expected = [delivery(0, b, c, 5), delivery(1, a, c, 6)];
-    assert_eq!(rt; list.as_slice(), expected.as_slice());
+fn all_sixteen_workers_share_a_buffer(rt: HostRuntime) -> Result<(), Fail> {
+    let (setup, shape) = shared_by_sixteen()?;
+    assert!(rt; is_shared(&setup, &shape));
+    assert!(rt; are_apart(&setup));
     Ok(())
+}
+
+/// Whether an eventcount is declared just so, and not with other observers.
+fn is_just_that_event(setup: &Setup, shape: &BufferShape) -> bool {
+    let (produce, consume) = ([worker(0), worker(1)], [worker(2), worker(3)]);
+    let all = joined(&produce, &consume);
+    setup.declares_event(shape.in_count(), &produce, all.as_slice())
+        && !setup.declares_event(shape.in_count(), &produce, &consume)
+}
+
+/// Whether the sequencer of the consumers is declared just so, and not for the producers.
+fn is_just_that_sequencer(setup: &Setup, shape: &BufferShape) -> bool {
+    let (produce, consume) = ([worker(0), worker(1)], [worker(2), worker(3)]);
+    setup.declares_sequencer(shape.take_seq(), &consume)
+        && !setup.declares_sequencer(shape.take_seq(), &produce)
+}
+
+/// Whether two cells are declared just so, and not three.
+fn are_just_those_cells(setup: &Setup, shape: &BufferShape) -> bool {
+    let (produce, consume) = ([worker(0), worker(1)], [worker(2), worker(3)]);
+    setup.declares_cells(shape.first_cell(), 2, &produce, &consume)
+        && !setup.declares_cells(shape.first_cell(), 3, &produce, &consume)
+}
+
+#[test]
+fn what_is_declared_just_so(rt: HostRuntime) -> Result<(), Fail> {
+    let (setup, shape) = two_and_two(rt.alloc(), 2)?;
+    assert!(rt; is_just_that_event(&setup, &shape));
+    assert!(rt; is_just_that_sequencer(&setup, &shape));
+    assert!(rt; are_just_those_cells(&setup, &shape));
+    Ok(())
+}
+
+/// Two puts and two gets.
+#[derive(Drop)]
+struct Four {
+    first: Produce,
+    second: Produce,
+    one: Consume,
+    another: Consume,
+}
+
+/// Who goes on.
+#[derive(Clone, Copy)]
+enum Turn {
+    First,
+    Second,
+    One,
+    Another,
+}
+
+/// A worker, which procedure it goes on with, at most how many steps, and whether it has ended then.
+type Move = (usize, Turn, usize, bool);
+
+/// Whether a move ends as it should.
+fn is_moved(run: &mut Run, four: &mut Four, turn: &Move) -> Result<bool, Fail> {
+    let (n, who, steps, right) = *turn;
+    let ended = match who {
+        Turn::First => go_on(run, worker(n), &mut four.first, steps)?,
+        Turn::Second => go_on(run, worker(n), &mut four.second, steps)?,
+        Turn::One => go_on(run, worker(n), &mut four.one, steps)?,
+        Turn::Another => go_on(run, worker(n), &mut four.another, steps)?,
+    };
+    Ok(ended == right)
+}
+
+/// The moves, one after another, end as they should.
+fn play(run: &mut Run, four: &mut Four, moves: &[Move]) -> Result<(), Fail> {
+    for (place, turn) in moves.iter().enumerate() {
+        if !is_moved(run, four, turn)? {
+            return Err(Fail::new(format_args!("another end of move {place}")));
+        }
+    }
+    Ok(())
+}
+
+/// Puts of 5 and 6, and two gets.
+fn four_procedures(shape: BufferShape) -> Four {
+    Four {
+        first: Produce::new(shape, 5),
+        second: Produce::new(shape, 6),
+        one: Consume::new(shape),
+        another: Consume::new(shape),
+    }
+}
+
+static MOVES: [Move; 6] = [
+    (2, Turn::One, 1, false),
+    (1, Turn::First, 10, true),
+    (0, Turn::Second, 9, false),
+    (2, Turn::One, 10, true),
+    (0, Turn::Second, 10, true),
+    (2, Turn::Another, 10, true),
+];
+
+static FIVE_AND_SIX: [Row; 2] = [(0, 1, 2, 5), (1, 0, 2, 6)];
+
+#[test]
+fn items_move_by_procedures(rt: HostRuntime) -> Result<(), Fail> {
+    let (mut run, shape) = one_cell(rt.alloc(), &[])?;
+    let mut four = four_procedures(shape);
+    play(&mut run, &mut four, &MOVES)?;
+    delivers(rt.alloc(), &run, &shape, &FIVE_AND_SIX)
 }

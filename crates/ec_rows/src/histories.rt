@@ -1,122 +1,170 @@
 //! The worked histories.
-use crate::drive::{DONE, PENDING, event, made, number, one_event, worker};
-use ec_core::Act::{Advance, Await, Go, Read};
+use crate::drive::Ask::{Advance, Await, Go, Read};
+use crate::drive::Told::{Done, Number, Pending};
+use crate::drive::{Line, Step, World, declared, go_through, made, run_on};
 use ec_core::Run;
 use std::alloc::Global;
 use std::test::Fail;
 
 /// Four workers, of whom the first two signal one eventcount and the last two observe it.
-fn two_signallers(alloc: Global) -> Result<Run, Fail> {
-    let signal = [worker(0), worker(1)];
-    let observe = [worker(2), worker(3)];
-    one_event(alloc, 10, 4, &signal, &observe)
-}
+static TWO_SIGNALLERS: World = World {
+    limit: 10,
+    workers: 4,
+    lines: &[Line::Event(&[0, 1], &[2, 3])],
+};
+
+static OVERTAKEN_READ: [Step; 4] = [
+    (2, Read(0), Pending),
+    (0, Advance(0), Done),
+    (1, Advance(0), Done),
+    (2, Go, Number(1)),
+];
 
 /// A read reads its first component before one advance and its second after two.
 pub(crate) fn overtaken_read(alloc: Global) -> Result<Run, Fail> {
-    let (a, b, c, e) = (worker(0), worker(1), worker(2), event(0));
-    let steps = [
-        (c, Read(e), PENDING),
-        (a, Advance(e), DONE),
-        (b, Advance(e), DONE),
-        (c, Go, number(1)),
-    ];
-    Ok(made(two_signallers(alloc)?, &steps)?)
+    made(alloc, &TWO_SIGNALLERS, &OVERTAKEN_READ)
 }
+
+static TWO_READS: [Step; 6] = [
+    (2, Read(0), Pending),
+    (0, Advance(0), Done),
+    (3, Read(0), Pending),
+    (3, Go, Number(1)),
+    (1, Advance(0), Done),
+    (2, Go, Number(1)),
+];
 
 /// Two reads have the same answer, and the same moment.
 pub(crate) fn two_reads(alloc: Global) -> Result<Run, Fail> {
-    let (a, b, c, d, e) = (worker(0), worker(1), worker(2), worker(3), event(0));
-    let steps = [
-        (c, Read(e), PENDING),
-        (a, Advance(e), DONE),
-        (d, Read(e), PENDING),
-        (d, Go, number(1)),
-        (b, Advance(e), DONE),
-        (c, Go, number(1)),
-    ];
-    Ok(made(two_signallers(alloc)?, &steps)?)
+    made(alloc, &TWO_SIGNALLERS, &TWO_READS)
 }
+
+static SLOW_READ: [Step; 5] = [
+    (2, Read(0), Pending),
+    (0, Advance(0), Done),
+    (3, Read(0), Pending),
+    (3, Go, Number(1)),
+    (2, Go, Number(0)),
+];
 
 /// A read is under way while another is made, and has the earlier moment.
 pub(crate) fn slow_read(alloc: Global) -> Result<Run, Fail> {
-    let (a, c, d, e) = (worker(0), worker(2), worker(3), event(0));
-    let steps = [
-        (c, Read(e), PENDING),
-        (a, Advance(e), DONE),
-        (d, Read(e), PENDING),
-        (d, Go, number(1)),
-        (c, Go, number(0)),
-    ];
-    Ok(made(two_signallers(alloc)?, &steps)?)
+    made(alloc, &TWO_SIGNALLERS, &SLOW_READ)
 }
+
+static TOTAL_IN_THE_MIDDLE: [Step; 4] = [
+    (2, Read(0), Pending),
+    (1, Advance(0), Done),
+    (1, Advance(0), Done),
+    (2, Go, Number(2)),
+];
 
 /// A read begins at total 0 and ends at total 2.
 pub(crate) fn total_in_the_middle(alloc: Global) -> Result<Run, Fail> {
-    let (b, c, e) = (worker(1), worker(2), event(0));
-    let steps = [
-        (c, Read(e), PENDING),
-        (b, Advance(e), DONE),
-        (b, Advance(e), DONE),
-        (c, Go, number(2)),
-    ];
-    Ok(made(two_signallers(alloc)?, &steps)?)
+    made(alloc, &TWO_SIGNALLERS, &TOTAL_IN_THE_MIDDLE)
 }
+
+static AWAIT_OF_ROUNDS: [Step; 6] = [
+    (2, Await(0, 2), Pending),
+    (0, Advance(0), Done),
+    (1, Advance(0), Done),
+    (2, Go, Pending),
+    (2, Go, Pending),
+    (2, Go, Number(2)),
+];
 
 /// An await falls short in its first round, which it had begun before the advances.
 pub(crate) fn await_of_rounds(alloc: Global) -> Result<Run, Fail> {
-    let (a, b, c, e) = (worker(0), worker(1), worker(2), event(0));
-    let steps = [
-        (c, Await(e, 2), PENDING),
-        (a, Advance(e), DONE),
-        (b, Advance(e), DONE),
-        (c, Go, PENDING),
-        (c, Go, PENDING),
-        (c, Go, number(2)),
-    ];
-    Ok(made(two_signallers(alloc)?, &steps)?)
+    made(alloc, &TWO_SIGNALLERS, &AWAIT_OF_ROUNDS)
 }
+
+/// Four workers, of whom the third observes an eventcount of the others.
+static THREE_SIGNALLERS: World = World {
+    limit: 10,
+    workers: 4,
+    lines: &[Line::Event(&[0, 1, 3], &[2])],
+};
+
+static AWAIT_OF_ZERO: [Step; 3] = [
+    (2, Await(0, 0), Pending),
+    (2, Go, Pending),
+    (2, Go, Number(0)),
+];
 
 /// An await of 0 takes a step for each of three components.
 pub(crate) fn await_of_zero(alloc: Global) -> Result<Run, Fail> {
-    let (a, b, c, d, e) = (worker(0), worker(1), worker(2), worker(3), event(0));
-    let run = one_event(alloc, 10, 4, &[a, b, d], &[c])?;
-    let steps = [
-        (c, Await(e, 0), PENDING),
-        (c, Go, PENDING),
-        (c, Go, number(0)),
-    ];
-    Ok(made(run, &steps)?)
+    made(alloc, &THREE_SIGNALLERS, &AWAIT_OF_ZERO)
 }
 
 /// Sixteen workers that all signal one eventcount, which the first observes.
-fn sixteen_signallers(alloc: Global) -> Result<Run, Fail> {
-    let mut all = [worker(0); 16];
-    for n in 0..16 {
-        all[n] = worker(n);
-    }
-    one_event(alloc, 10, 16, &all, &[worker(0)])
-}
+static SIXTEEN_SIGNALLERS: World = World {
+    limit: 10,
+    workers: 16,
+    lines: &[Line::Event(
+        &[0, 1, 2, 3, 4, 5, 6, 7, 8, 9, 10, 11, 12, 13, 14, 15],
+        &[0],
+    )],
+};
 
 /// A read of 16 components, overtaken 15 times: each step of it but the last is followed by an advance, the last
 /// worker's first.
+static READ_OVERTAKEN_OFTEN: [Step; 31] = [
+    (0, Read(0), Pending),
+    (15, Advance(0), Done),
+    (0, Go, Pending),
+    (14, Advance(0), Done),
+    (0, Go, Pending),
+    (13, Advance(0), Done),
+    (0, Go, Pending),
+    (12, Advance(0), Done),
+    (0, Go, Pending),
+    (11, Advance(0), Done),
+    (0, Go, Pending),
+    (10, Advance(0), Done),
+    (0, Go, Pending),
+    (9, Advance(0), Done),
+    (0, Go, Pending),
+    (8, Advance(0), Done),
+    (0, Go, Pending),
+    (7, Advance(0), Done),
+    (0, Go, Pending),
+    (6, Advance(0), Done),
+    (0, Go, Pending),
+    (5, Advance(0), Done),
+    (0, Go, Pending),
+    (4, Advance(0), Done),
+    (0, Go, Pending),
+    (3, Advance(0), Done),
+    (0, Go, Pending),
+    (2, Advance(0), Done),
+    (0, Go, Pending),
+    (1, Advance(0), Done),
+    (0, Go, Number(8)),
+];
+
+/// That read.
 pub(crate) fn read_overtaken_often(alloc: Global) -> Result<Run, Fail> {
-    let mut run = sixteen_signallers(alloc)?;
-    let (reader, e) = (worker(0), event(0));
-    for i in 0..15 {
-        let act = if i == 0 { Read(e) } else { Go };
-        let steps = [(reader, act, PENDING), (worker(15 - i), Advance(e), DONE)];
-        run = made(run, &steps)?;
-    }
-    Ok(made(run, &[(reader, Go, number(8))])?)
+    made(alloc, &SIXTEEN_SIGNALLERS, &READ_OVERTAKEN_OFTEN)
 }
+
+/// One worker that signals and observes.
+static ONE_WORKER: World = World {
+    limit: 20_000,
+    workers: 1,
+    lines: &[Line::Event(&[0], &[0])],
+};
+
+static AN_ADVANCE: [Step; 1] = [(0, Advance(0), Done)];
+
+static A_LATE_READ: [Step; 1] = [(0, Read(0), Number(8193))];
 
 /// One worker's 8193 advances, and its read.
 pub(crate) fn many_advances(alloc: Global) -> Result<Run, Fail> {
-    let (a, e) = (worker(0), event(0));
-    let mut run = one_event(alloc, 20_000, 1, &[a], &[a])?;
+    let setup = declared(alloc, &ONE_WORKER)?;
+    let mut run = run_on(alloc, setup)?;
     for _ in 0..8193 {
-        run = made(run, &[(a, Advance(e), DONE)])?;
+        go_through(&mut run, &AN_ADVANCE)?;
     }
-    Ok(made(run, &[(a, Read(e), number(8193))])?)
+    go_through(&mut run, &A_LATE_READ)?;
+    Ok(run)
 }

@@ -1,4 +1,5 @@
-//! Tests of histories made by calls: worked ones, those of the protocols, and what is refused.
+//! Tests of histories made by calls: worked ones, those of the protocols, of programs and of a board, and what is
+//! refused. Most are tables of steps with the answers that are right, which one function goes through.
 #![tactic(auto)]
 
 #[cfg(test)]
@@ -12,7 +13,7 @@ mod drive;
 #[cfg(test)]
 mod histories;
 #[cfg(test)]
-mod names_tests;
+mod ids;
 #[cfg(test)]
 mod order_tests;
 #[cfg(test)]
@@ -20,10 +21,6 @@ mod program_tests;
 #[cfg(test)]
 mod semaphore_tests;
 #[cfg(test)]
-mod setup_tests;
-#[cfg(test)]
 mod steps_tests;
 #[cfg(test)]
 mod verify_tests;
-#[cfg(test)]
-mod vocabulary_tests;

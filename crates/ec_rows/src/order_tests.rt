@@ -1,163 +1,209 @@
 //! The finished calls of the worked histories, and their order by points.
-use crate::drive::{event, worker};
+use crate::drive::Ask::{Advance, Await, Read};
+use crate::drive::Told::{Done, Number};
+use crate::drive::{Step, act_of, is_told};
 use crate::histories::{
     await_of_rounds, await_of_zero, many_advances, overtaken_read, read_overtaken_often, slow_read,
     total_in_the_middle, two_reads,
 };
-use ec_core::Act::{Advance, Await, Read};
-use ec_core::Reply::{Done, Number};
-use ec_core::{Act, Reply, Run};
-use ec_count::WorkerId;
-use ec_order::{Call, OrderFault, Placed, Verdict, calls, in_order, order, verify};
+use crate::ids::worker;
+use ec_core::Run;
+use ec_order::{Call, Placed, Verdict, calls, in_order, order, verify};
 use std::alloc::Global;
 use std::test::Fail;
 
-/// A point, and the call that stands there.
-type Line = (usize, WorkerId, Act, Reply);
+/// A point, and the call that stands there: its worker, what it asked for, and what it was told.
+type Line = (usize, Step);
+
+/// Whether a call is this one.
+fn is_call(call: &Call, right: &Step) -> bool {
+    let (n, ask, told) = *right;
+    call.worker == worker(n) && call.op == act_of(ask) && is_told(Ok(call.reply), told)
+}
 
 /// Whether a placed call is the one of a line.
 fn is_line(placed: &Placed, line: &Line) -> bool {
-    let call = placed.call;
-    (placed.point, call.worker, call.op, call.reply) == *line
+    placed.point == line.0 && is_call(&placed.call, &line.1)
 }
 
-/// Whether the order of a run is these lines.
-fn is_order(alloc: Global, run: &Run, lines: &[Line]) -> Result<bool, OrderFault> {
-    let placed = order(alloc, run)?;
-    if placed.len() != lines.len() {
-        return Ok(false);
-    }
-    Ok(placed.iter().zip(lines).all(|(p, line)| is_line(p, line)))
+/// The order of a run, by a vector.
+fn ordered(alloc: Global, run: &Run) -> Result<Vec<Placed>, Fail> {
+    Ok(order(alloc, run)?)
 }
+
+/// Whether the placed call at a place is the one of a line.
+fn is_at(placed: &[Placed], place: usize, line: &Line) -> bool {
+    match placed.get(place) {
+        Some(found) => is_line(found, line),
+        None => false,
+    }
+}
+
+/// The order of a run is these lines.
+fn has_order(alloc: Global, run: &Run, lines: &[Line]) -> Result<(), Fail> {
+    let placed = ordered(alloc, run)?;
+    for (place, line) in lines.iter().enumerate() {
+        if !is_at(placed.as_slice(), place, line) {
+            return Err(Fail::new(format_args!("another call at place {place}")));
+        }
+    }
+    if placed.len() == lines.len() {
+        Ok(())
+    } else {
+        Err(Fail::new("more calls"))
+    }
+}
+
+static OVERTAKEN_READ: [Line; 3] = [
+    (1, (0, Advance(0), Done)),
+    (2, (2, Read(0), Number(1))),
+    (2, (1, Advance(0), Done)),
+];
 
 #[test]
 fn a_read_overtaken_by_an_advance(rt: HostRuntime) -> Result<(), Fail> {
-    let (a, b, c, e) = (worker(0), worker(1), worker(2), event(0));
-    let lines = [
-        (1, a, Advance(e), Done),
-        (2, c, Read(e), Number(1)),
-        (2, b, Advance(e), Done),
-    ];
     let run = overtaken_read(rt.alloc())?;
-    assert!(rt; is_order(rt.alloc(), &run, &lines)?);
-    Ok(())
+    has_order(rt.alloc(), &run, &OVERTAKEN_READ)
 }
+
+static TWO_READS: [Line; 4] = [
+    (1, (0, Advance(0), Done)),
+    (2, (3, Read(0), Number(1))),
+    (2, (2, Read(0), Number(1))),
+    (4, (1, Advance(0), Done)),
+];
 
 #[test]
 fn two_reads_at_one_moment(rt: HostRuntime) -> Result<(), Fail> {
-    let (a, b, c, d, e) = (worker(0), worker(1), worker(2), worker(3), event(0));
-    let lines = [
-        (1, a, Advance(e), Done),
-        (2, d, Read(e), Number(1)),
-        (2, c, Read(e), Number(1)),
-        (4, b, Advance(e), Done),
-    ];
     let run = two_reads(rt.alloc())?;
-    assert!(rt; is_order(rt.alloc(), &run, &lines)?);
-    Ok(())
+    has_order(rt.alloc(), &run, &TWO_READS)
 }
+
+static SLOW_READ: [Line; 3] = [
+    (0, (2, Read(0), Number(0))),
+    (1, (0, Advance(0), Done)),
+    (2, (3, Read(0), Number(1))),
+];
 
 #[test]
 fn a_read_that_ends_last_and_stands_first(rt: HostRuntime) -> Result<(), Fail> {
-    let (a, c, d, e) = (worker(0), worker(2), worker(3), event(0));
-    let lines = [
-        (0, c, Read(e), Number(0)),
-        (1, a, Advance(e), Done),
-        (2, d, Read(e), Number(1)),
-    ];
     let run = slow_read(rt.alloc())?;
-    assert!(rt; is_order(rt.alloc(), &run, &lines)?);
-    Ok(())
+    has_order(rt.alloc(), &run, &SLOW_READ)
+}
+
+/// The order of a run, one call after another, is these lines.
+fn comes_in_order(alloc: Global, run: &Run, lines: &[Line]) -> Result<(), Fail> {
+    let mut placed = in_order(alloc, run)?;
+    for line in lines {
+        let Some(found) = placed.next() else {
+            return Err(Fail::new("fewer calls"));
+        };
+        if !is_line(&found, line) {
+            return Err(Fail::new("another call"));
+        }
+    }
+    match placed.next() {
+        Some(_) => Err(Fail::new("more calls")),
+        None => Ok(()),
+    }
 }
 
 #[test]
 fn the_order_one_call_after_another(rt: HostRuntime) -> Result<(), Fail> {
     let run = slow_read(rt.alloc())?;
-    let mut placed = in_order(rt.alloc(), &run)?;
-    let first = placed.next().ok_or("no call")?;
-    assert!(rt; is_line(&first, &(0, worker(2), Read(event(0)), Number(0))));
-    assert!(rt; placed.next().is_some());
-    assert!(rt; placed.next().is_some());
-    assert!(rt; placed.next().is_none());
-    Ok(())
+    comes_in_order(rt.alloc(), &run, &SLOW_READ)
 }
+
+static TOTAL_IN_THE_MIDDLE: [Line; 3] = [
+    (1, (1, Advance(0), Done)),
+    (2, (1, Advance(0), Done)),
+    (3, (2, Read(0), Number(2))),
+];
 
 #[test]
 fn a_total_that_stood_in_the_middle(rt: HostRuntime) -> Result<(), Fail> {
-    let (b, c, e) = (worker(1), worker(2), event(0));
-    let lines = [
-        (1, b, Advance(e), Done),
-        (2, b, Advance(e), Done),
-        (3, c, Read(e), Number(2)),
-    ];
     let run = total_in_the_middle(rt.alloc())?;
-    assert!(rt; is_order(rt.alloc(), &run, &lines)?);
-    Ok(())
+    has_order(rt.alloc(), &run, &TOTAL_IN_THE_MIDDLE)
 }
+
+static AWAIT_OF_ROUNDS: [Line; 3] = [
+    (1, (0, Advance(0), Done)),
+    (2, (1, Advance(0), Done)),
+    (4, (2, Await(0, 2), Number(2))),
+];
 
 #[test]
 fn an_await_of_three_rounds(rt: HostRuntime) -> Result<(), Fail> {
-    let (a, b, c, e) = (worker(0), worker(1), worker(2), event(0));
-    let lines = [
-        (1, a, Advance(e), Done),
-        (2, b, Advance(e), Done),
-        (4, c, Await(e, 2), Number(2)),
-    ];
     let run = await_of_rounds(rt.alloc())?;
-    assert!(rt; is_order(rt.alloc(), &run, &lines)?);
-    Ok(())
+    has_order(rt.alloc(), &run, &AWAIT_OF_ROUNDS)
 }
+
+/// The number of finished calls of a run, and whether one of them is this call, with these places of its first
+/// step, of the first step of its last round, and of its last step.
+fn has_call(
+    alloc: Global,
+    run: &Run,
+    place: usize,
+    right: &Step,
+    places: (usize, usize, usize),
+) -> Result<(usize, bool), Fail> {
+    let found = calls(alloc, run)?;
+    let Some(call) = found.get(place) else {
+        return Err(Fail::new("no call"));
+    };
+    let is_placed = (call.first, call.round, call.last) == places;
+    Ok((found.len(), is_placed && is_call(call, right)))
+}
+
+static THE_AWAIT: Step = (2, Await(0, 2), Number(2));
 
 #[test]
 fn the_last_round_of_an_await(rt: HostRuntime) -> Result<(), Fail> {
     let run = await_of_rounds(rt.alloc())?;
-    let calls = calls(rt.alloc(), &run)?;
-    assert_eq!(rt; calls.len(), 3);
-    let right = Call {
-        worker: worker(2),
-        op: Await(event(0), 2),
-        reply: Number(2),
-        first: 0,
-        round: 4,
-        last: 5,
-    };
-    assert_eq!(rt; calls[2], right);
+    let found = has_call(rt.alloc(), &run, 2, &THE_AWAIT, (0, 4, 5))?;
+    assert!(rt; found == (3, true));
     Ok(())
 }
 
+static AWAIT_OF_ZERO: [Line; 1] = [(0, (2, Await(0, 0), Number(0)))];
+
 #[test]
 fn an_await_of_zero_on_three_components(rt: HostRuntime) -> Result<(), Fail> {
-    let lines = [(0, worker(2), Await(event(0), 0), Number(0))];
     let run = await_of_zero(rt.alloc())?;
-    assert!(rt; is_order(rt.alloc(), &run, &lines)?);
-    Ok(())
+    has_order(rt.alloc(), &run, &AWAIT_OF_ZERO)
 }
+
+/// The read and its neighbours, at places 7 to 9 of 16.
+static AROUND_THE_READ: [(usize, Line); 3] = [
+    (7, (15, (8, Advance(0), Done))),
+    (8, (16, (0, Read(0), Number(8)))),
+    (9, (17, (7, Advance(0), Done))),
+];
 
 #[test]
 fn a_read_overtaken_fifteen_times_has_point_16(rt: HostRuntime) -> Result<(), Fail> {
     let run = read_overtaken_often(rt.alloc())?;
-    let placed = order(rt.alloc(), &run)?;
-    assert_eq!(rt; placed.len(), 16);
-    assert!(rt; is_line(&placed[7], &(15, worker(8), Advance(event(0)), Done)));
-    assert!(rt; is_line(&placed[8], &(16, worker(0), Read(event(0)), Number(8))));
-    assert!(rt; is_line(&placed[9], &(17, worker(7), Advance(event(0)), Done)));
+    let placed = ordered(rt.alloc(), &run)?;
+    assert!(rt; placed.len() == 16);
+    for (place, line) in &AROUND_THE_READ {
+        assert!(rt; is_at(placed.as_slice(), *place, line), "at {place}");
+    }
     Ok(())
+}
+
+static LATE_READ: Line = (8193, (0, Read(0), Number(8193)));
+
+/// Whether an order of a run is a good one.
+fn is_good(alloc: Global, run: &Run, placed: &[Placed]) -> Result<bool, Fail> {
+    Ok(verify(alloc, run, placed)? == Verdict::Good)
 }
 
 #[test]
 fn a_read_after_8193_advances_has_point_8193(rt: HostRuntime) -> Result<(), Fail> {
     let run = many_advances(rt.alloc())?;
-    let placed = order(rt.alloc(), &run)?;
-    assert_eq!(rt; placed.len(), 8194);
-    assert!(rt;
-        is_line(
-            &placed[8193],
-            &(8193, worker(0), Read(event(0)), Number(8193))
-        )
-    );
-    assert_eq!(rt;
-        verify(rt.alloc(), &run, placed.as_slice()),
-        Ok(Verdict::Good)
-    );
+    let placed = ordered(rt.alloc(), &run)?;
+    assert!(rt; placed.len() == 8194);
+    assert!(rt; is_at(placed.as_slice(), 8193, &LATE_READ));
+    assert!(rt; is_good(rt.alloc(), &run, placed.as_slice())?);
     Ok(())
 }

@@ -1,255 +1,352 @@
 //! What steps are answered, and what stands after them.
+use crate::drive::Ask::{Advance, Await, Get, Go, Put, Read, Ticket};
+use crate::drive::Told::{Done, Number, Pending, Refused};
 use crate::drive::{
-    DONE, PENDING, cell, event, number, one_event, refused, sequencer, worker, workers, wrong_step,
+    Line, Sight, Step, World, act_of, declared, go_through, is_told, made, run_on, sees,
 };
 use crate::histories::{
     await_of_rounds, await_of_zero, many_advances, overtaken_read, read_overtaken_often,
     total_in_the_middle, two_reads,
 };
-use ec_core::Act::{Advance, Await, Get, Go, Put, Read, Ticket};
-use ec_core::{Entry, Refusal, Reply, Run, VALUE_MAX, World, without};
-use ec_count::WorkerId;
+use crate::ids::{event, worker};
+use ec_core::{Refusal, Run, StepFault, VALUE_MAX, World as Worlds, without};
+use std::alloc::Global;
 use std::test::Fail;
 
-/// A worker's advance of the first eventcount.
-fn advance_of(worker: WorkerId) -> Entry {
-    Entry {
-        worker,
-        act: Advance(event(0)),
-        reply: Reply::Done,
-    }
-}
+static AFTER_OVERTAKEN_READ: [Sight; 2] = [Sight::Length(4), Sight::Total(0, Some(2))];
 
 #[test]
 fn a_read_overtaken_by_an_advance(rt: HostRuntime) -> Result<(), Fail> {
     let run = overtaken_read(rt.alloc())?;
-    assert_eq!(rt; run.len(), 4);
-    assert_eq!(rt; run.world().total(event(0)), Some(2));
-    Ok(())
+    sees(&run, &AFTER_OVERTAKEN_READ)
 }
+
+static AFTER_TWO_READS: [Sight; 2] = [Sight::Length(6), Sight::Total(0, Some(2))];
 
 #[test]
 fn two_reads_at_one_moment(rt: HostRuntime) -> Result<(), Fail> {
     let run = two_reads(rt.alloc())?;
-    assert_eq!(rt; run.len(), 6);
-    assert_eq!(rt; run.world().total(event(0)), Some(2));
-    Ok(())
+    sees(&run, &AFTER_TWO_READS)
 }
+
+static COMPONENTS: [Sight; 2] = [
+    Sight::Component(0, 0, Some(0)),
+    Sight::Component(0, 1, Some(2)),
+];
 
 #[test]
 fn a_total_that_stood_in_the_middle(rt: HostRuntime) -> Result<(), Fail> {
     let run = total_in_the_middle(rt.alloc())?;
-    assert_eq!(rt; run.world().component(event(0), 0), Some(0));
-    assert_eq!(rt; run.world().component(event(0), 1), Some(2));
-    Ok(())
+    sees(&run, &COMPONENTS)
 }
+
+static AFTER_ROUNDS: [Sight; 2] = [
+    Sight::UnderWay(2, None),
+    Sight::Entry(3, Some((2, Go, Pending))),
+];
 
 #[test]
 fn an_await_of_three_rounds(rt: HostRuntime) -> Result<(), Fail> {
     let run = await_of_rounds(rt.alloc())?;
-    assert_eq!(rt; run.world().under_way(worker(2)), None);
-    let entry = run.entry(3).ok_or("no entry")?;
-    assert_eq!(rt;
-        entry,
-        Entry {
-            worker: worker(2),
-            act: Go,
-            reply: Reply::Pending
-        }
-    );
-    Ok(())
+    sees(&run, &AFTER_ROUNDS)
 }
+
+/// Two workers that signal an eventcount, which the second observes.
+static SIGNALLER_AND_OBSERVER: World = World {
+    limit: 10,
+    workers: 2,
+    lines: &[Line::Event(&[0, 1], &[1])],
+};
+
+static FALLS_SHORT: [Step; 2] = [(0, Advance(0), Done), (1, Await(0, 2), Pending)];
+
+static HALF_A_ROUND: [Sight; 1] = [Sight::UnderWay(1, Some((Await(0, 2), 1, 1)))];
+
+static GOES_ON: [Step; 1] = [(1, Go, Pending)];
+
+static NO_ROUND: [Sight; 1] = [Sight::UnderWay(1, Some((Await(0, 2), 0, 0)))];
 
 #[test]
 fn an_await_that_has_just_fallen_short(rt: HostRuntime) -> Result<(), Fail> {
-    let (a, b, e) = (worker(0), worker(1), event(0));
-    let mut run = one_event(rt.alloc(), 10, 2, &[a, b], &[b])?;
-    let steps = [(a, Advance(e), DONE), (b, Await(e, 2), PENDING)];
-    assert_eq!(rt; wrong_step(&mut run, &steps), None);
-    let call = run.world().under_way(b).ok_or("no call")?;
-    assert_eq!(rt; (call.op(), call.index(), call.sum()), (Await(e, 2), 1, 1));
-    assert_eq!(rt; run.step(b, Go), PENDING);
-    let call = run.world().under_way(b).ok_or("no call")?;
-    assert_eq!(rt; (call.op(), call.index(), call.sum()), (Await(e, 2), 0, 0));
-    Ok(())
+    let mut run = made(rt.alloc(), &SIGNALLER_AND_OBSERVER, &FALLS_SHORT)?;
+    sees(&run, &HALF_A_ROUND)?;
+    go_through(&mut run, &GOES_ON)?;
+    sees(&run, &NO_ROUND)
 }
+
+static AFTER_ZERO: [Sight; 2] = [Sight::Length(3), Sight::Total(0, Some(0))];
 
 #[test]
 fn an_await_of_zero_on_three_components(rt: HostRuntime) -> Result<(), Fail> {
     let run = await_of_zero(rt.alloc())?;
-    assert_eq!(rt; run.len(), 3);
-    assert_eq!(rt; run.world().total(event(0)), Some(0));
-    Ok(())
+    sees(&run, &AFTER_ZERO)
 }
+
+/// Two workers signal an eventcount under limit 2, and the third observes it.
+static LIMIT_OF_TWO: World = World {
+    limit: 2,
+    workers: 3,
+    lines: &[Line::Event(&[0, 1], &[2])],
+};
+
+static UP_TO_THE_LIMIT: [Step; 4] = [
+    (0, Advance(0), Done),
+    (0, Advance(0), Done),
+    (0, Advance(0), Refused(Refusal::AtLimit)),
+    (1, Advance(0), Done),
+];
+
+static AFTER_THE_LIMIT: [Sight; 2] = [Sight::Length(3), Sight::Total(0, Some(3))];
 
 #[test]
 fn the_other_component_still_goes_at_the_limit(rt: HostRuntime) -> Result<(), Fail> {
-    let (a, b, c, e) = (worker(0), worker(1), worker(2), event(0));
-    let mut run = one_event(rt.alloc(), 2, 3, &[a, b], &[c])?;
-    let steps = [
-        (a, Advance(e), DONE),
-        (a, Advance(e), DONE),
-        (a, Advance(e), refused(Refusal::AtLimit)),
-        (b, Advance(e), DONE),
-    ];
-    assert_eq!(rt; wrong_step(&mut run, &steps), None);
-    assert_eq!(rt; run.len(), 3);
-    assert_eq!(rt; run.world().total(e), Some(3));
-    Ok(())
+    let run = made(rt.alloc(), &LIMIT_OF_TWO, &UP_TO_THE_LIMIT)?;
+    sees(&run, &AFTER_THE_LIMIT)
 }
+
+/// One worker takes tickets under limit 2.
+static TWO_TICKETS: World = World {
+    limit: 2,
+    workers: 1,
+    lines: &[Line::Sequencer(&[0])],
+};
+
+static TICKETS: [Step; 3] = [
+    (0, Ticket(0), Number(0)),
+    (0, Ticket(0), Number(1)),
+    (0, Ticket(0), Refused(Refusal::AtLimit)),
+];
+
+static ISSUED: [Sight; 1] = [Sight::Issued(0, Some(2))];
 
 #[test]
 fn tickets_up_to_the_limit(rt: HostRuntime) -> Result<(), Fail> {
-    let (a, q) = (worker(0), sequencer(0));
-    let mut setup = workers(2, 1)?;
-    assert_eq!(rt; setup.add_sequencer(&[a]), Ok(q));
-    let mut run = Run::open(rt.alloc(), setup)?;
-    let steps = [
-        (a, Ticket(q), number(0)),
-        (a, Ticket(q), number(1)),
-        (a, Ticket(q), refused(Refusal::AtLimit)),
-    ];
-    assert_eq!(rt; wrong_step(&mut run, &steps), None);
-    assert_eq!(rt; run.world().issued(q), Some(2));
-    Ok(())
+    let run = made(rt.alloc(), &TWO_TICKETS, &TICKETS)?;
+    sees(&run, &ISSUED)
+}
+
+static AFTER_FIFTEEN: [Sight; 2] = [Sight::Length(31), Sight::Total(0, Some(15))];
+
+/// Whether a copy of a run has its entries, of which there are at most so many.
+fn is_copied(run: &Run, most: usize) -> Result<bool, Fail> {
+    let copy = run.copy()?;
+    for place in 0..=most {
+        if copy.entry(place) != run.entry(place) {
+            return Ok(false);
+        }
+    }
+    Ok(copy.len() == run.len())
 }
 
 #[test]
 fn a_read_of_sixteen_components_overtaken_fifteen_times(rt: HostRuntime) -> Result<(), Fail> {
     let run = read_overtaken_often(rt.alloc())?;
-    assert_eq!(rt; run.len(), 31);
-    assert_eq!(rt; run.world().total(event(0)), Some(15));
-    let copy = run.copy()?;
-    assert_eq!(rt; copy.len(), 31);
-    for i in 0..32 {
-        assert_eq!(rt; copy.entry(i), run.entry(i), "at {i}");
-    }
+    sees(&run, &AFTER_FIFTEEN)?;
+    assert!(rt; is_copied(&run, 31)?);
     Ok(())
 }
 
+/// A run without the third worker, which is silent, while the first is not.
+fn without_the_third(run: &Run) -> Result<Run, Fail> {
+    let (loud, silent) = (worker(0), worker(2));
+    if run.setup().is_silent(loud) || !run.setup().is_silent(silent) {
+        return Err(Fail::new("another worker is silent"));
+    }
+    Ok(without(run, &[silent])?)
+}
+
+static TWO_ADVANCES: [Sight; 3] = [
+    Sight::Length(2),
+    Sight::Entry(0, Some((0, Advance(0), Done))),
+    Sight::Entry(1, Some((1, Advance(0), Done))),
+];
+
 #[test]
 fn an_overtaken_read_without_its_reader_is_two_advances(rt: HostRuntime) -> Result<(), Fail> {
-    let (a, b, c) = (worker(0), worker(1), worker(2));
     let run = overtaken_read(rt.alloc())?;
-    assert!(rt; !run.setup().is_silent(a));
-    assert!(rt; run.setup().is_silent(c));
-    let rest = without(&run, &[c])?;
-    assert_eq!(rt; rest.len(), 2);
-    assert_eq!(rt; rest.entry(0), Some(advance_of(a)));
-    assert_eq!(rt; rest.entry(1), Some(advance_of(b)));
-    Ok(())
+    let rest = without_the_third(&run)?;
+    sees(&rest, &TWO_ADVANCES)
+}
+
+static MANY_ENTRIES: [Sight; 4] = [
+    Sight::Length(8194),
+    Sight::Entry(4095, Some((0, Advance(0), Done))),
+    Sight::Entry(4096, Some((0, Advance(0), Done))),
+    Sight::Entry(8192, Some((0, Advance(0), Done))),
+];
+
+/// How many entries are gone through.
+fn entries_of(run: &Run) -> usize {
+    run.entries().count()
 }
 
 #[test]
 fn eight_thousand_advances_and_a_read(rt: HostRuntime) -> Result<(), Fail> {
     let run = many_advances(rt.alloc())?;
-    assert_eq!(rt; run.len(), 8194);
-    for place in [4095, 4096, 8192] {
-        assert_eq!(rt; run.entry(place), Some(advance_of(worker(0))), "at {place}");
-    }
-    assert_eq!(rt; run.entries().count(), 8194);
-    Ok(())
+    assert!(rt; entries_of(&run) == 8194);
+    sees(&run, &MANY_ENTRIES)
 }
+
+/// One worker writes and reads a cell.
+static ONE_CELL: World = World {
+    limit: 10,
+    workers: 1,
+    lines: &[Line::Cells(1, &[0], &[0])],
+};
+
+static PUTS: [Step; 5] = [
+    (0, Put(0, 7), Done),
+    (
+        0,
+        Put(0, 1_000_000_000_000_000_000),
+        Refused(Refusal::ValueTooLarge),
+    ),
+    (0, Get(0), Number(7)),
+    (0, Put(0, 999_999_999_999_999_999), Done),
+    (0, Get(0), Number(999_999_999_999_999_999)),
+];
+
+static GREATEST: [Sight; 1] = [Sight::Cell(0, Some(VALUE_MAX))];
 
 #[test]
 fn the_greatest_value_is_put_and_no_greater_one(rt: HostRuntime) -> Result<(), Fail> {
-    let (a, x) = (worker(0), cell(0));
-    let mut setup = workers(10, 1)?;
-    assert_eq!(rt; setup.add_cells(1, &[a], &[a]), Ok(x));
-    let mut run = Run::open(rt.alloc(), setup)?;
-    let steps = [
-        (a, Put(x, 7), DONE),
-        (
-            a,
-            Put(x, 1_000_000_000_000_000_000),
-            refused(Refusal::ValueTooLarge),
-        ),
-        (a, Get(x), number(7)),
-        (a, Put(x, 999_999_999_999_999_999), DONE),
-        (a, Get(x), number(999_999_999_999_999_999)),
-    ];
-    assert_eq!(rt; wrong_step(&mut run, &steps), None);
-    assert_eq!(rt; run.world().cell(x), Some(VALUE_MAX));
-    Ok(())
+    let run = made(rt.alloc(), &ONE_CELL, &PUTS)?;
+    sees(&run, &GREATEST)
 }
+
+/// Two workers signal an eventcount, and the third observes it.
+static TWO_AND_ONE: World = World {
+    limit: 10,
+    workers: 3,
+    lines: &[Line::Event(&[0, 1], &[2])],
+};
+
+static IDLE_AND_BUSY: [Step; 5] = [
+    (2, Go, Refused(Refusal::Idle)),
+    (2, Read(0), Pending),
+    (2, Read(0), Refused(Refusal::Busy)),
+    (2, Go, Number(0)),
+    (2, Go, Refused(Refusal::Idle)),
+];
+
+static TWO_ENTRIES: [Sight; 1] = [Sight::Length(2)];
 
 #[test]
 fn go_while_idle_and_a_read_while_busy(rt: HostRuntime) -> Result<(), Fail> {
-    let (a, b, c, e) = (worker(0), worker(1), worker(2), event(0));
-    let mut run = one_event(rt.alloc(), 10, 3, &[a, b], &[c])?;
-    let steps = [
-        (c, Go, refused(Refusal::Idle)),
-        (c, Read(e), PENDING),
-        (c, Read(e), refused(Refusal::Busy)),
-        (c, Go, number(0)),
-        (c, Go, refused(Refusal::Idle)),
-    ];
-    assert_eq!(rt; wrong_step(&mut run, &steps), None);
-    assert_eq!(rt; run.len(), 2);
-    Ok(())
+    let run = made(rt.alloc(), &TWO_AND_ONE, &IDLE_AND_BUSY)?;
+    sees(&run, &TWO_ENTRIES)
 }
+
+/// One worker signals an eventcount, and the other observes it.
+static ONE_AND_ONE: World = World {
+    limit: 10,
+    workers: 2,
+    lines: &[Line::Event(&[0], &[1])],
+};
+
+static NOT_PERMITTED: [Step; 8] = [
+    (2, Advance(0), Refused(Refusal::UnknownWorker)),
+    (0, Advance(1), Refused(Refusal::UnknownObject)),
+    (0, Ticket(0), Refused(Refusal::UnknownObject)),
+    (0, Get(0), Refused(Refusal::UnknownObject)),
+    (0, Read(0), Refused(Refusal::NoRight)),
+    (1, Advance(0), Refused(Refusal::NoRight)),
+    (
+        1,
+        Await(0, 1_000_000_000_000_000_000),
+        Refused(Refusal::ValueTooLarge),
+    ),
+    (1, Await(0, VALUE_MAX), Pending),
+];
+
+static ONE_ENTRY: [Sight; 1] = [Sight::Length(1)];
 
 #[test]
 fn what_is_not_declared_or_not_permitted(rt: HostRuntime) -> Result<(), Fail> {
-    let (a, b, c, e) = (worker(0), worker(1), worker(2), event(0));
-    let mut run = one_event(rt.alloc(), 10, 2, &[a], &[b])?;
-    let steps = [
-        (c, Advance(e), refused(Refusal::UnknownWorker)),
-        (a, Advance(event(1)), refused(Refusal::UnknownObject)),
-        (a, Ticket(sequencer(0)), refused(Refusal::UnknownObject)),
-        (a, Get(cell(0)), refused(Refusal::UnknownObject)),
-        (a, Read(e), refused(Refusal::NoRight)),
-        (b, Advance(e), refused(Refusal::NoRight)),
-        (
-            b,
-            Await(e, 1_000_000_000_000_000_000),
-            refused(Refusal::ValueTooLarge),
-        ),
-        (b, Await(e, VALUE_MAX), PENDING),
-    ];
-    assert_eq!(rt; wrong_step(&mut run, &steps), None);
-    assert_eq!(rt; run.len(), 1);
-    Ok(())
+    let run = made(rt.alloc(), &ONE_AND_ONE, &NOT_PERMITTED)?;
+    sees(&run, &ONE_ENTRY)
 }
+
+static NOTHING: [Sight; 4] = [
+    Sight::Length(0),
+    Sight::Entry(0, None),
+    Sight::Total(0, Some(0)),
+    Sight::Total(1, None),
+];
 
 #[test]
 fn a_run_without_steps(rt: HostRuntime) -> Result<(), Fail> {
-    let run = one_event(rt.alloc(), 10, 2, &[worker(0)], &[worker(1)])?;
-    assert_eq!(rt; run.len(), 0);
-    assert_eq!(rt; run.entry(0), None);
-    assert_eq!(rt; run.world().total(event(0)), Some(0));
-    assert_eq!(rt; run.world().total(event(1)), None);
-    Ok(())
+    let setup = declared(rt.alloc(), &ONE_AND_ONE)?;
+    let run = run_on(rt.alloc(), setup)?;
+    sees(&run, &NOTHING)
 }
+
+/// One worker signals and observes an eventcount under limit 1.
+static LIMIT_OF_ONE: World = World {
+    limit: 1,
+    workers: 1,
+    lines: &[Line::Event(&[0], &[0])],
+};
+
+/// Whether a world gives a step its answer.
+fn steps(world: &mut Worlds, step: &Step) -> bool {
+    let (n, ask, told) = *step;
+    match world.step(worker(n), act_of(ask)) {
+        Ok(reply) => is_told(Ok(reply), told),
+        Err(refusal) => is_told(Err(StepFault::Refused(refusal)), told),
+    }
+}
+
+/// Whether a world would give a step its answer.
+fn answers(world: &Worlds, step: &Step) -> bool {
+    let (n, ask, told) = *step;
+    match world.answer(worker(n), &act_of(ask)) {
+        Ok(reply) => is_told(Ok(reply), told),
+        Err(refusal) => is_told(Err(StepFault::Refused(refusal)), told),
+    }
+}
+
+/// A world without steps.
+fn opened(alloc: Global, world: &World) -> Result<Worlds, Fail> {
+    Ok(Worlds::open(declared(alloc, world)?))
+}
+
+static ONE_ADVANCE: Step = (0, Advance(0), Done);
+
+static AFTER_ONE_ADVANCE: [Step; 2] = [
+    (0, Advance(0), Refused(Refusal::AtLimit)),
+    (0, Read(0), Number(1)),
+];
 
 #[test]
 fn a_world_alone(rt: HostRuntime) -> Result<(), Fail> {
-    let (a, e) = (worker(0), event(0));
-    let mut setup = workers(1, 1)?;
-    setup.add_event(&[a], &[a])?;
-    let mut world = World::open(setup);
-    assert_eq!(rt; world.answer(a, &Advance(e)), Ok(Reply::Done));
-    assert_eq!(rt; world.total(e), Some(0));
-    assert_eq!(rt; world.step(a, Advance(e)), Ok(Reply::Done));
-    assert_eq!(rt; world.step(a, Advance(e)), Err(Refusal::AtLimit));
-    assert_eq!(rt; world.step(a, Read(e)), Ok(Reply::Number(1)));
-    assert_eq!(rt; world.under_way(a), None);
+    let mut world = opened(rt.alloc(), &LIMIT_OF_ONE)?;
+    assert!(rt; answers(&world, &ONE_ADVANCE));
+    assert!(rt; world.total(event(0)) == Some(0));
+    assert!(rt; steps(&mut world, &ONE_ADVANCE));
+    for step in &AFTER_ONE_ADVANCE {
+        assert!(rt; steps(&mut world, step));
+    }
+    assert!(rt; world.under_way(worker(0)).is_none());
     Ok(())
 }
 
+static REFUSALS: [(Refusal, u64, &str); 7] = [
+    (Refusal::UnknownWorker, 1, "UnknownWorker"),
+    (Refusal::Busy, 2, "Busy"),
+    (Refusal::Idle, 3, "Idle"),
+    (Refusal::UnknownObject, 4, "UnknownObject"),
+    (Refusal::NoRight, 5, "NoRight"),
+    (Refusal::ValueTooLarge, 6, "ValueTooLarge"),
+    (Refusal::AtLimit, 7, "AtLimit"),
+];
+
 #[test]
 fn refusals_by_number_and_name(rt: HostRuntime) {
-    let refusals = [
-        (Refusal::UnknownWorker, "UnknownWorker"),
-        (Refusal::Busy, "Busy"),
-        (Refusal::Idle, "Idle"),
-        (Refusal::UnknownObject, "UnknownObject"),
-        (Refusal::NoRight, "NoRight"),
-        (Refusal::ValueTooLarge, "ValueTooLarge"),
-        (Refusal::AtLimit, "AtLimit"),
-    ];
-    for ((refusal, name), number) in refusals.into_iter().zip([1, 2, 3, 4, 5, 6, 7]) {
-        assert_eq!(rt; refusal.number(), number);
-        assert!(rt; refusal.name() == name, "at {number}");
+    for (refusal, number, name) in &REFUSALS {
+        assert!(rt;
+            refusal.number() == *number && refusal.name() == *name,
+            "at {number}"
+        );
     }
 }

@@ -1,107 +1,112 @@
 //! What is first wrong with an order.
-use crate::drive::{event, worker};
+use crate::drive::Ask::{Advance, Await, Read};
+use crate::drive::{Ask, act_of};
 use crate::histories::{await_of_rounds, overtaken_read};
-use ec_core::Act::{Advance, Await, Read};
-use ec_core::Reply::{Done, Number};
-use ec_count::WorkerId;
+use crate::ids::worker;
+use ec_core::{Reply, Run};
 use ec_order::{Call, Placed, Verdict, order, verify};
+use std::alloc::Global;
 use std::test::Fail;
 
-/// The advance of the first worker, and that of the second.
-fn first() -> Placed {
-    advance(worker(0), 1)
-}
+/// A call at its point: its worker, what it asked for, what it was told, the places of its first step, of the
+/// first step of its last round, and of its last step, and its point.
+type Row = (usize, Ask, Reply, usize, usize, usize, usize);
 
-fn second() -> Placed {
-    advance(worker(1), 2)
-}
-
-/// An advance at a position, which is its point.
-fn advance(worker: WorkerId, position: usize) -> Placed {
+/// The placed call of a row.
+fn placed(row: &Row) -> Placed {
+    let (n, ask, reply, first, round, last, point) = *row;
     let call = Call {
-        worker,
-        op: Advance(event(0)),
-        reply: Done,
-        first: position,
-        round: position,
-        last: position,
-    };
-    Placed {
-        call,
-        point: position,
-    }
-}
-
-/// The read of the history of an overtaken read.
-fn overtaken() -> Placed {
-    let call = Call {
-        worker: worker(2),
-        op: Read(event(0)),
-        reply: Number(1),
-        first: 0,
-        round: 0,
-        last: 3,
-    };
-    Placed { call, point: 2 }
-}
-
-/// The await of the history of an await of three rounds, at a point.
-fn await_at(point: usize) -> Placed {
-    let call = Call {
-        worker: worker(2),
-        op: Await(event(0), 2),
-        reply: Number(2),
-        first: 0,
-        round: 4,
-        last: 5,
+        worker: worker(n),
+        op: act_of(ask),
+        reply,
+        first,
+        round,
+        last,
     };
     Placed { call, point }
+}
+
+/// What is said of an order of these rows.
+fn verdict(alloc: Global, run: &Run, rows: &[Row]) -> Result<Verdict, Fail> {
+    let mut list = Vec::new(alloc);
+    for row in rows {
+        list.push(placed(row))?;
+    }
+    Ok(verify(alloc, run, list.as_slice())?)
+}
+
+/// Orders of a run, and what is said of each.
+fn are_judged(alloc: Global, run: &Run, cases: &[(&[Row], Verdict)]) -> Result<(), Fail> {
+    for (place, (rows, right)) in cases.iter().enumerate() {
+        if verdict(alloc, run, rows)? != *right {
+            return Err(Fail::new(format_args!("another verdict at row {place}")));
+        }
+    }
+    Ok(())
+}
+
+/// The advance of the first worker, and that of the second.
+const FIRST: Row = (0, Advance(0), Reply::Done, 1, 1, 1, 1);
+
+const SECOND: Row = (1, Advance(0), Reply::Done, 2, 2, 2, 2);
+
+/// The read of the history of an overtaken read.
+const OVERTAKEN: Row = (2, Read(0), Reply::Number(1), 0, 0, 3, 2);
+
+/// The await of the history of an await of three rounds, at its point and at another one.
+const AWAIT: Row = (2, Await(0, 2), Reply::Number(2), 0, 4, 5, 4);
+
+const EARLY_AWAIT: Row = (2, Await(0, 2), Reply::Number(2), 0, 4, 5, 3);
+
+static GOOD: [(&[Row], Verdict); 1] = [(&[FIRST, OVERTAKEN, SECOND], Verdict::Good)];
+
+/// Whether the order of a run is good.
+fn has_good_order(alloc: Global, run: &Run) -> Result<bool, Fail> {
+    let list = order(alloc, run)?;
+    Ok(verify(alloc, run, list.as_slice())? == Verdict::Good)
 }
 
 #[test]
 fn an_order_with_points_is_good(rt: HostRuntime) -> Result<(), Fail> {
     let run = overtaken_read(rt.alloc())?;
-    let placed = order(rt.alloc(), &run)?;
-    assert_eq!(rt;
-        verify(rt.alloc(), &run, placed.as_slice()),
-        Ok(Verdict::Good)
-    );
-    let list = [first(), overtaken(), second()];
-    assert_eq!(rt; verify(rt.alloc(), &run, &list), Ok(Verdict::Good));
-    Ok(())
+    assert!(rt; has_good_order(rt.alloc(), &run)?);
+    are_judged(rt.alloc(), &run, &GOOD)
 }
+
+static FOUR_BROKEN: [(&[Row], Verdict); 4] = [
+    (&[SECOND, OVERTAKEN, FIRST], Verdict::OutOfOrder(2)),
+    (&[OVERTAKEN, FIRST, SECOND], Verdict::WrongReply(0)),
+    (&[FIRST, FIRST], Verdict::Repeated(1)),
+    (&[], Verdict::Missing(0)),
+];
 
 #[test]
 fn four_broken_orders(rt: HostRuntime) -> Result<(), Fail> {
     let run = overtaken_read(rt.alloc())?;
-    let list = [second(), overtaken(), first()];
-    assert_eq!(rt; verify(rt.alloc(), &run, &list), Ok(Verdict::OutOfOrder(2)));
-    let list = [overtaken(), first(), second()];
-    assert_eq!(rt; verify(rt.alloc(), &run, &list), Ok(Verdict::WrongReply(0)));
-    let list = [first(), first()];
-    assert_eq!(rt; verify(rt.alloc(), &run, &list), Ok(Verdict::Repeated(1)));
-    assert_eq!(rt; verify(rt.alloc(), &run, &[]), Ok(Verdict::Missing(0)));
-    Ok(())
+    are_judged(rt.alloc(), &run, &FOUR_BROKEN)
 }
+
+static POINTS_OF_AN_AWAIT: [(&[Row], Verdict); 2] = [
+    (&[FIRST, SECOND, AWAIT], Verdict::Good),
+    (&[FIRST, SECOND, EARLY_AWAIT], Verdict::WrongPoint(2)),
+];
 
 #[test]
 fn the_point_of_an_await_is_in_its_last_round(rt: HostRuntime) -> Result<(), Fail> {
     let run = await_of_rounds(rt.alloc())?;
-    let list = [first(), second(), await_at(4)];
-    assert_eq!(rt; verify(rt.alloc(), &run, &list), Ok(Verdict::Good));
-    let list = [first(), second(), await_at(3)];
-    assert_eq!(rt; verify(rt.alloc(), &run, &list), Ok(Verdict::WrongPoint(2)));
-    Ok(())
+    are_judged(rt.alloc(), &run, &POINTS_OF_AN_AWAIT)
 }
+
+static NOT_OF_THE_RUN: [(&[Row], Verdict); 2] = [
+    (
+        &[FIRST, (0, Advance(0), Reply::Done, 2, 2, 2, 2)],
+        Verdict::Missing(1),
+    ),
+    (&[FIRST], Verdict::Missing(1)),
+];
 
 #[test]
 fn a_call_that_is_not_of_the_run_is_missing(rt: HostRuntime) -> Result<(), Fail> {
     let run = overtaken_read(rt.alloc())?;
-    let list = [first(), advance(worker(0), 2)];
-    assert_eq!(rt; verify(rt.alloc(), &run, &list), Ok(Verdict::Missing(1)));
-    assert_eq!(rt;
-        verify(rt.alloc(), &run, &[first()]),
-        Ok(Verdict::Missing(1))
-    );
-    Ok(())
+    are_judged(rt.alloc(), &run, &NOT_OF_THE_RUN)
 }
