@@ -1,6 +1,6 @@
 //! A trace that comes in pieces: the line in progress, and what the lines before it built.
-ghost use Rattle.std.specs.Prelude.{◌≡◌, ◌≢◌, ◌≤◌, ◌<◌, ◌+◌, ◌++◌, ◌^◌, ◌∷◌, [], All, length};
-ghost use Rattle.ec_trace.specs.Outcome.{Moves, Rests, Finishes, fault_at, start};
+ghost use Rattle.std.specs.Prelude.{◌≡◌, ◌≢◌, ◌≤◌, ◌<◌, ◌+◌, ◌++◌, ◌^◌, ◌∷◌, [], All, Err, IfNone, IfSome, Ok, length};
+ghost use Rattle.ec_trace.specs.Outcome.{Moves, Rests, Finishes, fault_at, goes_from, start};
 
 use crate::fault::{LineFault, StageFault, TraceFault};
 use crate::lines::cut_line;
@@ -149,15 +149,27 @@ impl Progress {
         Ok(())
     }
 
+    /// Why the text may not end here, if it may not: a last line without its LF.
+    fn end_fault(&self) -> Option<TraceFault>
+        ensures none { IfNone result ((self.now.part ≡ []) × (goes_from self.now [] ≡ Ok self.now)) }
+        ensures some { IfSome result (λ fault. Finishes (Err fault) self.now) }
+    {
+        if let Err(fault) = self.rest() {
+            return Some(fault);
+        }
+        if !self.line.is_empty() {
+            return Some(TraceFault::Unfinished);
+        }
+        None
+    }
+
     /// Ends the text here.
     pub(crate) fn finish(self) -> Result<Traced, TraceFault>
         ensures { Finishes result self }
     {
-        self.rest()?;
-        let Progress { stage, line, .. } = self;
-        if !line.is_empty() {
-            return Err(TraceFault::Unfinished);
+        match self.end_fault() {
+            Some(fault) => Err(fault),
+            None => self.stage.finish(),
         }
-        stage.finish()
     }
 }

@@ -1,5 +1,5 @@
 //! What the lines of a trace so far have built.
-ghost use Rattle.std.specs.Prelude.{◌≡◌, true, false, Ok};
+ghost use Rattle.std.specs.Prelude.{◌≡◌, true, false, IfSome, Ok};
 ghost use Rattle.ec_trace.specs.Step.{Steps, step, limit_of, is_ended, is_running, is_declaring, run_on, ended_on};
 ghost use Rattle.ec_trace.specs.Outcome.{traced_in};
 
@@ -43,7 +43,45 @@ fn limit_of(line: &[u8]) -> Option<Limit>
     Limit::new(number(digits)?)
 }
 
+/// The run that begins behind these declarations, where there is memory for it.
+fn running(alloc: Global, stage: Stage) -> Option<Traced>
+    ensures { IfSome result (λ traced. run_on stage ≡ Stage.Running traced) }
+{
+    let Stage::Declaring(heading) = stage else {
+        return None;
+    };
+    match Traced::open(alloc, heading) {
+        Ok(traced) => Some(traced),
+        Err(_) => None,
+    }
+}
+
+/// The stage behind the last line.
+fn ended(stage: Stage) -> Stage
+    ensures { result ≡ ended_on stage }
+{
+    match stage {
+        Stage::Running(traced) => Stage::Ended(traced),
+        other => other,
+    }
+}
+
 impl Stage {
+    /// Goes over to another stage.
+    fn set(&mut self, next: Stage)
+        ensures { self.new ≡ next }
+    {
+        *self = next;
+    }
+
+    /// Hands the stage out, and leaves its opening.
+    fn taken(&mut self) -> Stage
+        ensures stage { result ≡ self.old }
+        ensures left { self.new ≡ Stage.Opening }
+    {
+        mem::replace(self, Stage::Opening)
+    }
+
     /// Takes the next line, without its LF.
     #[tactic(auto, unfolding(crate::specs::Step::step))]
     pub(crate) fn line(&mut self, alloc: Global, line: &[u8]) -> Result<(), StageFault>
@@ -87,7 +125,7 @@ impl Stage {
         ensures { Steps result (step self.old line.now) self.new }
     {
         if line == b"evc-trace 1".as_slice() {
-            *self = Stage::Limiting;
+            self.set(Stage::Limiting);
             Ok(())
         } else {
             Err(StageFault::Line(LineFault::Bad))
@@ -108,7 +146,7 @@ impl Stage {
         let Ok(heading) = Heading::new(alloc, limit) else {
             return Err(StageFault::Memory);
         };
-        *self = Stage::Declaring(heading);
+        self.set(Stage::Declaring(heading));
         Ok(())
     }
 
@@ -137,14 +175,13 @@ impl Stage {
     fn run(&mut self, alloc: Global) -> Result<(), StageFault>
         ensures { Steps result (Ok (run_on self.old)) self.new }
     {
-        let Stage::Declaring(heading) = mem::replace(self, Stage::Opening) else {
-            return Err(StageFault::Memory);
-        };
-        let Ok(traced) = Traced::open(alloc, heading) else {
-            return Err(StageFault::Memory);
-        };
-        *self = Stage::Running(traced);
-        Ok(())
+        match running(alloc, self.taken()) {
+            Some(traced) => {
+                self.set(Stage::Running(traced));
+                Ok(())
+            }
+            None => Err(StageFault::Memory),
+        }
     }
 
     /// Ends the trace.
@@ -153,10 +190,8 @@ impl Stage {
     fn end(&mut self)
         ensures { self.new ≡ ended_on self.old }
     {
-        *self = match mem::replace(self, Stage::Opening) {
-            Stage::Running(traced) => Stage::Ended(traced),
-            other => other,
-        };
+        let stage = ended(self.taken());
+        self.set(stage);
     }
 
     /// The trace, where its last line came.
