@@ -1,12 +1,14 @@
 -- Laws of every accepted history, over the history in its natural order: the oldest entry first, so that `past_at k h`
 -- is moment k, at which the first k entries have happened.
-use Rattle.std.specs.Prelude.{◌≡◌, ℕ, ◌<◌, ◌≤◌, true, List, reverse}
-use Rattle.std.specs.List.{AllPairs, Contains}
+use Rattle.std.specs.Prelude.{◌≡◌, ℕ, ◌<◌, ◌≤◌, ◌==◌, true, List, reverse, map}
+use Rattle.std.specs.List.{AllPairs, Contains, filter}
 use Rattle.ec_count.specs.Tables.{Tables, IsDeclared}
 use Rattle.ec_core.specs.declared.act.Entry.{Entry}
 use Rattle.ec_core.specs.Counts.{total, past_at}
 use Rattle.ec_core.specs.Rounds.{event_or}
 use Rattle.ec_core.specs.Acceptance.{IsAccepted}
+use Rattle.ec_core.specs.Following.{Told}
+use Rattle.ec_core.specs.JoinedLists.{finished_by}
 use Rattle.ec_order.specs.declared.call.Call.{Call}
 use Rattle.ec_order.specs.Calls.{finished_calls, is_reading, number_of}
 use Rattle.ec_order.specs.Cuts.{IsFinishedCall}
@@ -21,6 +23,19 @@ pub record AreFinishedCalls (t : Tables) (h : List Entry) (cs : List Call) : Typ
 
 abbrev pub CallsAreCutInOrder : Type 0
 CallsAreCutInOrder = (t : Tables) (h : List Entry) → IsDeclared t → IsAccepted t (reverse h) → AreFinishedCalls t h (finished_calls t (reverse h))
+
+-- what was asked and what was told
+abbrev pub told_of : Call → Told
+told_of c = record { op = c.op; reply = c.reply }
+
+-- the calls that w made, as what was asked and told
+abbrev pub told_by : ℕ → List Call → List Told
+told_by w calls = map told_of (filter (λ c. c.worker == w) calls)
+
+-- the calls of a worker that protocols speak of, when they say that a history follows them, are its finished calls here
+abbrev pub ProtocolsSpeakOfTheseCalls : Type 0
+ProtocolsSpeakOfTheseCalls = (t : Tables) (h : List Entry) (w : ℕ) → IsAccepted t (reverse h)
+    → told_by w (finished_calls t (reverse h)) ≡ finished_by w (reverse h)
 
 -- each finished call has its point
 abbrev pub PointsExist : Type 0

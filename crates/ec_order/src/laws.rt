@@ -1,10 +1,16 @@
 //! Laws of every accepted history, each the contract of a function that does nothing.
-ghost use Rattle.ec_order.specs.Laws.{CallsAreCutInOrder, PointsExist, EveryAcceptedHistoryHasAnOrder};
+ghost use Rattle.ec_order.specs.Laws.{CallsAreCutInOrder, ProtocolsSpeakOfTheseCalls, PointsExist, EveryAcceptedHistoryHasAnOrder};
 
 /// The finished calls are exactly what the workers' entries are cut into: each begins with an act that is no go, goes on
 /// with its worker's goes, and ends with the first reply that is not Pending. They go by their last entries.
 pub fn calls_are_cut_in_order()
     ensures { CallsAreCutInOrder }
+{}
+
+/// The calls of a worker that the protocols speak of, when they say that a history follows a buffer, a database or a
+/// semaphore, are its finished calls in the order.
+pub fn protocols_speak_of_these_calls()
+    ensures { ProtocolsSpeakOfTheseCalls }
 {}
 
 /// Every finished call has its point; for a read or an await it is the least moment, from the start of its last round
