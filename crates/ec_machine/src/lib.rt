@@ -3,6 +3,7 @@
 
 mod command;
 mod follow;
+mod large_task;
 mod laws;
 mod limits;
 mod machine;
@@ -11,6 +12,7 @@ mod outcome;
 mod program;
 mod remaining;
 mod settling;
+mod small_task;
 mod task;
 mod values;
 

@@ -13,6 +13,7 @@ ghost use Rattle.ec_machine.specs.Written.{written};
 
 use crate::remaining::Remaining;
 use crate::settling::settle;
+use crate::small_task::SmallTask;
 use crate::task::Task;
 use crate::{Outcome, Program};
 use ec_core::{Act, Procedure, Reply, VALUE_MAX};
@@ -59,7 +60,8 @@ impl<'a> Machine<'a> {
         ensures stands { (cs : List Command) → rest.entry ≡ written cs → StandsFor cs result [] }
         ensures unset { is_refused result ≡ false }
     {
-        let (task, outcome) = settle(&mut rest, 0);
+        let mut task = Task::nothing();
+        let outcome = settle(&mut rest, 0, &mut task);
         Machine {
             rest,
             task,
@@ -98,9 +100,7 @@ impl<'a> Machine<'a> {
         self.last = number_after(self.last, reply);
         self.task.take(reply);
         if self.task.next().is_none() {
-            let (task, outcome) = settle(&mut self.rest, self.last);
-            self.task = task;
-            self.outcome = outcome;
+            self.outcome = settle(&mut self.rest, self.last, &mut self.task);
         }
     }
 
@@ -116,7 +116,7 @@ impl<'a> Machine<'a> {
         match outcome {
             Outcome::Running | Outcome::Finished | Outcome::ValueTooLarge => {}
             _ => {
-                self.task = Task::Nothing;
+                self.task.put_small(SmallTask::Nothing);
                 self.outcome = outcome;
             }
         }

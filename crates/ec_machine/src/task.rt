@@ -1,25 +1,53 @@
 //! The command that a machine is at.
-ghost use Rattle.ec_machine.specs.Tasks.{task_rest, task_going};
+ghost use Rattle.std.specs.Prelude.{◌≡◌, false, List, None};
+ghost use Rattle.ec_core.specs.Following.{Told};
+ghost use Rattle.ec_machine.specs.Tasks.{small_rest, small_going, large_rest, large_going, task_rest, task_going};
 
-use crate::one_call::OneCall;
-use ec_buffer::{Consume, Produce};
+use crate::large_task::LargeTask;
+use crate::small_task::SmallTask;
 use ec_core::{Act, Procedure, Reply};
-use ec_database::{Snapshot, WriteAll};
-use ec_semaphore::{Down, DownBoth, Up};
 
-/// The command that a machine is at: what is left of its list of calls.
+/// The command that a machine is at: what is left of its list of calls. The two kinds of commands
+/// have a place each, so that a small one is begun, taken on and ended without a large one being
+/// built or moved.
 #[derive(Drop)]
-pub(crate) enum Task {
+pub(crate) struct Task {
+    /// Which of the two is due; the other one means nothing.
+    is_large: bool,
+    small: SmallTask,
+    large: LargeTask,
+}
+
+impl Task {
     /// No command is due.
-    Nothing,
-    One(OneCall),
-    Produce(Produce),
-    Consume(Consume),
-    WriteAll(WriteAll),
-    Snapshot(Snapshot),
-    Down(Down),
-    Up(Up),
-    DownBoth(DownBoth),
+    pub(crate) fn nothing() -> Self
+        ensures rest { (calls : List Told) → task_rest result calls ≡ None }
+        ensures going { task_going result ≡ false }
+    {
+        Task {
+            is_large: false,
+            small: SmallTask::Nothing,
+            large: LargeTask::Nothing,
+        }
+    }
+
+    /// From now on this one is due.
+    pub(crate) fn put_small(&mut self, small: SmallTask)
+        ensures rest { (calls : List Told) → task_rest self.new calls ≡ small_rest small calls }
+        ensures going { task_going self.new ≡ small_going small }
+    {
+        self.is_large = false;
+        self.small = small;
+    }
+
+    /// From now on this one is due.
+    pub(crate) fn put_large(&mut self, large: LargeTask)
+        ensures rest { (calls : List Told) → task_rest self.new calls ≡ large_rest large calls }
+        ensures going { task_going self.new ≡ large_going large }
+    {
+        self.is_large = true;
+        self.large = large;
+    }
 }
 
 impl Procedure for Task {
@@ -28,30 +56,18 @@ impl Procedure for Task {
     ghost is_going = { task_going };
 
     fn next(&self) -> Option<Act> {
-        match self {
-            Task::Nothing => None,
-            Task::One(call) => call.next(),
-            Task::Produce(produce) => produce.next(),
-            Task::Consume(consume) => consume.next(),
-            Task::WriteAll(write) => write.next(),
-            Task::Snapshot(snapshot) => snapshot.next(),
-            Task::Down(down) => down.next(),
-            Task::Up(up) => up.next(),
-            Task::DownBoth(both) => both.next(),
+        if self.is_large {
+            self.large.next()
+        } else {
+            self.small.next()
         }
     }
 
     fn take(&mut self, reply: Reply) {
-        match self {
-            Task::Nothing => {}
-            Task::One(call) => call.take(reply),
-            Task::Produce(produce) => produce.take(reply),
-            Task::Consume(consume) => consume.take(reply),
-            Task::WriteAll(write) => write.take(reply),
-            Task::Snapshot(snapshot) => snapshot.take(reply),
-            Task::Down(down) => down.take(reply),
-            Task::Up(up) => up.take(reply),
-            Task::DownBoth(both) => both.take(reply),
+        if self.is_large {
+            self.large.take(reply);
+        } else {
+            self.small.take(reply);
         }
     }
 }

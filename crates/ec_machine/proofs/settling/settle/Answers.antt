@@ -4,7 +4,7 @@ use Rattle.ec_machine.proofs.FirstCalls.{asks}
 use Rattle.ec_machine.proofs.settling.settle.Goals as goal
 
 pub returns-clause-at : goal.returns-clause-at
-returns-clause-at c = at_first _ _ _ _ _ c.in-Some.ensures.left (sym c.has_large.ensures ∙ c.if-has_large.false) c.task_of.ensures.whole
+returns-clause-at c = at_first _ _ _ _ _ c.in-Some.ensures.left (sym c.has_large.ensures ∙ c.if-has_large.false) c.begin.ensures.whole
 
 pub returns-clause-running : goal.returns-clause-running
-returns-clause-running c = sym (ap is_some (c.task_of.ensures.whole []) ∙ asks _ _ c.in-Some.ensures.single.0)
+returns-clause-running c = sym (ap is_some (c.begin.ensures.whole []) ∙ asks _ _ c.in-Some.ensures.single.0)

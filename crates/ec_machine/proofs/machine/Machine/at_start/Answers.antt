@@ -7,6 +7,6 @@ use Rattle.ec_machine.proofs.machine.Machine.at_start.Goals as goal
 
 pub returns-clause-stands : goal.returns-clause-stands
 returns-clause-stands c = λ cs is. stands_at_start cs _ refl
-    (c.settle-task.ensures.outcome ∙ ap (λ left. outcome_in left 0) is)
-    c.settle-task.ensures.fresh
-    (subst (λ left. IsAt (task_rest c.settle-task.result.0) c.settle-task.new.rest (record { left = left; last = 0; told = [] })) is c.settle-task.ensures.at)
+    (c.settle-outcome.ensures.outcome ∙ ap (λ left. outcome_in left 0) is)
+    c.settle-outcome.ensures.fresh
+    (subst (λ left. IsAt (task_rest c.settle-outcome.new.task) c.settle-outcome.new.rest (record { left = left; last = 0; told = [] })) is c.settle-outcome.ensures.at)

@@ -9,7 +9,7 @@ returns-then-is_none-clause-stands c = λ cs past worker act stands asks.
     (c.args.self.now.running ∙ ap is_some asks) asks c.number_after-self.ensures.value c.take.ensures.going
     (record { pending = c.take.ensures.pending; told = c.take.ensures.told })
     (ap is_some (sym c.next.ensures) ∙ c.is_none.ensures ∙ ap not c.if-is_none.true)
-    c.settle-task.ensures.at c.settle-task.ensures.outcome c.settle-task.ensures.fresh
+    c.settle-self.ensures.at c.settle-self.ensures.outcome c.settle-self.ensures.fresh
 
 pub returns-else-is_none-clause-stands : goal.returns-else-is_none-clause-stands
 returns-else-is_none-clause-stands c = λ cs past worker act stands asks.
