@@ -26,6 +26,7 @@ pub struct Down {
 }
 
 impl Down {
+    /// The whole list.
     pub fn new(shape: SemaphoreShape) -> Self
         ensures whole { (calls : List Told) → ⟦<Down as Procedure>⟧.rest result calls ≡ down_call shape calls }
         ensures fresh { ⟦<Down as Procedure>⟧.is_going result ≡ false }

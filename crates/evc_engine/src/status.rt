@@ -7,13 +7,14 @@ ghost use Rattle.evc_engine.specs.Statuses.{status_code};
 pub enum Status {
     /// Done: standard output holds the whole text.
     Done,
-    /// The trace was refused: the note says why, and standard output holds nothing.
+    /// The trace, the script or its schedule was refused, or a group is not followed: the note says
+    /// why, and standard output holds nothing.
     Refused,
     /// The command line was wrong.
     Usage,
     /// A read or a write failed.
     InputOutput,
-    /// Memory was refused.
+    /// Memory was refused: to the command or, of `run`, to a worker.
     Memory,
     /// A worker was stopped or out of turns, or what the workers did is not what they were told.
     Stopped,

@@ -1,0 +1,1 @@
+run --turns 0

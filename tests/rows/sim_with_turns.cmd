@@ -1,0 +1,1 @@
+sim --turns 7
