@@ -17,10 +17,10 @@ use Rattle.ec_machine.specs.declared.command.Command.{Command}
 use Rattle.ec_machine.specs.declared.command.Command.TheViews.{out-Command}
 use Rattle.ec_machine.specs.Written.{written}
 use Rattle.ec_machine.specs.Follows.{program_at}
-use Rattle.ec_trace.specs.declared.group.Group.{Group}
-use Rattle.ec_trace.specs.declared.group.Group.TheVariants as groups
-use Rattle.ec_trace.specs.Groups.{FitsGroup}
-use Rattle.ec_trace.proofs.Standing.{heading_fits}
+use Rattle.ec_heading.specs.declared.group.Group.{Group}
+use Rattle.ec_heading.specs.declared.group.Group.TheVariants as groups
+use Rattle.ec_heading.specs.Groups.{FitsGroup}
+use Rattle.ec_heading.proofs.Standing.{heading_fits}
 use Rattle.ec_script.specs.Confined.{UsesGroups, IsConfinedProgram, AreConfinedPrograms}
 use Rattle.ec_confined.specs.Uses.{IsApart, UsesBuffer, UsesDatabase, UsesSemaphore, UsesBoth, EachCommand, AreRuns}
 use Rattle.ec_confined.specs.Headings.{semaphores_of, FollowsGroup, GroupsAreFollowed}

@@ -21,9 +21,9 @@ use Rattle.ec_machine.specs.declared.command.Command.TheVariants.{rolls-Advance,
 use Rattle.ec_machine.specs.declared.command.Command.TheViews.{roll-Command, out-Command, roll-out-Command}
 use Rattle.ec_machine.specs.Values.{value_of, values_of}
 use Rattle.ec_machine.specs.Runs.{one_call, command_call}
-use Rattle.ec_trace.specs.declared.group.Group.{Group}
-use Rattle.ec_trace.specs.declared.group.Group.TheVariants as groups
-use Rattle.ec_trace.specs.Groups.{FitsGroup}
+use Rattle.ec_heading.specs.declared.group.Group.{Group}
+use Rattle.ec_heading.specs.declared.group.Group.TheVariants as groups
+use Rattle.ec_heading.specs.Groups.{FitsGroup}
 use Rattle.ec_script.specs.Confined.{UsesGroups}
 use Rattle.ec_confined.specs.Uses.{IsApart, IsOfBuffer, IsOfDatabase, IsOfSemaphore, IsOfBoth, AreSeparate, AreThree}
 use Rattle.ec_confined.specs.Headings.{semaphores_of}

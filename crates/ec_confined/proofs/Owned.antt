@@ -10,8 +10,8 @@ use Rattle.ec_database.specs.Shapes.{Database}
 use Rattle.ec_database.specs.Following as databases
 use Rattle.ec_semaphore.specs.Shapes.{Semaphore}
 use Rattle.ec_semaphore.specs.Uses as semaphores
-use Rattle.ec_trace.specs.declared.group.Group.{Group}
-use Rattle.ec_trace.specs.declared.group.Group.TheVariants as groups
+use Rattle.ec_heading.specs.declared.group.Group.{Group}
+use Rattle.ec_heading.specs.declared.group.Group.TheVariants as groups
 use Rattle.ec_script.specs.Objects.{has_count, has_line, has_cell, both_of}
 use Rattle.ec_confined.specs.Headings.{semaphores_of}
 use Rattle.ec_confined.proofs.Tests.{or_first, or_second, same_test}

@@ -6,13 +6,13 @@ use Rattle.std.proofs.lemmas.List.Elements.{All-from_recursion}
 use Rattle.ec_count.specs.Tables.{Tables}
 use Rattle.ec_count.proofs.Disjoint.{roles_of}
 use Rattle.ec_buffer.specs.Shapes as buffers
-use Rattle.ec_trace.specs.declared.sort.Sort.{Sort}
-use Rattle.ec_trace.specs.declared.sort.Sort.TheVariants as sorts
-use Rattle.ec_trace.specs.declared.group.Group.{Group}
-use Rattle.ec_trace.specs.Objects.{group_of}
-use Rattle.ec_trace.specs.Headed.{Headed}
-use Rattle.ec_trace.specs.Outline.{Declaration, Outline, AreDeclarable, objects_fault, opened, declared_by, declared_all, headed}
-use Rattle.ec_trace.specs.Outlined.{IsHeading}
+use Rattle.ec_heading.specs.declared.sort.Sort.{Sort}
+use Rattle.ec_heading.specs.declared.sort.Sort.TheVariants as sorts
+use Rattle.ec_heading.specs.declared.group.Group.{Group}
+use Rattle.ec_heading.specs.Objects.{group_of}
+use Rattle.ec_heading.specs.Headed.{Headed}
+use Rattle.ec_heading.specs.Outline.{Declaration, Outline, AreDeclarable, objects_fault, opened, declared_by, declared_all, headed}
+use Rattle.ec_heading.specs.Outlined.{IsHeading}
 use Rattle.ec_confined.proofs.Confining.{IsShaped}
 
 buffer_shaped : (t : Tables) (n : ℕ) (first second : List ℕ) → buffers.buffer_fault t n first second ≡ None → buffers.IsShape (buffers.next_buffer t n)

@@ -3,8 +3,8 @@ use Rattle.std.specs.Prelude.{ℕ, List, reverse}
 use Rattle.std.specs.List.{All}
 use Rattle.ec_core.specs.Acceptance.{IsAccepted}
 use Rattle.ec_machine.specs.declared.command.Command.{Command}
-use Rattle.ec_trace.specs.Headed.{Headed}
-use Rattle.ec_trace.specs.Outlined.{IsHeading}
+use Rattle.ec_heading.specs.Headed.{Headed}
+use Rattle.ec_heading.specs.Outlined.{IsHeading}
 use Rattle.ec_script.specs.Confined.{AreConfinedPrograms}
 use Rattle.ec_runner.specs.declared.report.Report.{Report}
 use Rattle.ec_runner.specs.Reported.{IsReport}

@@ -7,11 +7,11 @@ use Rattle.std.proofs.lemmas.List.Elements.{Contains-push_cases}
 use Rattle.ec_count.specs.Tables.{Tables}
 use Rattle.ec_count.specs.declared.setup.Rights.{Rights}
 use Rattle.ec_count.specs.declared.setup.Access.{Access}
-use Rattle.ec_trace.specs.declared.group.Group.{Group}
-use Rattle.ec_trace.specs.declared.sort.Sort.{Sort}
-use Rattle.ec_trace.specs.declared.sort.Sort.TheVariants as sorts
-use Rattle.ec_trace.specs.Objects.{group_of}
-use Rattle.ec_trace.specs.Outline.{with_objects}
+use Rattle.ec_heading.specs.declared.group.Group.{Group}
+use Rattle.ec_heading.specs.declared.sort.Sort.{Sort}
+use Rattle.ec_heading.specs.declared.sort.Sort.TheVariants as sorts
+use Rattle.ec_heading.specs.Objects.{group_of}
+use Rattle.ec_heading.specs.Outline.{with_objects}
 use Rattle.ec_script.specs.declared.object.Object.{Object}
 use Rattle.ec_script.specs.declared.object.Object.TheVariants.{Event, Sequencer, Cell}
 use Rattle.ec_script.specs.Objects.{owns}

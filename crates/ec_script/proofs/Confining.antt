@@ -12,11 +12,11 @@ use Rattle.ec_machine.specs.declared.command.Value as amounts
 use Rattle.ec_machine.specs.declared.command.Command.TheOpen as layer
 use Rattle.ec_machine.specs.declared.command.Command.TheVariants as commands
 use Rattle.ec_machine.specs.Limits.{is_same, are_apart}
-use Rattle.ec_trace.specs.declared.group.Group.{Group}
-use Rattle.ec_trace.specs.declared.group.Group.TheVariants as groups
-use Rattle.ec_trace.specs.Headed.{Headed}
-use Rattle.ec_trace.specs.Lists.{worker_in}
-use Rattle.ec_trace.specs.Spelled.{event_in, sequencer_in, cell_in_word}
+use Rattle.ec_heading.specs.declared.group.Group.{Group}
+use Rattle.ec_heading.specs.declared.group.Group.TheVariants as groups
+use Rattle.ec_heading.specs.Headed.{Headed}
+use Rattle.ec_heading.specs.Lists.{worker_in}
+use Rattle.ec_heading.specs.Spelled.{event_in, sequencer_in, cell_in_word}
 use Rattle.ec_script.specs.declared.verb.Verb.{Verb}
 use Rattle.ec_script.specs.declared.verb.Verb.TheVariants as verbs
 use Rattle.ec_script.specs.declared.object.Object.{Object}

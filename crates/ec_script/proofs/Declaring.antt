@@ -7,17 +7,17 @@ use Rattle.ec_count.specs.Tables.{Tables}
 use Rattle.ec_count.specs.declared.target.Target.{Target}
 use Rattle.ec_count.specs.declared.target.Target.TheVariants.{Worker}
 use Rattle.ec_text.specs.Words.{words_of}
-use Rattle.ec_trace.specs.declared.sort.Sort.{Sort}
-use Rattle.ec_trace.specs.declared.sort.Sort.TheVariants as sorts
-use Rattle.ec_trace.specs.declared.heading.HeadFault.{HeadFault}
-use Rattle.ec_trace.specs.declared.heading.HeadFault.TheVariants as faults
-use Rattle.ec_trace.specs.Objects.{Next, objects_of, spelled_objects}
-use Rattle.ec_trace.specs.Headed.{Headed}
-use Rattle.ec_trace.specs.Outline.{Declaration, opened, numbered, next_of, declared_by, with_objects}
-use Rattle.ec_trace.specs.Form.{Phrase, parts_in}
-use Rattle.ec_trace.specs.Kinds.{workers_fault, declaration_of, declaration_fault}
-use Rattle.ec_trace.specs.Lists.{worker_of, worker_in, ids_in}
-use Rattle.ec_trace.specs.Heading.{head_step, words_step, workers_in, opened_by, declared_or, fault_or, is_no_line}
+use Rattle.ec_heading.specs.declared.sort.Sort.{Sort}
+use Rattle.ec_heading.specs.declared.sort.Sort.TheVariants as sorts
+use Rattle.ec_heading.specs.declared.heading.HeadFault.{HeadFault}
+use Rattle.ec_heading.specs.declared.heading.HeadFault.TheVariants as faults
+use Rattle.ec_heading.specs.Objects.{Next, objects_of, spelled_objects}
+use Rattle.ec_heading.specs.Headed.{Headed}
+use Rattle.ec_heading.specs.Outline.{Declaration, opened, numbered, next_of, declared_by, with_objects}
+use Rattle.ec_heading.specs.Form.{Phrase, parts_in}
+use Rattle.ec_heading.specs.Kinds.{workers_fault, declaration_of, declaration_fault}
+use Rattle.ec_heading.specs.Lists.{worker_of, worker_in, ids_in}
+use Rattle.ec_heading.specs.Heading.{head_step, words_step, workers_in, opened_by, declared_or, fault_or, is_no_line}
 use Rattle.ec_script.proofs.Apart.{KeepApart, none_apart, declared_apart}
 
 abbrev Named : Type 0

@@ -8,7 +8,7 @@ use Rattle.ec_machine.specs.declared.command.Command.TheViews.{roll-Command, out
 use Rattle.ec_machine.specs.declared.command.Command.TheFolds.{ind-Command, fold-roll-Command}
 use Rattle.ec_machine.specs.declared.command.Command.TheVariants as commands
 use Rattle.ec_machine.specs.Written.{written, written_one, written_step, repeated}
-use Rattle.ec_trace.specs.declared.group.Group.{Group}
+use Rattle.ec_heading.specs.declared.group.Group.{Group}
 use Rattle.ec_script.specs.declared.order.Order.{Order}
 use Rattle.ec_script.specs.declared.order.Order.TheVariants.{Do, Write, Begin, End}
 use Rattle.ec_script.specs.Flat.{flat, flat_one, flat_step, all_of}

@@ -4,8 +4,8 @@ use Rattle.ec_script.specs.declared.fault.Kind.{Kind}
 use Rattle.ec_script.specs.declared.fault.Kind.TheVariants as kinds
 use Rattle.ec_script.specs.declared.fault.StageFault.{StageFault}
 use Rattle.ec_script.specs.declared.fault.StageFault.TheVariants as faults
-use Rattle.ec_trace.specs.declared.heading.HeadFault.{HeadFault}
-use Rattle.ec_trace.specs.declared.heading.HeadFault.TheVariants as heads
+use Rattle.ec_heading.specs.declared.heading.HeadFault.{HeadFault}
+use Rattle.ec_heading.specs.declared.heading.HeadFault.TheVariants as heads
 
 abbrev pub kind_number : Kind → ℕ
 kind_number kinds.BadHeader = 1

@@ -6,8 +6,8 @@ use Rattle.ec_count.specs.Tables.{Tables, first_that, component_of, may_observe,
 use Rattle.ec_count.specs.Members.{is_member}
 use Rattle.ec_text.specs.Words.{number_of}
 use Rattle.ec_machine.specs.Limits.{are_apart}
-use Rattle.ec_trace.specs.Headed.{Headed}
-use Rattle.ec_trace.specs.Lists.{has_unknown}
+use Rattle.ec_heading.specs.Headed.{Headed}
+use Rattle.ec_heading.specs.Lists.{has_unknown}
 use Rattle.ec_script.specs.declared.fault.Kind.{Kind}
 use Rattle.ec_script.specs.declared.fault.Kind.TheVariants as kinds
 use Rattle.ec_script.specs.declared.verb.Verb.{Verb}

@@ -8,11 +8,11 @@ use Rattle.ec_count.specs.declared.target.Target.TheVariants as target
 use Rattle.ec_buffer.specs.Shapes as buffers
 use Rattle.ec_database.specs.Shapes as databases
 use Rattle.ec_semaphore.specs.Shapes.{Semaphore}
-use Rattle.ec_trace.specs.declared.group.Group.{Group}
-use Rattle.ec_trace.specs.declared.group.Group.TheVariants as groups
-use Rattle.ec_trace.specs.Headed.{Headed}
-use Rattle.ec_trace.specs.Lists.{worker_in}
-use Rattle.ec_trace.specs.Spelled.{event_in, sequencer_in, cell_in_word}
+use Rattle.ec_heading.specs.declared.group.Group.{Group}
+use Rattle.ec_heading.specs.declared.group.Group.TheVariants as groups
+use Rattle.ec_heading.specs.Headed.{Headed}
+use Rattle.ec_heading.specs.Lists.{worker_in}
+use Rattle.ec_heading.specs.Spelled.{event_in, sequencer_in, cell_in_word}
 use Rattle.ec_script.specs.declared.verb.Verb.{Verb}
 use Rattle.ec_script.specs.declared.verb.Verb.TheVariants as verbs
 use Rattle.ec_script.specs.declared.object.Object.{Object}

@@ -2,11 +2,11 @@
 use Rattle.std.specs.Prelude.{◌≡◌, ℕ, Bool, false, ◌&&◌, ◌==◌, not, nat_le, nat_lt, List, [], ◌∷◌, ◌++◌, length, replicate, slice_set, Option, Some, None, option_map, Result, Ok, Err, if◌then◌else◌, bytes_eq, codes}
 use Rattle.std.specs.Option.{option_map_or}
 use Rattle.ec_text.specs.Words.{words_of, number_of, is_number_form}
-use Rattle.ec_trace.specs.Headed.{Headed}
-use Rattle.ec_trace.specs.Outline.{opened}
-use Rattle.ec_trace.specs.Heading.{head_step, is_no_line}
-use Rattle.ec_trace.specs.Lists.{ids_in}
-use Rattle.ec_trace.specs.declared.heading.HeadFault.{HeadFault}
+use Rattle.ec_heading.specs.Headed.{Headed}
+use Rattle.ec_heading.specs.Outline.{opened}
+use Rattle.ec_heading.specs.Heading.{head_step, is_no_line}
+use Rattle.ec_heading.specs.Lists.{ids_in}
+use Rattle.ec_heading.specs.declared.heading.HeadFault.{HeadFault}
 use Rattle.ec_script.specs.declared.fault.Kind.{Kind}
 use Rattle.ec_script.specs.declared.fault.Kind.TheVariants as kinds
 use Rattle.ec_script.specs.declared.fault.StageFault.{StageFault}

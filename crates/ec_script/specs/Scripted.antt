@@ -1,6 +1,6 @@
 -- What the lines of a script have built, as a contract sees it.
 use Rattle.std.specs.Prelude.{ℕ, List, Option}
-use Rattle.ec_trace.specs.Headed.{Headed}
+use Rattle.ec_heading.specs.Headed.{Headed}
 use Rattle.ec_script.specs.declared.order.Order.{Order}
 use Rattle.ec_script.specs.declared.script.Block.{Block}
 

@@ -2,7 +2,7 @@
 ghost use Rattle.std.specs.Prelude.{◌≡◌};
 ghost use Rattle.ec_script.specs.Faults.{kind_number, kind_name, kind_of_head, stage_fault};
 
-use ec_trace::HeadFault;
+use ec_heading::HeadFault;
 use thiserror::Error;
 
 /// Why a line of a script is refused: the least of these that holds of it.

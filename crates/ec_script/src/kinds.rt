@@ -15,9 +15,9 @@ use crate::lists::{count_words, has_no_value, has_unknown};
 use crate::object::{Object, is_owned};
 use crate::verb::{Tail, Verb};
 use ec_count::{Setup, WorkerId};
+use ec_heading::Heading;
 use ec_semaphore::SemaphoreShape;
 use ec_text::number;
-use ec_trace::Heading;
 
 /// The block that a line stands in: its worker, how many repeats are open there, whether the
 /// innermost has no command yet, and how many commands there are.

@@ -3,15 +3,15 @@ ghost use Rattle.std.specs.Prelude.{◌≡◌, ◌==◌, ◌+◌, ◌++◌, ◌�
 ghost use Rattle.std.specs.List.{list_all, list_any};
 ghost use Rattle.ec_text.specs.Words.{words_of};
 ghost use Rattle.ec_machine.specs.Limits.{is_value};
-ghost use Rattle.ec_trace.specs.Lists.{ids_in, has_unknown};
+ghost use Rattle.ec_heading.specs.Lists.{ids_in, has_unknown};
 ghost use Rattle.ec_script.specs.Kinds.{is_no_value};
 ghost use Rattle.ec_script.specs.Orders.{amount_of};
 
 use crate::form::value_of;
 use ec_count::WorkerId;
+use ec_heading::Heading;
 use ec_machine::Value;
 use ec_text::cut_word;
-use ec_trace::Heading;
 use std::alloc::AllocError;
 
 /// Whether a word is empty.

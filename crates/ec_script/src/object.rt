@@ -9,8 +9,8 @@ use crate::verb::Verb;
 use ec_buffer::BufferShape;
 use ec_count::{CellId, EventId, SeqId, Target, WorkerId};
 use ec_database::DatabaseShape;
+use ec_heading::{Group, Heading};
 use ec_semaphore::SemaphoreShape;
-use ec_trace::{Group, Heading};
 
 /// What a line is about.
 #[derive(Clone, Copy)]

@@ -1,7 +1,7 @@
 //! Plans.
 use ec_count::WorkerId;
+use ec_heading::Heading;
 use ec_machine::Program;
-use ec_trace::Heading;
 
 /// What a script says: its heading, a program for each declared worker, in order of declaration,
 /// and the workers of its schedule in order.

@@ -1,7 +1,7 @@
 //! What the lines of a script have built, behind its line of workers.
 ghost use Rattle.std.specs.Prelude.{◌≡◌, ◌++◌, [], false, map, option_map, replicate, length, slice_set, OnOk, IfOk, None, Some};
-ghost use Rattle.ec_trace.specs.Heading.{head_step};
-ghost use Rattle.ec_trace.specs.Lists.{ids_in};
+ghost use Rattle.ec_heading.specs.Heading.{head_step};
+ghost use Rattle.ec_heading.specs.Lists.{ids_in};
 ghost use Rattle.ec_text.specs.Words.{words_of};
 ghost use Rattle.ec_script.specs.Flat.{flat};
 ghost use Rattle.ec_script.specs.Forms.{rest_words, shown};
@@ -23,9 +23,9 @@ use crate::order::Order;
 use crate::plan::Plan;
 use crate::verb::{Verb, verb_of};
 use ec_count::WorkerId;
+use ec_heading::Heading;
 use ec_machine::Program;
 use ec_text::cut_word;
-use ec_trace::Heading;
 use std::alloc::{AllocError, Global};
 use std::marker::Model;
 

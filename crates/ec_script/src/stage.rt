@@ -8,8 +8,8 @@ use crate::fault::{Kind, StageFault, stage_fault};
 use crate::plan::Plan;
 use crate::script::Script;
 use ec_count::Limit;
+use ec_heading::Heading;
 use ec_text::{cut_word, is_number_form, number};
-use ec_trace::Heading;
 use std::alloc::Global;
 
 /// What the lines so far have built.

@@ -5,7 +5,7 @@ use Rattle.ec_count.specs.declared.target.Target.TheVariants.{Worker}
 use Rattle.ec_core.specs.declared.act.Act.{Act}
 use Rattle.ec_core.specs.declared.act.Act.TheVariants.{Advance, Read, Await, Go, Ticket, Put, Get}
 use Rattle.ec_core.specs.declared.act.Entry.{Entry}
-use Rattle.ec_trace.specs.Spelling.{Named, word_of, act_words, reply_word, entry_line}
+use Rattle.ec_heading.specs.Spelling.{Named, word_of, act_words, reply_word, entry_line}
 
 around : (names : Named) (all w r : List ℕ) (a : Act)
     → all ++ join_with_byte 32 (w ∷ act_words names a ++ codes "=" ∷ r ∷ []) ≡ ((((all ++ w) ++ 32 ∷ []) ++ join_with_byte 32 (act_words names a)) ++ codes " = ") ++ r

@@ -6,7 +6,7 @@ use Rattle.ec_trace.specs.declared.fault.LineFault.TheVariants.{Bad}
 use Rattle.ec_trace.specs.declared.stage.Stage.{Stage}
 use Rattle.ec_trace.specs.declared.stage.Stage.TheVariants.{Opening}
 use Rattle.ec_trace.specs.declared.read.TheConstants.{TRACE_MAX}
-use Rattle.ec_trace.specs.Spelling.{text_of}
+use Rattle.ec_heading.specs.Spelling.{text_of}
 use Rattle.ec_trace.specs.Outcome.{goes, goes_from, parts_of, numbered, start, outcome, bounded}
 use Rattle.ec_trace.specs.FirstFault.{IsTooLong, IsBehindTheEnd, IsRefusedThere, IsFirstFault, FirstFaultIsTold}
 use Rattle.ec_trace.proofs.Goes.{goes_line, goes_long, goes_after_end}

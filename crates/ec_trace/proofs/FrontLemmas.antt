@@ -14,8 +14,8 @@ use Rattle.ec_core.specs.declared.act.Entry.{Entry}
 use Rattle.ec_text.specs.Words.{words_of, number_of, IsWord}
 use Rattle.ec_text.proofs.WordLemmas.{HasFirst, has_first, words_alone, literal_word}
 use Rattle.ec_text.proofs.NumberLemmas.{guarded}
-use Rattle.ec_trace.specs.Spelled.{Named, event_in, sequencer_in, cell_in_word}
-use Rattle.ec_trace.specs.Lists.{worker_in}
+use Rattle.ec_heading.specs.Spelled.{Named, event_in, sequencer_in, cell_in_word}
+use Rattle.ec_heading.specs.Lists.{worker_in}
 use Rattle.ec_trace.specs.Entries.{◌>>=◌, act_alone, act_on, act_with, reply_of, entry_by, entry_in, entry_of}
 use Rattle.ec_trace.specs.Fronts.{with_reply, with_value, with_both, is_valued, headed, HasFront, HasValue, EndsIn, Tells, TellsWhole, TellsValued, AreKept}
 use Rattle.ec_trace.specs.declared.fronts.Front.{Front}

@@ -11,7 +11,7 @@ use Rattle.ec_trace.specs.declared.stage.Stage.{Stage}
 use Rattle.ec_trace.specs.declared.stage.Stage.TheVariants.{Opening, Limiting, Declaring, Running, Ended}
 use Rattle.ec_trace.specs.FirstFault.{IsLine, Leads}
 use Rattle.ec_trace.specs.Recounted.{Recounted}
-use Rattle.ec_trace.specs.Spelling.{text_of, ended_line}
+use Rattle.ec_heading.specs.Spelling.{text_of, ended_line}
 use Rattle.ec_trace.specs.Step.{step, is_ended}
 use Rattle.ec_trace.specs.Outcome.{Place, parts_of, goes, goes_from, taken, is_bad_rest, start, outcome, bounded, ended_at, traced_in}
 use Rattle.ec_trace.proofs.Goes.{goes_line, goes_ended, HasFirst, has_first}

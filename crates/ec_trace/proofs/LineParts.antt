@@ -6,14 +6,14 @@ use Rattle.std.proofs.lemmas.Option.{slice_get-get_or}
 use Rattle.std.proofs.lemmas.List.Concat.{flat_map-append}
 use Rattle.std.proofs.lemmas.List.Elements.{filter_map-append}
 use Rattle.std.proofs.lemmas.List.FromFn.{map-range_with_len_more}
-use Rattle.ec_trace.specs.Sorts.{sort_word, opener, other}
-use Rattle.ec_trace.specs.Outline.{Declaration}
-use Rattle.ec_trace.specs.Headed.{Headed}
+use Rattle.ec_heading.specs.Sorts.{sort_word, opener, other}
+use Rattle.ec_heading.specs.Outline.{Declaration}
+use Rattle.ec_heading.specs.Headed.{Headed}
 use Rattle.ec_count.specs.declared.target.Target.{Target}
 use Rattle.ec_count.specs.declared.target.Target.TheVariants.{Worker}
 use Rattle.ec_core.specs.declared.act.Entry.{Entry}
-use Rattle.ec_trace.specs.Spelling.{entry_line, Named, name_words, number_words, word_of, text_of, ended_line, limit_line, workers_line}
-use Rattle.ec_trace.specs.Recalled.{spaced, names_of, second_names, declared_line, declared_text, declaration_of, declarations_of, opening_text, entry_text}
+use Rattle.ec_heading.specs.Spelling.{entry_line, Named, name_words, number_words, word_of, text_of, ended_line, limit_line, workers_line}
+use Rattle.ec_heading.specs.Recalled.{spaced, names_of, second_names, declared_line, declared_text, declaration_of, declarations_of, opening_text, entry_text}
 
 pub spaced-append : (xs ys : List (List ℕ)) → spaced (xs ++ ys) ≡ spaced xs ++ spaced ys
 spaced-append xs ys = flat_map-append (λ (w : List ℕ). 32 ∷ w) xs ys

@@ -10,13 +10,13 @@ use Rattle.ec_core.specs.declared.act.Entry.{Entry}
 use Rattle.ec_text.specs.Words.{words_of, number_of}
 use Rattle.ec_text.proofs.WordLemmas.{words_join, split_join, literal_word}
 use Rattle.ec_text.proofs.NumberLemmas.{number_again, number_takes, guarded}
-use Rattle.ec_trace.specs.Headed.{Headed}
-use Rattle.ec_trace.specs.Outline.{Outline, IsOutline, opened, headed}
-use Rattle.ec_trace.specs.Form.{parts_in}
-use Rattle.ec_trace.specs.Heading.{head_step, opened_by, declared_or}
-use Rattle.ec_trace.specs.HeadingLaws.{LinesLead, Outlines, outline_lines}
-use Rattle.ec_trace.specs.declared.heading.HeadFault.{HeadFault}
-use Rattle.ec_trace.specs.declared.heading.HeadFault.TheVariants as head_faults
+use Rattle.ec_heading.specs.Headed.{Headed}
+use Rattle.ec_heading.specs.Outline.{Outline, IsOutline, opened, headed}
+use Rattle.ec_heading.specs.Form.{parts_in}
+use Rattle.ec_heading.specs.Heading.{head_step, opened_by, declared_or}
+use Rattle.ec_heading.specs.HeadingLaws.{LinesLead, Outlines, outline_lines}
+use Rattle.ec_heading.specs.declared.heading.HeadFault.{HeadFault}
+use Rattle.ec_heading.specs.declared.heading.HeadFault.TheVariants as head_faults
 use Rattle.ec_trace.specs.declared.fault.LineFault.{LineFault}
 use Rattle.ec_trace.specs.declared.fault.LineFault.TheVariants.{Bad}
 use Rattle.ec_trace.specs.declared.stage.Stage.{Stage}
@@ -25,20 +25,20 @@ use Rattle.ec_trace.specs.declared.fault.TraceFault.{TraceFault}
 use Rattle.ec_trace.specs.declared.fault.TraceFault.TheVariants.{Read, Memory}
 use Rattle.ec_trace.specs.Recounted.{Recounted}
 use Rattle.ec_trace.specs.Outcome.{outcome, Tells}
-use Rattle.ec_trace.specs.Spelling.{limit_line, entry_line, trace_lines, trace_text, text_of}
+use Rattle.ec_heading.specs.Spelling.{limit_line, entry_line, trace_lines, trace_text, text_of}
 use Rattle.ec_trace.specs.Grammar.{IsTrace}
 use Rattle.ec_trace.specs.Step.{step, limit_of, limit_in, in_range, limited, declared}
 use Rattle.ec_trace.specs.ReadingLaws.{TraceIsRead, IsTraceOf, IsNoTrace, Refuses, ReadIsTrace, TraceHasOneMeaning, NoTraceBeginsAnother}
 use Rattle.ec_trace.specs.declared.read.TheConstants.{TRACE_MAX}
-use Rattle.ec_trace.proofs.Declarable.{Heads, heads_opened, heads_all}
-use Rattle.ec_trace.specs.Recalled.{outline_of}
-use Rattle.ec_trace.proofs.OutlineFound.{outline_found}
-use Rattle.ec_trace.proofs.LeadLines.{outline_leads, leads_outline}
+use Rattle.ec_heading.proofs.Declarable.{Heads, heads_opened, heads_all}
+use Rattle.ec_heading.specs.Recalled.{outline_of}
+use Rattle.ec_heading.proofs.OutlineFound.{outline_found}
+use Rattle.ec_heading.proofs.LeadLines.{outline_leads, leads_outline}
 use Rattle.ec_trace.specs.FirstFault.{IsLine, Leads}
 use Rattle.ec_trace.proofs.Leads.{leads_append, IsText, text_read, no_front, one_meaning, text_back}
-use Rattle.ec_trace.proofs.Each.{each_append}
+use Rattle.ec_heading.proofs.Each.{each_append}
 use Rattle.ec_trace.proofs.TraceLines.{line_is, literal_lacks, heading_lines_are, limit_line_is}
-use Rattle.ec_trace.proofs.ReadHeadings.{IsSound, sound}
+use Rattle.ec_heading.proofs.ReadHeadings.{IsSound, sound}
 use Rattle.ec_trace.proofs.ReadEntries.{number_word}
 use Rattle.ec_trace.proofs.ReadRuns.{entries_lead, entries_are_lines, end_leads, IsRunOf, run_back}
 

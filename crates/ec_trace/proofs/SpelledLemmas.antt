@@ -4,7 +4,7 @@ use Rattle.std.specs.Option.{unwrap_or, option_map_or}
 use Rattle.std.specs.Borrow.{Bor}
 use Rattle.ec_count.specs.declared.target.Target.{Target}
 use Rattle.ec_count.specs.declared.target.Target.TheVariants.{Worker, Event, Sequencer, Cells, Group}
-use Rattle.ec_trace.specs.Spelling.{Named, cell_word}
+use Rattle.ec_heading.specs.Spelling.{Named, cell_word}
 use Rattle.ec_trace.specs.WordTables.{Spells, word_at, cell_at, cell_name_bytes, with_block}
 use Rattle.ec_trace.specs.declared.spell.Words.{Words}
 use Rattle.ec_trace.specs.declared.spell.CellName.{CellName}

@@ -6,8 +6,8 @@ use Rattle.ec_core.specs.declared.act.Reply.{Reply}
 use Rattle.ec_core.specs.declared.act.Reply.TheVariants.{Done, Number, Pending}
 use Rattle.ec_core.specs.declared.act.Entry.{Entry}
 use Rattle.ec_text.specs.Words.{words_of, number_of}
-use Rattle.ec_trace.specs.Lists.{worker_in}
-use Rattle.ec_trace.specs.Spelled.{Named, event_in, sequencer_in, cell_in_word}
+use Rattle.ec_heading.specs.Lists.{worker_in}
+use Rattle.ec_heading.specs.Spelled.{Named, event_in, sequencer_in, cell_in_word}
 
 infixl 10 ◌>>=◌
 abbrev pub ◌>>=◌ : {A B : Type 0} → Option A → (A → Option B) → Option B

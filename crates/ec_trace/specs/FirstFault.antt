@@ -7,7 +7,7 @@ use Rattle.ec_trace.specs.declared.fault.TraceFault.TheVariants.{TooLarge, Unfin
 use Rattle.ec_trace.specs.declared.stage.Stage.{Stage}
 use Rattle.ec_trace.specs.declared.stage.Stage.TheVariants.{Opening}
 use Rattle.ec_trace.specs.declared.read.TheConstants.{TRACE_MAX}
-use Rattle.ec_trace.specs.Spelling.{text_of}
+use Rattle.ec_heading.specs.Spelling.{text_of}
 use Rattle.ec_trace.specs.Step.{step, is_ended}
 use Rattle.ec_trace.specs.Outcome.{numbered, outcome}
 

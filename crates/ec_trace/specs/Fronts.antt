@@ -6,7 +6,7 @@ use Rattle.ec_core.specs.declared.act.Reply.{Reply}
 use Rattle.ec_core.specs.declared.act.Entry.{Entry}
 use Rattle.ec_text.specs.Words.{IsWord, number_of}
 use Rattle.ec_trace.specs.Entries.{reply_of, entry_of}
-use Rattle.ec_trace.specs.Spelled.{Named}
+use Rattle.ec_heading.specs.Spelled.{Named}
 use Rattle.ec_trace.specs.declared.fronts.Front.{Front}
 
 -- a line is this front, a space, and a word

@@ -2,8 +2,8 @@
 use Rattle.std.specs.Prelude.{◌≡◌, ℕ, ◌≤◌, List, length, reverse}
 use Rattle.ec_core.specs.declared.act.Entry.{Entry}
 use Rattle.ec_core.specs.Acceptance.{IsAccepted}
-use Rattle.ec_trace.specs.Outline.{Outline, IsOutline, headed}
-use Rattle.ec_trace.specs.Spelling.{trace_text}
+use Rattle.ec_heading.specs.Outline.{Outline, IsOutline, headed}
+use Rattle.ec_heading.specs.Spelling.{trace_text}
 use Rattle.ec_trace.specs.declared.read.TheConstants.{TRACE_MAX}
 
 -- the bytes are the trace of this heading and this history

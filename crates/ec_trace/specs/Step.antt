@@ -6,12 +6,12 @@ use Rattle.ec_core.specs.declared.act.Reply.TheVariants.{Done, Number, Pending}
 use Rattle.ec_core.specs.declared.act.Entry.{Entry}
 use Rattle.ec_core.specs.declared.act.Refusal.{Refusal}
 use Rattle.ec_text.specs.Words.{words_of, number_of}
-use Rattle.ec_trace.specs.Headed.{Headed}
-use Rattle.ec_trace.specs.Outline.{opened}
-use Rattle.ec_trace.specs.Heading.{head_step}
+use Rattle.ec_heading.specs.Headed.{Headed}
+use Rattle.ec_heading.specs.Outline.{opened}
+use Rattle.ec_heading.specs.Heading.{head_step}
 use Rattle.ec_trace.specs.Entries.{entry_of}
 use Rattle.ec_trace.specs.Recounted.{Recounted}
-use Rattle.ec_trace.specs.declared.heading.HeadFault.{HeadFault}
+use Rattle.ec_heading.specs.declared.heading.HeadFault.{HeadFault}
 use Rattle.ec_trace.specs.declared.fault.LineFault.{LineFault}
 use Rattle.ec_trace.specs.declared.fault.LineFault.TheVariants.{Bad, Refused, WrongReply}
 use Rattle.ec_trace.specs.declared.fault.StageFault.{StageFault}

@@ -3,7 +3,7 @@ use Rattle.std.specs.Prelude.{◌≡◌, ℕ, ◌<◌, ◌+◌, ◌-◌, ◌&&�
 use Rattle.std.specs.Option.{option_map_or}
 use Rattle.std.specs.Borrow.{Bor}
 use Rattle.ec_count.specs.declared.target.Target.TheVariants.{Worker, Event, Sequencer}
-use Rattle.ec_trace.specs.Spelling.{Named, word_of, cell_word}
+use Rattle.ec_heading.specs.Spelling.{Named, word_of, cell_word}
 use Rattle.ec_trace.specs.declared.spell.Words.{Words}
 use Rattle.ec_trace.specs.declared.spell.CellName.{CellName}
 

@@ -3,8 +3,8 @@ ghost use Rattle.std.specs.Prelude.{◌≡◌, ◌∷◌};
 ghost use Rattle.ec_trace.specs.Entries.{act_alone, act_on, act_with, reply_of, entry_by, entry_in, entry_of};
 ghost use Rattle.ec_text.specs.Words.{words_of};
 
-use crate::heading::Heading;
 use ec_core::{Act, Entry, Reply};
+use ec_heading::Heading;
 use ec_text::{cut_word, number};
 
 /// The act of one word.

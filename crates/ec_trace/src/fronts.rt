@@ -7,12 +7,12 @@ ghost use Rattle.std.specs.Prelude.{◌≡◌, ◌≤◌, ℕ, List, Some, ◌++
 ghost use Rattle.ec_text.specs.Words.{IsWord};
 ghost use Rattle.ec_trace.specs.Entries.{entry_of};
 ghost use Rattle.ec_trace.specs.Fronts.{HasFront, HasValue, EndsIn, Tells, TellsWhole, TellsValued, AreKept, is_valued, with_value, with_both};
-ghost use Rattle.ec_trace.specs.Spelled.{Named};
+ghost use Rattle.ec_heading.specs.Spelled.{Named};
 
 use crate::entry::{read_entry, reply_of};
-use crate::heading::Heading;
 use ec_core::{Act, Entry, Reply};
 use ec_count::WorkerId;
+use ec_heading::Heading;
 use ec_text::number;
 
 /// A front of at most 32 bytes, and the worker and the act of each entry with this front. Of an await or a put it is what

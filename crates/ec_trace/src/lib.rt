@@ -1,42 +1,31 @@
-//! Headings and traces: read exactly, written exactly.
+//! Traces: read exactly, written exactly.
 #![tactic(auto)]
 
 mod entry;
 mod fault;
-mod form;
 mod fronts;
-mod group;
-mod heading;
-mod kinds;
-mod laws;
 mod lines;
-mod lists;
-mod objects;
 mod progress;
 mod read;
 mod reading_laws;
-mod sort;
 mod spell;
-mod spelled;
 mod stage;
 mod traced;
 mod write;
 mod write_heading;
 
-pub use fault::TraceFault;
-pub use group::Group;
-pub use heading::{HeadFault, Heading};
-pub use laws::{
-    lines_have_an_outline, outline_lines_lead, read_declaration_is_spelled,
-    read_workers_are_spelled, spelled_declaration_is_read, spelled_workers_are_read,
+pub use ec_heading::{
+    Group, HeadFault, Heading, Sort, lines_have_an_outline, outline_lines_lead,
+    read_declaration_is_spelled, read_workers_are_spelled, spelled_declaration_is_read,
+    spelled_workers_are_read,
 };
+pub use fault::TraceFault;
 pub use progress::LINE_MAX;
 pub use read::{TRACE_MAX, read_trace};
 pub use reading_laws::{
     fault_of_the_whole, first_fault_is_told, line_fault_is_the_first, no_trace_begins_another,
     read_is_trace, trace_has_one_meaning, trace_is_read, written_is_read_again,
 };
-pub use sort::Sort;
 pub use spell::Spellings;
 pub use traced::Traced;
 pub use write::{put_cell, put_entry, put_reply, write_entry, write_trace};

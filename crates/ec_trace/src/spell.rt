@@ -1,7 +1,7 @@
 //! The words of names, each found once.
 ghost use Rattle.std.specs.Prelude.{◌≡◌, ℕ, ◌+◌, ◌<◌, ◌-◌, ◌==◌, ◌&&◌, [], ◌∷◌, List, length, Some, slice_get, nat_le, nat_lt, if◌then◌else◌};
 ghost use Rattle.ec_trace.specs.WordTables.{Spells, word_at, cell_at, cell_name_bytes, with_block};
-ghost use Rattle.ec_trace.specs.Spelling.{Named, word_of, cell_word};
+ghost use Rattle.ec_heading.specs.Spelling.{Named, word_of, cell_word};
 ghost use Rattle.std.specs.Option.{option_map_or};
 ghost use Rattle.ec_count.specs.declared.target.Target.TheVariants.{Worker, Event, Sequencer};
 

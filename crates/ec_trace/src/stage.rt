@@ -4,9 +4,9 @@ ghost use Rattle.ec_trace.specs.Step.{Steps, step, limit_of, is_ended, is_runnin
 ghost use Rattle.ec_trace.specs.Outcome.{traced_in};
 
 use crate::fault::{LineFault, StageFault, TraceFault};
-use crate::heading::{HeadFault, Heading};
 use crate::traced::Traced;
 use ec_count::Limit;
+use ec_heading::{HeadFault, Heading};
 use ec_text::{cut_word, number};
 use std::alloc::Global;
 use std::mem;

@@ -3,8 +3,8 @@ ghost use Rattle.std.specs.Prelude.{◌≡◌, [], IfOk};
 
 use crate::fault::{LineFault, StageFault};
 use crate::fronts::Fronts;
-use crate::heading::Heading;
 use ec_core::{Run, StepFault};
+use ec_heading::Heading;
 use std::alloc::{AllocError, Global};
 use std::marker::Model;
 

@@ -3,14 +3,15 @@ ghost use Rattle.std.specs.Prelude.{◌≡◌, map, slice_get, OnOk, OnErr};
 ghost use Rattle.std.specs.Io.KnownBytes.{Appends};
 ghost use Rattle.std.specs.List.{join_with_byte};
 ghost use Rattle.ec_text.specs.Puts.{Puts, AppendsPrefix};
-ghost use Rattle.ec_trace.specs.Spelling.{cell_word, act_words, reply_word, entry_line, text_of, trace_text};
-ghost use Rattle.ec_trace.specs.Recalled.{entry_text, written_text};
-ghost use Rattle.ec_trace.specs.Outline.{Outline, IsOutline, headed};
+ghost use Rattle.ec_heading.specs.Spelling.{cell_word, act_words, reply_word, entry_line, text_of, trace_text};
+ghost use Rattle.ec_heading.specs.Recalled.{entry_text, written_text};
+ghost use Rattle.ec_heading.specs.Outline.{Outline, IsOutline, headed};
 
+use crate::spell::Spellings;
 use crate::write_heading::put_opening;
-use crate::{Heading, Spellings};
 use ec_core::{Act, Entry, Reply, Run};
 use ec_count::CellId;
+use ec_heading::Heading;
 use ec_text::{Buffered, WriteFault, finish, put, put_byte, put_number};
 use std::io::Write;
 

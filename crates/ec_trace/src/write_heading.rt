@@ -2,12 +2,13 @@
 ghost use Rattle.std.specs.Prelude.{◌≡◌, ◌≤◌, ◌∷◌, ◌++◌, [], Some, None, map};
 ghost use Rattle.std.specs.List.{range_with_len};
 ghost use Rattle.ec_text.specs.Puts.{Puts};
-ghost use Rattle.ec_trace.specs.Spelling.{word_of, name_words, number_words, limit_line, workers_line, text_of};
-ghost use Rattle.ec_trace.specs.Sorts.{sort_word, opener, other};
-ghost use Rattle.ec_trace.specs.Recalled.{names_of, worker_names, declared_group, declaration_of, declarations_of, declared_line, declared_text, opening_text, second_names, spaced};
+ghost use Rattle.ec_heading.specs.Spelling.{word_of, name_words, number_words, limit_line, workers_line, text_of};
+ghost use Rattle.ec_heading.specs.Sorts.{sort_word, opener, other};
+ghost use Rattle.ec_heading.specs.Recalled.{names_of, worker_names, declared_group, declaration_of, declarations_of, declared_line, declared_text, opening_text, second_names, spaced};
 
-use crate::{Group, Heading, Sort, Spellings};
+use crate::spell::Spellings;
 use ec_count::{Setup, Target, WorkerId};
+use ec_heading::{Group, Heading, Sort};
 use ec_text::{Buffered, put, put_byte, put_number};
 use std::io::Write;
 use std::marker::Model;
@@ -23,7 +24,7 @@ struct Line<'a> {
 }
 
 impl<'a> Model for Line<'a> {
-    ghost use Rattle.ec_trace.specs.Outline.{Declaration};
+    ghost use Rattle.ec_heading.specs.Outline.{Declaration};
 
     ghost Value = { Declaration };
 

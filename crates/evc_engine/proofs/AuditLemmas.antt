@@ -3,7 +3,7 @@ use Rattle.std.proofs.Common.{◌≡◌, ℕ, zero, suc, ◌+◌, ◌<◌, List,
 use Rattle.std.proofs.lemmas.List.Concat.{flat_map-append}
 use Rattle.ec_text.specs.Puts.{Puts, Held}
 use Rattle.ec_text.proofs.PutLemmas.{puts_then}
-use Rattle.ec_trace.specs.Spelling.{text_of, ended_line}
+use Rattle.ec_heading.specs.Spelling.{text_of, ended_line}
 use Rattle.evc_engine.specs.AuditTexts.{group_word, audited_lines, groups_lines, audit_text}
 use Rattle.evc_engine.proofs.TotalLemmas.{take_next, line_put}
 use Rattle.ec_order.proofs.Matching.{at_index}
@@ -13,8 +13,8 @@ use Rattle.ec_core.specs.Audits.{IsAuditFault}
 use Rattle.ec_core.specs.declared.audit.AuditFault.{AuditFault}
 use Rattle.ec_core.specs.declared.audit.AuditFault.TheVariants as faults
 use Rattle.ec_core.specs.Following.{BreaksAt}
-use Rattle.ec_trace.specs.Headed.{Headed}
-use Rattle.ec_trace.specs.declared.group.Group.{Group}
+use Rattle.ec_heading.specs.Headed.{Headed}
+use Rattle.ec_heading.specs.declared.group.Group.{Group}
 use Rattle.evc_engine.specs.declared.audited.Audited.{Audited}
 use Rattle.evc_engine.specs.Audits.{group_rules, IsAudited, IsNotFollowed, IsStop}
 

@@ -6,9 +6,9 @@ use Rattle.ec_text.specs.Puts.{AppendsPrefix}
 use Rattle.ec_core.specs.Recorded.{Recorded}
 use Rattle.ec_order.specs.declared.placed.Placed.{Placed}
 use Rattle.ec_order.specs.Points.{ordered_by_points}
-use Rattle.ec_trace.specs.Headed.{Headed}
+use Rattle.ec_heading.specs.Headed.{Headed}
 use Rattle.ec_trace.specs.Recounted.{Recounted}
-use Rattle.ec_trace.specs.Spelling.{text_of, ended_line}
+use Rattle.ec_heading.specs.Spelling.{text_of, ended_line}
 use Rattle.evc_engine.specs.Texts.{check_lines, check_text}
 use Rattle.evc_engine.specs.Checks.{text_for}
 

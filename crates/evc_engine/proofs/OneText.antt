@@ -25,19 +25,19 @@ use Rattle.ec_semaphore.specs.Shapes.{Semaphore}
 use Rattle.ec_semaphore.specs.Balances.{parts_of}
 use Rattle.ec_semaphore.specs.Pairs.{pairs_of}
 use Rattle.ec_semaphore.specs.declared.parts.Balance.{Balance}
-use Rattle.ec_trace.specs.Objects.{group_of}
-use Rattle.ec_trace.specs.Outline.{Declaration, Outline, IsOutline, IsDeclarable, AreDeclarable, opened, declared_by, declared_all, headed, with_objects, objects_fault}
-use Rattle.ec_trace.specs.declared.sort.Sort.{Sort}
-use Rattle.ec_trace.specs.declared.sort.Sort.TheVariants as sorts
-use Rattle.ec_trace.specs.Spelling.{text_of}
+use Rattle.ec_heading.specs.Objects.{group_of}
+use Rattle.ec_heading.specs.Outline.{Declaration, Outline, IsOutline, IsDeclarable, AreDeclarable, opened, declared_by, declared_all, headed, with_objects, objects_fault}
+use Rattle.ec_heading.specs.declared.sort.Sort.{Sort}
+use Rattle.ec_heading.specs.declared.sort.Sort.TheVariants as sorts
+use Rattle.ec_heading.specs.Spelling.{text_of}
 use Rattle.ec_trace.specs.Outcome.{outcome}
 use Rattle.ec_trace.specs.declared.fault.TraceFault.{TraceFault}
-use Rattle.ec_trace.proofs.Each.{each_append}
-use Rattle.ec_trace.proofs.ReadHeadings.{sound, is_declared}
-use Rattle.ec_trace.specs.Headed.{Headed}
+use Rattle.ec_heading.proofs.Each.{each_append}
+use Rattle.ec_heading.proofs.ReadHeadings.{sound, is_declared}
+use Rattle.ec_heading.specs.Headed.{Headed}
 use Rattle.ec_trace.specs.Recounted.{Recounted}
-use Rattle.ec_trace.specs.declared.group.Group.{Group}
-use Rattle.ec_trace.specs.declared.group.Group.TheVariants as groups
+use Rattle.ec_heading.specs.declared.group.Group.{Group}
+use Rattle.ec_heading.specs.declared.group.Group.TheVariants as groups
 use Rattle.evc_engine.specs.declared.audited.Audited.{Audited}
 use Rattle.evc_engine.specs.declared.audited.Audited.TheVariants as audits
 use Rattle.evc_engine.specs.AuditTexts.{now_of, group_word, delivery_line, version_line, balance_line, pair_line, semaphore_word, audited_lines, groups_lines, audit_text}

@@ -7,9 +7,9 @@ use Rattle.ec_core.specs.declared.act.Entry.{Entry}
 use Rattle.ec_core.specs.Counts.{total, issued, cell_value}
 use Rattle.ec_text.specs.Puts.{Puts, Held}
 use Rattle.ec_text.proofs.PutLemmas.{puts_then}
-use Rattle.ec_trace.specs.Headed.{Headed}
+use Rattle.ec_heading.specs.Headed.{Headed}
 use Rattle.std.proofs.lemmas.List.{take_all, map-append}
-use Rattle.ec_trace.specs.Spelling.{Named, text_of, ended_line}
+use Rattle.ec_heading.specs.Spelling.{Named, text_of, ended_line}
 use Rattle.evc_engine.specs.Texts.{cell_line, cell_lines, count_line, totals_of, totals_at, totals_by, totals_lines}
 
 take_more : {A : Type 0} (xs : List A) (k : ℕ) (x : A) → slice_get xs k ≡ Some x → take (suc k) xs ≡ take k xs ++ x ∷ []

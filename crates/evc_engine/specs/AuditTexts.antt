@@ -8,10 +8,10 @@ use Rattle.ec_database.specs.Tries.{AcceptedTry}
 use Rattle.ec_database.specs.Auditing.{shown}
 use Rattle.ec_semaphore.specs.declared.parts.Balance.{Balance}
 use Rattle.ec_semaphore.specs.declared.pair.Pair.{Pair}
-use Rattle.ec_trace.specs.declared.group.Group.{Group}
-use Rattle.ec_trace.specs.declared.group.Group.TheVariants as groups
-use Rattle.ec_trace.specs.Headed.{Headed}
-use Rattle.ec_trace.specs.Spelling.{Named, word_of, text_of}
+use Rattle.ec_heading.specs.declared.group.Group.{Group}
+use Rattle.ec_heading.specs.declared.group.Group.TheVariants as groups
+use Rattle.ec_heading.specs.Headed.{Headed}
+use Rattle.ec_heading.specs.Spelling.{Named, word_of, text_of}
 use Rattle.evc_engine.specs.declared.audited.Audited.{Audited}
 use Rattle.evc_engine.specs.declared.audited.Audited.TheVariants as audits
 

@@ -15,12 +15,12 @@ use Rattle.ec_semaphore.specs.Both.{is_line, both_rules}
 use Rattle.ec_semaphore.specs.Balances.{parts_of}
 use Rattle.ec_semaphore.specs.Pairs.{pairs_of}
 use Rattle.ec_text.specs.Puts.{AppendsPrefix}
-use Rattle.ec_trace.specs.Headed.{Headed}
+use Rattle.ec_heading.specs.Headed.{Headed}
 use Rattle.ec_trace.specs.Outcome.{HasNoFault}
 use Rattle.ec_trace.specs.Recounted.{Recounted}
 use Rattle.ec_trace.specs.declared.fault.TraceFault.{TraceFault}
-use Rattle.ec_trace.specs.declared.group.Group.{Group}
-use Rattle.ec_trace.specs.declared.group.Group.TheVariants as groups
+use Rattle.ec_heading.specs.declared.group.Group.{Group}
+use Rattle.ec_heading.specs.declared.group.Group.TheVariants as groups
 use Rattle.ec_trace.specs.declared.read.TheConstants.{TRACE_MAX}
 use Rattle.evc_engine.specs.declared.audited.Audited.{Audited}
 use Rattle.evc_engine.specs.declared.audited.Audited.TheVariants as audits

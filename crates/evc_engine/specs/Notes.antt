@@ -3,7 +3,7 @@ use Rattle.std.specs.Prelude.{ℕ, List, ◌++◌, codes, decimal}
 use Rattle.ec_core.specs.declared.act.Refusal.{Refusal}
 use Rattle.ec_core.specs.declared.act.Reply.{Reply}
 use Rattle.ec_core.specs.Refusals.{refusal_number, refusal_name}
-use Rattle.ec_trace.specs.Spelling.{reply_word}
+use Rattle.ec_heading.specs.Spelling.{reply_word}
 use Rattle.ec_trace.specs.declared.fault.TraceFault.{TraceFault}
 use Rattle.ec_trace.specs.declared.fault.TraceFault.TheVariants.{BadLine, Refused, WrongReply, Unfinished, TooLarge, Read, Memory}
 use Rattle.evc_engine.specs.declared.status.Status.{Status}

@@ -8,8 +8,8 @@ use Rattle.ec_core.specs.Counts.{total, issued, cell_value}
 use Rattle.ec_order.specs.declared.call.Call.{Call}
 use Rattle.ec_order.specs.declared.placed.Placed.{Placed}
 use Rattle.ec_order.specs.Points.{ordered_by_points}
-use Rattle.ec_trace.specs.Headed.{Headed}
-use Rattle.ec_trace.specs.Spelling.{Named, entry_line, text_of}
+use Rattle.ec_heading.specs.Headed.{Headed}
+use Rattle.ec_heading.specs.Spelling.{Named, entry_line, text_of}
 
 -- a finished call, spelled as an entry: what it asked for, and what it was told in the end
 abbrev pub call_entry : Call → Entry

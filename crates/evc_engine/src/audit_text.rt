@@ -3,7 +3,7 @@ ghost use Rattle.std.specs.Prelude.{◌≡◌, ◌∷◌, [], ◌++◌, ◌+◌,
 ghost use Rattle.std.specs.Io.KnownBytes.{Appends};
 ghost use Rattle.ec_database.specs.Auditing.{shown};
 ghost use Rattle.ec_text.specs.Puts.{Puts, AppendsPrefix};
-ghost use Rattle.ec_trace.specs.Spelling.{text_of};
+ghost use Rattle.ec_heading.specs.Spelling.{text_of};
 ghost use Rattle.evc_engine.specs.AuditTexts.{spaced, delivered_words, delivery_line, spaced_numbers, version_words, version_line, balance_words, balance_line, ticket_words, pair_line, group_word, is_line_of, semaphore_word, audited_lines, groups_lines, audit_text};
 
 use crate::audited::Audited;

@@ -5,7 +5,7 @@ ghost use Rattle.ec_core.specs.Following.{Follow};
 ghost use Rattle.ec_semaphore.specs.Balances.{parts_of};
 ghost use Rattle.ec_semaphore.specs.Uses.{use_rules};
 ghost use Rattle.ec_semaphore.specs.Both.{is_line, both_rules};
-ghost use Rattle.ec_trace.specs.Groups.{FitsGroup};
+ghost use Rattle.ec_heading.specs.Groups.{FitsGroup};
 ghost use Rattle.evc_engine.specs.AuditTexts.{now_of};
 ghost use Rattle.evc_engine.specs.Audits.{semaphores_of, group_rules, IsPairsOf, IsAudited, AreAudited, IsStop, stop_status, stop_note, AuditEnds, Audits};
 ghost use Rattle.ec_text.specs.Puts.{Puts};

@@ -2,7 +2,7 @@
 ghost use Rattle.std.specs.Prelude.{◌≡◌, ◌∷◌, [], ◌++◌, ℕ, List, OnOk, OnErr, map, reverse};
 ghost use Rattle.std.specs.Io.KnownBytes.{Appends};
 ghost use Rattle.ec_text.specs.Puts.{Puts, AppendsPrefix};
-ghost use Rattle.ec_trace.specs.Spelling.{text_of};
+ghost use Rattle.ec_heading.specs.Spelling.{text_of};
 ghost use Rattle.evc_engine.specs.Texts.{placed_line, check_lines};
 
 use crate::totals::put_totals;

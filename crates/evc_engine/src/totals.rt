@@ -4,7 +4,7 @@ ghost use Rattle.ec_text.specs.Puts.{Puts};
 ghost use Rattle.ec_core.specs.Counts.{total, issued, cell_value};
 ghost use Rattle.ec_core.specs.Standing.{StandsFor};
 ghost use Rattle.ec_core.specs.declared.act.Entry.{Entry};
-ghost use Rattle.ec_trace.specs.Spelling.{text_of};
+ghost use Rattle.ec_heading.specs.Spelling.{text_of};
 ghost use Rattle.evc_engine.specs.Texts.{totals_of, totals_at, cell_lines, cell_line, count_line, totals_lines};
 
 use ec_core::World;

@@ -3,7 +3,7 @@ use Rattle.std.proofs.Common.{◌≡◌, ℕ, suc, ◌+◌, List, [], ◌∷◌,
 use Rattle.ec_machine.specs.declared.outcome.Outcome.{Outcome}
 use Rattle.ec_text.specs.Puts.{Puts, Held}
 use Rattle.ec_text.proofs.PutLemmas.{puts_then}
-use Rattle.ec_trace.specs.Spelling.{Named, text_of}
+use Rattle.ec_heading.specs.Spelling.{Named, text_of}
 use Rattle.ec_trace.proofs.LineParts.{text_of-append}
 use Rattle.evc_engine.proofs.TotalLemmas.{take_next}
 use Rattle.evc_engine.proofs.AuditLemmas.{taken_length}

@@ -8,9 +8,9 @@ use Rattle.ec_core.specs.declared.act.Refusal.{Refusal}
 use Rattle.ec_core.specs.declared.act.Reply.{Reply}
 use Rattle.ec_core.specs.Acceptance.{IsAccepted, answer_of}
 use Rattle.ec_machine.specs.declared.command.Command.{Command}
-use Rattle.ec_trace.specs.Headed.{Headed}
+use Rattle.ec_heading.specs.Headed.{Headed}
 use Rattle.ec_trace.specs.Outcome.{outcome}
-use Rattle.ec_trace.specs.Outline.{headed}
+use Rattle.ec_heading.specs.Outline.{headed}
 use Rattle.ec_trace.specs.Recounted.{Recounted}
 use Rattle.ec_trace.specs.declared.read.TheConstants.{TRACE_MAX}
 use Rattle.ec_trace.proofs.ReadTraces.{written_is_read}

@@ -5,8 +5,8 @@ use Rattle.std.specs.List.{list_any}
 use Rattle.ec_count.specs.Tables.{Tables}
 use Rattle.ec_core.specs.Acceptance.{IsAccepted}
 use Rattle.ec_machine.specs.declared.outcome.Outcome.{Outcome}
-use Rattle.ec_trace.specs.Outlined.{HasOutline}
-use Rattle.ec_trace.specs.Spelling.{trace_text}
+use Rattle.ec_heading.specs.Outlined.{HasOutline}
+use Rattle.ec_heading.specs.Spelling.{trace_text}
 use Rattle.ec_runner.specs.RunReports.{IsReportOf}
 use Rattle.ec_runner.specs.declared.report.Report.{Report}
 use Rattle.ec_runner.specs.declared.run_fault.RunFault.{RunFault}

@@ -4,9 +4,9 @@ use Rattle.std.proofs.lemmas.List.{reverse-reverse, take_all, length-take}
 use Rattle.ec_count.specs.Tables.{Tables}
 use Rattle.ec_core.specs.declared.act.Entry.{Entry}
 use Rattle.ec_machine.specs.declared.outcome.Outcome.{Outcome}
-use Rattle.ec_trace.specs.Outline.{Outline, IsOutline, headed}
-use Rattle.ec_trace.specs.Outlined.{HasOutline}
-use Rattle.ec_trace.specs.Spelling.{trace_text}
+use Rattle.ec_heading.specs.Outline.{Outline, IsOutline, headed}
+use Rattle.ec_heading.specs.Outlined.{HasOutline}
+use Rattle.ec_heading.specs.Spelling.{trace_text}
 use Rattle.ec_runner.specs.Reported.{IsReport}
 use Rattle.ec_runner.specs.declared.report.Report.{Report}
 use Rattle.ec_script.specs.declared.fault.Kind.{Kind}

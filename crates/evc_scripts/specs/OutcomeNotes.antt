@@ -4,8 +4,8 @@ use Rattle.ec_machine.specs.declared.outcome.Outcome.{Outcome}
 use Rattle.ec_machine.specs.declared.outcome.Outcome.TheVariants.{Running, Finished, Refused, ValueTooLarge, Stopped, OutOfTurns, Memory}
 use Rattle.ec_script.specs.declared.fault.Kind.{Kind}
 use Rattle.ec_script.specs.Faults.{kind_number, kind_name}
-use Rattle.ec_trace.specs.Headed.{Headed}
-use Rattle.ec_trace.specs.Spelling.{Named, text_of}
+use Rattle.ec_heading.specs.Headed.{Headed}
+use Rattle.ec_heading.specs.Spelling.{Named, text_of}
 use Rattle.evc_engine.specs.AuditTexts.{worker_word}
 use Rattle.evc_engine.specs.Notes.{line_words, refused_words}
 

@@ -14,7 +14,7 @@ use Rattle.ec_runner.specs.declared.report.Report.{Report}
 use Rattle.ec_runner.specs.declared.run_fault.RunFault.{RunFault}
 use Rattle.ec_runner.specs.declared.run_fault.RunFault.TheVariants.{Mismatch, Spawn}
 use Rattle.ec_runner.specs.declared.run_fault.RunFault.TheVariants as faults
-use Rattle.ec_trace.specs.Headed.{Headed}
+use Rattle.ec_heading.specs.Headed.{Headed}
 use Rattle.ec_runner.specs.RunReports.{IsReportOf}
 use Rattle.evc_engine.specs.declared.status.Status.{Status}
 use Rattle.evc_engine.specs.declared.status.Status.TheVariants.{Done, Refused, Usage, InputOutput, Memory, Stopped}

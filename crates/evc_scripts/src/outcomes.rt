@@ -1,7 +1,7 @@
 //! The notes of the commands on scripts.
 ghost use Rattle.std.specs.Prelude.{◌≡◌, ◌≤◌, ◌∷◌, [], length, slice_get};
 ghost use Rattle.ec_text.specs.Puts.{Puts};
-ghost use Rattle.ec_trace.specs.Spelling.{text_of};
+ghost use Rattle.ec_heading.specs.Spelling.{text_of};
 ghost use Rattle.evc_scripts.specs.OutcomeNotes.{outcome_words, outcome_line, outcome_lines, outcomes_note, kind_words, script_note, ended_words, ended_note};
 ghost use Rattle.evc_engine.specs.AuditTexts.{worker_word};
 ghost use Rattle.evc_scripts.specs.Runs.{mismatch_words};

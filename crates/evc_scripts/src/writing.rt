@@ -2,8 +2,8 @@
 ghost use Rattle.std.specs.Prelude.{◌≡◌, ◌≤◌, true, false, length, codes, if◌then◌else◌};
 ghost use Rattle.std.specs.Io.KnownBytes.{Appends};
 ghost use Rattle.ec_text.specs.Puts.{Puts, AppendsPrefix};
-ghost use Rattle.ec_trace.specs.Outline.{Outline, IsOutline, headed};
-ghost use Rattle.ec_trace.specs.Spelling.{trace_text};
+ghost use Rattle.ec_heading.specs.Outline.{Outline, IsOutline, headed};
+ghost use Rattle.ec_heading.specs.Spelling.{trace_text};
 ghost use Rattle.evc_scripts.specs.OutcomeNotes.{outcomes_note};
 
 use crate::outcomes::note_outcomes;

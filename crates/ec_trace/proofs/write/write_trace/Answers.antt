@@ -1,6 +1,6 @@
 use Rattle.std.proofs.Common.{◌∙◌, ap}
-use Rattle.ec_trace.specs.Headed.{Headed}
-use Rattle.ec_trace.specs.Recalled.{written_text}
+use Rattle.ec_heading.specs.Headed.{Headed}
+use Rattle.ec_heading.specs.Recalled.{written_text}
 use Rattle.ec_trace.proofs.TraceText.{text_found}
 use Rattle.ec_trace.proofs.write.write_trace.Goals as goal
 

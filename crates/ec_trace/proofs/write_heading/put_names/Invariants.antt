@@ -1,6 +1,6 @@
 use Rattle.std.proofs.Common.{take}
 use Rattle.ec_text.specs.Puts.{Puts}
-use Rattle.ec_trace.specs.Recalled.{spaced, names_of}
+use Rattle.ec_heading.specs.Recalled.{spaced, names_of}
 use Rattle.ec_trace.proofs.write_heading.put_names.Given as goal
 
 abbrev pub invariant-loop-worker : goal.invariant-loop-worker

@@ -1,7 +1,7 @@
 use Rattle.std.proofs.Common.{◌≡◌, ◌+◌, ◌∷◌, ◌++◌, [], ◌∙◌, ap, sym, map, take}
 use Rattle.std.specs.List.{filter_map}
-use Rattle.ec_trace.specs.Spelling.{text_of}
-use Rattle.ec_trace.specs.Recalled.{declared_line, declaration_of}
+use Rattle.ec_heading.specs.Spelling.{text_of}
+use Rattle.ec_heading.specs.Recalled.{declared_line, declaration_of}
 use Rattle.std.proofs.lemmas.List.{take_more}
 use Rattle.ec_count.specs.declared.target.Target.{Target}
 use Rattle.ec_trace.proofs.LineParts.{one_more_target}

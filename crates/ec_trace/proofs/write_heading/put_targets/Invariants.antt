@@ -1,8 +1,8 @@
 use Rattle.std.proofs.Common.{map, take}
 use Rattle.std.specs.List.{filter_map}
 use Rattle.ec_text.specs.Puts.{Puts}
-use Rattle.ec_trace.specs.Spelling.{text_of}
-use Rattle.ec_trace.specs.Recalled.{declared_line, declaration_of}
+use Rattle.ec_heading.specs.Spelling.{text_of}
+use Rattle.ec_heading.specs.Recalled.{declared_line, declaration_of}
 use Rattle.ec_trace.proofs.write_heading.put_targets.Given as goal
 
 abbrev pub invariant-loop-target : goal.invariant-loop-target

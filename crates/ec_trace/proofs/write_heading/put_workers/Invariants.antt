@@ -1,6 +1,6 @@
 use Rattle.std.specs.List.{range_with_len}
 use Rattle.ec_text.specs.Puts.{Puts}
-use Rattle.ec_trace.specs.Recalled.{spaced, names_of}
+use Rattle.ec_heading.specs.Recalled.{spaced, names_of}
 use Rattle.ec_trace.proofs.write_heading.put_workers.Given as goal
 
 abbrev pub invariant-loop-number : goal.invariant-loop-number

@@ -2,7 +2,7 @@ use Rattle.std.proofs.Common.{refl, subst, map}
 use Rattle.std.proofs.lemmas.Option.{slice_get_read}
 use Rattle.std.proofs.lemmas.List.{take_all}
 use Rattle.ec_text.specs.Puts.{Puts}
-use Rattle.ec_trace.specs.Spelling.{text_of}
+use Rattle.ec_heading.specs.Spelling.{text_of}
 use Rattle.evc_engine.specs.AuditTexts.{delivery_line}
 use Rattle.evc_engine.proofs.AuditLemmas.{line_at}
 use Rattle.evc_engine.proofs.audit_text.put_deliveries.Goals as goal

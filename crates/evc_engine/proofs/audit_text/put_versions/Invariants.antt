@@ -1,7 +1,7 @@
 use Rattle.std.proofs.Common.{map, take}
 use Rattle.ec_database.specs.Auditing.{shown}
 use Rattle.ec_text.specs.Puts.{Puts}
-use Rattle.ec_trace.specs.Spelling.{text_of}
+use Rattle.ec_heading.specs.Spelling.{text_of}
 use Rattle.evc_engine.specs.AuditTexts.{version_line}
 use Rattle.evc_engine.proofs.audit_text.put_versions.Given as goal
 

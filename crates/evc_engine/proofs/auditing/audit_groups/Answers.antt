@@ -1,7 +1,7 @@
 use Rattle.std.proofs.Common.{◌≡◌, Some, slice_get, subst, sym, ap, ◌∙◌, ◌+◌, refl, List}
 use Rattle.std.proofs.lemmas.Option.{slice_get_read}
-use Rattle.ec_trace.specs.Headed.{Headed}
-use Rattle.ec_trace.specs.declared.group.Group.{Group}
+use Rattle.ec_heading.specs.Headed.{Headed}
+use Rattle.ec_heading.specs.declared.group.Group.{Group}
 use Rattle.evc_engine.proofs.AuditLemmas.{EachIsAudited, one_more_audited, stops, audited_length}
 use Rattle.evc_engine.proofs.auditing.audit_groups.Goals as goal
 

@@ -1,6 +1,6 @@
 use Rattle.std.proofs.Common.{◌≡◌, ◌++◌, map}
 use Rattle.ec_text.specs.Puts.{Puts}
-use Rattle.ec_trace.specs.Spelling.{text_of}
+use Rattle.ec_heading.specs.Spelling.{text_of}
 use Rattle.evc_engine.specs.Texts.{placed_line}
 use Rattle.evc_engine.proofs.text.put_order.Given as goal
 

@@ -2,7 +2,7 @@ use Rattle.std.proofs.Common.{List, reverse, take}
 use Rattle.ec_text.specs.Puts.{Puts}
 use Rattle.ec_core.specs.Standing.{StandsFor}
 use Rattle.ec_core.specs.declared.act.Entry.{Entry}
-use Rattle.ec_trace.specs.Spelling.{text_of}
+use Rattle.ec_heading.specs.Spelling.{text_of}
 use Rattle.evc_engine.specs.Texts.{totals_by}
 use Rattle.evc_engine.proofs.totals.put_totals.Given as goal
 

@@ -1,6 +1,6 @@
 use Rattle.std.proofs.Common.{ℕ, [], ◌∷◌, subst, sym}
 use Rattle.ec_text.specs.Puts.{Puts}
-use Rattle.ec_trace.specs.Spelling.{text_of}
+use Rattle.ec_heading.specs.Spelling.{text_of}
 use Rattle.evc_scripts.specs.OutcomeNotes.{outcome_lines}
 use Rattle.evc_scripts.proofs.OutcomeLines.{outcome_put}
 use Rattle.evc_scripts.proofs.outcomes.put_outcomes.Goals as goal

@@ -3,7 +3,7 @@ use Rattle.std.specs.Io.KnownBytes.{Appends}
 use Rattle.ec_text.specs.Puts.{Puts}
 use Rattle.ec_machine.specs.declared.outcome.Outcome.{Outcome}
 use Rattle.ec_script.specs.Outcome.{shown_plan}
-use Rattle.ec_trace.specs.Outlined.{HasOutline}
+use Rattle.ec_heading.specs.Outlined.{HasOutline}
 use Rattle.evc_engine.specs.declared.status.Status.{Status}
 use Rattle.evc_scripts.specs.OutcomeNotes.{outcomes_note}
 use Rattle.evc_scripts.specs.Runs.{RunEnds, status_for}

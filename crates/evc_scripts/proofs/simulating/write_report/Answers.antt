@@ -1,7 +1,7 @@
 use Rattle.std.proofs.Common.{List, refl, subst}
 use Rattle.ec_text.specs.Puts.{Puts}
 use Rattle.ec_machine.specs.declared.outcome.Outcome.{Outcome}
-use Rattle.ec_trace.specs.Outlined.{HasOutline}
+use Rattle.ec_heading.specs.Outlined.{HasOutline}
 use Rattle.evc_scripts.specs.OutcomeNotes.{outcomes_note}
 use Rattle.evc_scripts.proofs.SimEnds.{is_played}
 use Rattle.evc_scripts.proofs.simulating.write_report.Goals as goal

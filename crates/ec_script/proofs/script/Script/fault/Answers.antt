@@ -1,5 +1,5 @@
 use Rattle.std.proofs.Common.{◌≡◌, ℕ, List, length, Option, option_map, ap, ◌∙◌}
-use Rattle.ec_trace.specs.Headed.{Headed}
+use Rattle.ec_heading.specs.Headed.{Headed}
 use Rattle.ec_script.specs.declared.kinds.Nest.{Nest}
 use Rattle.ec_script.specs.Forms.{shown}
 use Rattle.ec_script.specs.Kinds.{Seen, phrase_fault}

@@ -1,0 +1,89 @@
+-- Why a line of a heading is refused: each kind of fault is a test of its own.
+use Rattle.std.specs.Prelude.{ℕ, ◌+◌, Bool, ◌&&◌, ◌||◌, not, nat_lt, List, [], ◌∷◌, length, Option, Some, None, is_some, unwrap_or}
+use Rattle.std.specs.List.{list_any}
+use Rattle.ec_count.specs.Tables.{Tables, first_that}
+use Rattle.ec_count.specs.Members.{is_member, has_repeat}
+use Rattle.ec_count.specs.Names.{find_name}
+use Rattle.ec_count.specs.Reserved.{is_name}
+use Rattle.ec_count.specs.declared.target.Target.{Target}
+use Rattle.ec_buffer.specs.Shapes as buffers
+use Rattle.ec_database.specs.Shapes as databases
+use Rattle.ec_text.specs.Words.{number_of}
+use Rattle.ec_heading.specs.declared.sort.Sort.{Sort}
+use Rattle.ec_heading.specs.declared.sort.Sort.TheVariants as sorts
+use Rattle.ec_heading.specs.declared.heading.HeadFault.{HeadFault}
+use Rattle.ec_heading.specs.declared.heading.HeadFault.TheVariants as faults
+use Rattle.ec_heading.specs.Sorts.{has_number, keeps_apart, is_called, is_in_range}
+use Rattle.ec_heading.specs.Outline.{Declaration}
+use Rattle.ec_heading.specs.Form.{Phrase}
+use Rattle.ec_heading.specs.Lists.{ids_in, has_unknown, has_word_twice}
+
+abbrev pub Named : Type 0
+Named = List (List ℕ × Target)
+
+-- A LINE OF WORKERS
+
+-- the least fault of the names of workers
+abbrev pub workers_fault : List (List ℕ) → Option HeadFault
+workers_fault ws = first_that (
+    (list_any (λ w. not (is_name w)) ws, faults.BadName)
+    ∷ (has_word_twice ws, faults.NameTaken)
+    ∷ (nat_lt 16 (length ws), faults.TooMany)
+    ∷ [])
+
+-- A DECLARATION
+
+abbrev pub second_list : Phrase → List (List ℕ)
+second_list p = unwrap_or p.second []
+
+-- the number; 0 where the form has none, and where there are more than 18 digits
+abbrev pub size_in : Phrase → ℕ
+size_in p = unwrap_or (number_of p.number) 0
+
+-- the declaration that such a line makes, by the words of the heading
+abbrev pub declaration_of : Named → Phrase → Declaration
+declaration_of words p = record { sort = p.sort; name = p.name; number = size_in p; first = ids_in words p.first; second = ids_in words (second_list p) }
+
+-- whether something is called so already, or a list names a worker twice
+abbrev pub is_taken : Named → Declaration → Bool
+is_taken words d = is_some (find_name d.name words) || (has_repeat d.first || has_repeat d.second)
+
+-- whether a word of a list is no worker's name
+abbrev pub has_unknown_word : Named → Phrase → Bool
+has_unknown_word words p = has_unknown words p.first || has_unknown words (second_list p)
+
+-- whether the number is out of its range; one of more than 18 digits is
+abbrev pub is_bad_number : Sort → Option ℕ → Bool
+is_bad_number s None = has_number s
+is_bad_number s (Some n) = has_number s && not (is_in_range s n)
+
+-- whether there is no room for the objects
+abbrev pub is_full_for : Sort → Tables → ℕ → Bool
+is_full_for sorts.EventCount t n = nat_lt 31 (length t.events)
+is_full_for sorts.Sequencer t n = nat_lt 31 (length t.takers)
+is_full_for sorts.Cells t n = nat_lt 256 (length t.cells + n)
+is_full_for sorts.Buffer t n = buffers.lacks_room t n
+is_full_for sorts.Database t n = databases.lacks_room t n
+is_full_for sorts.Semaphore t n = nat_lt 31 (length t.events) || nat_lt 31 (length t.takers)
+is_full_for sorts.Both t n = nat_lt 31 (length t.events) || nat_lt 31 (length t.takers)
+
+abbrev pub is_too_many : Tables → Declaration → Bool
+is_too_many t d = (nat_lt 16 (length d.first) || nat_lt 16 (length d.second)) || is_full_for d.sort t d.number
+
+-- whether a worker stands in both lists of a sort that keeps them apart
+abbrev pub has_two_roles : Declaration → Bool
+has_two_roles d = keeps_apart d.sort && list_any (λ w. is_member w d.second) d.first
+
+-- the least fault of a line of one of the forms
+abbrev pub kind_of : Tables → Named → Phrase → Declaration → Option HeadFault
+kind_of t words p d = first_that (
+    (not (is_called d.sort d.name), faults.BadName)
+    ∷ (is_taken words d, faults.NameTaken)
+    ∷ (has_unknown_word words p, faults.UnknownName)
+    ∷ (is_bad_number p.sort (number_of p.number), faults.BadNumber)
+    ∷ (is_too_many t d, faults.TooMany)
+    ∷ (has_two_roles d, faults.TwoRoles)
+    ∷ [])
+
+abbrev pub declaration_fault : Tables → Named → Phrase → Option HeadFault
+declaration_fault t words p = kind_of t words p (declaration_of words p)

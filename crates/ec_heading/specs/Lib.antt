@@ -1,0 +1,14 @@
+pub mod Sorts
+pub mod Objects
+pub mod Headed
+pub mod Groups
+pub mod Outline
+pub mod Outlined
+pub mod Spelling
+pub mod Lists
+pub mod Form
+pub mod Kinds
+pub mod Heading
+pub mod HeadingLaws
+pub mod Recalled
+pub mod Spelled

@@ -1,0 +1,156 @@
+//! The form of a declaration.
+ghost use Rattle.std.specs.Prelude.{◌≡◌, None, option_map, IfNone, IfSome};
+ghost use Rattle.ec_text.specs.Words.{words_of};
+ghost use Rattle.ec_heading.specs.Sorts.{needs_other, other};
+ghost use Rattle.ec_heading.specs.Form.{parts_in, numbered_in, opened_in, split_words, both_lists, shown, shown_lists, well_or, StopsAt};
+
+use crate::lists::is_same;
+use crate::sort::{Sort, sort_of};
+use ec_text::{cut_word, is_number_form};
+
+/// A declaration, by its words: where the form has no name it is the sort's own word, and where it
+/// has no number that is empty.
+#[derive(Clone, Copy)]
+pub(crate) struct Parts<'a> {
+    pub(crate) sort: Sort,
+    pub(crate) name: &'a [u8],
+    pub(crate) number: &'a [u8],
+    pub(crate) first: &'a [u8],
+    pub(crate) second: Option<&'a [u8]>,
+}
+
+/// Two lists of words.
+#[derive(Clone, Copy)]
+pub(crate) struct Lists<'a> {
+    pub(crate) first: &'a [u8],
+    pub(crate) second: Option<&'a [u8]>,
+}
+
+/// How many bytes stand before the first such word.
+fn stop_at(list: &[u8], stop: &[u8]) -> Option<usize>
+    ensures none { IfNone result (split_words stop.now (words_of list.now) ≡ (words_of list.now, None)) }
+    ensures some { IfSome result (λ at. StopsAt stop.now list.now at) }
+{
+    let (word, rest) = cut_word(list);
+    let is_stop = is_same(word, stop);
+    match rest {
+        None => {
+            if is_stop {
+                return Some(0);
+            }
+            None
+        }
+        Some(rest) => {
+            if is_stop {
+                return Some(0);
+            }
+            match stop_at(rest, stop) {
+                None => None,
+                Some(at) => Some(word.len() + 1 + at),
+            }
+        }
+    }
+}
+
+/// The lists before and behind the first such word, if both are well.
+fn split_lists<'a>(list: &'a [u8], stop: &[u8], needs: bool) -> Option<Lists<'a>>
+    ensures { option_map shown_lists result ≡ well_or needs (split_words stop.now (words_of list.now)) }
+{
+    match stop_at(list, stop) {
+        None => {
+            if needs {
+                return None;
+            }
+            Some(Lists {
+                first: list,
+                second: None,
+            })
+        }
+        Some(at) => {
+            if at == 0 {
+                return None;
+            }
+            let end = at + stop.len();
+            if end >= list.len() {
+                return None;
+            }
+            Some(Lists {
+                first: &list[..at - 1],
+                second: Some(&list[end + 1..]),
+            })
+        }
+    }
+}
+
+/// The two lists of a sort, if both are well.
+fn lists_of<'a>(sort: Sort, list: &'a [u8]) -> Option<Lists<'a>>
+    ensures { option_map shown_lists result ≡ well_or (needs_other sort) (both_lists (other sort) (words_of list.now)) }
+{
+    match sort.other() {
+        None => {
+            if sort.needs_other() {
+                return None;
+            }
+            Some(Lists {
+                first: list,
+                second: None,
+            })
+        }
+        Some(stop) => split_lists(list, stop, sort.needs_other()),
+    }
+}
+
+/// The parts of a declaration from the word before its first list on.
+#[tactic(auto, using(crate::proofs::Stops::opened_one))]
+fn opened<'a>(sort: Sort, name: &'a [u8], number: &'a [u8], rest: &'a [u8]) -> Option<Parts<'a>>
+    ensures { option_map shown result ≡ opened_in sort name.now number.now (words_of rest.now) }
+{
+    let (word, Some(rest)) = cut_word(rest) else {
+        return None;
+    };
+    if !is_same(word, sort.opener()) {
+        return None;
+    }
+    let lists = lists_of(sort, rest)?;
+    Some(Parts {
+        sort,
+        name,
+        number,
+        first: lists.first,
+        second: lists.second,
+    })
+}
+
+/// The parts of a declaration from what stands behind its name on.
+fn numbered<'a>(sort: Sort, name: &'a [u8], rest: &'a [u8]) -> Option<Parts<'a>>
+    ensures { option_map shown result ≡ numbered_in sort name.now (words_of rest.now) }
+{
+    if !sort.has_number() {
+        return opened(sort, name, b"".as_slice(), rest);
+    }
+    let (word, Some(rest)) = cut_word(rest) else {
+        return None;
+    };
+    if !is_number_form(word) {
+        return None;
+    }
+    opened(sort, name, word, rest)
+}
+
+/// The parts of a line of one of the forms.
+#[tactic(auto, using(crate::proofs::Stops::sorted_none, crate::proofs::Stops::word_of_sort), unfolding(crate::specs::Form::parts_in))]
+pub(crate) fn parts_of(line: &[u8]) -> Option<Parts<'_>>
+    ensures { option_map shown result ≡ parts_in (words_of line.now) }
+{
+    let (word, Some(rest)) = cut_word(line) else {
+        return None;
+    };
+    let sort = sort_of(word)?;
+    if !sort.has_name() {
+        return numbered(sort, word, rest);
+    }
+    let (name, Some(rest)) = cut_word(rest) else {
+        return None;
+    };
+    numbered(sort, name, rest)
+}

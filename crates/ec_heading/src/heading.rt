@@ -1,0 +1,391 @@
+//! Headings.
+ghost use Rattle.std.specs.Prelude.{◌≡◌, ◌≢◌, ◌+◌, ◌++◌, ◌≤◌, IfErr, IfOk, OnErr, OnOk, [], None, length, option_map, vec_capacity};
+ghost use Rattle.std.specs.List.{All, cons_option};
+ghost use Rattle.ec_text.specs.Words.{words_of};
+ghost use Rattle.ec_heading.specs.Form.{parts_in, shown};
+ghost use Rattle.ec_heading.specs.Groups.{FitsGroup};
+ghost use Rattle.ec_heading.specs.Heading.{Lines, Steps, workers_in, words_step, opened_by, declared_or};
+ghost use Rattle.ec_heading.specs.Kinds.{workers_fault, declaration_fault, declaration_of, second_list};
+ghost use Rattle.ec_count.specs.Names.{AreNames};
+ghost use Rattle.ec_heading.specs.Lists.{ids_in, worker_in};
+ghost use Rattle.ec_heading.specs.Outlined.{IsHeading, HasOutline};
+ghost use Rattle.ec_heading.specs.Spelled.{event_in, sequencer_in, cell_in_word, cell_of};
+ghost use Rattle.ec_heading.specs.Outline.{opened, IsDeclarable, numbered, named_as, declared_by};
+
+use crate::form::{Parts, parts_of};
+use crate::group::Group;
+use crate::kinds::{declaration_fault, size_of, workers_fault};
+use crate::lists::{has_blank, is_same, push_ids, worker_in};
+use crate::objects::{add_objects, spell_objects, target_of};
+use crate::sort::Sort;
+use crate::spelled::{block_of, closed_number, cut_at, event_of, sequencer_of};
+use arrayvec::ArrayVec;
+use ec_count::{
+    CellId, EventId, Limit, NameFault, Names, SeqId, Setup, Target, Vocabulary, WorkerId,
+};
+use ec_text::cut_word;
+use std::alloc::{AllocError, Global};
+use std::marker::Model;
+use thiserror::Error;
+
+/// Why a line of a heading is refused: the least of these that holds of the line.
+#[derive(Clone, Copy, Debug, PartialEq, Eq, Error)]
+pub enum HeadFault {
+    /// The line has none of the forms allowed in its place, or more than 8192 bytes.
+    #[error("bad line")]
+    BadLine,
+    /// A word in the place of a new name is not a name.
+    #[error("a word is no name")]
+    BadName,
+    /// A new name was used before, or a list names a worker twice.
+    #[error("a name was used before")]
+    NameTaken,
+    /// A word in the place of a worker is not the name of one.
+    #[error("a name is not declared")]
+    UnknownName,
+    /// A number is outside its range.
+    #[error("a number is out of range")]
+    BadNumber,
+    /// A table would pass its bound.
+    #[error("a table would pass its bound")]
+    TooMany,
+    /// The line names an object of a group.
+    #[error("the object belongs to a group")]
+    Hidden,
+    /// A worker stands in both lists of a group.
+    #[error("a worker stands in both roles")]
+    TwoRoles,
+    /// Memory was refused.
+    #[error("memory was refused")]
+    Memory,
+}
+
+/// What a heading declares: the limit, the workers, and their objects, with their names and the
+/// words by which lines spell them.
+#[derive(Drop)]
+pub struct Heading {
+    pub(crate) setup: Setup,
+    pub(crate) names: Names,
+    pub(crate) words: Vocabulary,
+    pub(crate) groups: Vec<Group>,
+    pub(crate) declarations: Vec<Target>,
+}
+
+impl Model for Heading {
+    ghost use Rattle.ec_heading.specs.Headed.{Headed};
+
+    ghost Value = { Headed };
+
+    ghost use Rattle.ec_heading.specs.Outlined.{IsHeading};
+
+    ghost view = { λ h. record { setup = h.setup; names = h.names; words = h.words; groups = h.groups.items; declarations = h.declarations.items } };
+
+    ghost invariant = { λ h. IsHeading (record { setup = h.setup; names = h.names; words = h.words; groups = h.groups.items; declarations = h.declarations.items }) };
+}
+
+/// The names that a line of workers lists, where it has that form.
+#[tactic(auto, using(crate::proofs::WorkersLine::some_workers))]
+fn worker_list(line: &[u8]) -> Option<&[u8]>
+    ensures { option_map (λ list. words_of list.now) result ≡ workers_in (words_of line.now) }
+{
+    let (word, Some(list)) = cut_word(line) else {
+        return None;
+    };
+    if is_same(word, b"workers".as_slice()) {
+        Some(list)
+    } else {
+        None
+    }
+}
+
+/// Adds the workers of a list in order.
+fn add_workers(
+    names: &mut Names,
+    words: &mut Vocabulary,
+    setup: &mut Setup,
+    list: &[u8],
+) -> Result<(), NameFault>
+    requires room { setup.old.workers + length (words_of list.now) ≤ 16 }
+    requires same { words.old ≡ names.old }
+    ensures names { OnOk result (names.new ≡ names.old ++ numbered setup.old.workers (words_of list.now)) }
+    ensures words { OnOk result (words.new ≡ words.old ++ numbered setup.old.workers (words_of list.now)) }
+    ensures setup { OnOk result (setup.new ≡ record setup.old { workers = setup.old.workers + length (words_of list.now) }) }
+{
+    let (word, rest) = cut_word(list);
+    let Ok(worker) = setup.add_worker() else {
+        unreachable!();
+    };
+    names.add_bytes(word, Target::Worker(worker))?;
+    if words.add(word, Target::Worker(worker)).is_err() {
+        return Err(NameFault::Memory);
+    }
+    match rest {
+        None => Ok(()),
+        Some(rest) => add_workers(names, words, setup, rest),
+    }
+}
+
+/// A heading with these workers and no declarations.
+fn opened(alloc: Global, limit: Limit, list: &[u8]) -> Result<Heading, NameFault>
+    requires { workers_fault (words_of list.now) ≡ None }
+    ensures { IfOk result (λ heading. heading ≡ opened limit (words_of list.now)) }
+{
+    let _limit = limit.get();
+    let Ok(mut names) = Names::new(alloc) else {
+        return Err(NameFault::Memory);
+    };
+    let Ok(mut words) = Vocabulary::new(alloc) else {
+        return Err(NameFault::Memory);
+    };
+    let mut setup = Setup::new(limit);
+    add_workers(&mut names, &mut words, &mut setup, list)?;
+    Ok(Heading {
+        setup,
+        names,
+        words,
+        groups: Vec::new(alloc),
+        declarations: Vec::new(alloc),
+    })
+}
+
+impl Heading {
+    /// A heading with this limit and nothing declared.
+    pub fn new(alloc: Global, limit: Limit) -> Result<Self, AllocError>
+        ensures { IfOk result (λ heading. heading ≡ opened limit []) }
+    {
+        Ok(Heading {
+            setup: Setup::new(limit),
+            names: Names::new(alloc)?,
+            words: Vocabulary::new(alloc)?,
+            groups: Vec::new(alloc),
+            declarations: Vec::new(alloc),
+        })
+    }
+
+    /// Takes a line, without its LF: the one of the workers first, and then declarations. A line is
+    /// refused for the least fault that holds of it, want of memory last, and then nothing is
+    /// changed: after `Memory` the same line may be handed in again.
+    #[tactic(auto, unfolding(crate::specs::Heading::head_step))]
+    pub fn line(&mut self, line: &[u8]) -> Result<(), HeadFault>
+        ensures { Lines result self.old self.new line.now }
+    {
+        if line.len() > 8192 || has_blank(line) {
+            return Err(HeadFault::BadLine);
+        }
+        if self.setup.workers() == 0 {
+            self.take_workers(line)
+        } else {
+            self.take_declaration(line)
+        }
+    }
+
+    /// Takes the line of the workers.
+    fn take_workers(&mut self, line: &[u8]) -> Result<(), HeadFault>
+        ensures { Steps result self.old self.new (opened_by self.old.setup.limit (workers_in (words_of line.now))) }
+    {
+        let Some(list) = worker_list(line) else {
+            return Err(HeadFault::BadLine);
+        };
+        if let Some(fault) = workers_fault(list) {
+            return Err(fault);
+        }
+        let Ok(heading) = opened(*self.declarations.allocator(), self.setup.limit(), list) else {
+            return Err(HeadFault::Memory);
+        };
+        *self = heading;
+        Ok(())
+    }
+
+    /// Takes a declaration.
+    fn take_declaration(&mut self, line: &[u8]) -> Result<(), HeadFault>
+        requires { self.old.setup.workers ≢ 0 }
+        ensures { Steps result self.old self.new (declared_or self.old (parts_in (words_of line.now))) }
+    {
+        let Some(parts) = parts_of(line) else {
+            return Err(HeadFault::BadLine);
+        };
+        if let Some(fault) = declaration_fault(&self.setup, &self.words, &parts) {
+            return Err(fault);
+        }
+        self.declare(&parts)
+    }
+
+    /// Adds what a line without fault declares: first what may want memory, so that nothing changes where it is refused.
+    fn declare(&mut self, parts: &Parts<'_>) -> Result<(), HeadFault>
+        requires some { self.old.setup.workers ≢ 0 }
+        requires may { IsDeclarable self.old (declaration_of self.old.words (shown parts.now)) }
+        ensures ok { OnOk result (self.new ≡ declared_by self.old (declaration_of self.old.words (shown parts.now))) }
+        ensures err { OnErr result (self.new ≡ self.old) }
+        ensures fault { IfErr result (λ fault. fault ≡ HeadFault.Memory) }
+    {
+        let n = size_of(parts) as usize;
+        let first = workers_of(&self.words, parts.first);
+        let second = second_workers(&self.words, parts);
+        let groups = self.groups.len();
+        let target = target_of(&self.setup, groups, parts.sort, n);
+        if self.declarations.reserve(1).is_err() || self.groups.reserve(1).is_err() {
+            return Err(HeadFault::Memory);
+        }
+        let before = self.words.len();
+        if spell_objects(
+            &mut self.words,
+            parts.name,
+            &self.setup,
+            groups,
+            parts.sort,
+            n,
+        )
+        .is_err()
+        {
+            return Err(HeadFault::Memory);
+        }
+        if add_name(&mut self.names, parts.sort, parts.name, &target).is_err() {
+            self.words.truncate(before);
+            return Err(HeadFault::Memory);
+        }
+        let group = add_objects(
+            &mut self.setup,
+            parts.sort,
+            n,
+            first.as_slice(),
+            second.as_slice(),
+        );
+        push_group(&mut self.groups, group);
+        if self.declarations.push(target).is_err() {
+            unreachable!();
+        }
+        Ok(())
+    }
+
+    /// What is declared.
+    pub fn setup(&self) -> &Setup
+        ensures { result.now ≡ self.now.setup }
+    {
+        &self.setup
+    }
+
+    /// The names of the workers and of what is declared.
+    pub fn names(&self) -> &Names
+        ensures { result.now ≡ self.now.names }
+    {
+        &self.names
+    }
+
+    /// The words by which lines spell the workers and the objects, in the order in which they are declared.
+    pub fn words(&self) -> &Vocabulary
+        ensures { result.now ≡ self.now.words }
+    {
+        &self.words
+    }
+
+    /// The groups, in order of declaration.
+    pub fn groups(&self) -> &[Group]
+        ensures { result.now ≡ self.now.groups }
+    {
+        self.groups.as_slice()
+    }
+
+    /// What was declared after the workers, in order; a group by its place among the groups.
+    pub fn declarations(&self) -> &[Target]
+        ensures { result.now ≡ self.now.declarations }
+    {
+        self.declarations.as_slice()
+    }
+
+    /// What is true of a heading.
+    #[tactic(auto, using(crate::proofs::Standing::has_outline_from))]
+    pub fn known(&self)
+        ensures heading { IsHeading self.now }
+        ensures outline { 1 ≤ self.now.setup.workers → HasOutline self.now }
+        ensures names { AreNames self.now.names }
+        ensures groups { All (FitsGroup self.now.setup) self.now.groups }
+    {
+        self.names.known();
+        let _setup = &self.setup;
+    }
+
+    /// The eventcount that a word spells.
+    pub fn event(&self, word: &[u8]) -> Option<EventId>
+        ensures { result ≡ event_in self.now.words word.now }
+    {
+        event_of(self.words.find(word)?)
+    }
+
+    /// The sequencer that a word spells.
+    pub fn sequencer(&self, word: &[u8]) -> Option<SeqId>
+        ensures { result ≡ sequencer_in self.now.words word.now }
+    {
+        sequencer_of(self.words.find(word)?)
+    }
+
+    /// The cell that a word spells: the name of its block, `[`, its number there, and `]`.
+    #[tactic(auto, unfolding(crate::specs::Spelled::cell_in_word))]
+    pub fn cell(&self, word: &[u8]) -> Option<CellId>
+        ensures { result ≡ cell_in_word self.now.words word.now }
+    {
+        let (name, rest) = cut_at(word, b'[')?;
+        self.cell_of(name, closed_number(rest)?)
+    }
+
+    /// The cell with this number in the block of this name.
+    fn cell_of(&self, name: &[u8], i: u64) -> Option<CellId>
+        ensures { result ≡ cell_of self.now.words name.now i }
+    {
+        let (first, n) = block_of(self.words.find(name)?)?;
+        if i >= n as u64 {
+            return None;
+        }
+        CellId::new(first + i as usize)
+    }
+
+    /// The worker of a name.
+    pub fn worker(&self, word: &[u8]) -> Option<WorkerId>
+        ensures { result ≡ worker_in self.now.words word.now }
+    {
+        worker_in(&self.words, word)
+    }
+}
+
+/// Adds the name of a declaration, where its form has one.
+fn add_name(names: &mut Names, sort: Sort, name: &[u8], target: &Target) -> Result<(), NameFault>
+    ensures ok { OnOk result (names.new ≡ names.old ++ named_as sort name.now target.now) }
+    ensures err { OnErr result (names.new ≡ names.old) }
+{
+    if !sort.has_name() {
+        return Ok(());
+    }
+    names.add_bytes(name, *target)
+}
+
+/// Adds a group, if there is one, where there is room for it.
+fn push_group(groups: &mut Vec<Group>, group: Option<Group>)
+    requires { length groups.old.items + 1 ≤ vec_capacity groups.old }
+    ensures { groups.new.items ≡ groups.old.items ++ cons_option group [] }
+{
+    if let Some(group) = group {
+        if groups.push(group).is_err() {
+            unreachable!();
+        }
+    }
+}
+
+/// The workers that a list names.
+fn workers_of(words: &Vocabulary, list: &[u8]) -> ArrayVec<WorkerId, 16>
+    requires { length (ids_in words.now (words_of list.now)) ≤ 16 }
+    ensures { result.items ≡ ids_in words.now (words_of list.now) }
+{
+    let mut ids = ArrayVec::new();
+    push_ids(words, list, &mut ids);
+    ids
+}
+
+/// The workers that the second list names.
+fn second_workers(words: &Vocabulary, parts: &Parts<'_>) -> ArrayVec<WorkerId, 16>
+    requires { length (ids_in words.now (second_list (shown parts.now))) ≤ 16 }
+    ensures { result.items ≡ ids_in words.now (second_list (shown parts.now)) }
+{
+    match parts.second {
+        None => ArrayVec::new(),
+        Some(list) => workers_of(words, list),
+    }
+}

@@ -1,0 +1,174 @@
+//! Why a line of a heading is refused.
+ghost use Rattle.std.specs.Prelude.{◌≡◌, ◌+◌, not, nat_lt, length};
+ghost use Rattle.std.specs.List.{list_any};
+ghost use Rattle.ec_count.specs.Reserved.{is_name};
+ghost use Rattle.ec_text.specs.Words.{words_of};
+ghost use Rattle.ec_heading.specs.Form.{shown};
+ghost use Rattle.ec_heading.specs.Kinds.{workers_fault, declaration_of, declaration_fault, size_in, is_taken, has_unknown_word, is_bad_number, is_too_many, has_two_roles};
+
+use crate::form::Parts;
+use crate::heading::HeadFault;
+use crate::lists::{count_ids, count_words, has_repeat, has_shared, has_unknown, has_word_twice};
+use crate::sort::Sort;
+use ec_count::{Setup, Vocabulary, is_name};
+use ec_text::{cut_word, number};
+
+/// Whether a word is no name.
+fn has_bad_name(list: &[u8]) -> bool
+    ensures { result ≡ list_any (λ w. not (is_name w)) (words_of list.now) }
+{
+    let (word, rest) = cut_word(list);
+    if !is_name(word) {
+        return true;
+    }
+    match rest {
+        None => false,
+        Some(rest) => has_bad_name(rest),
+    }
+}
+
+/// The least fault of the names of workers.
+pub(crate) fn workers_fault(list: &[u8]) -> Option<HeadFault>
+    ensures { result ≡ workers_fault (words_of list.now) }
+{
+    if has_bad_name(list) {
+        return Some(HeadFault::BadName);
+    }
+    if has_word_twice(list) {
+        return Some(HeadFault::NameTaken);
+    }
+    if count_words(list) > 16 {
+        return Some(HeadFault::TooMany);
+    }
+    None
+}
+
+/// The number, or 0 where there is none of at most 18 digits.
+pub(crate) fn size_of(parts: &Parts<'_>) -> u64
+    ensures { result ≡ size_in (shown parts.now) }
+{
+    match number(parts.number) {
+        Some(n) => n,
+        None => 0,
+    }
+}
+
+/// Whether something is called so already, or a list names a worker twice.
+fn is_taken(words: &Vocabulary, parts: &Parts<'_>) -> bool
+    ensures { result ≡ is_taken words.now (declaration_of words.now (shown parts.now)) }
+{
+    if words.find(parts.name).is_some() || has_repeat(words, parts.first) {
+        return true;
+    }
+    match parts.second {
+        None => false,
+        Some(second) => has_repeat(words, second),
+    }
+}
+
+/// Whether a word of a list is no worker's name.
+fn has_unknown_word(words: &Vocabulary, parts: &Parts<'_>) -> bool
+    ensures { result ≡ has_unknown_word words.now (shown parts.now) }
+{
+    if has_unknown(words, parts.first) {
+        return true;
+    }
+    match parts.second {
+        None => false,
+        Some(second) => has_unknown(words, second),
+    }
+}
+
+/// Whether the number is out of its range; one of more than 18 digits is.
+fn is_bad_number(sort: Sort, number: Option<u64>) -> bool
+    ensures { result ≡ is_bad_number sort number }
+{
+    match number {
+        None => sort.has_number(),
+        Some(n) => sort.has_number() && !sort.is_in_range(n),
+    }
+}
+
+/// How many workers the second list names.
+fn count_second(words: &Vocabulary, parts: &Parts<'_>) -> usize
+    ensures { result ≡ length (declaration_of words.now (shown parts.now)).second }
+{
+    match parts.second {
+        None => 0,
+        Some(second) => count_ids(words, second),
+    }
+}
+
+/// Whether so many cells and n more pass the bound.
+fn is_over(cells: usize, n: u64) -> bool
+    ensures { result ≡ nat_lt 256 (cells + n) }
+{
+    if n > 256 || cells > 256 {
+        return true;
+    }
+    cells as u64 + n > 256
+}
+
+/// Whether a list or a table would pass its bound.
+fn is_too_many(setup: &Setup, words: &Vocabulary, parts: &Parts<'_>) -> bool
+    ensures { result ≡ is_too_many setup.now (declaration_of words.now (shown parts.now)) }
+{
+    if count_ids(words, parts.first) > 16 || count_second(words, parts) > 16 {
+        return true;
+    }
+    match parts.sort {
+        Sort::EventCount => setup.events() > 31,
+        Sort::Sequencer => setup.sequencers() > 31,
+        Sort::Cells => is_over(setup.cells(), size_of(parts)),
+        Sort::Buffer => {
+            setup.events() > 30 || setup.sequencers() > 30 || is_over(setup.cells(), size_of(parts))
+        }
+        Sort::Database => {
+            setup.events() > 30 || setup.sequencers() > 31 || is_over(setup.cells(), size_of(parts))
+        }
+        Sort::Semaphore => setup.events() > 31 || setup.sequencers() > 31,
+        Sort::Both => setup.events() > 31 || setup.sequencers() > 31,
+    }
+}
+
+/// Whether a worker stands in both lists of a sort that keeps them apart.
+fn has_two_roles(words: &Vocabulary, parts: &Parts<'_>) -> bool
+    ensures { result ≡ has_two_roles (declaration_of words.now (shown parts.now)) }
+{
+    if !parts.sort.keeps_apart() {
+        return false;
+    }
+    match parts.second {
+        None => false,
+        Some(second) => has_shared(words, parts.first, second),
+    }
+}
+
+/// The least fault of a line of one of the forms.
+pub(crate) fn declaration_fault(
+    setup: &Setup,
+    words: &Vocabulary,
+    parts: &Parts<'_>,
+) -> Option<HeadFault>
+    ensures { result ≡ declaration_fault setup.now words.now (shown parts.now) }
+{
+    if !parts.sort.is_called(parts.name) {
+        return Some(HeadFault::BadName);
+    }
+    if is_taken(words, parts) {
+        return Some(HeadFault::NameTaken);
+    }
+    if has_unknown_word(words, parts) {
+        return Some(HeadFault::UnknownName);
+    }
+    if is_bad_number(parts.sort, number(parts.number)) {
+        return Some(HeadFault::BadNumber);
+    }
+    if is_too_many(setup, words, parts) {
+        return Some(HeadFault::TooMany);
+    }
+    if has_two_roles(words, parts) {
+        return Some(HeadFault::TwoRoles);
+    }
+    None
+}

@@ -1,0 +1,20 @@
+//! Headings: what they declare, by which names, and how entries spell it. Read exactly.
+#![tactic(auto)]
+
+mod form;
+mod group;
+mod heading;
+mod kinds;
+mod laws;
+mod lists;
+mod objects;
+mod sort;
+mod spelled;
+
+pub use group::Group;
+pub use heading::{HeadFault, Heading};
+pub use laws::{
+    lines_have_an_outline, outline_lines_lead, read_declaration_is_spelled,
+    read_workers_are_spelled, spelled_declaration_is_read, spelled_workers_are_read,
+};
+pub use sort::Sort;

@@ -1,0 +1,176 @@
+//! Lists of words in a line, and the workers that they name.
+ghost use Rattle.std.specs.Prelude.{◌≡◌, ◌==◌, ◌+◌, ◌++◌, ◌≤◌, length, bytes_eq};
+ghost use Rattle.std.specs.List.{list_any};
+ghost use Rattle.ec_text.specs.Words.{words_of};
+ghost use Rattle.ec_count.specs.Members.{is_member, has_repeat};
+ghost use Rattle.ec_heading.specs.Lists.{worker_of, worker_in, ids_in, has_unknown, has_word, has_word_twice};
+
+use arrayvec::ArrayVec;
+use ec_count::{Target, Vocabulary, WorkerId};
+use ec_text::cut_word;
+
+/// Whether two words are the same.
+pub(crate) fn is_same(word: &[u8], other: &[u8]) -> bool
+    ensures { result ≡ bytes_eq word.now other.now }
+{
+    word == other
+}
+
+/// Whether a word is empty.
+pub(crate) fn has_blank(list: &[u8]) -> bool
+    ensures { result ≡ list_any (λ w. length w == 0) (words_of list.now) }
+{
+    let (word, rest) = cut_word(list);
+    if word.is_empty() {
+        return true;
+    }
+    match rest {
+        None => false,
+        Some(rest) => has_blank(rest),
+    }
+}
+
+/// How many words there are.
+pub(crate) fn count_words(list: &[u8]) -> usize
+    ensures count { result ≡ length (words_of list.now) }
+    ensures few { result ≤ length list.now + 1 }
+{
+    let (_, rest) = cut_word(list);
+    match rest {
+        None => 1,
+        Some(rest) => count_words(rest) + 1,
+    }
+}
+
+/// Whether a word stands in the list.
+pub(crate) fn has_word(word: &[u8], list: &[u8]) -> bool
+    ensures { result ≡ has_word word.now (words_of list.now) }
+{
+    let (other, rest) = cut_word(list);
+    if is_same(word, other) {
+        return true;
+    }
+    match rest {
+        None => false,
+        Some(rest) => has_word(word, rest),
+    }
+}
+
+/// Whether a word stands twice in the list.
+pub(crate) fn has_word_twice(list: &[u8]) -> bool
+    ensures { result ≡ has_word_twice (words_of list.now) }
+{
+    let (word, Some(rest)) = cut_word(list) else {
+        return false;
+    };
+    has_word(word, rest) || has_word_twice(rest)
+}
+
+/// The worker that a name stands for, if it stands for one.
+fn worker_of(target: Target) -> Option<WorkerId>
+    ensures { result ≡ worker_of target }
+{
+    match target {
+        Target::Worker(id) => Some(id),
+        _ => None,
+    }
+}
+
+/// The worker of a name.
+pub(crate) fn worker_in(words: &Vocabulary, word: &[u8]) -> Option<WorkerId>
+    ensures { result ≡ worker_in words.now word.now }
+{
+    worker_of(words.find(word)?)
+}
+
+/// Whether a word names no worker.
+pub(crate) fn has_unknown(words: &Vocabulary, list: &[u8]) -> bool
+    ensures { result ≡ has_unknown words.now (words_of list.now) }
+{
+    let (word, rest) = cut_word(list);
+    if worker_in(words, word).is_none() {
+        return true;
+    }
+    match rest {
+        None => false,
+        Some(rest) => has_unknown(words, rest),
+    }
+}
+
+/// Whether a worker is named in a list.
+fn is_named(words: &Vocabulary, list: &[u8], id: WorkerId) -> bool
+    ensures { result ≡ is_member id (ids_in words.now (words_of list.now)) }
+{
+    let (word, rest) = cut_word(list);
+    if let Some(other) = worker_in(words, word) {
+        if other == id {
+            return true;
+        }
+    }
+    match rest {
+        None => false,
+        Some(rest) => is_named(words, rest, id),
+    }
+}
+
+/// Whether a worker is named twice.
+pub(crate) fn has_repeat(words: &Vocabulary, list: &[u8]) -> bool
+    ensures { result ≡ has_repeat (ids_in words.now (words_of list.now)) }
+{
+    let (word, Some(rest)) = cut_word(list) else {
+        return false;
+    };
+    if let Some(id) = worker_in(words, word) {
+        if is_named(words, rest, id) {
+            return true;
+        }
+    }
+    has_repeat(words, rest)
+}
+
+/// Whether a worker is named in both lists.
+pub(crate) fn has_shared(words: &Vocabulary, first: &[u8], second: &[u8]) -> bool
+    ensures { result ≡ list_any (λ w. is_member w (ids_in words.now (words_of second.now))) (ids_in words.now (words_of first.now)) }
+{
+    let (word, rest) = cut_word(first);
+    if let Some(id) = worker_in(words, word) {
+        if is_named(words, second, id) {
+            return true;
+        }
+    }
+    match rest {
+        None => false,
+        Some(rest) => has_shared(words, rest, second),
+    }
+}
+
+/// How many words name a worker.
+pub(crate) fn count_ids(words: &Vocabulary, list: &[u8]) -> usize
+    ensures count { result ≡ length (ids_in words.now (words_of list.now)) }
+    ensures few { result ≤ length list.now + 1 }
+{
+    let (word, rest) = cut_word(list);
+    let one = if worker_in(words, word).is_some() {
+        1
+    } else {
+        0
+    };
+    match rest {
+        None => one,
+        Some(rest) => one + count_ids(words, rest),
+    }
+}
+
+/// Adds the workers that are named.
+pub(crate) fn push_ids(words: &Vocabulary, list: &[u8], ids: &mut ArrayVec<WorkerId, 16>)
+    requires { length ids.old.items + length (ids_in words.now (words_of list.now)) ≤ 16 }
+    ensures { ids.new.items ≡ ids.old.items ++ ids_in words.now (words_of list.now) }
+{
+    let (word, rest) = cut_word(list);
+    if let Some(id) = worker_in(words, word) {
+        ids.push(id);
+    }
+    if let Some(rest) = rest {
+        push_ids(words, rest, ids);
+    }
+}

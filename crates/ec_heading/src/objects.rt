@@ -1,0 +1,265 @@
+//! The objects of a declaration, and the words for them.
+ghost use Rattle.std.specs.Prelude.{◌≡◌, ◌≤◌, ◌<◌, ◌+◌, ◌++◌, ◌∷◌, [], None, OnErr, OnOk, false, true, length, replicate};
+ghost use Rattle.ec_count.specs.Names.{find_name};
+ghost use Rattle.ec_heading.specs.Kinds.{is_full_for};
+ghost use Rattle.ec_heading.specs.Objects.{AreNew, group_of, ids_after, objects_of, shown_objects, spelled_objects, spelling, target_of};
+ghost use Rattle.ec_heading.specs.Outline.{objects_fault, with_objects};
+ghost use Rattle.ec_heading.specs.Sorts.{is_in_range};
+
+use crate::group::Group;
+use crate::sort::Sort;
+use arrayvec::ArrayVec;
+use ec_buffer::declare_buffer;
+use ec_count::{CellId, EventId, SeqId, Setup, Target, Vocabulary, WorkerId};
+use ec_database::declare_database;
+use ec_semaphore::{declare_both, declare_semaphore};
+use std::alloc::AllocError;
+
+/// An object: what it is called behind the name of its declaration, nothing where the name alone
+/// spells it, and what it is.
+#[derive(Clone, Copy)]
+pub(crate) struct Object {
+    pub(crate) word: &'static [u8],
+    pub(crate) target: Target,
+}
+
+impl Object {
+    fn new(word: &'static [u8], target: Target) -> Self
+        ensures word { result.word.now ≡ word.now }
+        ensures target { result.target ≡ target }
+    {
+        Object { word, target }
+    }
+}
+
+/// The eventcount with this number.
+fn event(number: usize) -> EventId
+    requires { number < 32 }
+    ensures { result ≡ number }
+{
+    let Some(id) = EventId::new(number) else {
+        unreachable!();
+    };
+    id
+}
+
+/// The sequencer with this number.
+fn sequencer(number: usize) -> SeqId
+    requires { number < 32 }
+    ensures { result ≡ number }
+{
+    let Some(id) = SeqId::new(number) else {
+        unreachable!();
+    };
+    id
+}
+
+/// The cell with this number.
+fn cell(number: usize) -> CellId
+    requires { number < 256 }
+    ensures { result ≡ number }
+{
+    let Some(id) = CellId::new(number) else {
+        unreachable!();
+    };
+    id
+}
+
+/// What the name of a declaration will stand for that comes next after these and so many groups.
+pub(crate) fn target_of(setup: &Setup, groups: usize, sort: Sort, n: usize) -> Target
+    requires room { is_full_for sort setup.now n ≡ false }
+    requires some { is_in_range sort n ≡ true }
+    ensures { result ≡ target_of sort (ids_after setup.now groups) n }
+{
+    match sort {
+        Sort::EventCount => Target::Event(event(setup.events())),
+        Sort::Sequencer => Target::Sequencer(sequencer(setup.sequencers())),
+        Sort::Cells => Target::Cells(cell(setup.cells()), n),
+        Sort::Buffer | Sort::Database | Sort::Semaphore | Sort::Both => Target::Group(groups),
+    }
+}
+
+/// The word for an object: the name, or the name, a dot, and what the object is called behind it.
+fn spelling(name: &[u8], word: &[u8]) -> ArrayVec<u8, 24>
+    requires { length (spelling name.now word.now) ≤ 24 }
+    ensures { result.items ≡ spelling name.now word.now }
+{
+    let mut bytes = ArrayVec::new();
+    let Ok(()) = bytes.try_extend_from_slice(name) else {
+        unreachable!();
+    };
+    if word.is_empty() {
+        return bytes;
+    }
+    bytes.push(b'.');
+    let Ok(()) = bytes.try_extend_from_slice(word) else {
+        unreachable!();
+    };
+    bytes
+}
+
+/// Adds the words for these objects, or none of them.
+fn add_words(words: &mut Vocabulary, name: &[u8], objects: &[Object]) -> Result<(), AllocError>
+    requires { AreNew name.now words.old (shown_objects objects.now) }
+    ensures ok { OnOk result (words.new ≡ words.old ++ spelled_objects name.now (shown_objects objects.now)) }
+    ensures err { OnErr result (words.new ≡ words.old) }
+{
+    let before = words.len();
+    for object in objects {
+        let word = spelling(name, object.word);
+        if words.add(word.as_slice(), object.target).is_err() {
+            words.truncate(before);
+            return Err(AllocError);
+        }
+    }
+    Ok(())
+}
+
+/// Adds the words for the objects of a buffer that comes next, or none of them.
+fn spell_buffer(
+    words: &mut Vocabulary,
+    name: &[u8],
+    setup: &Setup,
+    n: usize,
+) -> Result<(), AllocError>
+    requires room { is_full_for Sort.Buffer setup.now n ≡ false }
+    requires some { is_in_range Sort.Buffer n ≡ true }
+    requires new { AreNew name.now words.old (objects_of Sort.Buffer (ids_after setup.now 0) n) }
+    ensures ok { OnOk result (words.new ≡ words.old ++ spelled_objects name.now (objects_of Sort.Buffer (ids_after setup.now 0) n)) }
+    ensures err { OnErr result (words.new ≡ words.old) }
+{
+    let events = setup.events();
+    let sequencers = setup.sequencers();
+    let objects = [
+        Object::new(b"in", Target::Event(event(events))),
+        Object::new(b"out", Target::Event(event(events + 1))),
+        Object::new(b"put", Target::Sequencer(sequencer(sequencers))),
+        Object::new(b"take", Target::Sequencer(sequencer(sequencers + 1))),
+        Object::new(b"", Target::Cells(cell(setup.cells()), n)),
+    ];
+    add_words(words, name, &objects)
+}
+
+/// Adds the words for the objects of a database that comes next, or none of them.
+fn spell_database(
+    words: &mut Vocabulary,
+    name: &[u8],
+    setup: &Setup,
+    n: usize,
+) -> Result<(), AllocError>
+    requires room { is_full_for Sort.Database setup.now n ≡ false }
+    requires some { is_in_range Sort.Database n ≡ true }
+    requires new { AreNew name.now words.old (objects_of Sort.Database (ids_after setup.now 0) n) }
+    ensures ok { OnOk result (words.new ≡ words.old ++ spelled_objects name.now (objects_of Sort.Database (ids_after setup.now 0) n)) }
+    ensures err { OnErr result (words.new ≡ words.old) }
+{
+    let events = setup.events();
+    let objects = [
+        Object::new(b"start", Target::Event(event(events))),
+        Object::new(b"done", Target::Event(event(events + 1))),
+        Object::new(b"turn", Target::Sequencer(sequencer(setup.sequencers()))),
+        Object::new(b"", Target::Cells(cell(setup.cells()), n)),
+    ];
+    add_words(words, name, &objects)
+}
+
+/// Adds the words for the objects of a semaphore that comes next after these and so many groups,
+/// or none of them.
+fn spell_semaphore(
+    words: &mut Vocabulary,
+    name: &[u8],
+    setup: &Setup,
+    groups: usize,
+) -> Result<(), AllocError>
+    requires room { is_full_for Sort.Semaphore setup.now 0 ≡ false }
+    requires new { AreNew name.now words.old (objects_of Sort.Semaphore (ids_after setup.now groups) 0) }
+    ensures ok { OnOk result (words.new ≡ words.old ++ spelled_objects name.now (objects_of Sort.Semaphore (ids_after setup.now groups) 0)) }
+    ensures err { OnErr result (words.new ≡ words.old) }
+{
+    let objects = [
+        Object::new(b"v", Target::Event(event(setup.events()))),
+        Object::new(b"p", Target::Sequencer(sequencer(setup.sequencers()))),
+        Object::new(b"", Target::Group(groups)),
+    ];
+    add_words(words, name, &objects)
+}
+
+/// Adds the words for the objects of a declaration that comes next after these and so many groups,
+/// or none of them.
+pub(crate) fn spell_objects(
+    words: &mut Vocabulary,
+    name: &[u8],
+    setup: &Setup,
+    groups: usize,
+    sort: Sort,
+    n: usize,
+) -> Result<(), AllocError>
+    requires room { is_full_for sort setup.now n ≡ false }
+    requires some { is_in_range sort n ≡ true }
+    requires new { AreNew name.now words.old (objects_of sort (ids_after setup.now groups) n) }
+    ensures ok { OnOk result (words.new ≡ words.old ++ spelled_objects name.now (objects_of sort (ids_after setup.now groups) n)) }
+    ensures err { OnErr result (words.new ≡ words.old) }
+{
+    let itself = target_of(setup, groups, sort, n);
+    match sort {
+        Sort::EventCount => add_words(words, name, &[Object::new(b"", itself)]),
+        Sort::Sequencer => add_words(words, name, &[Object::new(b"", itself)]),
+        Sort::Cells => add_words(words, name, &[Object::new(b"", itself)]),
+        Sort::Buffer => spell_buffer(words, name, setup, n),
+        Sort::Database => spell_database(words, name, setup, n),
+        Sort::Semaphore => spell_semaphore(words, name, setup, groups),
+        Sort::Both => spell_semaphore(words, name, setup, groups),
+    }
+}
+
+/// Adds the objects of a declaration, and gives the group that it is, if it is one.
+pub(crate) fn add_objects(
+    setup: &mut Setup,
+    sort: Sort,
+    n: usize,
+    first: &[WorkerId],
+    second: &[WorkerId],
+) -> Option<Group>
+    requires { objects_fault sort setup.old n first.now second.now ≡ None }
+    ensures setup { setup.new ≡ with_objects sort setup.old n first.now second.now }
+    ensures group { result ≡ group_of sort setup.old n }
+{
+    match sort {
+        Sort::EventCount => {
+            let _added = setup.add_event(first, second);
+            None
+        }
+        Sort::Sequencer => {
+            let _added = setup.add_sequencer(first);
+            None
+        }
+        Sort::Cells => {
+            let _added = setup.add_cells(n, first, second);
+            None
+        }
+        Sort::Buffer => {
+            let Ok(shape) = declare_buffer(setup, n, first, second) else {
+                unreachable!();
+            };
+            Some(Group::Buffer(shape))
+        }
+        Sort::Database => {
+            let Ok(shape) = declare_database(setup, n, first, second) else {
+                unreachable!();
+            };
+            Some(Group::Database(shape))
+        }
+        Sort::Semaphore => {
+            let Ok(shape) = declare_semaphore(setup, n as u64, first) else {
+                unreachable!();
+            };
+            Some(Group::Semaphore(shape))
+        }
+        Sort::Both => {
+            let Ok(shape) = declare_both(setup, first) else {
+                unreachable!();
+            };
+            Some(Group::Both(shape))
+        }
+    }
+}

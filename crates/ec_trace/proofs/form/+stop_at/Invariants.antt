@@ -1,5 +1,0 @@
-use Rattle.std.proofs.Common.{length}
-use Rattle.ec_trace.proofs.form.+stop_at.Given as goal
-
-abbrev pub decreases-stop_at : goal.decreases-stop_at
-decreases-stop_at l = length l.list.now

@@ -1,6 +1,0 @@
-use Rattle.std.proofs.Common.{sym, ◌∙◌}
-use Rattle.ec_trace.proofs.Stops.{well_alone}
-use Rattle.ec_trace.proofs.form.lists_of.Goals as goal
-
-pub returns-else-needs_other : goal.returns-else-needs_other
-returns-else-needs_other c = well_alone _ _ c.args.list.now (sym c.in-None.ensures) (sym c.needs_other.ensures ∙ c.if-needs_other.false)

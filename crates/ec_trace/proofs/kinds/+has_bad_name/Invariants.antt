@@ -1,5 +1,0 @@
-use Rattle.std.proofs.Common.{length}
-use Rattle.ec_trace.proofs.kinds.+has_bad_name.Given as goal
-
-abbrev pub decreases-has_bad_name : goal.decreases-has_bad_name
-decreases-has_bad_name l = length l.list.now

@@ -1,5 +1,0 @@
-use Rattle.std.proofs.Common.{length}
-use Rattle.ec_trace.proofs.lists.+is_named.Given as goal
-
-abbrev pub decreases-is_named : goal.decreases-is_named
-decreases-is_named l = length l.list.now
