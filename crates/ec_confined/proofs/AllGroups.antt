@@ -23,7 +23,8 @@ use Rattle.ec_heading.specs.Groups.{FitsGroup}
 use Rattle.ec_heading.proofs.Standing.{heading_fits}
 use Rattle.ec_script.specs.Confined.{UsesGroups, IsConfinedProgram, AreConfinedPrograms}
 use Rattle.ec_confined.specs.Uses.{IsApart, UsesBuffer, UsesDatabase, UsesSemaphore, UsesBoth, EachCommand, AreRuns}
-use Rattle.ec_confined.specs.Headings.{semaphores_of, FollowsGroup, GroupsAreFollowed}
+use Rattle.ec_heading.specs.Rules.{semaphores_of, FollowsGroup}
+use Rattle.ec_confined.specs.Headings.{GroupsAreFollowed}
 use Rattle.ec_confined.proofs.Buffers.{buffers_follow}
 use Rattle.ec_confined.proofs.Databases.{databases_follow}
 use Rattle.ec_confined.proofs.Semaphores.{semaphores_follow}

@@ -26,7 +26,7 @@ use Rattle.ec_heading.specs.declared.group.Group.TheVariants as groups
 use Rattle.ec_heading.specs.Groups.{FitsGroup}
 use Rattle.ec_script.specs.Confined.{UsesGroups}
 use Rattle.ec_confined.specs.Uses.{IsApart, IsOfBuffer, IsOfDatabase, IsOfSemaphore, IsOfBoth, AreSeparate, AreThree}
-use Rattle.ec_confined.specs.Headings.{semaphores_of}
+use Rattle.ec_heading.specs.Rules.{semaphores_of}
 use Rattle.ec_confined.proofs.Suiting.{at_op}
 use Rattle.ec_confined.proofs.Semaphores.{on_line, on_wait, on_advance}
 use Rattle.ec_confined.proofs.Tests.{other_way}

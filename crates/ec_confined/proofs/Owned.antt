@@ -13,7 +13,7 @@ use Rattle.ec_semaphore.specs.Uses as semaphores
 use Rattle.ec_heading.specs.declared.group.Group.{Group}
 use Rattle.ec_heading.specs.declared.group.Group.TheVariants as groups
 use Rattle.ec_script.specs.Objects.{has_count, has_line, has_cell, both_of}
-use Rattle.ec_confined.specs.Headings.{semaphores_of}
+use Rattle.ec_heading.specs.Rules.{semaphores_of}
 use Rattle.ec_confined.proofs.Tests.{or_first, or_second, same_test}
 
 -- MEMBERS OF A LIST

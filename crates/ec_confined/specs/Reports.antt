@@ -9,7 +9,7 @@ use Rattle.ec_script.specs.Confined.{AreConfinedPrograms}
 use Rattle.ec_runner.specs.declared.report.Report.{Report}
 use Rattle.ec_runner.specs.Reported.{IsReport}
 use Rattle.ec_runner.specs.RunReports.{IsReportOf}
-use Rattle.ec_confined.specs.Headings.{FollowsGroup}
+use Rattle.ec_heading.specs.Rules.{FollowsGroup}
 
 -- where a schedule of confined programs was played, the run follows every group of the heading
 abbrev pub PlayedGroupsAreFollowed : Type 0

@@ -2,6 +2,7 @@ pub mod Sorts
 pub mod Objects
 pub mod Headed
 pub mod Groups
+pub mod Rules
 pub mod Outline
 pub mod Outlined
 pub mod Spelling

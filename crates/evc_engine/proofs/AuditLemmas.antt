@@ -16,7 +16,8 @@ use Rattle.ec_core.specs.Following.{BreaksAt}
 use Rattle.ec_heading.specs.Headed.{Headed}
 use Rattle.ec_heading.specs.declared.group.Group.{Group}
 use Rattle.evc_engine.specs.declared.audited.Audited.{Audited}
-use Rattle.evc_engine.specs.Audits.{group_rules, IsAudited, IsNotFollowed, IsStop}
+use Rattle.ec_heading.specs.Rules.{group_rules}
+use Rattle.evc_engine.specs.Audits.{IsAudited, IsNotFollowed, IsStop}
 
 module _ (h : Headed) (entries : List Entry) where
   -- what the audits of the first groups have found

@@ -42,7 +42,8 @@ use Rattle.evc_engine.specs.declared.audited.Audited.{Audited}
 use Rattle.evc_engine.specs.declared.audited.Audited.TheVariants as audits
 use Rattle.evc_engine.specs.AuditTexts.{now_of, group_word, delivery_line, version_line, balance_line, pair_line, semaphore_word, audited_lines, groups_lines, audit_text}
 use Rattle.evc_engine.specs.AuditLaws.{AuditsHaveOneText, TextOrBreak}
-use Rattle.evc_engine.specs.Audits.{semaphores_of, group_rules, IsPairsOf, IsFound, IsAudited, AreAudited, IsNotFollowed}
+use Rattle.ec_heading.specs.Rules.{semaphores_of, group_rules}
+use Rattle.evc_engine.specs.Audits.{IsPairsOf, IsFound, IsAudited, AreAudited, IsNotFollowed}
 use Rattle.evc_engine.specs.Checks.{ReadsAs}
 
 -- SHAPES

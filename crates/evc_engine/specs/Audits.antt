@@ -1,17 +1,12 @@
 -- What `audit` answered and wrote, for an input whose bytes are known.
 use Rattle.std.specs.Prelude.{◌≡◌, ◌⊎◌, ⊤, ℕ, ◌<◌, List, [], ◌∷◌, length, map, reverse, Some, slice_get, codes}
 use Rattle.std.specs.Io.KnownBytes.{Appends, Keeps}
-use Rattle.ec_count.specs.Tables.{Tables}
 use Rattle.ec_core.specs.declared.act.Entry.{Entry}
-use Rattle.ec_core.specs.Following.{Rule, Follow, BreaksAt}
-use Rattle.ec_buffer.specs.Follows.{buffer_rules}
+use Rattle.ec_core.specs.Following.{BreaksAt}
 use Rattle.ec_buffer.specs.Items.{AreDeliveries}
-use Rattle.ec_database.specs.Following.{database_rules}
 use Rattle.ec_database.specs.Tries.{ListsTries}
 use Rattle.ec_database.specs.Auditing.{shown}
 use Rattle.ec_semaphore.specs.Shapes.{Semaphore}
-use Rattle.ec_semaphore.specs.Uses.{use_rules}
-use Rattle.ec_semaphore.specs.Both.{is_line, both_rules}
 use Rattle.ec_semaphore.specs.Balances.{parts_of}
 use Rattle.ec_semaphore.specs.Pairs.{pairs_of}
 use Rattle.ec_text.specs.Puts.{AppendsPrefix}
@@ -19,6 +14,7 @@ use Rattle.ec_heading.specs.Headed.{Headed}
 use Rattle.ec_trace.specs.Outcome.{HasNoFault}
 use Rattle.ec_trace.specs.Recounted.{Recounted}
 use Rattle.ec_trace.specs.declared.fault.TraceFault.{TraceFault}
+use Rattle.ec_heading.specs.Rules.{semaphores_of, group_rules, FollowsGroup}
 use Rattle.ec_heading.specs.declared.group.Group.{Group}
 use Rattle.ec_heading.specs.declared.group.Group.TheVariants as groups
 use Rattle.ec_trace.specs.declared.read.TheConstants.{TRACE_MAX}
@@ -35,24 +31,11 @@ use Rattle.evc_engine.specs.Notes.{fault_note, break_note}
 
 -- FOLLOWING
 
--- the semaphores among these groups, the one named `both` not among them
-abbrev pub semaphores_of : List Group → List Semaphore
-semaphores_of [] = []
-semaphores_of (groups.Semaphore s ∷ gs) = s ∷ semaphores_of gs
-semaphores_of (g ∷ gs) = semaphores_of gs
-
--- the rule of each worker on a group, where these are all the groups
-abbrev pub group_rules : Tables → List Group → Group → ℕ → Rule
-group_rules t gs (groups.Buffer b) = buffer_rules t b
-group_rules t gs (groups.Database d) = database_rules t d
-group_rules t gs (groups.Semaphore s) = use_rules s
-group_rules t gs (groups.Both c) = both_rules c (is_line c (semaphores_of gs))
-
 -- the group with number i is the first that is not followed: entry k, of worker w, is the first that breaks its lists
 pub record IsNotFollowed (h : Headed) (entries : List Entry) (i w k : ℕ) : Type 0 where
   pub group : Group
   pub is : slice_get h.groups i ≡ Some group
-  pub before : (j : ℕ) (g : Group) → j < i → slice_get h.groups j ≡ Some g → Follow (group_rules h.setup h.groups g) (reverse entries)
+  pub before : (j : ℕ) (g : Group) → j < i → slice_get h.groups j ≡ Some g → FollowsGroup h.setup h.groups (reverse entries) g
   pub breaks : BreaksAt (group_rules h.setup h.groups group) entries w k
 
 -- WHAT AN AUDIT FINDS
@@ -73,7 +56,7 @@ IsFound h entries g a = ⊥
 
 -- a group that is followed, and what its audit found
 abbrev pub IsAudited : Headed → List Entry → Group → Audited → Type 0
-IsAudited h entries g a = Follow (group_rules h.setup h.groups g) (reverse entries) × IsFound h entries g a
+IsAudited h entries g a = FollowsGroup h.setup h.groups (reverse entries) g × IsFound h entries g a
 
 -- each group is followed, and this is what the audits found, in order
 pub record AreAudited (h : Headed) (entries : List Entry) (found : List Audited) : Type 0 where

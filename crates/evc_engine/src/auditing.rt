@@ -7,7 +7,8 @@ ghost use Rattle.ec_semaphore.specs.Uses.{use_rules};
 ghost use Rattle.ec_semaphore.specs.Both.{is_line, both_rules};
 ghost use Rattle.ec_heading.specs.Groups.{FitsGroup};
 ghost use Rattle.evc_engine.specs.AuditTexts.{now_of};
-ghost use Rattle.evc_engine.specs.Audits.{semaphores_of, group_rules, IsPairsOf, IsAudited, AreAudited, IsStop, stop_status, stop_note, AuditEnds, Audits};
+ghost use Rattle.ec_heading.specs.Rules.{semaphores_of, group_rules};
+ghost use Rattle.evc_engine.specs.Audits.{IsPairsOf, IsAudited, AreAudited, IsStop, stop_status, stop_note, AuditEnds, Audits};
 ghost use Rattle.ec_text.specs.Puts.{Puts};
 
 use crate::audit_text::write_audit;
