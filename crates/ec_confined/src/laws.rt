@@ -24,9 +24,9 @@ pub fn both_is_followed()
     ensures { BothIsFollowed }
 {}
 
-/// Where no object belongs to two groups of a heading, and the commands of the programs use their
-/// objects by the groups' procedures alone, an accepted history in which each worker's entries are
-/// a run of its program follows every group.
+/// Where the commands of the programs use the objects of a heading's groups by the groups'
+/// procedures alone, an accepted history in which each worker's entries are a run of its program
+/// follows every group.
 pub fn groups_are_followed()
     ensures { GroupsAreFollowed }
 {}

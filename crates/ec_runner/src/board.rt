@@ -10,7 +10,7 @@ ghost use Rattle.ec_runner.specs.Seated.{is_live, is_waiting, seat_of, woken};
 
 use crate::Seat;
 use crate::seats::Seats;
-use crate::wait::Wait;
+use crate::wait::{Wait, awaited};
 use ec_core::{Act, Refusal, Reply, Run, StepFault, VALUE_MAX};
 use ec_count::{Setup, WorkerId};
 use std::alloc::{AllocError, Global};
@@ -63,7 +63,7 @@ impl Model for Board {
     ghost invariant = { λ b. AreWaiters (record { run = b.run; seats = b.seats; stuck = b.stuck }) };
 }
 
-ghost use Rattle.ec_runner.specs.Boarded.{AreWaiters, awaited, unmet, past_of, wait_of, with_seat, after_entry, is_stopped, has_left, answer_on};
+ghost use Rattle.ec_runner.specs.Boarded.{AreWaiters, unmet, past_of, wait_of, with_seat, after_entry, is_stopped, has_left, answer_on};
 
 impl Board {
     ghost use Rattle.ec_runner.specs.BoardFaults.{IsBoardFault};
@@ -205,18 +205,7 @@ impl Board {
     }
 }
 
-/// The await whose last round fell short, where the worker's latest entry ended it.
-fn awaited(run: &Run, worker: WorkerId) -> Option<Wait>
-    ensures { result ≡ awaited run.now.setup worker (past_of run.now) }
-{
-    let call = run.world().under_way(worker)?;
-    match call.op() {
-        Act::Await(event, threshold) if call.index() == 0 => Some(Wait { event, threshold }),
-        _ => None,
-    }
-}
-
-/// The same where the total has not come to the threshold since.
+/// What a worker waits for, where the total has not come to the threshold since.
 fn unmet(run: &Run, wait: Option<Wait>) -> Option<Wait>
     requires { (a : Wait) → wait ≡ Some a → a.event < length run.now.setup.events }
     ensures { result ≡ unmet (past_of run.now) wait }

@@ -1,23 +1,12 @@
 //! Workers that wait for good.
-ghost use Rattle.std.specs.Prelude.{◌≡◌, ◌<◌, length, Some, IsTrue, IfSome};
+ghost use Rattle.std.specs.Prelude.{◌<◌, IsTrue};
 ghost use Rattle.ec_core.specs.Counts.{total};
-ghost use Rattle.ec_runner.specs.Boarded.{awaited, past_of};
+ghost use Rattle.ec_runner.specs.Boarded.{past_of};
 ghost use Rattle.ec_runner.specs.RunReports.{IsCaught};
 
-use crate::wait::Wait;
-use ec_core::{Act, Run};
+use crate::wait::{Wait, awaited};
+use ec_core::Run;
 use ec_count::WorkerId;
-
-/// The await whose last round fell short, where the worker's latest entry ended it.
-fn awaited(run: &Run, worker: WorkerId) -> Option<Wait>
-    ensures { result ≡ awaited run.now.setup worker (past_of run.now) }
-{
-    let call = run.world().under_way(worker)?;
-    match call.op() {
-        Act::Await(event, threshold) if call.index() == 0 => Some(Wait { event, threshold }),
-        _ => None,
-    }
-}
 
 /// Whether the total at the end is below the threshold.
 fn is_above(run: &Run, wait: &Wait) -> bool
