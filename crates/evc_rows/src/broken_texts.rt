@@ -1,7 +1,7 @@
 //! Texts that are no traces, and the notes on them. Most differ from a worked trace by one line.
+use crate::outcome::{Ending, Row};
 
-/// A text that is no trace, and the note on it.
-pub(crate) const TWO_SPACES: (&str, &str) = (
+pub(crate) const TWO_SPACES: Row = (
     "evc-trace 1
 limit 10
 workers a c
@@ -13,10 +13,10 @@ a advance E = done
 c read E = 3
 end
 ",
-    "line 6: bad line\n",
+    Ending::Refused("line 6: bad line\n"),
 );
 
-pub(crate) const LEADING_ZERO: (&str, &str) = (
+pub(crate) const LEADING_ZERO: Row = (
     "evc-trace 1
 limit 01
 workers a c
@@ -28,10 +28,10 @@ a advance E = done
 c read E = 3
 end
 ",
-    "line 2: bad line\n",
+    Ending::Refused("line 2: bad line\n"),
 );
 
-pub(crate) const NO_LINE_FEED: (&str, &str) = (
+pub(crate) const NO_LINE_FEED: Row = (
     "evc-trace 1
 limit 10
 workers a c
@@ -42,10 +42,10 @@ a advance E = done
 a advance E = done
 c read E = 3
 end",
-    "unfinished\n",
+    Ending::Refused("unfinished\n"),
 );
 
-pub(crate) const IDLE: (&str, &str) = (
+pub(crate) const IDLE: Row = (
     "evc-trace 1
 limit 10
 workers a c
@@ -57,10 +57,10 @@ a advance E = done
 c go = 3
 end
 ",
-    "line 9: refused 3 Idle\n",
+    Ending::Refused("line 9: refused 3 Idle\n"),
 );
 
-pub(crate) const NO_RIGHT: (&str, &str) = (
+pub(crate) const NO_RIGHT: Row = (
     "evc-trace 1
 limit 10
 workers a c
@@ -72,10 +72,10 @@ a advance E = done
 a read E = 3
 end
 ",
-    "line 9: refused 5 NoRight\n",
+    Ending::Refused("line 9: refused 5 NoRight\n"),
 );
 
-pub(crate) const WRONG_NUMBER: (&str, &str) = (
+pub(crate) const WRONG_NUMBER: Row = (
     "evc-trace 1
 limit 10
 workers a c
@@ -87,10 +87,10 @@ a advance E = done
 c read E = 2
 end
 ",
-    "line 9: wrong reply, right is 3\n",
+    Ending::Refused("line 9: wrong reply, right is 3\n"),
 );
 
-pub(crate) const BUSY: (&str, &str) = (
+pub(crate) const BUSY: Row = (
     "evc-trace 1
 limit 10
 workers a b c d
@@ -102,10 +102,10 @@ b advance E = done
 c go = 1
 end
 ",
-    "line 7: refused 2 Busy\n",
+    Ending::Refused("line 7: refused 2 Busy\n"),
 );
 
-pub(crate) const AT_THE_LIMIT: (&str, &str) = (
+pub(crate) const AT_THE_LIMIT: Row = (
     "evc-trace 1
 limit 2
 workers a b c
@@ -116,10 +116,10 @@ a advance E = done
 a advance E = done
 end
 ",
-    "line 8: refused 7 AtLimit\n",
+    Ending::Refused("line 8: refused 7 AtLimit\n"),
 );
 
-pub(crate) const TICKETS_AT_THE_LIMIT: (&str, &str) = (
+pub(crate) const TICKETS_AT_THE_LIMIT: Row = (
     "evc-trace 1
 limit 2
 workers a
@@ -130,10 +130,10 @@ a ticket T = 1
 a ticket T = 2
 end
 ",
-    "line 8: refused 7 AtLimit\n",
+    Ending::Refused("line 8: refused 7 AtLimit\n"),
 );
 
-pub(crate) const STRANGER: (&str, &str) = (
+pub(crate) const STRANGER: Row = (
     "evc-trace 1
 limit 10
 workers a c
@@ -142,10 +142,10 @@ run
 b advance E = done
 end
 ",
-    "line 6: bad line\n",
+    Ending::Refused("line 6: bad line\n"),
 );
 
-pub(crate) const NOT_DONE: (&str, &str) = (
+pub(crate) const NOT_DONE: Row = (
     "evc-trace 1
 limit 10
 workers a b c
@@ -154,10 +154,10 @@ run
 a advance E = pending
 end
 ",
-    "line 6: wrong reply, right is done\n",
+    Ending::Refused("line 6: wrong reply, right is done\n"),
 );
 
-pub(crate) const NOT_PENDING: (&str, &str) = (
+pub(crate) const NOT_PENDING: Row = (
     "evc-trace 1
 limit 10
 workers a b c
@@ -166,10 +166,10 @@ run
 c read E = 0
 end
 ",
-    "line 6: wrong reply, right is pending\n",
+    Ending::Refused("line 6: wrong reply, right is pending\n"),
 );
 
-pub(crate) const AFTER_THE_END: (&str, &str) = (
+pub(crate) const AFTER_THE_END: Row = (
     "evc-trace 1
 limit 10
 workers a c
@@ -181,10 +181,10 @@ a advance E = done
 c read E = 3
 end
 x",
-    "line 11: bad line\n",
+    Ending::Refused("line 11: bad line\n"),
 );
 
-pub(crate) const EMPTY_LINE_AFTER_THE_END: (&str, &str) = (
+pub(crate) const EMPTY_LINE_AFTER_THE_END: Row = (
     "evc-trace 1
 limit 10
 workers a c
@@ -197,11 +197,11 @@ c read E = 3
 end
 
 ",
-    "line 11: bad line\n",
+    Ending::Refused("line 11: bad line\n"),
 );
 
 /// Each of them.
-pub(crate) const BROKEN: [(&str, &str); 14] = [
+pub(crate) static BROKEN: [Row; 14] = [
     TWO_SPACES,
     LEADING_ZERO,
     NO_LINE_FEED,

@@ -1,124 +1,147 @@
 //! What `check` writes for texts, worked and broken.
 use crate::broken_texts::{BROKEN, TWO_SPACES};
 use crate::fakes::{Endless, Pieces};
-use crate::outcome::checked;
+use crate::outcome::{Ending, Row, all_end, ends};
 use crate::texts::{OVERTAKEN_READ, WORKED};
 use evc_engine::Status;
+use std::alloc::Global;
 use std::test::Fail;
 
 #[test]
-fn worked_traces_have_their_order_and_totals(rt: HostRuntime) {
-    for (text, right) in WORKED {
-        let outcome = checked(rt.alloc(), &mut text.as_bytes());
-        assert!(rt; outcome.is(Status::Done, right, ""), "at {text}");
-    }
+fn worked_traces_have_their_order_and_totals(rt: HostRuntime) -> Result<(), Fail> {
+    all_end(rt.alloc(), &WORKED)
 }
 
 #[test]
-fn broken_texts_have_their_notes(rt: HostRuntime) {
-    for (text, note) in BROKEN {
-        let outcome = checked(rt.alloc(), &mut text.as_bytes());
-        assert!(rt; outcome.is(Status::Refused, "", note), "at {text}");
-    }
+fn broken_texts_have_their_notes(rt: HostRuntime) -> Result<(), Fail> {
+    all_end(rt.alloc(), &BROKEN)
 }
 
-#[test]
-fn pieces_change_nothing(rt: HostRuntime) {
-    for most in [1, 2, 3, 5] {
-        for (text, right) in WORKED {
-            let outcome = checked(rt.alloc(), &mut Pieces::new(text.as_bytes(), most));
-            assert!(rt;
-                outcome.is(Status::Done, right, ""),
-                "in pieces of {most}: {text}"
-            );
-        }
-        for (text, note) in BROKEN {
-            let outcome = checked(rt.alloc(), &mut Pieces::new(text.as_bytes(), most));
-            assert!(rt;
-                outcome.is(Status::Refused, "", note),
-                "in pieces of {most}: {text}"
-            );
+/// Whether `check` ends as the row says where the text comes in pieces of so many bytes.
+fn ends_in_pieces(alloc: Global, row: &Row, most: usize) -> bool {
+    let (text, right) = *row;
+    ends(alloc, &mut Pieces::new(text.as_bytes(), most), right)
+}
+
+/// `check` ends on each text as its row says, in pieces of so many bytes.
+fn all_end_in_pieces(alloc: Global, rows: &[Row], most: usize) -> Result<(), Fail> {
+    for (place, row) in rows.iter().enumerate() {
+        if !ends_in_pieces(alloc, row, most) {
+            return Err(Fail::new(format_args!(
+                "another ending at row {place}, in pieces of {most}"
+            )));
         }
     }
+    Ok(())
+}
+
+static PIECES: [usize; 4] = [1, 2, 3, 5];
+
+#[test]
+fn pieces_change_nothing(rt: HostRuntime) -> Result<(), Fail> {
+    for most in &PIECES {
+        all_end_in_pieces(rt.alloc(), &WORKED, *most)?;
+        all_end_in_pieces(rt.alloc(), &BROKEN, *most)?;
+    }
+    Ok(())
+}
+
+/// Whether the first so many bytes of a text are unfinished.
+fn is_unfinished(alloc: Global, bytes: &[u8], n: usize) -> bool {
+    let n = n.min(bytes.len());
+    ends(alloc, &mut &bytes[..n], Ending::Refused("unfinished\n"))
 }
 
 #[test]
 fn a_cut_trace_is_unfinished(rt: HostRuntime) {
     let bytes = OVERTAKEN_READ.as_bytes();
     for n in 0..bytes.len() {
-        let outcome = checked(rt.alloc(), &mut &bytes[..n]);
-        assert!(rt;
-            outcome.is(Status::Refused, "", "unfinished\n"),
-            "after {n} bytes"
-        );
+        assert!(rt; is_unfinished(rt.alloc(), bytes, n), "after {n} bytes");
     }
 }
 
-#[test]
-fn nothing_is_read_long_after_a_broken_line(rt: HostRuntime) -> Result<(), Fail> {
-    let (text, note) = TWO_SPACES;
-    let mut bytes = Vec::from_slice(rt.alloc(), text.as_bytes())?;
-    let spaces = [b' '; 1000];
-    for _ in 0..100 {
-        bytes.extend_from_slice(&spaces)?;
+/// A text with so many bytes of one kind behind it.
+fn filled(alloc: Global, text: &str, byte: u8, n: usize) -> Result<Vec<u8>, Fail> {
+    let mut bytes = Vec::from_slice(alloc, text.as_bytes())?;
+    for _ in 0..n {
+        bytes.push(byte)?;
     }
-    let up_to_line_6 = "evc-trace 1
+    Ok(bytes)
+}
+
+/// How many bytes `check` takes of a text on which it ends so.
+fn taken(alloc: Global, bytes: &[u8], right: Ending) -> Option<usize> {
+    let mut reader = Pieces::new(bytes, usize::MAX);
+    if ends(alloc, &mut reader, right) {
+        Some(bytes.len().saturating_sub(reader.left()))
+    } else {
+        None
+    }
+}
+
+/// The text up to its broken line.
+const UP_TO_LINE_6: &str = "evc-trace 1
 limit 10
 workers a c
 eventcount E signal a observe c
 run
 a  advance E = done
 ";
-    let mut reader = Pieces::new(bytes.as_slice(), usize::MAX);
-    let outcome = checked(rt.alloc(), &mut reader);
-    assert!(rt; outcome.is(Status::Refused, "", note));
-    let given = bytes.len().saturating_sub(reader.left());
-    assert!(rt; given <= up_to_line_6.len() + 8192, "gave {given}");
+
+#[test]
+fn nothing_is_read_long_after_a_broken_line(rt: HostRuntime) -> Result<(), Fail> {
+    let (text, right) = TWO_SPACES;
+    let bytes = filled(rt.alloc(), text, b' ', 100_000)?;
+    let Some(given) = taken(rt.alloc(), bytes.as_slice(), right) else {
+        return Err(Fail::new("another ending"));
+    };
+    assert!(rt; given <= UP_TO_LINE_6.len() + 8192, "gave {given}");
     Ok(())
 }
+
+/// Three lines of a trace, and so many bytes of a fourth.
+fn long_line(alloc: Global, n: usize) -> Result<Vec<u8>, Fail> {
+    filled(alloc, "evc-trace 1\nlimit 10\nworkers a c\n", b'x', n)
+}
+
+/// How `check` ends on so many bytes of a line without LF.
+type Long = (usize, Ending);
+
+static LONG: [Long; 2] = [
+    (8192, Ending::Refused("unfinished\n")),
+    (8193, Ending::Refused("line 4: bad line\n")),
+];
 
 #[test]
 fn a_line_of_8193_bytes_is_bad(rt: HostRuntime) -> Result<(), Fail> {
-    let head = "evc-trace 1\nlimit 10\nworkers a c\n";
-    let mut bytes = Vec::from_slice(rt.alloc(), head.as_bytes())?;
-    for _ in 0..8192 {
-        bytes.push(b'x')?;
+    for (n, right) in &LONG {
+        let bytes = long_line(rt.alloc(), *n)?;
+        assert!(rt;
+            ends(rt.alloc(), &mut bytes.as_slice(), *right),
+            "at {n} bytes"
+        );
     }
-    let outcome = checked(rt.alloc(), &mut bytes.as_slice());
-    assert!(rt; outcome.is(Status::Refused, "", "unfinished\n"));
-    bytes.push(b'x')?;
-    let outcome = checked(rt.alloc(), &mut bytes.as_slice());
-    assert!(rt; outcome.is(Status::Refused, "", "line 4: bad line\n"));
     Ok(())
 }
 
+static LIMITS: [Row; 3] = [
+    (
+        "evc-trace 1\nlimit 0\nworkers a\nrun\nend\n",
+        Ending::Refused("line 2: bad line\n"),
+    ),
+    (
+        "evc-trace 1\nlimit 4294967296\nworkers a\nrun\nend\n",
+        Ending::Refused("line 2: bad line\n"),
+    ),
+    (
+        "evc-trace 1\nlimit 4294967295\nworkers a\nrun\nend\n",
+        Ending::Done("evc-order 1\ntotals\nend\n"),
+    ),
+];
+
 #[test]
-fn limits_of_traces(rt: HostRuntime) {
-    let bad = "line 2: bad line\n";
-    let texts = [
-        (
-            "evc-trace 1\nlimit 0\nworkers a\nrun\nend\n",
-            Status::Refused,
-            "",
-            bad,
-        ),
-        (
-            "evc-trace 1\nlimit 4294967296\nworkers a\nrun\nend\n",
-            Status::Refused,
-            "",
-            bad,
-        ),
-        (
-            "evc-trace 1\nlimit 4294967295\nworkers a\nrun\nend\n",
-            Status::Done,
-            "evc-order 1\ntotals\nend\n",
-            "",
-        ),
-    ];
-    for (text, status, out, note) in texts {
-        let outcome = checked(rt.alloc(), &mut text.as_bytes());
-        assert!(rt; outcome.is(status, out, note), "at {text}");
-    }
+fn limits_of_traces(rt: HostRuntime) -> Result<(), Fail> {
+    all_end(rt.alloc(), &LIMITS)
 }
 
 #[test]
@@ -126,15 +149,22 @@ fn a_text_without_end_is_too_large(rt: HostRuntime) {
     let head =
         b"evc-trace 1\nlimit 1\nworkers a\ncells a234567890123456 256 write a\nrun\n".as_slice();
     let line = b"a put a234567890123456[255] 999999999999999999 = done\n".as_slice();
-    let outcome = checked(rt.alloc(), &mut Endless::new(head, line));
-    assert!(rt; outcome.is(Status::Refused, "", "too large\n"));
+    let mut reader = Endless::new(head, line);
+    assert!(rt; ends(rt.alloc(), &mut reader, Ending::Refused("too large\n")));
 }
+
+static CODES: [(Status, u8); 6] = [
+    (Status::Done, 0),
+    (Status::Refused, 1),
+    (Status::Usage, 2),
+    (Status::InputOutput, 3),
+    (Status::Memory, 4),
+    (Status::Stopped, 5),
+];
 
 #[test]
 fn statuses_of_the_process(rt: HostRuntime) {
-    assert_eq!(rt; Status::Done.code(), 0);
-    assert_eq!(rt; Status::Refused.code(), 1);
-    assert_eq!(rt; Status::Usage.code(), 2);
-    assert_eq!(rt; Status::InputOutput.code(), 3);
-    assert_eq!(rt; Status::Memory.code(), 4);
+    for (status, code) in &CODES {
+        assert_eq!(rt; status.code(), *code);
+    }
 }

@@ -7,48 +7,60 @@ use ec_text::WriteFault;
 use ec_trace::{HeadFault, TraceFault};
 use std::alloc::Global;
 use std::fmt::Display;
-use std::io;
 use std::test::Fail;
 
-fn text(alloc: Global, error: &impl Display) -> io::Result<String> {
-    Ok(format!(in alloc; "{error}")?)
+/// The text of an error is this one.
+fn says(alloc: Global, error: &impl Display, wanted: &str) -> Result<(), Fail> {
+    let text = format!(in alloc; "{error}")?;
+    if text.as_str() == wanted {
+        Ok(())
+    } else {
+        Err(Fail::new(format_args!("another text than {wanted}")))
+    }
 }
 
-#[test]
-fn an_error_of_each_type_has_a_text(rt: HostRuntime) -> Result<(), Fail> {
+/// The errors of declarations.
+fn errors_of_declarations(alloc: Global) -> Result<(), Fail> {
+    says(alloc, &AtLimit, "the count is at its limit")?;
+    says(alloc, &SetupFault::Repeated, "a list names a worker twice")?;
+    says(alloc, &NameFault::BadName, "the word is no name")
+}
+
+/// The errors of runs and their audits.
+fn errors_of_runs(alloc: Global) -> Result<(), Fail> {
     let refused = StepFault::Refused(Refusal::Busy);
     let broken = AuditFault::NotFollowed {
         worker: worker(1),
         entry: 10,
     };
-    let texts = [
-        (text(rt.alloc(), &AtLimit)?, "the count is at its limit"),
-        (
-            text(rt.alloc(), &SetupFault::Repeated)?,
-            "a list names a worker twice",
-        ),
-        (
-            text(rt.alloc(), &NameFault::BadName)?,
-            "the word is no name",
-        ),
-        (
-            text(rt.alloc(), &refused)?,
-            "the step is refused: a call of the worker is under way",
-        ),
-        (
-            text(rt.alloc(), &broken)?,
-            "entry 10 breaks the call lists of its worker",
-        ),
-        (text(rt.alloc(), &OrderFault::Memory)?, "memory was refused"),
-        (text(rt.alloc(), &WriteFault)?, "a write failed"),
-        (text(rt.alloc(), &HeadFault::BadLine)?, "bad line"),
-        (
-            text(rt.alloc(), &TraceFault::Refused(8, Refusal::AtLimit))?,
-            "line 8: refused: the count is at its limit",
-        ),
-    ];
-    for (told, wanted) in &texts {
-        assert_eq!(rt; told.as_str(), *wanted);
-    }
-    Ok(())
+    says(
+        alloc,
+        &refused,
+        "the step is refused: a call of the worker is under way",
+    )?;
+    says(
+        alloc,
+        &broken,
+        "entry 10 breaks the call lists of its worker",
+    )?;
+    says(alloc, &OrderFault::Memory, "memory was refused")
+}
+
+/// The errors of texts.
+fn errors_of_texts(alloc: Global) -> Result<(), Fail> {
+    let refused = TraceFault::Refused(8, Refusal::AtLimit);
+    says(alloc, &WriteFault, "a write failed")?;
+    says(alloc, &HeadFault::BadLine, "bad line")?;
+    says(
+        alloc,
+        &refused,
+        "line 8: refused: the count is at its limit",
+    )
+}
+
+#[test]
+fn an_error_of_each_type_has_a_text(rt: HostRuntime) -> Result<(), Fail> {
+    errors_of_declarations(rt.alloc())?;
+    errors_of_runs(rt.alloc())?;
+    errors_of_texts(rt.alloc())
 }

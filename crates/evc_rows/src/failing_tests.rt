@@ -1,91 +1,141 @@
 //! Readers and writers that fail.
 use crate::broken_texts::IDLE;
 use crate::fakes::{Fickle, Pieces, Trouble};
-use crate::outcome::{checked, checked_into};
+use crate::outcome::{Ending, checked_into, ends};
 use crate::texts::{OVERTAKEN_READ, OVERTAKEN_READ_ORDER, THREE_ADVANCES, THREE_ADVANCES_ORDER};
 use evc_engine::{Notes, Status, check};
+use std::alloc::Global;
+use std::test::Fail;
 
-#[test]
-fn a_reader_that_fails_at_once(rt: HostRuntime) {
-    let outcome = checked(rt.alloc(), &mut Pieces::failing(b"".as_slice(), 1, 0));
-    assert!(rt; outcome.is(Status::InputOutput, "", "read fault\n"));
+const READ_FAULT: Ending = Ending::Failed("read fault\n");
+
+/// Whether `check` ends so on bytes that come so many at a time, where one read, by number from 0, fails.
+fn ends_at_read(alloc: Global, bytes: &[u8], most: usize, k: usize, right: Ending) -> bool {
+    ends(alloc, &mut Pieces::failing(bytes, most, k), right)
 }
 
 #[test]
-fn a_reader_that_fails_at_each_read(rt: HostRuntime) {
+fn a_reader_that_fails_at_once(rt: HostRuntime) {
+    assert!(rt; ends_at_read(rt.alloc(), b"".as_slice(), 1, 0, READ_FAULT));
+}
+
+/// Each of the reads that take so many bytes is told where it fails, the one that finds the end too; one more read is not made.
+fn each_read_is_told(alloc: Global, most: usize) -> Result<(), Fail> {
     let bytes = OVERTAKEN_READ.as_bytes();
-    for most in [1, 5, 64, 8192] {
-        let reads = bytes.len().div_ceil(most) + 1;
-        for k in 0..reads {
-            let outcome = checked(rt.alloc(), &mut Pieces::failing(bytes, most, k));
-            assert!(rt;
-                outcome.is(Status::InputOutput, "", "read fault\n"),
-                "at read {k} of {most}"
-            );
+    let reads = bytes.len().div_ceil(most.max(1)).saturating_add(1);
+    for k in 0..reads {
+        if !ends_at_read(alloc, bytes, most, k, READ_FAULT) {
+            return Err(Fail::new(format_args!("at read {k} of {most}")));
         }
-        let outcome = checked(rt.alloc(), &mut Pieces::failing(bytes, most, reads));
-        assert!(rt; outcome.is(Status::Done, OVERTAKEN_READ_ORDER, ""));
     }
+    if ends_at_read(
+        alloc,
+        bytes,
+        most,
+        reads,
+        Ending::Done(OVERTAKEN_READ_ORDER),
+    ) {
+        Ok(())
+    } else {
+        Err(Fail::new(format_args!("one more read of {most}")))
+    }
+}
+
+static READS: [usize; 4] = [1, 5, 64, 8192];
+
+#[test]
+fn a_reader_that_fails_at_each_read(rt: HostRuntime) -> Result<(), Fail> {
+    for most in &READS {
+        each_read_is_told(rt.alloc(), *most)?;
+    }
+    Ok(())
 }
 
 #[test]
 fn a_broken_line_before_a_failed_read(rt: HostRuntime) {
-    let (text, note) = IDLE;
+    let (text, right) = IDLE;
     let bytes = text.as_bytes();
-    let outcome = checked(rt.alloc(), &mut Pieces::failing(bytes, bytes.len(), 1));
-    assert!(rt; outcome.is(Status::Refused, "", note));
+    assert!(rt; ends_at_read(rt.alloc(), bytes, bytes.len(), 1, right));
+}
+
+/// Whether `check` of a text tells that a write failed, where the writer then has these bytes.
+fn fails_behind(alloc: Global, text: &str, mut out: Fickle, bytes: &[u8]) -> bool {
+    let (status, notes) = checked_into(alloc, &mut text.as_bytes(), &mut out);
+    status == Status::InputOutput
+        && out.bytes.as_slice() == bytes
+        && notes.as_slice() == b"write fault\n".as_slice()
 }
 
 #[test]
 fn a_writer_that_takes_5_bytes_and_fails(rt: HostRuntime) {
-    let mut out = Fickle::new(rt.alloc(), 5, Trouble::Fails, 1);
-    let mut reader = THREE_ADVANCES.as_bytes();
-    let (status, notes) = checked_into(rt.alloc(), &mut reader, &mut out);
-    assert_eq!(rt; status, Status::InputOutput);
-    assert!(rt; out.bytes.as_slice() == b"evc-o".as_slice());
-    assert!(rt; notes.as_slice() == b"write fault\n".as_slice());
+    let out = Fickle::new(rt.alloc(), 5, Trouble::Fails, 1);
+    assert!(rt; fails_behind(rt.alloc(), THREE_ADVANCES, out, b"evc-o".as_slice()));
 }
 
-#[test]
-fn a_writer_that_gives_up_at_each_write(rt: HostRuntime) {
+/// Whether a write fails so that the writer has what it took by so many writes of so many bytes.
+fn fails_at_write(alloc: Global, trouble: Trouble, most: usize, k: usize) -> bool {
     let right = OVERTAKEN_READ_ORDER.as_bytes();
-    for trouble in [Trouble::Fails, Trouble::TakesNothing] {
-        for most in [1, 7, 8192] {
-            for k in 0..right.len().div_ceil(most) {
-                let mut out = Fickle::new(rt.alloc(), most, trouble, k);
-                let mut reader = OVERTAKEN_READ.as_bytes();
-                let (status, notes) = checked_into(rt.alloc(), &mut reader, &mut out);
-                assert_eq!(rt; status, Status::InputOutput, "at write {k} of {most}");
-                assert!(rt;
-                    right.starts_with(out.bytes.as_slice()),
-                    "at write {k} of {most}"
-                );
-                assert_eq!(rt; out.bytes.len(), k.saturating_mul(most));
-                assert!(rt; notes.as_slice() == b"write fault\n".as_slice());
-            }
+    let given = k.saturating_mul(most).min(right.len());
+    let out = Fickle::new(alloc, most, trouble, k);
+    fails_behind(alloc, OVERTAKEN_READ, out, &right[..given])
+}
+
+/// Each write of so many bytes is told where it fails.
+fn each_write_is_told(alloc: Global, trouble: Trouble, most: usize) -> Result<(), Fail> {
+    let writes = OVERTAKEN_READ_ORDER.len().div_ceil(most.max(1));
+    for k in 0..writes {
+        if !fails_at_write(alloc, trouble, most, k) {
+            return Err(Fail::new(format_args!("at write {k} of {most}")));
         }
     }
+    Ok(())
+}
+
+static WRITES: [usize; 3] = [1, 7, 8192];
+
+#[test]
+fn a_writer_that_gives_up_at_each_write(rt: HostRuntime) -> Result<(), Fail> {
+    for most in &WRITES {
+        each_write_is_told(rt.alloc(), Trouble::Fails, *most)?;
+        each_write_is_told(rt.alloc(), Trouble::TakesNothing, *most)?;
+    }
+    Ok(())
+}
+
+/// Whether a writer that takes so many bytes at a time has the whole text.
+fn takes_all(alloc: Global, most: usize) -> bool {
+    let mut out = Fickle::new(alloc, most, Trouble::Fails, usize::MAX);
+    let (status, notes) = checked_into(alloc, &mut THREE_ADVANCES.as_bytes(), &mut out);
+    status == Status::Done
+        && out.bytes.as_slice() == THREE_ADVANCES_ORDER.as_bytes()
+        && notes.is_empty()
 }
 
 #[test]
 fn a_writer_that_takes_little(rt: HostRuntime) {
-    for most in [1, 7, 8192] {
-        let mut out = Fickle::new(rt.alloc(), most, Trouble::Fails, usize::MAX);
-        let mut reader = THREE_ADVANCES.as_bytes();
-        let (status, notes) = checked_into(rt.alloc(), &mut reader, &mut out);
-        assert_eq!(rt; status, Status::Done);
-        assert!(rt; out.bytes.as_slice() == THREE_ADVANCES_ORDER.as_bytes());
-        assert!(rt; notes.is_empty());
+    for most in &WRITES {
+        assert!(rt; takes_all(rt.alloc(), *most), "at {most} bytes");
+    }
+}
+
+/// What a writer of notes that fails at a write has of the notes, where the trace is refused and nothing is written.
+fn notes_before(alloc: Global, text: &str, at: usize) -> Option<Vec<u8>> {
+    let mut out = Vec::<u8>::new(alloc);
+    let mut notes = Notes::new(Fickle::new(alloc, 1, Trouble::Fails, at));
+    let status = check(alloc, &mut text.as_bytes(), &mut out, &mut notes);
+    if status == Status::Refused && out.is_empty() {
+        Some(notes.writer.bytes)
+    } else {
+        None
     }
 }
 
 #[test]
-fn notes_that_cannot_be_written_are_not_told(rt: HostRuntime) {
+fn notes_that_cannot_be_written_are_not_told(rt: HostRuntime) -> Result<(), Fail> {
     let (text, _) = IDLE;
-    let mut out = Vec::new(rt.alloc());
-    let mut notes = Notes::new(Fickle::new(rt.alloc(), 1, Trouble::Fails, 4));
-    let status = check(rt.alloc(), &mut text.as_bytes(), &mut out, &mut notes);
-    assert_eq!(rt; status, Status::Refused);
-    assert!(rt; out.is_empty());
-    assert!(rt; notes.writer.bytes.as_slice() == b"line".as_slice());
+    let Some(told) = notes_before(rt.alloc(), text, 4) else {
+        return Err(Fail::new("another ending"));
+    };
+    assert!(rt; told.as_slice() == b"line".as_slice());
+    Ok(())
 }

@@ -1,4 +1,5 @@
 //! Worked traces whose headings declare groups, and what `check` writes for them.
+use crate::outcome::{Ending, Row};
 
 /// Two producers and two consumers of a buffer of one cell, each with one item.
 pub(crate) const BUFFER: &str = "evc-trace 1
@@ -39,7 +40,7 @@ d advance B.out = done
 end
 ";
 
-pub(crate) const BUFFER_ORDER: &str = "evc-order 1
+const BUFFER_ORDER: &str = "evc-order 1
 0 a ticket B.put = 0
 1 b ticket B.put = 1
 2 a await B.in 0 = 0
@@ -94,7 +95,7 @@ c read D.start = 1
 end
 ";
 
-pub(crate) const DATABASE_ORDER: &str = "evc-order 1
+const DATABASE_ORDER: &str = "evc-order 1
 0 c read D.start = 0
 1 c await D.done 0 = 0
 2 c get D[0] = 0
@@ -151,7 +152,7 @@ b go = pending
 end
 ";
 
-pub(crate) const BOTH_ORDER: &str = "evc-order 1
+const BOTH_ORDER: &str = "evc-order 1
 0 a ticket both.p = 0
 1 b ticket both.p = 1
 2 a await both.v 0 = 0
@@ -173,6 +174,13 @@ eventcount both.v 2
 sequencer both.p 2
 end
 ";
+
+/// Each of them, and the text that `check` writes for it.
+pub(crate) static GROUPED: [Row; 3] = [
+    (BUFFER, Ending::Done(BUFFER_ORDER)),
+    (DATABASE, Ending::Done(DATABASE_ORDER)),
+    (BOTH, Ending::Done(BOTH_ORDER)),
+];
 
 /// A group of each sort, with names as long as may be and semaphores' greatest and least initial
 /// values; nothing happens.

@@ -1,28 +1,22 @@
-//! Ids by their numbers.
-ghost use Rattle.std.specs.Prelude.{◌<◌};
-
+//! Ids by their numbers. A number past the table gives the table's last id.
 use ec_count::{CellId, EventId, SeqId, WorkerId};
 
-pub(crate) fn worker(n: usize) -> WorkerId
-    requires { n < 16 }
-{
-    WorkerId::new(n).unwrap()
+/// The worker of a number.
+pub(crate) fn worker(n: usize) -> WorkerId {
+    WorkerId::new(n.min(15)).unwrap()
 }
 
-pub(crate) fn event(n: usize) -> EventId
-    requires { n < 32 }
-{
-    EventId::new(n).unwrap()
+/// The eventcount of a number.
+pub(crate) fn event(n: usize) -> EventId {
+    EventId::new(n.min(31)).unwrap()
 }
 
-pub(crate) fn sequencer(n: usize) -> SeqId
-    requires { n < 32 }
-{
-    SeqId::new(n).unwrap()
+/// The sequencer of a number.
+pub(crate) fn sequencer(n: usize) -> SeqId {
+    SeqId::new(n.min(31)).unwrap()
 }
 
-pub(crate) fn cell(n: usize) -> CellId
-    requires { n < 256 }
-{
-    CellId::new(n).unwrap()
+/// The cell of a number.
+pub(crate) fn cell(n: usize) -> CellId {
+    CellId::new(n.min(255)).unwrap()
 }

@@ -1,5 +1,5 @@
 //! Tests of texts, through the crates that read and write them: worked traces, hostile input, and readers and writers
-//! that fail.
+//! that fail. Most are tables of texts or lines with the answers that are right, which one function goes through.
 #![tactic(auto)]
 
 #[cfg(test)]
@@ -17,7 +17,11 @@ mod group_heading_tests;
 #[cfg(test)]
 mod group_texts;
 #[cfg(test)]
+mod group_trace_tests;
+#[cfg(test)]
 mod heading_tests;
+#[cfg(test)]
+mod headings;
 #[cfg(test)]
 mod hostile_tests;
 #[cfg(test)]
@@ -27,4 +31,8 @@ mod outcome;
 #[cfg(test)]
 mod texts;
 #[cfg(test)]
+mod things;
+#[cfg(test)]
 mod writing_tests;
+#[cfg(test)]
+mod written;

@@ -1,30 +1,42 @@
-//! How `check` ends.
+//! Texts with how `check` ends on them, as tables.
 use evc_engine::{Notes, Status, check};
 use std::alloc::Global;
 use std::io::{Read, Write};
+use std::test::Fail;
 
-/// A status, a text and notes.
-#[derive(Drop)]
-pub(crate) struct Outcome {
-    pub(crate) status: Status,
-    pub(crate) out: Vec<u8>,
-    pub(crate) notes: Vec<u8>,
+/// How `check` ends.
+#[derive(Clone, Copy)]
+pub(crate) enum Ending {
+    /// It writes this text, and no note.
+    Done(&'static str),
+    /// It refuses the trace with this note, and writes nothing.
+    Refused(&'static str),
+    /// A read or a write failed: it says this note, and writes nothing.
+    Failed(&'static str),
 }
 
-impl Outcome {
-    /// Whether it is this one.
-    pub(crate) fn is(&self, status: Status, out: &str, notes: &str) -> bool {
-        self.status == status
-            && self.out.as_slice() == out.as_bytes()
-            && self.notes.as_slice() == notes.as_bytes()
+impl Ending {
+    fn status(self) -> Status {
+        match self {
+            Ending::Done(_) => Status::Done,
+            Ending::Refused(_) => Status::Refused,
+            Ending::Failed(_) => Status::InputOutput,
+        }
     }
-}
 
-/// What `check` does with the bytes of a reader.
-pub(crate) fn checked<R: Read>(alloc: Global, reader: &mut R) -> Outcome {
-    let mut out = Vec::new(alloc);
-    let (status, notes) = checked_into(alloc, reader, &mut out);
-    Outcome { status, out, notes }
+    fn out(self) -> &'static str {
+        match self {
+            Ending::Done(out) => out,
+            Ending::Refused(_) | Ending::Failed(_) => "",
+        }
+    }
+
+    fn notes(self) -> &'static str {
+        match self {
+            Ending::Done(_) => "",
+            Ending::Refused(notes) | Ending::Failed(notes) => notes,
+        }
+    }
 }
 
 /// What `check` does with the bytes of a reader and a writer of the text: its status and its notes.
@@ -36,4 +48,66 @@ pub(crate) fn checked_into<R: Read, W: Write>(
     let mut notes = Notes::new(Vec::new(alloc));
     let status = check(alloc, reader, out, &mut notes);
     (status, notes.writer)
+}
+
+/// Whether `check` ends so with the bytes of a reader.
+pub(crate) fn ends<R: Read>(alloc: Global, reader: &mut R, right: Ending) -> bool {
+    let mut out = Vec::new(alloc);
+    let (status, notes) = checked_into(alloc, reader, &mut out);
+    status == right.status()
+        && out.as_slice() == right.out().as_bytes()
+        && notes.as_slice() == right.notes().as_bytes()
+}
+
+/// A text, and how `check` ends on it.
+pub(crate) type Row = (&'static str, Ending);
+
+/// `check` ends on each text as its row says.
+pub(crate) fn all_end(alloc: Global, rows: &[Row]) -> Result<(), Fail> {
+    for (place, (text, right)) in rows.iter().enumerate() {
+        if !ends(alloc, &mut text.as_bytes(), *right) {
+            return Err(Fail::new(format_args!("another ending at row {place}")));
+        }
+    }
+    Ok(())
+}
+
+/// What stands before and after a line.
+#[derive(Clone, Copy)]
+pub(crate) struct Frame {
+    pub(crate) head: &'static str,
+    pub(crate) tail: &'static str,
+}
+
+/// The text of a line in its frame.
+fn framed(alloc: Global, frame: &Frame, line: &str) -> Result<Vec<u8>, Fail> {
+    let mut text = Vec::new(alloc);
+    text.extend_from_slice(frame.head.as_bytes())?;
+    text.extend_from_slice(line.as_bytes())?;
+    text.extend_from_slice(frame.tail.as_bytes())?;
+    Ok(text)
+}
+
+/// `check` ends so on the text of each line in the frame.
+pub(crate) fn all_end_alike(
+    alloc: Global,
+    frame: &Frame,
+    lines: &[&str],
+    right: Ending,
+) -> Result<(), Fail> {
+    for line in lines {
+        let text = framed(alloc, frame, line)?;
+        if !ends(alloc, &mut text.as_slice(), right) {
+            return Err(Fail::new(format_args!("another ending at {line}")));
+        }
+    }
+    Ok(())
+}
+
+/// `check` ends on the text of each line in the frame as its row says.
+pub(crate) fn all_end_within(alloc: Global, frame: &Frame, rows: &[Row]) -> Result<(), Fail> {
+    for (line, right) in rows {
+        all_end_alike(alloc, frame, &[*line], *right)?;
+    }
+    Ok(())
 }

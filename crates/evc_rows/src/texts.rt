@@ -1,4 +1,5 @@
 //! Worked traces, and what `check` writes for them.
+use crate::outcome::{Ending, Row};
 
 /// Nothing is declared but a worker, and nothing happens.
 pub(crate) const EMPTY: &str = "evc-trace 1
@@ -307,17 +308,17 @@ end
 ";
 
 /// Each worked trace, and the text that `check` writes for it.
-pub(crate) const WORKED: [(&str, &str); 12] = [
-    (EMPTY, EMPTY_ORDER),
-    (THREE_ADVANCES, THREE_ADVANCES_ORDER),
-    (OVERTAKEN_READ, OVERTAKEN_READ_ORDER),
-    (TWO_READS, TWO_READS_ORDER),
-    (TOTAL_IN_THE_MIDDLE, TOTAL_IN_THE_MIDDLE_ORDER),
-    (AWAIT_OF_ROUNDS, AWAIT_OF_ROUNDS_ORDER),
-    (AWAIT_OF_ZERO, AWAIT_OF_ZERO_ORDER),
-    (OTHER_COMPONENT, OTHER_COMPONENT_ORDER),
-    (TICKET_AND_AWAIT, TICKET_AND_AWAIT_ORDER),
-    (CELLS, CELLS_ORDER),
-    (TWO_STUCK, TWO_STUCK_ORDER),
-    (OVERTAKEN_OFTEN, OVERTAKEN_OFTEN_ORDER),
+pub(crate) static WORKED: [Row; 12] = [
+    (EMPTY, Ending::Done(EMPTY_ORDER)),
+    (THREE_ADVANCES, Ending::Done(THREE_ADVANCES_ORDER)),
+    (OVERTAKEN_READ, Ending::Done(OVERTAKEN_READ_ORDER)),
+    (TWO_READS, Ending::Done(TWO_READS_ORDER)),
+    (TOTAL_IN_THE_MIDDLE, Ending::Done(TOTAL_IN_THE_MIDDLE_ORDER)),
+    (AWAIT_OF_ROUNDS, Ending::Done(AWAIT_OF_ROUNDS_ORDER)),
+    (AWAIT_OF_ZERO, Ending::Done(AWAIT_OF_ZERO_ORDER)),
+    (OTHER_COMPONENT, Ending::Done(OTHER_COMPONENT_ORDER)),
+    (TICKET_AND_AWAIT, Ending::Done(TICKET_AND_AWAIT_ORDER)),
+    (CELLS, Ending::Done(CELLS_ORDER)),
+    (TWO_STUCK, Ending::Done(TWO_STUCK_ORDER)),
+    (OVERTAKEN_OFTEN, Ending::Done(OVERTAKEN_OFTEN_ORDER)),
 ];
