@@ -1,4 +1,5 @@
 pub mod Follows
+pub mod Kinds
 pub mod Laws
 pub mod Left
 pub mod Limits

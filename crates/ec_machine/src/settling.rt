@@ -9,7 +9,8 @@ ghost use Rattle.ec_machine.specs.Limits.{is_sound_one, is_value};
 ghost use Rattle.ec_machine.specs.Written.{is_single};
 ghost use Rattle.ec_machine.specs.Values.{has_large, is_large, values_of};
 ghost use Rattle.ec_machine.specs.Outcomes.{is_running, is_set};
-ghost use Rattle.ec_machine.specs.Runs.{command_call, outcome_in};
+ghost use Rattle.ec_machine.specs.Kinds.{is_act};
+ghost use Rattle.ec_machine.specs.Runs.{command_call, one_call, outcome_in};
 ghost use Rattle.ec_machine.specs.Tasks.{is_large_task, small_rest, small_going, task_rest, task_going};
 ghost use Rattle.ec_machine.specs.Standing.{IsAt};
 
@@ -25,28 +26,37 @@ use ec_core::{Act, VALUE_MAX};
 use ec_database::{DatabaseShape, Snapshot, WriteAll};
 use ec_semaphore::{Down, DownBoth, Up};
 
-/// The calls of a command on no database, whose values are not too large.
+/// The act that a command is, where it is one and its value is not too large.
+fn act_of(last: u64, command: &Command) -> Act
+    requires last { last ≤ VALUE_MAX }
+    requires sound { is_sound_one command.now ≡ true }
+    requires fits { has_large last command.now ≡ false }
+    requires one { is_act command.now ≡ true }
+    ensures { (calls : List Told) → one_call result calls ≡ command_call last command.now calls }
+{
+    match command {
+        Command::Advance(event) => Act::Advance(*event),
+        Command::Read(event) => Act::Read(*event),
+        Command::Await(event, value) => Act::Await(*event, value_of(last, value)),
+        Command::Ticket(sequencer) => Act::Ticket(*sequencer),
+        Command::Put(cell, value) => Act::Put(*cell, value_of(last, value)),
+        Command::Get(cell) => Act::Get(*cell),
+        _ => unreachable!(),
+    }
+}
+
+/// The calls of a command that is no act and on no database, whose value is not too large.
 fn small_of(last: u64, command: &Command) -> SmallTask
     requires last { last ≤ VALUE_MAX }
     requires sound { is_sound_one command.now ≡ true }
     requires single { is_single command.now ≡ true }
     requires fits { has_large last command.now ≡ false }
+    requires many { is_act command.now ≡ false }
     requires small { is_large_task command.now ≡ false }
     ensures whole { (calls : List Told) → small_rest result calls ≡ command_call last command.now calls }
     ensures fresh { small_going result ≡ false }
 {
     match command {
-        Command::Advance(event) => SmallTask::One(OneCall::new(Act::Advance(*event))),
-        Command::Read(event) => SmallTask::One(OneCall::new(Act::Read(*event))),
-        Command::Await(event, value) => {
-            SmallTask::One(OneCall::new(Act::Await(*event, value_of(last, value))))
-        }
-        Command::Ticket(sequencer) => SmallTask::One(OneCall::new(Act::Ticket(*sequencer))),
-        Command::Put(cell, value) => SmallTask::One(OneCall::new(Act::Put(
-            *cell,
-            value_of(last, value),
-        ))),
-        Command::Get(cell) => SmallTask::One(OneCall::new(Act::Get(*cell))),
         Command::Produce(shape, value) => {
             SmallTask::Produce(Produce::new(*shape, value_of(last, value)))
         }
@@ -56,9 +66,7 @@ fn small_of(last: u64, command: &Command) -> SmallTask
         Command::DownBoth(common, one, other) => {
             SmallTask::DownBoth(DownBoth::new(*common, *one, *other))
         }
-        Command::WriteAll(_, _) | Command::Snapshot(_, _) | Command::Repeat(_, _) => {
-            SmallTask::Nothing
-        }
+        _ => SmallTask::Nothing,
     }
 }
 
@@ -99,6 +107,12 @@ fn begin(task: &mut Task, last: u64, command: &Command)
     match command {
         Command::WriteAll(shape, values) => begin_write(task, last, shape, values.as_slice()),
         Command::Snapshot(shape, tries) => begin_snapshot(task, shape, *tries),
+        Command::Advance(_)
+        | Command::Read(_)
+        | Command::Await(_, _)
+        | Command::Ticket(_)
+        | Command::Put(_, _)
+        | Command::Get(_) => task.put_small(SmallTask::One(OneCall::new(act_of(last, command)))),
         _ => task.put_small(small_of(last, command)),
     }
 }
