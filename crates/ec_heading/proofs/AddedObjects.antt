@@ -1,6 +1,6 @@
 -- What the objects of a declaration are, sort by sort: they come after what was there, are apart, are all that the tables
 -- have more, and keep what is true of the tables.
-use Rattle.std.proofs.Common.{◌≡◌, ◌≢◌, ℕ, ◌+◌, ◌<◌, ◌≤◌, List, [], ◌∷◌, ◌++◌, length, Bool, true, false, eqb, ltb, ◌||◌, Option, None, Some, refl, sym, ap, subst, arith, nat_lt, nat_le, inl, inr, ◌⊎◌, replicate, length-append, zero, suc, zero-add, slice_get, ◌∙◌, ne_eqb}
+use Rattle.std.proofs.Common.{◌≡◌, ◌≢◌, ℕ, ◌+◌, ◌<◌, ◌≤◌, List, [], ◌∷◌, ◌++◌, length, Bool, true, false, eqb, ltb, ◌||◌, None, Some, refl, sym, ap, subst, arith, nat_lt, nat_le, inl, inr, ◌⊎◌, replicate, length-append, zero, suc, zero-add, slice_get, ◌∙◌, ne_eqb}
 use Rattle.std.specs.List.{AllByRecursion, list_any}
 use Rattle.std.proofs.lemmas.Bool.{true≢false, and_from, and_right, or_parts, or_from, or_left, ltb-true, lt-ltb, le-ltb, leb-true, le-leb, ltb-false, cases_lt}
 use Rattle.std.proofs.lemmas.List.{length-replicate}
@@ -10,7 +10,6 @@ use Rattle.ec_count.specs.Tables.{Tables, KeepsTables, with_event, with_cells}
 use Rattle.ec_count.specs.Declares.{with_sequencer}
 use Rattle.ec_count.specs.Members.{is_faulty, is_faulty_pair, has_repeat}
 use Rattle.ec_count.specs.declared.setup.Rights.{Rights}
-use Rattle.ec_count.specs.declared.setup.Access.{Access}
 use Rattle.ec_count.specs.declared.target.Target.{Target}
 use Rattle.ec_count.specs.declared.target.Target.TheVariants.{Worker, Event, Sequencer, Cells, Group}
 use Rattle.ec_count.proofs.Declared.{more_cells}

@@ -1,7 +1,6 @@
 -- The words for the objects of a declaration, added one after another.
-use Rattle.std.proofs.Common.{◌≡◌, ℕ, ◌+◌, ◌<◌, ◌≤◌, List, [], ◌∷◌, ◌++◌, length, take, drop, map, get_or, refl, sym, ap, subst, ◌∙◌, append_assoc, arith}
-use Rattle.std.proofs.lemmas.List.{drop_more, take_more, take-map, drop-map, map-append, take_all, length-map}
-use Rattle.std.proofs.Math.Seq.{take-append_seam}
+use Rattle.std.proofs.Common.{◌≡◌, ℕ, ◌+◌, ◌<◌, List, [], ◌∷◌, ◌++◌, length, take, drop, map, get_or, sym, ap, subst, ◌∙◌, append_assoc}
+use Rattle.std.proofs.lemmas.List.{drop_more, take_more, take-map, drop-map, map-append}
 use Rattle.ec_count.specs.declared.target.Target.{Target}
 use Rattle.ec_heading.specs.Objects.{AreNew, shown_objects, spelled_objects, spelling}
 use Rattle.ec_heading.specs.Spelled.{Named}

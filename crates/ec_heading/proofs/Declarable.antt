@@ -1,6 +1,6 @@
 -- A declaration may stand exactly where its line has no fault.
-use Rattle.std.proofs.Common.{◌≡◌, ℕ, ◌+◌, ◌≤◌, List, [], ◌∷◌, ◌++◌, length, Bool, true, false, not, ◌||◌, ◌&&◌, Option, Some, None, is_some, unwrap_or, Result, Ok, Err, refl, sym, ap, subst, ◌∙◌, arith, eqb, nat_le, nat_lt, leb, ltb, append_assoc, append-nil, eqb-true, lit≤}
-use Rattle.std.proofs.lemmas.Bool.{true≢false, or_parts, or_from, and_parts, and_left, and_right, ltb-false, le-ltb, leb-false, lt-leb, leb-true, le-leb, not-false, not_from_true, eqb-false, ne_eqb}
+use Rattle.std.proofs.Common.{◌≡◌, ℕ, ◌+◌, ◌≤◌, List, [], ◌∷◌, ◌++◌, length, Bool, true, false, not, ◌||◌, ◌&&◌, Option, Some, None, is_some, unwrap_or, Err, refl, sym, ap, subst, ◌∙◌, arith, eqb, nat_le, nat_lt, leb, ltb, append_assoc, append-nil, eqb-true, lit≤}
+use Rattle.std.proofs.lemmas.Bool.{true≢false, or_parts, or_from, and_parts, and_left, and_right, ltb-false, le-ltb, leb-false, lt-leb, leb-true, not-false, not_from_true, ne_eqb}
 use Rattle.ec_count.specs.declared.setup.SetupFault.TheVariants as setups
 use Rattle.ec_count.specs.Tables.{Tables, first_that, names_unknown}
 use Rattle.ec_count.specs.Members.{has_repeat, is_member}
@@ -17,7 +17,7 @@ use Rattle.ec_heading.specs.Outline.{Declaration, IsDeclarable, opened, numbered
 use Rattle.ec_heading.specs.Form.{Phrase}
 use Rattle.ec_heading.specs.Heading.{FailsAs}
 use Rattle.ec_heading.specs.Kinds.{declaration_of, declaration_fault, kind_of, size_in, second_list, is_full_for, is_bad_number, is_too_many, is_taken, has_unknown_word, has_two_roles}
-use Rattle.ec_heading.specs.Lists.{worker_of, ids_in, has_unknown}
+use Rattle.ec_heading.specs.Lists.{ids_in, has_unknown}
 use Rattle.ec_heading.specs.declared.sort.Sort.{Sort}
 use Rattle.ec_heading.specs.declared.sort.Sort.TheVariants as sorts
 use Rattle.ec_heading.specs.declared.heading.HeadFault.{HeadFault}

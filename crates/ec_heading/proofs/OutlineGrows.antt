@@ -1,5 +1,5 @@
 -- What declarations add: tables, names, words and groups grow at their ends.
-use Rattle.std.proofs.Common.{◌≡◌, ℕ, ◌+◌, ◌≤◌, zero, suc, List, [], ◌∷◌, ◌++◌, length, true, false, cond, Some, None, refl, sym, ap, ◌∙◌, arith, append_assoc, append-nil, replicate, length-append, slice_get}
+use Rattle.std.proofs.Common.{◌≡◌, ℕ, ◌≤◌, List, [], ◌∷◌, ◌++◌, length, true, false, cond, Some, None, refl, sym, ap, ◌∙◌, arith, append_assoc, append-nil, replicate, length-append, slice_get}
 use Rattle.std.specs.List.{cons_option}
 use Rattle.ec_count.specs.Tables.{Tables, with_event, with_cells}
 use Rattle.ec_count.specs.Declares.{KeepsObjects, with_sequencer}
@@ -8,12 +8,11 @@ use Rattle.ec_count.specs.declared.target.Target.{Target}
 use Rattle.ec_count.specs.declared.target.Target.TheVariants.{Worker}
 use Rattle.ec_semaphore.specs.Shapes.{with_semaphore}
 use Rattle.ec_count.proofs.Keeping.{keeps_same, keeps_then, keeps_event, keeps_sequencer, keeps_cells, still_there}
-use Rattle.ec_heading.specs.declared.group.Group.{Group}
 use Rattle.ec_heading.specs.declared.sort.Sort.{Sort}
 use Rattle.ec_heading.specs.declared.sort.Sort.TheVariants as sorts
 use Rattle.ec_heading.specs.Headed.{Headed}
 use Rattle.ec_heading.specs.Objects.{Next, objects_of, group_of, spelled_objects}
-use Rattle.ec_heading.specs.Outline.{Declaration, with_objects, next_of, named_as, declared_by, declared_all}
+use Rattle.ec_heading.specs.Outline.{Declaration, with_objects, next_of, declared_by, declared_all}
 use Rattle.ec_heading.specs.Spelling.{Named}
 
 abbrev pub NamesNoWorker : Named → Type 0

@@ -1,5 +1,5 @@
 -- The names and the words in a heading that an outline declares.
-use Rattle.std.proofs.Common.{◌≡◌, ℕ, zero, suc, ◌+◌, ◌<◌, ◌≤◌, ◌==◌, ◌&&◌, List, [], ◌∷◌, ◌++◌, length, map, Bool, true, false, cond, if◌then◌else◌, Option, Some, None, refl, sym, ap, subst, ◌∙◌, append_assoc, arith, slice_index_or, length-append, zero-add, replicate}
+use Rattle.std.proofs.Common.{◌≡◌, ℕ, zero, suc, ◌+◌, ◌<◌, ◌≤◌, ◌==◌, ◌&&◌, List, [], ◌∷◌, ◌++◌, length, map, Bool, true, false, cond, if◌then◌else◌, Option, Some, None, refl, sym, ap, ◌∙◌, append_assoc, arith, slice_index_or, length-append, zero-add, replicate}
 use Rattle.std.specs.Option.{unwrap_or}
 use Rattle.std.specs.List.{range_with_len}
 use Rattle.std.proofs.lemmas.List.{ext_get_or, length_push, length-replicate}
@@ -19,7 +19,7 @@ use Rattle.ec_heading.specs.declared.sort.Sort.{Sort}
 use Rattle.ec_heading.specs.declared.sort.Sort.TheVariants as sorts
 use Rattle.ec_heading.specs.Headed.{Headed}
 use Rattle.ec_heading.specs.Sorts.{has_name, is_in_range}
-use Rattle.ec_heading.specs.Objects.{Next, target_of, group_of}
+use Rattle.ec_heading.specs.Objects.{Next, target_of}
 use Rattle.ec_heading.specs.Outline.{Declaration, next_of, named_as, declared_by, numbered}
 use Rattle.ec_heading.specs.Spelling.{Named, word_of, list_words}
 use Rattle.ec_heading.specs.Recalled.{names_of}

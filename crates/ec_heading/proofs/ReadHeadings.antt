@@ -1,11 +1,11 @@
 -- What is true of the words and tables of every outline: each thing is spelled by one word, and each bound holds.
-use Rattle.std.proofs.Common.{◌≡◌, ◌≢◌, ℕ, ◌+◌, ◌<◌, ◌≤◌, ◌^◌, List, [], ◌∷◌, ◌++◌, length, cond, Bool, true, false, eqb, ◌||◌, zero, suc, Option, None, Some, is_some, refl, sym, ap, subst, ◌∙◌, arith, nat_lt, inl, inr, ◌⊎◌, get_or, append-nil, length-append, bytes_eq, ne_eqb, if◌then◌else◌}
+use Rattle.std.proofs.Common.{◌≡◌, ◌≢◌, ℕ, ◌+◌, ◌<◌, ◌≤◌, ◌^◌, List, [], ◌∷◌, ◌++◌, length, cond, Bool, true, false, eqb, ◌||◌, zero, suc, Option, None, Some, is_some, refl, sym, ap, subst, ◌∙◌, arith, inl, inr, ◌⊎◌, get_or, append-nil, length-append, bytes_eq, ne_eqb, if◌then◌else◌}
 use Rattle.std.specs.List.{AllByRecursion, list_any, cons_option}
 use Rattle.std.proofs.lemmas.Bool.{true≢false, or_right, lt-ltb, eqb-false, false_from_ne_true}
 use Rattle.std.proofs.lemmas.List.Elements.{recursion_from_All}
 use Rattle.std.proofs.lemmas.Slice.Eq.{bytes_eq-Decides}
 use Rattle.ec_count.specs.Names.{find_name, name_of, same_target, AreNames, name_fault}
-use Rattle.ec_count.specs.Tables.{Tables, IsDeclared}
+use Rattle.ec_count.specs.Tables.{IsDeclared}
 use Rattle.ec_count.specs.Reserved.{is_name}
 use Rattle.ec_count.specs.declared.target.Target.{Target}
 use Rattle.ec_count.specs.declared.target.Target.TheVariants.{Worker, Event, Sequencer}
@@ -13,8 +13,8 @@ use Rattle.ec_count.proofs.Named.{AreNames-push, none_left}
 use Rattle.ec_count.proofs.Declared.{rights_of, takers_of, access_of}
 use Rattle.ec_heading.specs.Headed.{Headed}
 use Rattle.ec_heading.specs.Objects.{objects_of, target_of, group_of, spelled_objects}
-use Rattle.ec_heading.specs.Outline.{Declaration, Outline, IsOutline, IsDeclarable, AreDeclarable, AreWorkers, opened, numbered, next_of, named_as, declared_by, declared_all, headed, with_objects}
-use Rattle.ec_heading.specs.Sorts.{has_name, is_called}
+use Rattle.ec_heading.specs.Outline.{Declaration, Outline, IsOutline, IsDeclarable, AreDeclarable, AreWorkers, opened, numbered, next_of, named_as, declared_by, declared_all, headed}
+use Rattle.ec_heading.specs.Sorts.{has_name}
 use Rattle.ec_heading.specs.Spelling.{cell_in}
 use Rattle.ec_heading.specs.Spelled.{Named}
 use Rattle.ec_heading.proofs.AddedObjects.{is_below, is_beyond, beyond_apart, objects_beyond, objects_apart, objects_below, below_grows, name_first, name_next, name_right, Covers, covers, Kept, kept_more, Bounds, bounds_more}

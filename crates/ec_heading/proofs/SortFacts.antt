@@ -1,5 +1,5 @@
 -- What the table of sorts says, sort by sort.
-use Rattle.std.proofs.Common.{◌≡◌, ◌≢◌, ℕ, ◌≤◌, List, [], ◌∷◌, length, Bool, true, false, not, ◌&&◌, ◌||◌, eqb, nat_le, nat_lt, cond, Option, Some, None, refl, sym, ap, subst, ◌∙◌, arith, bytes_eq, ne_eqb, lit≤}
+use Rattle.std.proofs.Common.{◌≡◌, ℕ, ◌≤◌, List, [], ◌∷◌, length, Bool, true, false, not, ◌&&◌, eqb, nat_le, nat_lt, cond, Option, Some, None, refl, sym, ap, subst, ◌∙◌, arith, bytes_eq, ne_eqb, lit≤}
 use Rattle.std.specs.List.{list_all, AllByRecursion}
 use Rattle.std.proofs.lemmas.Bool.{true≢false, and_parts, and_from, leb-true, le-leb, ltb-true}
 use Rattle.std.proofs.lemmas.Bool.Decides.{nat_tests}

@@ -1,7 +1,7 @@
 -- The words of a heading: each is plain and short, no two are the same, and what stands before a dot is a word too.
-use Rattle.std.proofs.Common.{◌≡◌, ◌≢◌, ℕ, ◌+◌, ◌≤◌, List, [], ◌∷◌, ◌++◌, length, zero, suc, Bool, true, false, cond, ◌||◌, ◌&&◌, ◌==◌, eqb, nat_le, Option, Some, None, is_some, refl, sym, ap, subst, ◌∙◌, arith, bytes_eq, if◌then◌else◌, slice_get, append_assoc, length-append, ne_eqb, codes}
+use Rattle.std.proofs.Common.{◌≡◌, ◌≢◌, ℕ, ◌≤◌, List, [], ◌∷◌, ◌++◌, length, zero, suc, Bool, true, false, cond, ◌||◌, ◌&&◌, ◌==◌, eqb, nat_le, Some, None, is_some, refl, sym, ap, subst, ◌∙◌, arith, bytes_eq, if◌then◌else◌, slice_get, append_assoc, length-append, ne_eqb}
 use Rattle.std.specs.List.{AllByRecursion, list_all}
-use Rattle.std.proofs.lemmas.Bool.{true≢false, and_parts, or_left, or_right, eqb-true, leb-true, false_from_ne_true}
+use Rattle.std.proofs.lemmas.Bool.{true≢false, and_parts, or_left, leb-true, false_from_ne_true}
 use Rattle.std.proofs.lemmas.List.{append_cancel_left}
 use Rattle.std.proofs.lemmas.Slice.Eq.{bytes_eq-Decides}
 use Rattle.ec_count.proofs.Named.{none_left}

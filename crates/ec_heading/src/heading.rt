@@ -1,14 +1,16 @@
 //! Headings.
-ghost use Rattle.std.specs.Prelude.{◌≡◌, ◌≢◌, ◌+◌, ◌++◌, ◌≤◌, IfErr, IfOk, OnErr, OnOk, [], None, length, option_map, vec_capacity};
+ghost use Rattle.std.specs.Prelude.{◌≡◌, ◌≢◌, ◌+◌, ◌++◌, ◌≤◌, ◌∷◌, IfErr, IfOk, OnErr, OnOk, [], None, false, true, length, option_map, vec_capacity};
 ghost use Rattle.std.specs.List.{All, cons_option};
 ghost use Rattle.ec_text.specs.Words.{words_of};
 ghost use Rattle.ec_heading.specs.Form.{parts_in, shown};
 ghost use Rattle.ec_heading.specs.Groups.{FitsGroup};
 ghost use Rattle.ec_heading.specs.Heading.{Lines, Steps, workers_in, words_step, opened_by, declared_or};
-ghost use Rattle.ec_heading.specs.Kinds.{workers_fault, declaration_fault, declaration_of, second_list};
+ghost use Rattle.ec_heading.specs.Kinds.{workers_fault, declaration_fault, declaration_of, second_list, is_full_for};
 ghost use Rattle.ec_count.specs.Names.{AreNames};
 ghost use Rattle.ec_heading.specs.Lists.{ids_in, worker_in};
+ghost use Rattle.ec_heading.specs.Objects.{AreNew, ids_after, objects_of, spelled_objects};
 ghost use Rattle.ec_heading.specs.Outlined.{IsHeading, HasOutline};
+ghost use Rattle.ec_heading.specs.Sorts.{is_in_range};
 ghost use Rattle.ec_heading.specs.Spelled.{event_in, sequencer_in, cell_in_word, cell_of};
 ghost use Rattle.ec_heading.specs.Outline.{opened, IsDeclarable, numbered, named_as, declared_by};
 
@@ -210,7 +212,7 @@ impl Heading {
         self.declare(&parts)
     }
 
-    /// Adds what a line without fault declares: first what may want memory, so that nothing changes where it is refused.
+    /// Adds what a line without fault declares.
     fn declare(&mut self, parts: &Parts<'_>) -> Result<(), HeadFault>
         requires some { self.old.setup.workers ≢ 0 }
         requires may { IsDeclarable self.old (declaration_of self.old.words (shown parts.now)) }
@@ -218,42 +220,46 @@ impl Heading {
         ensures err { OnErr result (self.new ≡ self.old) }
         ensures fault { IfErr result (λ fault. fault ≡ HeadFault.Memory) }
     {
-        let n = size_of(parts) as usize;
         let first = workers_of(&self.words, parts.first);
         let second = second_workers(&self.words, parts);
+        self.declare_with(parts, first.as_slice(), second.as_slice())
+    }
+
+    /// Adds a declaration with these workers: first what may want memory, so that nothing changes where it is refused.
+    fn declare_with(
+        &mut self,
+        parts: &Parts<'_>,
+        first: &[WorkerId],
+        second: &[WorkerId],
+    ) -> Result<(), HeadFault>
+        requires some { self.old.setup.workers ≢ 0 }
+        requires may { IsDeclarable self.old (declaration_of self.old.words (shown parts.now)) }
+        requires first { first.now ≡ ids_in self.old.words (shown parts.now).first }
+        requires second { second.now ≡ ids_in self.old.words (second_list (shown parts.now)) }
+        ensures ok { OnOk result (self.new ≡ declared_by self.old (declaration_of self.old.words (shown parts.now))) }
+        ensures err { OnErr result (self.new ≡ self.old) }
+        ensures fault { IfErr result (λ fault. fault ≡ HeadFault.Memory) }
+    {
+        let n = size_of(parts) as usize;
         let groups = self.groups.len();
         let target = target_of(&self.setup, groups, parts.sort, n);
-        if self.declarations.reserve(1).is_err() || self.groups.reserve(1).is_err() {
+        let Ok(()) = reserve_one(&mut self.declarations, &mut self.groups) else {
             return Err(HeadFault::Memory);
-        }
-        let before = self.words.len();
-        if spell_objects(
+        };
+        let Ok(()) = spell_declaration(
             &mut self.words,
-            parts.name,
+            &mut self.names,
             &self.setup,
             groups,
-            parts.sort,
+            parts,
             n,
-        )
-        .is_err()
-        {
+            &target,
+        ) else {
             return Err(HeadFault::Memory);
-        }
-        if add_name(&mut self.names, parts.sort, parts.name, &target).is_err() {
-            self.words.truncate(before);
-            return Err(HeadFault::Memory);
-        }
-        let group = add_objects(
-            &mut self.setup,
-            parts.sort,
-            n,
-            first.as_slice(),
-            second.as_slice(),
-        );
+        };
+        let group = add_objects(&mut self.setup, parts.sort, n, first, second);
         push_group(&mut self.groups, group);
-        if self.declarations.push(target).is_err() {
-            unreachable!();
-        }
+        push_target(&mut self.declarations, target);
         Ok(())
     }
 
@@ -355,6 +361,62 @@ fn add_name(names: &mut Names, sort: Sort, name: &[u8], target: &Target) -> Resu
         return Ok(());
     }
     names.add_bytes(name, *target)
+}
+
+/// Adds the words and the name of a declaration that comes next after these and so many groups, or
+/// none of them.
+fn spell_declaration(
+    words: &mut Vocabulary,
+    names: &mut Names,
+    setup: &Setup,
+    groups: usize,
+    parts: &Parts<'_>,
+    n: usize,
+    target: &Target,
+) -> Result<(), AllocError>
+    requires room { is_full_for parts.now.sort setup.now n ≡ false }
+    requires some { is_in_range parts.now.sort n ≡ true }
+    requires new { AreNew parts.now.name.now words.old (objects_of parts.now.sort (ids_after setup.now groups) n) }
+    ensures words { OnOk result (words.new ≡ words.old ++ spelled_objects parts.now.name.now (objects_of parts.now.sort (ids_after setup.now groups) n)) }
+    ensures names { OnOk result (names.new ≡ names.old ++ named_as parts.now.sort parts.now.name.now target.now) }
+    ensures same_words { OnErr result (words.new ≡ words.old) }
+    ensures same_names { OnErr result (names.new ≡ names.old) }
+{
+    let before = words.len();
+    let Ok(()) = spell_objects(words, parts.name, setup, groups, parts.sort, n) else {
+        return Err(AllocError);
+    };
+    let Ok(()) = add_name(names, parts.sort, parts.name, target) else {
+        words.truncate(before);
+        return Err(AllocError);
+    };
+    Ok(())
+}
+
+/// Makes room for one more of each.
+fn reserve_one(declarations: &mut Vec<Target>, groups: &mut Vec<Group>) -> Result<(), AllocError>
+    ensures declarations { declarations.new.items ≡ declarations.old.items }
+    ensures groups { groups.new.items ≡ groups.old.items }
+    ensures more { OnOk result (length declarations.new.items + 1 ≤ vec_capacity declarations.new) }
+    ensures room { OnOk result (length groups.new.items + 1 ≤ vec_capacity groups.new) }
+{
+    let Ok(()) = declarations.reserve(1) else {
+        return Err(AllocError);
+    };
+    let Ok(()) = groups.reserve(1) else {
+        return Err(AllocError);
+    };
+    Ok(())
+}
+
+/// Adds what was declared, where there is room for it.
+fn push_target(declarations: &mut Vec<Target>, target: Target)
+    requires { length declarations.old.items + 1 ≤ vec_capacity declarations.old }
+    ensures { declarations.new.items ≡ declarations.old.items ++ target ∷ [] }
+{
+    if declarations.push(target).is_err() {
+        unreachable!();
+    }
 }
 
 /// Adds a group, if there is one, where there is room for it.

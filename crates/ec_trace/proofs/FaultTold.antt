@@ -1,12 +1,10 @@
 -- The first faulty line of a text gives its fault.
-use Rattle.std.proofs.Common.{◌≡◌, ◌≢◌, ℕ, ◌+◌, ◌<◌, ◌≤◌, List, [], ◌∷◌, ◌++◌, length, take, false, ltb, refl, sym, ap, ◌∙◌, arith, Err, append-nil, le-ltb, inl, inr, ◌⊎◌}
+use Rattle.std.proofs.Common.{◌≡◌, ◌≢◌, ℕ, ◌+◌, List, ◌++◌, length, take, false, ltb, refl, sym, ap, ◌∙◌, arith, Err, le-ltb, inl, inr, ◌⊎◌}
 use Rattle.std.specs.List.{All}
 use Rattle.ec_trace.specs.declared.fault.LineFault.{LineFault}
-use Rattle.ec_trace.specs.declared.fault.LineFault.TheVariants.{Bad}
 use Rattle.ec_trace.specs.declared.stage.Stage.{Stage}
 use Rattle.ec_trace.specs.declared.stage.Stage.TheVariants.{Opening}
 use Rattle.ec_trace.specs.declared.read.TheConstants.{TRACE_MAX}
-use Rattle.ec_heading.specs.Spelling.{text_of}
 use Rattle.ec_trace.specs.Outcome.{goes, goes_from, parts_of, numbered, start, outcome, bounded}
 use Rattle.ec_trace.specs.FirstFault.{IsTooLong, IsBehindTheEnd, IsRefusedThere, IsFirstFault, FirstFaultIsTold}
 use Rattle.ec_trace.proofs.Goes.{goes_line, goes_long, goes_after_end}

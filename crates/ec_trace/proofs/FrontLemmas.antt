@@ -1,7 +1,7 @@
 -- A line is cut before its last word; and what an entry's front tells of one reply it tells of each.
 use Rattle.std.proofs.Common.{◌≡◌, ℕ, zero, suc, replicate, ◌+◌, ◌-◌, ◌<◌, ◌≤◌, List, [], ◌∷◌, ◌++◌, length, take, drop, get_or, Bool, true, false, cond, eqb, Option, None, Some, refl, sym, ap, subst, ◌∙◌, arith, codes, add-one, drop-cons, length-drop, ne_eqb, true≢false, inl, inr, ◌⊎◌}
 use Rattle.std.specs.Prelude.{bytes_eq, slice_get, slice_set, ◌==◌}
-use Rattle.std.specs.List.{All, slice_split, onto_first}
+use Rattle.std.specs.List.{onto_first}
 use Rattle.std.proofs.lemmas.List.{take-append-drop, take_all, get_or-drop}
 use Rattle.std.proofs.lemmas.List.Elements.{All-from_get_or}
 use Rattle.std.proofs.lemmas.Slice.Eq.{bytes_eq-Decides}

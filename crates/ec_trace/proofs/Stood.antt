@@ -5,7 +5,7 @@ use Rattle.std.proofs.lemmas.Bool.{cond-true, cond-false}
 use Rattle.std.proofs.lemmas.List.{take_all}
 use Rattle.std.specs.Io.KnownBytes.{Consumes, IsAtEnd}
 use Rattle.ec_trace.specs.Recounted.{Recounted}
-use Rattle.ec_trace.specs.Outcome.{Place, goes_from, start, outcome, bounded, ended_at, Tells, Brought, Stands, Finishes, FailsAs, Arrived, Arrives}
+use Rattle.ec_trace.specs.Outcome.{Place, goes_from, start, outcome, bounded, ended_at, Tells, Brought, Stands, Finishes, Ends, FailsAs, Arrived, Arrives}
 use Rattle.ec_trace.specs.declared.fault.TraceFault.{TraceFault}
 use Rattle.ec_trace.specs.declared.fault.TraceFault.TheVariants.{TooLarge, Read, Memory}
 
@@ -153,6 +153,7 @@ module _ (max : ℕ) where
   end_at xs p (Err f) a (inl fails) = tells_fails (Some xs) (Some []) p (length xs) f (brought xs p a) a.within fails
   end_at xs p (Err f) a (inr h) = subst (λ (g : TraceFault). Tells max xs (Err g)) (sym h.0) (outcome_at_end xs p (length xs) (brought xs p a) a.within h.1 ∙ h.2)
 
-  pub finishes : (a : Option (List ℕ)) (p : Place) (r : Result Recounted TraceFault) → IfSome a (λ xs. Arrives max xs (Ok tt) p) → Finishes r p → IfSome a (λ xs. Tells max xs r)
-  finishes None p r a fin = tt
-  finishes (Some xs) p r a fin = end_at xs p r a fin
+  pub ends : (a : Option (List ℕ)) (p : Place) (read : Result (Unit {0}) TraceFault) (r : Result Recounted TraceFault) → IfSome a (λ xs. Arrives max xs read p) → Ends read r p → IfSome a (λ xs. Tells max xs r)
+  ends None p read r a e = tt
+  ends (Some xs) p (Ok x) r a e = end_at xs p r a e
+  ends (Some xs) p (Err f) r a e = subst (Tells max xs) (sym e) a

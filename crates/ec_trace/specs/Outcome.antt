@@ -123,6 +123,11 @@ abbrev pub Finishes : Result Recounted TraceFault → Place → Type 0
 Finishes (Ok t) p = (goes_from p [] ≡ Ok p) × (ended_at p ≡ Ok t)
 Finishes (Err f) p = ((more : List ℕ) → FailsAs f (goes_from p more)) ⊎ ((f ≡ Unfinished) × (goes_from p [] ≡ Ok p) × (ended_at p ≡ Err Unfinished))
 
+-- the same where its reading may have come to a fault
+abbrev pub Ends : Result (Unit {0}) TraceFault → Result Recounted TraceFault → Place → Type 0
+Ends (Ok x) r p = Finishes r p
+Ends (Err f) r p = r ≡ Err f
+
 -- the whole input brought the text to this place, or its fault is told
 pub record Arrived (max : ℕ) (xs : List ℕ) (p : Place) : Type 0 where
   pub within : length xs ≤ max

@@ -1,6 +1,6 @@
 //! A trace that comes in pieces: the line in progress, and what the lines before it built.
 ghost use Rattle.std.specs.Prelude.{◌≡◌, ◌≢◌, ◌≤◌, ◌<◌, ◌+◌, ◌++◌, ◌^◌, ◌∷◌, [], All, Err, IfNone, IfSome, Ok, length};
-ghost use Rattle.ec_trace.specs.Outcome.{Moves, Rests, Finishes, fault_at, goes_from, start};
+ghost use Rattle.ec_trace.specs.Outcome.{Moves, Rests, Ends, fault_at, goes_from, start};
 
 use crate::fault::{LineFault, StageFault, TraceFault};
 use crate::lines::cut_line;
@@ -149,11 +149,14 @@ impl Progress {
         Ok(())
     }
 
-    /// Why the text may not end here, if it may not: a last line without its LF.
-    fn end_fault(&self) -> Option<TraceFault>
-        ensures none { IfNone result ((self.now.part ≡ []) × (goes_from self.now [] ≡ Ok self.now)) }
-        ensures some { IfSome result (λ fault. Finishes (Err fault) self.now) }
+    /// Why the text may not end here, if it may not: what its reading came to, or a last line without its LF.
+    fn end_fault(&self, read: Result<(), TraceFault>) -> Option<TraceFault>
+        ensures none { IfNone result ((read ≡ Ok tt) × (self.now.part ≡ []) × (goes_from self.now [] ≡ Ok self.now)) }
+        ensures some { IfSome result (λ fault. Ends read (Err fault) self.now) }
     {
+        if let Err(fault) = read {
+            return Some(fault);
+        }
         if let Err(fault) = self.rest() {
             return Some(fault);
         }
@@ -163,11 +166,11 @@ impl Progress {
         None
     }
 
-    /// Ends the text here.
-    pub(crate) fn finish(self) -> Result<Traced, TraceFault>
-        ensures { Finishes result self }
+    /// Ends the text here, unless its reading came to a fault.
+    pub(crate) fn finish(self, read: Result<(), TraceFault>) -> Result<Traced, TraceFault>
+        ensures { Ends read result self }
     {
-        match self.end_fault() {
+        match self.end_fault(read) {
             Some(fault) => Err(fault),
             None => self.stage.finish(),
         }

@@ -77,6 +77,6 @@ pub fn read_trace<R: Read>(alloc: Global, reader: &mut R) -> Result<Traced, Trac
     ensures refused { IfSome (R.remaining reader.old) (λ bytes. IfErr result (λ fault. Refuses fault bytes)) }
 {
     let mut progress = Progress::new(alloc);
-    read_lines(reader, &mut progress)?;
-    progress.finish()
+    let read = read_lines(reader, &mut progress);
+    progress.finish(read)
 }

@@ -1,5 +1,4 @@
-use Rattle.std.proofs.Common.{rules}
-use Rattle.ec_trace.proofs.LineCuts.{no_line_cut, line_cut_plain, line_cut_whole}
+use Rattle.ec_trace.proofs.LineCuts.{line_cut_plain, line_cut_whole}
 use Rattle.ec_trace.proofs.lines.cut_line.Goals as goal
 
 pub returns-clause-plain : goal.returns-clause-plain

@@ -2,7 +2,7 @@ use Rattle.std.proofs.Common.{◌≡◌, ◌∙◌, Option, Some, Err, refl, sym
 use Rattle.std.proofs.lemmas.Grind.{common_steps}
 use Rattle.ec_count.proofs.Named.{none_left}
 use Rattle.ec_text.specs.Words.{words_of}
-use Rattle.ec_heading.specs.Form.{Phrase, parts_in, shown}
+use Rattle.ec_heading.specs.Form.{parts_in, shown}
 use Rattle.ec_heading.specs.Headed.{Headed}
 use Rattle.ec_heading.specs.Heading.{FailsAs, declared_or, fault_or}
 use Rattle.ec_heading.specs.Kinds.{declaration_fault, declaration_of}

@@ -1,4 +1,4 @@
-use Rattle.std.proofs.Common.{◌≡◌, ℕ, sym, ap, subst, arith, length}
+use Rattle.std.proofs.Common.{◌≡◌, ℕ, sym, subst, arith, length}
 use Rattle.std.proofs.lemmas.Grind.{common_steps}
 use Rattle.ec_heading.specs.Form.{shown}
 use Rattle.ec_heading.specs.Headed.{Headed}
@@ -7,10 +7,10 @@ use Rattle.ec_heading.specs.Objects.{AreNew, ids_after, objects_of}
 use Rattle.ec_heading.specs.Outline.{next_of}
 use Rattle.ec_heading.specs.Outlined.{IsHeading}
 use Rattle.ec_heading.proofs.Standing.{declares, words_new}
-use Rattle.ec_heading.proofs.heading.Heading.declare.Goals as goal
+use Rattle.ec_heading.proofs.heading.Heading.declare_with.Goals as goal
 
-pub spell_objects-requires-clause-new : goal.spell_objects-requires-clause-new
-spell_objects-requires-clause-new c =
+pub spell_declaration-requires-clause-new : goal.spell_declaration-requires-clause-new
+spell_declaration-requires-clause-new c =
     let h = c.args.self.now in
     let p = shown c.args.parts.now in
     let new = words_new h (declaration_of h.words p) (subst IsHeading c.self.view_is c.self.invariant) c.requires.may in
@@ -21,6 +21,6 @@ spell_objects-requires-clause-new c =
 
 pub invariant_of-self-2 : goal.invariant_of-self-2
 invariant_of-self-2 c =
-    declares c.args.self.now (declaration_of c.args.self.now.words (shown c.args.parts.now)) c.add_objects-group.new.setup c.add_name.new.names c.spell_objects.new.words c.push_group.new.groups.items c.push.new.self.items
+    declares c.args.self.now (declaration_of c.args.self.now.words (shown c.args.parts.now)) c.add_objects-group.new.setup c.spell_declaration.new.names c.spell_declaration.new.words c.push_group.new.groups.items c.push_target.new.declarations.items
     (subst IsHeading c.self.view_is c.self.invariant) c.requires.some c.requires.may
     (grind (arith, common_steps)) (grind (arith, common_steps)) (grind (arith, common_steps)) (grind (arith, common_steps)) (grind (arith, common_steps))
