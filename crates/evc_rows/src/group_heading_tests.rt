@@ -5,15 +5,18 @@ use crate::things::Thing;
 use ec_trace::{HeadFault, Sort};
 use std::test::Fail;
 
-/// A group of each sort, between other declarations.
-static ORDER: [Row; 9] = [
-    Take("workers a c"),
-    Take("buffer B 2 produce a consume c"),
-    Take("eventcount E signal a"),
-    Take("database D 3 write a read c"),
-    Take("semaphore S 5 use a c"),
-    Take("cells X 1 write a"),
-    Take("both use c a"),
+/// Lines that declare a group of each sort, between other declarations.
+static EACH: [&str; 7] = [
+    "workers a c",
+    "buffer B 2 produce a consume c",
+    "eventcount E signal a",
+    "database D 3 write a read c",
+    "semaphore S 5 use a c",
+    "cells X 1 write a",
+    "both use c a",
+];
+
+static ORDER: [Row; 2] = [
     See(Sight::Declared(&[
         Thing::Group(0),
         Thing::Event(2),
@@ -27,38 +30,22 @@ static ORDER: [Row; 9] = [
 
 #[test]
 fn groups_are_declared_in_order(rt: HostRuntime) -> Result<(), Fail> {
-    shows(rt.alloc(), &ORDER)
+    shows(rt.alloc(), &EACH, &ORDER)
 }
 
-static SHAPES: [Row; 8] = [
-    Take("workers a c"),
-    Take("buffer B 2 produce a consume c"),
-    Take("eventcount E signal a"),
-    Take("database D 3 write a read c"),
-    Take("semaphore S 5 use a c"),
-    Take("cells X 1 write a"),
-    Take("both use c a"),
-    See(Sight::Groups(&[
-        Shape::Buffer(2, 0),
-        Shape::Database(3, 2),
-        Shape::Semaphore(5, 5),
-        Shape::Both(1, 4),
-    ])),
-];
+static SHAPES: [Row; 1] = [See(Sight::Groups(&[
+    Shape::Buffer(2, 0),
+    Shape::Database(3, 2),
+    Shape::Semaphore(5, 5),
+    Shape::Both(1, 4),
+]))];
 
 #[test]
 fn shapes_of_groups_fit(rt: HostRuntime) -> Result<(), Fail> {
-    shows(rt.alloc(), &SHAPES)
+    shows(rt.alloc(), &EACH, &SHAPES)
 }
 
-static NAMES: [Row; 18] = [
-    Take("workers a c"),
-    Take("buffer B 2 produce a consume c"),
-    Take("eventcount E signal a"),
-    Take("database D 3 write a read c"),
-    Take("semaphore S 5 use a c"),
-    Take("cells X 1 write a"),
-    Take("both use c a"),
+static NAMES: [Row; 11] = [
     See(Sight::Names(7)),
     See(Sight::Name("B", Some(Thing::Group(0)))),
     See(Sight::Name("D", Some(Thing::Group(1)))),
@@ -74,36 +61,20 @@ static NAMES: [Row; 18] = [
 
 #[test]
 fn names_hold_no_objects_of_groups(rt: HostRuntime) -> Result<(), Fail> {
-    shows(rt.alloc(), &NAMES)
+    shows(rt.alloc(), &EACH, &NAMES)
 }
 
-static WORDS: [Row; 8] = [
-    Take("workers a c"),
-    Take("buffer B 2 produce a consume c"),
-    Take("eventcount E signal a"),
-    Take("database D 3 write a read c"),
-    Take("semaphore S 5 use a c"),
-    Take("cells X 1 write a"),
-    Take("both use c a"),
-    See(Sight::Words(&[
-        "a", "c", "B.in", "B.out", "B.put", "B.take", "B", "E", "D.start", "D.done", "D.turn", "D",
-        "S.v", "S.p", "S", "X", "both.v", "both.p", "both",
-    ])),
-];
+static WORDS: [Row; 1] = [See(Sight::Words(&[
+    "a", "c", "B.in", "B.out", "B.put", "B.take", "B", "E", "D.start", "D.done", "D.turn", "D",
+    "S.v", "S.p", "S", "X", "both.v", "both.p", "both",
+]))];
 
 #[test]
 fn words_stand_in_the_order_of_the_objects(rt: HostRuntime) -> Result<(), Fail> {
-    shows(rt.alloc(), &WORDS)
+    shows(rt.alloc(), &EACH, &WORDS)
 }
 
-static EVENTCOUNTS: [Row; 39] = [
-    Take("workers a c"),
-    Take("buffer B 2 produce a consume c"),
-    Take("eventcount E signal a"),
-    Take("database D 3 write a read c"),
-    Take("semaphore S 5 use a c"),
-    Take("cells X 1 write a"),
-    Take("both use c a"),
+static EVENTCOUNTS: [Row; 32] = [
     See(Sight::Event("B.in", Some(0))),
     See(Sight::Event("B.out", Some(1))),
     See(Sight::Event("E", Some(2))),
@@ -140,17 +111,10 @@ static EVENTCOUNTS: [Row; 39] = [
 
 #[test]
 fn spellings_of_eventcounts_of_groups(rt: HostRuntime) -> Result<(), Fail> {
-    shows(rt.alloc(), &EVENTCOUNTS)
+    shows(rt.alloc(), &EACH, &EVENTCOUNTS)
 }
 
-static SEQUENCERS: [Row; 26] = [
-    Take("workers a c"),
-    Take("buffer B 2 produce a consume c"),
-    Take("eventcount E signal a"),
-    Take("database D 3 write a read c"),
-    Take("semaphore S 5 use a c"),
-    Take("cells X 1 write a"),
-    Take("both use c a"),
+static SEQUENCERS: [Row; 19] = [
     See(Sight::Sequencer("B.put", Some(0))),
     See(Sight::Sequencer("B.take", Some(1))),
     See(Sight::Sequencer("D.turn", Some(2))),
@@ -174,17 +138,10 @@ static SEQUENCERS: [Row; 26] = [
 
 #[test]
 fn spellings_of_sequencers_of_groups(rt: HostRuntime) -> Result<(), Fail> {
-    shows(rt.alloc(), &SEQUENCERS)
+    shows(rt.alloc(), &EACH, &SEQUENCERS)
 }
 
-static CELLS: [Row; 27] = [
-    Take("workers a c"),
-    Take("buffer B 2 produce a consume c"),
-    Take("eventcount E signal a"),
-    Take("database D 3 write a read c"),
-    Take("semaphore S 5 use a c"),
-    Take("cells X 1 write a"),
-    Take("both use c a"),
+static CELLS: [Row; 20] = [
     See(Sight::Cell("B[0]", Some(0))),
     See(Sight::Cell("B[1]", Some(1))),
     See(Sight::Cell("D[0]", Some(2))),
@@ -209,11 +166,10 @@ static CELLS: [Row; 27] = [
 
 #[test]
 fn spellings_of_cells_of_groups(rt: HostRuntime) -> Result<(), Fail> {
-    shows(rt.alloc(), &CELLS)
+    shows(rt.alloc(), &EACH, &CELLS)
 }
 
-static NO_GROUPS: [Row; 30] = [
-    Take("workers a c"),
+static NO_GROUPS: [Row; 29] = [
     Refuse("buffer B 1 produce a", HeadFault::BadLine),
     Refuse("buffer B 1 produce a consume", HeadFault::BadLine),
     Refuse("buffer B 1 produce consume c", HeadFault::BadLine),
@@ -247,17 +203,10 @@ static NO_GROUPS: [Row; 30] = [
 
 #[test]
 fn lines_that_declare_no_group(rt: HostRuntime) -> Result<(), Fail> {
-    shows(rt.alloc(), &NO_GROUPS)
+    shows(rt.alloc(), &["workers a c"], &NO_GROUPS)
 }
 
-static BAD_OR_TAKEN: [Row; 27] = [
-    Take("workers a c"),
-    Take("buffer B 2 produce a consume c"),
-    Take("eventcount E signal a"),
-    Take("database D 3 write a read c"),
-    Take("semaphore S 5 use a c"),
-    Take("cells X 1 write a"),
-    Take("both use c a"),
+static BAD_OR_TAKEN: [Row; 20] = [
     Refuse("buffer run 0 produce zz consume zz", HeadFault::BadName),
     Refuse("buffer 1B 1 produce a consume c", HeadFault::BadName),
     Refuse("database D.in 1 write a read c", HeadFault::BadName),
@@ -292,11 +241,10 @@ static BAD_OR_TAKEN: [Row; 27] = [
 
 #[test]
 fn names_of_groups_that_are_bad_or_taken(rt: HostRuntime) -> Result<(), Fail> {
-    shows(rt.alloc(), &BAD_OR_TAKEN)
+    shows(rt.alloc(), &EACH, &BAD_OR_TAKEN)
 }
 
-static LATER_FAULTS: [Row; 23] = [
-    Take("workers a b c"),
+static LATER_FAULTS: [Row; 22] = [
     Refuse("buffer B 0 produce zz consume c", HeadFault::UnknownName),
     Refuse(
         "buffer B 1 produce a consume c consume b",
@@ -335,11 +283,10 @@ static LATER_FAULTS: [Row; 23] = [
 
 #[test]
 fn each_later_fault_of_a_group(rt: HostRuntime) -> Result<(), Fail> {
-    shows(rt.alloc(), &LATER_FAULTS)
+    shows(rt.alloc(), &["workers a b c"], &LATER_FAULTS)
 }
 
-static EVENTCOUNTS_RUN_OUT: [Row; 9] = [
-    Take("workers a b"),
+static EVENTCOUNTS_RUN_OUT: [Row; 8] = [
     Many(31, "eventcount E", " signal a"),
     Refuse("buffer B 1 produce a consume b", HeadFault::TooMany),
     Refuse("buffer B 1 produce a consume a", HeadFault::TooMany),
@@ -352,11 +299,10 @@ static EVENTCOUNTS_RUN_OUT: [Row; 9] = [
 
 #[test]
 fn eventcounts_for_groups_run_out(rt: HostRuntime) -> Result<(), Fail> {
-    shows(rt.alloc(), &EVENTCOUNTS_RUN_OUT)
+    shows(rt.alloc(), &["workers a b"], &EVENTCOUNTS_RUN_OUT)
 }
 
-static SEQUENCERS_RUN_OUT: [Row; 7] = [
-    Take("workers a b"),
+static SEQUENCERS_RUN_OUT: [Row; 6] = [
     Many(31, "sequencer T", " take a"),
     Refuse("buffer B 1 produce a consume b", HeadFault::TooMany),
     Take("database D 1 write a read b"),
@@ -367,11 +313,10 @@ static SEQUENCERS_RUN_OUT: [Row; 7] = [
 
 #[test]
 fn sequencers_for_groups_run_out(rt: HostRuntime) -> Result<(), Fail> {
-    shows(rt.alloc(), &SEQUENCERS_RUN_OUT)
+    shows(rt.alloc(), &["workers a b"], &SEQUENCERS_RUN_OUT)
 }
 
-static CELLS_RUN_OUT: [Row; 8] = [
-    Take("workers a b"),
+static CELLS_RUN_OUT: [Row; 7] = [
     Take("cells X 250 write a"),
     Refuse("buffer B 7 produce a consume b", HeadFault::TooMany),
     Refuse("database D 256 write a read b", HeadFault::TooMany),
@@ -383,7 +328,7 @@ static CELLS_RUN_OUT: [Row; 8] = [
 
 #[test]
 fn cells_for_groups_run_out(rt: HostRuntime) -> Result<(), Fail> {
-    shows(rt.alloc(), &CELLS_RUN_OUT)
+    shows(rt.alloc(), &["workers a b"], &CELLS_RUN_OUT)
 }
 
 /// A sort by its word: whether it has a name, and whether its number may be 0.

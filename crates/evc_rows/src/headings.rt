@@ -201,15 +201,21 @@ fn is_right(alloc: Global, heading: &mut Heading, row: &Row) -> Result<bool, Fai
     }
 }
 
-/// A heading with limit 10 and nothing declared.
-fn blank(alloc: Global) -> Result<Heading, Fail> {
+/// A heading with limit 10 that has taken these lines.
+fn opened(alloc: Global, lines: &[&str]) -> Result<Heading, Fail> {
     let limit = Limit::new(10).ok_or("no limit")?;
-    Ok(Heading::new(alloc, limit)?)
+    let mut heading = Heading::new(alloc, limit)?;
+    for line in lines {
+        if heading.line(line.as_bytes()) != Ok(()) {
+            return Err(Fail::new(format_args!("refused: {line}")));
+        }
+    }
+    Ok(heading)
 }
 
-/// The rows, one after another on a heading with limit 10 and nothing declared at first, are right.
-pub(crate) fn shows(alloc: Global, rows: &[Row]) -> Result<(), Fail> {
-    let mut heading = blank(alloc)?;
+/// The rows, one after another on a heading with limit 10 that has taken these lines, are right.
+pub(crate) fn shows(alloc: Global, lines: &[&str], rows: &[Row]) -> Result<(), Fail> {
+    let mut heading = opened(alloc, lines)?;
     for (place, row) in rows.iter().enumerate() {
         if !is_right(alloc, &mut heading, row)? {
             return Err(Fail::new(format_args!("another answer at row {place}")));

@@ -1,17 +1,46 @@
-//! What the tests of threads share.
+//! Scripts that workers run on threads, as tables: their lines, and what is seen of the report.
+use ec_core::{Entry, Reply};
 use ec_machine::Outcome;
-use ec_runner::{Gate, Report, RunFault, run_workers};
-use ec_script::parse;
+use ec_runner::{Gate, OpenGate, Report, RunFault, run_workers};
+use ec_script::{Plan, parse};
 use std::alloc::Global;
 use std::sync::Wait;
 use std::test::Fail;
 use std::thread::Threads;
 
-/// How many turns a worker has unless a test says otherwise.
-pub(crate) const TURNS: u64 = 10000;
+/// Names of workers, and the lines of the block of each of them.
+pub(crate) type Block = (&'static [&'static str], &'static [&'static str]);
+
+/// A script by its lines, how many turns a worker has, and what is seen of the report.
+#[derive(Clone, Copy)]
+pub(crate) struct Case {
+    pub(crate) heading: &'static [&'static str],
+    pub(crate) blocks: &'static [Block],
+    pub(crate) turns: u64,
+    pub(crate) sights: &'static [Sight],
+}
+
+/// What is seen of a report.
+#[derive(Clone, Copy)]
+pub(crate) enum Sight {
+    /// There are so many workers, and all have ended so.
+    All(usize, Outcome),
+    /// How each worker has ended.
+    Each(&'static [Outcome]),
+    /// How many entries the run has.
+    Length(usize),
+    /// The entry at a place has this worker and this reply.
+    Entry(usize, usize, Reply),
+    /// A worker's log has so many entries.
+    Log(usize, usize),
+    /// A worker's log has at least so many entries.
+    LogFrom(usize, usize),
+    /// The last entry of each log was told a number between these two.
+    LastNumbers(u64, u64),
+}
 
 /// Adds lines to a text, each with its LF.
-pub(crate) fn add_lines(text: &mut Vec<u8>, lines: &[&str]) -> Result<(), Fail> {
+fn add_lines(text: &mut Vec<u8>, lines: &[&str]) -> Result<(), Fail> {
     for line in lines {
         text.extend_from_slice(line.as_bytes())?;
         text.push(b'\n')?;
@@ -19,47 +48,171 @@ pub(crate) fn add_lines(text: &mut Vec<u8>, lines: &[&str]) -> Result<(), Fail> 
     Ok(())
 }
 
-/// What the run of a script reports.
-pub(crate) fn run_text<R: Threads + Wait + Sync, G: Gate + Sync>(
-    rt: &R,
-    alloc: Global,
-    text: &[u8],
-    gate: &G,
-    turns: u64,
-) -> Result<Report, Fail> {
-    let Ok(plan) = parse(alloc, text) else {
-        return Err("no plan")?;
-    };
-    if plan.programs.len() != plan.heading.setup().workers() {
-        return Err("a plan with other programs")?;
+/// Adds the block of each of these workers.
+fn add_blocks(text: &mut Vec<u8>, block: &Block) -> Result<(), Fail> {
+    let (names, commands) = *block;
+    for name in names {
+        text.extend_from_slice(b"worker ".as_slice())?;
+        add_lines(text, &[*name])?;
+        add_lines(text, commands)?;
     }
-    match run_workers(rt, alloc, &plan, gate, turns) {
-        Ok(report) => Ok(report),
-        Err(RunFault::Mismatch(_)) => Err("a mismatch")?,
-        Err(RunFault::Spawn) => Err("a thread could not be started")?,
-        Err(RunFault::Memory) => Err("no memory")?,
+    Ok(())
+}
+
+/// The text of a script.
+fn text_of(alloc: Global, case: &Case) -> Result<Vec<u8>, Fail> {
+    let mut text = Vec::new(alloc);
+    add_lines(&mut text, case.heading)?;
+    for block in case.blocks {
+        add_blocks(&mut text, block)?;
+    }
+    Ok(text)
+}
+
+/// The plan of a text.
+fn plan_of(alloc: Global, text: &[u8]) -> Result<Plan, Fail> {
+    match parse(alloc, text) {
+        Ok(plan) => Ok(plan),
+        Err(_) => Err(Fail::new("no plan")),
     }
 }
 
-/// What the run of the script of these lines reports.
-pub(crate) fn run_lines<R: Threads + Wait + Sync, G: Gate + Sync>(
+/// Why a run was not reported.
+fn why(fault: &RunFault) -> &'static str {
+    match fault {
+        RunFault::Mismatch(_) => "a mismatch",
+        RunFault::Spawn => "a thread could not be started",
+        RunFault::Memory => "no memory",
+    }
+}
+
+/// What the run of a plan reports.
+fn run_plan<R: Threads + Wait + Sync, G: Gate + Sync>(
     rt: &R,
     alloc: Global,
-    lines: &[&str],
+    plan: &Plan,
     gate: &G,
     turns: u64,
 ) -> Result<Report, Fail> {
-    let mut text = Vec::new(alloc);
-    add_lines(&mut text, lines)?;
-    run_text(rt, alloc, text.as_slice(), gate, turns)
+    if plan.programs.len() != plan.heading.setup().workers() {
+        return Err(Fail::new("a plan with other programs"));
+    }
+    match run_workers(rt, alloc, plan, gate, turns) {
+        Ok(report) => Ok(report),
+        Err(fault) => Err(Fail::new(why(&fault))),
+    }
+}
+
+/// What the run of a script reports.
+pub(crate) fn run_case<R: Threads + Wait + Sync, G: Gate + Sync>(
+    rt: &R,
+    alloc: Global,
+    case: &Case,
+    gate: &G,
+) -> Result<Report, Fail> {
+    let text = text_of(alloc, case)?;
+    let plan = plan_of(alloc, text.as_slice())?;
+    run_plan(rt, alloc, &plan, gate, case.turns)
 }
 
 /// Whether there are so many workers, and all have ended so.
-pub(crate) fn all_ended(report: &Report, workers: usize, outcome: Outcome) -> bool {
+fn all_ended(report: &Report, workers: usize, outcome: Outcome) -> bool {
     for found in report.outcomes.as_slice() {
         if *found != outcome {
             return false;
         }
     }
     report.outcomes.len() == workers
+}
+
+/// Whether the entry at a place has this worker and this reply.
+fn has_entry(report: &Report, place: usize, worker: usize, reply: Reply) -> bool {
+    match report.run.entry(place) {
+        Some(entry) => entry.worker.get() == worker && entry.reply == reply,
+        None => false,
+    }
+}
+
+/// How many entries a worker has in the report's logs.
+fn log_len(report: &Report, worker: usize) -> usize {
+    match report.logs.get(worker) {
+        Some(log) => log.len(),
+        None => 0,
+    }
+}
+
+/// The number that the last entry of a log was told.
+fn last_number(log: &[Entry]) -> Option<u64> {
+    match log.last() {
+        Some(entry) => match entry.reply {
+            Reply::Number(number) => Some(number),
+            Reply::Done | Reply::Pending => None,
+        },
+        None => None,
+    }
+}
+
+/// Whether the last entry of a log was told a number between these two.
+fn ends_between(log: &[Entry], least: u64, greatest: u64) -> bool {
+    match last_number(log) {
+        Some(number) => least <= number && number <= greatest,
+        None => false,
+    }
+}
+
+/// Whether the last entry of each log was told a number between these two.
+fn all_end_between(report: &Report, least: u64, greatest: u64) -> bool {
+    for log in report.logs.as_slice() {
+        if !ends_between(log.as_slice(), least, greatest) {
+            return false;
+        }
+    }
+    true
+}
+
+/// Whether this is seen.
+fn is_seen(report: &Report, sight: &Sight) -> bool {
+    match *sight {
+        Sight::All(workers, outcome) => all_ended(report, workers, outcome),
+        Sight::Each(outcomes) => report.outcomes.as_slice() == outcomes,
+        Sight::Length(n) => report.run.len() == n,
+        Sight::Entry(place, worker, reply) => has_entry(report, place, worker, reply),
+        Sight::Log(worker, n) => log_len(report, worker) == n,
+        Sight::LogFrom(worker, n) => log_len(report, worker) >= n,
+        Sight::LastNumbers(least, greatest) => all_end_between(report, least, greatest),
+    }
+}
+
+/// All of this is seen.
+pub(crate) fn sees(report: &Report, sights: &[Sight]) -> Result<(), Fail> {
+    for (place, sight) in sights.iter().enumerate() {
+        if !is_seen(report, sight) {
+            return Err(Fail::new(format_args!("another sight at row {place}")));
+        }
+    }
+    Ok(())
+}
+
+/// What is to be seen of the report of a script is seen.
+pub(crate) fn shows<R: Threads + Wait + Sync, G: Gate + Sync>(
+    rt: &R,
+    alloc: Global,
+    case: &Case,
+    gate: &G,
+) -> Result<(), Fail> {
+    let report = run_case(rt, alloc, case, gate)?;
+    sees(&report, case.sights)
+}
+
+/// The same of so many runs that nothing holds up.
+pub(crate) fn shows_often<R: Threads + Wait + Sync>(
+    rt: &R,
+    alloc: Global,
+    case: &Case,
+    times: usize,
+) -> Result<(), Fail> {
+    for _ in 0..times {
+        shows(rt, alloc, case, &OpenGate)?;
+    }
+    Ok(())
 }

@@ -1,10 +1,9 @@
 //! Gates that only threads of their own, and holds of single steps, get through.
-use crate::drive::{TURNS, add_lines, all_ended, run_lines, run_text};
+use crate::drive::{Case, Sight, shows};
 use ec_core::Reply;
 use ec_count::WorkerId;
 use ec_machine::Outcome;
-use ec_runner::{Gate, Report};
-use std::alloc::Global;
+use ec_runner::Gate;
 use std::sync::atomic::{AtomicBool, AtomicU64, Ordering};
 use std::test::Fail;
 use std::thread;
@@ -79,13 +78,26 @@ impl Gate for AllAtOnce {
     }
 }
 
-/// Whether the entry at a place has this worker and this reply.
-fn stands(report: &Report, place: usize, worker: usize, reply: Reply) -> bool {
-    match report.run.entry(place) {
-        Some(entry) => entry.worker.get() == worker && entry.reply == reply,
-        None => false,
-    }
-}
+static READ_OVERTAKEN: Case = Case {
+    heading: &[
+        "evc-script 1",
+        "limit 10",
+        "workers a b c",
+        "eventcount E signal a b observe c",
+    ],
+    blocks: &[
+        (&["b"], &["advance E", "end"]),
+        (&["c"], &["read E", "end"]),
+    ],
+    turns: 10_000,
+    sights: &[
+        Sight::Length(3),
+        Sight::Entry(0, 2, Reply::Pending),
+        Sight::Entry(1, 1, Reply::Done),
+        Sight::Entry(2, 2, Reply::Number(1)),
+        Sight::All(3, Outcome::Finished),
+    ],
+};
 
 #[test]
 fn an_advance_between_two_steps_of_a_read(rt: HostRuntime) -> Result<(), Fail> {
@@ -94,49 +106,29 @@ fn an_advance_between_two_steps_of_a_read(rt: HostRuntime) -> Result<(), Fail> {
         second_has_ended: AtomicBool::new(false),
         has_failed: AtomicBool::new(false),
     };
-    let lines = [
-        "evc-script 1",
-        "limit 10",
-        "workers a b c",
-        "eventcount E signal a b observe c",
-        "worker b",
-        "advance E",
-        "end",
-        "worker c",
-        "read E",
-        "end",
-    ];
-    let report = run_lines(&rt, rt.alloc(), &lines, &gate, TURNS)?;
+    shows(&rt, rt.alloc(), &READ_OVERTAKEN, &gate)?;
     assert!(rt; !gate.has_failed.load(Ordering::SeqCst));
-    assert_eq!(rt; report.run.len(), 3);
-    assert!(rt; stands(&report, 0, 2, Reply::Pending));
-    assert!(rt; stands(&report, 1, 1, Reply::Done));
-    assert!(rt; stands(&report, 2, 2, Reply::Number(1)));
-    assert!(rt; all_ended(&report, 3, Outcome::Finished));
     Ok(())
 }
 
-const NAMES: [&str; 16] = [
-    "w0", "w1", "w2", "w3", "w4", "w5", "w6", "w7", "w8", "w9", "w10", "w11", "w12", "w13", "w14",
-    "w15",
-];
-
-/// A script of sixteen workers that each advance E once.
-fn sixteen_advances(alloc: Global) -> Result<Vec<u8>, Fail> {
-    let mut text = Vec::new(alloc);
-    let head = [
+/// Sixteen workers that each advance E once.
+static SIXTEEN: Case = Case {
+    heading: &[
         "evc-script 1",
         "limit 10",
         "workers w0 w1 w2 w3 w4 w5 w6 w7 w8 w9 w10 w11 w12 w13 w14 w15",
         "eventcount E signal w0 w1 w2 w3 w4 w5 w6 w7 w8 w9 w10 w11 w12 w13 w14 w15",
-    ];
-    add_lines(&mut text, &head)?;
-    for name in NAMES {
-        text.extend_from_slice(b"worker ".as_slice())?;
-        add_lines(&mut text, &[name, "advance E", "end"])?;
-    }
-    Ok(text)
-}
+    ],
+    blocks: &[(
+        &[
+            "w0", "w1", "w2", "w3", "w4", "w5", "w6", "w7", "w8", "w9", "w10", "w11", "w12", "w13",
+            "w14", "w15",
+        ],
+        &["advance E", "end"],
+    )],
+    turns: 10_000,
+    sights: &[Sight::Length(16), Sight::All(16, Outcome::Finished)],
+};
 
 #[test]
 fn sixteen_workers_at_once(rt: HostRuntime) -> Result<(), Fail> {
@@ -144,10 +136,7 @@ fn sixteen_workers_at_once(rt: HostRuntime) -> Result<(), Fail> {
         come: AtomicU64::new(0),
         has_failed: AtomicBool::new(false),
     };
-    let text = sixteen_advances(rt.alloc())?;
-    let report = run_text(&rt, rt.alloc(), text.as_slice(), &gate, TURNS)?;
+    shows(&rt, rt.alloc(), &SIXTEEN, &gate)?;
     assert!(rt; !gate.has_failed.load(Ordering::SeqCst));
-    assert_eq!(rt; report.run.len(), 16);
-    assert!(rt; all_ended(&report, 16, Outcome::Finished));
     Ok(())
 }

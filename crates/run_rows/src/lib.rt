@@ -1,4 +1,5 @@
-//! Tests of workers on threads: gates that hold them up, and scripts that are run.
+//! Tests of workers on threads: gates that hold them up, and scripts that are run. The scripts are tables, with what is
+//! seen of their reports.
 #![tactic(auto)]
 
 #[cfg(test)]

@@ -1,143 +1,134 @@
 //! Scripts that are run: how their workers end.
-use crate::drive::{TURNS, all_ended, run_lines};
+use crate::drive::{Block, Case, Sight, shows_often};
 use ec_core::Refusal;
 use ec_machine::Outcome;
-use ec_runner::{OpenGate, Report};
 use std::test::Fail;
 
-/// A script of tickets: a advances twice, c waits for one more than its ticket.
-const TICKETS: [&str; 14] = [
+/// The heading of the script of tickets.
+const TICKETS: [&str; 5] = [
     "evc-script 1",
     "limit 10",
     "workers a c",
     "eventcount E signal a observe c",
     "sequencer T take c",
-    "worker a",
-    "advance E",
-    "advance E",
-    "end",
-    "worker c",
-    "ticket T",
-    "await E last+1",
-    "read E",
-    "end",
 ];
 
-/// How many entries a worker has in the report's logs.
-fn log_len(report: &Report, worker: usize) -> usize {
-    match report.logs.get(worker) {
-        Some(log) => log.len(),
-        None => 0,
-    }
-}
+/// A worker that advances twice, and one that waits for one more than its ticket.
+const TICKETS_OF_C: [Block; 2] = [
+    (&["a"], &["advance E", "advance E", "end"]),
+    (&["c"], &["ticket T", "await E last+1", "read E", "end"]),
+];
 
-fn outcome_of(report: &Report, worker: usize) -> Outcome {
-    match report.outcomes.get(worker) {
-        Some(outcome) => *outcome,
-        None => Outcome::Running,
-    }
-}
+static FINISHES: Case = Case {
+    heading: &TICKETS,
+    blocks: &TICKETS_OF_C,
+    turns: 10_000,
+    sights: &[
+        Sight::All(2, Outcome::Finished),
+        Sight::Log(0, 2),
+        Sight::LogFrom(1, 3),
+    ],
+};
 
 #[test]
 fn the_script_of_tickets_finishes(rt: HostRuntime) -> Result<(), Fail> {
-    let report = run_lines(&rt, rt.alloc(), &TICKETS, &OpenGate, TURNS)?;
-    assert!(rt; all_ended(&report, 2, Outcome::Finished));
-    assert_eq!(rt; log_len(&report, 0), 2);
-    assert!(rt; log_len(&report, 1) >= 3);
-    Ok(())
+    shows_often(&rt, rt.alloc(), &FINISHES, 1)
 }
+
+static ONE_TURN: Case = Case {
+    heading: &TICKETS,
+    blocks: &TICKETS_OF_C,
+    turns: 1,
+    sights: &[Sight::All(2, Outcome::OutOfTurns), Sight::Length(2)],
+};
 
 #[test]
 fn one_turn_each(rt: HostRuntime) -> Result<(), Fail> {
-    let report = run_lines(&rt, rt.alloc(), &TICKETS, &OpenGate, 1)?;
-    assert!(rt; all_ended(&report, 2, Outcome::OutOfTurns));
-    assert_eq!(rt; report.run.len(), 2);
-    Ok(())
+    shows_often(&rt, rt.alloc(), &ONE_TURN, 1)
 }
 
-#[test]
-fn two_that_wait_for_each_other(rt: HostRuntime) -> Result<(), Fail> {
-    let lines = [
+static EACH_WAITS: Case = Case {
+    heading: &[
         "evc-script 1",
         "limit 10",
         "workers a b",
         "eventcount E signal a observe b",
         "eventcount F signal b observe a",
-        "worker a",
-        "await F 1",
-        "advance E",
-        "end",
-        "worker b",
-        "await E 1",
-        "advance F",
-        "end",
-    ];
-    for _ in 0..20 {
-        let report = run_lines(&rt, rt.alloc(), &lines, &OpenGate, TURNS)?;
-        assert!(rt; all_ended(&report, 2, Outcome::Stopped));
-        assert_eq!(rt; report.run.len(), 2);
-    }
-    Ok(())
-}
+    ],
+    blocks: &[
+        (&["a"], &["await F 1", "advance E", "end"]),
+        (&["b"], &["await E 1", "advance F", "end"]),
+    ],
+    turns: 10_000,
+    sights: &[Sight::All(2, Outcome::Stopped), Sight::Length(2)],
+};
 
 #[test]
-fn one_that_nobody_lets_go(rt: HostRuntime) -> Result<(), Fail> {
-    let lines = [
+fn two_that_wait_for_each_other(rt: HostRuntime) -> Result<(), Fail> {
+    shows_often(&rt, rt.alloc(), &EACH_WAITS, 20)
+}
+
+static ONE_WAITS: Case = Case {
+    heading: &[
         "evc-script 1",
         "limit 10",
         "workers a b",
         "eventcount E signal a observe b",
-        "worker b",
-        "await E 1",
-        "end",
-    ];
-    for _ in 0..20 {
-        let report = run_lines(&rt, rt.alloc(), &lines, &OpenGate, TURNS)?;
-        assert_eq!(rt; outcome_of(&report, 0), Outcome::Finished);
-        assert_eq!(rt; outcome_of(&report, 1), Outcome::Stopped);
-        assert_eq!(rt; report.run.len(), 1);
-    }
-    Ok(())
-}
+    ],
+    blocks: &[(&["b"], &["await E 1", "end"])],
+    turns: 10_000,
+    sights: &[
+        Sight::Each(&[Outcome::Finished, Outcome::Stopped]),
+        Sight::Length(1),
+    ],
+};
 
 #[test]
-fn both_are_refused_at_the_limit(rt: HostRuntime) -> Result<(), Fail> {
-    let lines = [
+fn one_that_nobody_lets_go(rt: HostRuntime) -> Result<(), Fail> {
+    shows_often(&rt, rt.alloc(), &ONE_WAITS, 20)
+}
+
+static BOTH_AT_THE_LIMIT: Case = Case {
+    heading: &[
         "evc-script 1",
         "limit 1",
         "workers a c",
         "buffer B 2 produce a consume c",
-        "worker a",
-        "produce B 7",
-        "produce B 7",
-        "end",
-        "worker c",
-        "consume B",
-        "consume B",
-        "end",
-    ];
-    for _ in 0..20 {
-        let report = run_lines(&rt, rt.alloc(), &lines, &OpenGate, TURNS)?;
-        assert!(rt; all_ended(&report, 2, Outcome::Refused(Refusal::AtLimit)));
-    }
-    Ok(())
-}
+    ],
+    blocks: &[
+        (&["a"], &["produce B 7", "produce B 7", "end"]),
+        (&["c"], &["consume B", "consume B", "end"]),
+    ],
+    turns: 10_000,
+    sights: &[Sight::All(2, Outcome::Refused(Refusal::AtLimit))],
+};
 
 #[test]
-fn a_value_that_is_too_large(rt: HostRuntime) -> Result<(), Fail> {
-    let lines = [
+fn both_are_refused_at_the_limit(rt: HostRuntime) -> Result<(), Fail> {
+    shows_often(&rt, rt.alloc(), &BOTH_AT_THE_LIMIT, 20)
+}
+
+static TOO_LARGE: Case = Case {
+    heading: &[
         "evc-script 1",
         "limit 10",
         "workers a",
         "cells X 1 write a read a",
-        "worker a",
-        "put X[0] 999999999999999999",
-        "get X[0]",
-        "put X[0] last+1",
-        "end",
-    ];
-    let report = run_lines(&rt, rt.alloc(), &lines, &OpenGate, TURNS)?;
-    assert!(rt; all_ended(&report, 1, Outcome::ValueTooLarge));
-    assert_eq!(rt; report.run.len(), 2);
-    Ok(())
+    ],
+    blocks: &[(
+        &["a"],
+        &[
+            "put X[0] 999999999999999999",
+            "get X[0]",
+            "put X[0] last+1",
+            "end",
+        ],
+    )],
+    turns: 10_000,
+    sights: &[Sight::All(1, Outcome::ValueTooLarge), Sight::Length(2)],
+};
+
+#[test]
+fn a_value_that_is_too_large(rt: HostRuntime) -> Result<(), Fail> {
+    shows_often(&rt, rt.alloc(), &TOO_LARGE, 1)
 }

@@ -1,27 +1,50 @@
 //! What plans hold.
-use crate::drive::{TICKETS, plan_of, text_of};
-use ec_count::WorkerId;
-use ec_script::parse;
+use crate::drive::{Script, TICKETS, plan_of, text_of};
+use ec_script::Plan;
+use std::alloc::Global;
 use std::test::Fail;
+
+/// What a plan has: how many workers, programs and groups, and the workers of its schedule.
+type Sight = (usize, usize, usize, &'static [usize]);
+
+/// Whether these are the workers of the schedule.
+fn has_schedule(plan: &Plan, right: &[usize]) -> bool {
+    for (worker, right) in plan.schedule.iter().zip(right) {
+        if worker.get() != *right {
+            return false;
+        }
+    }
+    plan.schedule.len() == right.len()
+}
+
+/// How many workers, programs and groups there are.
+fn sizes(plan: &Plan) -> (usize, usize, usize) {
+    let heading = &plan.heading;
+    (
+        heading.setup().workers(),
+        plan.programs.len(),
+        heading.groups().len(),
+    )
+}
+
+/// Whether the plan of a script has this.
+fn shows(alloc: Global, script: Script, sight: &Sight) -> Result<bool, Fail> {
+    let (workers, programs, groups, schedule) = *sight;
+    let text = text_of(alloc, script)?;
+    let plan = plan_of(alloc, text.as_slice())?;
+    Ok(sizes(&plan) == (workers, programs, groups) && has_schedule(&plan, schedule))
+}
+
+static OF_TICKETS: Sight = (2, 2, 0, &[1, 1, 0, 1, 0, 1]);
 
 #[test]
 fn the_plan_of_the_script_of_tickets(rt: HostRuntime) -> Result<(), Fail> {
-    let text = text_of(rt.alloc(), &TICKETS)?;
-    let plan = plan_of(rt.alloc(), text.as_slice())?;
-    assert_eq!(rt; plan.heading.setup().workers(), 2);
-    assert_eq!(rt; plan.programs.len(), 2);
-    let names = [1usize, 1, 0, 1, 0, 1];
-    assert_eq!(rt; plan.schedule.len(), 6);
-    for (worker, right) in plan.schedule.iter().zip(names) {
-        assert_eq!(rt; worker.get(), right);
-    }
+    assert!(rt; shows(rt.alloc(), &TICKETS, &OF_TICKETS)?);
     Ok(())
 }
 
-/// A script of each command.
-#[test]
-fn a_script_of_each_command(rt: HostRuntime) -> Result<(), Fail> {
-    let lines = [
+static EACH_COMMAND: [&[&str]; 3] = [
+    &[
         "evc-script 1",
         "limit 4294967295",
         "workers a b c",
@@ -33,6 +56,8 @@ fn a_script_of_each_command(rt: HostRuntime) -> Result<(), Fail> {
         "semaphore R 0 use a",
         "semaphore S 1000000 use a",
         "both use a",
+    ],
+    &[
         "worker b",
         "consume B",
         "snapshot D 1000",
@@ -56,15 +81,15 @@ fn a_script_of_each_command(rt: HostRuntime) -> Result<(), Fail> {
         "end",
         "worker c",
         "end",
-        "schedule a",
-        "schedule b a",
-    ];
-    let text = text_of(rt.alloc(), &lines)?;
-    let plan = plan_of(rt.alloc(), text.as_slice())?;
-    assert_eq!(rt; plan.programs.len(), 3);
-    assert_eq!(rt; plan.schedule.len(), 3);
-    assert_eq!(rt; plan.schedule[2], WorkerId::default());
-    assert_eq!(rt; plan.heading.groups().len(), 5);
-    assert!(rt; parse(rt.alloc(), text.as_slice()).is_ok());
+    ],
+    &["schedule a", "schedule b a"],
+];
+
+static OF_EACH_COMMAND: Sight = (3, 3, 5, &[0, 1, 0]);
+
+/// A script of each command.
+#[test]
+fn a_script_of_each_command(rt: HostRuntime) -> Result<(), Fail> {
+    assert!(rt; shows(rt.alloc(), &EACH_COMMAND, &OF_EACH_COMMAND)?);
     Ok(())
 }

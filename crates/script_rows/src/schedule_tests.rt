@@ -2,40 +2,91 @@
 ghost use Rattle.std.specs.Prelude.{◌<◌, IsTrue};
 ghost use Rattle.std.specs.List.{All};
 
-use crate::drive::{TICKETS, plan_of, text_of};
-use ec_core::{Act, Refusal, Reply, Run};
-use ec_count::{CellId, EventId, SeqId, WorkerId};
+use crate::drive::{A_ADVANCES, C_WAITS, Script, plan_of, text_of};
+use crate::ids::{cell, event, sequencer};
+use crate::schedule_tests::Ask::{Advance, Await, Get, Go, Put, Read, Ticket};
+use ec_core::Reply::{Done, Number, Pending};
+use ec_core::{Act, Entry, Refusal, Reply, Run};
+use ec_count::WorkerId;
 use ec_machine::Outcome;
+use ec_machine::Outcome::{Finished, Running, ValueTooLarge};
 use ec_runner::{Report, SimFault, simulate};
+use ec_script::Plan;
 use std::alloc::Global;
 use std::test::Fail;
 
-/// A snapshot that a writer disturbs.
-const DISTURBED: [&str; 10] = [
-    "evc-script 1",
-    "limit 10",
-    "workers a c",
-    "database D 2 write a read c",
-    "worker a",
-    "write D 5 6",
-    "end",
-    "worker c",
-    "snapshot D 2",
-    "end",
-];
+/// What a worker asks for, by the number of the object.
+#[derive(Clone, Copy)]
+enum Ask {
+    Advance(usize),
+    Read(usize),
+    Await(usize, u64),
+    Go,
+    Ticket(usize),
+    Put(usize, u64),
+    Get(usize),
+}
 
-/// The greatest value is put, and then one more.
-const GREATEST: [&str; 9] = [
-    "evc-script 1",
-    "limit 10",
-    "workers a",
-    "cells X 1 write a read a",
-    "worker a",
-    "put X[0] 999999999999999999",
-    "get X[0]",
-    "put X[0] last+1",
-    "end",
-];
+/// The act that is asked for.
+fn act_of(ask: Ask) -> Act {
+    match ask {
+        Advance(n) => Act::Advance(event(n)),
+        Read(n) => Act::Read(event(n)),
+        Await(n, threshold) => Act::Await(event(n), threshold),
+        Go => Act::Go,
+        Ticket(n) => Act::Ticket(sequencer(n)),
+        Put(n, value) => Act::Put(cell(n), value),
+        Get(n) => Act::Get(cell(n)),
+    }
+}
+
+/// A worker, what it asks for, and what it is told.
+type Step = (usize, Ask, Reply);
+
+/// Whether an entry is that of a step.
+fn is_entry(entry: &Entry, step: &Step) -> bool {
+    let (n, ask, reply) = *step;
+    entry.worker.get() == n && entry.act == act_of(ask) && entry.reply == reply
+}
+
+/// Whether the entry at a place is that of a step.
+fn has_entry(run: &Run, place: usize, step: &Step) -> bool {
+    match run.entry(place) {
+        Some(entry) => is_entry(&entry, step),
+        None => false,
+    }
+}
+
+/// Whether a run has the entries of these steps.
+fn has_entries(run: &Run, steps: &[Step]) -> bool {
+    for (place, step) in steps.iter().enumerate() {
+        if !has_entry(run, place, step) {
+            return false;
+        }
+    }
+    run.len() == steps.len()
+}
+
+/// Whether each worker's log has as many entries as it has steps.
+fn has_logs(report: &Report, steps: &[Step]) -> bool {
+    for (worker, log) in report.logs.iter().enumerate() {
+        if log.len() != steps_of(steps, worker) {
+            return false;
+        }
+    }
+    true
+}
+
+/// How many of the steps are a worker's.
+fn steps_of(steps: &[Step], worker: usize) -> usize {
+    let mut n = 0usize;
+    for (who, _, _) in steps {
+        if *who == worker {
+            n = n.saturating_add(1);
+        }
+    }
+    n
+}
 
 /// Whether all of these workers are among the first so many.
 fn are_among(schedule: &[WorkerId], workers: usize) -> bool
@@ -44,222 +95,258 @@ fn are_among(schedule: &[WorkerId], workers: usize) -> bool
     schedule.iter().all(|worker| worker.get() < workers)
 }
 
-/// What comes of the script of these lines.
-fn played(alloc: Global, lines: &[&str]) -> Result<Result<Report, SimFault>, Fail> {
-    let text = text_of(alloc, lines)?;
-    let plan = plan_of(alloc, text.as_slice())?;
+/// What comes of a plan.
+fn played(alloc: Global, plan: &Plan) -> Result<Result<Report, SimFault>, Fail> {
     let workers = plan.heading.setup().workers();
     if plan.programs.len() != workers || !are_among(plan.schedule.as_slice(), workers) {
         return Err(Fail::from("no plan of its workers"));
     }
-    Ok(simulate(alloc, &plan))
+    Ok(simulate(alloc, plan))
 }
 
-/// What comes of these lines with one more.
-fn played_with(
-    alloc: Global,
-    lines: &[&'static str],
-    last: &'static str,
-) -> Result<Result<Report, SimFault>, Fail> {
-    let mut all = Vec::from_slice(alloc, lines)?;
-    all.push(last)?;
-    played(alloc, all.as_slice())
+/// What comes of a script.
+#[derive(Clone, Copy)]
+enum Outcomes {
+    /// It is played: the steps, and how each worker has ended.
+    Played(&'static [Step], &'static [Outcome]),
+    /// The place of a worker that has ended, and that worker.
+    Ended(usize, usize),
 }
 
-/// The entries of a run as these tests write them.
-fn has_entries(run: &Run, steps: &[(usize, Act, Reply)]) -> bool {
-    if run.len() != steps.len() {
-        return false;
+/// Whether a report is of these steps and ends.
+fn is_report(report: &Report, steps: &[Step], outcomes: &[Outcome]) -> bool {
+    has_entries(&report.run, steps)
+        && has_logs(report, steps)
+        && report.outcomes.as_slice() == outcomes
+}
+
+/// Whether a fault tells this place of this worker.
+fn tells(fault: &SimFault, place: usize, worker: usize) -> bool {
+    match fault {
+        SimFault::Ended {
+            place: at,
+            worker: who,
+        } => *at == place && who.get() == worker,
+        SimFault::Memory => false,
     }
-    for (place, (worker, act, reply)) in steps.iter().enumerate() {
-        if !has_entry(run, place, *worker, act, reply) {
-            return false;
+}
+
+/// Whether this comes.
+fn comes(came: &Result<Report, SimFault>, right: &Outcomes) -> bool {
+    match (came, *right) {
+        (Ok(report), Outcomes::Played(steps, outcomes)) => is_report(report, steps, outcomes),
+        (Err(fault), Outcomes::Ended(place, worker)) => tells(fault, place, worker),
+        _ => false,
+    }
+}
+
+/// This comes of a script.
+fn shows(alloc: Global, script: Script, right: &Outcomes) -> Result<bool, Fail> {
+    let text = text_of(alloc, script)?;
+    let plan = plan_of(alloc, text.as_slice())?;
+    let came = played(alloc, &plan)?;
+    Ok(comes(&came, right))
+}
+
+/// A script, and what comes of it.
+type Row = (Script, Outcomes);
+
+/// Of each script comes what its row says.
+fn show(alloc: Global, rows: &[Row]) -> Result<(), Fail> {
+    for (place, (script, right)) in rows.iter().enumerate() {
+        if !shows(alloc, script, right)? {
+            return Err(Fail::new(format_args!("another outcome at row {place}")));
         }
     }
-    true
+    Ok(())
 }
 
-fn has_entry(run: &Run, place: usize, worker: usize, act: &Act, reply: &Reply) -> bool {
-    let Some(entry) = run.entry(place) else {
-        return false;
-    };
-    entry.worker.get() == worker && entry.act == *act && entry.reply == *reply
-}
+const OF_TICKETS: [Step; 6] = [
+    (1, Ticket(0), Number(0)),
+    (1, Await(0, 1), Pending),
+    (0, Advance(0), Done),
+    (1, Go, Number(1)),
+    (0, Advance(0), Done),
+    (1, Read(0), Number(2)),
+];
 
-/// The number of entries in the log of a worker.
-fn log_len(report: &Report, worker: usize) -> usize {
-    match report.logs.get(worker) {
-        Some(log) => log.len(),
-        None => 0,
-    }
-}
-
-/// The report that is wanted.
-fn report_in(came: Result<Report, SimFault>) -> Result<Report, Fail> {
-    match came {
-        Ok(report) => Ok(report),
-        Err(_) => Err(Fail::from("no report")),
-    }
-}
-
-/// The place and the worker that a fault tells.
-fn told_by(fault: &SimFault) -> (usize, usize) {
-    match fault {
-        SimFault::Ended { place, worker } => (*place, worker.get()),
-        SimFault::Memory => (99, 99),
-    }
-}
-
-/// The place and the worker that are told as ended.
-fn ended_in(came: &Result<Report, SimFault>) -> (usize, usize) {
-    match came {
-        Err(fault) => told_by(fault),
-        Ok(_) => (99, 99),
-    }
-}
+static SCHEDULE_OF_TICKETS: [Row; 1] = [(
+    &[&A_ADVANCES, &C_WAITS, &["schedule c c a c a c"]],
+    Outcomes::Played(&OF_TICKETS, &[Finished, Finished]),
+)];
 
 #[test]
 fn the_schedule_of_tickets(rt: HostRuntime) -> Result<(), Fail> {
-    let report = report_in(played(rt.alloc(), &TICKETS)?)?;
-    let event = EventId::new(0).unwrap();
-    let line = SeqId::new(0).unwrap();
-    let steps = [
-        (1usize, Act::Ticket(line), Reply::Number(0)),
-        (1, Act::Await(event, 1), Reply::Pending),
-        (0, Act::Advance(event), Reply::Done),
-        (1, Act::Go, Reply::Number(1)),
-        (0, Act::Advance(event), Reply::Done),
-        (1, Act::Read(event), Reply::Number(2)),
-    ];
-    assert!(rt; has_entries(&report.run, &steps));
-    assert_eq!(rt;
-        report.outcomes.as_slice(),
-        [Outcome::Finished, Outcome::Finished].as_slice()
-    );
-    assert_eq!(rt; log_len(&report, 0), 2);
-    assert_eq!(rt; log_len(&report, 1), 4);
-    Ok(())
+    show(rt.alloc(), &SCHEDULE_OF_TICKETS)
 }
+
+static PAST_AN_END: [Row; 1] = [(
+    &[&A_ADVANCES, &C_WAITS, &["schedule a a a"]],
+    Outcomes::Ended(2, 0),
+)];
 
 #[test]
 fn a_place_of_a_worker_that_has_ended(rt: HostRuntime) -> Result<(), Fail> {
-    let came = played_with(rt.alloc(), &TICKETS[..14], "schedule a a a")?;
-    assert_eq!(rt; ended_in(&came), (2, 0));
-    Ok(())
+    show(rt.alloc(), &PAST_AN_END)
 }
+
+static NO_SCHEDULE: [Row; 1] = [(&[&A_ADVANCES], Outcomes::Played(&[], &[Running, Finished]))];
 
 #[test]
 fn no_schedule_plays_nothing(rt: HostRuntime) -> Result<(), Fail> {
-    let report = report_in(played(rt.alloc(), &TICKETS[..9])?)?;
-    assert_eq!(rt; report.run.len(), 0);
-    assert_eq!(rt;
-        report.outcomes.as_slice(),
-        [Outcome::Running, Outcome::Finished].as_slice()
-    );
-    Ok(())
+    show(rt.alloc(), &NO_SCHEDULE)
 }
+
+/// A database, its writer a, and the first line of the block of c, which takes a snapshot.
+const DISTURBED: [&str; 8] = [
+    "evc-script 1",
+    "limit 10",
+    "workers a c",
+    "database D 2 write a read c",
+    "worker a",
+    "write D 5 6",
+    "end",
+    "worker c",
+];
 
 /// The schedule of the disturbed snapshot, whose first 11 names end its first try.
 const ELEVEN: &str = "schedule c c c a a a a a a c c";
 
 const SIXTEEN: &str = "schedule c c c a a a a a a c c c c c c c";
 
-/// The entries of the disturbed snapshot: the first 11 are the writer's and those of the first try.
-fn disturbed_steps() -> [(usize, Act, Reply); 16] {
-    let start = EventId::new(0).unwrap();
-    let done = EventId::new(1).unwrap();
-    let turn = SeqId::new(0).unwrap();
-    let first = CellId::new(0).unwrap();
-    let second = CellId::new(1).unwrap();
-    [
-        (1, Act::Read(start), Reply::Number(0)),
-        (1, Act::Await(done, 0), Reply::Number(0)),
-        (1, Act::Get(first), Reply::Number(0)),
-        (0, Act::Advance(start), Reply::Done),
-        (0, Act::Ticket(turn), Reply::Number(0)),
-        (0, Act::Await(done, 0), Reply::Number(0)),
-        (0, Act::Put(first, 5), Reply::Done),
-        (0, Act::Put(second, 6), Reply::Done),
-        (0, Act::Advance(done), Reply::Done),
-        (1, Act::Get(second), Reply::Number(6)),
-        (1, Act::Read(start), Reply::Number(1)),
-        (1, Act::Read(start), Reply::Number(1)),
-        (1, Act::Await(done, 1), Reply::Number(1)),
-        (1, Act::Get(first), Reply::Number(5)),
-        (1, Act::Get(second), Reply::Number(6)),
-        (1, Act::Read(start), Reply::Number(1)),
-    ]
-}
+/// The steps of the writer and of the first try.
+const FIRST_TRY: [Step; 11] = [
+    (1, Read(0), Number(0)),
+    (1, Await(1, 0), Number(0)),
+    (1, Get(0), Number(0)),
+    (0, Advance(0), Done),
+    (0, Ticket(0), Number(0)),
+    (0, Await(1, 0), Number(0)),
+    (0, Put(0, 5), Done),
+    (0, Put(1, 6), Done),
+    (0, Advance(1), Done),
+    (1, Get(1), Number(6)),
+    (1, Read(0), Number(1)),
+];
 
-/// The lines of the disturbed snapshot with at most so many tries, and this schedule.
-fn disturbed(
-    alloc: Global,
-    tries: &'static str,
-    schedule: &'static str,
-) -> Result<Result<Report, SimFault>, Fail> {
-    let mut lines = Vec::from_slice(alloc, &DISTURBED)?;
-    lines[8] = tries;
-    lines.push(schedule)?;
-    played(alloc, lines.as_slice())
-}
+/// The same, and the steps of the second try.
+const TWO_TRIES: [Step; 16] = [
+    (1, Read(0), Number(0)),
+    (1, Await(1, 0), Number(0)),
+    (1, Get(0), Number(0)),
+    (0, Advance(0), Done),
+    (0, Ticket(0), Number(0)),
+    (0, Await(1, 0), Number(0)),
+    (0, Put(0, 5), Done),
+    (0, Put(1, 6), Done),
+    (0, Advance(1), Done),
+    (1, Get(1), Number(6)),
+    (1, Read(0), Number(1)),
+    (1, Read(0), Number(1)),
+    (1, Await(1, 1), Number(1)),
+    (1, Get(0), Number(5)),
+    (1, Get(1), Number(6)),
+    (1, Read(0), Number(1)),
+];
+
+static TAKEN_AGAIN: [Row; 1] = [(
+    &[&DISTURBED, &["snapshot D 2", "end", SIXTEEN]],
+    Outcomes::Played(&TWO_TRIES, &[Finished, Finished]),
+)];
 
 #[test]
 fn a_snapshot_that_is_taken_again(rt: HostRuntime) -> Result<(), Fail> {
-    let report = report_in(disturbed(rt.alloc(), "snapshot D 2", SIXTEEN)?)?;
-    assert!(rt; has_entries(&report.run, &disturbed_steps()));
-    assert_eq!(rt;
-        report.outcomes.as_slice(),
-        [Outcome::Finished, Outcome::Finished].as_slice()
-    );
-    Ok(())
+    show(rt.alloc(), &TAKEN_AGAIN)
 }
+
+static ONE_TRY: [Row; 1] = [(
+    &[&DISTURBED, &["snapshot D 1", "end", ELEVEN]],
+    Outcomes::Played(&FIRST_TRY, &[Finished, Finished]),
+)];
 
 #[test]
 fn a_snapshot_of_one_try(rt: HostRuntime) -> Result<(), Fail> {
-    let report = report_in(disturbed(rt.alloc(), "snapshot D 1", ELEVEN)?)?;
-    assert!(rt; has_entries(&report.run, &disturbed_steps()[..11]));
-    assert_eq!(rt;
-        report.outcomes.as_slice(),
-        [Outcome::Finished, Outcome::Finished].as_slice()
-    );
-    Ok(())
+    show(rt.alloc(), &ONE_TRY)
 }
+
+static PAST_ONE_TRY: [Row; 1] = [(
+    &[&DISTURBED, &["snapshot D 1", "end", SIXTEEN]],
+    Outcomes::Ended(11, 1),
+)];
 
 #[test]
 fn a_snapshot_of_one_try_ends(rt: HostRuntime) -> Result<(), Fail> {
-    let came = disturbed(rt.alloc(), "snapshot D 1", SIXTEEN)?;
-    assert_eq!(rt; ended_in(&came), (11, 1));
-    Ok(())
+    show(rt.alloc(), &PAST_ONE_TRY)
 }
+
+/// The greatest value is put, and then one more.
+const GREATEST: [&str; 8] = [
+    "evc-script 1",
+    "limit 10",
+    "workers a",
+    "cells X 1 write a read a",
+    "worker a",
+    "put X[0] 999999999999999999",
+    "get X[0]",
+    "put X[0] last+1",
+];
+
+const GREATEST_VALUE: [Step; 2] = [
+    (0, Put(0, 999_999_999_999_999_999), Done),
+    (0, Get(0), Number(999_999_999_999_999_999)),
+];
+
+static ONE_MORE: [Row; 2] = [
+    (
+        &[&GREATEST, &["end", "schedule a a"]],
+        Outcomes::Played(&GREATEST_VALUE, &[ValueTooLarge]),
+    ),
+    (
+        &[&GREATEST, &["end", "schedule a a a"]],
+        Outcomes::Ended(2, 0),
+    ),
+];
 
 #[test]
 fn one_more_than_the_greatest_value(rt: HostRuntime) -> Result<(), Fail> {
-    let report = report_in(played_with(rt.alloc(), &GREATEST, "schedule a a")?)?;
-    assert_eq!(rt; report.run.len(), 2);
-    assert_eq!(rt;
-        report.outcomes.as_slice(),
-        [Outcome::ValueTooLarge].as_slice()
-    );
-    let came = played_with(rt.alloc(), &GREATEST, "schedule a a a")?;
-    assert_eq!(rt; ended_in(&came), (2, 0));
-    Ok(())
+    show(rt.alloc(), &ONE_MORE)
 }
+
+/// The script of tickets with limit 1, without its schedule.
+const LIMIT_1: [&str; 14] = [
+    "evc-script 1",
+    "limit 1",
+    "workers a c",
+    "eventcount E signal a observe c",
+    "sequencer T take c",
+    "worker a",
+    "advance E",
+    "advance E",
+    "end",
+    "worker c",
+    "ticket T",
+    "await E last+1",
+    "read E",
+    "end",
+];
+
+const REFUSED: Outcome = Outcome::Refused(Refusal::AtLimit);
+
+const ONE_ADVANCE: [Step; 2] = [(0, Advance(0), Done), (1, Ticket(0), Number(0))];
+
+static AT_THE_LIMIT: [Row; 2] = [
+    (
+        &[&LIMIT_1, &["schedule a a c"]],
+        Outcomes::Played(&ONE_ADVANCE, &[REFUSED, Running]),
+    ),
+    (
+        &[&LIMIT_1, &["schedule a a c", "schedule a"]],
+        Outcomes::Ended(3, 0),
+    ),
+];
 
 /// The second advance passes the limit: it uses its place, and ends the program.
 #[test]
 fn a_step_that_is_refused(rt: HostRuntime) -> Result<(), Fail> {
-    let mut lines = Vec::from_slice(rt.alloc(), &TICKETS[..14])?;
-    lines[1] = "limit 1";
-    lines.push("schedule a a c")?;
-    let report = report_in(played(rt.alloc(), lines.as_slice())?)?;
-    assert_eq!(rt; report.run.len(), 2);
-    let refused = Outcome::Refused(Refusal::AtLimit);
-    assert_eq!(rt;
-        report.outcomes.as_slice(),
-        [refused, Outcome::Running].as_slice()
-    );
-    lines.push("schedule a")?;
-    let came = played(rt.alloc(), lines.as_slice())?;
-    assert_eq!(rt; ended_in(&came), (3, 0));
-    Ok(())
+    show(rt.alloc(), &AT_THE_LIMIT)
 }
