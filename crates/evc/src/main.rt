@@ -41,11 +41,12 @@ fn main(rt: HostRuntime) -> ExitCode {
             ExitCode::from(status.code())
         }
         Err(error) => {
-            let code = status_of(&error);
-            if error.print(&rt).is_err() {
+            // (help goes to standard output, and that a note could not be written is not told)
+            if error.print(&rt).is_err() && !error.use_stderr() {
+                notes.say(b"write fault\n");
                 return ExitCode::from(Status::InputOutput.code());
             }
-            ExitCode::from(code)
+            ExitCode::from(status_of(&error))
         }
     }
 }

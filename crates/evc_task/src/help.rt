@@ -15,11 +15,13 @@ and `run` read one, and write a trace that `check` and `audit` read.";
 
 pub(crate) const AFTER_HELP: &str = "Exit status:
   0  done
-  1  the trace or script was refused, or the workers of a trace break the rules of a group
+  1  the trace, the script or its schedule was refused, or the workers of a trace break
+     the rules of a group
   2  the command line was wrong
   3  a read or a write failed, or a thread could not be started
   4  memory ran out
-  5  a worker was stopped or out of turns
+  5  a worker was stopped or out of turns, or what the workers did is not what they
+     were told
 
 Examples:
   bin/evc check < examples/three-advances.trace
@@ -74,9 +76,9 @@ The script is read from standard input, as by `sim`; its lines that say whose tu
 is are not used. Each worker runs on a thread of its own, and sleeps while an await of
 its own falls short. The trace goes to standard output. Notes on standard error say how
 each worker's program ended, as `outcome a finished`: it is stopped where all who are
-left wait for one another, and out of turns where it has made as many steps as `--turns`
-gives it. Where the script is refused, nothing is written but a note, which says which
-line it is and what kind of fault it has. docs/FORMATS.md has the format.";
+left wait, and out of turns where it has made as many steps as `--turns` gives it. Where
+the script is refused, nothing is written but a note, which says which line it is and
+what kind of fault it has. docs/FORMATS.md has the format.";
 
 pub(crate) const TURNS: &str =
     "How many steps each worker may make, from 1 to 1000000; 10000 where it is left out";
