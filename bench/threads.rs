@@ -61,7 +61,11 @@ struct Frame<'a> {
 
 impl<'a> Frame<'a> {
     fn new(block: &'a [Command], times: u64) -> Self {
-        Frame { rest: block.iter(), block, times }
+        Frame {
+            rest: block.iter(),
+            block,
+            times,
+        }
     }
 }
 
@@ -88,7 +92,11 @@ impl<'a> Machine<'a> {
     }
 
     fn next(&self) -> Option<Act> {
-        if self.is_going { Some(Act::Go) } else { self.due }
+        if self.is_going {
+            Some(Act::Go)
+        } else {
+            self.due
+        }
     }
 
     fn take(&mut self, reply: Reply) {
@@ -114,7 +122,9 @@ impl<'a> Machine<'a> {
         loop {
             let frame = self.frames.last_mut()?;
             match frame.rest.next() {
-                Some(Command::Repeat(count, block)) => self.frames.push(Frame::new(block, count - 1)),
+                Some(Command::Repeat(count, block)) => {
+                    self.frames.push(Frame::new(block, count - 1))
+                }
                 Some(command) => return Some(command),
                 None if frame.times > 0 => *frame = Frame::new(frame.block, frame.times - 1),
                 None => {
@@ -190,7 +200,12 @@ impl Board {
         let mut seats = [Seat::Gone; 16];
         seats[..setup.workers].fill(Seat::Running);
         let lines = array::from_fn(|_| BTreeSet::new());
-        Board { run: Run::open(setup), seats, lines, is_stuck: false }
+        Board {
+            run: Run::open(setup),
+            seats,
+            lines,
+            is_stuck: false,
+        }
     }
 
     fn seat(&mut self, worker: u8, seat: Seat) {
@@ -239,7 +254,12 @@ impl Board {
         if self.is_stuck {
             return Parked::Stuck;
         }
-        let Some(Act::Await(event, threshold)) = self.run.world.under_way(worker).filter(|call| call.index == 0).map(|call| call.op)
+        let Some(Act::Await(event, threshold)) = self
+            .run
+            .world
+            .under_way(worker)
+            .filter(|call| call.index == 0)
+            .map(|call| call.op)
         else {
             return Parked::Ready;
         };
@@ -248,7 +268,11 @@ impl Board {
         }
         self.seat(worker, Seat::Waiting(event, threshold));
         self.is_stuck = self.are_stuck();
-        if self.is_stuck { Parked::Stuck } else { Parked::Asleep }
+        if self.is_stuck {
+            Parked::Stuck
+        } else {
+            Parked::Asleep
+        }
     }
 
     fn leave(&mut self, worker: u8) {
@@ -269,7 +293,13 @@ struct Told {
 }
 
 /// One hold of the lock: one step and, where an await fell short and the worker may wait, the sleep.
-fn hold(board: &Mutex<Board>, woken: &Condvar, worker: u8, act: Act, may_park: bool) -> Result<Reply, Halt> {
+fn hold(
+    board: &Mutex<Board>,
+    woken: &Condvar,
+    worker: u8,
+    act: Act,
+    may_park: bool,
+) -> Result<Reply, Halt> {
     let mut guard = board.lock().unwrap();
     let reply = guard.step(worker, act)?;
     if matches!(act, Act::Advance(_)) {
@@ -280,7 +310,9 @@ fn hold(board: &Mutex<Board>, woken: &Condvar, worker: u8, act: Act, may_park: b
             Parked::Ready => {}
             Parked::Stuck => woken.notify_all(),
             Parked::Asleep => {
-                let _guard = woken.wait_while(guard, |board| board.is_waiting(worker) && !board.is_stuck).unwrap();
+                let _guard = woken
+                    .wait_while(guard, |board| board.is_waiting(worker) && !board.is_stuck)
+                    .unwrap();
             }
         }
     }
@@ -310,7 +342,11 @@ fn work(board: &Mutex<Board>, woken: &Condvar, worker: u8, program: &[Command]) 
     machine.refuse(Outcome::OutOfTurns);
     board.lock().unwrap().leave(worker);
     woken.notify_all();
-    Told { log, outcome: machine.outcome, moment }
+    Told {
+        log,
+        outcome: machine.outcome,
+        moment,
+    }
 }
 
 /// Whether each worker's entries are its log.
@@ -318,13 +354,18 @@ fn agree(run: &Run, tolds: &[Told]) -> bool {
     let mut cursors = [0; 16];
     for entry in run.entries() {
         let place = entry.worker as usize;
-        let Some(told) = tolds.get(place) else { return false };
+        let Some(told) = tolds.get(place) else {
+            return false;
+        };
         if told.log.get(cursors[place]) != Some(entry) {
             return false;
         }
         cursors[place] += 1;
     }
-    tolds.iter().zip(cursors).all(|(told, cursor)| told.log.len() == cursor)
+    tolds
+        .iter()
+        .zip(cursors)
+        .all(|(told, cursor)| told.log.len() == cursor)
 }
 
 /// The program after the steps of a log, where they are a run of it.
@@ -342,11 +383,15 @@ fn replayed<'a>(program: &'a [Command], log: &[Entry]) -> Option<Machine<'a>> {
 /// Whether a worker's log is a run of its program, which has ended as it told. (In no run of these programs is a worker refused
 /// or stopped.)
 fn is_told(program: &[Command], told: &Told) -> bool {
-    let Some(machine) = replayed(program, &told.log) else { return false };
+    let Some(machine) = replayed(program, &told.log) else {
+        return false;
+    };
     let steps = told.log.len() as u64;
     steps <= TURNS
         && match told.outcome {
-            Outcome::Finished | Outcome::ValueTooLarge => machine.outcome == told.outcome && told.moment == 0,
+            Outcome::Finished | Outcome::ValueTooLarge => {
+                machine.outcome == told.outcome && told.moment == 0
+            }
             Outcome::OutOfTurns => machine.outcome == Outcome::Running && steps == TURNS,
             Outcome::Running | Outcome::Refused(_) | Outcome::Stopped => false,
         }
@@ -385,9 +430,13 @@ fn outcome_words(outcome: Outcome) -> String {
 
 fn write_trace(run: &Run, names: &[String]) -> io::Result<()> {
     // (past std's own buffer, which would cut each piece at its last line)
-    let mut out = BufWriter::with_capacity(8192, File::from(io::stdout().as_fd().try_clone_to_owned()?));
+    let mut out =
+        BufWriter::with_capacity(8192, File::from(io::stdout().as_fd().try_clone_to_owned()?));
     let all = names.join(" ");
-    write!(out, "evc-trace 1\nlimit {LIMIT}\nworkers {all}\neventcount E signal {all}\nrun\n")?;
+    write!(
+        out,
+        "evc-trace 1\nlimit {LIMIT}\nworkers {all}\neventcount E signal {all}\nrun\n"
+    )?;
     for entry in run.entries() {
         out.write_all(names[entry.worker as usize].as_bytes())?;
         out.write_all(b" ")?;
@@ -406,15 +455,23 @@ fn setup(workers: usize) -> Setup {
     Setup {
         limit: LIMIT,
         workers,
-        events: vec![Rights { signal: Members::new(&everybody), observe: Members::default() }],
+        events: vec![Rights {
+            signal: Members::new(&everybody),
+            observe: Members::default(),
+        }],
         takers: Vec::new(),
         cells: Vec::new(),
     }
 }
 
 fn main() -> ExitCode {
-    let words: Vec<usize> = std::env::args().skip(1).filter_map(|it| it.parse().ok()).collect();
-    let [workers, times] = words[..] else { return ExitCode::from(2) };
+    let words: Vec<usize> = std::env::args()
+        .skip(1)
+        .filter_map(|it| it.parse().ok())
+        .collect();
+    let [workers, times] = words[..] else {
+        return ExitCode::from(2);
+    };
     let setup = setup(workers);
     let program = || vec![Command::Repeat(times as u64, vec![Command::Advance(0)])];
     let programs: Vec<Vec<Command>> = (0..workers).map(|_| program()).collect();
@@ -427,14 +484,20 @@ fn main() -> ExitCode {
             .zip(&programs)
             .map(|(worker, program)| scope.spawn(move || work(board, woken, worker, program)))
             .collect();
-        handles.into_iter().map(|handle| handle.join().unwrap()).collect()
+        handles
+            .into_iter()
+            .map(|handle| handle.join().unwrap())
+            .collect()
     });
     let run = board.into_inner().unwrap().run;
 
     let is_right = run.world.setup == setup
         && tolds.len() == workers
         && agree(&run, &tolds)
-        && programs.iter().zip(&tolds).all(|(program, told)| is_told(program, told));
+        && programs
+            .iter()
+            .zip(&tolds)
+            .all(|(program, told)| is_told(program, told));
     if !is_right {
         return ExitCode::from(5);
     }
