@@ -11,7 +11,6 @@ pub mod TraceLines
 pub mod ReadRuns
 pub mod ReadTraces
 pub mod Goes
-pub mod LineCuts
 pub mod Stood
 pub mod Blocks
 pub mod Bytes

@@ -9,7 +9,6 @@ mod group;
 mod heading;
 mod kinds;
 mod laws;
-mod lines;
 mod lists;
 mod objects;
 mod progress;
