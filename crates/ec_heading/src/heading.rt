@@ -17,7 +17,7 @@ ghost use Rattle.ec_heading.specs.Outline.{opened, IsDeclarable, numbered, named
 use crate::form::{Parts, parts_of};
 use crate::group::Group;
 use crate::kinds::{declaration_fault, size_of, workers_fault};
-use crate::lists::{has_blank, is_same, push_ids, worker_in};
+use crate::lists::{is_same, push_ids, worker_in};
 use crate::objects::{add_objects, spell_objects, target_of};
 use crate::sort::Sort;
 use crate::spelled::{block_of, closed_number, cut_at, event_of, sequencer_of};
@@ -25,7 +25,7 @@ use arrayvec::ArrayVec;
 use ec_count::{
     CellId, EventId, Limit, NameFault, Names, SeqId, Setup, Target, Vocabulary, WorkerId,
 };
-use ec_text::cut_word;
+use ec_text::{cut_word, has_blank};
 use std::alloc::{AllocError, Global};
 use std::marker::Model;
 use thiserror::Error;

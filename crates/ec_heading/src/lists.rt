@@ -1,5 +1,5 @@
 //! Lists of words in a line, and the workers that they name.
-ghost use Rattle.std.specs.Prelude.{◌≡◌, ◌==◌, ◌+◌, ◌++◌, ◌≤◌, length, bytes_eq};
+ghost use Rattle.std.specs.Prelude.{◌≡◌, ◌+◌, ◌++◌, ◌≤◌, length, bytes_eq};
 ghost use Rattle.std.specs.List.{list_any};
 ghost use Rattle.ec_text.specs.Words.{words_of};
 ghost use Rattle.ec_count.specs.Members.{is_member, has_repeat};
@@ -14,20 +14,6 @@ pub(crate) fn is_same(word: &[u8], other: &[u8]) -> bool
     ensures { result ≡ bytes_eq word.now other.now }
 {
     word == other
-}
-
-/// Whether a word is empty.
-pub(crate) fn has_blank(list: &[u8]) -> bool
-    ensures { result ≡ list_any (λ w. length w == 0) (words_of list.now) }
-{
-    let (word, rest) = cut_word(list);
-    if word.is_empty() {
-        return true;
-    }
-    match rest {
-        None => false,
-        Some(rest) => has_blank(rest),
-    }
 }
 
 /// How many words there are.

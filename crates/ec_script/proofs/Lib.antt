@@ -2,7 +2,6 @@ pub mod Words
 pub mod Drafts
 pub mod Sizes
 pub mod Room
-pub mod LineCuts
 pub mod Lines
 pub mod Texts
 pub mod Onward

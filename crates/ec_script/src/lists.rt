@@ -1,5 +1,5 @@
 //! Lists of words in a line.
-ghost use Rattle.std.specs.Prelude.{◌≡◌, ◌==◌, ◌+◌, ◌++◌, ◌≤◌, length, map, true, OnOk};
+ghost use Rattle.std.specs.Prelude.{◌≡◌, ◌+◌, ◌++◌, ◌≤◌, length, map, true, OnOk};
 ghost use Rattle.std.specs.List.{list_all, list_any};
 ghost use Rattle.ec_text.specs.Words.{words_of};
 ghost use Rattle.ec_machine.specs.Limits.{is_value};
@@ -13,20 +13,6 @@ use ec_heading::Heading;
 use ec_machine::Value;
 use ec_text::cut_word;
 use std::alloc::AllocError;
-
-/// Whether a word is empty.
-pub(crate) fn has_blank(list: &[u8]) -> bool
-    ensures { result ≡ list_any (λ w. length w == 0) (words_of list.now) }
-{
-    let (word, rest) = cut_word(list);
-    if word.is_empty() {
-        return true;
-    }
-    match rest {
-        None => false,
-        Some(rest) => has_blank(rest),
-    }
-}
 
 /// How many words there are.
 pub(crate) fn count_words(list: &[u8]) -> usize

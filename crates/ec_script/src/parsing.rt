@@ -1,5 +1,5 @@
 //! Whole scripts.
-ghost use Rattle.std.specs.Prelude.{◌≡◌, ◌≢◌, ◌++◌, ◌∷◌, ◌+◌, ◌<◌, ◌^◌, All, Err, IfNone, IfOk, IfSome, length};
+ghost use Rattle.std.specs.Prelude.{◌≡◌, ◌<◌, ◌^◌, Err, IfOk, length};
 ghost use Rattle.ec_script.specs.Confined.{AreConfinedPrograms, IsPlan};
 ghost use Rattle.ec_script.specs.Outcome.{Tells, ended, fault_at, finished, first_of, goes, long_kind, outcome, parts_of, plan_in, shown_plan, taken};
 ghost use Rattle.ec_script.specs.Reading.{step};
@@ -7,22 +7,11 @@ ghost use Rattle.ec_script.specs.Reading.{step};
 use crate::fault::{Kind, ScriptFault, StageFault};
 use crate::plan::Plan;
 use crate::stage::Stage;
-use memchr::memchr;
+use ec_text::cut_line;
 use std::alloc::Global;
 
 /// The most bytes that a script may have.
 pub const SCRIPT_MAX: usize = 1_048_576;
-
-/// The bytes before the first LF, and those behind it, where there is an LF.
-#[tactic(auto, using(crate::proofs::LineCuts::line_cuts))]
-fn cut_line(bytes: &[u8]) -> Option<(&[u8], &[u8])>
-    ensures none { IfNone result (All (λ b. b ≢ 10) bytes.now) }
-    ensures plain { IfSome result (λ p. All (λ b. b ≢ 10) p.0.now) }
-    ensures whole { IfSome result (λ p. bytes.now ≡ p.0.now ++ 10 ∷ p.1.now) }
-{
-    let end = memchr(b'\n', bytes)?;
-    Some((&bytes[..end], &bytes[end + 1..]))
-}
 
 /// Why a line was not taken, with its number.
 fn fault_at(line: u64, fault: StageFault) -> ScriptFault

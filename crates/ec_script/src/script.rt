@@ -17,7 +17,7 @@ use crate::draft::Draft;
 use crate::fault::{Kind, StageFault, stage_fault};
 use crate::form::{Parts, parts_of};
 use crate::kinds::{Nest, View, or_nothing, phrase_fault};
-use crate::lists::{has_blank, push_ids};
+use crate::lists::push_ids;
 use crate::object::{Object, object_in};
 use crate::order::Order;
 use crate::plan::Plan;
@@ -25,7 +25,7 @@ use crate::verb::{Verb, verb_of};
 use ec_count::WorkerId;
 use ec_heading::Heading;
 use ec_machine::Program;
-use ec_text::cut_word;
+use ec_text::{cut_word, has_blank};
 use std::alloc::{AllocError, Global};
 use std::marker::Model;
 

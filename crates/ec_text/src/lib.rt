@@ -1,8 +1,9 @@
-//! Texts: the words of a line, numbers and their digits, and bytes on their way to a writer.
+//! Texts: lines, the words of a line, numbers and their digits, and bytes on their way to a writer.
 #![tactic(auto)]
 
 mod buffered;
 mod laws;
+mod lines;
 mod numbers;
 mod words;
 mod writing;
@@ -12,6 +13,7 @@ pub use laws::{
     join_is_undone, number_has_one_spelling, number_is_read_back, numbers_are_short_forms,
     split_is_undone, words_have_no_space,
 };
+pub use lines::cut_line;
 pub use numbers::{is_number_form, number};
-pub use words::cut_word;
+pub use words::{cut_word, has_blank};
 pub use writing::{WriteFault, write_out};

@@ -1,6 +1,6 @@
 //! The words of a line.
 ghost use Rattle.std.specs.Prelude.{◌≡◌, ◌≢◌, ℕ, ◌≤◌, ◌<◌, ◌+◌, ◌++◌, ◌∷◌, [], ◌==◌, length, take, slice_index, MatchOption, IfSome, IfNone};
-ghost use Rattle.std.specs.List.{position_or_len};
+ghost use Rattle.std.specs.List.{list_any, position_or_len};
 ghost use Rattle.ec_text.specs.Words.{words_of, IsWord};
 
 use std::simd::prelude::*;
@@ -71,4 +71,18 @@ pub fn cut_word(line: &[u8]) -> (&[u8], Option<&[u8]>)
         }
     }
     (line, None)
+}
+
+/// Whether a word of a line is empty, as where two spaces stand in a row.
+pub fn has_blank(line: &[u8]) -> bool
+    ensures { result ≡ list_any (λ w. length w == 0) (words_of line.now) }
+{
+    let (word, rest) = cut_word(line);
+    if word.is_empty() {
+        return true;
+    }
+    match rest {
+        None => false,
+        Some(rest) => has_blank(rest),
+    }
 }

@@ -7,7 +7,6 @@ pub mod TraceLines
 pub mod ReadRuns
 pub mod ReadTraces
 pub mod Goes
-pub mod LineCuts
 pub mod Stood
 pub mod SpelledLemmas
 pub mod FrontLemmas

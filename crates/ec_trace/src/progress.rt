@@ -3,10 +3,10 @@ ghost use Rattle.std.specs.Prelude.{◌≡◌, ◌≢◌, ◌≤◌, ◌<◌, �
 ghost use Rattle.ec_trace.specs.Outcome.{Moves, Rests, Ends, fault_at, goes_from, start};
 
 use crate::fault::{LineFault, StageFault, TraceFault};
-use crate::lines::cut_line;
 use crate::stage::Stage;
 use crate::traced::Traced;
 use arrayvec::ArrayVec;
+use ec_text::cut_line;
 use std::alloc::Global;
 use std::marker::Model;
 

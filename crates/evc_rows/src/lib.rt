@@ -7,6 +7,8 @@ mod broken_texts;
 #[cfg(test)]
 mod check_tests;
 #[cfg(test)]
+mod cut_tests;
+#[cfg(test)]
 mod error_tests;
 #[cfg(test)]
 mod failing_tests;
