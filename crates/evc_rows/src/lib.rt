@@ -7,6 +7,10 @@ mod broken_texts;
 #[cfg(test)]
 mod check_tests;
 #[cfg(test)]
+mod command_tests;
+#[cfg(test)]
+mod commands;
+#[cfg(test)]
 mod error_tests;
 #[cfg(test)]
 mod failing_tests;
