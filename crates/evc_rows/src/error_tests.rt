@@ -3,6 +3,8 @@ use crate::ids::worker;
 use ec_core::{AuditFault, Refusal, StepFault};
 use ec_count::{AtLimit, NameFault, SetupFault};
 use ec_order::OrderFault;
+use ec_runner::{BoardFault, RunFault, SimFault};
+use ec_script::{Kind, ScriptFault};
 use ec_text::WriteFault;
 use ec_trace::{HeadFault, TraceFault};
 use std::alloc::Global;
@@ -58,9 +60,41 @@ fn errors_of_texts(alloc: Global) -> Result<(), Fail> {
     )
 }
 
+/// The errors of scripts.
+fn errors_of_scripts(alloc: Global) -> Result<(), Fail> {
+    let fault = ScriptFault::At {
+        line: 8,
+        kind: Kind::NoRight,
+    };
+    says(alloc, &Kind::BadNesting, "bad nesting")?;
+    says(alloc, &fault, "line 8: the worker lacks the right")
+}
+
+/// The errors of workers that share a run.
+fn errors_of_workers(alloc: Global) -> Result<(), Fail> {
+    let refused = BoardFault::Refused(Refusal::AtLimit);
+    let ended = SimFault::Ended {
+        place: 3,
+        worker: worker(1),
+    };
+    says(
+        alloc,
+        &refused,
+        "the step is refused: the count is at its limit",
+    )?;
+    says(
+        alloc,
+        &ended,
+        "place 3 of the schedule names a worker that has ended",
+    )?;
+    says(alloc, &RunFault::Spawn, "a thread could not be started")
+}
+
 #[test]
 fn an_error_of_each_type_has_a_text(rt: HostRuntime) -> Result<(), Fail> {
     errors_of_declarations(rt.alloc())?;
     errors_of_runs(rt.alloc())?;
-    errors_of_texts(rt.alloc())
+    errors_of_texts(rt.alloc())?;
+    errors_of_scripts(rt.alloc())?;
+    errors_of_workers(rt.alloc())
 }

@@ -8,6 +8,9 @@ mod broken_texts;
 mod check_tests;
 #[cfg(test)]
 mod cut_tests;
+mod command_tests;
+#[cfg(test)]
+mod commands;
 #[cfg(test)]
 mod error_tests;
 #[cfg(test)]

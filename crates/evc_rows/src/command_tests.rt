@@ -1,0 +1,192 @@
+//! The commands beside `check`, over readers and writers that fail.
+use crate::commands::{
+    AUDIT_OF_A_BUFFER, Command, RUN_OF_TICKETS, SIM_OF_TICKETS, Worked, commanded_into,
+};
+use crate::fakes::{Fickle, Pieces, Trouble};
+use evc_engine::Status;
+use std::alloc::Global;
+use std::sync::Wait;
+use std::test::Fail;
+use std::thread::Threads;
+
+/// What fails: the reader, or the writer in this way.
+#[derive(Clone, Copy)]
+enum Failing {
+    Read,
+    Write(Trouble),
+}
+
+impl Failing {
+    /// The number of the read that fails, where it is the call of this number that does.
+    fn read_at(self, k: usize) -> usize {
+        match self {
+            Failing::Read => k,
+            Failing::Write(_) => usize::MAX,
+        }
+    }
+
+    /// A writer that takes at most so many bytes at a time, where it is the call of this number that fails.
+    fn writer(self, alloc: Global, most: usize, k: usize) -> Fickle {
+        match self {
+            Failing::Read => Fickle::new(alloc, most, Trouble::Fails, usize::MAX),
+            Failing::Write(trouble) => Fickle::new(alloc, most, trouble, k),
+        }
+    }
+
+    fn notes(self) -> &'static [u8] {
+        match self {
+            Failing::Read => b"read fault\n".as_slice(),
+            Failing::Write(_) => b"write fault\n".as_slice(),
+        }
+    }
+
+    /// How many calls may fail where nothing does: the last read finds the end.
+    fn calls(self, read: usize, written: usize, most: usize) -> usize {
+        match self {
+            Failing::Read => read.div_ceil(most.max(1)).saturating_add(1),
+            Failing::Write(_) => written.div_ceil(most.max(1)),
+        }
+    }
+
+    /// How many bytes the writer has, where the call of this number fails and each writes so many.
+    fn given(self, most: usize, k: usize) -> usize {
+        match self {
+            Failing::Read => 0,
+            Failing::Write(_) => k.saturating_mul(most),
+        }
+    }
+}
+
+/// What a command answered, noted and wrote.
+#[derive(Drop)]
+struct Told {
+    status: Status,
+    notes: Vec<u8>,
+    out: Vec<u8>,
+}
+
+impl Told {
+    /// Whether all went well.
+    fn is_whole(&self, alloc: Global, worked: &Worked) -> bool {
+        self.status == Status::Done
+            && self.notes.as_slice() == worked.notes.as_bytes()
+            && worked.right.is_whole(alloc, self.out.as_slice())
+    }
+
+    /// Whether a call failed, behind so many bytes of the text.
+    fn is_front(&self, alloc: Global, worked: &Worked, notes: &[u8], given: usize) -> bool {
+        self.status == Status::InputOutput
+            && self.notes.as_slice() == notes
+            && self.out.len() == given
+            && worked.right.is_front(alloc, self.out.as_slice())
+    }
+}
+
+/// What a command tells where it reads and writes so many bytes at a time, and one call, by number from 0, fails.
+fn told_at<H: Threads + Wait + Sync>(
+    rt: &H,
+    alloc: Global,
+    worked: &Worked,
+    failing: Failing,
+    most: usize,
+    k: usize,
+) -> Told {
+    let mut reader = Pieces::failing(worked.text.as_bytes(), most, failing.read_at(k));
+    let mut writer = failing.writer(alloc, most, k);
+    let (status, notes) = commanded_into(rt, alloc, worked.command, &mut reader, &mut writer);
+    Told {
+        status,
+        notes,
+        out: writer.bytes,
+    }
+}
+
+/// The calls before this one have failed, each in its turn, and were told so: this one is never made, and all is right.
+fn right_behind(
+    alloc: Global,
+    worked: &Worked,
+    told: &Told,
+    calls: usize,
+    k: usize,
+) -> Result<(), Fail> {
+    if k == calls && told.is_whole(alloc, worked) {
+        Ok(())
+    } else {
+        Err(Fail::new(format_args!("another ending at call {k}")))
+    }
+}
+
+/// The fault of each call, one after another, is told, up to a run that meets none.
+fn each_fault_is_told<H: Threads + Wait + Sync>(
+    rt: &H,
+    alloc: Global,
+    worked: &Worked,
+    failing: Failing,
+    most: usize,
+) -> Result<(), Fail> {
+    for k in 0..10_000 {
+        let told = told_at(rt, alloc, worked, failing, most, k);
+        if !told.is_front(alloc, worked, failing.notes(), failing.given(most, k)) {
+            let calls = failing.calls(worked.text.len(), told.out.len(), most);
+            return right_behind(alloc, worked, &told, calls, k);
+        }
+    }
+    Err(Fail::new(format_args!("each call fails")))
+}
+
+static PIECES: [usize; 5] = [1, 2, 3, 5, 8192];
+
+/// The faults of so many bytes at a time, for each such number.
+fn faults_in_pieces<H: Threads + Wait + Sync>(
+    rt: &H,
+    alloc: Global,
+    worked: &Worked,
+    failing: Failing,
+) -> Result<(), Fail> {
+    for most in &PIECES {
+        each_fault_is_told(rt, alloc, worked, failing, *most)?;
+    }
+    Ok(())
+}
+
+static FAILING: [Failing; 3] = [
+    Failing::Read,
+    Failing::Write(Trouble::Fails),
+    Failing::Write(Trouble::TakesNothing),
+];
+
+/// The faults of each sort.
+fn all_faults<H: Threads + Wait + Sync>(
+    rt: &H,
+    alloc: Global,
+    worked: &Worked,
+) -> Result<(), Fail> {
+    for failing in &FAILING {
+        faults_in_pieces(rt, alloc, worked, *failing)?;
+    }
+    Ok(())
+}
+
+#[test]
+fn each_fault_of_an_audit(rt: HostRuntime) -> Result<(), Fail> {
+    all_faults(&rt, rt.alloc(), &AUDIT_OF_A_BUFFER)
+}
+
+#[test]
+fn each_fault_of_a_sim(rt: HostRuntime) -> Result<(), Fail> {
+    all_faults(&rt, rt.alloc(), &SIM_OF_TICKETS)
+}
+
+#[test]
+fn each_fault_of_a_run(rt: HostRuntime) -> Result<(), Fail> {
+    all_faults(&rt, rt.alloc(), &RUN_OF_TICKETS)
+}
+
+#[test]
+fn the_run_of_the_script_of_tickets_finishes(rt: HostRuntime) {
+    let mut reader = RUN_OF_TICKETS.text.as_bytes();
+    let mut out = Vec::new(rt.alloc());
+    let (status, notes) = commanded_into(&rt, rt.alloc(), Command::Run, &mut reader, &mut out);
+    assert_eq!(rt; status, Status::Done);
+    assert!(rt; notes.as_slice() == b"outcome a finished\noutcome b finished\n".as_slice());
+}

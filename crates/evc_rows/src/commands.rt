@@ -1,0 +1,149 @@
+//! The commands beside `check`: worked texts, and what each command answers on its own.
+use crate::group_texts::BUFFER;
+use crate::outcome::{Ending, checked_into, ends};
+use evc_engine::{Notes, Status, audit};
+use evc_scripts::{run, sim};
+use std::alloc::Global;
+use std::io::{Read, Write};
+use std::sync::Wait;
+use std::thread::Threads;
+
+/// Two workers enter by their tickets, one behind the other.
+pub(crate) const TICKETS: &str = "evc-script 1
+limit 10
+workers a b
+eventcount Turn signal a b observe a b
+sequencer Queue take a b
+worker a
+ticket Queue
+await Turn last
+advance Turn
+end
+worker b
+ticket Queue
+await Turn last
+advance Turn
+end
+schedule b a a a b b b a a a
+";
+
+const TICKETS_TRACE: &str = "evc-trace 1
+limit 10
+workers a b
+eventcount Turn signal a b observe a b
+sequencer Queue take a b
+run
+b ticket Queue = 0
+a ticket Queue = 1
+a await Turn 1 = pending
+a go = pending
+b await Turn 0 = pending
+b go = 0
+b advance Turn = done
+a go = pending
+a go = 1
+a advance Turn = done
+end
+";
+
+const TICKETS_NOTES: &str = "outcome a finished\noutcome b finished\n";
+
+const BUFFER_AUDIT: &str = "evc-audit 1
+delivery B 0 a c 7
+delivery B 1 b d 8
+end
+";
+
+/// How many turns a worker has.
+const TURNS: u64 = 10000;
+
+/// A command.
+#[derive(Clone, Copy)]
+pub(crate) enum Command {
+    Audit,
+    Sim,
+    Run,
+}
+
+/// What a command does with the bytes of a reader and a writer of the text: its status and its notes.
+pub(crate) fn commanded_into<H: Threads + Wait + Sync, R: Read, W: Write>(
+    rt: &H,
+    alloc: Global,
+    command: Command,
+    reader: &mut R,
+    out: &mut W,
+) -> (Status, Vec<u8>) {
+    let mut notes = Notes::new(Vec::new(alloc));
+    let status = match command {
+        Command::Audit => audit(alloc, reader, out, &mut notes),
+        Command::Sim => sim(alloc, reader, out, &mut notes),
+        Command::Run => run(rt, alloc, TURNS, reader, out, &mut notes),
+    };
+    (status, notes.writer)
+}
+
+/// The texts that are right.
+#[derive(Clone, Copy)]
+pub(crate) enum Right {
+    /// This one alone.
+    Text(&'static str),
+    /// Each trace that `check` takes.
+    Trace,
+}
+
+impl Right {
+    /// Whether the bytes are a right text.
+    pub(crate) fn is_whole(self, alloc: Global, bytes: &[u8]) -> bool {
+        match self {
+            Right::Text(text) => bytes == text.as_bytes(),
+            Right::Trace => is_trace(alloc, bytes),
+        }
+    }
+
+    /// Whether a right text begins with the bytes and goes on.
+    pub(crate) fn is_front(self, alloc: Global, bytes: &[u8]) -> bool {
+        match self {
+            Right::Text(text) => { text.as_bytes().starts_with(bytes) && bytes.len() < text.len() }
+            Right::Trace => ends(alloc, &mut &bytes[..], Ending::Refused("unfinished\n")),
+        }
+    }
+}
+
+/// Whether `check` takes the bytes.
+fn is_trace(alloc: Global, bytes: &[u8]) -> bool {
+    let mut order = Vec::new(alloc);
+    let (status, _) = checked_into(alloc, &mut &bytes[..], &mut order);
+    status == Status::Done
+}
+
+/// A command with a text, and what it writes and notes where nothing fails.
+pub(crate) struct Worked {
+    pub(crate) command: Command,
+    pub(crate) text: &'static str,
+    pub(crate) right: Right,
+    pub(crate) notes: &'static str,
+}
+
+/// The audit of two producers and two consumers of a buffer.
+pub(crate) static AUDIT_OF_A_BUFFER: Worked = Worked {
+    command: Command::Audit,
+    text: BUFFER,
+    right: Right::Text(BUFFER_AUDIT),
+    notes: "",
+};
+
+/// The schedule of the script of tickets.
+pub(crate) static SIM_OF_TICKETS: Worked = Worked {
+    command: Command::Sim,
+    text: TICKETS,
+    right: Right::Text(TICKETS_TRACE),
+    notes: TICKETS_NOTES,
+};
+
+/// The workers of the script of tickets, on threads: their trace differs from run to run.
+pub(crate) static RUN_OF_TICKETS: Worked = Worked {
+    command: Command::Run,
+    text: TICKETS,
+    right: Right::Trace,
+    notes: TICKETS_NOTES,
+};
