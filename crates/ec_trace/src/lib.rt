@@ -4,13 +4,6 @@
 mod entry;
 mod fault;
 mod fronts;
-mod lines;
-mod group;
-mod heading;
-mod kinds;
-mod laws;
-mod lists;
-mod objects;
 mod progress;
 mod read;
 mod reading_laws;

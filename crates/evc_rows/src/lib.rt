@@ -7,10 +7,11 @@ mod broken_texts;
 #[cfg(test)]
 mod check_tests;
 #[cfg(test)]
-mod cut_tests;
 mod command_tests;
 #[cfg(test)]
 mod commands;
+#[cfg(test)]
+mod cut_tests;
 #[cfg(test)]
 mod error_tests;
 #[cfg(test)]
