@@ -1,5 +1,5 @@
 -- The waiters of a board after a park, a leave and a step.
-use Rattle.std.proofs.Common.{◌≡◌, ◌≢◌, ℕ, zero, suc, ◌+◌, ◌<◌, Bool, true, false, ◌==◌, ◌&&◌, ◌||◌, not, nat_le, nat_lt, inl, inr, List, [], ◌∷◌, ◌++◌, length, reverse, Option, Some, None, slice_get, slice_set, cond, refl, ap, sym, ◌∙◌, subst, arith}
+use Rattle.std.proofs.Common.{◌≡◌, ◌≢◌, ℕ, zero, suc, ◌+◌, ◌<◌, Bool, true, false, ◌==◌, ◌&&◌, ◌||◌, not, nat_le, nat_lt, ◌⊎◌, inl, inr, List, [], ◌∷◌, ◌++◌, length, reverse, Option, Some, None, slice_get, slice_set, unwrap_or, cond, refl, ap, sym, ◌∙◌, subst, arith}
 use Rattle.std.specs.Option.{option_and_then, option_map}
 use Rattle.std.specs.List.{list_any}
 use Rattle.std.proofs.lemmas.Bool.{eqb-true, eq-eqb, leb-false, and_parts}
@@ -13,6 +13,7 @@ use Rattle.ec_core.specs.Counts.{total, is_advance}
 use Rattle.ec_core.specs.Calls.{CallSoFar, under_way}
 use Rattle.ec_core.specs.Rounds.{event_or, next_component}
 use Rattle.ec_core.specs.Acceptance.{IsAccepted}
+use Rattle.ec_core.proofs.Places.{get_set}
 use Rattle.ec_core.proofs.Answering.{IsReading, IsReadingCall, call_reads}
 use Rattle.ec_core.proofs.Stepping.{past_after}
 use Rattle.ec_core.proofs.Scans.{call_other}
@@ -22,6 +23,40 @@ use Rattle.ec_runner.specs.declared.wait.Wait.{Wait}
 use Rattle.ec_runner.specs.Seated.{is_live, is_running, seat_of, every_live_waits, is_stuck_in, kept, woken}
 use Rattle.ec_runner.specs.Boarded.{Boarded, past_of, short_at, fallen_short, awaited, unmet, wait_of, AreWaiters, with_seat, after_entry}
 use Rattle.ec_runner.proofs.Lining.{moved_to}
+
+lt_of : (m n : ℕ) → nat_lt m n ≡ true → m < n
+lt_of m n h = grind (arith, nat_tests)
+
+-- WHO IS LIVE
+
+-- a seat of the table where w has another seat
+set_live : (seats : List Seat) (w u : ℕ) (s : Seat) → w < length seats → is_live (seat_of (slice_set seats w s) u) ≡ true
+    → ((u ≡ w) × (is_live s ≡ true)) ⊎ (is_live (seat_of seats u) ≡ true)
+set_live seats w u s within h =
+    elim (w == u) as (λ b. (w == u) ≡ b → is_live (unwrap_or (cond b (Some s) (slice_get seats u)) Gone) ≡ true → ((u ≡ w) × (is_live s ≡ true)) ⊎ (is_live (seat_of seats u) ≡ true)) [
+      | true ↦ λ e k. inl (sym (eqb-true w u e), k)
+      | false ↦ λ e k. inr k
+    ] refl (ap (λ (o : Option Seat). is_live (unwrap_or o Gone)) (sym (get_set seats w u s within)) ∙ h)
+
+kept_live : (f sum : ℕ) (s : Seat) → is_live (kept f sum s) ≡ is_live s
+kept_live f sum Gone = refl
+kept_live f sum Running = refl
+kept_live f sum (Waiting g u) = elim (g == f && nat_le u sum) as (λ b. is_live (cond b Running (Waiting g u)) ≡ true) [ true ↦ refl | false ↦ refl ]
+
+map_live : (f sum : ℕ) (o : Option Seat) → is_live (unwrap_or (option_map (kept f sum) o) Gone) ≡ is_live (unwrap_or o Gone)
+map_live f sum None = refl
+map_live f sum (Some s) = kept_live f sum s
+
+-- an advance makes nobody live, nor does another act
+woken_live : (act : Act) (past : List Entry) (seats : List Seat) (u : ℕ) → is_live (seat_of (woken act past seats) u) ≡ is_live (seat_of seats u)
+woken_live (Advance f) past seats u =
+    ap (λ (o : Option Seat). is_live (unwrap_or o Gone)) (slice_get-map (kept f (total f past)) seats u) ∙ map_live f (total f past) (slice_get seats u)
+woken_live (Read f) past seats u = refl
+woken_live (Await f n) past seats u = refl
+woken_live Go past seats u = refl
+woken_live (Ticket q) past seats u = refl
+woken_live (Put x n) past seats u = refl
+woken_live (Get x) past seats u = refl
 
 -- WHAT IS WAITED FOR
 
@@ -48,13 +83,11 @@ awaited_declared t w past a acc h = call_short t (under_way w past) a (call_read
 awaited_other : (t : Tables) (w : ℕ) (x : Entry) (past : List Entry) → (x.worker == w) ≡ false → awaited t w (x ∷ past) ≡ awaited t w past
 awaited_other t w x past h = ap (option_and_then (fallen_short t)) (call_other w x past h)
 
--- a wait that a worker has: it fell short, and the total is below
+-- a wait that a worker has: it is live, its round fell short, and the total is below
 pub record IsWait (b : Boarded) (w : ℕ) (a : Wait) : Type 0 where
+  pub live : is_live (seat_of b.seats w) ≡ true
   pub short : awaited b.run.setup w (past_of b.run) ≡ Some a
   pub above : total a.event (past_of b.run) < a.threshold
-
-lt_of : (m n : ℕ) → nat_lt m n ≡ true → m < n
-lt_of m n h = grind (arith, nat_tests)
 
 unmet_is : (past : List Entry) (o : Option Wait) (a : Wait) → unmet past o ≡ Some a → (o ≡ Some a) × (total a.event past < a.threshold)
 unmet_is past None a h = cc
@@ -64,14 +97,15 @@ unmet_is past (Some d) a h =
       | false ↦ λ t k. cc
     ] refl h
 
-wait_if : (b : Bool) (o : Option Wait) (a : Wait) → cond b o None ≡ Some a → o ≡ Some a
-wait_if true o a h = h
+wait_if : (b : Bool) (o : Option Wait) (a : Wait) → cond b o None ≡ Some a → (b ≡ true) × (o ≡ Some a)
+wait_if true o a h = (refl, h)
 wait_if false o a h = cc
 
 pub is_wait : (b : Boarded) (w : ℕ) (a : Wait) → wait_of b w ≡ Some a → IsWait b w a
 is_wait b w a h =
-    let k = unmet_is (past_of b.run) (awaited b.run.setup w (past_of b.run)) a (wait_if (is_live (seat_of b.seats w)) _ a h) in
-    record { short = k.0; above = k.1 }
+    let i = wait_if (is_live (seat_of b.seats w)) _ a h in
+    let k = unmet_is (past_of b.run) (awaited b.run.setup w (past_of b.run)) a i.1 in
+    record { live = i.0; short = k.0; above = k.1 }
 
 wait_made : (a : Wait) (e v : ℕ) → a.event ≡ e → a.threshold ≡ v → a ≡ record { event = e; threshold = v }
 wait_made a e v p q =
@@ -85,6 +119,10 @@ stuck_waits a b h = (and_parts a b h).1
 pub parked : (b : Boarded) (w : ℕ) (a : Wait) → AreWaiters b → w < length b.seats → IsWait b w a
     → AreWaiters (record { run = b.run; seats = slice_set b.seats w (Waiting a.event a.threshold); stuck = is_stuck_in (slice_set b.seats w (Waiting a.event a.threshold)) })
 parked b w a h within k = record {
+  declared = λ u l. elim (set_live b.seats w u (Waiting a.event a.threshold) within l) as (λ _. u < b.run.setup.workers) [
+    | inl p ↦ subst (λ (z : ℕ). z < b.run.setup.workers) (sym p.0) (h.declared w k.live)
+    | inr p ↦ h.declared u p
+  ];
   short = λ u e v g. elim (moved_to b.seats w u (Waiting a.event a.threshold) (Waiting e v) within g) as (λ _. awaited b.run.setup u (past_of b.run) ≡ Some (record { event = e; threshold = v })) [
     | inl p ↦ (let same : Waiting a.event a.threshold ≡ Waiting e v = p.1 in
         let event : a.event ≡ e = cc in let threshold : a.threshold ≡ v = cc in
@@ -125,6 +163,10 @@ all_wait_still false seats w h k = stuck_waits (list_any is_live (slice_set seat
 
 pub left : (b : Boarded) (w : ℕ) → AreWaiters b → w < length b.seats → AreWaiters (with_seat b w Gone)
 left b w h within = record {
+  declared = λ u l. elim (set_live b.seats w u Gone within l) as (λ _. u < b.run.setup.workers) [
+    | inl p ↦ (let gone : is_live Gone ≡ true = p.1 in cc)
+    | inr p ↦ h.declared u p
+  ];
   short = λ u e v g. elim (moved_to b.seats w u Gone (Waiting e v) within g) as (λ _. awaited b.run.setup u (past_of b.run) ≡ Some (record { event = e; threshold = v })) [
     | inl p ↦ (let same : Gone ≡ Waiting e v = p.1 in cc)
     | inr p ↦ h.short u e v p.1
@@ -205,14 +247,23 @@ stepped_on t seats x past within short above u e v g =
       | inr p ↦ (awaited_other t u x past (other_worker x u p.0) ∙ short u e v p.1, still_above e v x past (above u e v p.1) k.1)
     ])
 
-pub stepped : (b : Boarded) (x : Entry) → AreWaiters b → b.stuck ≡ false → x.worker < length b.seats → AreWaiters (after_entry b x)
-stepped b x h free within =
+stepped_live : (seats : List Seat) (n : ℕ) (x : Entry) (past : List Entry) → x.worker < length seats → x.worker < n
+    → ((w : ℕ) → is_live (seat_of seats w) ≡ true → w < n) → (w : ℕ) → is_live (seat_of (woken x.act past (slice_set seats x.worker Running)) w) ≡ true → w < n
+stepped_live seats n x past within known declared w l =
+    elim (set_live seats x.worker w Running within (sym (woken_live x.act past (slice_set seats x.worker Running) w) ∙ l)) as (λ _. w < n) [
+      | inl p ↦ subst (λ (z : ℕ). z < n) (sym p.0) known
+      | inr p ↦ declared w p
+    ]
+
+pub stepped : (b : Boarded) (x : Entry) → AreWaiters b → b.stuck ≡ false → x.worker < length b.seats → x.worker < b.run.setup.workers → AreWaiters (after_entry b x)
+stepped b x h free within known =
     let past = past_of b.run in
     let after : reverse (b.run.entries ++ x ∷ []) ≡ x ∷ past = past_after b.run.entries x in
     let P : List Entry → Type 0 = λ p. (u e v : ℕ) → slice_get (woken x.act p (slice_set b.seats x.worker Running)) u ≡ Some (Waiting e v)
     → (awaited b.run.setup u p ≡ Some (record { event = e; threshold = v })) × (total e p < v) in
     let each : P (reverse (b.run.entries ++ x ∷ [])) = subst P (sym after) (stepped_on b.run.setup b.seats x past within h.short h.above) in
     record {
+      declared = stepped_live b.seats b.run.setup.workers x (reverse (b.run.entries ++ x ∷ [])) within known h.declared;
       short = λ u e v g. (each u e v g).0;
       above = λ u e v g. (each u e v g).1;
       all = λ s. cc;

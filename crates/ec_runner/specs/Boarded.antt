@@ -48,9 +48,11 @@ unmet past (Some a) = if nat_lt (total a.event past) a.threshold then Some a els
 abbrev pub wait_of : Boarded → ℕ → Option Wait
 wait_of b w = if is_live (seat_of b.seats w) then unmet (past_of b.run) (awaited b.run.setup w (past_of b.run)) else None
 
--- THE WAITERS. A waiter has a seat and so is live; its latest entry ended a round of an await that fell short; and the
--- total is still below its threshold. Where the flag is set every live worker is a waiter.
+-- THE WAITERS, among those who are live. Who is live is a declared worker. A waiter has a seat and so is live; its latest
+-- entry ended a round of an await that fell short; and the total is still below its threshold. Where the flag is set
+-- every live worker is a waiter.
 pub record AreWaiters (b : Boarded) : Type 0 where
+  pub declared : (w : ℕ) → is_live (seat_of b.seats w) ≡ true → w < b.run.setup.workers
   pub short : (w e v : ℕ) → slice_get b.seats w ≡ Some (Waiting e v) → awaited b.run.setup w (past_of b.run) ≡ Some (record { event = e; threshold = v })
   pub above : (w e v : ℕ) → slice_get b.seats w ≡ Some (Waiting e v) → total e (past_of b.run) < v
   pub all : b.stuck ≡ true → every_live_waits b.seats ≡ true

@@ -84,7 +84,7 @@ impl Board {
         })
     }
 
-    /// What is true of the waiters of a board.
+    /// What is true of the live workers and of the waiters of a board: nobody is live who is not declared.
     pub fn known(&self)
         ensures { AreWaiters self.now }
     {

@@ -42,10 +42,10 @@ fn with_told(
     tolds: Result<Vec<Told>, RunFault>,
     told: Option<Told>,
 ) -> Result<Vec<Told>, RunFault> {
-    let mut tolds = tolds?;
     let Some(told) = told else {
         return Err(RunFault::Spawn);
     };
+    let mut tolds = tolds?;
     match tolds.push(told) {
         Ok(()) => Ok(tolds),
         Err(_) => Err(RunFault::Memory),

@@ -1,4 +1,5 @@
-use Rattle.std.proofs.Common.{◌∙◌, ap, sym, subst, List, slice_set}
+use Rattle.std.proofs.Common.{◌∙◌, ◌<◌, ap, sym, subst, List, slice_set}
+use Rattle.std.proofs.lemmas.Bool.{leb-false}
 use Rattle.ec_core.specs.declared.act.Entry.{Entry}
 use Rattle.ec_core.specs.Recorded.{Recorded}
 use Rattle.ec_core.specs.Acceptance.{names_unknown_object}
@@ -21,7 +22,9 @@ invariant_of-self-2 c =
     let i = c.self.inside in
     let b : Boarded = record { run = i.run; seats = i.seats; stuck = i.stuck } in
     let x : Entry = record { worker = c.args.worker; act = c.args.act; reply = c.in-Ok.reply } in
+    let may = (allowed i.run.setup (past_of i.run) c.args.worker c.args.act c.in-Ok.reply c.in-Ok.ensures.answer).0 in
+    let known : c.args.worker < i.run.setup.workers = leb-false i.run.setup.workers c.args.worker may.declared in
     let P : Recorded → List Seat → Type 0 = λ r xs. AreWaiters (record { run = r; seats = xs; stuck = i.stuck }) in
     subst (λ (xs : List Seat). P c.step.new.self xs) (sym c.note.ensures.seats)
     (subst (λ (r : Recorded). P r (woken c.args.act (past_of r) (slice_set i.seats c.args.worker Running))) (sym c.in-Ok.ensures.ok)
-    (stepped b x c.self.invariant c.if-self.false c.note.ensures.within))
+    (stepped b x c.self.invariant c.if-self.false c.note.ensures.within known))
