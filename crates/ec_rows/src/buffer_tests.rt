@@ -118,18 +118,32 @@ fn two_producers_two_consumers_one_cell(rt: HostRuntime) -> Result<(), Fail> {
 }
 
 /// Whether an entry of a worker's is the first that breaks the lists.
-fn breaks(alloc: Global, run: &Run, shape: &BufferShape, n: usize, entry: usize) -> bool {
+fn is_broken(alloc: Global, run: &Run, shape: &BufferShape, n: usize, entry: usize) -> bool {
     let worker = worker(n);
-    deliveries(alloc, run, shape).err() == Some(AuditFault::NotFollowed { worker, entry })
+    let Err(fault) = deliveries(alloc, run, shape) else {
+        return false;
+    };
+    fault == AuditFault::NotFollowed { worker, entry }
+}
+
+/// Whether these steps on a buffer of one cell, and then those, break the lists first at this entry of a worker's.
+fn breaks(
+    alloc: Global,
+    steps: &[Step],
+    others: &[Step],
+    n: usize,
+    entry: usize,
+) -> Result<bool, Fail> {
+    let (mut run, shape) = one_cell(alloc, steps)?;
+    go_through(&mut run, others)?;
+    Ok(is_broken(alloc, &run, &shape, n, entry))
 }
 
 static EARLY_PUT: [Step; 1] = [(1, Put(0, 8), Done)];
 
 #[test]
 fn a_put_before_there_is_room(rt: HostRuntime) -> Result<(), Fail> {
-    let (mut run, shape) = one_cell(rt.alloc(), &ONE_PUT)?;
-    go_through(&mut run, &EARLY_PUT)?;
-    assert!(rt; breaks(rt.alloc(), &run, &shape, 1, 10));
+    assert!(rt; breaks(rt.alloc(), &ONE_PUT, &EARLY_PUT, 1, 10)?);
     Ok(())
 }
 
@@ -137,8 +151,7 @@ static GET_ALONE: [Step; 1] = [(2, Get(0), Number(0))];
 
 #[test]
 fn a_get_without_a_ticket(rt: HostRuntime) -> Result<(), Fail> {
-    let (run, shape) = one_cell(rt.alloc(), &GET_ALONE)?;
-    assert!(rt; breaks(rt.alloc(), &run, &shape, 2, 0));
+    assert!(rt; breaks(rt.alloc(), &GET_ALONE, &[], 2, 0)?);
     Ok(())
 }
 
@@ -146,8 +159,7 @@ static OTHER_TICKET: [Step; 2] = [(0, Ticket(0), Number(0)), (0, Await(0, 1), Pe
 
 #[test]
 fn an_await_of_another_ticket(rt: HostRuntime) -> Result<(), Fail> {
-    let (run, shape) = one_cell(rt.alloc(), &OTHER_TICKET)?;
-    assert!(rt; breaks(rt.alloc(), &run, &shape, 0, 1));
+    assert!(rt; breaks(rt.alloc(), &OTHER_TICKET, &[], 0, 1)?);
     Ok(())
 }
 

@@ -126,7 +126,10 @@ fn a_reader_alone(rt: HostRuntime) -> Result<(), Fail> {
 /// Whether an entry of the reader's is the first that breaks the lists.
 fn breaks(alloc: Global, run: &Run, shape: &DatabaseShape, entry: usize) -> bool {
     let worker = worker(1);
-    versions(alloc, run, shape).err() == Some(AuditFault::NotFollowed { worker, entry })
+    let Err(fault) = versions(alloc, run, shape) else {
+        return false;
+    };
+    fault == AuditFault::NotFollowed { worker, entry }
 }
 
 static EARLY_GET: [Step; 2] = [(1, Read(0), Number(0)), (1, Get(0), Number(0))];

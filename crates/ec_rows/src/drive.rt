@@ -150,11 +150,18 @@ pub(crate) fn run_on(alloc: Global, setup: Setup) -> Result<Run, Fail> {
     Ok(Run::open(alloc, setup)?)
 }
 
-/// A run of these steps, which get their answers.
-pub(crate) fn made(alloc: Global, world: &World, steps: &[Step]) -> Result<Run, Fail> {
-    let setup = declared(alloc, world)?;
+/// A world, and steps with their answers.
+#[derive(Clone, Copy)]
+pub(crate) struct History {
+    pub(crate) world: World,
+    pub(crate) steps: &'static [Step],
+}
+
+/// The run of a history, whose steps get their answers.
+pub(crate) fn run_of(alloc: Global, history: &History) -> Result<Run, Fail> {
+    let setup = declared(alloc, &history.world)?;
     let mut run = run_on(alloc, setup)?;
-    go_through(&mut run, steps)?;
+    go_through(&mut run, history.steps)?;
     Ok(run)
 }
 
@@ -220,6 +227,12 @@ pub(crate) fn sees(run: &Run, sights: &[Sight]) -> Result<(), Fail> {
         }
     }
     Ok(())
+}
+
+/// All of this is seen of the run of a history.
+pub(crate) fn shows(alloc: Global, history: &History, sights: &[Sight]) -> Result<(), Fail> {
+    let run = run_of(alloc, history)?;
+    sees(&run, sights)
 }
 
 /// So many steps of a procedure, or fewer where it ends; whether it has ended.

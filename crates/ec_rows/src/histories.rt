@@ -1,103 +1,97 @@
 //! The worked histories.
 use crate::drive::Ask::{Advance, Await, Go, Read};
 use crate::drive::Told::{Done, Number, Pending};
-use crate::drive::{Line, Step, World, declared, go_through, made, run_on};
+use crate::drive::{History, Line, Step, World, declared, go_through, run_on};
 use ec_core::Run;
 use std::alloc::Global;
 use std::test::Fail;
 
 /// Four workers, of whom the first two signal one eventcount and the last two observe it.
-static TWO_SIGNALLERS: World = World {
+const TWO_SIGNALLERS: World = World {
     limit: 10,
     workers: 4,
     lines: &[Line::Event(&[0, 1], &[2, 3])],
 };
 
-static OVERTAKEN_READ: [Step; 4] = [
-    (2, Read(0), Pending),
-    (0, Advance(0), Done),
-    (1, Advance(0), Done),
-    (2, Go, Number(1)),
-];
-
 /// A read reads its first component before one advance and its second after two.
-pub(crate) fn overtaken_read(alloc: Global) -> Result<Run, Fail> {
-    made(alloc, &TWO_SIGNALLERS, &OVERTAKEN_READ)
-}
-
-static TWO_READS: [Step; 6] = [
-    (2, Read(0), Pending),
-    (0, Advance(0), Done),
-    (3, Read(0), Pending),
-    (3, Go, Number(1)),
-    (1, Advance(0), Done),
-    (2, Go, Number(1)),
-];
+pub(crate) static OVERTAKEN_READ: History = History {
+    world: TWO_SIGNALLERS,
+    steps: &[
+        (2, Read(0), Pending),
+        (0, Advance(0), Done),
+        (1, Advance(0), Done),
+        (2, Go, Number(1)),
+    ],
+};
 
 /// Two reads have the same answer, and the same moment.
-pub(crate) fn two_reads(alloc: Global) -> Result<Run, Fail> {
-    made(alloc, &TWO_SIGNALLERS, &TWO_READS)
-}
-
-static SLOW_READ: [Step; 5] = [
-    (2, Read(0), Pending),
-    (0, Advance(0), Done),
-    (3, Read(0), Pending),
-    (3, Go, Number(1)),
-    (2, Go, Number(0)),
-];
+pub(crate) static TWO_READS: History = History {
+    world: TWO_SIGNALLERS,
+    steps: &[
+        (2, Read(0), Pending),
+        (0, Advance(0), Done),
+        (3, Read(0), Pending),
+        (3, Go, Number(1)),
+        (1, Advance(0), Done),
+        (2, Go, Number(1)),
+    ],
+};
 
 /// A read is under way while another is made, and has the earlier moment.
-pub(crate) fn slow_read(alloc: Global) -> Result<Run, Fail> {
-    made(alloc, &TWO_SIGNALLERS, &SLOW_READ)
-}
-
-static TOTAL_IN_THE_MIDDLE: [Step; 4] = [
-    (2, Read(0), Pending),
-    (1, Advance(0), Done),
-    (1, Advance(0), Done),
-    (2, Go, Number(2)),
-];
+pub(crate) static SLOW_READ: History = History {
+    world: TWO_SIGNALLERS,
+    steps: &[
+        (2, Read(0), Pending),
+        (0, Advance(0), Done),
+        (3, Read(0), Pending),
+        (3, Go, Number(1)),
+        (2, Go, Number(0)),
+    ],
+};
 
 /// A read begins at total 0 and ends at total 2.
-pub(crate) fn total_in_the_middle(alloc: Global) -> Result<Run, Fail> {
-    made(alloc, &TWO_SIGNALLERS, &TOTAL_IN_THE_MIDDLE)
-}
-
-static AWAIT_OF_ROUNDS: [Step; 6] = [
-    (2, Await(0, 2), Pending),
-    (0, Advance(0), Done),
-    (1, Advance(0), Done),
-    (2, Go, Pending),
-    (2, Go, Pending),
-    (2, Go, Number(2)),
-];
+pub(crate) static TOTAL_IN_THE_MIDDLE: History = History {
+    world: TWO_SIGNALLERS,
+    steps: &[
+        (2, Read(0), Pending),
+        (1, Advance(0), Done),
+        (1, Advance(0), Done),
+        (2, Go, Number(2)),
+    ],
+};
 
 /// An await falls short in its first round, which it had begun before the advances.
-pub(crate) fn await_of_rounds(alloc: Global) -> Result<Run, Fail> {
-    made(alloc, &TWO_SIGNALLERS, &AWAIT_OF_ROUNDS)
-}
+pub(crate) static AWAIT_OF_ROUNDS: History = History {
+    world: TWO_SIGNALLERS,
+    steps: &[
+        (2, Await(0, 2), Pending),
+        (0, Advance(0), Done),
+        (1, Advance(0), Done),
+        (2, Go, Pending),
+        (2, Go, Pending),
+        (2, Go, Number(2)),
+    ],
+};
 
 /// Four workers, of whom the third observes an eventcount of the others.
-static THREE_SIGNALLERS: World = World {
+const THREE_SIGNALLERS: World = World {
     limit: 10,
     workers: 4,
     lines: &[Line::Event(&[0, 1, 3], &[2])],
 };
 
-static AWAIT_OF_ZERO: [Step; 3] = [
-    (2, Await(0, 0), Pending),
-    (2, Go, Pending),
-    (2, Go, Number(0)),
-];
-
 /// An await of 0 takes a step for each of three components.
-pub(crate) fn await_of_zero(alloc: Global) -> Result<Run, Fail> {
-    made(alloc, &THREE_SIGNALLERS, &AWAIT_OF_ZERO)
-}
+pub(crate) static AWAIT_OF_ZERO: History = History {
+    world: THREE_SIGNALLERS,
+    steps: &[
+        (2, Await(0, 0), Pending),
+        (2, Go, Pending),
+        (2, Go, Number(0)),
+    ],
+};
 
 /// Sixteen workers that all signal one eventcount, which the first observes.
-static SIXTEEN_SIGNALLERS: World = World {
+const SIXTEEN_SIGNALLERS: World = World {
     limit: 10,
     workers: 16,
     lines: &[Line::Event(
@@ -108,44 +102,42 @@ static SIXTEEN_SIGNALLERS: World = World {
 
 /// A read of 16 components, overtaken 15 times: each step of it but the last is followed by an advance, the last
 /// worker's first.
-static READ_OVERTAKEN_OFTEN: [Step; 31] = [
-    (0, Read(0), Pending),
-    (15, Advance(0), Done),
-    (0, Go, Pending),
-    (14, Advance(0), Done),
-    (0, Go, Pending),
-    (13, Advance(0), Done),
-    (0, Go, Pending),
-    (12, Advance(0), Done),
-    (0, Go, Pending),
-    (11, Advance(0), Done),
-    (0, Go, Pending),
-    (10, Advance(0), Done),
-    (0, Go, Pending),
-    (9, Advance(0), Done),
-    (0, Go, Pending),
-    (8, Advance(0), Done),
-    (0, Go, Pending),
-    (7, Advance(0), Done),
-    (0, Go, Pending),
-    (6, Advance(0), Done),
-    (0, Go, Pending),
-    (5, Advance(0), Done),
-    (0, Go, Pending),
-    (4, Advance(0), Done),
-    (0, Go, Pending),
-    (3, Advance(0), Done),
-    (0, Go, Pending),
-    (2, Advance(0), Done),
-    (0, Go, Pending),
-    (1, Advance(0), Done),
-    (0, Go, Number(8)),
-];
-
-/// That read.
-pub(crate) fn read_overtaken_often(alloc: Global) -> Result<Run, Fail> {
-    made(alloc, &SIXTEEN_SIGNALLERS, &READ_OVERTAKEN_OFTEN)
-}
+pub(crate) static READ_OVERTAKEN_OFTEN: History = History {
+    world: SIXTEEN_SIGNALLERS,
+    steps: &[
+        (0, Read(0), Pending),
+        (15, Advance(0), Done),
+        (0, Go, Pending),
+        (14, Advance(0), Done),
+        (0, Go, Pending),
+        (13, Advance(0), Done),
+        (0, Go, Pending),
+        (12, Advance(0), Done),
+        (0, Go, Pending),
+        (11, Advance(0), Done),
+        (0, Go, Pending),
+        (10, Advance(0), Done),
+        (0, Go, Pending),
+        (9, Advance(0), Done),
+        (0, Go, Pending),
+        (8, Advance(0), Done),
+        (0, Go, Pending),
+        (7, Advance(0), Done),
+        (0, Go, Pending),
+        (6, Advance(0), Done),
+        (0, Go, Pending),
+        (5, Advance(0), Done),
+        (0, Go, Pending),
+        (4, Advance(0), Done),
+        (0, Go, Pending),
+        (3, Advance(0), Done),
+        (0, Go, Pending),
+        (2, Advance(0), Done),
+        (0, Go, Pending),
+        (1, Advance(0), Done),
+        (0, Go, Number(8)),
+    ],
+};
 
 /// One worker that signals and observes.
 static ONE_WORKER: World = World {

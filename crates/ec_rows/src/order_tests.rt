@@ -1,14 +1,15 @@
 //! The finished calls of the worked histories, and their order by points.
 use crate::drive::Ask::{Advance, Await, Read};
 use crate::drive::Told::{Done, Number};
-use crate::drive::{Step, act_of, is_told};
+use crate::drive::{History, Step, act_of, is_told, run_of};
 use crate::histories::{
-    await_of_rounds, await_of_zero, many_advances, overtaken_read, read_overtaken_often, slow_read,
-    total_in_the_middle, two_reads,
+    AWAIT_OF_ROUNDS, AWAIT_OF_ZERO, OVERTAKEN_READ, READ_OVERTAKEN_OFTEN, SLOW_READ,
+    TOTAL_IN_THE_MIDDLE, TWO_READS, many_advances,
 };
 use crate::ids::worker;
+use crate::verify_tests::judged;
 use ec_core::Run;
-use ec_order::{Call, Placed, Verdict, calls, in_order, order, verify};
+use ec_order::{Call, Placed, Verdict, calls, in_order, order};
 use std::alloc::Global;
 use std::test::Fail;
 
@@ -27,8 +28,11 @@ fn is_line(placed: &Placed, line: &Line) -> bool {
 }
 
 /// The order of a run, by a vector.
-fn ordered(alloc: Global, run: &Run) -> Result<Vec<Placed>, Fail> {
-    Ok(order(alloc, run)?)
+pub(crate) fn ordered(alloc: Global, run: &Run) -> Result<Vec<Placed>, Fail> {
+    match order(alloc, run) {
+        Ok(placed) => Ok(placed),
+        Err(_) => Err(Fail::new("no order")),
+    }
 }
 
 /// Whether the placed call at a place is the one of a line.
@@ -39,11 +43,17 @@ fn is_at(placed: &[Placed], place: usize, line: &Line) -> bool {
     }
 }
 
-/// The order of a run is these lines.
-fn has_order(alloc: Global, run: &Run, lines: &[Line]) -> Result<(), Fail> {
-    let placed = ordered(alloc, run)?;
+/// The order of the run of a history is these lines.
+fn has_order(alloc: Global, history: &History, lines: &[Line]) -> Result<(), Fail> {
+    let run = run_of(alloc, history)?;
+    let placed = ordered(alloc, &run)?;
+    is_order(placed.as_slice(), lines)
+}
+
+/// An order is these lines.
+fn is_order(placed: &[Placed], lines: &[Line]) -> Result<(), Fail> {
     for (place, line) in lines.iter().enumerate() {
-        if !is_at(placed.as_slice(), place, line) {
+        if !is_at(placed, place, line) {
             return Err(Fail::new(format_args!("another call at place {place}")));
         }
     }
@@ -54,7 +64,7 @@ fn has_order(alloc: Global, run: &Run, lines: &[Line]) -> Result<(), Fail> {
     }
 }
 
-static OVERTAKEN_READ: [Line; 3] = [
+static ORDER_OF_OVERTAKEN_READ: [Line; 3] = [
     (1, (0, Advance(0), Done)),
     (2, (2, Read(0), Number(1))),
     (2, (1, Advance(0), Done)),
@@ -62,11 +72,10 @@ static OVERTAKEN_READ: [Line; 3] = [
 
 #[test]
 fn a_read_overtaken_by_an_advance(rt: HostRuntime) -> Result<(), Fail> {
-    let run = overtaken_read(rt.alloc())?;
-    has_order(rt.alloc(), &run, &OVERTAKEN_READ)
+    has_order(rt.alloc(), &OVERTAKEN_READ, &ORDER_OF_OVERTAKEN_READ)
 }
 
-static TWO_READS: [Line; 4] = [
+static ORDER_OF_TWO_READS: [Line; 4] = [
     (1, (0, Advance(0), Done)),
     (2, (3, Read(0), Number(1))),
     (2, (2, Read(0), Number(1))),
@@ -75,11 +84,10 @@ static TWO_READS: [Line; 4] = [
 
 #[test]
 fn two_reads_at_one_moment(rt: HostRuntime) -> Result<(), Fail> {
-    let run = two_reads(rt.alloc())?;
-    has_order(rt.alloc(), &run, &TWO_READS)
+    has_order(rt.alloc(), &TWO_READS, &ORDER_OF_TWO_READS)
 }
 
-static SLOW_READ: [Line; 3] = [
+static ORDER_OF_SLOW_READ: [Line; 3] = [
     (0, (2, Read(0), Number(0))),
     (1, (0, Advance(0), Done)),
     (2, (3, Read(0), Number(1))),
@@ -87,13 +95,13 @@ static SLOW_READ: [Line; 3] = [
 
 #[test]
 fn a_read_that_ends_last_and_stands_first(rt: HostRuntime) -> Result<(), Fail> {
-    let run = slow_read(rt.alloc())?;
-    has_order(rt.alloc(), &run, &SLOW_READ)
+    has_order(rt.alloc(), &SLOW_READ, &ORDER_OF_SLOW_READ)
 }
 
-/// The order of a run, one call after another, is these lines.
-fn comes_in_order(alloc: Global, run: &Run, lines: &[Line]) -> Result<(), Fail> {
-    let mut placed = in_order(alloc, run)?;
+/// The order of the run of a history, one call after another, is these lines.
+fn comes_in_order(alloc: Global, history: &History, lines: &[Line]) -> Result<(), Fail> {
+    let run = run_of(alloc, history)?;
+    let mut placed = in_order(alloc, &run)?;
     for line in lines {
         let Some(found) = placed.next() else {
             return Err(Fail::new("fewer calls"));
@@ -110,11 +118,10 @@ fn comes_in_order(alloc: Global, run: &Run, lines: &[Line]) -> Result<(), Fail> 
 
 #[test]
 fn the_order_one_call_after_another(rt: HostRuntime) -> Result<(), Fail> {
-    let run = slow_read(rt.alloc())?;
-    comes_in_order(rt.alloc(), &run, &SLOW_READ)
+    comes_in_order(rt.alloc(), &SLOW_READ, &ORDER_OF_SLOW_READ)
 }
 
-static TOTAL_IN_THE_MIDDLE: [Line; 3] = [
+static ORDER_OF_TOTAL_IN_THE_MIDDLE: [Line; 3] = [
     (1, (1, Advance(0), Done)),
     (2, (1, Advance(0), Done)),
     (3, (2, Read(0), Number(2))),
@@ -122,11 +129,14 @@ static TOTAL_IN_THE_MIDDLE: [Line; 3] = [
 
 #[test]
 fn a_total_that_stood_in_the_middle(rt: HostRuntime) -> Result<(), Fail> {
-    let run = total_in_the_middle(rt.alloc())?;
-    has_order(rt.alloc(), &run, &TOTAL_IN_THE_MIDDLE)
+    has_order(
+        rt.alloc(),
+        &TOTAL_IN_THE_MIDDLE,
+        &ORDER_OF_TOTAL_IN_THE_MIDDLE,
+    )
 }
 
-static AWAIT_OF_ROUNDS: [Line; 3] = [
+static ORDER_OF_AWAIT_OF_ROUNDS: [Line; 3] = [
     (1, (0, Advance(0), Done)),
     (2, (1, Advance(0), Done)),
     (4, (2, Await(0, 2), Number(2))),
@@ -134,8 +144,7 @@ static AWAIT_OF_ROUNDS: [Line; 3] = [
 
 #[test]
 fn an_await_of_three_rounds(rt: HostRuntime) -> Result<(), Fail> {
-    let run = await_of_rounds(rt.alloc())?;
-    has_order(rt.alloc(), &run, &AWAIT_OF_ROUNDS)
+    has_order(rt.alloc(), &AWAIT_OF_ROUNDS, &ORDER_OF_AWAIT_OF_ROUNDS)
 }
 
 /// The number of finished calls of a run, and whether one of them is this call, with these places of its first
@@ -159,18 +168,17 @@ static THE_AWAIT: Step = (2, Await(0, 2), Number(2));
 
 #[test]
 fn the_last_round_of_an_await(rt: HostRuntime) -> Result<(), Fail> {
-    let run = await_of_rounds(rt.alloc())?;
+    let run = run_of(rt.alloc(), &AWAIT_OF_ROUNDS)?;
     let found = has_call(rt.alloc(), &run, 2, &THE_AWAIT, (0, 4, 5))?;
     assert!(rt; found == (3, true));
     Ok(())
 }
 
-static AWAIT_OF_ZERO: [Line; 1] = [(0, (2, Await(0, 0), Number(0)))];
+static ORDER_OF_AWAIT_OF_ZERO: [Line; 1] = [(0, (2, Await(0, 0), Number(0)))];
 
 #[test]
 fn an_await_of_zero_on_three_components(rt: HostRuntime) -> Result<(), Fail> {
-    let run = await_of_zero(rt.alloc())?;
-    has_order(rt.alloc(), &run, &AWAIT_OF_ZERO)
+    has_order(rt.alloc(), &AWAIT_OF_ZERO, &ORDER_OF_AWAIT_OF_ZERO)
 }
 
 /// The read and its neighbours, at places 7 to 9 of 16.
@@ -182,7 +190,7 @@ static AROUND_THE_READ: [(usize, Line); 3] = [
 
 #[test]
 fn a_read_overtaken_fifteen_times_has_point_16(rt: HostRuntime) -> Result<(), Fail> {
-    let run = read_overtaken_often(rt.alloc())?;
+    let run = run_of(rt.alloc(), &READ_OVERTAKEN_OFTEN)?;
     let placed = ordered(rt.alloc(), &run)?;
     assert!(rt; placed.len() == 16);
     for (place, line) in &AROUND_THE_READ {
@@ -193,17 +201,12 @@ fn a_read_overtaken_fifteen_times_has_point_16(rt: HostRuntime) -> Result<(), Fa
 
 static LATE_READ: Line = (8193, (0, Read(0), Number(8193)));
 
-/// Whether an order of a run is a good one.
-fn is_good(alloc: Global, run: &Run, placed: &[Placed]) -> Result<bool, Fail> {
-    Ok(verify(alloc, run, placed)? == Verdict::Good)
-}
-
 #[test]
 fn a_read_after_8193_advances_has_point_8193(rt: HostRuntime) -> Result<(), Fail> {
     let run = many_advances(rt.alloc())?;
     let placed = ordered(rt.alloc(), &run)?;
     assert!(rt; placed.len() == 8194);
     assert!(rt; is_at(placed.as_slice(), 8193, &LATE_READ));
-    assert!(rt; is_good(rt.alloc(), &run, placed.as_slice())?);
+    assert!(rt; judged(rt.alloc(), &run, placed.as_slice())? == Verdict::Good);
     Ok(())
 }

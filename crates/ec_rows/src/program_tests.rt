@@ -2,7 +2,8 @@
 use crate::drive::Ask::{Advance, Await, Get, Go, Put, Read, Ticket};
 use crate::drive::Told::{Done, Number, Pending};
 use crate::drive::{
-    Ask, Line, Sight, Step, World, act_of, declared, go_through, made, run_on, sees, workers,
+    Ask, History, Line, Sight, Step, World, act_of, declared, go_through, run_of, run_on, sees,
+    workers,
 };
 use crate::ids::{cell, event, sequencer, worker};
 use ec_core::{Act, Reply, Run, VALUE_MAX};
@@ -78,7 +79,7 @@ fn makes_one(commands: Vec<Command>) -> bool {
 
 /// The first worker signals an eventcount and may put into a cell and get from it; the second observes the
 /// eventcount and draws tickets.
-static COUNTED: World = World {
+const COUNTED: World = World {
     limit: 10,
     workers: 2,
     lines: &[
@@ -107,14 +108,17 @@ fn waits_for_its_ticket(alloc: Global) -> Result<Program, Fail> {
 }
 
 /// The second worker draws 0, waits for a total of 1, and reads 2.
-static WAITED: [Step; 6] = [
-    (1, Ticket(0), Number(0)),
-    (1, Await(0, 1), Pending),
-    (0, Advance(0), Done),
-    (1, Go, Number(1)),
-    (0, Advance(0), Done),
-    (1, Read(0), Number(2)),
-];
+static WAITED: History = History {
+    world: COUNTED,
+    steps: &[
+        (1, Ticket(0), Number(0)),
+        (1, Await(0, 1), Pending),
+        (0, Advance(0), Done),
+        (1, Go, Number(1)),
+        (0, Advance(0), Done),
+        (1, Read(0), Number(2)),
+    ],
+};
 
 static WAITS: [usize; 6] = [1, 1, 0, 1, 0, 1];
 
@@ -145,7 +149,7 @@ fn off(alloc: Global, run: &Run, only_first: bool) -> Result<Option<usize>, Fail
 fn a_ticket_is_waited_for(rt: HostRuntime) -> Result<(), Fail> {
     let (run, are_over) = waited(rt.alloc())?;
     assert!(rt; are_over);
-    let expected = made(rt.alloc(), &COUNTED, &WAITED)?;
+    let expected = run_of(rt.alloc(), &WAITED)?;
     assert!(rt; is_same(&run, &expected));
     assert!(rt; off(rt.alloc(), &run, false)?.is_none());
     Ok(())
@@ -153,13 +157,15 @@ fn a_ticket_is_waited_for(rt: HostRuntime) -> Result<(), Fail> {
 
 /// Who is first off its program, where there is none.
 fn off_none(run: &Run) -> Option<usize> {
-    let worker = follows(run, &[])?;
-    Some(worker.get())
+    match follows(run, &[]) {
+        Some(worker) => Some(worker.get()),
+        None => None,
+    }
 }
 
 #[test]
 fn a_missing_program_is_empty(rt: HostRuntime) -> Result<(), Fail> {
-    let run = made(rt.alloc(), &COUNTED, &WAITED)?;
+    let run = run_of(rt.alloc(), &WAITED)?;
     assert!(rt; off_none(&run) == Some(0));
     let none = counted(rt.alloc())?;
     assert!(rt; off_none(&none).is_none());
@@ -168,7 +174,7 @@ fn a_missing_program_is_empty(rt: HostRuntime) -> Result<(), Fail> {
 
 #[test]
 fn the_first_worker_off_its_program_is_named(rt: HostRuntime) -> Result<(), Fail> {
-    let run = made(rt.alloc(), &COUNTED, &WAITED)?;
+    let run = run_of(rt.alloc(), &WAITED)?;
     assert!(rt; off(rt.alloc(), &run, true)? == Some(1));
     Ok(())
 }

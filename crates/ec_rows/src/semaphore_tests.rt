@@ -167,7 +167,10 @@ fn breaks_pairs(
     entry: usize,
 ) -> bool {
     let worker = worker(0);
-    pairs(alloc, run, both, handed).err() == Some(AuditFault::NotFollowed { worker, entry })
+    let Err(fault) = pairs(alloc, run, both, handed) else {
+        return false;
+    };
+    fault == AuditFault::NotFollowed { worker, entry }
 }
 
 /// Whether these steps break the lists of both first at this entry.

@@ -2,11 +2,11 @@
 use crate::drive::Ask::{Advance, Await, Get, Go, Put, Read, Ticket};
 use crate::drive::Told::{Done, Number, Pending, Refused};
 use crate::drive::{
-    Line, Sight, Step, World, act_of, declared, go_through, is_told, made, run_on, sees,
+    History, Line, Sight, Step, World, act_of, declared, is_told, run_of, sees, shows,
 };
 use crate::histories::{
-    await_of_rounds, await_of_zero, many_advances, overtaken_read, read_overtaken_often,
-    total_in_the_middle, two_reads,
+    AWAIT_OF_ROUNDS, AWAIT_OF_ZERO, OVERTAKEN_READ, READ_OVERTAKEN_OFTEN, TOTAL_IN_THE_MIDDLE,
+    TWO_READS, many_advances,
 };
 use crate::ids::{event, worker};
 use ec_core::{Refusal, Run, StepFault, VALUE_MAX, World as Worlds, without};
@@ -17,16 +17,14 @@ static AFTER_OVERTAKEN_READ: [Sight; 2] = [Sight::Length(4), Sight::Total(0, Som
 
 #[test]
 fn a_read_overtaken_by_an_advance(rt: HostRuntime) -> Result<(), Fail> {
-    let run = overtaken_read(rt.alloc())?;
-    sees(&run, &AFTER_OVERTAKEN_READ)
+    shows(rt.alloc(), &OVERTAKEN_READ, &AFTER_OVERTAKEN_READ)
 }
 
 static AFTER_TWO_READS: [Sight; 2] = [Sight::Length(6), Sight::Total(0, Some(2))];
 
 #[test]
 fn two_reads_at_one_moment(rt: HostRuntime) -> Result<(), Fail> {
-    let run = two_reads(rt.alloc())?;
-    sees(&run, &AFTER_TWO_READS)
+    shows(rt.alloc(), &TWO_READS, &AFTER_TWO_READS)
 }
 
 static COMPONENTS: [Sight; 2] = [
@@ -36,8 +34,7 @@ static COMPONENTS: [Sight; 2] = [
 
 #[test]
 fn a_total_that_stood_in_the_middle(rt: HostRuntime) -> Result<(), Fail> {
-    let run = total_in_the_middle(rt.alloc())?;
-    sees(&run, &COMPONENTS)
+    shows(rt.alloc(), &TOTAL_IN_THE_MIDDLE, &COMPONENTS)
 }
 
 static AFTER_ROUNDS: [Sight; 2] = [
@@ -47,82 +44,88 @@ static AFTER_ROUNDS: [Sight; 2] = [
 
 #[test]
 fn an_await_of_three_rounds(rt: HostRuntime) -> Result<(), Fail> {
-    let run = await_of_rounds(rt.alloc())?;
-    sees(&run, &AFTER_ROUNDS)
+    shows(rt.alloc(), &AWAIT_OF_ROUNDS, &AFTER_ROUNDS)
 }
 
 /// Two workers that signal an eventcount, which the second observes.
-static SIGNALLER_AND_OBSERVER: World = World {
+const SIGNALLER_AND_OBSERVER: World = World {
     limit: 10,
     workers: 2,
     lines: &[Line::Event(&[0, 1], &[1])],
 };
 
-static FALLS_SHORT: [Step; 2] = [(0, Advance(0), Done), (1, Await(0, 2), Pending)];
+static BEGINS: History = History {
+    world: SIGNALLER_AND_OBSERVER,
+    steps: &[(0, Advance(0), Done), (1, Await(0, 2), Pending)],
+};
 
 static HALF_A_ROUND: [Sight; 1] = [Sight::UnderWay(1, Some((Await(0, 2), 1, 1)))];
 
-static GOES_ON: [Step; 1] = [(1, Go, Pending)];
+static FALLS_SHORT: History = History {
+    world: SIGNALLER_AND_OBSERVER,
+    steps: &[
+        (0, Advance(0), Done),
+        (1, Await(0, 2), Pending),
+        (1, Go, Pending),
+    ],
+};
 
 static NO_ROUND: [Sight; 1] = [Sight::UnderWay(1, Some((Await(0, 2), 0, 0)))];
 
 #[test]
 fn an_await_that_has_just_fallen_short(rt: HostRuntime) -> Result<(), Fail> {
-    let mut run = made(rt.alloc(), &SIGNALLER_AND_OBSERVER, &FALLS_SHORT)?;
-    sees(&run, &HALF_A_ROUND)?;
-    go_through(&mut run, &GOES_ON)?;
-    sees(&run, &NO_ROUND)
+    shows(rt.alloc(), &BEGINS, &HALF_A_ROUND)?;
+    shows(rt.alloc(), &FALLS_SHORT, &NO_ROUND)
 }
 
 static AFTER_ZERO: [Sight; 2] = [Sight::Length(3), Sight::Total(0, Some(0))];
 
 #[test]
 fn an_await_of_zero_on_three_components(rt: HostRuntime) -> Result<(), Fail> {
-    let run = await_of_zero(rt.alloc())?;
-    sees(&run, &AFTER_ZERO)
+    shows(rt.alloc(), &AWAIT_OF_ZERO, &AFTER_ZERO)
 }
 
 /// Two workers signal an eventcount under limit 2, and the third observes it.
-static LIMIT_OF_TWO: World = World {
-    limit: 2,
-    workers: 3,
-    lines: &[Line::Event(&[0, 1], &[2])],
+static UP_TO_THE_LIMIT: History = History {
+    world: World {
+        limit: 2,
+        workers: 3,
+        lines: &[Line::Event(&[0, 1], &[2])],
+    },
+    steps: &[
+        (0, Advance(0), Done),
+        (0, Advance(0), Done),
+        (0, Advance(0), Refused(Refusal::AtLimit)),
+        (1, Advance(0), Done),
+    ],
 };
-
-static UP_TO_THE_LIMIT: [Step; 4] = [
-    (0, Advance(0), Done),
-    (0, Advance(0), Done),
-    (0, Advance(0), Refused(Refusal::AtLimit)),
-    (1, Advance(0), Done),
-];
 
 static AFTER_THE_LIMIT: [Sight; 2] = [Sight::Length(3), Sight::Total(0, Some(3))];
 
 #[test]
 fn the_other_component_still_goes_at_the_limit(rt: HostRuntime) -> Result<(), Fail> {
-    let run = made(rt.alloc(), &LIMIT_OF_TWO, &UP_TO_THE_LIMIT)?;
-    sees(&run, &AFTER_THE_LIMIT)
+    shows(rt.alloc(), &UP_TO_THE_LIMIT, &AFTER_THE_LIMIT)
 }
 
 /// One worker takes tickets under limit 2.
-static TWO_TICKETS: World = World {
-    limit: 2,
-    workers: 1,
-    lines: &[Line::Sequencer(&[0])],
+static TICKETS: History = History {
+    world: World {
+        limit: 2,
+        workers: 1,
+        lines: &[Line::Sequencer(&[0])],
+    },
+    steps: &[
+        (0, Ticket(0), Number(0)),
+        (0, Ticket(0), Number(1)),
+        (0, Ticket(0), Refused(Refusal::AtLimit)),
+    ],
 };
-
-static TICKETS: [Step; 3] = [
-    (0, Ticket(0), Number(0)),
-    (0, Ticket(0), Number(1)),
-    (0, Ticket(0), Refused(Refusal::AtLimit)),
-];
 
 static ISSUED: [Sight; 1] = [Sight::Issued(0, Some(2))];
 
 #[test]
 fn tickets_up_to_the_limit(rt: HostRuntime) -> Result<(), Fail> {
-    let run = made(rt.alloc(), &TWO_TICKETS, &TICKETS)?;
-    sees(&run, &ISSUED)
+    shows(rt.alloc(), &TICKETS, &ISSUED)
 }
 
 static AFTER_FIFTEEN: [Sight; 2] = [Sight::Length(31), Sight::Total(0, Some(15))];
@@ -140,7 +143,7 @@ fn is_copied(run: &Run, most: usize) -> Result<bool, Fail> {
 
 #[test]
 fn a_read_of_sixteen_components_overtaken_fifteen_times(rt: HostRuntime) -> Result<(), Fail> {
-    let run = read_overtaken_often(rt.alloc())?;
+    let run = run_of(rt.alloc(), &READ_OVERTAKEN_OFTEN)?;
     sees(&run, &AFTER_FIFTEEN)?;
     assert!(rt; is_copied(&run, 31)?);
     Ok(())
@@ -163,7 +166,7 @@ static TWO_ADVANCES: [Sight; 3] = [
 
 #[test]
 fn an_overtaken_read_without_its_reader_is_two_advances(rt: HostRuntime) -> Result<(), Fail> {
-    let run = overtaken_read(rt.alloc())?;
+    let run = run_of(rt.alloc(), &OVERTAKEN_READ)?;
     let rest = without_the_third(&run)?;
     sees(&rest, &TWO_ADVANCES)
 }
@@ -188,84 +191,91 @@ fn eight_thousand_advances_and_a_read(rt: HostRuntime) -> Result<(), Fail> {
 }
 
 /// One worker writes and reads a cell.
-static ONE_CELL: World = World {
-    limit: 10,
-    workers: 1,
-    lines: &[Line::Cells(1, &[0], &[0])],
+static PUTS: History = History {
+    world: World {
+        limit: 10,
+        workers: 1,
+        lines: &[Line::Cells(1, &[0], &[0])],
+    },
+    steps: &[
+        (0, Put(0, 7), Done),
+        (
+            0,
+            Put(0, 1_000_000_000_000_000_000),
+            Refused(Refusal::ValueTooLarge),
+        ),
+        (0, Get(0), Number(7)),
+        (0, Put(0, 999_999_999_999_999_999), Done),
+        (0, Get(0), Number(999_999_999_999_999_999)),
+    ],
 };
-
-static PUTS: [Step; 5] = [
-    (0, Put(0, 7), Done),
-    (
-        0,
-        Put(0, 1_000_000_000_000_000_000),
-        Refused(Refusal::ValueTooLarge),
-    ),
-    (0, Get(0), Number(7)),
-    (0, Put(0, 999_999_999_999_999_999), Done),
-    (0, Get(0), Number(999_999_999_999_999_999)),
-];
 
 static GREATEST: [Sight; 1] = [Sight::Cell(0, Some(VALUE_MAX))];
 
 #[test]
 fn the_greatest_value_is_put_and_no_greater_one(rt: HostRuntime) -> Result<(), Fail> {
-    let run = made(rt.alloc(), &ONE_CELL, &PUTS)?;
-    sees(&run, &GREATEST)
+    shows(rt.alloc(), &PUTS, &GREATEST)
 }
 
 /// Two workers signal an eventcount, and the third observes it.
-static TWO_AND_ONE: World = World {
-    limit: 10,
-    workers: 3,
-    lines: &[Line::Event(&[0, 1], &[2])],
+static IDLE_AND_BUSY: History = History {
+    world: World {
+        limit: 10,
+        workers: 3,
+        lines: &[Line::Event(&[0, 1], &[2])],
+    },
+    steps: &[
+        (2, Go, Refused(Refusal::Idle)),
+        (2, Read(0), Pending),
+        (2, Read(0), Refused(Refusal::Busy)),
+        (2, Go, Number(0)),
+        (2, Go, Refused(Refusal::Idle)),
+    ],
 };
-
-static IDLE_AND_BUSY: [Step; 5] = [
-    (2, Go, Refused(Refusal::Idle)),
-    (2, Read(0), Pending),
-    (2, Read(0), Refused(Refusal::Busy)),
-    (2, Go, Number(0)),
-    (2, Go, Refused(Refusal::Idle)),
-];
 
 static TWO_ENTRIES: [Sight; 1] = [Sight::Length(2)];
 
 #[test]
 fn go_while_idle_and_a_read_while_busy(rt: HostRuntime) -> Result<(), Fail> {
-    let run = made(rt.alloc(), &TWO_AND_ONE, &IDLE_AND_BUSY)?;
-    sees(&run, &TWO_ENTRIES)
+    shows(rt.alloc(), &IDLE_AND_BUSY, &TWO_ENTRIES)
 }
 
 /// One worker signals an eventcount, and the other observes it.
-static ONE_AND_ONE: World = World {
+const ONE_AND_ONE: World = World {
     limit: 10,
     workers: 2,
     lines: &[Line::Event(&[0], &[1])],
 };
 
-static NOT_PERMITTED: [Step; 8] = [
-    (2, Advance(0), Refused(Refusal::UnknownWorker)),
-    (0, Advance(1), Refused(Refusal::UnknownObject)),
-    (0, Ticket(0), Refused(Refusal::UnknownObject)),
-    (0, Get(0), Refused(Refusal::UnknownObject)),
-    (0, Read(0), Refused(Refusal::NoRight)),
-    (1, Advance(0), Refused(Refusal::NoRight)),
-    (
-        1,
-        Await(0, 1_000_000_000_000_000_000),
-        Refused(Refusal::ValueTooLarge),
-    ),
-    (1, Await(0, VALUE_MAX), Pending),
-];
+static NOT_PERMITTED: History = History {
+    world: ONE_AND_ONE,
+    steps: &[
+        (2, Advance(0), Refused(Refusal::UnknownWorker)),
+        (0, Advance(1), Refused(Refusal::UnknownObject)),
+        (0, Ticket(0), Refused(Refusal::UnknownObject)),
+        (0, Get(0), Refused(Refusal::UnknownObject)),
+        (0, Read(0), Refused(Refusal::NoRight)),
+        (1, Advance(0), Refused(Refusal::NoRight)),
+        (
+            1,
+            Await(0, 1_000_000_000_000_000_000),
+            Refused(Refusal::ValueTooLarge),
+        ),
+        (1, Await(0, VALUE_MAX), Pending),
+    ],
+};
 
 static ONE_ENTRY: [Sight; 1] = [Sight::Length(1)];
 
 #[test]
 fn what_is_not_declared_or_not_permitted(rt: HostRuntime) -> Result<(), Fail> {
-    let run = made(rt.alloc(), &ONE_AND_ONE, &NOT_PERMITTED)?;
-    sees(&run, &ONE_ENTRY)
+    shows(rt.alloc(), &NOT_PERMITTED, &ONE_ENTRY)
 }
+
+static NO_STEPS: History = History {
+    world: ONE_AND_ONE,
+    steps: &[],
+};
 
 static NOTHING: [Sight; 4] = [
     Sight::Length(0),
@@ -276,9 +286,7 @@ static NOTHING: [Sight; 4] = [
 
 #[test]
 fn a_run_without_steps(rt: HostRuntime) -> Result<(), Fail> {
-    let setup = declared(rt.alloc(), &ONE_AND_ONE)?;
-    let run = run_on(rt.alloc(), setup)?;
-    sees(&run, &NOTHING)
+    shows(rt.alloc(), &NO_STEPS, &NOTHING)
 }
 
 /// One worker signals and observes an eventcount under limit 1.

@@ -1,10 +1,11 @@
 //! What is first wrong with an order.
 use crate::drive::Ask::{Advance, Await, Read};
-use crate::drive::{Ask, act_of};
-use crate::histories::{await_of_rounds, overtaken_read};
+use crate::drive::{Ask, History, act_of, run_of};
+use crate::histories::{AWAIT_OF_ROUNDS, OVERTAKEN_READ};
 use crate::ids::worker;
+use crate::order_tests::ordered;
 use ec_core::{Reply, Run};
-use ec_order::{Call, Placed, Verdict, order, verify};
+use ec_order::{Call, Placed, Verdict, verify};
 use std::alloc::Global;
 use std::test::Fail;
 
@@ -26,19 +27,28 @@ fn placed(row: &Row) -> Placed {
     Placed { call, point }
 }
 
+/// What is said of an order.
+pub(crate) fn judged(alloc: Global, run: &Run, placed: &[Placed]) -> Result<Verdict, Fail> {
+    match verify(alloc, run, placed) {
+        Ok(verdict) => Ok(verdict),
+        Err(_) => Err(Fail::new("no verdict")),
+    }
+}
+
 /// What is said of an order of these rows.
 fn verdict(alloc: Global, run: &Run, rows: &[Row]) -> Result<Verdict, Fail> {
     let mut list = Vec::new(alloc);
     for row in rows {
         list.push(placed(row))?;
     }
-    Ok(verify(alloc, run, list.as_slice())?)
+    judged(alloc, run, list.as_slice())
 }
 
-/// Orders of a run, and what is said of each.
-fn are_judged(alloc: Global, run: &Run, cases: &[(&[Row], Verdict)]) -> Result<(), Fail> {
+/// Of orders of the run of a history is said what their rows say.
+fn are_judged(alloc: Global, history: &History, cases: &[(&[Row], Verdict)]) -> Result<(), Fail> {
+    let run = run_of(alloc, history)?;
     for (place, (rows, right)) in cases.iter().enumerate() {
-        if verdict(alloc, run, rows)? != *right {
+        if verdict(alloc, &run, rows)? != *right {
             return Err(Fail::new(format_args!("another verdict at row {place}")));
         }
     }
@@ -60,17 +70,17 @@ const EARLY_AWAIT: Row = (2, Await(0, 2), Reply::Number(2), 0, 4, 5, 3);
 
 static GOOD: [(&[Row], Verdict); 1] = [(&[FIRST, OVERTAKEN, SECOND], Verdict::Good)];
 
-/// Whether the order of a run is good.
-fn has_good_order(alloc: Global, run: &Run) -> Result<bool, Fail> {
-    let list = order(alloc, run)?;
-    Ok(verify(alloc, run, list.as_slice())? == Verdict::Good)
+/// Whether the order of the run of a history is good.
+fn has_good_order(alloc: Global, history: &History) -> Result<bool, Fail> {
+    let run = run_of(alloc, history)?;
+    let list = ordered(alloc, &run)?;
+    Ok(judged(alloc, &run, list.as_slice())? == Verdict::Good)
 }
 
 #[test]
 fn an_order_with_points_is_good(rt: HostRuntime) -> Result<(), Fail> {
-    let run = overtaken_read(rt.alloc())?;
-    assert!(rt; has_good_order(rt.alloc(), &run)?);
-    are_judged(rt.alloc(), &run, &GOOD)
+    assert!(rt; has_good_order(rt.alloc(), &OVERTAKEN_READ)?);
+    are_judged(rt.alloc(), &OVERTAKEN_READ, &GOOD)
 }
 
 static FOUR_BROKEN: [(&[Row], Verdict); 4] = [
@@ -82,8 +92,7 @@ static FOUR_BROKEN: [(&[Row], Verdict); 4] = [
 
 #[test]
 fn four_broken_orders(rt: HostRuntime) -> Result<(), Fail> {
-    let run = overtaken_read(rt.alloc())?;
-    are_judged(rt.alloc(), &run, &FOUR_BROKEN)
+    are_judged(rt.alloc(), &OVERTAKEN_READ, &FOUR_BROKEN)
 }
 
 static POINTS_OF_AN_AWAIT: [(&[Row], Verdict); 2] = [
@@ -93,8 +102,7 @@ static POINTS_OF_AN_AWAIT: [(&[Row], Verdict); 2] = [
 
 #[test]
 fn the_point_of_an_await_is_in_its_last_round(rt: HostRuntime) -> Result<(), Fail> {
-    let run = await_of_rounds(rt.alloc())?;
-    are_judged(rt.alloc(), &run, &POINTS_OF_AN_AWAIT)
+    are_judged(rt.alloc(), &AWAIT_OF_ROUNDS, &POINTS_OF_AN_AWAIT)
 }
 
 static NOT_OF_THE_RUN: [(&[Row], Verdict); 2] = [
@@ -107,6 +115,5 @@ static NOT_OF_THE_RUN: [(&[Row], Verdict); 2] = [
 
 #[test]
 fn a_call_that_is_not_of_the_run_is_missing(rt: HostRuntime) -> Result<(), Fail> {
-    let run = overtaken_read(rt.alloc())?;
-    are_judged(rt.alloc(), &run, &NOT_OF_THE_RUN)
+    are_judged(rt.alloc(), &OVERTAKEN_READ, &NOT_OF_THE_RUN)
 }
