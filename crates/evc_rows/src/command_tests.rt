@@ -40,11 +40,11 @@ impl Failing {
         }
     }
 
-    /// How many calls may fail where nothing does: the last read finds the end.
-    fn calls(self, read: usize, written: usize, most: usize) -> usize {
+    /// Whether a command that read and wrote so many bytes made no call of this number: its last read finds the end.
+    fn is_past(self, read: usize, written: usize, most: usize, k: usize) -> bool {
         match self {
-            Failing::Read => read.div_ceil(most.max(1)).saturating_add(1),
-            Failing::Write(_) => written.div_ceil(most.max(1)),
+            Failing::Read => k == read.div_ceil(most.max(1)).saturating_add(1),
+            Failing::Write(_) => k >= written.div_ceil(most.max(1)),
         }
     }
 
@@ -101,15 +101,15 @@ fn told_at<H: Threads + Wait + Sync>(
     }
 }
 
-/// The calls before this one have failed, each in its turn, and were told so: this one is never made, and all is right.
-fn right_behind(
+/// A call of this number is not made, and all is right.
+fn right_before(
     alloc: Global,
     worked: &Worked,
     told: &Told,
-    calls: usize,
+    is_past: bool,
     k: usize,
 ) -> Result<(), Fail> {
-    if k == calls && told.is_whole(alloc, worked) {
+    if is_past && told.is_whole(alloc, worked) {
         Ok(())
     } else {
         Err(Fail::new(format_args!("another ending at call {k}")))
@@ -127,8 +127,8 @@ fn each_fault_is_told<H: Threads + Wait + Sync>(
     for k in 0..10_000 {
         let told = told_at(rt, alloc, worked, failing, most, k);
         if !told.is_front(alloc, worked, failing.notes(), failing.given(most, k)) {
-            let calls = failing.calls(worked.text.len(), told.out.len(), most);
-            return right_behind(alloc, worked, &told, calls, k);
+            let is_past = failing.is_past(worked.text.len(), told.out.len(), most, k);
+            return right_before(alloc, worked, &told, is_past, k);
         }
     }
     Err(Fail::new(format_args!("each call fails")))
