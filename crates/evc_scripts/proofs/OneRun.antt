@@ -21,7 +21,7 @@ use Rattle.evc_engine.specs.declared.status.Status.TheVariants.{Done, Refused}
 use Rattle.evc_engine.specs.Checks.{Outlets}
 use Rattle.evc_scripts.specs.OutcomeNotes.{outcomes_note}
 use Rattle.evc_scripts.specs.SimLaws.{LinesPlayAlike, PlansHaveOneRun, SimsHaveOneText, EndedPlansAreNotPlayed, PlansEndAtOnePlace, SimsEndOneWay}
-use Rattle.evc_scripts.specs.Sims.{IsTraceUnder, EndsEarly, IsPlayed, PlanEnds, SaysPlan}
+use Rattle.evc_scripts.specs.Sims.{IsTraceUnder, IsPlayed, PlanEnds, SaysPlan}
 use Rattle.evc_scripts.proofs.SameLines.{same_next, same_outcome}
 
 -- PROGRAMS OF THE SAME LINES
