@@ -1,12 +1,50 @@
 -- Laws of `sim` and `run`.
-use Rattle.std.specs.Prelude.{◌≡◌, ◌≤◌, ℕ, List, reverse, length, Ok}
+use Rattle.std.specs.Prelude.{◌≡◌, ◌≤◌, ℕ, List, map, reverse, length, Ok}
+use Rattle.ec_count.specs.Tables.{Tables}
+use Rattle.ec_machine.specs.declared.command.Command.{Command}
+use Rattle.ec_machine.specs.declared.outcome.Outcome.{Outcome}
 use Rattle.ec_trace.specs.Outcome.{outcome}
 use Rattle.ec_trace.specs.declared.read.TheConstants.{TRACE_MAX}
+use Rattle.ec_script.specs.Flat.{flat}
 use Rattle.ec_script.specs.Scripted.{Planned}
-use Rattle.ec_runner.specs.Schedules.{entries_of}
+use Rattle.ec_runner.specs.Schedules.{Turn, Plays, entries_of, outcome_after}
 use Rattle.evc_engine.specs.declared.status.Status.{Status}
-use Rattle.evc_scripts.specs.Sims.{IsPlayed}
+use Rattle.evc_engine.specs.declared.status.Status.TheVariants.{Done, Refused}
+use Rattle.evc_engine.specs.Checks.{Outlets}
+use Rattle.evc_scripts.specs.Sims.{PlaysPlan, EndsEarly, IsPlayed, Sims}
 use Rattle.evc_scripts.specs.Runs.{HaveRun}
+
+-- ONE TEXT FOR A SCRIPT
+
+-- programs of the same lines play a schedule alike: the turns of the ones are turns of the others, and end them alike
+abbrev pub LinesPlayAlike : Type 0
+LinesPlayAlike = (t : Tables) (programs others : List (List Command)) (schedule : List ℕ) (turns : List Turn)
+    → map flat programs ≡ map flat others → Plays t programs schedule turns
+    → Plays t others schedule turns × ((w : ℕ) → outcome_after programs w turns ≡ outcome_after others w turns)
+
+-- a plan is played in one way at most
+abbrev pub PlansHaveOneRun : Type 0
+PlansHaveOneRun = (p : Planned) (turns others : List Turn) (outcomes ends : List Outcome)
+    → PlaysPlan p turns outcomes → PlaysPlan p others ends → (turns ≡ others) × (outcomes ≡ ends)
+
+-- and with one trace and one note
+abbrev pub SimsHaveOneText : Type 0
+SimsHaveOneText = (p : Planned) (trace note other remark : List ℕ)
+    → IsPlayed p trace note → IsPlayed p other remark → (trace ≡ other) × (note ≡ remark)
+
+-- where its schedule names a worker that has ended, in none
+abbrev pub EndedPlansAreNotPlayed : Type 0
+EndedPlansAreNotPlayed = (p : Planned) (place w : ℕ) (turns : List Turn) (outcomes : List Outcome) → EndsEarly p place w → PlaysPlan p turns outcomes → ⊥
+
+-- and it does so first at one place
+abbrev pub PlansEndAtOnePlace : Type 0
+PlansEndAtOnePlace = (p : Planned) (place w other v : ℕ) → EndsEarly p place w → EndsEarly p other v → (place ≡ other) × (w ≡ v)
+
+-- no input may end with status 0 and with status 1
+abbrev pub SimsEndOneWay : Type 0
+SimsEndOneWay = (bytes : List ℕ) (old new before after : Outlets) → Sims bytes Done old new → Sims bytes Refused before after → ⊥
+
+-- WHAT IS WRITTEN IS READ AGAIN
 
 -- the trace that is written is read again as the same run, where it is within the bound of traces
 abbrev pub SimulatedIsReadAgain : Type 0

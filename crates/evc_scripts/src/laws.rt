@@ -1,5 +1,36 @@
 //! What the contracts of the commands mean: each function says a law and does nothing.
-ghost use Rattle.evc_scripts.specs.SimLaws.{RanIsReadAgain, SimulatedIsReadAgain};
+ghost use Rattle.evc_scripts.specs.SimLaws.{EndedPlansAreNotPlayed, LinesPlayAlike, PlansEndAtOnePlace, PlansHaveOneRun, RanIsReadAgain, SimsEndOneWay, SimsHaveOneText, SimulatedIsReadAgain};
+
+/// Commands of the same lines do the same, whatever holds their lists in memory: where a schedule is
+/// played for programs, the same turns play it for others of the same lines, and end them alike.
+pub fn lines_play_alike()
+    ensures { LinesPlayAlike }
+{}
+
+/// A plan has one run at most, and its programs end in one way.
+pub fn plans_have_one_run()
+    ensures { PlansHaveOneRun }
+{}
+
+/// So `sim` has one trace and one note at most for a plan whose schedule is played.
+pub fn sims_have_one_text()
+    ensures { SimsHaveOneText }
+{}
+
+/// A plan whose schedule names a worker that has ended has no run.
+pub fn ended_plans_are_not_played()
+    ensures { EndedPlansAreNotPlayed }
+{}
+
+/// The place and the worker that are told of such a plan are the only ones that may be.
+pub fn plans_end_at_one_place()
+    ensures { PlansEndAtOnePlace }
+{}
+
+/// So no input may end with a trace, of status 0, and with a note of status 1.
+pub fn sims_end_one_way()
+    ensures { SimsEndOneWay }
+{}
 
 /// The trace that `sim` writes is read again as the run of the schedule, where it is within the
 /// bound of traces.

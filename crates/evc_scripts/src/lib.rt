@@ -8,6 +8,9 @@ mod running;
 mod simulating;
 mod writing;
 
-pub use laws::{ran_is_read_again, simulated_is_read_again};
+pub use laws::{
+    ended_plans_are_not_played, lines_play_alike, plans_end_at_one_place, plans_have_one_run,
+    ran_is_read_again, sims_end_one_way, sims_have_one_text, simulated_is_read_again,
+};
 pub use running::run;
 pub use simulating::sim;
