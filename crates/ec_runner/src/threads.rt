@@ -11,6 +11,7 @@ use ec_count::WorkerId;
 use ec_machine::{Machine, Outcome, Program};
 use std::alloc::{AllocError, Global};
 use std::sync::{Condvar, Mutex, MutexGuard, Wait};
+use std::thread;
 use std::thread::{JoinHandle, Scope, Threads};
 
 /// What the threads share: the board under its lock, what those sleep on that wait, the gate, and
@@ -61,6 +62,22 @@ fn park<R: Wait>(rt: &R, woken: &Condvar, mut guard: MutexGuard<'_, Board>, work
     }
 }
 
+/// How often a worker that finds the lock held lets others run before it sleeps.
+const YIELDS: u32 = 30;
+
+/// Takes the lock. A hold is a fraction of a microsecond, and to put a worker to sleep and wake it
+/// costs more than many holds. So a worker that finds the lock held lets others run, looks again, and
+/// sleeps only if the lock was held each time.
+fn locked<'b, R: Wait>(rt: &R, board: &'b Mutex<Board>) -> MutexGuard<'b, Board> {
+    for _ in 0..YIELDS {
+        if let Some(guard) = board.try_lock() {
+            return guard;
+        }
+        thread::yield_now();
+    }
+    board.lock(rt)
+}
+
 /// One hold of the lock: one step and, where an await fell short and the worker may wait, the sleep.
 fn hold<R: Wait>(
     rt: &R,
@@ -72,7 +89,7 @@ fn hold<R: Wait>(
 ) -> Result<Reply, Halt>
     ensures { IfOk result (IsReply act) }
 {
-    let mut guard = board.lock(rt);
+    let mut guard = locked(rt, board);
     let reply = match guard.step(worker, act) {
         Ok(reply) => reply,
         Err(BoardFault::Stopped) => return Err(Halt::Stopped),
@@ -92,7 +109,7 @@ fn hold<R: Wait>(
 
 /// The worker leaves the board, and those that wait for good are told.
 fn leave<R: Wait>(rt: &R, board: &Mutex<Board>, woken: &Condvar, worker: WorkerId) {
-    let mut guard = board.lock(rt);
+    let mut guard = locked(rt, board);
     guard.leave(worker);
     woken.notify_all();
 }
