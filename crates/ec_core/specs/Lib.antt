@@ -8,6 +8,7 @@ pub mod Standing
 pub mod Fields
 pub mod Recorded
 pub mod Segmented
+pub mod Stored
 pub mod Faults
 pub mod Refusals
 pub mod Values

@@ -1,6 +1,9 @@
 //! Lists of entries in segments.
 ghost use Rattle.std.specs.Prelude.{◌≡◌, ◌+◌, ◌^◌, ◌<◌, ◌≤◌, List, [], ◌∷◌, ◌++◌, length, slice_get, vec_len, vec_capacity, IfOk, IfSome, OnOk, OnErr};
+ghost use Rattle.std.specs.Option.{option_map};
+ghost use Rattle.ec_core.specs.Segmented.{joined, IsSegmented};
 
+use crate::stored::Stored;
 use crate::{Entries, Entry};
 use std::alloc::{AllocError, Global};
 use std::marker::Model;
@@ -15,8 +18,8 @@ const SEGMENTS_MAX: usize = 1 << 51;
 /// A list that grows by segments, so that what stands in it never moves.
 #[derive(Drop)]
 pub(crate) struct Segments {
-    full: Vec<Vec<Entry>>,
-    last: Vec<Entry>,
+    full: Vec<Vec<Stored>>,
+    last: Vec<Stored>,
 }
 
 impl Model for Segments {
@@ -26,8 +29,9 @@ impl Model for Segments {
     ghost Value = { List Entry };
 
     ghost use Rattle.ec_core.specs.Segmented.{joined, IsSegmented};
+    ghost use Rattle.ec_core.specs.Stored.{stored_entries};
 
-    ghost view = { λ s. joined (λ v. v.items) s.full.items s.last.items };
+    ghost view = { λ s. stored_entries (joined (λ v. v.items) s.full.items s.last.items) };
 
     ghost invariant = { λ s. IsSegmented (λ v. v.items) s.full.items s.last.items (vec_capacity s.last) };
 }
@@ -61,12 +65,7 @@ impl Segments {
         ensures value { result ≡ slice_get self.now i }
         ensures within { IfSome result (λ _. i + 1 < 2 ^ 64) }
     {
-        let place = i / SEGMENT;
-        if place < self.full.len() {
-            let segment = &self.full[place];
-            return entry_in(segment, i % SEGMENT);
-        }
-        entry_in(&self.last, i - self.full.len() * SEGMENT)
+        stored_at(&self.full, &self.last, i).map(Stored::entry)
     }
 
     /// The same list again, by the same allocator.
@@ -88,7 +87,7 @@ impl Segments {
         if self.last.len() == SEGMENT {
             begin_segment(&mut self.full, &mut self.last)?;
         }
-        append(&mut self.last, entry)
+        append(&mut self.last, Stored::of(entry))
     }
 }
 
@@ -122,9 +121,23 @@ fn append<T: Copy>(segment: &mut Vec<T>, value: T) -> Result<(), AllocError>
     Ok(())
 }
 
-/// The entry of a segment at a place.
-fn entry_in(segment: &Vec<Entry>, i: usize) -> Option<Entry>
-    ensures { result ≡ slice_get segment.now.items i }
+/// What the segments keep at a place, counted from 0.
+fn stored_at<'a>(full: &'a Vec<Vec<Stored>>, last: &'a Vec<Stored>, i: usize) -> Option<&'a Stored>
+    requires { IsSegmented (λ v. v.items) full.now.items last.now.items (vec_capacity last.now) }
+    ensures value { option_map (λ s. s.now) result ≡ slice_get (joined (λ v. v.items) full.now.items last.now.items) i }
+    ensures within { IfSome result (λ _. i + 1 < 2 ^ 64) }
 {
-    segment.get(i).copied()
+    let place = i / SEGMENT;
+    if place < full.len() {
+        let segment = &full[place];
+        return stored_in(segment, i % SEGMENT);
+    }
+    stored_in(last, i - full.len() * SEGMENT)
+}
+
+/// What a segment keeps at a place.
+fn stored_in(segment: &Vec<Stored>, i: usize) -> Option<&Stored>
+    ensures { option_map (λ s. s.now) result ≡ slice_get segment.now.items i }
+{
+    segment.get(i)
 }

@@ -12,6 +12,10 @@ use Rattle.ec_database.specs.Shapes.{Database}
 use Rattle.ec_database.specs.Following.{is_on, try_rule}
 use Rattle.ec_database.specs.Tries.{AcceptedTry}
 
+-- the first n answers of a question about workers, each at its worker's place
+abbrev pub ArePlaced : (ℕ → Bool) → ℕ → List Bool → Type 0
+ArePlaced asked n table = (w : ℕ) → w < n → slice_get table w ≡ Some (asked w)
+
 -- an accepting try, as it is told
 abbrev pub shown : Accepted → AcceptedTry
 shown a = record { worker = a.worker; version = a.version; values = a.values.items }

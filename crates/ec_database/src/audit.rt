@@ -182,10 +182,7 @@ pub fn versions(
 {
     run.known();
     shape.known();
-    let lists = Lists {
-        shape,
-        setup: run.setup(),
-    };
+    let lists = Lists::new(shape, run.setup());
     followed(run, &lists)?;
     let Ok(list) = accepted_tries(alloc, run, &lists) else {
         return Err(AuditFault::Memory);

@@ -5,6 +5,7 @@ ghost use Rattle.ec_core.specs.declared.act.Act.{Act};
 ghost use Rattle.ec_core.specs.declared.act.Act.TheVariants.{Read, Ticket, Get};
 ghost use Rattle.ec_core.specs.Following.{Told};
 ghost use Rattle.ec_database.specs.Following.{is_cell, is_on, writes, rules};
+ghost use Rattle.ec_database.specs.Auditing.{ArePlaced};
 ghost use Rattle.ec_database.specs.Places.{kept_of};
 
 use crate::DatabaseShape;
@@ -17,6 +18,9 @@ use ec_count::{CellId, EventId, SeqId, Setup, WorkerId};
 pub(crate) struct Lists<'a> {
     pub(crate) shape: &'a DatabaseShape,
     pub(crate) setup: &'a Setup,
+    /// Which workers are writers, since each entry of a run asks that.
+    writers: [bool; 16],
+    ghost known: { ArePlaced (writes setup.now shape.now) 16 writers },
 }
 
 fn is_count(shape: &DatabaseShape, e: EventId) -> bool
@@ -53,14 +57,38 @@ pub(crate) fn is_on(shape: &DatabaseShape, act: &Act) -> bool
     }
 }
 
-impl Lists<'_> {
+/// Whether the worker of a number is a writer; false where there is no such worker.
+fn is_writer(shape: &DatabaseShape, setup: &Setup, number: usize) -> bool
+    requires { number < 16 }
+    ensures { result ≡ writes setup.now shape.now number }
+{
+    match WorkerId::new(number) {
+        Some(worker) => setup.component_of(shape.start(), worker).is_some(),
+        None => false,
+    }
+}
+
+impl<'a> Lists<'a> {
+    pub(crate) fn new(shape: &'a DatabaseShape, setup: &'a Setup) -> Self
+        ensures shape { result.shape.now ≡ shape.now }
+        ensures setup { result.setup.now ≡ setup.now }
+    {
+        let mut writers = [false; 16];
+        for number in 0..16 {
+            writers[number] = is_writer(shape, setup, number);
+        }
+        Lists {
+            shape,
+            setup,
+            writers,
+        }
+    }
+
     /// Whether the worker is a writer.
     pub(crate) fn writes(&self, worker: WorkerId) -> bool
         ensures { result ≡ writes self.now.setup.now self.now.shape.now worker }
     {
-        self.setup
-            .component_of(self.shape.start(), worker)
-            .is_some()
+        self.writers[worker.get()]
     }
 
     /// The place of the last call of the worker's list.

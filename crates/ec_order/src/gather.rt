@@ -49,7 +49,7 @@ pub(crate) fn readings_by_points(alloc: Global, run: &Run) -> Result<Vec<Placed>
 {
     run.known();
     let mut table: [Option<Begun>; 16] = all_alike(None);
-    let mut lists = no_moments(alloc)?;
+    let mut lists = no_moments(alloc, run)?;
     let mut readings = Vec::new(alloc);
     for i in 0..run.len() {
         if let Some(entry) = run.entry(i) {

@@ -7,6 +7,7 @@ ghost use Rattle.ec_order.specs.Index.{moment_of, moments_in, IsIndex, NotesAct,
 use crate::Call;
 use crate::begun::event_or;
 use ec_core::{Act, Reply, Run};
+use ec_count::EventId;
 use std::alloc::{AllocError, Global};
 
 /// Whether an act is a read or an await.
@@ -63,14 +64,25 @@ pub(crate) fn note(lists: &mut Vec<Vec<usize>>, act: Act, moment: usize) -> Resu
     Ok(())
 }
 
-/// An index with no moment.
-pub(crate) fn no_moments(alloc: Global) -> Result<Vec<Vec<usize>>, AllocError>
+/// An empty list with room for the moments after the advances of eventcount e.
+fn room_for(alloc: Global, run: &Run, event: usize) -> Result<Vec<usize>, AllocError>
+    ensures { IfOk result (λ list. list.items ≡ []) }
+{
+    let total = match EventId::new(event) {
+        Some(event) => run.world().total(event).unwrap_or(0),
+        None => 0,
+    };
+    Vec::with_capacity(alloc, total as usize)
+}
+
+/// An index with no moment, with room for those of the run.
+pub(crate) fn no_moments(alloc: Global, run: &Run) -> Result<Vec<Vec<usize>>, AllocError>
     ensures long { IfOk result (λ ls. length ls.items ≡ 32) }
     ensures value { IfOk result (λ ls. (e : ℕ) → moments_in ls.items e ≡ []) }
 {
     let mut lists = Vec::new(alloc);
-    for _ in 0..32usize {
-        lists.push(Vec::new(alloc))?;
+    for event in 0..32usize {
+        lists.push(room_for(alloc, run, event)?)?;
     }
     Ok(lists)
 }
@@ -80,7 +92,7 @@ pub(crate) fn index(alloc: Global, run: &Run) -> Result<Vec<Vec<usize>>, AllocEr
     ensures long { IfOk result (λ ls. length ls.items ≡ 32) }
     ensures value { IfOk result (λ ls. IsIndex (reverse run.now.entries) ls.items) }
 {
-    let mut lists = no_moments(alloc)?;
+    let mut lists = no_moments(alloc, run)?;
     for i in 0..run.len() {
         if let Some(entry) = run.entry(i) {
             note(&mut lists, entry.act, i + 1)?;

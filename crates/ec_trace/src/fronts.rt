@@ -3,7 +3,7 @@
 //! The front of an entry is its line up to the space before the reply. But for the values in them, the entries of a
 //! trace have few different fronts, so that one which was read lately is found again by its bytes: then the reply alone
 //! is read anew, and the value of an await or a put.
-ghost use Rattle.std.specs.Prelude.{◌≡◌, ◌≤◌, ℕ, List, Some, ◌++◌, ◌∷◌, IfSome, IsTrue, length, take};
+ghost use Rattle.std.specs.Prelude.{◌≡◌, ◌+◌, ◌≤◌, ℕ, List, Some, ◌++◌, ◌∷◌, IfSome, IsTrue, length, take};
 ghost use Rattle.ec_text.specs.Words.{IsWord};
 ghost use Rattle.ec_trace.specs.Entries.{entry_of};
 ghost use Rattle.ec_trace.specs.Fronts.{HasFront, HasValue, EndsIn, Tells, TellsWhole, TellsValued, AreKept, is_valued, with_value, with_both};
@@ -296,18 +296,35 @@ fn cut_last(line: &[u8]) -> Option<(&[u8], &[u8])>
     None
 }
 
-/// A mark of a front, which fronts mostly have for themselves. For speed it is made of five bytes and the length.
+/// Eight bytes of a front as one number.
+#[inline(always)]
+fn eight_from(front: &[u8], from: usize) -> u64
+    requires { from + 8 ≤ length front.now }
+{
+    u64::from_le_bytes([
+        front[from],
+        front[from + 1],
+        front[from + 2],
+        front[from + 3],
+        front[from + 4],
+        front[from + 5],
+        front[from + 6],
+        front[from + 7],
+    ])
+}
+
+/// A mark of a front, which fronts mostly have for themselves. For speed it is made of eight bytes at each end and eight in
+/// the middle, and of a shorter one, as `a go =`, of its first two bytes.
 #[inline(always)]
 fn mark(front: &[u8]) -> usize {
-    let n = front.len();
-    if n < 4 {
+    let [first, second, ..] = front else {
         return 0;
+    };
+    let n = front.len();
+    if n < 8 {
+        return *first as usize * 31 + *second as usize * 7;
     }
-    let mut mark = (n % 64) as u32;
-    mark = mark.wrapping_mul(31).wrapping_add(front[0] as u32);
-    mark = mark.wrapping_mul(31).wrapping_add(front[1] as u32);
-    mark = mark.wrapping_mul(31).wrapping_add(front[n / 2] as u32);
-    mark = mark.wrapping_mul(31).wrapping_add(front[n - 4] as u32);
-    mark = mark.wrapping_mul(31).wrapping_add(front[n - 3] as u32);
-    (mark ^ (mark >> 8) ^ (mark >> 16)) as usize
+    let ends = eight_from(front, 0) ^ eight_from(front, n - 8).rotate_left(21);
+    let all = ends ^ eight_from(front, n / 2 - 4).rotate_left(42);
+    (all.wrapping_mul(0x9E37_79B9_7F4A_7C15) >> 48) as usize
 }
