@@ -2,6 +2,7 @@ pub mod InputLemmas
 pub mod WrittenLines
 pub mod SameLines
 pub mod OneRun
+pub mod OneNote
 pub mod OutcomeLines
 pub mod ReadAgain
 pub mod SimEnds

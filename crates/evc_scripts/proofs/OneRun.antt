@@ -153,7 +153,7 @@ one_place p place w other v one two =
 
 -- THE COMMAND
 
-one_plan : (bytes : List ℕ) (p q : Planned) → SaysPlan bytes p → SaysPlan bytes q → p ≡ q
+pub one_plan : (bytes : List ℕ) (p q : Planned) → SaysPlan bytes p → SaysPlan bytes q → p ≡ q
 one_plan bytes p q one other = (let same : Ok p ≡ Ok q = sym one.told ∙ other.told in cc)
 
 not_both : (p : Planned) (old new before after : Outlets) → PlanEnds p Done old new → PlanEnds p Refused before after → ⊥

@@ -5,14 +5,15 @@ use Rattle.ec_machine.specs.declared.command.Command.{Command}
 use Rattle.ec_machine.specs.declared.outcome.Outcome.{Outcome}
 use Rattle.ec_trace.specs.Outcome.{outcome}
 use Rattle.ec_trace.specs.declared.read.TheConstants.{TRACE_MAX}
+use Rattle.ec_script.specs.declared.fault.Kind.{Kind}
 use Rattle.ec_script.specs.Flat.{flat}
 use Rattle.ec_script.specs.Scripted.{Planned}
 use Rattle.ec_runner.specs.Schedules.{Turn, Plays, entries_of, outcome_after}
 use Rattle.evc_engine.specs.declared.status.Status.{Status}
 use Rattle.evc_engine.specs.declared.status.Status.TheVariants.{Done, Refused}
 use Rattle.evc_engine.specs.Checks.{Outlets}
-use Rattle.evc_scripts.specs.Sims.{PlaysPlan, EndsEarly, IsPlayed, Sims}
-use Rattle.evc_scripts.specs.Runs.{HaveRun}
+use Rattle.evc_scripts.specs.Sims.{PlaysPlan, EndsEarly, IsPlayed, RefusedAt, Sims}
+use Rattle.evc_scripts.specs.Runs.{HaveRun, Says, Runs}
 
 -- ONE TEXT FOR A SCRIPT
 
@@ -43,6 +44,27 @@ PlansEndAtOnePlace = (p : Planned) (place w other v : ℕ) → EndsEarly p place
 -- no input may end with status 0 and with status 1
 abbrev pub SimsEndOneWay : Type 0
 SimsEndOneWay = (bytes : List ℕ) (old new before after : Outlets) → Sims bytes Done old new → Sims bytes Refused before after → ⊥
+
+-- ONE NOTE FOR A REFUSAL
+
+-- of bytes that are no script one line is told, and one kind
+abbrev pub RefusedScriptsHaveOneFault : Type 0
+RefusedScriptsHaveOneFault = (bytes : List ℕ) (n m : ℕ) (kind sort : Kind) → RefusedAt bytes n kind → RefusedAt bytes m sort → (n ≡ m) × (kind ≡ sort)
+
+-- whatever `sim` refuses, a script or bytes that are none: wherever it ends with status 1 on the same bytes, it writes nothing but the same note
+abbrev pub RefusedSimsHaveOneNote : Type 0
+RefusedSimsHaveOneNote = (bytes : List ℕ) (old new before after : Outlets) → Sims bytes Refused old new → Sims bytes Refused before after
+    → (note : List ℕ) × Says old new note × Says before after note
+
+-- the same of `run`, whatever the bounds of turns
+abbrev pub RefusedRunsHaveOneNote : Type 0
+RefusedRunsHaveOneNote = (bytes : List ℕ) (turns most : ℕ) (old new before after : Outlets) → Runs turns bytes Refused old new → Runs most bytes Refused before after
+    → (note : List ℕ) × Says old new note × Says before after note
+
+-- and where `run` refuses, `sim` writes the same note, if it ends with status 1
+abbrev pub RefusalsAreAlike : Type 0
+RefusalsAreAlike = (bytes : List ℕ) (turns : ℕ) (old new before after : Outlets) → Sims bytes Refused old new → Runs turns bytes Refused before after
+    → (note : List ℕ) × Says old new note × Says before after note
 
 -- WHAT IS WRITTEN IS READ AGAIN
 

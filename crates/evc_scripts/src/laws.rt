@@ -1,5 +1,5 @@
 //! What the contracts of the commands mean: each function says a law and does nothing.
-ghost use Rattle.evc_scripts.specs.SimLaws.{EndedPlansAreNotPlayed, LinesPlayAlike, PlansEndAtOnePlace, PlansHaveOneRun, RanIsReadAgain, SimsEndOneWay, SimsHaveOneText, SimulatedIsReadAgain};
+ghost use Rattle.evc_scripts.specs.SimLaws.{EndedPlansAreNotPlayed, LinesPlayAlike, PlansEndAtOnePlace, PlansHaveOneRun, RanIsReadAgain, RefusalsAreAlike, RefusedRunsHaveOneNote, RefusedScriptsHaveOneFault, RefusedSimsHaveOneNote, SimsEndOneWay, SimsHaveOneText, SimulatedIsReadAgain};
 
 /// Commands of the same lines do the same, whatever holds their lists in memory: where a schedule is
 /// played for programs, the same turns play it for others of the same lines, and end them alike.
@@ -30,6 +30,27 @@ pub fn plans_end_at_one_place()
 /// So no input may end with a trace, of status 0, and with a note of status 1.
 pub fn sims_end_one_way()
     ensures { SimsEndOneWay }
+{}
+
+/// Of bytes that are no script one line is told, and one kind.
+pub fn refused_scripts_have_one_fault()
+    ensures { RefusedScriptsHaveOneFault }
+{}
+
+/// So wherever `sim` ends with status 1 on the same bytes, it writes nothing but the same note:
+/// where they are no script, and where its schedule names a worker that has ended.
+pub fn refused_sims_have_one_note()
+    ensures { RefusedSimsHaveOneNote }
+{}
+
+/// The same of `run`, whatever the bounds of turns.
+pub fn refused_runs_have_one_note()
+    ensures { RefusedRunsHaveOneNote }
+{}
+
+/// Where `run` ends with status 1 on bytes, and `sim` too, they write the same note.
+pub fn refusals_are_alike()
+    ensures { RefusalsAreAlike }
 {}
 
 /// The trace that `sim` writes is read again as the run of the schedule, where it is within the

@@ -10,7 +10,9 @@ mod writing;
 
 pub use laws::{
     ended_plans_are_not_played, lines_play_alike, plans_end_at_one_place, plans_have_one_run,
-    ran_is_read_again, sims_end_one_way, sims_have_one_text, simulated_is_read_again,
+    ran_is_read_again, refusals_are_alike, refused_runs_have_one_note,
+    refused_scripts_have_one_fault, refused_sims_have_one_note, sims_end_one_way,
+    sims_have_one_text, simulated_is_read_again,
 };
 pub use running::run;
 pub use simulating::sim;
