@@ -13,3 +13,4 @@ pub mod Reading
 pub mod Outcome
 pub mod Grammar
 pub mod Confined
+pub mod Layout
