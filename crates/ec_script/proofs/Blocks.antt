@@ -86,7 +86,7 @@ Others h ws lines p s =
 
 -- LISTS
 
-joins : {A : Type 0} (xs : List A) (e : A) (fs rs : List A) → xs ++ e ∷ (fs ++ rs) ≡ ((xs ++ e ∷ []) ++ fs) ++ rs
+pub joins : {A : Type 0} (xs : List A) (e : A) (fs rs : List A) → xs ++ e ∷ (fs ++ rs) ≡ ((xs ++ e ∷ []) ++ fs) ++ rs
 joins xs e fs rs = sym (append_assoc xs (e ∷ []) (fs ++ rs)) ∙ sym (append_assoc (xs ++ e ∷ []) fs rs)
 
 member_push : (w i : ℕ) (named : List ℕ) → is_member w (named ++ i ∷ []) ≡ false → (is_member w named ≡ false) × ((i == w) ≡ false)
@@ -109,7 +109,7 @@ each_below : (n : ℕ) (ids : List ℕ) → AreBelow n ids → AllByRecursion (�
 each_below n [] h = tt
 each_below n (i ∷ ids) h = (h.0, each_below n ids h.1)
 
-no_words : (us : List (List ℕ)) → eqb (length us) 0 ≡ true → us ≡ []
+pub no_words : (us : List (List ℕ)) → eqb (length us) 0 ≡ true → us ≡ []
 no_words [] is = refl
 no_words (u ∷ us) is = absurd (omega (arith, eqb-true (length (u ∷ us)) 0 is))
 
@@ -197,7 +197,6 @@ row_goes : (h : Headed) (ws : List (List ℕ)) → Heads ws h → (p : Planned) 
 row_goes h ws heads p line lines named ps sc w us form passes others =
     let words : Worded (words_of line) (made verbs.Schedule w us) = worded (words_of line) (made verbs.Schedule w us) form.1 in
     let known : has_unknown (with_others ws heads.others) us ≡ false = ap (λ es. has_unknown es us) (sym heads.words) ∙ passes.known in
-    let ids : List ℕ = ids_in h.words us in
     let spelled : list_words ws (ids_in h.words us) ≡ us = ap (λ es. list_words ws (ids_in es us)) heads.words ∙ ids_spelled ws heads.others us heads.none known in
     let many : length (ids_in h.words us) ≡ length us = sym (listed_length ws (ids_in h.words us)) ∙ ap length spelled in
     let is : line ≡ schedule_line ws (ids_in h.words us) = line_of line (codes "schedule" ∷ us) words.are ∙ ap (λ (vs : List (List ℕ)). join_with_byte 32 (codes "schedule" ∷ vs)) (sym spelled) in
@@ -282,7 +281,6 @@ end_goes : (h : Headed) (ws : List (List ℕ)) (p : Planned) (line : List ℕ) (
     → IsWithin named (Some b) sc → Form line verbs.End w us → PassesIn (state h named ps (Some b) sc) verbs.End w us
     → Others h ws lines p (after (state h named ps (Some b) sc) (made verbs.End w us)) → Opened h ws named ps b sc (line ∷ lines) p
 end_goes h ws p line lines named ps b sc w us within form passes others =
-    let s : Scripted = state h named ps (Some b) sc in
     let words : Worded (words_of line) (made verbs.End w us) = worded (words_of line) (made verbs.End w us) form.1 in
     let is : line ≡ codes "end" = line_of line (codes "end" ∷ us) words.are ∙ ap (λ (vs : List (List ℕ)). join_with_byte 32 (codes "end" ∷ vs)) (no_words us words.tail) in
     let done : Scripted = state h named (slice_set ps b.worker b.draft.orders) None sc in
@@ -349,7 +347,6 @@ pub rests : (h : Headed) (ws : List (List ℕ)) → Heads ws h → (p : Planned)
 unfolding step
 rests h ws heads p t [] named ps b sc within behind leads plan = no_more h ws p named ps b sc t within leads plan
 rests h ws heads p t (line ∷ lines) named ps b sc within behind leads plan =
-    let s : Scripted = state h named ps b sc in
     let r = read_back (script_step (state h named ps b sc) line) leads.0 leads.1 in
     let taken : IsTaken (state h named ps b sc) line r.0 = taken_back (state h named ps b sc) r.0 line behind r.1 in
     one_more h ws heads p line lines named ps b sc taken.phrase within taken.whole taken.form taken.passes

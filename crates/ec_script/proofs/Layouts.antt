@@ -25,7 +25,7 @@ use Rattle.ec_script.specs.Scripted.{Scripted, Planned}
 use Rattle.ec_script.specs.Reading.{headed_on, phrased, opens_outer, script_step, in_range, limited, limit_digits, limit_or, limit_step, script_of, named_on, step}
 use Rattle.ec_script.specs.Outcome.{plan_in}
 use Rattle.ec_script.specs.Grammar.{Leads, IsLine, text_of}
-use Rattle.ec_script.specs.Layout.{Block, orders_of, workers_of, joined, Layout, layout_lines, program_of, ScriptsAreLaidOut}
+use Rattle.ec_script.specs.Layout.{Block, orders_of, workers_of, joined, layout_lines, program_of, ScriptsAreLaidOut}
 use Rattle.ec_script.proofs.Declaring.{HeadKeeps, Grows, first_keeps, head_grows}
 use Rattle.ec_script.proofs.Passing.{read_back}
 use Rattle.ec_script.proofs.Blocks.{state, set_all, planned, Closed, AreBehind, line_of, rests}
@@ -47,7 +47,6 @@ program_is : (bs : List Block) (ps : List (List Order)) (w : ℕ) → has_repeat
 program_is [] ps w differ within none = none
 program_is (b ∷ bs) ps w differ within none =
     let p = or_parts (is_member b.worker (workers_of bs)) (has_repeat (workers_of bs)) differ in
-    let next : List (List Order) = slice_set ps b.worker (orders_of b.lines) in
     (elim (eqb b.worker w) as (λ t. eqb b.worker w ≡ t → get_or (set_all (slice_set ps b.worker (orders_of b.lines)) bs) w [] ≡ cond t (orders_of b.lines) (program_of bs w)) [
       | true ↦ λ e.
           (let same : b.worker ≡ w = eqb-true b.worker w e in
@@ -229,12 +228,10 @@ headings (line ∷ lines) t p leads plan =
 pub laid_out : ScriptsAreLaidOut
 laid_out bytes p is =
     let g : Headings is.lines is.stage = headings is.lines is.stage p is.leads is.plan in
-    let o : Outline = g.outline in
     let heads : Heads g.outline.workers (headed g.outline) = heads_all g.outline.workers (opened g.outline.limit g.outline.workers) g.outline.declarations (heads_opened g.outline.limit g.outline.workers) in
     let none : List Order = [] in
     let c : Closed (headed g.outline) g.outline.workers [] (replicate (headed g.outline).setup.workers none) [] g.rest p =
     rests (headed g.outline) g.outline.workers heads p is.stage g.rest [] (replicate (headed g.outline).setup.workers none) None [] (omega arith) g.behind g.leads is.plan in
-    let l : Layout = record { outline = g.outline; blocks = c.blocks; rows = c.rows } in
     let all : is.lines ≡ layout_lines (record { outline = g.outline; blocks = c.blocks; rows = c.rows }) = g.are ∙ ap (λ (ls : List (List ℕ)). codes "evc-script 1" ∷ heading_lines g.outline ++ ls) c.are in
     let programs : set_all (replicate (headed g.outline).setup.workers none) c.blocks ≡ map (program_of c.blocks) (range_with_len 0 (length g.outline.workers)) =
     ap (λ n. set_all (replicate n none) c.blocks) heads.count ∙ programs_are c.blocks (length g.outline.workers) c.differ in

@@ -15,3 +15,4 @@ pub mod Passing
 pub mod Said
 pub mod Blocks
 pub mod Layouts
+pub mod LayoutsLead

@@ -152,3 +152,6 @@ pub record IsLaidOut (bytes : List ℕ) (p : Planned) : Type 0 where
 
 abbrev pub ScriptsAreLaidOut : Type 0
 ScriptsAreLaidOut = (bytes : List ℕ) (p : Planned) → IsScript bytes p → IsLaidOut bytes p
+
+abbrev pub LayoutsAreScripts : Type 0
+LayoutsAreScripts = (bytes : List ℕ) (p : Planned) → IsLaidOut bytes p → IsScript bytes p

@@ -1,7 +1,7 @@
 //! Laws of scripts. Each is the contract of a function that does nothing.
 ghost use Rattle.ec_script.specs.Confined.{ConfinedLinesAreConfinedCommands, PlansAreConfined};
 ghost use Rattle.ec_script.specs.Grammar.{FaultIsTheFirst, LongIsLine1, ReadIsScript, ScriptIsRead};
-ghost use Rattle.ec_script.specs.Layout.{ScriptsAreLaidOut};
+ghost use Rattle.ec_script.specs.Layout.{LayoutsAreScripts, ScriptsAreLaidOut};
 
 /// A script is read as the plan that it says.
 pub fn script_is_read()
@@ -38,4 +38,9 @@ pub fn confined_lines_are_confined_commands()
 /// A text that is a script is laid out as a heading, whole blocks and a schedule, which say its plan.
 pub fn scripts_are_laid_out()
     ensures { ScriptsAreLaidOut }
+{}
+
+/// And a text that is laid out so is a script of that plan.
+pub fn layouts_are_scripts()
+    ensures { LayoutsAreScripts }
 {}
