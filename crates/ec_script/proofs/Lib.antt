@@ -16,3 +16,6 @@ pub mod Said
 pub mod Blocks
 pub mod Layouts
 pub mod LayoutsLead
+pub mod Owners
+pub mod CellWords
+pub mod OrderLines

@@ -14,3 +14,4 @@ pub mod Outcome
 pub mod Grammar
 pub mod Confined
 pub mod Layout
+pub mod Spelling
