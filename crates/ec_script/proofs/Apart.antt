@@ -31,7 +31,7 @@ pub record Grow (t u : Tables) : Type 0 where
   pub takers : length t.takers ≤ length u.takers
   pub cells : length t.cells ≤ length u.cells
 
-stays : (t u : Tables) (o : Object) → Grow t u → IsOf t o → IsOf u o
+pub stays : (t u : Tables) (o : Object) → Grow t u → IsOf t o → IsOf u o
 stays t u (Event e) grow of = omega (arith, grow.events, of)
 stays t u (Sequencer q) grow of = omega (arith, grow.takers, of)
 stays t u (Cell x) grow of = omega (arith, grow.cells, of)
@@ -49,10 +49,10 @@ tables_grow sorts.Both t n first second = record { events = omega (arith, length
 -- A NEW GROUP
 
 -- its objects are in the new tables and not in the old ones
-abbrev IsNew : Tables → Tables → Group → Type 0
+abbrev pub IsNew : Tables → Tables → Group → Type 0
 IsNew t u g = (o : Object) → owns o g ≡ true → (IsOf t o → ⊥) × IsOf u o
 
-abbrev AreNew : Tables → Tables → Option Group → Type 0
+abbrev pub AreNew : Tables → Tables → Option Group → Type 0
 AreNew t u None = Unit {0}
 AreNew t u (Some g) = IsNew t u g
 
@@ -107,7 +107,7 @@ both_new t n first second (Sequencer q) own =
     ((λ of. omega (arith, i, of)), omega (arith, i, length-append {A = List ℕ}))
 both_new t n first second _ own = cc
 
-group_new : (s : Sort) (t : Tables) (n : ℕ) (first second : List ℕ) → AreNew t (with_objects s t n first second) (group_of s t n)
+pub group_new : (s : Sort) (t : Tables) (n : ℕ) (first second : List ℕ) → AreNew t (with_objects s t n first second) (group_of s t n)
 group_new sorts.EventCount t n first second = tt
 group_new sorts.Sequencer t n first second = tt
 group_new sorts.Cells t n first second = tt

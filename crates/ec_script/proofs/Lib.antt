@@ -10,3 +10,12 @@ pub mod Declaring
 pub mod Confining
 pub mod WrittenOut
 pub mod Keeping
+pub mod PhraseWords
+pub mod Passing
+pub mod Said
+pub mod Blocks
+pub mod Layouts
+pub mod LayoutsLead
+pub mod Owners
+pub mod CellWords
+pub mod OrderLines

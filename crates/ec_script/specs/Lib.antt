@@ -13,3 +13,5 @@ pub mod Reading
 pub mod Outcome
 pub mod Grammar
 pub mod Confined
+pub mod Layout
+pub mod Spelling

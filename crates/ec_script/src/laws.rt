@@ -1,6 +1,8 @@
 //! Laws of scripts. Each is the contract of a function that does nothing.
 ghost use Rattle.ec_script.specs.Confined.{ConfinedLinesAreConfinedCommands, PlansAreConfined};
 ghost use Rattle.ec_script.specs.Grammar.{FaultIsTheFirst, LongIsLine1, ReadIsScript, ScriptIsRead};
+ghost use Rattle.ec_script.specs.Layout.{LayoutsAreScripts, ScriptsAreLaidOut};
+ghost use Rattle.ec_script.specs.Spelling.{LayoutsAreSpelled, LinesAreSpelled};
 
 /// A script is read as the plan that it says.
 pub fn script_is_read()
@@ -32,4 +34,24 @@ pub fn plans_are_confined()
 /// repeats written out.
 pub fn confined_lines_are_confined_commands()
     ensures { ConfinedLinesAreConfinedCommands }
+{}
+
+/// A text that is a script is laid out as a heading, whole blocks and a schedule, which say its plan.
+pub fn scripts_are_laid_out()
+    ensures { ScriptsAreLaidOut }
+{}
+
+/// And a text that is laid out so is a script of that plan.
+pub fn layouts_are_scripts()
+    ensures { LayoutsAreScripts }
+{}
+
+/// A line of a block that says an order is the one that spells it.
+pub fn lines_are_spelled()
+    ensures { LinesAreSpelled }
+{}
+
+/// So a script is the one text that spells its heading, the orders of its blocks and its schedule.
+pub fn layouts_are_spelled()
+    ensures { LayoutsAreSpelled }
 {}

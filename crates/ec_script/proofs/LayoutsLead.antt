@@ -1,0 +1,450 @@
+-- The lines of a layout lead to its plan.
+use Rattle.std.proofs.Common.{◌≡◌, ◌==◌, ◌⊎◌, inl, inr, ℕ, ◌+◌, ◌<◌, ◌≤◌, ◌^◌, List, [], ◌∷◌, ◌++◌, length, map, replicate, Bool, true, false, not, cond, eqb, nat_le, nat_lt, Option, Some, None, option_map, Result, Ok, Err, refl, sym, ap, ◌∙◌, subst, arith, codes, decimal, slice_set, get_or, ne_eqb, length-append, append-nil, append_assoc, zero-le, zero-add}
+use Rattle.std.specs.List.{AllByRecursion, flat_map, join_with_byte, range_with_len, list_any}
+use Rattle.std.specs.Option.{option_map_or}
+use Rattle.std.proofs.lemmas.Bool.{and_from, and_left, and_right, or_parts, or_from, not_from_true, not_from_false, le-ltb, lt-ltb, le-leb, lt-leb, eqb-false, false_from_ne_true}
+use Rattle.ec_count.specs.Members.{is_member, has_repeat}
+use Rattle.ec_text.specs.Words.{words_of, number_of, is_number_form, AreWords}
+use Rattle.ec_text.proofs.WordLemmas.{words_join, literal_word}
+use Rattle.ec_text.proofs.NumberLemmas.{number_again, number_is_form, number_word}
+use Rattle.ec_text.proofs.DecimalLemmas.{at_most_20}
+use Rattle.ec_heading.specs.declared.group.Group.{Group}
+use Rattle.ec_heading.specs.Headed.{Headed}
+use Rattle.ec_heading.specs.Outline.{Outline, IsOutline, AreWorkers, opened, headed}
+use Rattle.ec_heading.specs.Form.{parts_in}
+use Rattle.ec_heading.specs.Heading.{head_step, words_step, workers_in, opened_by, declared_or, is_no_line}
+use Rattle.ec_heading.specs.HeadingLaws.{LinesLead, outline_lines}
+use Rattle.ec_heading.specs.Lists.{worker_in, ids_in, has_unknown}
+use Rattle.ec_heading.specs.Spelling.{limit_line, heading_lines, list_words}
+use Rattle.ec_heading.specs.declared.heading.HeadFault.{HeadFault}
+use Rattle.ec_heading.specs.declared.heading.HeadFault.TheVariants as faults
+use Rattle.ec_heading.proofs.Declarable.{Heads, heads_opened, heads_all}
+use Rattle.ec_heading.proofs.LeadLines.{outline_leads}
+use Rattle.ec_heading.proofs.Listed.{AreBelow, finds_worker, ids_again, ids_known}
+use Rattle.ec_heading.proofs.LineWords.{AreFit, letters, AreNamed, names_fit, names_letters, listed_named, listed_length}
+use Rattle.ec_script.specs.declared.fault.Kind.TheVariants as kinds
+use Rattle.ec_script.specs.declared.verb.Verb.{Verb}
+use Rattle.ec_script.specs.declared.verb.Verb.TheVariants as verbs
+use Rattle.ec_script.specs.declared.object.Object.{Object}
+use Rattle.ec_script.specs.declared.object.Object.TheVariants.{Nothing, Worker}
+use Rattle.ec_script.specs.declared.order.Order.{Order}
+use Rattle.ec_script.specs.declared.order.Order.TheVariants.{Do, Write, Begin, End}
+use Rattle.ec_script.specs.declared.script.Block.{Block as Open}
+use Rattle.ec_script.specs.declared.stage.Stage.{Stage}
+use Rattle.ec_script.specs.declared.stage.Stage.TheVariants.{Opening, Limiting, Naming, Reading}
+use Rattle.ec_script.specs.Verbs.{verb_of, is_giving, is_outer}
+use Rattle.ec_script.specs.Forms.{phrase_in}
+use Rattle.ec_script.specs.Objects.{object_for, owns, is_owned}
+use Rattle.ec_script.specs.Kinds.{or_nothing, is_allowed, is_named_again, has_unknown_name, is_too_many, is_badly_nested}
+use Rattle.ec_script.specs.Orders.{size_in, command_in}
+use Rattle.ec_script.specs.Drafted.{Drafted, nothing_drafted, with_order}
+use Rattle.ec_script.specs.Scripted.{Scripted}
+use Rattle.ec_script.specs.Reading.{nest_of, seen, after_verb, commanded, ordered_in, headed_on, phrased, opens_outer, script_step, limit_digits, limit_or, limited, in_range, limit_step, script_of, named_on, read_on, step}
+use Rattle.ec_script.specs.Grammar.{Leads}
+use Rattle.ec_script.specs.Layout.{order_by, Says, Block, IsBlock, texts_of, orders_of, AreNested, commands_in, worker_line, block_lines, schedule_line, IsRow, joined, workers_of, layout_lines, program_of, LayoutsAreScripts}
+use Rattle.ec_script.proofs.Declaring.{HeadKeeps, Grows, first_keeps, head_grows}
+use Rattle.ec_script.proofs.PhraseWords.{made, verb_word, verb_back}
+use Rattle.ec_script.proofs.Passing.{Passes, taken_so}
+use Rattle.ec_script.proofs.Said.{IsCommand, IsStep, Ordered, ordered_of, MayNest, orders_more}
+use Rattle.ec_script.proofs.Blocks.{state, set_all, planned, joins}
+use Rattle.ec_script.proofs.Layouts.{programs_are}
+
+-- LINES OF FIT WORDS
+
+fit_words : (ws : List (List ℕ)) → AreFit ws → AreWords ws
+fit_words [] h = tt
+fit_words (w ∷ ws) h = (h.0.word, fit_words ws h.1)
+
+none_empty : (ws : List (List ℕ)) → AreFit ws → list_any (λ w. eqb (length w) 0) ws ≡ false
+none_empty [] h = refl
+none_empty (w ∷ ws) h = or_from _ _ h.0.some (none_empty ws h.1)
+
+join_length : (ws : List (List ℕ)) → length (join_with_byte 32 ws) ≤ letters ws
+join_length [] = zero-le
+join_length (w ∷ []) = omega arith
+join_length (w ∷ v ∷ ws) = omega (arith, length-append w (32 ∷ join_with_byte 32 (v ∷ ws)), join_length (v ∷ ws))
+
+fit_line : (w : List ℕ) (ws : List (List ℕ)) → AreFit (w ∷ ws) → length (join_with_byte 32 (w ∷ ws)) ≤ 8192 → (words_of (join_with_byte 32 (w ∷ ws)) ≡ w ∷ ws) × (is_no_line (join_with_byte 32 (w ∷ ws)) ≡ false)
+fit_line w ws fit short =
+    let words : words_of (join_with_byte 32 (w ∷ ws)) ≡ w ∷ ws = words_join w ws (fit_words (w ∷ ws) fit) in
+    (words, or_from _ _ (le-ltb 8192 (length (join_with_byte 32 (w ∷ ws))) short) (ap (list_any (λ v. eqb (length v) 0)) words ∙ none_empty (w ∷ ws) fit))
+
+-- WHAT NO GROUP OWNS
+
+none_owned : (gs : List Group) (o : Object) → ((g : Group) → owns o g ≡ false) → is_owned gs o ≡ false
+none_owned [] o none = refl
+none_owned (g ∷ gs) o none = or_from _ _ (none g) (none_owned gs o none)
+
+-- THE LINE OF A WORKER
+
+reads : (s t : Scripted) (line : List ℕ) → script_step s line ≡ Ok t → step (Reading s) line ≡ Ok (Reading t)
+unfolding step
+reads s t line is = ap read_on is
+
+worker_leads : (h : Headed) (ws : List (List ℕ)) → Heads ws h → AreWorkers ws → (named : List ℕ) (ps : List (List Order)) (i : ℕ) → i < length ws → is_member i named ≡ false
+    → step (Reading (state h named ps None [])) (worker_line ws i) ≡ Ok (Reading (state h (named ++ i ∷ []) ps (Some (record { worker = i; draft = nothing_drafted })) []))
+unfolding phrase_in
+worker_leads h ws heads are named ps i within new =
+    let called : AreNamed (list_words ws (i ∷ [])) = listed_named ws (i ∷ []) are.each (within, tt) in
+    let fit : AreFit (codes "worker" ∷ list_words ws (i ∷ [])) = (record { word = literal_word (codes "worker") refl; some = refl }, names_fit (list_words ws (i ∷ [])) called) in
+    let short : length (worker_line ws i) ≤ 8192 = omega (arith, join_length (codes "worker" ∷ list_words ws (i ∷ [])), names_letters (list_words ws (i ∷ [])) called) in
+    let l = fit_line (codes "worker") (list_words ws (i ∷ [])) fit short in
+    let found : worker_in h.words (get_or ws i []) ≡ Some i = ap (λ es. worker_in es (get_or ws i [])) heads.words ∙ finds_worker ws 0 heads.others i are.differ within ∙ ap Some (zero-add i) in
+    let object : object_for h verbs.Worker (get_or ws i []) [] ≡ Some (Worker i) = ap (option_map Worker) found in
+    let form : phrase_in (words_of (worker_line ws i)) ≡ Some (made verbs.Worker (get_or ws i []) []) = ap phrase_in l.0 in
+    let passes : Passes (seen (state h named ps None [])) (made verbs.Worker (get_or ws i []) []) (Some (Worker i)) = record {
+      allowed = refl;
+      new = new;
+      found = refl;
+      known = refl;
+      range = refl;
+      few = refl;
+      apart = none_owned h.groups (Worker i) (λ g. refl);
+      differ = refl;
+      right = refl;
+      nested = refl;
+    } in
+    reads (state h named ps None []) (state h (named ++ i ∷ []) ps (Some (record { worker = i; draft = nothing_drafted })) []) (worker_line ws i)
+    (taken_so (state h named ps None []) (worker_line ws i) (made verbs.Worker (get_or ws i []) []) (and_right _ _ (ap (λ us. not (opens_outer us)) l.0)) l.1 form
+    (subst (Passes (seen (state h named ps None [])) (made verbs.Worker (get_or ws i []) [])) (sym object) passes)
+    ∙ ap (λ o. Ok (after_verb verbs.Worker (state h named ps None []) (or_nothing o) [])) object)
+
+-- A LINE OF THE SCHEDULE
+
+below_each : (n : ℕ) (ids : List ℕ) → AllByRecursion (λ w. w < n) ids → AreBelow n ids
+below_each n [] h = tt
+below_each n (i ∷ ids) h = (h.0, below_each n ids h.1)
+
+row_form : (us : List (List ℕ)) → 1 ≤ length us → phrase_in (codes "schedule" ∷ us) ≡ Some (made verbs.Schedule [] us)
+unfolding phrase_in
+row_form us some = ap (λ b. cond b (Some (made verbs.Schedule [] us)) None) (le-leb 1 (length us) some)
+
+row_leads : (h : Headed) (ws : List (List ℕ)) → Heads ws h → AreWorkers ws → (named : List ℕ) (ps : List (List Order)) (sc ids : List ℕ) → IsRow ws ids → length sc + length ids ≤ 65536
+    → step (Reading (state h named ps None sc)) (schedule_line ws ids) ≡ Ok (Reading (state h named ps None (sc ++ ids)))
+row_leads h ws heads are named ps sc ids row few =
+    let low : AreBelow (length ws) ids = below_each (length ws) ids row.declared in
+    let called : AreNamed (list_words ws ids) = listed_named ws ids are.each low in
+    let fit : AreFit (codes "schedule" ∷ list_words ws ids) = (record { word = literal_word (codes "schedule") refl; some = refl }, names_fit (list_words ws ids) called) in
+    let l = fit_line (codes "schedule") (list_words ws ids) fit row.short in
+    let many : length (list_words ws ids) ≡ length ids = listed_length ws ids in
+    let form : phrase_in (words_of (schedule_line ws ids)) ≡ Some (made verbs.Schedule [] (list_words ws ids)) = ap phrase_in l.0 ∙ row_form (list_words ws ids) (omega (arith, many, row.some)) in
+    let again : ids_in h.words (list_words ws ids) ≡ ids = ap (λ es. ids_in es (list_words ws ids)) heads.words ∙ ids_again ws heads.others ids are.differ low in
+    let passes : Passes (seen (state h named ps None sc)) (made verbs.Schedule [] (list_words ws ids)) (Some Nothing) = record {
+      allowed = refl;
+      new = refl;
+      found = refl;
+      known = ap (λ es. has_unknown es (list_words ws ids)) heads.words ∙ ids_known ws heads.others ids are.differ low;
+      range = refl;
+      few = le-ltb 65536 (length sc + length (list_words ws ids)) (omega (arith, many, few));
+      apart = none_owned h.groups Nothing (λ g. refl);
+      differ = refl;
+      right = refl;
+      nested = refl;
+    } in
+    reads (state h named ps None sc) (state h named ps None (sc ++ ids)) (schedule_line ws ids)
+    (taken_so (state h named ps None sc) (schedule_line ws ids) (made verbs.Schedule [] (list_words ws ids)) (and_right _ _ (ap (λ vs. not (opens_outer vs)) l.0)) l.1 form passes
+    ∙ ap (λ js. Ok (state h named ps None (sc ++ js))) again)
+
+rows_lead : (h : Headed) (ws : List (List ℕ)) → Heads ws h → AreWorkers ws → (named : List ℕ) (ps : List (List Order)) (sc : List ℕ) (rows : List (List ℕ)) → AllByRecursion (IsRow ws) rows → length (sc ++ joined rows) ≤ 65536
+    → Leads (Reading (state h named ps None sc)) (map (schedule_line ws) rows) (Reading (state h named ps None (sc ++ joined rows)))
+rows_lead h ws heads are named ps sc [] all few = ap (λ xs. Reading (state h named ps None xs)) (sym (append-nil sc))
+rows_lead h ws heads are named ps sc (ids ∷ rows) all few =
+    let e : (sc ++ ids) ++ joined rows ≡ sc ++ joined (ids ∷ rows) = append_assoc sc ids (joined rows) in
+    let short : length sc + length ids ≤ 65536 = omega (arith, few, length-append sc (ids ++ joined rows), length-append ids (joined rows)) in (
+      Reading (state h named ps None (sc ++ ids)),
+      row_leads h ws heads are named ps sc ids all.0 short,
+      subst (λ xs. Leads (Reading (state h named ps None (sc ++ ids))) (map (schedule_line ws) rows) (Reading (state h named ps None xs))) e
+          (rows_lead h ws heads are named ps (sc ++ ids) rows all.1 (subst (λ (xs : List ℕ). length xs ≤ 65536) (sym e) few)),
+    )
+
+-- A LINE OF A BLOCK
+
+allowed_in : (v : Verb) (n : ℕ) → is_allowed v true n ≡ true
+allowed_in verbs.Schedule n = refl
+allowed_in verbs.Worker n = refl
+allowed_in v n = refl
+
+known_in : (h : Headed) (v : Verb) (us : List (List ℕ)) → is_outer v ≡ false → has_unknown_name h v us ≡ false
+known_in h verbs.Schedule us inner = cc
+known_in h v us inner = refl
+
+no_worker : (v : Verb) (o : Object) (us : List (List ℕ)) (order : Order) (named : List ℕ) → command_in v (is_giving v) o us ≡ Some order → is_named_again named o ≡ false
+no_worker v (Worker w) us order named is = cc
+no_worker v _ us order named is = refl
+
+not_named : (h : Headed) (v : Verb) (w : List ℕ) (us : List (List ℕ)) (o : Object) (order : Order) (named : List ℕ) → is_outer v ≡ false → object_for h v w us ≡ Some o → order_by v o us ≡ Some order → is_named_again named o ≡ false
+not_named h verbs.Worker w us o order named inner is says = cc
+not_named h verbs.Schedule w us o order named inner is says = cc
+not_named h verbs.Repeat w us o order named inner is says = (let e : Nothing ≡ o = cc in subst (λ x. is_named_again named x ≡ false) e refl)
+not_named h verbs.End w us o order named inner is says = (let e : Nothing ≡ o = cc in subst (λ x. is_named_again named x ≡ false) e refl)
+not_named h v w us o order named inner is says = no_worker v o us order named says
+
+step_room : (d : Drafted) (o : Order) → IsStep o → MayNest d o → d.many < 4096
+step_room d (Do c) step may = may
+step_room d (Write b vs) step may = may
+step_room d (Begin n) step may = absurd step
+step_room d End step may = absurd step
+
+room_for : (d : Drafted) (h : Headed) (v : Verb) (w : List ℕ) (us : List (List ℕ)) (o : Object) (order : Order) → IsCommand v → object_for h v w us ≡ Some o → command_in v (is_giving v) o us ≡ Some order → MayNest d order → nat_le 4096 d.many ≡ false
+room_for d h v w us o order command is says may =
+    let r : Ordered v o us = ordered_of h v w us o command is in
+    let same : Some r.order ≡ Some order = sym r.is ∙ says in
+    let e : r.order ≡ order = cc in
+    lt-leb 4096 d.many (step_room d order (subst IsStep e r.step) may)
+
+few_in : (h : Headed) (b : Open) (v : Verb) (w : List ℕ) (us : List (List ℕ)) (o : Object) (order : Order) (n : ℕ) → is_outer v ≡ false → object_for h v w us ≡ Some o → order_by v o us ≡ Some order → MayNest b.draft order
+    → is_too_many v us (Some (nest_of b)) n ≡ false
+few_in h b verbs.Worker w us o order n inner is says may = cc
+few_in h b verbs.Schedule w us o order n inner is says may = cc
+few_in h b verbs.Repeat w us o order n inner is says may = (let e : Begin (size_in us) ≡ order = cc in lt-leb 4096 b.draft.many (subst (MayNest b.draft) (sym e) may).1)
+few_in h b verbs.End w us o order n inner is says may = refl
+few_in h b v w us o order n inner is says may = room_for b.draft h v w us o order tt is says may
+
+nested_in : (h : Headed) (b : Open) (v : Verb) (w : List ℕ) (us : List (List ℕ)) (o : Object) (order : Order) → is_outer v ≡ false → order_by v o us ≡ Some order → MayNest b.draft order
+    → is_badly_nested v (Some (nest_of b)) ≡ false
+nested_in h b verbs.Worker w us o order inner says may = cc
+nested_in h b verbs.Schedule w us o order inner says may = cc
+nested_in h b verbs.Repeat w us o order inner says may = (let e : Begin (size_in us) ≡ order = cc in lt-leb 4 b.draft.depth (subst (MayNest b.draft) (sym e) may).0)
+nested_in h b verbs.End w us o order inner says may = (let e : End ≡ order = cc in and_right (nat_lt 0 b.draft.depth) b.draft.is_empty (subst (MayNest b.draft) (sym e) may).1)
+nested_in h b v w us o order inner says may = refl
+
+after_in : (h : Headed) (named : List ℕ) (ps : List (List Order)) (b : Open) (sc : List ℕ) (v : Verb) (us : List (List ℕ)) (o : Object) (order : Order) → is_outer v ≡ false → order_by v o us ≡ Some order → MayNest b.draft order
+    → after_verb v (state h named ps (Some b) sc) o us ≡ state h named ps (Some (record { worker = b.worker; draft = with_order b.draft order })) sc
+after_in h named ps b sc verbs.Worker us o order inner says may = cc
+after_in h named ps b sc verbs.Schedule us o order inner says may = cc
+after_in h named ps b sc verbs.Repeat us o order inner says may = (let e : Begin (size_in us) ≡ order = cc in ap (λ x. state h named ps (Some (record { worker = b.worker; draft = with_order b.draft x })) sc) e)
+after_in h named ps b sc verbs.End us o order inner says may =
+    let e : End ≡ order = cc in
+    let deep : 0 < b.draft.depth = (subst (MayNest b.draft) (sym e) may).0 in
+    let inner_one : eqb b.draft.depth 0 ≡ false = ne_eqb b.draft.depth 0 (λ none. omega (arith, none, deep)) in
+    ap (λ t. cond t (state h named (slice_set ps b.worker b.draft.orders) None sc) (ordered_in (state h named ps (Some b) sc) (Some b) End)) inner_one
+    ∙ ap (λ x. state h named ps (Some (record { worker = b.worker; draft = with_order b.draft x })) sc) e
+after_in h named ps b sc v us o order inner says may = ap (commanded (state h named ps (Some b) sc)) says
+
+order_leads : (h : Headed) (named : List ℕ) (ps : List (List Order)) (b : Open) (sc : List ℕ) (line : List ℕ) (order : Order) → 0 < length named → Says h b.worker line order → MayNest b.draft order
+    → step (Reading (state h named ps (Some b) sc)) line ≡ Ok (Reading (state h named ps (Some (record { worker = b.worker; draft = with_order b.draft order })) sc))
+order_leads h named ps b sc line order some says may =
+    let passes : Passes (seen (state h named ps (Some b) sc)) says.phrase (Some says.object) = record {
+      allowed = allowed_in says.phrase.verb (length sc);
+      new = not_named h says.phrase.verb says.phrase.object says.phrase.rest says.object order named says.inner says.declared says.says;
+      found = refl;
+      known = known_in h says.phrase.verb says.phrase.rest says.inner;
+      range = says.range;
+      few = few_in h b says.phrase.verb says.phrase.object says.phrase.rest says.object order (length sc) says.inner says.declared says.says may;
+      apart = says.apart;
+      differ = says.differ;
+      right = not_from_true _ says.right;
+      nested = nested_in h b says.phrase.verb says.phrase.object says.phrase.rest says.object order says.inner says.says may;
+    } in
+    let past : eqb (length named) 0 ≡ false = ne_eqb (length named) 0 (λ e. omega (arith, e, some)) in
+    reads (state h named ps (Some b) sc) (state h named ps (Some (record { worker = b.worker; draft = with_order b.draft order })) sc) line
+    (taken_so (state h named ps (Some b) sc) line says.phrase (and_left _ _ (and_left _ _ past)) says.whole says.form (subst (Passes (seen (state h named ps (Some b) sc)) says.phrase) (sym says.declared) passes)
+    ∙ ap (λ o. Ok (after_verb says.phrase.verb (state h named ps (Some b) sc) (or_nothing o) says.phrase.rest)) says.declared
+    ∙ ap Ok (after_in h named ps b sc says.phrase.verb says.phrase.rest says.object order says.inner says.says may))
+
+-- the `end` of a block
+end_leads : (h : Headed) (named : List ℕ) (ps : List (List Order)) (b : Open) (sc : List ℕ) → 0 < length named → b.draft.depth ≡ 0
+    → step (Reading (state h named ps (Some b) sc)) (codes "end") ≡ Ok (Reading (state h named (slice_set ps b.worker b.draft.orders) None sc))
+unfolding phrase_in
+end_leads h named ps b sc some closed =
+    let fit : AreFit (codes "end" ∷ []) = (record { word = literal_word (codes "end") refl; some = refl }, tt) in
+    let l = fit_line (codes "end") [] fit (omega arith) in
+    let past : eqb (length named) 0 ≡ false = ne_eqb (length named) 0 (λ e. omega (arith, e, some)) in
+    let passes : Passes (seen (state h named ps (Some b) sc)) (made verbs.End [] []) (Some Nothing) = record {
+      allowed = refl;
+      new = refl;
+      found = refl;
+      known = refl;
+      range = refl;
+      few = refl;
+      apart = none_owned h.groups Nothing (λ g. refl);
+      differ = refl;
+      right = refl;
+      nested = and_left (nat_lt 0 b.draft.depth) b.draft.is_empty (le-ltb 0 b.draft.depth (omega (arith, closed)));
+    } in
+    let done : eqb b.draft.depth 0 ≡ true = ap (λ d. eqb d 0) closed in
+    reads (state h named ps (Some b) sc) (state h named (slice_set ps b.worker b.draft.orders) None sc) (codes "end")
+    (taken_so (state h named ps (Some b) sc) (codes "end") (made verbs.End [] []) (and_left _ _ (and_left _ _ past)) l.1 (ap phrase_in l.0) passes
+    ∙ ap (λ t. Ok (cond t (state h named (slice_set ps b.worker b.draft.orders) None sc) (ordered_in (state h named ps (Some b) sc) (Some b) End))) done)
+
+record Follows (d : Drafted) (o : Order) (os : List Order) : Type 0 where
+  may : MayNest d o
+  nested : AreNested (with_order d o).depth (with_order d o).is_empty os
+  few : (with_order d o).many + commands_in os ≤ 4096
+
+follows : (d : Drafted) (o : Order) (os : List Order) → AreNested d.depth d.is_empty (o ∷ os) → d.many + commands_in (o ∷ os) ≤ 4096 → Follows d o os
+follows d (Do c) os nested few = record { may = omega (arith, few); nested = nested; few = omega (arith, few) }
+follows d (Write b vs) os nested few = record { may = omega (arith, few); nested = nested; few = omega (arith, few) }
+follows d (Begin n) os nested few = record { may = (nested.0, omega (arith, few)); nested = nested.1; few = omega (arith, few) }
+follows d End os nested few = record { may = (nested.0, nested.1); nested = nested.2; few = few }
+
+inside_leads : (h : Headed) (named : List ℕ) (ps : List (List Order)) (b : Open) (sc : List ℕ) (inside : List (List ℕ × Order)) (more : List (List ℕ)) (t : Stage)
+    → 0 < length named → AllByRecursion (λ (l : List ℕ × Order). Says h b.worker l.0 l.1) inside → AreNested b.draft.depth b.draft.is_empty (orders_of inside) → b.draft.many + commands_in (orders_of inside) ≤ 4096
+    → Leads (Reading (state h named (slice_set ps b.worker (b.draft.orders ++ orders_of inside)) None sc)) more t
+    → Leads (Reading (state h named ps (Some b) sc)) (texts_of inside ++ codes "end" ∷ more) t
+inside_leads h named ps b sc [] more t some all nested few leads = (
+  Reading (state h named (slice_set ps b.worker b.draft.orders) None sc),
+  end_leads h named ps b sc some nested,
+  subst (λ (os : List Order). Leads (Reading (state h named (slice_set ps b.worker os) None sc)) more t) (append-nil b.draft.orders) leads,
+)
+inside_leads h named ps b sc (l ∷ inside) more t some all nested few leads =
+    let f : Follows b.draft l.1 (orders_of inside) = follows b.draft l.1 (orders_of inside) nested few in
+    let e : b.draft.orders ++ orders_of (l ∷ inside) ≡ (with_order b.draft l.1).orders ++ orders_of inside =
+    sym (ap (λ (os : List Order). os ++ orders_of inside) (orders_more b.draft l.1) ∙ append_assoc b.draft.orders (l.1 ∷ []) (orders_of inside)) in (
+      Reading (state h named ps (Some (record { worker = b.worker; draft = with_order b.draft l.1 })) sc),
+      order_leads h named ps b sc l.0 l.1 some all.0 f.may,
+      inside_leads h named ps (record { worker = b.worker; draft = with_order b.draft l.1 }) sc inside more t some all.1 f.nested f.few
+          (subst (λ (os : List Order). Leads (Reading (state h named (slice_set ps b.worker os) None sc)) more t) e leads),
+    )
+
+-- BLOCKS
+
+abbrev named_all : List ℕ → List Block → List ℕ
+named_all named [] = named
+named_all named (b ∷ bs) = named_all (named ++ b.worker ∷ []) bs
+
+push_member : (w i : ℕ) (named : List ℕ) → is_member w named ≡ false → (i == w) ≡ false → is_member w (named ++ i ∷ []) ≡ false
+push_member w i [] is other = or_from _ _ other refl
+push_member w i (v ∷ named) is other = (let p = or_parts (eqb v w) (is_member w named) is in or_from _ _ p.0 (push_member w i named p.1 other))
+
+still_new : (i : ℕ) (named : List ℕ) (bs : List Block) → is_member i (workers_of bs) ≡ false → AllByRecursion (λ (b : Block). is_member b.worker named ≡ false) bs → AllByRecursion (λ (b : Block). is_member b.worker (named ++ i ∷ []) ≡ false) bs
+still_new i named [] none all = tt
+still_new i named (b ∷ bs) none all =
+    let p = or_parts (eqb b.worker i) (is_member i (workers_of bs)) none in
+    (push_member b.worker i named all.0 (ne_eqb i b.worker (λ e. eqb-false b.worker i p.0 (sym e))), still_new i named bs p.1 all.1)
+
+all_new : (bs : List Block) → AllByRecursion (λ (b : Block). is_member b.worker [] ≡ false) bs
+all_new [] = tt
+all_new (b ∷ bs) = (refl, all_new bs)
+
+blocks_lead : (h : Headed) (ws : List (List ℕ)) → Heads ws h → AreWorkers ws → (named : List ℕ) (ps : List (List Order)) (bs : List Block) (rest : List (List ℕ)) (t : Stage)
+    → AllByRecursion (IsBlock h) bs → AllByRecursion (λ (b : Block). is_member b.worker named ≡ false) bs → has_repeat (workers_of bs) ≡ false
+    → Leads (Reading (state h (named_all named bs) (set_all ps bs) None [])) rest t → Leads (Reading (state h named ps None [])) (flat_map (block_lines ws) bs ++ rest) t
+blocks_lead h ws heads are named ps [] rest t all new differ leads = leads
+blocks_lead h ws heads are named ps (b ∷ bs) rest t all new differ leads =
+    let p = or_parts (is_member b.worker (workers_of bs)) (has_repeat (workers_of bs)) differ in
+    let within : b.worker < length ws = omega (arith, all.0.worker, heads.count) in (
+      Reading (state h (named ++ b.worker ∷ []) ps (Some (record { worker = b.worker; draft = nothing_drafted })) []),
+      worker_leads h ws heads are named ps b.worker within new.0,
+      subst (λ ls. Leads (Reading (state h (named ++ b.worker ∷ []) ps (Some (record { worker = b.worker; draft = nothing_drafted })) [])) ls t) (joins (texts_of b.lines) (codes "end") (flat_map (block_lines ws) bs) rest)
+          (inside_leads h (named ++ b.worker ∷ []) ps (record { worker = b.worker; draft = nothing_drafted }) [] b.lines (flat_map (block_lines ws) bs ++ rest) t
+          (omega (arith, length-append named (b.worker ∷ []))) all.0.each all.0.nested (omega (arith, all.0.few))
+          (blocks_lead h ws heads are (named ++ b.worker ∷ []) (slice_set ps b.worker (orders_of b.lines)) bs rest t all.1 (still_new b.worker named bs p.0 new.1) p.1 leads)),
+    )
+
+-- THE HEADING
+
+outer_verb : (v : Verb) → is_outer v ≡ true → (v ≡ verbs.Worker) ⊎ (v ≡ verbs.Schedule)
+outer_verb verbs.Worker is = inl refl
+outer_verb verbs.Schedule is = inr refl
+outer_verb v is = cc
+
+outer_word : (w : List ℕ) (o : Option Verb) → verb_of w ≡ o → option_map_or is_outer o false ≡ true → (w ≡ codes "worker") ⊎ (w ≡ codes "schedule")
+outer_word w None e is = cc
+outer_word w (Some v) e is =
+    elim (outer_verb v is) [
+      | inl f ↦ inl (verb_back w v e ∙ ap verb_word f)
+      | inr f ↦ inr (verb_back w v e ∙ ap verb_word f)
+    ]
+
+refused_words : (h next : Headed) (words ws : List (List ℕ)) → eqb h.setup.workers 0 ≡ false → parts_in words ≡ None → words_step h words ≡ Ok next → ⊥
+refused_words h next words ws some none is =
+    let e : Err faults.BadLine ≡ Ok next =
+    sym (ap (λ b. cond b (opened_by h.setup.limit (workers_in words)) (declared_or h (parts_in words))) some ∙ ap (declared_or h) none) ∙ is in
+    cc
+
+no_sort : (w : List ℕ) (ws : List (List ℕ)) → (w ≡ codes "worker") ⊎ (w ≡ codes "schedule") → parts_in (w ∷ ws) ≡ None
+unfolding parts_in
+no_sort w ws is = elim is [ inl f ↦ ap (λ (x : List ℕ). parts_in (x ∷ ws)) f | inr f ↦ ap (λ (x : List ℕ). parts_in (x ∷ ws)) f ]
+
+declaring_words : (h next : Headed) (words : List (List ℕ)) → eqb h.setup.workers 0 ≡ false → words_step h words ≡ Ok next → opens_outer words ≡ false
+declaring_words h next [] some is = refl
+declaring_words h next (w ∷ ws) some is = false_from_ne_true _ (λ outer. refused_words h next (w ∷ ws) ws some (no_sort w ws (outer_word w (verb_of w) refl outer)) is)
+
+not_refused : (b : Bool) (f : HeadFault) (r : Result Headed HeadFault) (t : Headed) → cond b (Err f) r ≡ Ok t → r ≡ Ok t
+not_refused true f r t is = cc
+not_refused false f r t is = is
+
+declaring_line : (h next : Headed) (line : List ℕ) → HeadKeeps h → head_step h line ≡ Ok next → opens_outer (words_of line) ≡ false
+unfolding head_step
+declaring_line h next line keeps is =
+    let some : eqb h.setup.workers 0 ≡ false = ne_eqb h.setup.workers 0 (λ e. (let k : 1 ≤ h.setup.workers = keeps.some in omega (arith, k, e))) in
+    declaring_words h next (words_of line) some (not_refused (is_no_line line) faults.BadLine (words_step h (words_of line)) next is)
+
+declaration_leads : (h next : Headed) (line : List ℕ) → HeadKeeps h → head_step h line ≡ Ok next → script_step (script_of h) line ≡ Ok (script_of next)
+unfolding script_step
+declaration_leads h next line keeps is =
+    let declaring : not (opens_outer (words_of line)) ≡ true = not_from_false _ (declaring_line h next line keeps is) in
+    let grows : Grows h next = head_grows h line next keeps is in
+    let none : List Order = [] in
+    ap (λ b. cond b (headed_on (script_of h) (head_step h line)) (cond (is_no_line line) (Err kinds.BadLine) (phrased (script_of h) (phrase_in (words_of line))))) declaring
+    ∙ ap (headed_on (script_of h)) is
+    ∙ ap (λ n. Ok (state next [] (replicate n none) None [])) (sym grows.workers)
+
+declarations_lead : (h end : Headed) (lines more : List (List ℕ)) (t : Stage) → HeadKeeps h → LinesLead h lines end → Leads (Reading (script_of end)) more t → Leads (Reading (script_of h)) (lines ++ more) t
+declarations_lead h end [] more t keeps heads leads = subst (λ (g : Headed). Leads (Reading (script_of g)) more t) (sym heads) leads
+declarations_lead h end (line ∷ lines) more t keeps heads leads =
+    let grows : Grows h heads.0 = head_grows h line heads.0 keeps heads.1 in (
+      Reading (script_of heads.0),
+      reads (script_of h) (script_of heads.0) line (declaration_leads h heads.0 line keeps heads.1),
+      declarations_lead heads.0 end lines more t grows.keeps heads.2 leads,
+    )
+
+header_leads : step Opening (codes "evc-script 1") ≡ Ok Limiting
+unfolding step
+header_leads = refl
+
+limit_leads : (n : ℕ) → 1 ≤ n → n < 2 ^ 32 → step Limiting (limit_line n) ≡ Ok (Naming n)
+unfolding step limit_step
+limit_leads n low high =
+    let words : words_of (limit_line n) ≡ codes "limit" ∷ decimal n ∷ [] = words_join (codes "limit") (decimal n ∷ []) (literal_word (codes "limit") refl, (number_word n (omega arith), tt)) in
+    let number : number_of (decimal n) ≡ Some n = number_again n (omega arith) in
+    let form : is_number_form (decimal n) ≡ true = (number_is_form (decimal n) n number).0 in
+    let range : in_range n ≡ true = and_from _ _ (le-leb 1 n low) (lt-ltb n 4294967296 (omega (arith, high))) in
+    let short : nat_lt 8192 (length (limit_line n)) ≡ false = le-ltb 8192 (length (limit_line n)) (omega (arith, at_most_20 n (omega arith), length-append (codes "limit ") (decimal n))) in
+    ap (λ b. cond b (Err kinds.BadLine) (limit_or (limit_digits (words_of (limit_line n))))) short
+    ∙ ap (λ ws. limit_or (limit_digits ws)) words
+    ∙ ap (λ b. limit_or (cond b (Some (decimal n)) None)) form
+    ∙ ap limited number
+    ∙ ap (λ b. cond b (Ok (Naming n)) (Err kinds.BadNumber)) range
+
+workers_lead : (n : ℕ) (line : List ℕ) (h : Headed) → head_step (opened n []) line ≡ Ok h → step (Naming n) line ≡ Ok (Reading (script_of h))
+unfolding step
+workers_lead n line h is = ap named_on is
+
+heading_leads : (o : Outline) → IsOutline o → (more : List (List ℕ)) (t : Stage) → Leads (Reading (script_of (headed o))) more t → Leads Opening (codes "evc-script 1" ∷ heading_lines o ++ more) t
+heading_leads o is more t leads =
+    let heads : LinesLead (opened o.limit []) (outline_lines o) (headed o) = outline_leads o is in (
+      Limiting,
+      header_leads,
+      (
+        Naming o.limit,
+        limit_leads o.limit is.low is.high,
+        (
+          Reading (script_of heads.0),
+          workers_lead o.limit _ heads.0 heads.1,
+          declarations_lead heads.0 (headed o) _ more t (first_keeps o.limit _ heads.0 heads.1) heads.2 leads,
+        ),
+      ),
+    )
+
+-- WHOLE SCRIPTS
+
+pub is_script : LayoutsAreScripts
+is_script bytes p is =
+    let none : List Order = [] in
+    let heads : Heads is.layout.outline.workers (headed is.layout.outline) =
+    heads_all is.layout.outline.workers (opened is.layout.outline.limit is.layout.outline.workers) is.layout.outline.declarations (heads_opened is.layout.outline.limit is.layout.outline.workers) in
+    let programs : set_all (replicate (headed is.layout.outline).setup.workers none) is.layout.blocks ≡ map (program_of is.layout.blocks) (range_with_len 0 (length is.layout.outline.workers)) =
+    ap (λ n. set_all (replicate n none) is.layout.blocks) heads.count ∙ programs_are is.layout.blocks (length is.layout.outline.workers) is.is.differ in
+    record {
+      lines = layout_lines is.layout;
+      stage = Reading (state (headed is.layout.outline) (named_all [] is.layout.blocks) (set_all (replicate (headed is.layout.outline).setup.workers none) is.layout.blocks) None (joined is.layout.rows));
+      text = is.text;
+      each = is.each;
+      leads = heading_leads is.layout.outline is.is.heading _ _
+          (blocks_lead (headed is.layout.outline) is.layout.outline.workers heads is.is.heading.workers [] (replicate (headed is.layout.outline).setup.workers none) is.layout.blocks _ _ is.is.blocks (all_new is.layout.blocks) is.is.differ
+          (rows_lead (headed is.layout.outline) is.layout.outline.workers heads is.is.heading.workers (named_all [] is.layout.blocks) (set_all (replicate (headed is.layout.outline).setup.workers none) is.layout.blocks) [] is.layout.rows is.is.rows is.is.few));
+      plan = ap (λ (qs : List (List Order)). Some (planned (headed is.layout.outline) qs (joined is.layout.rows))) programs ∙ ap Some (sym is.plan);
+      within = is.within;
+    }

@@ -1,0 +1,143 @@
+-- A line behind the declarations that is taken passes each test.
+use Rattle.std.proofs.Common.{◌≡◌, ℕ, List, [], ◌∷◌, Bool, true, false, not, ◌&&◌, ◌||◌, cond, Option, Some, None, is_some, is_none, Result, Ok, Err, refl, sym, ap, ◌∙◌}
+use Rattle.std.proofs.lemmas.Bool.{or_parts, or_from, not-false, not_from_true}
+use Rattle.ec_count.specs.Tables.{first_that}
+use Rattle.ec_text.specs.Words.{words_of}
+use Rattle.ec_heading.specs.Heading.{head_step, is_no_line}
+use Rattle.ec_heading.proofs.Declarable.{passed, pass}
+use Rattle.ec_script.specs.declared.fault.Kind.{Kind}
+use Rattle.ec_script.specs.declared.fault.Kind.TheVariants as kinds
+use Rattle.ec_script.specs.declared.object.Object.{Object}
+use Rattle.ec_script.specs.declared.stage.Stage.{Stage}
+use Rattle.ec_script.specs.declared.stage.Stage.TheVariants.{Reading}
+use Rattle.ec_script.specs.Verbs.{tail_of}
+use Rattle.ec_script.specs.Forms.{Phrase, phrase_in}
+use Rattle.ec_script.specs.Objects.{object_in, is_owned}
+use Rattle.ec_script.specs.Kinds.{Seen, phrase_fault, or_nothing, is_allowed, is_named_again, has_unknown_name, is_bad_tail, is_too_many, has_two_roles, lacks_right, is_badly_nested}
+use Rattle.ec_script.specs.Scripted.{Scripted}
+use Rattle.ec_script.specs.Reading.{seen, after, fault_or, phrased, headed_on, is_declaring, opens_outer, script_step, read_on}
+
+-- no test holds of the line
+pub record Passes (s : Seen) (p : Phrase) (o : Option Object) : Type 0 where
+  pub allowed : is_allowed p.verb (is_some s.nest) s.scheduled ≡ true
+  pub new : is_named_again s.named (or_nothing o) ≡ false
+  pub found : is_none o ≡ false
+  pub known : has_unknown_name s.heading p.verb p.rest ≡ false
+  pub range : is_bad_tail (tail_of p.verb) p.verb p.rest (or_nothing o) ≡ false
+  pub few : is_too_many p.verb p.rest s.nest s.scheduled ≡ false
+  pub apart : is_owned s.heading.groups (or_nothing o) ≡ false
+  pub differ : has_two_roles (or_nothing o) ≡ false
+  pub right : lacks_right s.heading.setup s.nest p.verb (or_nothing o) ≡ false
+  pub nested : is_badly_nested p.verb s.nest ≡ false
+
+record Nine (t1 t2 t3 t4 t5 t6 t7 t8 t9 : Bool) : Type 0 where
+  f1 : t1 ≡ false
+  f2 : t2 ≡ false
+  f3 : t3 ≡ false
+  f4 : t4 ≡ false
+  f5 : t5 ≡ false
+  f6 : t6 ≡ false
+  f7 : t7 ≡ false
+  f8 : t8 ≡ false
+  f9 : t9 ≡ false
+
+nine : (t1 t2 t3 t4 t5 t6 t7 t8 t9 : Bool)
+    → first_that ((t1, kinds.BadLine) ∷ (t2, kinds.NameTaken) ∷ (t3, kinds.UnknownName) ∷ (t4, kinds.BadNumber) ∷ (t5, kinds.TooMany) ∷ (t6, kinds.Hidden) ∷ (t7, kinds.TwoRoles) ∷ (t8, kinds.NoRight) ∷ (t9, kinds.BadNesting) ∷ []) ≡ None
+    → Nine t1 t2 t3 t4 t5 t6 t7 t8 t9
+nine t1 t2 t3 t4 t5 t6 t7 t8 t9 is =
+    let l9 : List (Bool × Kind) = (t9, kinds.BadNesting) ∷ [] in
+    let l8 : List (Bool × Kind) = (t8, kinds.NoRight) ∷ l9 in
+    let l7 : List (Bool × Kind) = (t7, kinds.TwoRoles) ∷ l8 in
+    let l6 : List (Bool × Kind) = (t6, kinds.Hidden) ∷ l7 in
+    let l5 : List (Bool × Kind) = (t5, kinds.TooMany) ∷ l6 in
+    let l4 : List (Bool × Kind) = (t4, kinds.BadNumber) ∷ l5 in
+    let l3 : List (Bool × Kind) = (t3, kinds.UnknownName) ∷ l4 in
+    let l2 : List (Bool × Kind) = (t2, kinds.NameTaken) ∷ l3 in
+    let p1 = passed t1 kinds.BadLine l2 is in
+    let p2 = passed t2 kinds.NameTaken l3 p1.1 in
+    let p3 = passed t3 kinds.UnknownName l4 p2.1 in
+    let p4 = passed t4 kinds.BadNumber l5 p3.1 in
+    let p5 = passed t5 kinds.TooMany l6 p4.1 in
+    let p6 = passed t6 kinds.Hidden l7 p5.1 in
+    let p7 = passed t7 kinds.TwoRoles l8 p6.1 in
+    let p8 = passed t8 kinds.NoRight l9 p7.1 in
+    let p9 = passed t9 kinds.BadNesting [] p8.1 in
+    record { f1 = p1.0; f2 = p2.0; f3 = p3.0; f4 = p4.0; f5 = p5.0; f6 = p6.0; f7 = p7.0; f8 = p8.0; f9 = p9.0 }
+
+pub passes : (s : Seen) (p : Phrase) (o : Option Object) → phrase_fault s p o ≡ None → Passes s p o
+passes s p o is =
+    let n = nine (not (is_allowed p.verb (is_some s.nest) s.scheduled)) (is_named_again s.named (or_nothing o)) (is_none o || has_unknown_name s.heading p.verb p.rest)
+    (is_bad_tail (tail_of p.verb) p.verb p.rest (or_nothing o)) (is_too_many p.verb p.rest s.nest s.scheduled) (is_owned s.heading.groups (or_nothing o))
+    (has_two_roles (or_nothing o)) (lacks_right s.heading.setup s.nest p.verb (or_nothing o)) (is_badly_nested p.verb s.nest) is in
+    let u = or_parts (is_none o) (has_unknown_name s.heading p.verb p.rest) n.f3 in
+    record { allowed = not-false _ n.f1; new = n.f2; found = u.0; known = u.1; range = n.f4; few = n.f5; apart = n.f6; differ = n.f7; right = n.f8; nested = n.f9 }
+
+-- and where none holds there is no fault
+pub no_fault_of : (s : Seen) (p : Phrase) (o : Option Object) → Passes s p o → phrase_fault s p o ≡ None
+no_fault_of s p o h =
+    let t1 : Bool = not (is_allowed p.verb (is_some s.nest) s.scheduled) in
+    let t2 : Bool = is_named_again s.named (or_nothing o) in
+    let t3 : Bool = is_none o || has_unknown_name s.heading p.verb p.rest in
+    let t4 : Bool = is_bad_tail (tail_of p.verb) p.verb p.rest (or_nothing o) in
+    let t5 : Bool = is_too_many p.verb p.rest s.nest s.scheduled in
+    let t6 : Bool = is_owned s.heading.groups (or_nothing o) in
+    let t7 : Bool = has_two_roles (or_nothing o) in
+    let t8 : Bool = lacks_right s.heading.setup s.nest p.verb (or_nothing o) in
+    let t9 : Bool = is_badly_nested p.verb s.nest in
+    let l9 : List (Bool × Kind) = (t9, kinds.BadNesting) ∷ [] in
+    let l8 : List (Bool × Kind) = (t8, kinds.NoRight) ∷ l9 in
+    let l7 : List (Bool × Kind) = (t7, kinds.TwoRoles) ∷ l8 in
+    let l6 : List (Bool × Kind) = (t6, kinds.Hidden) ∷ l7 in
+    let l5 : List (Bool × Kind) = (t5, kinds.TooMany) ∷ l6 in
+    let l4 : List (Bool × Kind) = (t4, kinds.BadNumber) ∷ l5 in
+    let l3 : List (Bool × Kind) = (t3, kinds.UnknownName) ∷ l4 in
+    let l2 : List (Bool × Kind) = (t2, kinds.NameTaken) ∷ l3 in
+    pass t1 kinds.BadLine l2 (not_from_true _ h.allowed) (pass t2 kinds.NameTaken l3 h.new (pass t3 kinds.UnknownName l4 (or_from _ _ h.found h.known)
+    (pass t4 kinds.BadNumber l5 h.range (pass t5 kinds.TooMany l6 h.few (pass t6 kinds.Hidden l7 h.apart (pass t7 kinds.TwoRoles l8 h.differ (pass t8 kinds.NoRight l9 h.right (pass t9 kinds.BadNesting [] h.nested refl))))))))
+
+-- A LINE
+
+-- the line is taken as a phrase, and leads on
+pub record IsTaken (s : Scripted) (line : List ℕ) (t : Scripted) : Type 0 where
+  pub whole : is_no_line line ≡ false
+  pub phrase : Phrase
+  pub form : phrase_in (words_of line) ≡ Some phrase
+  pub passes : Passes (seen s) phrase (object_in s.heading phrase)
+  pub leads : after s phrase ≡ t
+
+-- the line is not read as a declaration
+abbrev pub IsBehind : Scripted → List ℕ → Type 0
+IsBehind s line = (is_declaring s && not (opens_outer (words_of line))) ≡ false
+
+faultless : (o : Option Kind) (s t : Scripted) → fault_or o s ≡ Ok t → (o ≡ None) × (s ≡ t)
+faultless None s t is = (refl, cc)
+faultless (Some k) s t is = cc
+
+phrased_back : (s t : Scripted) (line : List ℕ) (o : Option Phrase) → is_no_line line ≡ false → phrase_in (words_of line) ≡ o → phrased s o ≡ Ok t → IsTaken s line t
+phrased_back s t line None whole form is = cc
+phrased_back s t line (Some p) whole form is =
+    let f = faultless (phrase_fault (seen s) p (object_in s.heading p)) (after s p) t is in
+    record { whole = whole; phrase = p; form = form; passes = passes (seen s) p (object_in s.heading p) f.0; leads = f.1 }
+
+line_back : (s t : Scripted) (line : List ℕ) (b : Bool) → is_no_line line ≡ b → cond b (Err kinds.BadLine) (phrased s (phrase_in (words_of line))) ≡ Ok t → IsTaken s line t
+line_back s t line true whole is = cc
+line_back s t line false whole is = phrased_back s t line (phrase_in (words_of line)) whole refl is
+
+pub taken_back : (s t : Scripted) (line : List ℕ) → IsBehind s line → script_step s line ≡ Ok t → IsTaken s line t
+unfolding script_step
+taken_back s t line behind is =
+    line_back s t line (is_no_line line) refl
+    (ap (λ b. cond b (headed_on s (head_step s.heading line)) (cond (is_no_line line) (Err kinds.BadLine) (phrased s (phrase_in (words_of line))))) (sym behind) ∙ is)
+
+-- and a line that passes is taken
+pub taken_so : (s : Scripted) (line : List ℕ) (p : Phrase) → IsBehind s line → is_no_line line ≡ false → phrase_in (words_of line) ≡ Some p → Passes (seen s) p (object_in s.heading p) → script_step s line ≡ Ok (after s p)
+unfolding script_step
+taken_so s line p behind whole form h =
+    ap (λ b. cond b (headed_on s (head_step s.heading line)) (cond (is_no_line line) (Err kinds.BadLine) (phrased s (phrase_in (words_of line))))) behind
+    ∙ ap (λ b. cond b (Err kinds.BadLine) (phrased s (phrase_in (words_of line)))) whole
+    ∙ ap (phrased s) form
+    ∙ ap (λ o. fault_or o (after s p)) (no_fault_of (seen s) p (object_in s.heading p) h)
+
+pub read_back : (r : Result Scripted Kind) (t : Stage) → read_on r ≡ Ok t → (s : Scripted) × (r ≡ Ok s) × (t ≡ Reading s)
+read_back (Ok s) t is = (s, refl, cc)
+read_back (Err k) t is = cc
