@@ -10,6 +10,7 @@ mod laws;
 mod lists;
 mod object;
 mod order;
+mod pairs;
 mod parsing;
 mod plan;
 mod script;
@@ -22,5 +23,6 @@ pub use laws::{
     read_is_script, script_is_read,
 };
 pub use order::{Order, Values};
+pub use pairs::{two_roles_are_one_name, two_roles_are_told};
 pub use parsing::{SCRIPT_MAX, parse};
 pub use plan::Plan;
