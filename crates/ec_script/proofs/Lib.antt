@@ -9,6 +9,8 @@ pub mod Apart
 pub mod OneName
 pub mod Commons
 pub mod TwoRoles
+pub mod LedHeadings
+pub mod PairLines
 pub mod Declaring
 pub mod Confining
 pub mod WrittenOut

@@ -173,7 +173,7 @@ in_block : (n : Option Nest) → not (is_some n) ≡ false → is_some n ≡ tru
 in_block None off = cc
 in_block (Some n) off = refl
 
-names_one : (s : Seen) (p : Phrase) → IsHeading s.heading → phrase_fault s p (object_in s.heading p) ≡ Some kinds.TwoRoles → NamesOneTwice s p
+pub names_one : (s : Seen) (p : Phrase) → IsHeading s.heading → phrase_fault s p (object_in s.heading p) ≡ Some kinds.TwoRoles → NamesOneTwice s p
 names_one s p is fault =
     let t = told _ _ _ _ _ _ _ _ _ fault in
     let verb : p.verb ≡ verbs.DownBoth = pair_verb s.heading p.verb p.object p.rest t.two in
@@ -214,7 +214,7 @@ two_told s w is declared inside room =
     (ap (λ (o : Option Object). is_owned s.heading.groups (or_nothing o)) found ∙ none_owned s.heading.groups pair.common pair.first pair.second)
     (ap (λ (o : Option Object). has_two_roles (or_nothing o)) found ∙ pair.roles ∙ first_again w pair.other pair.words)
 
-is_told : (s : Seen) (p : Phrase) → IsHeading s.heading → NamesOneTwice s p → phrase_fault s p (object_in s.heading p) ≡ Some kinds.TwoRoles
+pub is_told : (s : Seen) (p : Phrase) → IsHeading s.heading → NamesOneTwice s p → phrase_fault s p (object_in s.heading p) ≡ Some kinds.TwoRoles
 is_told s p is names =
     let P : Verb → List (List ℕ) → Type 0 = λ v ws.
     IsHeading s.heading → is_some (object_for s.heading v p.object ws) ≡ true → is_some s.nest ≡ true → is_too_many v ws s.nest s.scheduled ≡ false

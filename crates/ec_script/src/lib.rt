@@ -23,6 +23,8 @@ pub use laws::{
     read_is_script, script_is_read,
 };
 pub use order::{Order, Values};
-pub use pairs::{two_roles_are_one_name, two_roles_are_told};
+pub use pairs::{
+    lines_lead_to_headings, lines_of_two_roles, two_roles_are_one_name, two_roles_are_told,
+};
 pub use parsing::{SCRIPT_MAX, parse};
 pub use plan::Plan;

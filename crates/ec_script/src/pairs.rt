@@ -1,5 +1,5 @@
 //! Laws of P on two semaphores. Each is the contract of a function that does nothing.
-ghost use Rattle.ec_script.specs.Pairs.{TwoRolesAreOneName, TwoRolesAreTold};
+ghost use Rattle.ec_script.specs.Pairs.{LinesLeadToHeadings, LinesOfTwoRoles, TwoRolesAreOneName, TwoRolesAreTold};
 
 /// Under a heading two of the three semaphores of a `pboth` line are one exactly where its two words
 /// are one: the common semaphore has no name, and two names have no object in common.
@@ -11,4 +11,15 @@ pub fn two_roles_are_one_name()
 /// declared semaphore twice, in a block that has room for it, and of no other.
 pub fn two_roles_are_told()
     ensures { TwoRolesAreTold }
+{}
+
+/// What the lines of a script have declared is a heading.
+pub fn lines_lead_to_headings()
+    ensures { LinesLeadToHeadings }
+{}
+
+/// So two roles are told of each line of a script that is such a `pboth`, and else only of a
+/// declaration that the heading refuses so.
+pub fn lines_of_two_roles()
+    ensures { LinesOfTwoRoles }
 {}
