@@ -81,7 +81,7 @@ semaphore_in_groups gs None s found is = cc
 semaphore_in_groups gs (Some (groups.Semaphore u)) s found is = let e : u ≡ s = cc in subst (λ (t : Semaphore). Contains gs (groups.Semaphore t)) e (found (groups.Semaphore u) refl)
 semaphore_in_groups gs (Some _) s found is = cc
 
-found_semaphore : (h : Headed) (word : List ℕ) (s : Semaphore) → semaphore_in h word ≡ Some s → Contains h.groups (groups.Semaphore s)
+pub found_semaphore : (h : Headed) (word : List ℕ) (s : Semaphore) → semaphore_in h word ≡ Some s → Contains h.groups (groups.Semaphore s)
 found_semaphore h word s is = semaphore_in_groups h.groups (group_in h word) s (found_group h word) is
 
 semaphore_fits : (gs : List Group) (o : Option Semaphore) → ((s : Semaphore) → o ≡ Some s → Contains gs (groups.Semaphore s)) → IsFit gs (or_nothing (option_map OfSemaphore o))

@@ -107,7 +107,7 @@ with_order_adds d (Write b vs) = refl
 with_order_adds d (Begin n) = refl
 with_order_adds d End = refl
 
-not_bare : (s : Scripted) (b : Block) → s.block ≡ Some b → IsBare s → ⊥
+pub not_bare : (s : Scripted) (b : Block) → s.block ≡ Some b → IsBare s → ⊥
 not_bare s b is bare = let e : s.block ≡ None = bare.0 in cc
 
 ordered_keeps : (s : Scripted) (o : Order) (b : Option Block) → s.block ≡ b → Keeps s → IsConfined s.heading.groups o → Keeps (ordered_in s b o)
@@ -252,7 +252,7 @@ step_keeps Limiting t line keeps is = limit_line_keeps line t is
 step_keeps (Naming n) t line keeps is = named_keeps (head_step (opened n []) line) t (λ h e. first_keeps n line h e) is
 step_keeps (Reading s) t line keeps is = read_keeps (script_step s line) t (λ u e. line_keeps s u line keeps e) is
 
-leads_keeps : (s : Stage) (lines : List (List ℕ)) (t : Stage) → StageKeeps s → Leads s lines t → StageKeeps t
+pub leads_keeps : (s : Stage) (lines : List (List ℕ)) (t : Stage) → StageKeeps s → Leads s lines t → StageKeeps t
 leads_keeps s [] t keeps leads = subst StageKeeps leads keeps
 leads_keeps s (line ∷ lines) t keeps leads = leads_keeps leads.0 lines t (step_keeps s leads.0 line keeps leads.1) leads.2
 

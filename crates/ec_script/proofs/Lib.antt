@@ -6,6 +6,11 @@ pub mod Lines
 pub mod Texts
 pub mod Onward
 pub mod Apart
+pub mod OneName
+pub mod Commons
+pub mod TwoRoles
+pub mod LedHeadings
+pub mod PairLines
 pub mod Declaring
 pub mod Confining
 pub mod WrittenOut

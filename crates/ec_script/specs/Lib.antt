@@ -7,6 +7,7 @@ pub mod Orders
 pub mod Drafted
 pub mod Inner
 pub mod Kinds
+pub mod Pairs
 pub mod Scripted
 pub mod Rooms
 pub mod Reading

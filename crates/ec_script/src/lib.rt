@@ -10,6 +10,7 @@ mod laws;
 mod lists;
 mod object;
 mod order;
+mod pairs;
 mod parsing;
 mod plan;
 mod script;
@@ -23,5 +24,8 @@ pub use laws::{
     script_is_read, scripts_are_laid_out,
 };
 pub use order::{Order, Values};
+pub use pairs::{
+    lines_lead_to_headings, lines_of_two_roles, two_roles_are_one_name, two_roles_are_told,
+};
 pub use parsing::{SCRIPT_MAX, parse};
 pub use plan::Plan;

@@ -1,0 +1,166 @@
+-- What the lines of a script have declared is a heading.
+use Rattle.std.proofs.Common.{◌≡◌, inr, ℕ, ◌≤◌, ◌<◌, ◌^◌, ◌==◌, ◌&&◌, cond, Bool, true, false, not, List, [], ◌∷◌, ◌++◌, Option, Some, None, Result, Ok, Err, nat_lt, nat_le, slice_set, refl, sym, ap, ◌∙◌, subst, bytes_eq, codes, leb-true, ltb-true}
+use Rattle.std.proofs.lemmas.Bool.{and_parts}
+use Rattle.ec_text.specs.Words.{words_of, number_of}
+use Rattle.ec_heading.specs.Headed.{Headed}
+use Rattle.ec_heading.specs.Heading.{head_step, is_no_line}
+use Rattle.ec_heading.specs.Outline.{Outline, opened}
+use Rattle.ec_heading.specs.Outlined.{HasOutline}
+use Rattle.ec_heading.specs.HeadingLaws.{LinesLead, Outlines, outline_lines}
+use Rattle.ec_heading.specs.Spelling.{workers_line}
+use Rattle.ec_heading.specs.declared.heading.HeadFault.{HeadFault}
+use Rattle.ec_heading.proofs.LeadLines.{outline_leads, leads_outline}
+use Rattle.ec_script.specs.declared.fault.Kind.{Kind}
+use Rattle.ec_script.specs.declared.fault.Kind.TheVariants as kinds
+use Rattle.ec_script.specs.declared.verb.Verb.{Verb}
+use Rattle.ec_script.specs.declared.verb.Verb.TheVariants as verbs
+use Rattle.ec_script.specs.declared.object.Object.{Object}
+use Rattle.ec_script.specs.declared.object.Object.TheVariants.{Worker}
+use Rattle.ec_script.specs.declared.order.Order.{Order}
+use Rattle.ec_script.specs.declared.order.Order.TheVariants.{End}
+use Rattle.ec_script.specs.declared.script.Block.{Block}
+use Rattle.ec_script.specs.declared.stage.Stage.{Stage}
+use Rattle.ec_script.specs.declared.stage.Stage.TheVariants.{Opening, Limiting, Naming, Reading}
+use Rattle.ec_script.specs.Verbs.{is_giving}
+use Rattle.ec_script.specs.Forms.{Phrase, phrase_in}
+use Rattle.ec_script.specs.Objects.{object_in}
+use Rattle.ec_script.specs.Kinds.{phrase_fault, or_nothing}
+use Rattle.ec_script.specs.Orders.{command_in}
+use Rattle.ec_script.specs.Scripted.{Scripted}
+use Rattle.ec_script.specs.Reading.{seen, began, ordered_in, commanded, ended_in, after_verb, after, fault_or, phrased, headed_on, is_declaring, opens_outer, script_step, in_range, limited, limit_digits, limit_or, limit_step, script_of, named_on, read_on, step}
+use Rattle.ec_script.specs.Grammar.{Leads}
+use Rattle.ec_script.specs.Pairs.{LinesLeadToHeadings}
+
+-- DECLARATIONS
+
+-- one more line
+lead_on : (h : Headed) (lines : List (List ℕ)) (t : Headed) (line : List ℕ) (u : Headed) → LinesLead h lines t → head_step t line ≡ Ok u → LinesLead h (lines ++ line ∷ []) u
+lead_on h [] t line u leads is = (u, subst (λ (g : Headed). head_step g line ≡ Ok u) (sym leads) is, refl)
+lead_on h (l ∷ lines) t line u leads is = (leads.0, leads.1, lead_on leads.0 lines t line u leads.2 is)
+
+outlined : (limit : ℕ) (line : List ℕ) (lines : List (List ℕ)) (h : Headed) → 1 ≤ limit → limit < 2 ^ 32 → LinesLead (opened limit []) (line ∷ lines) h → HasOutline h
+outlined limit line lines h low high leads =
+    let o : Outlines limit (line ∷ lines) h = leads_outline limit line lines h low high leads in
+    record { outline = o.outline; is = o.is; declares = sym o.end_is }
+
+named_outlined : (limit : ℕ) (line : List ℕ) (h : Headed) → 1 ≤ limit → limit < 2 ^ 32 → head_step (opened limit []) line ≡ Ok h → HasOutline h
+named_outlined limit line h low high is = outlined limit line [] h low high (h, is, refl)
+
+declared_outlined : (h : Headed) (line : List ℕ) (t : Headed) → HasOutline h → head_step h line ≡ Ok t → HasOutline t
+declared_outlined h line t has is =
+    let o : Outline = has.outline in
+    let leads = lead_on (opened o.limit []) (outline_lines o) h line t (subst (λ (g : Headed). LinesLead (opened o.limit []) (outline_lines o) g) has.declares (outline_leads o has.is)) is in
+    outlined o.limit (workers_line o.workers) _ t has.is.low has.is.high leads
+
+-- LINES THAT DECLARE NOTHING
+
+began_same : (s : Scripted) (o : Object) → (began s o).heading ≡ s.heading
+began_same s (Worker w) = refl
+began_same s _ = refl
+
+ordered_same : (s : Scripted) (b : Option Block) (o : Order) → (ordered_in s b o).heading ≡ s.heading
+ordered_same s None o = refl
+ordered_same s (Some b) o = refl
+
+commanded_same : (s : Scripted) (o : Option Order) → (commanded s o).heading ≡ s.heading
+commanded_same s None = refl
+commanded_same s (Some o) = ordered_same s s.block o
+
+ended_same : (s : Scripted) (b : Option Block) → (ended_in s b).heading ≡ s.heading
+ended_same s None = refl
+ended_same s (Some b) =
+    elim (b.draft.depth == 0) as (λ t. (cond t (record s { programs = slice_set s.programs b.worker b.draft.orders; block = None }) (ordered_in s (Some b) End)).heading ≡ s.heading) [
+      | true ↦ refl
+      | false ↦ refl
+    ]
+
+after_same : (s : Scripted) (v : Verb) (o : Object) (ws : List (List ℕ)) → (after_verb v s o ws).heading ≡ s.heading
+after_same s verbs.Worker o ws = began_same s o
+after_same s verbs.Schedule o ws = refl
+after_same s verbs.Repeat o ws = ordered_same s s.block _
+after_same s verbs.End o ws = ended_same s s.block
+after_same s v o ws = commanded_same s (command_in v (is_giving v) o ws)
+
+unfaulted : (o : Option Kind) (s t : Scripted) → fault_or o s ≡ Ok t → s ≡ t
+unfaulted None s t is = cc
+unfaulted (Some k) s t is = cc
+
+phrased_same : (s t : Scripted) (o : Option Phrase) → phrased s o ≡ Ok t → t.heading ≡ s.heading
+phrased_same s t None is = cc
+phrased_same s t (Some p) is =
+    let same : after s p ≡ t = unfaulted (phrase_fault (seen s) p (object_in s.heading p)) (after s p) t is in
+    ap (λ (x : Scripted). x.heading) (sym same) ∙ after_same s p.verb (or_nothing (object_in s.heading p)) p.rest
+
+-- LINES
+
+headed_outlined : (s t : Scripted) (r : Result Headed HeadFault) → ((h : Headed) → r ≡ Ok h → HasOutline h) → headed_on s r ≡ Ok t → HasOutline t.heading
+headed_outlined s t (Ok h) has is =
+    let same : record s { heading = h } ≡ t = cc in
+    subst (λ (x : Scripted). HasOutline x.heading) same (has h refl)
+headed_outlined s t (Err f) has is = cc
+
+not_refused : {S : Type 0} (b : Bool) (k : Kind) (r : Result S Kind) (t : S) → cond b (Err k) r ≡ Ok t → r ≡ Ok t
+not_refused true k r t is = cc
+not_refused false k r t is = is
+
+line_outlined : (s t : Scripted) (line : List ℕ) → HasOutline s.heading → script_step s line ≡ Ok t → HasOutline t.heading
+unfolding script_step
+line_outlined s t line has is =
+    (elim (is_declaring s && not (opens_outer (words_of line))) as (λ b.
+    cond b (headed_on s (head_step s.heading line)) (cond (is_no_line line) (Err kinds.BadLine) (phrased s (phrase_in (words_of line)))) ≡ Ok t
+    → HasOutline t.heading) [
+      | true ↦ λ h. headed_outlined s t (head_step s.heading line) (λ g e. declared_outlined s.heading line g has e) h
+      | false ↦ λ h. subst HasOutline (sym (phrased_same s t (phrase_in (words_of line)) (not_refused (is_no_line line) kinds.BadLine _ t h))) has
+    ]) is
+
+-- STAGES
+
+abbrev StageHeads : Stage → Type 0
+StageHeads (Naming n) = (1 ≤ n) × (n < 2 ^ 32)
+StageHeads (Reading s) = HasOutline s.heading
+StageHeads _ = Unit {0}
+
+opening_heads : (b : Bool) (t : Stage) → cond b (Ok Limiting) (Err kinds.BadHeader) ≡ Ok t → StageHeads t
+opening_heads true t is = let e : Limiting ≡ t = cc in subst StageHeads e tt
+opening_heads false t is = cc
+
+naming_heads : (b : Bool) (n : ℕ) (t : Stage) → (b ≡ true → (1 ≤ n) × (n < 2 ^ 32)) → cond b (Ok (Naming n)) (Err kinds.BadNumber) ≡ Ok t → StageHeads t
+naming_heads true n t range is = let e : Naming n ≡ t = cc in subst StageHeads e (range refl)
+naming_heads false n t range is = cc
+
+ranged : (n : ℕ) → in_range n ≡ true → (1 ≤ n) × (n < 2 ^ 32)
+ranged n is = let p = and_parts (nat_le 1 n) (nat_lt n 4294967296) is in (leb-true 1 n p.0, ltb-true n 4294967296 p.1)
+
+limited_heads : (o : Option ℕ) (t : Stage) → limited o ≡ Ok t → StageHeads t
+limited_heads None t is = cc
+limited_heads (Some n) t is = naming_heads (in_range n) n t (ranged n) is
+
+limit_heads : (o : Option (List ℕ)) (t : Stage) → limit_or o ≡ Ok t → StageHeads t
+limit_heads None t is = cc
+limit_heads (Some digits) t is = limited_heads (number_of digits) t is
+
+limit_line_heads : (line : List ℕ) (t : Stage) → limit_step line ≡ Ok t → StageHeads t
+unfolding limit_step
+limit_line_heads line t is = limit_heads (limit_digits (words_of line)) t (not_refused _ kinds.BadLine _ t is)
+
+named_heads : (r : Result Headed HeadFault) (t : Stage) → ((h : Headed) → r ≡ Ok h → HasOutline h) → named_on r ≡ Ok t → StageHeads t
+named_heads (Ok h) t has is = let e : Reading (script_of h) ≡ t = cc in subst StageHeads e (has h refl)
+named_heads (Err f) t has is = cc
+
+read_heads : (r : Result Scripted Kind) (t : Stage) → ((s : Scripted) → r ≡ Ok s → HasOutline s.heading) → read_on r ≡ Ok t → StageHeads t
+read_heads (Ok s) t has is = let e : Reading s ≡ t = cc in subst StageHeads e (has s refl)
+read_heads (Err k) t has is = cc
+
+step_heads : (s t : Stage) (line : List ℕ) → StageHeads s → step s line ≡ Ok t → StageHeads t
+unfolding step
+step_heads Opening t line heads is = opening_heads (bytes_eq line (codes "evc-script 1")) t is
+step_heads Limiting t line heads is = limit_line_heads line t is
+step_heads (Naming n) t line heads is = named_heads (head_step (opened n []) line) t (λ h e. named_outlined n line h heads.0 heads.1 e) is
+step_heads (Reading s) t line heads is = read_heads (script_step s line) t (λ u e. line_outlined s u line heads e) is
+
+leads_heads : (s : Stage) (lines : List (List ℕ)) (t : Stage) → StageHeads s → Leads s lines t → StageHeads t
+leads_heads s [] t heads leads = subst StageHeads leads heads
+leads_heads s (line ∷ lines) t heads leads = leads_heads leads.0 lines t (step_heads s leads.0 line heads leads.1) leads.2
+
+pub lines_lead : LinesLeadToHeadings
+lines_lead before s leads = inr (leads_heads Opening before (Reading s) tt leads)
