@@ -19,3 +19,6 @@ pub mod LayoutsLead
 pub mod Owners
 pub mod CellWords
 pub mod OrderLines
+pub mod Giving
+pub mod Namings
+pub mod Sayings

@@ -100,7 +100,7 @@ one_amount [] one is = cc
 one_amount (w ∷ []) one is = ap (λ (x : List ℕ). x ∷ []) (amount_is w is)
 one_amount (w ∷ v ∷ ws) one is = cc
 
-is_one : (p : List ℕ → Bool) (ws : List (List ℕ)) → option_map_or p (only_in ws) false ≡ true → option_map_or (λ w. true) (only_in ws) false ≡ true
+pub is_one : (p : List ℕ → Bool) (ws : List (List ℕ)) → option_map_or p (only_in ws) false ≡ true → option_map_or (λ w. true) (only_in ws) false ≡ true
 is_one p [] is = cc
 is_one p (w ∷ []) is = refl
 is_one p (w ∷ v ∷ ws) is = cc
@@ -143,12 +143,12 @@ group_named h word g o is found own =
     let at = and_then_back (λ (i : ℕ). slice_get h.groups i) (option_and_then place_of (find_name word h.names)) g found in
     group_spelled h word at.0 g o is (place_back (find_name word h.names) at.0 at.1) at.2 own
 
-buffer_back : (x : Option Group) (b : Buffer) → option_and_then buffer_of x ≡ Some b → x ≡ Some (groups.Buffer b)
+pub buffer_back : (x : Option Group) (b : Buffer) → option_and_then buffer_of x ≡ Some b → x ≡ Some (groups.Buffer b)
 buffer_back None b is = cc
 buffer_back (Some (groups.Buffer c)) b is = (let same : c ≡ b = cc in ap (λ y. Some (groups.Buffer y)) same)
 buffer_back (Some _) b is = cc
 
-database_back : (x : Option Group) (d : Database) → option_and_then database_of x ≡ Some d → x ≡ Some (groups.Database d)
+pub database_back : (x : Option Group) (d : Database) → option_and_then database_of x ≡ Some d → x ≡ Some (groups.Database d)
 database_back None d is = cc
 database_back (Some (groups.Database c)) d is = (let same : c ≡ d = cc in ap (λ y. Some (groups.Database y)) same)
 database_back (Some _) d is = cc

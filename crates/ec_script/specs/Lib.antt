@@ -15,3 +15,4 @@ pub mod Grammar
 pub mod Confined
 pub mod Layout
 pub mod Spelling
+pub mod Given

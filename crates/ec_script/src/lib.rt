@@ -19,8 +19,8 @@ mod verb;
 pub use fault::{Kind, ScriptFault};
 pub use laws::{
     confined_lines_are_confined_commands, fault_is_the_first, layouts_are_scripts,
-    layouts_are_spelled, lines_are_spelled, long_is_line_1, plans_are_confined, read_is_script,
-    script_is_read, scripts_are_laid_out,
+    layouts_are_spelled, lines_are_spelled, lines_say_orders, long_is_line_1, plans_are_confined,
+    read_is_script, script_is_read, scripts_are_laid_out,
 };
 pub use order::{Order, Values};
 pub use parsing::{SCRIPT_MAX, parse};
