@@ -22,3 +22,4 @@ pub mod OrderLines
 pub mod Giving
 pub mod Namings
 pub mod Sayings
+pub mod Spellings

@@ -40,8 +40,8 @@ use Rattle.ec_script.specs.Objects.{object_for, place_of, group_in, buffer_of, d
 use Rattle.ec_script.specs.Kinds.{is_no_value, cells_of, is_count, is_bad_tail}
 use Rattle.ec_script.specs.Orders.{amount_of, amount_in, size_in}
 use Rattle.ec_script.specs.Grammar.{text_of}
-use Rattle.ec_script.specs.Layout.{order_by, Says, Block, IsBlock, texts_of, orders_of, worker_line, block_lines, schedule_line}
-use Rattle.ec_script.specs.Spelling.{value_word, group_word, command_words, order_words, order_line, spelled_block, ordered_blocks, LinesAreSpelled, LayoutsAreSpelled}
+use Rattle.ec_script.specs.Layout.{order_by, Says, Block, IsBlock, texts_of, orders_of, worker_line, block_lines, schedule_line, Layout, IsLayout, layout_lines}
+use Rattle.ec_script.specs.Spelling.{value_word, group_word, command_words, order_words, order_line, spelled_block, script_lines, ordered_blocks, LinesAreSpelled, LayoutsAreSpelled}
 use Rattle.ec_script.proofs.PhraseWords.{verb_word, behind_verb, Worded, worded}
 use Rattle.ec_script.proofs.Blocks.{line_of, no_words}
 use Rattle.ec_script.proofs.Said.{IsCommand}
@@ -321,6 +321,9 @@ blocks_spelled o is [] all = refl
 blocks_spelled o is (b ∷ blocks) all =
     ap₂ (λ (xs ys : List (List ℕ)). (worker_line o.workers b.worker ∷ xs ++ codes "end" ∷ []) ++ ys) (lines_spelled o is b.worker b.lines all.0.each) (blocks_spelled o is blocks all.1)
 
+pub layout_lines_are : (l : Layout) → IsLayout l → layout_lines l ≡ script_lines l.outline (ordered_blocks l.blocks) l.rows
+layout_lines_are l is =
+    ap (λ (ls : List (List ℕ)). codes "evc-script 1" ∷ heading_lines l.outline ++ (ls ++ map (schedule_line l.outline.workers) l.rows)) (blocks_spelled l.outline is.heading l.blocks is.blocks)
+
 pub layout_spelled : LayoutsAreSpelled
-layout_spelled l is =
-    ap (λ (ls : List (List ℕ)). text_of (codes "evc-script 1" ∷ heading_lines l.outline ++ (ls ++ map (schedule_line l.outline.workers) l.rows))) (blocks_spelled l.outline is.heading l.blocks is.blocks)
+layout_spelled l is = ap text_of (layout_lines_are l is)

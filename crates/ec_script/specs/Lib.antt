@@ -16,3 +16,4 @@ pub mod Confined
 pub mod Layout
 pub mod Spelling
 pub mod Given
+pub mod Spelled

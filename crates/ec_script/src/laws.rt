@@ -3,6 +3,7 @@ ghost use Rattle.ec_script.specs.Confined.{ConfinedLinesAreConfinedCommands, Pla
 ghost use Rattle.ec_script.specs.Given.{LinesSayOrders};
 ghost use Rattle.ec_script.specs.Grammar.{FaultIsTheFirst, LongIsLine1, ReadIsScript, ScriptIsRead};
 ghost use Rattle.ec_script.specs.Layout.{LayoutsAreScripts, ScriptsAreLaidOut};
+ghost use Rattle.ec_script.specs.Spelled.{ScriptsAreSpelled};
 ghost use Rattle.ec_script.specs.Spelling.{LayoutsAreSpelled, LinesAreSpelled};
 
 /// A script is read as the plan that it says.
@@ -60,4 +61,10 @@ pub fn layouts_are_spelled()
 /// A line says an order exactly where it spells the order, and the order may be given to the worker.
 pub fn lines_say_orders()
     ensures { LinesSayOrders }
+{}
+
+/// A text is a script of a plan exactly where it spells what the plan says: a heading, for each
+/// block a worker and orders that may be given to it, and the names of a schedule.
+pub fn scripts_are_spelled()
+    ensures { ScriptsAreSpelled }
 {}
