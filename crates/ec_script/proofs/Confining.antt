@@ -63,7 +63,7 @@ worker_fits gs (Some w) = tt
 at_place : (gs : List Group) (i : ℕ) (g : Group) → slice_get gs i ≡ Some g → Contains gs g
 at_place gs i g is = (i, slice_get_within gs i g is, get_or_from_slice_get gs i g g is)
 
-found_group : (h : Headed) (word : List ℕ) (g : Group) → group_in h word ≡ Some g → Contains h.groups g
+pub found_group : (h : Headed) (word : List ℕ) (g : Group) → group_in h word ≡ Some g → Contains h.groups g
 found_group h word g is = option_and_then_some (λ (i : ℕ). slice_get h.groups i) (option_and_then place_of (find_name word h.names)) g is (λ i at e. at_place h.groups i g e)
 
 buffer_fits : (gs : List Group) (o : Option Group) → ((g : Group) → o ≡ Some g → Contains gs g) → IsFit gs (or_nothing (option_map OfBuffer (option_and_then buffer_of o)))
@@ -98,7 +98,7 @@ not_true true is = sym is
 not_true false is = refl
 
 -- two declared ones have different sequencers
-lines_differ : (gs : List Group) (common one other : Semaphore) → AreApart gs → Contains gs (groups.Semaphore one) → Contains gs (groups.Semaphore other) → are_apart common one other ≡ true → one.line ≢ other.line
+pub lines_differ : (gs : List Group) (common one other : Semaphore) → AreApart gs → Contains gs (groups.Semaphore one) → Contains gs (groups.Semaphore other) → are_apart common one other ≡ true → one.line ≢ other.line
 lines_differ gs common one other apart a b differ = λ e.
     let f : groups.Semaphore one ≡ groups.Semaphore other =
     apart (Sequencer one.line) (groups.Semaphore one) (groups.Semaphore other) a b (eq-eqb one.line one.line refl) (eq-eqb other.line one.line (sym e)) in
@@ -116,7 +116,7 @@ three_fits gs None _ _ apart both first second roles = tt
 three_fits gs (Some common) None _ apart both first second roles = tt
 three_fits gs (Some common) (Some one) None apart both first second roles = tt
 
-only_semaphore : (h : Headed) (word : Option (List ℕ)) (s : Semaphore) → option_and_then (semaphore_in h) word ≡ Some s → Contains h.groups (groups.Semaphore s)
+pub only_semaphore : (h : Headed) (word : Option (List ℕ)) (s : Semaphore) → option_and_then (semaphore_in h) word ≡ Some s → Contains h.groups (groups.Semaphore s)
 only_semaphore h None s is = cc
 only_semaphore h (Some w) s is = found_semaphore h w s is
 

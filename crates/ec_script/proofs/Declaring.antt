@@ -91,14 +91,14 @@ workers_stay sorts.Database t n first second = refl
 workers_stay sorts.Semaphore t n first second = refl
 workers_stay sorts.Both t n first second = refl
 
-opened_keeps : (limit : ℕ) (ws : List (List ℕ)) → 1 ≤ length ws → HeadKeeps (opened limit ws)
+pub opened_keeps : (limit : ℕ) (ws : List (List ℕ)) → 1 ≤ length ws → HeadKeeps (opened limit ws)
 opened_keeps limit ws some = record {
   some = some;
   words = numbered_below ws 0 (length ws) (omega arith);
   apart = none_apart (opened limit ws).setup;
 }
 
-declared_keeps : (h : Headed) (d : Declaration) → HeadKeeps h → HeadKeeps (declared_by h d)
+pub declared_keeps : (h : Headed) (d : Declaration) → HeadKeeps h → HeadKeeps (declared_by h d)
 declared_keeps h d keeps =
     let e : (with_objects d.sort h.setup d.number d.first d.second).workers ≡ h.setup.workers = workers_stay d.sort h.setup d.number d.first d.second in
     record {

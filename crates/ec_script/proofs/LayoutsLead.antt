@@ -64,14 +64,14 @@ join_length [] = zero-le
 join_length (w ∷ []) = omega arith
 join_length (w ∷ v ∷ ws) = omega (arith, length-append w (32 ∷ join_with_byte 32 (v ∷ ws)), join_length (v ∷ ws))
 
-fit_line : (w : List ℕ) (ws : List (List ℕ)) → AreFit (w ∷ ws) → length (join_with_byte 32 (w ∷ ws)) ≤ 8192 → (words_of (join_with_byte 32 (w ∷ ws)) ≡ w ∷ ws) × (is_no_line (join_with_byte 32 (w ∷ ws)) ≡ false)
+pub fit_line : (w : List ℕ) (ws : List (List ℕ)) → AreFit (w ∷ ws) → length (join_with_byte 32 (w ∷ ws)) ≤ 8192 → (words_of (join_with_byte 32 (w ∷ ws)) ≡ w ∷ ws) × (is_no_line (join_with_byte 32 (w ∷ ws)) ≡ false)
 fit_line w ws fit short =
     let words : words_of (join_with_byte 32 (w ∷ ws)) ≡ w ∷ ws = words_join w ws (fit_words (w ∷ ws) fit) in
     (words, or_from _ _ (le-ltb 8192 (length (join_with_byte 32 (w ∷ ws))) short) (ap (list_any (λ v. eqb (length v) 0)) words ∙ none_empty (w ∷ ws) fit))
 
 -- WHAT NO GROUP OWNS
 
-none_owned : (gs : List Group) (o : Object) → ((g : Group) → owns o g ≡ false) → is_owned gs o ≡ false
+pub none_owned : (gs : List Group) (o : Object) → ((g : Group) → owns o g ≡ false) → is_owned gs o ≡ false
 none_owned [] o none = refl
 none_owned (g ∷ gs) o none = or_from _ _ (none g) (none_owned gs o none)
 

@@ -24,3 +24,7 @@ pub mod LayoutsLead
 pub mod Owners
 pub mod CellWords
 pub mod OrderLines
+pub mod Giving
+pub mod Namings
+pub mod Sayings
+pub mod Spellings

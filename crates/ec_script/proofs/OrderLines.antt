@@ -40,8 +40,8 @@ use Rattle.ec_script.specs.Objects.{object_for, place_of, group_in, buffer_of, d
 use Rattle.ec_script.specs.Kinds.{is_no_value, cells_of, is_count, is_bad_tail}
 use Rattle.ec_script.specs.Orders.{amount_of, amount_in, size_in}
 use Rattle.ec_script.specs.Grammar.{text_of}
-use Rattle.ec_script.specs.Layout.{order_by, Says, Block, IsBlock, texts_of, orders_of, worker_line, block_lines, schedule_line}
-use Rattle.ec_script.specs.Spelling.{value_word, group_word, command_words, order_words, order_line, spelled_block, ordered_blocks, LinesAreSpelled, LayoutsAreSpelled}
+use Rattle.ec_script.specs.Layout.{order_by, Says, Block, IsBlock, texts_of, orders_of, worker_line, block_lines, schedule_line, Layout, IsLayout, layout_lines}
+use Rattle.ec_script.specs.Spelling.{value_word, group_word, command_words, order_words, order_line, spelled_block, script_lines, ordered_blocks, LinesAreSpelled, LayoutsAreSpelled}
 use Rattle.ec_script.proofs.PhraseWords.{verb_word, behind_verb, Worded, worded}
 use Rattle.ec_script.proofs.Blocks.{line_of, no_words}
 use Rattle.ec_script.proofs.Said.{IsCommand}
@@ -100,7 +100,7 @@ one_amount [] one is = cc
 one_amount (w ∷ []) one is = ap (λ (x : List ℕ). x ∷ []) (amount_is w is)
 one_amount (w ∷ v ∷ ws) one is = cc
 
-is_one : (p : List ℕ → Bool) (ws : List (List ℕ)) → option_map_or p (only_in ws) false ≡ true → option_map_or (λ w. true) (only_in ws) false ≡ true
+pub is_one : (p : List ℕ → Bool) (ws : List (List ℕ)) → option_map_or p (only_in ws) false ≡ true → option_map_or (λ w. true) (only_in ws) false ≡ true
 is_one p [] is = cc
 is_one p (w ∷ []) is = refl
 is_one p (w ∷ v ∷ ws) is = cc
@@ -143,12 +143,12 @@ group_named h word g o is found own =
     let at = and_then_back (λ (i : ℕ). slice_get h.groups i) (option_and_then place_of (find_name word h.names)) g found in
     group_spelled h word at.0 g o is (place_back (find_name word h.names) at.0 at.1) at.2 own
 
-buffer_back : (x : Option Group) (b : Buffer) → option_and_then buffer_of x ≡ Some b → x ≡ Some (groups.Buffer b)
+pub buffer_back : (x : Option Group) (b : Buffer) → option_and_then buffer_of x ≡ Some b → x ≡ Some (groups.Buffer b)
 buffer_back None b is = cc
 buffer_back (Some (groups.Buffer c)) b is = (let same : c ≡ b = cc in ap (λ y. Some (groups.Buffer y)) same)
 buffer_back (Some _) b is = cc
 
-database_back : (x : Option Group) (d : Database) → option_and_then database_of x ≡ Some d → x ≡ Some (groups.Database d)
+pub database_back : (x : Option Group) (d : Database) → option_and_then database_of x ≡ Some d → x ≡ Some (groups.Database d)
 database_back None d is = cc
 database_back (Some (groups.Database c)) d is = (let same : c ≡ d = cc in ap (λ y. Some (groups.Database y)) same)
 database_back (Some _) d is = cc
@@ -321,6 +321,9 @@ blocks_spelled o is [] all = refl
 blocks_spelled o is (b ∷ blocks) all =
     ap₂ (λ (xs ys : List (List ℕ)). (worker_line o.workers b.worker ∷ xs ++ codes "end" ∷ []) ++ ys) (lines_spelled o is b.worker b.lines all.0.each) (blocks_spelled o is blocks all.1)
 
+pub layout_lines_are : (l : Layout) → IsLayout l → layout_lines l ≡ script_lines l.outline (ordered_blocks l.blocks) l.rows
+layout_lines_are l is =
+    ap (λ (ls : List (List ℕ)). codes "evc-script 1" ∷ heading_lines l.outline ++ (ls ++ map (schedule_line l.outline.workers) l.rows)) (blocks_spelled l.outline is.heading l.blocks is.blocks)
+
 pub layout_spelled : LayoutsAreSpelled
-layout_spelled l is =
-    ap (λ (ls : List (List ℕ)). text_of (codes "evc-script 1" ∷ heading_lines l.outline ++ (ls ++ map (schedule_line l.outline.workers) l.rows))) (blocks_spelled l.outline is.heading l.blocks is.blocks)
+layout_spelled l is = ap text_of (layout_lines_are l is)

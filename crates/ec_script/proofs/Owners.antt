@@ -85,7 +85,7 @@ groups_grow sorts.Both t k n i gs is = omega (arith, length-append {A = Group})
 
 -- GROUPS BY THEIR PLACES
 
-get_push : (xs : List Group) (x : Group) (i : ℕ) (y : Group) → slice_get (xs ++ x ∷ []) i ≡ Some y → (slice_get xs i ≡ Some y) ⊎ ((i ≡ length xs) × (x ≡ y))
+pub get_push : (xs : List Group) (x : Group) (i : ℕ) (y : Group) → slice_get (xs ++ x ∷ []) i ≡ Some y → (slice_get xs i ≡ Some y) ⊎ ((i ≡ length xs) × (x ≡ y))
 get_push [] x zero y is = inr (refl, cc)
 get_push [] x (suc i) y is = cc
 get_push (z ∷ xs) x zero y is = inl is

@@ -16,3 +16,5 @@ pub mod Grammar
 pub mod Confined
 pub mod Layout
 pub mod Spelling
+pub mod Given
+pub mod Spelled

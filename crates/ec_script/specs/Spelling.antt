@@ -79,9 +79,13 @@ order_line h o = join_with_byte 32 (order_words h o)
 abbrev pub spelled_block : Outline → ℕ × List Order → List (List ℕ)
 spelled_block o b = worker_line o.workers b.0 ∷ map (order_line (headed o)) b.1 ++ codes "end" ∷ []
 
--- the text of a heading, of blocks, each by its worker and its orders, and of the lines of a schedule
+-- the lines of a heading, of blocks, each by its worker and its orders, and of a schedule, each by its workers
+abbrev pub script_lines : Outline → List (ℕ × List Order) → List (List ℕ) → List (List ℕ)
+script_lines o blocks rows = codes "evc-script 1" ∷ heading_lines o ++ (flat_map (spelled_block o) blocks ++ map (schedule_line o.workers) rows)
+
+-- and their text
 abbrev pub script_text : Outline → List (ℕ × List Order) → List (List ℕ) → List ℕ
-script_text o blocks rows = text_of (codes "evc-script 1" ∷ heading_lines o ++ (flat_map (spelled_block o) blocks ++ map (schedule_line o.workers) rows))
+script_text o blocks rows = text_of (script_lines o blocks rows)
 
 abbrev pub ordered_blocks : List Block → List (ℕ × List Order)
 ordered_blocks blocks = map (λ (b : Block). (b.worker, orders_of b.lines)) blocks

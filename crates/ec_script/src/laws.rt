@@ -1,7 +1,9 @@
 //! Laws of scripts. Each is the contract of a function that does nothing.
 ghost use Rattle.ec_script.specs.Confined.{ConfinedLinesAreConfinedCommands, PlansAreConfined};
+ghost use Rattle.ec_script.specs.Given.{LinesSayOrders};
 ghost use Rattle.ec_script.specs.Grammar.{FaultIsTheFirst, LongIsLine1, ReadIsScript, ScriptIsRead};
 ghost use Rattle.ec_script.specs.Layout.{LayoutsAreScripts, ScriptsAreLaidOut};
+ghost use Rattle.ec_script.specs.Spelled.{ScriptsAreSpelled};
 ghost use Rattle.ec_script.specs.Spelling.{LayoutsAreSpelled, LinesAreSpelled};
 
 /// A script is read as the plan that it says.
@@ -54,4 +56,15 @@ pub fn lines_are_spelled()
 /// So a script is the one text that spells its heading, the orders of its blocks and its schedule.
 pub fn layouts_are_spelled()
     ensures { LayoutsAreSpelled }
+{}
+
+/// A line says an order exactly where it spells the order, and the order may be given to the worker.
+pub fn lines_say_orders()
+    ensures { LinesSayOrders }
+{}
+
+/// A text is a script of a plan exactly where it spells what the plan says: a heading, for each
+/// block a worker and orders that may be given to it, and the names of a schedule.
+pub fn scripts_are_spelled()
+    ensures { ScriptsAreSpelled }
 {}

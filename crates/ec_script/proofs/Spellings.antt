@@ -1,0 +1,126 @@
+-- A text is a script exactly where it spells a heading, blocks and a schedule.
+use Rattle.std.proofs.Common.{◌≡◌, ◌==◌, ℕ, ◌≤◌, List, [], ◌∷◌, length, map, true, cond, refl, sym, ap, ap₂, ◌∙◌, subst}
+use Rattle.std.specs.List.{AllByRecursion, range_with_len}
+use Rattle.ec_count.specs.Members.{has_repeat}
+use Rattle.ec_heading.specs.Headed.{Headed}
+use Rattle.ec_heading.specs.Outline.{Outline, IsOutline, headed}
+use Rattle.ec_script.specs.declared.order.Order.{Order}
+use Rattle.ec_script.specs.Scripted.{Planned}
+use Rattle.ec_script.specs.Grammar.{IsScript, IsLine, text_of}
+use Rattle.ec_script.specs.Layout.{Says, Block, IsBlock, orders_of, workers_of, joined, AreNested, commands_in, IsLayout, layout_lines, program_of, plan_of, IsLaidOut}
+use Rattle.ec_script.specs.Spelling.{order_line, script_lines, ordered_blocks}
+use Rattle.ec_script.specs.Given.{MayGive}
+use Rattle.ec_script.specs.Spelled.{IsGivenBlock, their_workers, orders_for, spelled_plan, IsSpelling, ScriptsAreSpelled}
+use Rattle.ec_script.proofs.Layouts.{laid_out}
+use Rattle.ec_script.proofs.LayoutsLead.{is_script}
+use Rattle.ec_script.proofs.OrderLines.{layout_lines_are}
+use Rattle.ec_script.proofs.Sayings.{lines_say}
+
+-- BLOCKS BY THEIR ORDERS
+
+same_workers : (blocks : List Block) → workers_of blocks ≡ their_workers (ordered_blocks blocks)
+same_workers [] = refl
+same_workers (b ∷ blocks) = ap (λ (ws : List ℕ). b.worker ∷ ws) (same_workers blocks)
+
+same_program : (blocks : List Block) (w : ℕ) → program_of blocks w ≡ orders_for (ordered_blocks blocks) w
+same_program [] w = refl
+same_program (b ∷ blocks) w = ap (λ os. cond (b.worker == w) (orders_of b.lines) os) (same_program blocks w)
+
+same_programs : (blocks : List Block) (ws : List ℕ) → map (program_of blocks) ws ≡ map (orders_for (ordered_blocks blocks)) ws
+same_programs blocks [] = refl
+same_programs blocks (w ∷ ws) = ap₂ (λ (os : List Order) (more : List (List Order)). os ∷ more) (same_program blocks w) (same_programs blocks ws)
+
+same_plan : (o : Outline) (blocks : List Block) (rows : List (List ℕ)) → plan_of (record { outline = o; blocks = blocks; rows = rows }) ≡ spelled_plan (record { outline = o; blocks = ordered_blocks blocks; rows = rows })
+same_plan o blocks rows = ap (λ (ps : List (List Order)). let q : Planned = record { heading = headed o; programs = ps; schedule = joined rows } in q) (same_programs blocks (range_with_len 0 (length o.workers)))
+
+-- WHAT LINES SAY IS GIVEN
+
+orders_given : (o : Outline) → IsOutline o → (w : ℕ) (lines : List (List ℕ × Order)) → AllByRecursion (λ (l : List ℕ × Order). Says (headed o) w l.0 l.1) lines → AllByRecursion (MayGive (headed o) w) (orders_of lines)
+orders_given o is w [] all = tt
+orders_given o is w (l ∷ lines) all = (((lines_say o w l.0 l.1 is).0 all.0).1, orders_given o is w lines all.1)
+
+blocks_given : (o : Outline) → IsOutline o → (blocks : List Block) → AllByRecursion (IsBlock (headed o)) blocks → AllByRecursion (IsGivenBlock (headed o)) (ordered_blocks blocks)
+blocks_given o is [] all = tt
+blocks_given o is (b ∷ blocks) all = (
+  record { worker = all.0.worker; each = orders_given o is b.worker b.lines all.0.each; nested = all.0.nested; few = all.0.few },
+  blocks_given o is blocks all.1,
+)
+
+spells : (bytes : List ℕ) (p : Planned) → IsScript bytes p → IsSpelling bytes p
+spells bytes p script =
+    let d : IsLaidOut bytes p = laid_out bytes p script in
+    let lines = layout_lines_are d.layout d.is in
+    record {
+      spelled = record { outline = d.layout.outline; blocks = ordered_blocks d.layout.blocks; rows = d.layout.rows };
+      is = record {
+        heading = d.is.heading;
+        blocks = blocks_given d.layout.outline d.is.heading d.layout.blocks d.is.blocks;
+        differ = ap has_repeat (sym (same_workers d.layout.blocks)) ∙ d.is.differ;
+        rows = d.is.rows;
+        few = d.is.few;
+      };
+      text = d.text ∙ ap text_of lines;
+      each = subst (AllByRecursion IsLine) lines d.each;
+      within = d.within;
+      plan = d.plan ∙ same_plan d.layout.outline d.layout.blocks d.layout.rows;
+    }
+
+-- WHAT IS GIVEN IS SAID BY LINES
+
+-- an order with its line
+abbrev lined : Headed → List Order → List (List ℕ × Order)
+lined h os = map (λ (o : Order). (order_line h o, o)) os
+
+abbrev lined_blocks : Headed → List (ℕ × List Order) → List Block
+lined_blocks h blocks = map (λ (b : ℕ × List Order). record { worker = b.0; lines = lined h b.1 }) blocks
+
+orders_again : (h : Headed) (os : List Order) → orders_of (lined h os) ≡ os
+orders_again h [] = refl
+orders_again h (o ∷ os) = ap (λ (xs : List Order). o ∷ xs) (orders_again h os)
+
+blocks_again : (h : Headed) (blocks : List (ℕ × List Order)) → ordered_blocks (lined_blocks h blocks) ≡ blocks
+blocks_again h [] = refl
+blocks_again h (b ∷ blocks) = ap₂ (λ (os : List Order) (more : List (ℕ × List Order)). (b.0, os) ∷ more) (orders_again h b.1) (blocks_again h blocks)
+
+lines_said : (o : Outline) → IsOutline o → (w : ℕ) (os : List Order) → AllByRecursion (MayGive (headed o) w) os → AllByRecursion (λ (l : List ℕ × Order). Says (headed o) w l.0 l.1) (lined (headed o) os)
+lines_said o is w [] all = tt
+lines_said o is w (x ∷ os) all = ((lines_say o w (order_line (headed o) x) x is).1 (refl, all.0), lines_said o is w os all.1)
+
+blocks_said : (o : Outline) → IsOutline o → (blocks : List (ℕ × List Order)) → AllByRecursion (IsGivenBlock (headed o)) blocks → AllByRecursion (IsBlock (headed o)) (lined_blocks (headed o) blocks)
+blocks_said o is [] all = tt
+blocks_said o is (b ∷ blocks) all =
+    let same : b.1 ≡ orders_of (lined (headed o) b.1) = sym (orders_again (headed o) b.1) in (
+      record {
+        worker = all.0.worker;
+        each = lines_said o is b.0 b.1 all.0.each;
+        nested = subst (AreNested 0 true) same all.0.nested;
+        few = subst (λ (os : List Order). commands_in os ≤ 4096) same all.0.few;
+      },
+      blocks_said o is blocks all.1,
+    )
+
+spelled_is_script : (bytes : List ℕ) (p : Planned) → IsSpelling bytes p → IsScript bytes p
+spelled_is_script bytes p s =
+    let again : ordered_blocks (lined_blocks (headed s.spelled.outline) s.spelled.blocks) ≡ s.spelled.blocks = blocks_again (headed s.spelled.outline) s.spelled.blocks in
+    let is : IsLayout (record { outline = s.spelled.outline; blocks = lined_blocks (headed s.spelled.outline) s.spelled.blocks; rows = s.spelled.rows }) = record {
+      heading = s.is.heading;
+      blocks = blocks_said s.spelled.outline s.is.heading s.spelled.blocks s.is.blocks;
+      differ = ap has_repeat (same_workers (lined_blocks (headed s.spelled.outline) s.spelled.blocks) ∙ ap their_workers again) ∙ s.is.differ;
+      rows = s.is.rows;
+      few = s.is.few;
+    } in
+    let lines : script_lines s.spelled.outline s.spelled.blocks s.spelled.rows ≡ layout_lines (record { outline = s.spelled.outline; blocks = lined_blocks (headed s.spelled.outline) s.spelled.blocks; rows = s.spelled.rows }) =
+    sym (layout_lines_are (record { outline = s.spelled.outline; blocks = lined_blocks (headed s.spelled.outline) s.spelled.blocks; rows = s.spelled.rows }) is ∙ ap (λ bs. script_lines s.spelled.outline bs s.spelled.rows) again) in
+    is_script bytes p (record {
+      layout = record { outline = s.spelled.outline; blocks = lined_blocks (headed s.spelled.outline) s.spelled.blocks; rows = s.spelled.rows };
+      is = is;
+      text = s.text ∙ ap text_of lines;
+      each = subst (AllByRecursion IsLine) lines s.each;
+      within = s.within;
+      plan = s.plan
+          ∙ sym (same_plan s.spelled.outline (lined_blocks (headed s.spelled.outline) s.spelled.blocks) s.spelled.rows
+          ∙ ap (λ bs. spelled_plan (record { outline = s.spelled.outline; blocks = bs; rows = s.spelled.rows })) again);
+    })
+
+pub scripts_spelled : ScriptsAreSpelled
+scripts_spelled bytes p = (λ script. spells bytes p script, λ spelling. spelled_is_script bytes p spelling)

@@ -1,0 +1,62 @@
+-- Which orders a script may give to a worker, by what they say.
+use Rattle.std.specs.Prelude.{◌≡◌, ◌↔◌, ℕ, ◌≤◌, ◌==◌, ◌&&◌, Bool, true, false, nat_le, List, length, is_some}
+use Rattle.std.specs.List.{list_all, Contains}
+use Rattle.ec_count.specs.Tables.{Tables, component_of, may_observe, may_take, may_write, may_read}
+use Rattle.ec_machine.specs.declared.command.Command.{Command}
+use Rattle.ec_machine.specs.declared.command.Command.TheViews.{out-Command}
+use Rattle.ec_machine.specs.declared.command.Command.TheOpen.{Command-F}
+use Rattle.ec_machine.specs.declared.command.Command.TheOpen as layer
+use Rattle.ec_machine.specs.Limits.{is_value, are_apart}
+use Rattle.ec_heading.specs.declared.group.Group.TheVariants as groups
+use Rattle.ec_heading.specs.Headed.{Headed}
+use Rattle.ec_heading.specs.Outline.{Outline, IsOutline, headed}
+use Rattle.ec_script.specs.declared.order.Order.{Order}
+use Rattle.ec_script.specs.declared.order.Order.TheVariants.{Do, Write, Begin, End}
+use Rattle.ec_script.specs.Confined.{UsesGroups}
+use Rattle.ec_script.specs.Layout.{Says}
+use Rattle.ec_script.specs.Spelling.{order_line}
+
+-- whether the worker has the right to do such a thing
+abbrev pub may_do : Tables → ℕ → Command-F Command → Bool
+may_do t w (layer.Advance e) = is_some (component_of t e w)
+may_do t w (layer.Read e) = may_observe t e w
+may_do t w (layer.Await e v) = may_observe t e w
+may_do t w (layer.Ticket q) = may_take t q w
+may_do t w (layer.Put x v) = may_write t x w
+may_do t w (layer.Get x) = may_read t x w
+may_do t w (layer.Produce b v) = may_take t b.put_seq w
+may_do t w (layer.Consume b) = may_take t b.take_seq w
+may_do t w (layer.WriteAll d vs) = may_take t d.turn w
+may_do t w (layer.Snapshot d n) = may_observe t d.start w
+may_do t w (layer.Down s) = may_take t s.line w
+may_do t w (layer.Up s) = may_take t s.line w
+may_do t w (layer.DownBoth common one other) = may_take t common.line w && may_take t one.line w && may_take t other.line w
+may_do t w (layer.Repeat n block) = true
+
+-- whether it is a command of one line without a list, its number is in range, and the semaphores of P on two of them differ
+abbrev pub is_line_of : Command-F Command → Bool
+is_line_of (layer.Await e v) = is_value v
+is_line_of (layer.Put x v) = is_value v
+is_line_of (layer.Produce b v) = is_value v
+is_line_of (layer.Snapshot d n) = nat_le 1 n && nat_le n 1000
+is_line_of (layer.DownBoth common one other) = are_apart common one other
+is_line_of (layer.WriteAll d vs) = false
+is_line_of (layer.Repeat n block) = false
+is_line_of _ = true
+
+-- the order uses the objects of groups by the groups' procedures alone, the worker has the right, and the numbers are in range
+abbrev pub IsGiven : Headed → ℕ → Order → Type 0
+IsGiven h w (Do c) = UsesGroups h.groups (out-Command c) × (may_do h.setup w (out-Command c) ≡ true) × (is_line_of (out-Command c) ≡ true)
+IsGiven h w (Write d vs) = Contains h.groups (groups.Database d) × (may_take h.setup d.turn w ≡ true) × (1 ≤ length vs) × ((length vs == d.cells) ≡ true) × (list_all is_value vs ≡ true)
+IsGiven h w (Begin n) = (1 ≤ n) × (n ≤ 1000000)
+IsGiven h w End = Unit {0}
+
+-- and its line has at most 8192 bytes
+abbrev pub MayGive : Headed → ℕ → Order → Type 0
+MayGive h w o = IsGiven h w o × (length (order_line h o) ≤ 8192)
+
+-- LAWS
+
+-- a line says an order exactly where it spells the order, and the order may be given
+abbrev pub LinesSayOrders : Type 0
+LinesSayOrders = (o : Outline) (w : ℕ) (line : List ℕ) (order : Order) → IsOutline o → Says (headed o) w line order ↔ ((line ≡ order_line (headed o) order) × MayGive (headed o) w order)
