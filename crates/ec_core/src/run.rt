@@ -134,6 +134,7 @@ impl Run {
 
     /// One step, which adds its entry. It is refused as a step of its world is. Memory is wanted
     /// only where the step is right, and taken before anything is changed.
+    #[inline(always)]
     pub fn step(&mut self, worker: WorkerId, act: Act) -> Result<Reply, StepFault>
         ensures answer { MatchResult result
             (λ reply. answer_of self.old.setup (reverse self.old.entries) worker act ≡ Ok reply)

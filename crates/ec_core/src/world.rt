@@ -271,6 +271,7 @@ impl World {
     }
 
     /// Takes in an entry that the history asks for.
+    #[inline(always)]
     pub(crate) fn take_in(&mut self, entry: &Entry)
         ensures history { (h : List Entry) → StandsFor self.old h → answer_of self.old.setup (reverse h) entry.now.worker entry.now.act ≡ Ok entry.now.reply
             → StandsFor self.new (h ++ entry.now ∷ []) }
@@ -282,6 +283,7 @@ impl World {
     }
 
     /// What `step` would answer, and no change.
+    #[inline(always)]
     pub fn answer(&self, worker: WorkerId, act: &Act) -> Result<Reply, Refusal>
         ensures answer { (h : List Entry) → StandsFor self.now h → result ≡ answer_of self.now.setup (reverse h) worker act.now }
         ensures small { (h : List Entry) → StandsFor self.now h → IfOk result (TellsAtMost VALUE_MAX) }
@@ -296,6 +298,7 @@ impl World {
     }
 
     /// One step: the first refusal that holds, and no change, or the right reply.
+    #[inline(always)]
     pub fn step(&mut self, worker: WorkerId, act: Act) -> Result<Reply, Refusal>
         ensures answer { (h : List Entry) → StandsFor self.old h → result ≡ answer_of self.old.setup (reverse h) worker act }
         ensures after { (h : List Entry) → StandsFor self.old h

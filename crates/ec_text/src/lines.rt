@@ -4,6 +4,7 @@ ghost use Rattle.std.specs.Prelude.{◌≡◌, ◌≢◌, ◌++◌, ◌∷◌, A
 use memchr::memchr;
 
 /// The bytes before the first LF, and those behind it: `None` where there is no LF.
+#[inline(always)]
 #[tactic(auto, using(crate::proofs::LineCuts::line_cuts))]
 pub fn cut_line(bytes: &[u8]) -> Option<(&[u8], &[u8])>
     ensures none { IfNone result (All (λ b. b ≢ 10) bytes.now) }

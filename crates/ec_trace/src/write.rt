@@ -81,6 +81,7 @@ pub fn put_reply<W: Write>(writer: &mut W, buffered: &mut Buffered, reply: &Repl
 }
 
 /// Puts an entry, without LF.
+#[inline(always)]
 #[tactic(auto, using(crate::proofs::EntryParts::entry_parts))]
 pub fn put_entry<W: Write>(
     writer: &mut W,
