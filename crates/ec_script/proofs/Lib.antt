@@ -23,3 +23,4 @@ pub mod Giving
 pub mod Namings
 pub mod Sayings
 pub mod Spellings
+pub mod Cleans
