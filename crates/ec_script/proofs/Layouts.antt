@@ -1,6 +1,6 @@
 -- Every script is laid out as a heading, whole blocks and a schedule.
 use Rattle.std.proofs.Common.{◌≡◌, ℕ, ◌<◌, ◌≤◌, ◌^◌, List, [], ◌∷◌, ◌++◌, length, map, replicate, true, false, not, ◌&&◌, cond, eqb, nat_le, nat_lt, Option, Some, None, Result, Ok, Err, refl, sym, ap, ap₂, ◌∙◌, subst, arith, bytes_eq, codes, decimal, slice_set, get_or, eqb-true, length-set}
-use Rattle.std.specs.List.{AllByRecursion, range_with_len}
+use Rattle.std.specs.List.{range_with_len}
 use Rattle.std.proofs.lemmas.Bool.{and_parts, or_parts, leb-true, ltb-true, eqb-false}
 use Rattle.std.proofs.lemmas.Slice.Eq.{bytes_eq-Decides}
 use Rattle.std.proofs.lemmas.List.{ext_get_or, get_or-set_same, get_or-set_other, get_or-replicate, length-replicate}
@@ -24,7 +24,7 @@ use Rattle.ec_script.specs.Forms.{phrase_in}
 use Rattle.ec_script.specs.Scripted.{Scripted, Planned}
 use Rattle.ec_script.specs.Reading.{headed_on, phrased, opens_outer, script_step, in_range, limited, limit_digits, limit_or, limit_step, script_of, named_on, step}
 use Rattle.ec_script.specs.Outcome.{plan_in}
-use Rattle.ec_script.specs.Grammar.{Leads, IsLine, text_of}
+use Rattle.ec_script.specs.Grammar.{Leads, text_of}
 use Rattle.ec_script.specs.Layout.{Block, orders_of, workers_of, joined, layout_lines, program_of, ScriptsAreLaidOut}
 use Rattle.ec_script.proofs.Declaring.{HeadKeeps, Grows, first_keeps, head_grows}
 use Rattle.ec_script.proofs.Passing.{read_back}
@@ -239,7 +239,6 @@ laid_out bytes p is =
       layout = record { outline = g.outline; blocks = c.blocks; rows = c.rows };
       is = record { heading = g.is; blocks = c.each; differ = c.differ; rows = c.rows_are; few = c.few };
       text = is.text ∙ ap text_of all;
-      each = subst (AllByRecursion IsLine) all is.each;
       within = is.within;
       plan = c.plan ∙ ap (λ (ps : List (List Order)). planned (headed g.outline) ps (joined c.rows)) programs;
     }

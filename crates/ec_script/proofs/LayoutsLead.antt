@@ -38,10 +38,10 @@ use Rattle.ec_script.specs.Objects.{object_for, owns, is_owned}
 use Rattle.ec_script.specs.Kinds.{or_nothing, is_allowed, is_named_again, has_unknown_name, is_too_many, is_badly_nested}
 use Rattle.ec_script.specs.Orders.{size_in, command_in}
 use Rattle.ec_script.specs.Drafted.{Drafted, nothing_drafted, with_order}
-use Rattle.ec_script.specs.Scripted.{Scripted}
+use Rattle.ec_script.specs.Scripted.{Scripted, Planned}
 use Rattle.ec_script.specs.Reading.{nest_of, seen, after_verb, commanded, ordered_in, headed_on, phrased, opens_outer, script_step, limit_digits, limit_or, limited, in_range, limit_step, script_of, named_on, read_on, step}
-use Rattle.ec_script.specs.Grammar.{Leads}
-use Rattle.ec_script.specs.Layout.{order_by, Says, Block, IsBlock, texts_of, orders_of, AreNested, commands_in, worker_line, block_lines, schedule_line, IsRow, joined, workers_of, layout_lines, program_of, LayoutsAreScripts}
+use Rattle.ec_script.specs.Grammar.{Leads, IsScript, IsLine}
+use Rattle.ec_script.specs.Layout.{order_by, Says, Block, IsBlock, texts_of, orders_of, AreNested, commands_in, worker_line, block_lines, schedule_line, IsRow, joined, workers_of, layout_lines, program_of, IsLaidOut}
 use Rattle.ec_script.proofs.Declaring.{HeadKeeps, Grows, first_keeps, head_grows}
 use Rattle.ec_script.proofs.PhraseWords.{made, verb_word, verb_back}
 use Rattle.ec_script.proofs.Passing.{Passes, taken_so}
@@ -430,8 +430,8 @@ heading_leads o is more t leads =
 
 -- WHOLE SCRIPTS
 
-pub is_script : LayoutsAreScripts
-is_script bytes p is =
+pub layout_leads : (bytes : List ℕ) (p : Planned) → (is : IsLaidOut bytes p) → AllByRecursion IsLine (layout_lines is.layout) → IsScript bytes p
+layout_leads bytes p is each =
     let none : List Order = [] in
     let heads : Heads is.layout.outline.workers (headed is.layout.outline) =
     heads_all is.layout.outline.workers (opened is.layout.outline.limit is.layout.outline.workers) is.layout.outline.declarations (heads_opened is.layout.outline.limit is.layout.outline.workers) in
@@ -441,7 +441,7 @@ is_script bytes p is =
       lines = layout_lines is.layout;
       stage = Reading (state (headed is.layout.outline) (named_all [] is.layout.blocks) (set_all (replicate (headed is.layout.outline).setup.workers none) is.layout.blocks) None (joined is.layout.rows));
       text = is.text;
-      each = is.each;
+      each = each;
       leads = heading_leads is.layout.outline is.is.heading _ _
           (blocks_lead (headed is.layout.outline) is.layout.outline.workers heads is.is.heading.workers [] (replicate (headed is.layout.outline).setup.workers none) is.layout.blocks _ _ is.is.blocks (all_new is.layout.blocks) is.is.differ
           (rows_lead (headed is.layout.outline) is.layout.outline.workers heads is.is.heading.workers (named_all [] is.layout.blocks) (set_all (replicate (headed is.layout.outline).setup.workers none) is.layout.blocks) [] is.layout.rows is.is.rows is.is.few));

@@ -28,3 +28,4 @@ pub mod Giving
 pub mod Namings
 pub mod Sayings
 pub mod Spellings
+pub mod Cleans

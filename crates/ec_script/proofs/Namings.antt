@@ -10,7 +10,7 @@ use Rattle.std.proofs.lemmas.Slice.Eq.{bytes_eq-Decides}
 use Rattle.std.proofs.lemmas.Str.Parse.{not_in_digits}
 use Rattle.std.proofs.lemmas.Fmt.{digits_decimal}
 use Rattle.ec_count.specs.Names.{find_name}
-use Rattle.ec_count.specs.Reserved.{is_name}
+use Rattle.ec_count.specs.Reserved.{is_name, is_name_byte}
 use Rattle.ec_count.specs.declared.target.Target.{Target}
 use Rattle.ec_count.specs.declared.target.Target.TheVariants as targets
 use Rattle.ec_text.proofs.NumberLemmas.{own, number_again}
@@ -29,6 +29,7 @@ use Rattle.ec_heading.proofs.LineWords.{IsFit, AreNamed}
 use Rattle.ec_heading.proofs.NameWords.{name_is_word, name_not_empty}
 use Rattle.ec_heading.proofs.ReadNames.{bracketed, HasBlock, has_block, IsNamedBy, named_by, block_by, word_lacks}
 use Rattle.ec_heading.proofs.ReadHeadings.{IsSound, sound, sound_all}
+use Rattle.ec_heading.proofs.SortFacts.{name_called}
 use Rattle.ec_heading.proofs.SpelledWords.{IsPlainWord, found_word, find-append_none}
 use Rattle.ec_script.specs.declared.object.Object.{Object}
 use Rattle.ec_script.specs.Objects.{place_of, group_in, owns}
@@ -224,3 +225,42 @@ group_again h f g o has named own =
       ap (group_in h) word ∙ ap (λ x. option_and_then (λ (i : ℕ). slice_get h.groups i) (option_and_then place_of x)) k.found ∙ at,
       subst IsFit (sym word) (record { word = name_is_word k.name name; some = name_not_empty k.name name }),
     )
+
+-- NO LF
+
+abbrev pub IsClean : List ℕ → Type 0
+IsClean word = AllByRecursion (λ b. eqb b 10 ≡ false) word
+
+pub name_clean : (name : List ℕ) → is_name name ≡ true → IsClean name
+name_clean name is = bytes_clean name (name_called name is).bytes
+  where
+    bytes_clean : (w : List ℕ) → AllByRecursion (λ b. is_name_byte b ≡ true) w → IsClean w
+    bytes_clean [] h = tt
+    bytes_clean (b ∷ w) h = (ne_eqb b 10 (λ e. true≢false (sym h.0 ∙ ap is_name_byte e)), bytes_clean w h.1)
+
+pub decimal_clean : (n : ℕ) → n < 1000000000000000000 → IsClean (decimal n)
+decimal_clean n small = decimal_lacks 10 n small (λ r. omega arith)
+
+pub event_clean : (h : Headed) → IsFound h → (e : ℕ) → e < length h.setup.events → IsClean (word_of h.words (targets.Event e))
+event_clean h f e within = word_lacks 10 (word_of h.words (targets.Event e)) refl (named_by h.words (targets.Event e) f.is.words (f.is.events e within)).plain
+
+pub sequencer_clean : (h : Headed) → IsFound h → (q : ℕ) → q < length h.setup.takers → IsClean (word_of h.words (targets.Sequencer q))
+sequencer_clean h f q within = word_lacks 10 (word_of h.words (targets.Sequencer q)) refl (named_by h.words (targets.Sequencer q) f.is.words (f.is.sequencers q within)).plain
+
+pub cell_clean : (h : Headed) → IsFound h → (x : ℕ) → x < length h.setup.cells → IsClean (cell_word h.words x)
+cell_clean h f x within =
+    let b : HasBlock h.words x = has_block h.words x (f.is.cells x within) in
+    let by : IsNamedBy h.words (targets.Cells b.first b.count) b.block = block_by h.words x f.is.words b in
+    let small : x - b.first < 1000000000000000000 = omega (arith, within, f.is.bounds.cells) in
+    subst IsClean (sym b.word)
+    (each_append (λ c. eqb c 10 ≡ false) ((b.block ++ 91 ∷ []) ++ decimal (x - b.first)) (93 ∷ [])
+    (each_append (λ c. eqb c 10 ≡ false) (b.block ++ 91 ∷ []) (decimal (x - b.first)) (each_append (λ c. eqb c 10 ≡ false) b.block (91 ∷ []) (word_lacks 10 b.block refl by.plain) (refl, tt)) (decimal_clean (x - b.first) small))
+    (refl, tt))
+
+pub group_clean : (h : Headed) → IsFound h → (g : Group) (o : Object) → Contains h.groups g → is_common g ≡ false → owns o g ≡ true → IsClean (group_word h o)
+group_clean h f g o has named own =
+    let at : slice_get h.groups has.0 ≡ Some g = slice_get-get_or h.groups has.0 g has.1 ∙ ap Some has.2 in
+    let k : HasGroup h.names has.0 = f.called has.0 g at named in
+    let word : group_word h o ≡ k.name = group_spelled h k.name has.0 g o f.owning k.found at own in
+    let name : is_name k.name ≡ true = found_word (λ w. is_name w ≡ true) h.names k.name (targets.Group has.0) (recursion_from_All (λ (e : List ℕ × Target). is_name e.0 ≡ true) h.names f.is.names.each) k.found in
+    subst IsClean (sym word) (name_clean k.name name)

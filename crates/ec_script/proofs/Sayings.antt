@@ -143,35 +143,35 @@ values_spelled (v ∷ vs) all =
 
 -- RIGHTS ARE TO WHAT IS DECLARED
 
-signalled : (t : Tables) (e w : ℕ) → is_some (component_of t e w) ≡ true → e < length t.events
+pub signalled : (t : Tables) (e w : ℕ) → is_some (component_of t e w) ≡ true → e < length t.events
 signalled t e w is =
     (elim (slice_get t.events e) as (λ x. slice_get t.events e ≡ x → is_some (member_place w (option_map_or (λ (r : Rights). r.signal) x [])) ≡ true → e < length t.events) [
       | None ↦ λ at h. cc
       | Some r ↦ λ at h. slice_get_within t.events e r at
     ]) refl is
 
-observed : (t : Tables) (e w : ℕ) → may_observe t e w ≡ true → e < length t.events
+pub observed : (t : Tables) (e w : ℕ) → may_observe t e w ≡ true → e < length t.events
 observed t e w is =
     (elim (slice_get t.events e) as (λ x. slice_get t.events e ≡ x → option_map_or (λ (r : Rights). is_member w r.observe) x false ≡ true → e < length t.events) [
       | None ↦ λ at h. cc
       | Some r ↦ λ at h. slice_get_within t.events e r at
     ]) refl is
 
-taken : (t : Tables) (q w : ℕ) → may_take t q w ≡ true → q < length t.takers
+pub taken : (t : Tables) (q w : ℕ) → may_take t q w ≡ true → q < length t.takers
 taken t q w is =
     (elim (slice_get t.takers q) as (λ x. slice_get t.takers q ≡ x → option_map_or (is_member w) x false ≡ true → q < length t.takers) [
       | None ↦ λ at h. cc
       | Some r ↦ λ at h. slice_get_within t.takers q r at
     ]) refl is
 
-written : (t : Tables) (x w : ℕ) → may_write t x w ≡ true → x < length t.cells
+pub written : (t : Tables) (x w : ℕ) → may_write t x w ≡ true → x < length t.cells
 written t x w is =
     (elim (slice_get t.cells x) as (λ y. slice_get t.cells x ≡ y → option_map_or (λ (a : Access). is_member w a.write) y false ≡ true → x < length t.cells) [
       | None ↦ λ at h. cc
       | Some r ↦ λ at h. slice_get_within t.cells x r at
     ]) refl is
 
-read_from : (t : Tables) (x w : ℕ) → may_read t x w ≡ true → x < length t.cells
+pub read_from : (t : Tables) (x w : ℕ) → may_read t x w ≡ true → x < length t.cells
 read_from t x w is =
     (elim (slice_get t.cells x) as (λ y. slice_get t.cells x ≡ y → option_map_or (λ (a : Access). is_member w a.read) y false ≡ true → x < length t.cells) [
       | None ↦ λ at h. cc

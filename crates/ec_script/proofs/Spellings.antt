@@ -7,12 +7,13 @@ use Rattle.ec_heading.specs.Outline.{Outline, IsOutline, headed}
 use Rattle.ec_script.specs.declared.order.Order.{Order}
 use Rattle.ec_script.specs.Scripted.{Planned}
 use Rattle.ec_script.specs.Grammar.{IsScript, IsLine, text_of}
-use Rattle.ec_script.specs.Layout.{Says, Block, IsBlock, orders_of, workers_of, joined, AreNested, commands_in, IsLayout, layout_lines, program_of, plan_of, IsLaidOut}
+use Rattle.ec_script.specs.Layout.{Says, Block, IsBlock, orders_of, workers_of, joined, AreNested, commands_in, IsLayout, layout_lines, program_of, plan_of, IsLaidOut, LayoutsAreScripts, Layout}
 use Rattle.ec_script.specs.Spelling.{order_line, script_lines, ordered_blocks}
 use Rattle.ec_script.specs.Given.{MayGive}
-use Rattle.ec_script.specs.Spelled.{IsGivenBlock, their_workers, orders_for, spelled_plan, IsSpelling, ScriptsAreSpelled}
+use Rattle.ec_script.specs.Spelled.{IsGivenBlock, their_workers, orders_for, spelled_plan, IsSpelling, ScriptsAreSpelled, Spelled, IsSpelled}
 use Rattle.ec_script.proofs.Layouts.{laid_out}
-use Rattle.ec_script.proofs.LayoutsLead.{is_script}
+use Rattle.ec_script.proofs.LayoutsLead.{layout_leads}
+use Rattle.ec_script.proofs.Cleans.{spelled_lines}
 use Rattle.ec_script.proofs.OrderLines.{layout_lines_are}
 use Rattle.ec_script.proofs.Sayings.{lines_say}
 
@@ -46,24 +47,33 @@ blocks_given o is (b ∷ blocks) all = (
   blocks_given o is blocks all.1,
 )
 
+-- what a layout says
+abbrev spelled_of : Layout → Spelled
+spelled_of l = record { outline = l.outline; blocks = ordered_blocks l.blocks; rows = l.rows }
+
+is_spelled : (l : Layout) → IsLayout l → IsSpelled (spelled_of l)
+is_spelled l is = record {
+  heading = is.heading;
+  blocks = blocks_given l.outline is.heading l.blocks is.blocks;
+  differ = ap has_repeat (sym (same_workers l.blocks)) ∙ is.differ;
+  rows = is.rows;
+  few = is.few;
+}
+
 spells : (bytes : List ℕ) (p : Planned) → IsScript bytes p → IsSpelling bytes p
 spells bytes p script =
     let d : IsLaidOut bytes p = laid_out bytes p script in
-    let lines = layout_lines_are d.layout d.is in
     record {
-      spelled = record { outline = d.layout.outline; blocks = ordered_blocks d.layout.blocks; rows = d.layout.rows };
-      is = record {
-        heading = d.is.heading;
-        blocks = blocks_given d.layout.outline d.is.heading d.layout.blocks d.is.blocks;
-        differ = ap has_repeat (sym (same_workers d.layout.blocks)) ∙ d.is.differ;
-        rows = d.is.rows;
-        few = d.is.few;
-      };
-      text = d.text ∙ ap text_of lines;
-      each = subst (AllByRecursion IsLine) lines d.each;
+      spelled = spelled_of d.layout;
+      is = is_spelled d.layout d.is;
+      text = d.text ∙ ap text_of (layout_lines_are d.layout d.is);
       within = d.within;
       plan = d.plan ∙ same_plan d.layout.outline d.layout.blocks d.layout.rows;
     }
+
+-- its lines hold no LF
+pub is_script : LayoutsAreScripts
+is_script bytes p d = layout_leads bytes p d (subst (AllByRecursion IsLine) (sym (layout_lines_are d.layout d.is)) (spelled_lines (spelled_of d.layout) (is_spelled d.layout d.is)))
 
 -- WHAT IS GIVEN IS SAID BY LINES
 
@@ -115,7 +125,6 @@ spelled_is_script bytes p s =
       layout = record { outline = s.spelled.outline; blocks = lined_blocks (headed s.spelled.outline) s.spelled.blocks; rows = s.spelled.rows };
       is = is;
       text = s.text ∙ ap text_of lines;
-      each = subst (AllByRecursion IsLine) lines s.each;
       within = s.within;
       plan = s.plan
           ∙ sym (same_plan s.spelled.outline (lined_blocks (headed s.spelled.outline) s.spelled.blocks) s.spelled.rows

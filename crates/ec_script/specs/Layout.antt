@@ -19,7 +19,7 @@ use Rattle.ec_script.specs.Objects.{object_in, is_owned}
 use Rattle.ec_script.specs.Kinds.{is_bad_tail, has_two_roles, has_right}
 use Rattle.ec_script.specs.Orders.{size_in, command_in}
 use Rattle.ec_script.specs.Scripted.{Planned}
-use Rattle.ec_script.specs.Grammar.{IsScript, IsLine, text_of}
+use Rattle.ec_script.specs.Grammar.{IsScript, text_of}
 
 -- A LINE OF A BLOCK
 
@@ -144,7 +144,6 @@ pub record IsLaidOut (bytes : List ℕ) (p : Planned) : Type 0 where
   pub layout : Layout
   pub is : IsLayout layout
   pub text : bytes ≡ text_of (layout_lines layout)
-  pub each : AllByRecursion IsLine (layout_lines layout)
   pub within : length bytes ≤ SCRIPT_MAX
   pub plan : p ≡ plan_of layout
 

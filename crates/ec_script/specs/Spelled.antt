@@ -7,9 +7,9 @@ use Rattle.ec_heading.specs.Outline.{Outline, IsOutline, headed}
 use Rattle.ec_script.specs.declared.order.Order.{Order}
 use Rattle.ec_script.specs.declared.parsing.TheConstants.{SCRIPT_MAX}
 use Rattle.ec_script.specs.Scripted.{Planned}
-use Rattle.ec_script.specs.Grammar.{IsScript, IsLine}
+use Rattle.ec_script.specs.Grammar.{IsScript}
 use Rattle.ec_script.specs.Layout.{AreNested, commands_in, IsRow, joined}
-use Rattle.ec_script.specs.Spelling.{script_lines, script_text}
+use Rattle.ec_script.specs.Spelling.{script_text}
 use Rattle.ec_script.specs.Given.{MayGive}
 
 pub record Spelled : Type 0 where
@@ -47,12 +47,11 @@ spelled_plan s = record {
   schedule = joined s.rows;
 }
 
--- the bytes spell a heading, blocks and a schedule, of which no line holds an LF, and the plan is what these say
+-- the bytes spell a heading, blocks and a schedule, and the plan is what these say
 pub record IsSpelling (bytes : List ℕ) (p : Planned) : Type 0 where
   pub spelled : Spelled
   pub is : IsSpelled spelled
   pub text : bytes ≡ script_text spelled.outline spelled.blocks spelled.rows
-  pub each : AllByRecursion IsLine (script_lines spelled.outline spelled.blocks spelled.rows)
   pub within : length bytes ≤ SCRIPT_MAX
   pub plan : p ≡ spelled_plan spelled
 
