@@ -53,7 +53,8 @@ pub fn lines_are_spelled()
     ensures { LinesAreSpelled }
 {}
 
-/// So a script is the one text that spells its heading, the orders of its blocks and its schedule.
+/// So a script is the one text that spells its heading, its blocks by their workers and orders, and its
+/// schedule.
 pub fn layouts_are_spelled()
     ensures { LayoutsAreSpelled }
 {}
@@ -64,7 +65,8 @@ pub fn lines_say_orders()
 {}
 
 /// A text is a script of a plan exactly where it spells what the plan says: a heading, for each
-/// block a worker and orders that may be given to it, and the names of a schedule.
+/// block a worker and orders that may be given to it, with their repeats properly nested and no worker
+/// twice, and the names of a schedule, all within the bounds.
 pub fn scripts_are_spelled()
     ensures { ScriptsAreSpelled }
 {}
