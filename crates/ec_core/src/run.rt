@@ -122,6 +122,7 @@ impl Run {
     }
 
     /// Takes in an entry that the history asks for, or changes nothing for want of memory.
+    #[inline(always)]
     pub(crate) fn take_in(&mut self, entry: Entry) -> Result<(), AllocError>
         requires { answer_of self.old.setup (reverse self.old.entries) entry.worker entry.act ≡ Ok entry.reply }
         ensures ok { OnOk result (self.new ≡ record self.old { entries = self.old.entries ++ entry ∷ [] }) }

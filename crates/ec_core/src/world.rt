@@ -140,6 +140,7 @@ impl World {
         self.calls[worker.get()]
     }
 
+    #[inline(always)]
     fn is_full_for(&self, worker: WorkerId, act: &Act) -> bool
         ensures { result ≡ is_full_for self.now worker act.now }
     {
@@ -159,6 +160,7 @@ impl World {
         }
     }
 
+    #[inline(always)]
     fn refusal(&self, worker: WorkerId, act: &Act) -> Option<Refusal>
         ensures { (past : List Entry) → result ≡ refusal_in self.now.setup worker act.now (is_some (kept_call self.now worker)) (has_right self.now.setup past worker act.now) (is_full_for self.now worker act.now) }
     {
@@ -216,6 +218,7 @@ impl World {
         one_read(call.op(), width, index, sum)
     }
 
+    #[inline(always)]
     fn reply(&self, worker: WorkerId, act: &Act) -> Reply
         ensures { result ≡ reply_in self.now worker act.now }
     {
@@ -244,6 +247,7 @@ impl World {
     }
 
     /// Takes in an accepted act.
+    #[inline(always)]
     fn note(&mut self, worker: WorkerId, act: &Act)
         ensures { self.new ≡ state_after self.old worker act.now }
     {

@@ -33,6 +33,7 @@ pub fn put_cell<W: Write>(
 }
 
 /// Puts what a worker asks for.
+#[inline(always)]
 fn put_act<W: Write>(writer: &mut W, buffered: &mut Buffered, spellings: &Spellings<'_>, act: &Act)
     ensures { Puts (W.contents writer.old) buffered.old (W.contents writer.new) buffered.new (join_with_byte 32 (act_words spellings.now act.now)) }
 {
@@ -70,6 +71,7 @@ fn put_act<W: Write>(writer: &mut W, buffered: &mut Buffered, spellings: &Spelli
 }
 
 /// Puts what a worker is told.
+#[inline(always)]
 pub fn put_reply<W: Write>(writer: &mut W, buffered: &mut Buffered, reply: &Reply)
     ensures { Puts (W.contents writer.old) buffered.old (W.contents writer.new) buffered.new (reply_word reply.now) }
 {
