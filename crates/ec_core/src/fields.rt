@@ -12,6 +12,7 @@ use crate::{Act, VALUE_MAX};
 use ec_count::{Count, Setup, WorkerId};
 
 /// Whether the worker has the right that the act needs.
+#[inline(always)]
 pub(crate) fn has_right(setup: &Setup, worker: WorkerId, act: &Act) -> bool
     ensures { (past : List Entry) → result ≡ has_right setup.now past worker act.now }
 {

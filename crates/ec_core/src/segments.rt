@@ -80,6 +80,7 @@ impl Segments {
     }
 
     /// Adds one entry at the end, or changes nothing.
+    #[inline(always)]
     pub(crate) fn push(&mut self, entry: Entry) -> Result<(), AllocError>
         ensures ok { OnOk result (self.new ≡ self.old ++ entry ∷ []) }
         ensures err { OnErr result (self.new ≡ self.old) }

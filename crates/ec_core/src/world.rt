@@ -209,6 +209,7 @@ impl World {
         count.value() + call.sum()
     }
 
+    #[inline(always)]
     fn next_reply(&self, call: &UnderWay) -> Reply
         ensures { result ≡ next_reply self.now call.now }
     {
@@ -237,6 +238,7 @@ impl World {
         }
     }
 
+    #[inline(always)]
     fn next_progress(&self, call: &UnderWay) -> Option<UnderWay>
         ensures { result ≡ next_progress self.now call.now }
     {
