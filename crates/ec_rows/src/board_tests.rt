@@ -80,7 +80,7 @@ static FOUR_PARKS: [Row; 7] = [
 
 /// A board after that.
 fn parked(alloc: Global) -> Result<Board, Fail> {
-    let setup = declared(alloc, &ONE_AND_THREE)?;
+    let setup = declared(&ONE_AND_THREE)?;
     let mut board = Board::open(alloc, setup)?;
     go_through(&mut board, &FOUR_PARKS)?;
     Ok(board)

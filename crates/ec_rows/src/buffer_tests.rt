@@ -1,8 +1,11 @@
 //! Bounded buffers: how they are declared, worked histories, and runs made by procedures.
 use crate::drive::Ask::{Advance, Await, Get, Go, Put, Ticket};
 use crate::drive::Told::{Done, Number, Pending};
-use crate::drive::{Step, go_on, go_through, run_on, workers};
-use crate::ids::{cell, event, list, sequencer, worker};
+use crate::drive::{
+    FOUR_WORKERS, SIXTEEN_WORKERS, Step, TWO_WORKERS, are_right, declared, go_on, is_as_declared,
+    right, run_on,
+};
+use crate::ids::{cell, event, listed, room, sequencer, worker};
 use ec_buffer::{BufferShape, Consume, Delivery, Produce, declare_buffer, deliveries};
 use ec_core::{AuditFault, Run};
 use ec_count::{Setup, SetupFault, WorkerId, joined, shares_worker};
@@ -11,34 +14,146 @@ use std::test::Fail;
 
 /// Declares a buffer of so many cells for these producers and consumers.
 fn declare(
-    alloc: Global,
     setup: &mut Setup,
     n: usize,
     produce: &[usize],
     consume: &[usize],
-) -> Result<Result<BufferShape, SetupFault>, Fail> {
-    let produce = list(alloc, produce)?;
-    let consume = list(alloc, consume)?;
-    Ok(declare_buffer(setup, n, produce.as_slice(), consume.as_slice()))
+) -> Result<BufferShape, SetupFault> {
+    let (mut one, mut other) = (room(), room());
+    declare_buffer(
+        setup,
+        n,
+        listed(&mut one, produce),
+        listed(&mut other, consume),
+    )
 }
 
 /// Four workers, of whom the first two produce and the last two consume, and their buffer.
-fn two_and_two(alloc: Global, n: usize) -> Result<(Setup, BufferShape), Fail> {
-    let mut setup = workers(10, 4)?;
-    let shape = declare(alloc, &mut setup, n, &[0, 1], &[2, 3])??;
+fn two_and_two(n: usize) -> Result<(Setup, BufferShape), Fail> {
+    let mut setup = declared(&FOUR_WORKERS)?;
+    let shape = declare(&mut setup, n, &[0, 1], &[2, 3])?;
     Ok((setup, shape))
 }
 
-/// A run of these steps on a buffer of one cell, and the buffer.
-fn one_cell(alloc: Global, steps: &[Step]) -> Result<(Run, BufferShape), Fail> {
-    let (setup, shape) = two_and_two(alloc, 1)?;
+/// Two puts and two gets.
+#[derive(Clone, Copy)]
+struct Four {
+    first: Produce,
+    second: Produce,
+    one: Consume,
+    another: Consume,
+}
+
+/// Puts of 5 and 6, and two gets.
+fn four_procedures(shape: BufferShape) -> Four {
+    Four {
+        first: Produce::new(shape, 5),
+        second: Produce::new(shape, 6),
+        one: Consume::new(shape),
+        another: Consume::new(shape),
+    }
+}
+
+/// Which procedure goes on.
+#[derive(Clone, Copy)]
+enum Turn {
+    First,
+    Second,
+    One,
+    Another,
+}
+
+/// A delivery: its number, who put the item, who got it, and the item.
+type Found = (u64, usize, usize, u64);
+
+/// What is done with a run on a buffer, or asked of it, and what is right.
+#[derive(Clone, Copy)]
+enum Row {
+    /// Steps, which get their answers.
+    Steps(&'static [Step]),
+    /// A worker, the procedure that it goes on with, at most how many steps, and whether that has ended then.
+    Move(usize, Turn, usize, bool),
+    /// How many entries there are.
+    Length(usize),
+    /// The deliveries are these.
+    Delivers(&'static [Found]),
+    /// Whose entry is the first that breaks the lists, and its place.
+    Breaks(usize, usize),
+}
+
+/// Whether a procedure has ended after so many steps of a worker, or has not.
+fn is_moved(
+    run: &mut Run,
+    four: &mut Four,
+    n: usize,
+    turn: Turn,
+    steps: usize,
+    right: bool,
+) -> bool {
+    let ended = match turn {
+        Turn::First => go_on(run, worker(n), &mut four.first, steps),
+        Turn::Second => go_on(run, worker(n), &mut four.second, steps),
+        Turn::One => go_on(run, worker(n), &mut four.one, steps),
+        Turn::Another => go_on(run, worker(n), &mut four.another, steps),
+    };
+    ended == Ok(right)
+}
+
+/// Whether a delivery is that of a row.
+fn is_delivery(found: &Delivery, row: &Found) -> bool {
+    let (number, producer, consumer, item) = *row;
+    found.number == number
+        && found.producer == worker(producer)
+        && found.consumer == worker(consumer)
+        && found.item == item
+}
+
+/// Whether the deliveries of a run are these.
+fn delivers(alloc: Global, run: &Run, shape: &BufferShape, rows: &[Found]) -> bool {
+    let Ok(found) = deliveries(alloc, run, shape) else {
+        return false;
+    };
+    for (delivery, row) in found.as_slice().iter().zip(rows) {
+        if !is_delivery(delivery, row) {
+            return false;
+        }
+    }
+    found.len() == rows.len()
+}
+
+/// Whether an entry of a worker's is the first that breaks the lists.
+fn is_broken(alloc: Global, run: &Run, shape: &BufferShape, n: usize, entry: usize) -> bool {
+    let worker = worker(n);
+    let Err(fault) = deliveries(alloc, run, shape) else {
+        return false;
+    };
+    fault == AuditFault::NotFollowed { worker, entry }
+}
+
+/// Whether what a row says is right.
+fn is_right(alloc: Global, run: &mut Run, four: &mut Four, shape: &BufferShape, row: &Row) -> bool {
+    match *row {
+        Row::Steps(steps) => are_right(run, steps),
+        Row::Move(n, turn, steps, ended) => is_moved(run, four, n, turn, steps, ended),
+        Row::Length(n) => run.len() == n,
+        Row::Delivers(rows) => delivers(alloc, run, shape, rows),
+        Row::Breaks(n, entry) => is_broken(alloc, run, shape, n, entry),
+    }
+}
+
+/// What the rows say of a run on a buffer of one cell is right, one after another.
+fn shows(alloc: Global, rows: &[Row]) -> Result<(), Fail> {
+    let (setup, shape) = two_and_two(1)?;
+    let mut four = four_procedures(shape);
     let mut run = run_on(alloc, setup)?;
-    go_through(&mut run, steps)?;
-    Ok((run, shape))
+    for (place, row) in rows.iter().enumerate() {
+        right(place, is_right(alloc, &mut run, &mut four, &shape, row))?;
+    }
+    Ok(())
 }
 
 /// The first worker put 7, and the second waits for room.
-static ONE_PUT: [Step; 10] = [
+const ONE_PUT: &[Step] = &[
     (0, Ticket(0), Number(0)),
     (1, Ticket(0), Number(1)),
     (0, Await(0, 0), Pending),
@@ -52,7 +167,7 @@ static ONE_PUT: [Step; 10] = [
 ];
 
 /// The third gets 7 while the second waits for room; the second finds room and puts 8, and the fourth gets it.
-static TWO_GETS: [Step; 20] = [
+const TWO_GETS: &[Step] = &[
     (1, Await(1, 1), Pending),
     (1, Go, Pending),
     (2, Ticket(1), Number(0)),
@@ -75,92 +190,59 @@ static TWO_GETS: [Step; 20] = [
     (3, Advance(1), Done),
 ];
 
-/// A delivery: its number, who put the item, who got it, and the item.
-type Row = (u64, usize, usize, u64);
-
-/// Whether a delivery is that of a row.
-fn is_delivery(found: Option<&Delivery>, row: &Row) -> bool {
-    let (number, producer, consumer, item) = *row;
-    match found {
-        Some(found) => {
-            found.number == number
-                && found.producer == worker(producer)
-                && found.consumer == worker(consumer)
-                && found.item == item
-        }
-        None => false,
-    }
-}
-
-/// The deliveries of a run are these.
-fn delivers(alloc: Global, run: &Run, shape: &BufferShape, rows: &[Row]) -> Result<(), Fail> {
-    let found = deliveries(alloc, run, shape)?;
-    for (place, row) in rows.iter().enumerate() {
-        if !is_delivery(found.get(place), row) {
-            return Err(Fail::new(format_args!("another delivery at place {place}")));
-        }
-    }
-    if found.len() == rows.len() {
-        Ok(())
-    } else {
-        Err(Fail::new("more deliveries"))
-    }
-}
-
-static SEVEN_AND_EIGHT: [Row; 2] = [(0, 0, 2, 7), (1, 1, 3, 8)];
+static SEVEN_AND_EIGHT: [Row; 4] = [
+    Row::Steps(ONE_PUT),
+    Row::Steps(TWO_GETS),
+    Row::Length(30),
+    Row::Delivers(&[(0, 0, 2, 7), (1, 1, 3, 8)]),
+];
 
 #[test]
 fn two_producers_two_consumers_one_cell(rt: HostRuntime) -> Result<(), Fail> {
-    let (mut run, shape) = one_cell(rt.alloc(), &ONE_PUT)?;
-    go_through(&mut run, &TWO_GETS)?;
-    assert!(rt; run.len() == 30);
-    delivers(rt.alloc(), &run, &shape, &SEVEN_AND_EIGHT)
+    shows(rt.alloc(), &SEVEN_AND_EIGHT)
 }
 
-/// Whether an entry of a worker's is the first that breaks the lists.
-fn is_broken(alloc: Global, run: &Run, shape: &BufferShape, n: usize, entry: usize) -> bool {
-    let worker = worker(n);
-    let Err(fault) = deliveries(alloc, run, shape) else {
-        return false;
-    };
-    fault == AuditFault::NotFollowed { worker, entry }
-}
-
-/// Whether these steps on a buffer of one cell, and then those, break the lists first at this entry of a worker's.
-fn breaks(
-    alloc: Global,
-    steps: &[Step],
-    others: &[Step],
-    n: usize,
-    entry: usize,
-) -> Result<bool, Fail> {
-    let (mut run, shape) = one_cell(alloc, steps)?;
-    go_through(&mut run, others)?;
-    Ok(is_broken(alloc, &run, &shape, n, entry))
-}
-
-static EARLY_PUT: [Step; 1] = [(1, Put(0, 8), Done)];
+static EARLY_PUT: [Row; 3] = [
+    Row::Steps(ONE_PUT),
+    Row::Steps(&[(1, Put(0, 8), Done)]),
+    Row::Breaks(1, 10),
+];
 
 #[test]
 fn a_put_before_there_is_room(rt: HostRuntime) -> Result<(), Fail> {
-    assert!(rt; breaks(rt.alloc(), &ONE_PUT, &EARLY_PUT, 1, 10)?);
-    Ok(())
+    shows(rt.alloc(), &EARLY_PUT)
 }
 
-static GET_ALONE: [Step; 1] = [(2, Get(0), Number(0))];
+static GET_ALONE: [Row; 2] = [Row::Steps(&[(2, Get(0), Number(0))]), Row::Breaks(2, 0)];
 
 #[test]
 fn a_get_without_a_ticket(rt: HostRuntime) -> Result<(), Fail> {
-    assert!(rt; breaks(rt.alloc(), &GET_ALONE, &[], 2, 0)?);
-    Ok(())
+    shows(rt.alloc(), &GET_ALONE)
 }
 
-static OTHER_TICKET: [Step; 2] = [(0, Ticket(0), Number(0)), (0, Await(0, 1), Pending)];
+static OTHER_TICKET: [Row; 2] = [
+    Row::Steps(&[(0, Ticket(0), Number(0)), (0, Await(0, 1), Pending)]),
+    Row::Breaks(0, 1),
+];
 
 #[test]
 fn an_await_of_another_ticket(rt: HostRuntime) -> Result<(), Fail> {
-    assert!(rt; breaks(rt.alloc(), &OTHER_TICKET, &[], 0, 1)?);
-    Ok(())
+    shows(rt.alloc(), &OTHER_TICKET)
+}
+
+static MOVES: [Row; 7] = [
+    Row::Move(2, Turn::One, 1, false),
+    Row::Move(1, Turn::First, 10, true),
+    Row::Move(0, Turn::Second, 9, false),
+    Row::Move(2, Turn::One, 10, true),
+    Row::Move(0, Turn::Second, 10, true),
+    Row::Move(2, Turn::Another, 10, true),
+    Row::Delivers(&[(0, 1, 2, 5), (1, 0, 2, 6)]),
+];
+
+#[test]
+fn items_move_by_procedures(rt: HostRuntime) -> Result<(), Fail> {
+    shows(rt.alloc(), &MOVES)
 }
 
 /// Whether the objects of a buffer of three cells are the first of each sort.
@@ -174,39 +256,46 @@ fn has_first_objects(shape: &BufferShape) -> bool {
         && shape.cells() == 3
 }
 
+/// Whether a buffer of three cells is declared so, and a shape fits no other declarations.
+fn has_objects(setup: &Setup, other: &Setup, shape: &BufferShape) -> bool {
+    has_first_objects(shape)
+        && shape.fits(setup)
+        && !shape.fits(other)
+        && setup.may_write(cell(2), worker(1))
+        && setup.may_read(cell(2), worker(3))
+}
+
 #[test]
 fn the_objects_of_a_buffer(rt: HostRuntime) -> Result<(), Fail> {
-    let (setup, shape) = two_and_two(rt.alloc(), 3)?;
-    assert!(rt; has_first_objects(&shape));
-    assert!(rt; shape.fits(&setup));
-    assert!(rt; !shape.fits(&workers(10, 4)?));
-    assert!(rt; setup.may_write(cell(2), worker(1)) && setup.may_read(cell(2), worker(3)));
+    let (setup, shape) = two_and_two(3)?;
+    let other = declared(&FOUR_WORKERS)?;
+    assert!(rt; has_objects(&setup, &other, &shape));
     Ok(())
 }
 
 /// How many cells, who produces, who consumes, and the fault.
 type Fault = (usize, &'static [usize], &'static [usize], SetupFault);
 
+/// Whether a declaration gets its fault.
+fn is_refused(setup: &mut Setup, case: &Fault) -> bool {
+    let (n, produce, consume, fault) = *case;
+    declare(setup, n, produce, consume) == Err(fault)
+}
+
 /// Each declaration on two workers gets its fault, and adds nothing.
-fn are_refused(alloc: Global, cases: &[Fault]) -> Result<(), Fail> {
-    let mut setup = workers(10, 2)?;
-    for (place, (n, produce, consume, fault)) in cases.iter().enumerate() {
-        if declare(alloc, &mut setup, *n, produce, consume)?.err() != Some(*fault) {
-            return Err(Fail::new(format_args!("another fault at row {place}")));
-        }
+fn are_refused(cases: &[Fault]) -> Result<(), Fail> {
+    let mut setup = declared(&TWO_WORKERS)?;
+    for (place, case) in cases.iter().enumerate() {
+        right(place, is_refused(&mut setup, case))?;
     }
-    if setup == workers(10, 2)? {
-        Ok(())
-    } else {
-        Err(Fail::new("something was added"))
-    }
+    is_as_declared(&setup, &TWO_WORKERS)
 }
 
 static TWO_ROLES: [Fault; 1] = [(1, &[0, 1], &[1], SetupFault::TwoRoles)];
 
 #[test]
-fn a_worker_in_both_roles_adds_nothing(rt: HostRuntime) -> Result<(), Fail> {
-    are_refused(rt.alloc(), &TWO_ROLES)
+fn a_worker_in_both_roles_adds_nothing() -> Result<(), Fail> {
+    are_refused(&TWO_ROLES)
 }
 
 static FAULTS: [Fault; 7] = [
@@ -220,8 +309,8 @@ static FAULTS: [Fault; 7] = [
 ];
 
 #[test]
-fn each_fault_of_a_buffer(rt: HostRuntime) -> Result<(), Fail> {
-    are_refused(rt.alloc(), &FAULTS)
+fn each_fault_of_a_buffer() -> Result<(), Fail> {
+    are_refused(&FAULTS)
 }
 
 /// The first of sixteen workers, and the others.
@@ -256,7 +345,7 @@ fn are_apart(setup: &Setup) -> bool {
 
 /// Sixteen workers, and a buffer of 256 cells from the first to the others.
 fn shared_by_sixteen() -> Result<(Setup, BufferShape), Fail> {
-    let mut setup = workers(10, 16)?;
+    let mut setup = declared(&SIXTEEN_WORKERS)?;
     let (produce, consume) = sixteen();
     let shape = declare_buffer(&mut setup, 256, &produce, &consume)?;
     Ok((setup, shape))
@@ -265,8 +354,7 @@ fn shared_by_sixteen() -> Result<(Setup, BufferShape), Fail> {
 #[test]
 fn all_sixteen_workers_share_a_buffer(rt: HostRuntime) -> Result<(), Fail> {
     let (setup, shape) = shared_by_sixteen()?;
-    assert!(rt; is_shared(&setup, &shape));
-    assert!(rt; are_apart(&setup));
+    assert!(rt; is_shared(&setup, &shape) && are_apart(&setup));
     Ok(())
 }
 
@@ -294,81 +382,11 @@ fn are_just_those_cells(setup: &Setup, shape: &BufferShape) -> bool {
 
 #[test]
 fn what_is_declared_just_so(rt: HostRuntime) -> Result<(), Fail> {
-    let (setup, shape) = two_and_two(rt.alloc(), 2)?;
-    assert!(rt; is_just_that_event(&setup, &shape));
-    assert!(rt; is_just_that_sequencer(&setup, &shape));
-    assert!(rt; are_just_those_cells(&setup, &shape));
+    let (setup, shape) = two_and_two(2)?;
+    assert!(rt;
+        is_just_that_event(&setup, &shape)
+            && is_just_that_sequencer(&setup, &shape)
+            && are_just_those_cells(&setup, &shape)
+    );
     Ok(())
-}
-
-/// Two puts and two gets.
-#[derive(Drop)]
-struct Four {
-    first: Produce,
-    second: Produce,
-    one: Consume,
-    another: Consume,
-}
-
-/// Who goes on.
-#[derive(Clone, Copy)]
-enum Turn {
-    First,
-    Second,
-    One,
-    Another,
-}
-
-/// A worker, which procedure it goes on with, at most how many steps, and whether it has ended then.
-type Move = (usize, Turn, usize, bool);
-
-/// Whether a move ends as it should.
-fn is_moved(run: &mut Run, four: &mut Four, turn: &Move) -> Result<bool, Fail> {
-    let (n, who, steps, right) = *turn;
-    let ended = match who {
-        Turn::First => go_on(run, worker(n), &mut four.first, steps)?,
-        Turn::Second => go_on(run, worker(n), &mut four.second, steps)?,
-        Turn::One => go_on(run, worker(n), &mut four.one, steps)?,
-        Turn::Another => go_on(run, worker(n), &mut four.another, steps)?,
-    };
-    Ok(ended == right)
-}
-
-/// The moves, one after another, end as they should.
-fn play(run: &mut Run, four: &mut Four, moves: &[Move]) -> Result<(), Fail> {
-    for (place, turn) in moves.iter().enumerate() {
-        if !is_moved(run, four, turn)? {
-            return Err(Fail::new(format_args!("another end of move {place}")));
-        }
-    }
-    Ok(())
-}
-
-/// Puts of 5 and 6, and two gets.
-fn four_procedures(shape: BufferShape) -> Four {
-    Four {
-        first: Produce::new(shape, 5),
-        second: Produce::new(shape, 6),
-        one: Consume::new(shape),
-        another: Consume::new(shape),
-    }
-}
-
-static MOVES: [Move; 6] = [
-    (2, Turn::One, 1, false),
-    (1, Turn::First, 10, true),
-    (0, Turn::Second, 9, false),
-    (2, Turn::One, 10, true),
-    (0, Turn::Second, 10, true),
-    (2, Turn::Another, 10, true),
-];
-
-static FIVE_AND_SIX: [Row; 2] = [(0, 1, 2, 5), (1, 0, 2, 6)];
-
-#[test]
-fn items_move_by_procedures(rt: HostRuntime) -> Result<(), Fail> {
-    let (mut run, shape) = one_cell(rt.alloc(), &[])?;
-    let mut four = four_procedures(shape);
-    play(&mut run, &mut four, &MOVES)?;
-    delivers(rt.alloc(), &run, &shape, &FIVE_AND_SIX)
 }

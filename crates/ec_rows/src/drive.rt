@@ -1,6 +1,6 @@
 //! Histories as tables: what is declared, the steps with their answers, and what is seen after them. Workers
 //! and objects are numbers in them.
-use crate::ids::{cell, event, list, sequencer, worker};
+use crate::ids::{cell, event, listed, room, sequencer, worker};
 use ec_core::{Act, Entry, Procedure, Refusal, Reply, Run, StepFault};
 use ec_count::{Limit, Setup, WorkerId};
 use std::alloc::Global;
@@ -59,12 +59,29 @@ fn is_right(run: &mut Run, step: &Step) -> bool {
     is_told(run.step(worker(n), act_of(ask)), told)
 }
 
-/// Makes the steps, which get their answers.
-pub(crate) fn go_through(run: &mut Run, steps: &[Step]) -> Result<(), Fail> {
-    for (place, step) in steps.iter().enumerate() {
+/// Whether the steps, made one after another, get their answers.
+pub(crate) fn are_right(run: &mut Run, steps: &[Step]) -> bool {
+    for step in steps {
         if !is_right(run, step) {
-            return Err(Fail::new(format_args!("another answer to step {place}")));
+            return false;
         }
+    }
+    true
+}
+
+/// Fails where something is not as it should be, and tells its place.
+pub(crate) fn right(place: usize, is_right: bool) -> Result<(), Fail> {
+    if is_right {
+        Ok(())
+    } else {
+        Err(Fail::new(format_args!("not as it should be at row {place}")))
+    }
+}
+
+/// Makes the steps, which get their answers.
+fn go_through(run: &mut Run, steps: &[Step]) -> Result<(), Fail> {
+    for (place, step) in steps.iter().enumerate() {
+        right(place, is_right(run, step))?;
     }
     Ok(())
 }
@@ -88,80 +105,114 @@ pub(crate) struct World {
     pub(crate) lines: &'static [Line],
 }
 
-fn add_event(
-    alloc: Global,
-    setup: &mut Setup,
-    signal: &[usize],
-    observe: &[usize],
-) -> Result<(), Fail> {
-    let signal = list(alloc, signal)?;
-    let observe = list(alloc, observe)?;
-    setup.add_event(signal.as_slice(), observe.as_slice())?;
-    Ok(())
-}
-
-fn add_sequencer(alloc: Global, setup: &mut Setup, take: &[usize]) -> Result<(), Fail> {
-    let take = list(alloc, take)?;
-    setup.add_sequencer(take.as_slice())?;
-    Ok(())
-}
-
-fn add_cells(
-    alloc: Global,
-    setup: &mut Setup,
-    n: usize,
-    write: &[usize],
-    read: &[usize],
-) -> Result<(), Fail> {
-    let write = list(alloc, write)?;
-    let read = list(alloc, read)?;
-    setup.add_cells(n, write.as_slice(), read.as_slice())?;
-    Ok(())
-}
-
-fn add_line(alloc: Global, setup: &mut Setup, line: &Line) -> Result<(), Fail> {
+/// Whether a line is declared.
+fn add_line(setup: &mut Setup, line: &Line) -> bool {
+    let (mut one, mut other) = (room(), room());
     match *line {
-        Line::Event(signal, observe) => add_event(alloc, setup, signal, observe),
-        Line::Sequencer(take) => add_sequencer(alloc, setup, take),
-        Line::Cells(n, write, read) => add_cells(alloc, setup, n, write, read),
+        Line::Event(signal, observe) => setup
+            .add_event(listed(&mut one, signal), listed(&mut other, observe))
+            .is_ok(),
+        Line::Sequencer(take) => setup.add_sequencer(listed(&mut one, take)).is_ok(),
+        Line::Cells(n, write, read) => setup
+            .add_cells(n, listed(&mut one, write), listed(&mut other, read))
+            .is_ok(),
     }
 }
 
-/// Declarations with so many workers.
-pub(crate) fn workers(limit: u64, n: usize) -> Result<Setup, Fail> {
-    let mut setup = Setup::new(Limit::new(limit).ok_or("no limit")?);
-    for _ in 0..n {
-        setup.add_worker()?;
+/// Whether all that a world declares is declared.
+fn add_all(setup: &mut Setup, world: &World) -> bool {
+    for _ in 0..world.workers {
+        if setup.add_worker().is_err() {
+            return false;
+        }
     }
-    Ok(setup)
+    for line in world.lines {
+        if !add_line(setup, line) {
+            return false;
+        }
+    }
+    true
+}
+
+/// No declarations yet, under a limit.
+fn under(limit: u64) -> Result<Setup, Fail> {
+    Ok(Setup::new(Limit::new(limit).ok_or("no limit")?))
 }
 
 /// What a world declares.
-pub(crate) fn declared(alloc: Global, world: &World) -> Result<Setup, Fail> {
-    let mut setup = workers(world.limit, world.workers)?;
-    for line in world.lines {
-        add_line(alloc, &mut setup, line)?;
+pub(crate) fn declared(world: &World) -> Result<Setup, Fail> {
+    let mut setup = under(world.limit)?;
+    if add_all(&mut setup, world) {
+        Ok(setup)
+    } else {
+        Err(Fail::new("what the world declares is refused"))
     }
-    Ok(setup)
 }
+
+/// Declarations of one worker alone.
+pub(crate) static ONE_WORKER: World = World {
+    limit: 10,
+    workers: 1,
+    lines: &[],
+};
+
+/// Declarations of two workers alone.
+pub(crate) static TWO_WORKERS: World = World {
+    limit: 10,
+    workers: 2,
+    lines: &[],
+};
+
+/// Declarations of sixteen workers alone.
+pub(crate) static SIXTEEN_WORKERS: World = World {
+    limit: 10,
+    workers: 16,
+    lines: &[],
+};
+
+/// Declarations are what a world declares.
+pub(crate) fn is_as_declared(setup: &Setup, world: &World) -> Result<(), Fail> {
+    if *setup == declared(world)? {
+        Ok(())
+    } else {
+        Err(Fail::new("something was added"))
+    }
+}
+
+/// Declarations of four workers alone.
+pub(crate) static FOUR_WORKERS: World = World {
+    limit: 10,
+    workers: 4,
+    lines: &[],
+};
 
 /// An empty run on declarations.
 pub(crate) fn run_on(alloc: Global, setup: Setup) -> Result<Run, Fail> {
     Ok(Run::open(alloc, setup)?)
 }
 
-/// A world, and steps with their answers.
+/// A world, how often the first worker advances the first eventcount, and further steps with their answers.
 #[derive(Clone, Copy)]
 pub(crate) struct History {
     pub(crate) world: World,
+    pub(crate) advances: usize,
     pub(crate) steps: &'static [Step],
+}
+
+static AN_ADVANCE: Step = (0, Ask::Advance(0), Told::Done);
+
+/// Makes the steps of a history, which get their answers.
+fn make(run: &mut Run, history: &History) -> Result<(), Fail> {
+    for place in 0..history.advances {
+        right(place, is_right(run, &AN_ADVANCE))?;
+    }
+    go_through(run, history.steps)
 }
 
 /// The run of a history, whose steps get their answers.
 pub(crate) fn run_of(alloc: Global, history: &History) -> Result<Run, Fail> {
-    let setup = declared(alloc, &history.world)?;
-    let mut run = run_on(alloc, setup)?;
-    go_through(&mut run, history.steps)?;
+    let mut run = run_on(alloc, declared(&history.world)?)?;
+    make(&mut run, history)?;
     Ok(run)
 }
 
@@ -169,6 +220,10 @@ pub(crate) fn run_of(alloc: Global, history: &History) -> Result<Run, Fail> {
 #[derive(Clone, Copy)]
 pub(crate) enum Sight {
     Length(usize),
+    /// How many entries are gone through.
+    Entries(usize),
+    /// A copy has as many entries, and the same ones at all places up to this one.
+    Copied(usize),
     Total(usize, Option<u64>),
     /// A component of an eventcount.
     Component(usize, usize, Option<u64>),
@@ -206,10 +261,25 @@ fn has_entry(run: &Run, place: usize, right: Option<Step>) -> bool {
     }
 }
 
+/// Whether a copy of a run has as many entries, and the same ones at all places up to this one.
+fn is_copied(run: &Run, most: usize) -> bool {
+    let Ok(copy) = run.copy() else {
+        return false;
+    };
+    for place in 0..=most {
+        if copy.entry(place) != run.entry(place) {
+            return false;
+        }
+    }
+    copy.len() == run.len()
+}
+
 /// Whether this is seen.
 fn is_seen(run: &Run, sight: &Sight) -> bool {
     match *sight {
         Sight::Length(n) => run.len() == n,
+        Sight::Entries(n) => run.entries().count() == n,
+        Sight::Copied(most) => is_copied(run, most),
         Sight::Total(e, total) => run.world().total(event(e)) == total,
         Sight::Component(e, c, value) => run.world().component(event(e), c) == value,
         Sight::Issued(q, issued) => run.world().issued(sequencer(q)) == issued,
@@ -219,12 +289,20 @@ fn is_seen(run: &Run, sight: &Sight) -> bool {
     }
 }
 
+/// Whether all of this is seen.
+pub(crate) fn are_seen(run: &Run, sights: &[Sight]) -> bool {
+    for sight in sights {
+        if !is_seen(run, sight) {
+            return false;
+        }
+    }
+    true
+}
+
 /// All of this is seen.
 pub(crate) fn sees(run: &Run, sights: &[Sight]) -> Result<(), Fail> {
     for (place, sight) in sights.iter().enumerate() {
-        if !is_seen(run, sight) {
-            return Err(Fail::new(format_args!("another sight at row {place}")));
-        }
+        right(place, is_seen(run, sight))?;
     }
     Ok(())
 }
@@ -241,7 +319,7 @@ pub(crate) fn go_on<P: Procedure>(
     worker: WorkerId,
     procedure: &mut P,
     steps: usize,
-) -> Result<bool, Fail> {
+) -> Result<bool, StepFault> {
     for _ in 0..steps {
         let Some(act) = procedure.next() else {
             return Ok(true);

@@ -1,10 +1,7 @@
 //! The worked histories.
 use crate::drive::Ask::{Advance, Await, Go, Read};
 use crate::drive::Told::{Done, Number, Pending};
-use crate::drive::{History, Line, Step, World, declared, go_through, run_on};
-use ec_core::Run;
-use std::alloc::Global;
-use std::test::Fail;
+use crate::drive::{History, Line, World};
 
 /// Four workers, of whom the first two signal one eventcount and the last two observe it.
 const TWO_SIGNALLERS: World = World {
@@ -16,6 +13,7 @@ const TWO_SIGNALLERS: World = World {
 /// A read reads its first component before one advance and its second after two.
 pub(crate) static OVERTAKEN_READ: History = History {
     world: TWO_SIGNALLERS,
+    advances: 0,
     steps: &[
         (2, Read(0), Pending),
         (0, Advance(0), Done),
@@ -27,6 +25,7 @@ pub(crate) static OVERTAKEN_READ: History = History {
 /// Two reads have the same answer, and the same moment.
 pub(crate) static TWO_READS: History = History {
     world: TWO_SIGNALLERS,
+    advances: 0,
     steps: &[
         (2, Read(0), Pending),
         (0, Advance(0), Done),
@@ -40,6 +39,7 @@ pub(crate) static TWO_READS: History = History {
 /// A read is under way while another is made, and has the earlier moment.
 pub(crate) static SLOW_READ: History = History {
     world: TWO_SIGNALLERS,
+    advances: 0,
     steps: &[
         (2, Read(0), Pending),
         (0, Advance(0), Done),
@@ -52,6 +52,7 @@ pub(crate) static SLOW_READ: History = History {
 /// A read begins at total 0 and ends at total 2.
 pub(crate) static TOTAL_IN_THE_MIDDLE: History = History {
     world: TWO_SIGNALLERS,
+    advances: 0,
     steps: &[
         (2, Read(0), Pending),
         (1, Advance(0), Done),
@@ -63,6 +64,7 @@ pub(crate) static TOTAL_IN_THE_MIDDLE: History = History {
 /// An await falls short in its first round, which it had begun before the advances.
 pub(crate) static AWAIT_OF_ROUNDS: History = History {
     world: TWO_SIGNALLERS,
+    advances: 0,
     steps: &[
         (2, Await(0, 2), Pending),
         (0, Advance(0), Done),
@@ -83,6 +85,7 @@ const THREE_SIGNALLERS: World = World {
 /// An await of 0 takes a step for each of three components.
 pub(crate) static AWAIT_OF_ZERO: History = History {
     world: THREE_SIGNALLERS,
+    advances: 0,
     steps: &[
         (2, Await(0, 0), Pending),
         (2, Go, Pending),
@@ -104,6 +107,7 @@ const SIXTEEN_SIGNALLERS: World = World {
 /// worker's first.
 pub(crate) static READ_OVERTAKEN_OFTEN: History = History {
     world: SIXTEEN_SIGNALLERS,
+    advances: 0,
     steps: &[
         (0, Read(0), Pending),
         (15, Advance(0), Done),
@@ -139,24 +143,13 @@ pub(crate) static READ_OVERTAKEN_OFTEN: History = History {
     ],
 };
 
-/// One worker that signals and observes.
-static ONE_WORKER: World = World {
-    limit: 20_000,
-    workers: 1,
-    lines: &[Line::Event(&[0], &[0])],
-};
-
-static AN_ADVANCE: [Step; 1] = [(0, Advance(0), Done)];
-
-static A_LATE_READ: [Step; 1] = [(0, Read(0), Number(8193))];
-
 /// One worker's 8193 advances, and its read.
-pub(crate) fn many_advances(alloc: Global) -> Result<Run, Fail> {
-    let setup = declared(alloc, &ONE_WORKER)?;
-    let mut run = run_on(alloc, setup)?;
-    for _ in 0..8193 {
-        go_through(&mut run, &AN_ADVANCE)?;
-    }
-    go_through(&mut run, &A_LATE_READ)?;
-    Ok(run)
-}
+pub(crate) static MANY_ADVANCES: History = History {
+    world: World {
+        limit: 20_000,
+        workers: 1,
+        lines: &[Line::Event(&[0], &[0])],
+    },
+    advances: 8193,
+    steps: &[(0, Read(0), Number(8193))],
+};

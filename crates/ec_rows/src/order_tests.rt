@@ -1,20 +1,35 @@
 //! The finished calls of the worked histories, and their order by points.
 use crate::drive::Ask::{Advance, Await, Read};
 use crate::drive::Told::{Done, Number};
-use crate::drive::{History, Step, act_of, is_told, run_of};
+use crate::drive::{History, Step, act_of, is_told, right, run_of};
 use crate::histories::{
-    AWAIT_OF_ROUNDS, AWAIT_OF_ZERO, OVERTAKEN_READ, READ_OVERTAKEN_OFTEN, SLOW_READ,
-    TOTAL_IN_THE_MIDDLE, TWO_READS, many_advances,
+    AWAIT_OF_ROUNDS, AWAIT_OF_ZERO, MANY_ADVANCES, OVERTAKEN_READ, READ_OVERTAKEN_OFTEN, SLOW_READ,
+    TOTAL_IN_THE_MIDDLE, TWO_READS,
 };
 use crate::ids::worker;
-use crate::verify_tests::judged;
 use ec_core::Run;
-use ec_order::{Call, Placed, Verdict, calls, in_order, order};
+use ec_order::{Call, Placed, Verdict, calls, in_order, order, verify};
 use std::alloc::Global;
 use std::test::Fail;
 
 /// A point, and the call that stands there: its worker, what it asked for, and what it was told.
 type Line = (usize, Step);
+
+/// What is asked of a run, and what is right.
+#[derive(Clone, Copy)]
+pub(crate) enum Row {
+    /// The calls in their order are these.
+    Order(&'static [Line]),
+    /// The same, one call after another.
+    OneByOne(&'static [Line]),
+    /// So many calls are ordered, and these are at their places.
+    Places(usize, &'static [(usize, Line)]),
+    /// The order is found good.
+    Good,
+    /// So many calls are finished, and this one is at this place, with the places of its first step, of the first
+    /// step of its last round, and of its last step.
+    Call(usize, usize, Step, (usize, usize, usize)),
+}
 
 /// Whether a call is this one.
 fn is_call(call: &Call, right: &Step) -> bool {
@@ -27,14 +42,6 @@ fn is_line(placed: &Placed, line: &Line) -> bool {
     placed.point == line.0 && is_call(&placed.call, &line.1)
 }
 
-/// The order of a run, by a vector.
-pub(crate) fn ordered(alloc: Global, run: &Run) -> Result<Vec<Placed>, Fail> {
-    match order(alloc, run) {
-        Ok(placed) => Ok(placed),
-        Err(_) => Err(Fail::new("no order")),
-    }
-}
-
 /// Whether the placed call at a place is the one of a line.
 fn is_at(placed: &[Placed], place: usize, line: &Line) -> bool {
     match placed.get(place) {
@@ -43,170 +50,203 @@ fn is_at(placed: &[Placed], place: usize, line: &Line) -> bool {
     }
 }
 
-/// The order of the run of a history is these lines.
-fn has_order(alloc: Global, history: &History, lines: &[Line]) -> Result<(), Fail> {
-    let run = run_of(alloc, history)?;
-    let placed = ordered(alloc, &run)?;
-    is_order(placed.as_slice(), lines)
-}
-
-/// An order is these lines.
-fn is_order(placed: &[Placed], lines: &[Line]) -> Result<(), Fail> {
+/// Whether an order is these lines.
+fn is_order(placed: &[Placed], lines: &[Line]) -> bool {
     for (place, line) in lines.iter().enumerate() {
         if !is_at(placed, place, line) {
-            return Err(Fail::new(format_args!("another call at place {place}")));
+            return false;
         }
     }
-    if placed.len() == lines.len() {
-        Ok(())
-    } else {
-        Err(Fail::new("more calls"))
+    placed.len() == lines.len()
+}
+
+/// Whether so many calls are ordered, and these are at their places.
+fn has_places(placed: &[Placed], many: usize, lines: &[(usize, Line)]) -> bool {
+    for (place, line) in lines {
+        if !is_at(placed, *place, line) {
+            return false;
+        }
+    }
+    placed.len() == many
+}
+
+/// Whether this is said of an order.
+pub(crate) fn is_judged(alloc: Global, run: &Run, placed: &[Placed], right: Verdict) -> bool {
+    let Ok(verdict) = verify(alloc, run, placed) else {
+        return false;
+    };
+    verdict == right
+}
+
+/// Whether what a row asks of the order of a run is right.
+fn is_ordered(alloc: Global, run: &Run, row: &Row) -> bool {
+    let Ok(placed) = order(alloc, run) else {
+        return false;
+    };
+    match *row {
+        Row::Order(lines) => is_order(placed.as_slice(), lines),
+        Row::Places(many, lines) => has_places(placed.as_slice(), many, lines),
+        Row::Good => is_judged(alloc, run, placed.as_slice(), Verdict::Good),
+        _ => false,
     }
 }
 
-static ORDER_OF_OVERTAKEN_READ: [Line; 3] = [
+/// Whether the order of a run, one call after another, is these lines.
+fn comes_in_order(alloc: Global, run: &Run, lines: &[Line]) -> bool {
+    let Ok(mut placed) = in_order(alloc, run) else {
+        return false;
+    };
+    for line in lines {
+        let Some(found) = placed.next() else {
+            return false;
+        };
+        if !is_line(&found, line) {
+            return false;
+        }
+    }
+    placed.next().is_none()
+}
+
+/// Whether so many calls are finished, and this one is at this place.
+fn has_call(
+    alloc: Global,
+    run: &Run,
+    many: usize,
+    place: usize,
+    right: &Step,
+    places: (usize, usize, usize),
+) -> bool {
+    let Ok(found) = calls(alloc, run) else {
+        return false;
+    };
+    match found.get(place) {
+        Some(call) => {
+            found.len() == many
+                && (call.first, call.round, call.last) == places
+                && is_call(call, right)
+        }
+        None => false,
+    }
+}
+
+/// Whether what a row says is right.
+fn is_right(alloc: Global, run: &Run, row: &Row) -> bool {
+    match row {
+        Row::OneByOne(lines) => comes_in_order(alloc, run, lines),
+        Row::Call(many, place, call, places) => has_call(alloc, run, *many, *place, call, *places),
+        _ => is_ordered(alloc, run, row),
+    }
+}
+
+/// What the rows say of the run of a history is right.
+pub(crate) fn shows(alloc: Global, history: &History, rows: &[Row]) -> Result<(), Fail> {
+    let run = run_of(alloc, history)?;
+    for (place, row) in rows.iter().enumerate() {
+        right(place, is_right(alloc, &run, row))?;
+    }
+    Ok(())
+}
+
+static OVERTAKEN: [Row; 1] = [Row::Order(&[
     (1, (0, Advance(0), Done)),
     (2, (2, Read(0), Number(1))),
     (2, (1, Advance(0), Done)),
-];
+])];
 
 #[test]
 fn a_read_overtaken_by_an_advance(rt: HostRuntime) -> Result<(), Fail> {
-    has_order(rt.alloc(), &OVERTAKEN_READ, &ORDER_OF_OVERTAKEN_READ)
+    shows(rt.alloc(), &OVERTAKEN_READ, &OVERTAKEN)
 }
 
-static ORDER_OF_TWO_READS: [Line; 4] = [
+static TWO_AT_ONE_MOMENT: [Row; 1] = [Row::Order(&[
     (1, (0, Advance(0), Done)),
     (2, (3, Read(0), Number(1))),
     (2, (2, Read(0), Number(1))),
     (4, (1, Advance(0), Done)),
-];
+])];
 
 #[test]
 fn two_reads_at_one_moment(rt: HostRuntime) -> Result<(), Fail> {
-    has_order(rt.alloc(), &TWO_READS, &ORDER_OF_TWO_READS)
+    shows(rt.alloc(), &TWO_READS, &TWO_AT_ONE_MOMENT)
 }
 
-static ORDER_OF_SLOW_READ: [Line; 3] = [
+const ORDER_OF_SLOW_READ: &[Line] = &[
     (0, (2, Read(0), Number(0))),
     (1, (0, Advance(0), Done)),
     (2, (3, Read(0), Number(1))),
 ];
 
+static ENDS_LAST: [Row; 1] = [Row::Order(ORDER_OF_SLOW_READ)];
+
 #[test]
 fn a_read_that_ends_last_and_stands_first(rt: HostRuntime) -> Result<(), Fail> {
-    has_order(rt.alloc(), &SLOW_READ, &ORDER_OF_SLOW_READ)
+    shows(rt.alloc(), &SLOW_READ, &ENDS_LAST)
 }
 
-/// The order of the run of a history, one call after another, is these lines.
-fn comes_in_order(alloc: Global, history: &History, lines: &[Line]) -> Result<(), Fail> {
-    let run = run_of(alloc, history)?;
-    let mut placed = in_order(alloc, &run)?;
-    for line in lines {
-        let Some(found) = placed.next() else {
-            return Err(Fail::new("fewer calls"));
-        };
-        if !is_line(&found, line) {
-            return Err(Fail::new("another call"));
-        }
-    }
-    match placed.next() {
-        Some(_) => Err(Fail::new("more calls")),
-        None => Ok(()),
-    }
-}
+static ONE_BY_ONE: [Row; 1] = [Row::OneByOne(ORDER_OF_SLOW_READ)];
 
 #[test]
 fn the_order_one_call_after_another(rt: HostRuntime) -> Result<(), Fail> {
-    comes_in_order(rt.alloc(), &SLOW_READ, &ORDER_OF_SLOW_READ)
+    shows(rt.alloc(), &SLOW_READ, &ONE_BY_ONE)
 }
 
-static ORDER_OF_TOTAL_IN_THE_MIDDLE: [Line; 3] = [
+static IN_THE_MIDDLE: [Row; 1] = [Row::Order(&[
     (1, (1, Advance(0), Done)),
     (2, (1, Advance(0), Done)),
     (3, (2, Read(0), Number(2))),
-];
+])];
 
 #[test]
 fn a_total_that_stood_in_the_middle(rt: HostRuntime) -> Result<(), Fail> {
-    has_order(
-        rt.alloc(),
-        &TOTAL_IN_THE_MIDDLE,
-        &ORDER_OF_TOTAL_IN_THE_MIDDLE,
-    )
+    shows(rt.alloc(), &TOTAL_IN_THE_MIDDLE, &IN_THE_MIDDLE)
 }
 
-static ORDER_OF_AWAIT_OF_ROUNDS: [Line; 3] = [
+static THREE_ROUNDS: [Row; 1] = [Row::Order(&[
     (1, (0, Advance(0), Done)),
     (2, (1, Advance(0), Done)),
     (4, (2, Await(0, 2), Number(2))),
-];
+])];
 
 #[test]
 fn an_await_of_three_rounds(rt: HostRuntime) -> Result<(), Fail> {
-    has_order(rt.alloc(), &AWAIT_OF_ROUNDS, &ORDER_OF_AWAIT_OF_ROUNDS)
+    shows(rt.alloc(), &AWAIT_OF_ROUNDS, &THREE_ROUNDS)
 }
 
-/// The number of finished calls of a run, and whether one of them is this call, with these places of its first
-/// step, of the first step of its last round, and of its last step.
-fn has_call(
-    alloc: Global,
-    run: &Run,
-    place: usize,
-    right: &Step,
-    places: (usize, usize, usize),
-) -> Result<(usize, bool), Fail> {
-    let found = calls(alloc, run)?;
-    let Some(call) = found.get(place) else {
-        return Err(Fail::new("no call"));
-    };
-    let is_placed = (call.first, call.round, call.last) == places;
-    Ok((found.len(), is_placed && is_call(call, right)))
-}
-
-static THE_AWAIT: Step = (2, Await(0, 2), Number(2));
+static LAST_ROUND: [Row; 1] = [Row::Call(3, 2, (2, Await(0, 2), Number(2)), (0, 4, 5))];
 
 #[test]
 fn the_last_round_of_an_await(rt: HostRuntime) -> Result<(), Fail> {
-    let run = run_of(rt.alloc(), &AWAIT_OF_ROUNDS)?;
-    let found = has_call(rt.alloc(), &run, 2, &THE_AWAIT, (0, 4, 5))?;
-    assert!(rt; found == (3, true));
-    Ok(())
+    shows(rt.alloc(), &AWAIT_OF_ROUNDS, &LAST_ROUND)
 }
 
-static ORDER_OF_AWAIT_OF_ZERO: [Line; 1] = [(0, (2, Await(0, 0), Number(0)))];
+static THREE_COMPONENTS: [Row; 1] = [Row::Order(&[(0, (2, Await(0, 0), Number(0)))])];
 
 #[test]
 fn an_await_of_zero_on_three_components(rt: HostRuntime) -> Result<(), Fail> {
-    has_order(rt.alloc(), &AWAIT_OF_ZERO, &ORDER_OF_AWAIT_OF_ZERO)
+    shows(rt.alloc(), &AWAIT_OF_ZERO, &THREE_COMPONENTS)
 }
 
 /// The read and its neighbours, at places 7 to 9 of 16.
-static AROUND_THE_READ: [(usize, Line); 3] = [
-    (7, (15, (8, Advance(0), Done))),
-    (8, (16, (0, Read(0), Number(8)))),
-    (9, (17, (7, Advance(0), Done))),
-];
+static AROUND_THE_READ: [Row; 1] = [Row::Places(
+    16,
+    &[
+        (7, (15, (8, Advance(0), Done))),
+        (8, (16, (0, Read(0), Number(8)))),
+        (9, (17, (7, Advance(0), Done))),
+    ],
+)];
 
 #[test]
 fn a_read_overtaken_fifteen_times_has_point_16(rt: HostRuntime) -> Result<(), Fail> {
-    let run = run_of(rt.alloc(), &READ_OVERTAKEN_OFTEN)?;
-    let placed = ordered(rt.alloc(), &run)?;
-    assert!(rt; placed.len() == 16);
-    for (place, line) in &AROUND_THE_READ {
-        assert!(rt; is_at(placed.as_slice(), *place, line), "at {place}");
-    }
-    Ok(())
+    shows(rt.alloc(), &READ_OVERTAKEN_OFTEN, &AROUND_THE_READ)
 }
 
-static LATE_READ: Line = (8193, (0, Read(0), Number(8193)));
+static LATE_READ: [Row; 2] = [
+    Row::Places(8194, &[(8193, (8193, (0, Read(0), Number(8193))))]),
+    Row::Good,
+];
 
 #[test]
 fn a_read_after_8193_advances_has_point_8193(rt: HostRuntime) -> Result<(), Fail> {
-    let run = many_advances(rt.alloc())?;
-    let placed = ordered(rt.alloc(), &run)?;
-    assert!(rt; placed.len() == 8194);
-    assert!(rt; is_at(placed.as_slice(), 8193, &LATE_READ));
-    assert!(rt; judged(rt.alloc(), &run, placed.as_slice())? == Verdict::Good);
-    Ok(())
+    shows(rt.alloc(), &MANY_ADVANCES, &LATE_READ)
 }

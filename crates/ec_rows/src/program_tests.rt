@@ -2,80 +2,18 @@
 use crate::drive::Ask::{Advance, Await, Get, Go, Put, Read, Ticket};
 use crate::drive::Told::{Done, Number, Pending};
 use crate::drive::{
-    Ask, History, Line, Sight, Step, World, act_of, declared, go_through, run_of, run_on, sees,
-    workers,
+    Ask, Line, Sight, Step, TWO_WORKERS, World, act_of, are_right, are_seen, declared, right,
+    run_on,
 };
 use crate::ids::{cell, event, sequencer, worker};
 use ec_core::{Act, Reply, Run, VALUE_MAX};
-use ec_count::Setup;
+use ec_count::{Setup, SetupFault};
 use ec_database::{DatabaseShape, declare_database};
 use ec_machine::{Command, Machine, Outcome, Program, Value, follows};
 use ec_semaphore::{SemaphoreShape, declare_both, declare_semaphore};
 use std::alloc::Global;
+use std::mem;
 use std::test::Fail;
-
-/// One step of a worker's machine.
-fn step(run: &mut Run, n: usize, machine: &mut Machine<'_>) -> Result<(), Fail> {
-    let Some(act) = machine.next() else {
-        return Err(Fail::new("the program has ended"));
-    };
-    let reply = run.step(worker(n), act)?;
-    machine.take(reply);
-    Ok(())
-}
-
-/// The steps of two workers' machines, by their numbers.
-fn play(
-    run: &mut Run,
-    first: &mut Machine<'_>,
-    second: &mut Machine<'_>,
-    schedule: &[usize],
-) -> Result<(), Fail> {
-    for place in schedule {
-        if *place == 0 {
-            step(run, 0, first)?;
-        } else {
-            step(run, 1, second)?;
-        }
-    }
-    Ok(())
-}
-
-/// Whether two runs have the same entries.
-fn is_same(run: &Run, other: &Run) -> bool {
-    for (place, entry) in run.entries().enumerate() {
-        if other.entry(place) != Some(entry) {
-            return false;
-        }
-    }
-    run.len() == other.len()
-}
-
-/// Whether a machine has finished its program, and asks for nothing more.
-fn is_over(machine: &Machine<'_>) -> bool {
-    machine.outcome() == Outcome::Finished && machine.next().is_none()
-}
-
-/// Plays two programs by a schedule, and says whether both are over then.
-fn played(
-    run: &mut Run,
-    first: &Program,
-    second: &Program,
-    schedule: &[usize],
-) -> Result<bool, Fail> {
-    let (mut one, mut other) = (Machine::new(first), Machine::new(second));
-    play(run, &mut one, &mut other, schedule)?;
-    Ok(is_over(&one) && is_over(&other))
-}
-
-fn program(commands: Vec<Command>) -> Result<Program, Fail> {
-    Ok(Program::new(commands).ok_or("no program")?)
-}
-
-/// Whether these commands make a program.
-fn makes_one(commands: Vec<Command>) -> bool {
-    Program::new(commands).is_some()
-}
 
 /// The first worker signals an eventcount and may put into a cell and get from it; the second observes the
 /// eventcount and draws tickets.
@@ -89,153 +27,248 @@ const COUNTED: World = World {
     ],
 };
 
-/// An empty run on that.
-fn counted(alloc: Global) -> Result<Run, Fail> {
-    let setup = declared(alloc, &COUNTED)?;
-    run_on(alloc, setup)
+/// What two workers have.
+#[derive(Clone, Copy)]
+enum Ground {
+    Counted,
+    /// A database of two cells, of which the first is the writer and the second the reader.
+    Database,
+    /// Two semaphores and the common one of both: the first has this initial value, the others 1.
+    Semaphores(u64),
 }
 
-fn two_advances(alloc: Global) -> Result<Program, Fail> {
-    program(vec![in alloc; Command::Advance(event(0)), Command::Advance(event(0))]?)
+/// The database or the semaphores that programs name.
+#[derive(Clone, Copy)]
+enum Objects {
+    None,
+    Database(DatabaseShape),
+    Semaphores([SemaphoreShape; 3]),
 }
 
-fn waits_for_its_ticket(alloc: Global) -> Result<Program, Fail> {
-    program(vec![in alloc;
-        Command::Ticket(sequencer(0)),
-        Command::Await(event(0), Value::LastPlus(1)),
-        Command::Read(event(0)),
-    ]?)
+/// Declares two semaphores and the common one of both for the first two workers.
+fn three_semaphores(setup: &mut Setup, initial: u64) -> Result<[SemaphoreShape; 3], SetupFault> {
+    let users = [worker(0), worker(1)];
+    let one = declare_semaphore(setup, initial, &users)?;
+    let other = declare_semaphore(setup, 1, &users)?;
+    let common = declare_both(setup, &users)?;
+    Ok([one, other, common])
 }
 
-/// The second worker draws 0, waits for a total of 1, and reads 2.
-static WAITED: History = History {
-    world: COUNTED,
-    steps: &[
-        (1, Ticket(0), Number(0)),
-        (1, Await(0, 1), Pending),
-        (0, Advance(0), Done),
-        (1, Go, Number(1)),
-        (0, Advance(0), Done),
-        (1, Read(0), Number(2)),
-    ],
-};
-
-static WAITS: [usize; 6] = [1, 1, 0, 1, 0, 1];
-
-/// The run of the two programs, and whether both are over then.
-fn waited(alloc: Global) -> Result<(Run, bool), Fail> {
-    let first = two_advances(alloc)?;
-    let second = waits_for_its_ticket(alloc)?;
-    let mut run = counted(alloc)?;
-    let are_over = played(&mut run, &first, &second, &WAITS)?;
-    Ok((run, are_over))
+/// Declares what there is beside the workers.
+fn add_objects(setup: &mut Setup, ground: Ground) -> Result<Objects, SetupFault> {
+    Ok(match ground {
+        Ground::Counted => Objects::None,
+        Ground::Database => {
+            Objects::Database(declare_database(setup, 2, &[worker(0)], &[worker(1)])?)
+        }
+        Ground::Semaphores(initial) => Objects::Semaphores(three_semaphores(setup, initial)?),
+    })
 }
 
-/// Who is first off its program, of the two programs or the first of them alone.
-fn off(alloc: Global, run: &Run, only_first: bool) -> Result<Option<usize>, Fail> {
-    let first = two_advances(alloc)?;
-    let found = if only_first {
-        follows(run, &[first])
-    } else {
-        follows(run, &[first, waits_for_its_ticket(alloc)?])
+/// The declarations of two workers.
+fn declared_on(ground: Ground) -> Result<(Setup, Objects), Fail> {
+    let world = match ground {
+        Ground::Counted => &COUNTED,
+        _ => &TWO_WORKERS,
     };
-    match found {
-        Some(worker) => Ok(Some(worker.get())),
-        None => Ok(None),
+    let mut setup = declared(world)?;
+    let objects = add_objects(&mut setup, ground)?;
+    Ok((setup, objects))
+}
+
+/// What is written of a program, in order. Semaphores are the first, the second or the common one.
+#[derive(Clone, Copy)]
+enum Order {
+    Advance(usize),
+    Read(usize),
+    Await(usize, Value),
+    Ticket(usize),
+    Put(usize, Value),
+    Get(usize),
+    WriteAll(&'static [Value]),
+    Snapshot(usize),
+    Down(usize),
+    Up(usize),
+    /// The common one, and the two that are taken.
+    DownBoth(usize, usize, usize),
+    /// So many advances of the first eventcount.
+    Advances(usize),
+    /// All that is written so far, so many times, in place of it.
+    Repeat(u64),
+}
+
+/// A program, as it is written.
+type Text = &'static [Order];
+
+/// The semaphore of a number.
+fn semaphore(objects: &Objects, n: usize) -> Option<SemaphoreShape> {
+    match objects {
+        Objects::Semaphores(shapes) => shapes.get(n).copied(),
+        _ => None,
     }
 }
 
-#[test]
-fn a_ticket_is_waited_for(rt: HostRuntime) -> Result<(), Fail> {
-    let (run, are_over) = waited(rt.alloc())?;
-    assert!(rt; are_over);
-    let expected = run_of(rt.alloc(), &WAITED)?;
-    assert!(rt; is_same(&run, &expected));
-    assert!(rt; off(rt.alloc(), &run, false)?.is_none());
-    Ok(())
-}
-
-/// Who is first off its program, where there is none.
-fn off_none(run: &Run) -> Option<usize> {
-    match follows(run, &[]) {
-        Some(worker) => Some(worker.get()),
-        None => None,
+/// The database that there is.
+fn database(objects: &Objects) -> Option<DatabaseShape> {
+    match objects {
+        Objects::Database(shape) => Some(*shape),
+        _ => None,
     }
 }
 
-#[test]
-fn a_missing_program_is_empty(rt: HostRuntime) -> Result<(), Fail> {
-    let run = run_of(rt.alloc(), &WAITED)?;
-    assert!(rt; off_none(&run) == Some(0));
-    let none = counted(rt.alloc())?;
-    assert!(rt; off_none(&none).is_none());
-    Ok(())
+/// The command that takes two semaphores at once.
+fn down_both(objects: &Objects, common: usize, one: usize, other: usize) -> Option<Command> {
+    Some(Command::DownBoth(
+        semaphore(objects, common)?,
+        semaphore(objects, one)?,
+        semaphore(objects, other)?,
+    ))
 }
 
-#[test]
-fn the_first_worker_off_its_program_is_named(rt: HostRuntime) -> Result<(), Fail> {
-    let run = run_of(rt.alloc(), &WAITED)?;
-    assert!(rt; off(rt.alloc(), &run, true)? == Some(1));
-    Ok(())
-}
-
-/// The first acts of a program of the first worker, as many as there are steps, on its own.
-fn first_steps(alloc: Global, program: &Program, steps: usize) -> Result<(Run, Outcome), Fail> {
-    let mut run = counted(alloc)?;
-    let mut machine = Machine::new(program);
-    for _ in 0..steps {
-        step(&mut run, 0, &mut machine)?;
+/// The command that writes these values into all cells, where there is memory for it.
+fn write_all(alloc: Global, objects: &Objects, values: &[Value]) -> Option<Command> {
+    let shape = database(objects)?;
+    match values.to_vec(alloc) {
+        Ok(values) => Some(Command::WriteAll(shape, values)),
+        Err(_) => None,
     }
-    Ok((run, machine.outcome()))
 }
 
-/// Twice: twice a put of one more and a get, and then an advance.
-fn with_repeats(alloc: Global) -> Result<Program, Fail> {
-    let inner = vec![in alloc;
-        Command::Put(cell(0), Value::LastPlus(1)),
-        Command::Get(cell(0)),
-    ]?;
-    let outer = vec![in alloc; Command::Repeat(2, inner), Command::Advance(event(0))]?;
-    program(vec![in alloc; Command::Repeat(2, outer)]?)
-}
-
-/// A put of one more and a get.
-fn push_put_and_get(commands: &mut Vec<Command>) -> Result<(), Fail> {
-    commands.push(Command::Put(cell(0), Value::LastPlus(1)))?;
-    commands.push(Command::Get(cell(0)))?;
-    Ok(())
-}
-
-/// The same written out.
-fn without_repeats(alloc: Global) -> Result<Program, Fail> {
-    let mut long = Vec::new(alloc);
-    for _ in 0..2 {
-        push_put_and_get(&mut long)?;
-        push_put_and_get(&mut long)?;
-        long.push(Command::Advance(event(0)))?;
+/// The command of an order that is one.
+fn command(alloc: Global, objects: &Objects, order: &Order) -> Option<Command> {
+    match *order {
+        Order::Advance(e) => Some(Command::Advance(event(e))),
+        Order::Read(e) => Some(Command::Read(event(e))),
+        Order::Await(e, value) => Some(Command::Await(event(e), value)),
+        Order::Ticket(q) => Some(Command::Ticket(sequencer(q))),
+        Order::Put(x, value) => Some(Command::Put(cell(x), value)),
+        Order::Get(x) => Some(Command::Get(cell(x))),
+        Order::WriteAll(values) => write_all(alloc, objects, values),
+        Order::Snapshot(tries) => Some(Command::Snapshot(database(objects)?, tries)),
+        Order::Down(n) => Some(Command::Down(semaphore(objects, n)?)),
+        Order::Up(n) => Some(Command::Up(semaphore(objects, n)?)),
+        Order::DownBoth(common, one, other) => down_both(objects, common, one, other),
+        Order::Advances(_) | Order::Repeat(_) => None,
     }
-    program(long)
 }
 
-static FOURTH_GET: [Sight; 1] = [Sight::Entry(8, Some((0, Get(0), Number(4))))];
-
-#[test]
-fn repeats_are_counted(rt: HostRuntime) -> Result<(), Fail> {
-    let (run, outcome) = first_steps(rt.alloc(), &with_repeats(rt.alloc())?, 10)?;
-    assert!(rt; outcome == Outcome::Finished);
-    let (expected, outcome) = first_steps(rt.alloc(), &without_repeats(rt.alloc())?, 10)?;
-    assert!(rt; outcome == Outcome::Finished);
-    assert!(rt; is_same(&run, &expected));
-    sees(&run, &FOURTH_GET)
-}
-
-/// A million repeats of a million repeats and so on, four deep, of an advance.
-fn million_to_the_fourth(alloc: Global) -> Result<Program, Fail> {
-    let mut commands = vec![in alloc; Command::Advance(event(0))]?;
-    for _ in 0..4 {
-        commands = vec![in alloc; Command::Repeat(1_000_000, commands)]?;
+/// Adds a command, where there is one, and says whether that went well.
+fn push(commands: &mut Vec<Command>, command: Option<Command>) -> bool {
+    match command {
+        Some(command) => commands.push(command).is_ok(),
+        None => false,
     }
-    program(commands)
+}
+
+/// Adds so many advances of the first eventcount, and says whether that went well.
+fn push_advances(commands: &mut Vec<Command>, many: usize) -> bool {
+    for _ in 0..many {
+        if !push(commands, Some(Command::Advance(event(0)))) {
+            return false;
+        }
+    }
+    true
+}
+
+/// Adds what an order says, and says whether that went well.
+fn add(alloc: Global, commands: &mut Vec<Command>, objects: &Objects, order: &Order) -> bool {
+    match *order {
+        Order::Advances(many) => push_advances(commands, many),
+        Order::Repeat(count) => {
+            let block = mem::replace(commands, Vec::new(alloc));
+            push(commands, Some(Command::Repeat(count, block)))
+        }
+        _ => push(commands, command(alloc, objects, order)),
+    }
+}
+
+/// The commands of a text, where it has any sense and there is memory for them.
+fn commands_of(alloc: Global, objects: &Objects, text: &[Order]) -> Option<Vec<Command>> {
+    let mut commands = Vec::new(alloc);
+    for order in text {
+        if !add(alloc, &mut commands, objects, order) {
+            return None;
+        }
+    }
+    Some(commands)
+}
+
+/// The programs of these texts, where each text makes one.
+fn programs_of(alloc: Global, objects: &Objects, texts: &[Text]) -> Option<Vec<Program>> {
+    let mut programs = Vec::new(alloc);
+    for text in texts {
+        let program = Program::new(commands_of(alloc, objects, text)?)?;
+        if programs.push(program).is_err() {
+            return None;
+        }
+    }
+    Some(programs)
+}
+
+/// The machines of two workers.
+#[derive(Drop)]
+struct Two<'a> {
+    first: Machine<'a>,
+    second: Machine<'a>,
+}
+
+/// What is done with two machines and a run, or asked of them, and what is right.
+#[derive(Clone, Copy)]
+enum Row {
+    /// Steps of the machines of these workers.
+    Play(&'static [usize]),
+    /// How the first program stands.
+    Stands(Outcome),
+    /// Both programs are finished, and nothing more is asked for.
+    Over,
+    /// The first machine asks for so many advances of the first eventcount, and is told that they are made.
+    Advances(usize),
+    /// How the first program is ended from outside, the outcome after it, and what its machine asks for then.
+    End(Outcome, Outcome, Option<Ask>),
+    /// Steps without a machine, which get their answers.
+    Steps(&'static [Step]),
+    /// How many entries there are.
+    Length(usize),
+    /// All of this is seen of the run.
+    Sees(&'static [Sight]),
+    /// The run has the entries of another one, whose steps are these and then those, and get their answers.
+    Same(&'static [Step], &'static [Step]),
+    /// Who is first off its program, of these programs.
+    Off(&'static [Text], Option<usize>),
+}
+
+/// Whether a machine makes a step.
+fn is_stepped(run: &mut Run, n: usize, machine: &mut Machine<'_>) -> bool {
+    let Some(act) = machine.next() else {
+        return false;
+    };
+    match run.step(worker(n), act) {
+        Ok(reply) => {
+            machine.take(reply);
+            true
+        }
+        Err(_) => false,
+    }
+}
+
+/// Whether two workers' machines make steps, by their numbers.
+fn are_played(run: &mut Run, two: &mut Two<'_>, schedule: &[usize]) -> bool {
+    for n in schedule {
+        let is_made = if *n == 0 {
+            is_stepped(run, 0, &mut two.first)
+        } else {
+            is_stepped(run, 1, &mut two.second)
+        };
+        if !is_made {
+            return false;
+        }
+    }
+    true
+}
+
+/// Whether a machine has finished its program, and asks for nothing more.
+fn is_over(machine: &Machine<'_>) -> bool {
+    machine.outcome() == Outcome::Finished && machine.next().is_none()
 }
 
 /// Whether a machine asks for this.
@@ -263,94 +296,331 @@ fn advances(machine: &mut Machine<'_>) -> bool {
     asks_for(machine, Some(Advance(0))) && give(machine)
 }
 
-/// Whether a program begins with so many advances.
-fn begins_with_advances(program: &Program, many: usize) -> bool {
-    let mut machine = Machine::new(program);
+/// Whether a machine asks for so many advances, which are made.
+fn all_advance(machine: &mut Machine<'_>, many: usize) -> bool {
     for _ in 0..many {
-        if !advances(&mut machine) {
+        if !advances(machine) {
             return false;
         }
     }
     true
 }
 
+/// Whether a machine that is ended from outside stands as it should.
+fn is_ended(machine: &mut Machine<'_>, by: Outcome, right: Outcome, ask: Option<Ask>) -> bool {
+    machine.refuse(by);
+    machine.outcome() == right && asks_for(machine, ask)
+}
+
+/// Whether two runs have the same entries.
+fn is_same(run: &Run, other: &Run) -> bool {
+    for (place, entry) in run.entries().enumerate() {
+        if other.entry(place) != Some(entry) {
+            return false;
+        }
+    }
+    run.len() == other.len()
+}
+
+/// Whether a run has the entries of another one on the same declarations, whose steps are these and then those.
+fn is_made_by(alloc: Global, run: &Run, steps: &[Step], then: &[Step]) -> bool {
+    let Ok(mut other) = Run::open(alloc, run.setup().copy()) else {
+        return false;
+    };
+    are_right(&mut other, steps) && are_right(&mut other, then) && is_same(run, &other)
+}
+
+/// Whether this one is the first off its program.
+fn is_off(
+    alloc: Global,
+    run: &Run,
+    objects: &Objects,
+    texts: &[Text],
+    right: Option<usize>,
+) -> bool {
+    let Some(programs) = programs_of(alloc, objects, texts) else {
+        return false;
+    };
+    match follows(run, programs.as_slice()) {
+        Some(found) => right == Some(found.get()),
+        None => right.is_none(),
+    }
+}
+
+/// Whether what a row asks of a run is right.
+fn is_found(alloc: Global, run: &Run, objects: &Objects, row: &Row) -> bool {
+    match *row {
+        Row::Length(n) => run.len() == n,
+        Row::Sees(sights) => are_seen(run, sights),
+        Row::Same(steps, then) => is_made_by(alloc, run, steps, then),
+        Row::Off(texts, right) => is_off(alloc, run, objects, texts, right),
+        _ => false,
+    }
+}
+
+/// Whether what a row says is right.
+fn is_right(alloc: Global, run: &mut Run, two: &mut Two<'_>, objects: &Objects, row: &Row) -> bool {
+    match *row {
+        Row::Play(schedule) => are_played(run, two, schedule),
+        Row::Stands(outcome) => two.first.outcome() == outcome,
+        Row::Over => is_over(&two.first) && is_over(&two.second),
+        Row::Advances(many) => all_advance(&mut two.first, many),
+        Row::End(by, outcome, ask) => is_ended(&mut two.first, by, outcome, ask),
+        Row::Steps(steps) => are_right(run, steps),
+        _ => is_found(alloc, run, objects, row),
+    }
+}
+
+/// What the rows say is right, one after another.
+fn are_shown(
+    alloc: Global,
+    run: &mut Run,
+    two: &mut Two<'_>,
+    objects: &Objects,
+    rows: &[Row],
+) -> Result<(), Fail> {
+    for (place, row) in rows.iter().enumerate() {
+        right(place, is_right(alloc, run, two, objects, row))?;
+    }
+    Ok(())
+}
+
+/// The same of the machines of two programs.
+fn are_shown_of(
+    alloc: Global,
+    run: &mut Run,
+    programs: &[Program],
+    objects: &Objects,
+    rows: &[Row],
+) -> Result<(), Fail> {
+    let [first, second] = programs else {
+        return Err(Fail::new("not two programs"));
+    };
+    let mut two = Two {
+        first: Machine::new(first),
+        second: Machine::new(second),
+    };
+    are_shown(alloc, run, &mut two, objects, rows)
+}
+
+/// What two workers have, their programs, and what is done then.
+#[derive(Clone, Copy)]
+struct Case {
+    ground: Ground,
+    programs: [Text; 2],
+    rows: &'static [Row],
+}
+
+/// What the rows of a case say is right, one after another.
+fn shows(alloc: Global, case: &Case) -> Result<(), Fail> {
+    let (setup, objects) = declared_on(case.ground)?;
+    let programs = programs_of(alloc, &objects, &case.programs).ok_or("no programs")?;
+    let mut run = run_on(alloc, setup)?;
+    are_shown_of(alloc, &mut run, programs.as_slice(), &objects, case.rows)
+}
+
+const TWO_ADVANCES: Text = &[Order::Advance(0), Order::Advance(0)];
+
+const WAITS_FOR_ITS_TICKET: Text = &[
+    Order::Ticket(0),
+    Order::Await(0, Value::LastPlus(1)),
+    Order::Read(0),
+];
+
+/// The second worker draws 0, waits for a total of 1, and reads 2.
+const WAITED: &[Step] = &[
+    (1, Ticket(0), Number(0)),
+    (1, Await(0, 1), Pending),
+    (0, Advance(0), Done),
+    (1, Go, Number(1)),
+    (0, Advance(0), Done),
+    (1, Read(0), Number(2)),
+];
+
+static TICKET_WAITED_FOR: Case = Case {
+    ground: Ground::Counted,
+    programs: [TWO_ADVANCES, WAITS_FOR_ITS_TICKET],
+    rows: &[
+        Row::Play(&[1, 1, 0, 1, 0, 1]),
+        Row::Over,
+        Row::Same(WAITED, &[]),
+        Row::Off(&[TWO_ADVANCES, WAITS_FOR_ITS_TICKET], None),
+    ],
+};
+
+#[test]
+fn a_ticket_is_waited_for(rt: HostRuntime) -> Result<(), Fail> {
+    shows(rt.alloc(), &TICKET_WAITED_FOR)
+}
+
+static MISSING_PROGRAM: Case = Case {
+    ground: Ground::Counted,
+    programs: [&[], &[]],
+    rows: &[
+        Row::Off(&[], None),
+        Row::Steps(WAITED),
+        Row::Off(&[], Some(0)),
+    ],
+};
+
+#[test]
+fn a_missing_program_is_empty(rt: HostRuntime) -> Result<(), Fail> {
+    shows(rt.alloc(), &MISSING_PROGRAM)
+}
+
+static FIRST_OFF: Case = Case {
+    ground: Ground::Counted,
+    programs: [&[], &[]],
+    rows: &[Row::Steps(WAITED), Row::Off(&[TWO_ADVANCES], Some(1))],
+};
+
+#[test]
+fn the_first_worker_off_its_program_is_named(rt: HostRuntime) -> Result<(), Fail> {
+    shows(rt.alloc(), &FIRST_OFF)
+}
+
+/// Twice: twice a put of one more and a get, and then an advance.
+const WITH_REPEATS: Text = &[
+    Order::Put(0, Value::LastPlus(1)),
+    Order::Get(0),
+    Order::Repeat(2),
+    Order::Advance(0),
+    Order::Repeat(2),
+];
+
+/// The same written out.
+const WITHOUT_REPEATS: Text = &[
+    Order::Put(0, Value::LastPlus(1)),
+    Order::Get(0),
+    Order::Put(0, Value::LastPlus(1)),
+    Order::Get(0),
+    Order::Advance(0),
+    Order::Put(0, Value::LastPlus(1)),
+    Order::Get(0),
+    Order::Put(0, Value::LastPlus(1)),
+    Order::Get(0),
+    Order::Advance(0),
+];
+
+/// The steps of either.
+const REPEATED: &[Step] = &[
+    (0, Put(0, 1), Done),
+    (0, Get(0), Number(1)),
+    (0, Put(0, 2), Done),
+    (0, Get(0), Number(2)),
+    (0, Advance(0), Done),
+    (0, Put(0, 3), Done),
+    (0, Get(0), Number(3)),
+    (0, Put(0, 4), Done),
+    (0, Get(0), Number(4)),
+    (0, Advance(0), Done),
+];
+
+const TEN_STEPS: &[Row] = &[
+    Row::Play(&[0; 10]),
+    Row::Stands(Outcome::Finished),
+    Row::Same(REPEATED, &[]),
+    Row::Sees(&[Sight::Entry(8, Some((0, Get(0), Number(4))))]),
+];
+
+static COUNTED_REPEATS: Case = Case {
+    ground: Ground::Counted,
+    programs: [WITH_REPEATS, &[]],
+    rows: TEN_STEPS,
+};
+
+static NO_REPEATS: Case = Case {
+    ground: Ground::Counted,
+    programs: [WITHOUT_REPEATS, &[]],
+    rows: TEN_STEPS,
+};
+
+#[test]
+fn repeats_are_counted(rt: HostRuntime) -> Result<(), Fail> {
+    shows(rt.alloc(), &COUNTED_REPEATS)?;
+    shows(rt.alloc(), &NO_REPEATS)
+}
+
+/// A million repeats of a million repeats and so on, four deep, of an advance.
+const MILLION_TO_THE_FOURTH: Text = &[
+    Order::Advance(0),
+    Order::Repeat(1_000_000),
+    Order::Repeat(1_000_000),
+    Order::Repeat(1_000_000),
+    Order::Repeat(1_000_000),
+];
+
+static MILLIONS: Case = Case {
+    ground: Ground::Counted,
+    programs: [MILLION_TO_THE_FOURTH, &[]],
+    rows: &[
+        Row::Play(&[0; 10]),
+        Row::Length(10),
+        Row::Stands(Outcome::Running),
+    ],
+};
+
+static THREE_THOUSAND: Case = Case {
+    ground: Ground::Counted,
+    programs: [MILLION_TO_THE_FOURTH, &[]],
+    rows: &[Row::Advances(3_000)],
+};
+
 #[test]
 fn a_million_repeats_nested_four_deep_are_never_written_out(rt: HostRuntime) -> Result<(), Fail> {
-    let program = million_to_the_fourth(rt.alloc())?;
-    let (run, outcome) = first_steps(rt.alloc(), &program, 10)?;
-    assert!(rt; run.len() == 10 && outcome == Outcome::Running);
-    assert!(rt; begins_with_advances(&program, 3_000));
-    Ok(())
+    shows(rt.alloc(), &MILLIONS)?;
+    shows(rt.alloc(), &THREE_THOUSAND)
 }
 
 /// A put of the greatest value, a get, a put of what was got, and one of one more.
-fn too_large_at_last(alloc: Global) -> Result<Program, Fail> {
-    program(vec![in alloc;
-        Command::Put(cell(0), Value::Number(VALUE_MAX)),
-        Command::Get(cell(0)),
-        Command::Put(cell(0), Value::Last),
-        Command::Put(cell(0), Value::LastPlus(1)),
-        Command::Advance(event(0)),
-    ]?)
-}
-
-static LAST_PUT: [Sight; 2] = [
-    Sight::Length(3),
-    Sight::Entry(2, Some((0, Put(0, VALUE_MAX), Done))),
+const TOO_LARGE_AT_LAST: Text = &[
+    Order::Put(0, Value::Number(VALUE_MAX)),
+    Order::Get(0),
+    Order::Put(0, Value::Last),
+    Order::Put(0, Value::LastPlus(1)),
+    Order::Advance(0),
 ];
+
+static TOO_LARGE: Case = Case {
+    ground: Ground::Counted,
+    programs: [TOO_LARGE_AT_LAST, &[]],
+    rows: &[
+        Row::Play(&[0; 3]),
+        Row::Stands(Outcome::ValueTooLarge),
+        Row::Sees(&[
+            Sight::Length(3),
+            Sight::Entry(2, Some((0, Put(0, VALUE_MAX), Done))),
+        ]),
+    ],
+};
 
 #[test]
 fn a_value_too_large_ends_a_program(rt: HostRuntime) -> Result<(), Fail> {
-    let program = too_large_at_last(rt.alloc())?;
-    let (run, outcome) = first_steps(rt.alloc(), &program, 3)?;
-    assert!(rt; outcome == Outcome::ValueTooLarge);
-    sees(&run, &LAST_PUT)
+    shows(rt.alloc(), &TOO_LARGE)
 }
 
-/// How a program is ended from outside, the outcome after it, and what the machine asks for then.
-type Ending = (Outcome, Outcome, Option<Ask>);
-
-static ENDINGS: [Ending; 5] = [
-    (Outcome::Running, Outcome::Running, Some(Advance(0))),
-    (Outcome::Finished, Outcome::Running, Some(Advance(0))),
-    (Outcome::ValueTooLarge, Outcome::Running, Some(Advance(0))),
-    (Outcome::OutOfTurns, Outcome::OutOfTurns, None),
-    (Outcome::Stopped, Outcome::OutOfTurns, None),
-];
-
-/// Whether a machine that is ended so stands as it should.
-fn is_ended(machine: &mut Machine<'_>, ending: &Ending) -> bool {
-    machine.refuse(ending.0);
-    machine.outcome() == ending.1 && asks_for(machine, ending.2)
-}
-
-/// The first ending at which a machine stands otherwise.
-fn other_ending(machine: &mut Machine<'_>, endings: &[Ending]) -> Option<usize> {
-    for (place, ending) in endings.iter().enumerate() {
-        if !is_ended(machine, ending) {
-            return Some(place);
-        }
-    }
-    None
-}
+static ENDED: Case = Case {
+    ground: Ground::Counted,
+    programs: [TWO_ADVANCES, &[]],
+    rows: &[
+        Row::End(Outcome::Running, Outcome::Running, Some(Advance(0))),
+        Row::End(Outcome::Finished, Outcome::Running, Some(Advance(0))),
+        Row::End(Outcome::ValueTooLarge, Outcome::Running, Some(Advance(0))),
+        Row::End(Outcome::OutOfTurns, Outcome::OutOfTurns, None),
+        Row::End(Outcome::Stopped, Outcome::OutOfTurns, None),
+    ],
+};
 
 #[test]
 fn programs_are_ended_from_outside(rt: HostRuntime) -> Result<(), Fail> {
-    let program = two_advances(rt.alloc())?;
-    let mut machine = Machine::new(&program);
-    assert!(rt; other_ending(&mut machine, &ENDINGS).is_none());
-    Ok(())
+    shows(rt.alloc(), &ENDED)
 }
 
-/// A writer and a reader, and their database of two cells.
-fn database() -> Result<(Setup, DatabaseShape), Fail> {
-    let mut setup = workers(10, 2)?;
-    let shape = declare_database(&mut setup, 2, &[worker(0)], &[worker(1)])?;
-    Ok((setup, shape))
-}
+/// The writing of 5 and of 6 more than the last number, which is 0.
+const WRITES: Text = &[Order::WriteAll(&[Value::Number(5), Value::LastPlus(6)])];
 
-/// The writer writes 5 and 6 while the reader makes a first try of a snapshot, and a second one.
-static DISTURBED: [Step; 16] = [
+/// The writer writes 5 and 6 while the reader makes a first try of a snapshot.
+const DISTURBED: &[Step] = &[
     (1, Read(0), Number(0)),
     (1, Await(1, 0), Number(0)),
     (1, Get(0), Number(0)),
@@ -362,6 +632,10 @@ static DISTURBED: [Step; 16] = [
     (0, Advance(1), Done),
     (1, Get(1), Number(6)),
     (1, Read(0), Number(1)),
+];
+
+/// The reader makes a second one.
+const UNDISTURBED: &[Step] = &[
     (1, Read(0), Number(1)),
     (1, Await(1, 1), Number(1)),
     (1, Get(0), Number(5)),
@@ -369,246 +643,183 @@ static DISTURBED: [Step; 16] = [
     (1, Read(0), Number(1)),
 ];
 
-static TRIES: [usize; 16] = [1, 1, 1, 0, 0, 0, 0, 0, 0, 1, 1, 1, 1, 1, 1, 1];
+static ONE_TRY: Case = Case {
+    ground: Ground::Database,
+    programs: [WRITES, &[Order::Snapshot(1)]],
+    rows: &[
+        Row::Play(&[1, 1, 1, 0, 0, 0, 0, 0, 0, 1, 1]),
+        Row::Over,
+        Row::Same(DISTURBED, &[]),
+    ],
+};
 
-/// The writing of 5 and of 6 more than the last number, which is 0.
-fn writes(alloc: Global, shape: DatabaseShape) -> Result<Program, Fail> {
-    let values = vec![in alloc; Value::Number(5), Value::LastPlus(6)]?;
-    program(vec![in alloc; Command::WriteAll(shape, values)]?)
-}
-
-fn snapshots(alloc: Global, shape: DatabaseShape, tries: usize) -> Result<Program, Fail> {
-    program(vec![in alloc; Command::Snapshot(shape, tries)]?)
-}
-
-/// The run of so many steps of the writing and the snapshot of so many tries, and whether both are over then.
-fn snapshot_within(alloc: Global, tries: usize, schedule: &[usize]) -> Result<(Run, bool), Fail> {
-    let (setup, shape) = database()?;
-    let write = writes(alloc, shape)?;
-    let read = snapshots(alloc, shape, tries)?;
-    let mut run = run_on(alloc, setup)?;
-    let are_over = played(&mut run, &write, &read, schedule)?;
-    Ok((run, are_over))
-}
-
-/// Whether so many tries take so many steps, and are over then.
-fn takes(alloc: Global, tries: usize, many: usize) -> Result<bool, Fail> {
-    let (Some(schedule), Some(steps)) = (TRIES.get(..many), DISTURBED.get(..many)) else {
-        return Err(Fail::new("no such steps"));
-    };
-    let (run, are_over) = snapshot_within(alloc, tries, schedule)?;
-    let (setup, _) = database()?;
-    let mut expected = run_on(alloc, setup)?;
-    go_through(&mut expected, steps)?;
-    Ok(are_over && is_same(&run, &expected))
-}
+static TWO_TRIES: Case = Case {
+    ground: Ground::Database,
+    programs: [WRITES, &[Order::Snapshot(2)]],
+    rows: &[
+        Row::Play(&[1, 1, 1, 0, 0, 0, 0, 0, 0, 1, 1, 1, 1, 1, 1, 1]),
+        Row::Over,
+        Row::Same(DISTURBED, UNDISTURBED),
+    ],
+};
 
 #[test]
 fn a_snapshot_makes_as_many_tries_as_it_may(rt: HostRuntime) -> Result<(), Fail> {
-    assert!(rt; takes(rt.alloc(), 1, 11)?);
-    assert!(rt; takes(rt.alloc(), 2, 16)?);
-    Ok(())
+    shows(rt.alloc(), &ONE_TRY)?;
+    shows(rt.alloc(), &TWO_TRIES)
 }
 
-/// Two semaphores and the common one of both, for two workers: the first has this initial value, the others 1.
-fn three_semaphores(initial: u64) -> Result<(Setup, [SemaphoreShape; 3]), Fail> {
-    let users = [worker(0), worker(1)];
-    let mut setup = workers(10, 2)?;
-    let one = declare_semaphore(&mut setup, initial, &users)?;
-    let other = declare_semaphore(&mut setup, 1, &users)?;
-    let common = declare_both(&mut setup, &users)?;
-    Ok((setup, [one, other, common]))
-}
-
-fn takes_and_gives_back(alloc: Global, shapes: &[SemaphoreShape; 3]) -> Result<Program, Fail> {
-    let [one, other, common] = *shapes;
-    program(vec![in alloc;
-        Command::DownBoth(common, one, other),
-        Command::Up(other),
-        Command::Up(one),
-    ]?)
-}
-
-fn takes_once_more(alloc: Global, shapes: &[SemaphoreShape; 3]) -> Result<Program, Fail> {
-    let [one, other, common] = *shapes;
-    program(vec![in alloc; Command::DownBoth(common, other, one), Command::Down(one)]?)
-}
-
-static ONE_WAITS: [usize; 20] = [0, 1, 0, 0, 1, 1, 0, 0, 0, 1, 1, 1, 1, 1, 0, 0, 0, 0, 1, 1];
-
-static WAITING: [Sight; 2] = [
-    Sight::Length(20),
-    Sight::Entry(18, Some((1, Await(1, 1), Pending))),
-];
-
-static THE_REST: [usize; 9] = [0, 0, 1, 1, 1, 1, 1, 1, 1];
-
-/// Plays two programs until one waits, and then the rest; the run in the end, and how the first program stood in
-/// between and stands in the end.
-fn both_semaphores(alloc: Global) -> Result<(Run, Outcome, Outcome), Fail> {
-    let (setup, shapes) = three_semaphores(1)?;
-    let first = takes_and_gives_back(alloc, &shapes)?;
-    let second = takes_once_more(alloc, &shapes)?;
-    let (mut one, mut other) = (Machine::new(&first), Machine::new(&second));
-    let mut run = run_on(alloc, setup)?;
-    play(&mut run, &mut one, &mut other, &ONE_WAITS)?;
-    sees(&run, &WAITING)?;
-    let between = one.outcome();
-    play(&mut run, &mut one, &mut other, &THE_REST)?;
-    Ok((run, between, one.outcome()))
-}
+static BOTH_SEMAPHORES: Case = Case {
+    ground: Ground::Semaphores(1),
+    programs: [
+        &[Order::DownBoth(2, 0, 1), Order::Up(1), Order::Up(0)],
+        &[Order::DownBoth(2, 1, 0), Order::Down(0)],
+    ],
+    rows: &[
+        Row::Play(&[0, 1, 0, 0, 1, 1, 0, 0, 0, 1, 1, 1, 1, 1, 0, 0, 0, 0, 1, 1]),
+        Row::Sees(&[
+            Sight::Length(20),
+            Sight::Entry(18, Some((1, Await(1, 1), Pending))),
+        ]),
+        Row::Stands(Outcome::Running),
+        Row::Play(&[0, 0, 1, 1, 1, 1, 1, 1, 1]),
+        Row::Stands(Outcome::Finished),
+        Row::Length(29),
+    ],
+};
 
 #[test]
 fn two_workers_take_both_semaphores(rt: HostRuntime) -> Result<(), Fail> {
-    let (run, between, end) = both_semaphores(rt.alloc())?;
-    assert!(rt; between == Outcome::Running && end == Outcome::Finished);
-    assert!(rt; run.len() == 29);
+    shows(rt.alloc(), &BOTH_SEMAPHORES)
+}
+
+/// Commands, and whether they make a program.
+type Choice = (Text, bool);
+
+/// Whether commands make a program.
+fn makes_one(alloc: Global, objects: &Objects, text: &[Order]) -> Option<bool> {
+    Some(Program::new(commands_of(alloc, objects, text)?).is_some())
+}
+
+/// Commands make programs, or none, as the rows say.
+fn are_told(alloc: Global, ground: Ground, rows: &[Choice]) -> Result<(), Fail> {
+    let (_, objects) = declared_on(ground)?;
+    for (place, (text, is_one)) in rows.iter().enumerate() {
+        right(place, makes_one(alloc, &objects, text) == Some(*is_one))?;
+    }
     Ok(())
 }
 
-/// Repeats in one another, so deep.
-fn nested(alloc: Global, depth: usize) -> Result<Vec<Command>, Fail> {
-    let mut commands = vec![in alloc; Command::Advance(event(0))]?;
-    for _ in 0..depth {
-        commands = vec![in alloc; Command::Repeat(1, commands)]?;
-    }
-    Ok(commands)
-}
-
-/// So many commands, of which one is a repeat.
-fn many(alloc: Global, n: usize) -> Result<Vec<Command>, Fail> {
-    let mut commands = vec![in alloc;
-        Command::Repeat(2, vec![in alloc; Command::Advance(event(0))]?),
-    ]?;
-    for _ in 2..n {
-        commands.push(Command::Advance(event(0)))?;
-    }
-    Ok(commands)
-}
-
-/// Whether so many repeats of an advance make a program.
-fn may_repeat(alloc: Global, count: u64) -> Result<bool, Fail> {
-    let commands = vec![in alloc; Command::Repeat(count, nested(alloc, 0)?)]?;
-    Ok(makes_one(commands))
-}
-
-/// Whether repeats of nothing make a program.
-fn may_repeat_nothing(alloc: Global) -> Result<bool, Fail> {
-    let commands = vec![in alloc; Command::Repeat(2, Vec::new(alloc))]?;
-    Ok(makes_one(commands))
-}
-
-static REPEATS: [(u64, bool); 4] = [(0, false), (1, true), (1_000_000, true), (1_000_001, false)];
+static BOUNDS: [Choice; 10] = [
+    (&[], true),
+    // Four repeats in one another, and five.
+    (
+        &[
+            Order::Advance(0),
+            Order::Repeat(1),
+            Order::Repeat(1),
+            Order::Repeat(1),
+            Order::Repeat(1),
+        ],
+        true,
+    ),
+    (
+        &[
+            Order::Advance(0),
+            Order::Repeat(1),
+            Order::Repeat(1),
+            Order::Repeat(1),
+            Order::Repeat(1),
+            Order::Repeat(1),
+        ],
+        false,
+    ),
+    // 4096 commands, of which one is a repeat, and 4097.
+    (
+        &[Order::Advance(0), Order::Repeat(2), Order::Advances(4094)],
+        true,
+    ),
+    (
+        &[Order::Advance(0), Order::Repeat(2), Order::Advances(4095)],
+        false,
+    ),
+    // How often a block may be repeated.
+    (&[Order::Advance(0), Order::Repeat(0)], false),
+    (&[Order::Advance(0), Order::Repeat(1)], true),
+    (&[Order::Advance(0), Order::Repeat(1_000_000)], true),
+    (&[Order::Advance(0), Order::Repeat(1_000_001)], false),
+    // Nothing is repeated.
+    (&[Order::Repeat(2)], false),
+];
 
 #[test]
 fn repeats_and_commands_keep_their_bounds(rt: HostRuntime) -> Result<(), Fail> {
-    assert!(rt; makes_one(Vec::new(rt.alloc())));
-    assert!(rt; makes_one(nested(rt.alloc(), 4)?) && !makes_one(nested(rt.alloc(), 5)?));
-    assert!(rt; makes_one(many(rt.alloc(), 4096)?) && !makes_one(many(rt.alloc(), 4097)?));
-    for (count, is_one) in &REPEATS {
-        assert!(rt; may_repeat(rt.alloc(), *count)? == *is_one, "at {count}");
-    }
-    assert!(rt; !may_repeat_nothing(rt.alloc())?);
-    Ok(())
+    are_told(rt.alloc(), Ground::Counted, &BOUNDS)
 }
 
-static VALUES: [(Value, bool); 7] = [
-    (Value::Number(VALUE_MAX), true),
-    (Value::Number(VALUE_MAX + 1), false),
-    (Value::Last, true),
-    (Value::LastPlus(0), false),
-    (Value::LastPlus(1), true),
-    (Value::LastPlus(VALUE_MAX), true),
-    (Value::LastPlus(VALUE_MAX + 1), false),
+static VALUES: [Choice; 26] = [
+    // Values that are awaited.
+    (&[Order::Await(0, Value::Number(VALUE_MAX))], true),
+    (&[Order::Await(0, Value::Number(VALUE_MAX + 1))], false),
+    (&[Order::Await(0, Value::Last)], true),
+    (&[Order::Await(0, Value::LastPlus(0))], false),
+    (&[Order::Await(0, Value::LastPlus(1))], true),
+    (&[Order::Await(0, Value::LastPlus(VALUE_MAX))], true),
+    (&[Order::Await(0, Value::LastPlus(VALUE_MAX + 1))], false),
+    // Values that are put.
+    (&[Order::Put(0, Value::Number(VALUE_MAX))], true),
+    (&[Order::Put(0, Value::Number(VALUE_MAX + 1))], false),
+    (&[Order::Put(0, Value::Last)], true),
+    (&[Order::Put(0, Value::LastPlus(0))], false),
+    (&[Order::Put(0, Value::LastPlus(1))], true),
+    (&[Order::Put(0, Value::LastPlus(VALUE_MAX))], true),
+    (&[Order::Put(0, Value::LastPlus(VALUE_MAX + 1))], false),
+    // Values that are written, behind the last number.
+    (
+        &[Order::WriteAll(&[Value::Last, Value::Number(VALUE_MAX)])],
+        true,
+    ),
+    (
+        &[Order::WriteAll(&[Value::Last, Value::Number(VALUE_MAX + 1)])],
+        false,
+    ),
+    (&[Order::WriteAll(&[Value::Last, Value::Last])], true),
+    (
+        &[Order::WriteAll(&[Value::Last, Value::LastPlus(0)])],
+        false,
+    ),
+    (&[Order::WriteAll(&[Value::Last, Value::LastPlus(1)])], true),
+    (
+        &[Order::WriteAll(&[Value::Last, Value::LastPlus(VALUE_MAX)])],
+        true,
+    ),
+    (
+        &[Order::WriteAll(&[Value::Last, Value::LastPlus(VALUE_MAX + 1)])],
+        false,
+    ),
+    // One value for two cells.
+    (&[Order::WriteAll(&[Value::Last])], false),
+    // How many tries a snapshot may make.
+    (&[Order::Snapshot(0)], false),
+    (&[Order::Snapshot(1)], true),
+    (&[Order::Snapshot(1000)], true),
+    (&[Order::Snapshot(1001)], false),
 ];
-
-fn may_await(alloc: Global, value: Value) -> Result<bool, Fail> {
-    let commands = vec![in alloc; Command::Await(event(0), value)]?;
-    Ok(makes_one(commands))
-}
-
-fn may_put(alloc: Global, value: Value) -> Result<bool, Fail> {
-    let commands = vec![in alloc; Command::Put(cell(0), value)]?;
-    Ok(makes_one(commands))
-}
-
-/// Whether the last number and this value may be written.
-fn may_write(alloc: Global, shape: DatabaseShape, value: Value) -> Result<bool, Fail> {
-    let values = vec![in alloc; Value::Last, value]?;
-    let commands = vec![in alloc; Command::WriteAll(shape, values)]?;
-    Ok(makes_one(commands))
-}
-
-/// Whether one value may be written into two cells.
-fn may_write_one(alloc: Global, shape: DatabaseShape) -> Result<bool, Fail> {
-    let values = vec![in alloc; Value::Last]?;
-    let commands = vec![in alloc; Command::WriteAll(shape, values)]?;
-    Ok(makes_one(commands))
-}
-
-fn may_try(alloc: Global, shape: DatabaseShape, tries: usize) -> Result<bool, Fail> {
-    let commands = vec![in alloc; Command::Snapshot(shape, tries)]?;
-    Ok(makes_one(commands))
-}
-
-/// Whether a value may be awaited, put and written, or none of these.
-fn is_value(alloc: Global, shape: DatabaseShape, value: Value, right: bool) -> Result<bool, Fail> {
-    let (awaits, puts) = (may_await(alloc, value)?, may_put(alloc, value)?);
-    let writes = may_write(alloc, shape, value)?;
-    Ok(awaits == right && puts == right && writes == right)
-}
-
-static NUMBERS_OF_TRIES: [(usize, bool); 4] = [(0, false), (1, true), (1000, true), (1001, false)];
 
 #[test]
 fn values_keep_their_bounds(rt: HostRuntime) -> Result<(), Fail> {
-    let (_, shape) = database()?;
-    for (value, is_one) in &VALUES {
-        assert!(rt; is_value(rt.alloc(), shape, *value, *is_one)?);
-    }
-    assert!(rt; !may_write_one(rt.alloc(), shape)?);
-    for (tries, is_one) in &NUMBERS_OF_TRIES {
-        assert!(rt;
-            may_try(rt.alloc(), shape, *tries)? == *is_one,
-            "at {tries}"
-        );
-    }
-    Ok(())
+    are_told(rt.alloc(), Ground::Database, &VALUES)
 }
 
-/// The common semaphore and the two that are taken, by their places among one, other and common, and whether that
-/// makes a program.
-static CHOICES: [([usize; 3], bool); 5] = [
-    ([2, 0, 1], true),
-    ([2, 0, 0], false),
-    ([2, 2, 1], false),
-    ([2, 0, 2], false),
-    ([0, 2, 1], false),
+static CHOICES: [Choice; 5] = [
+    (&[Order::DownBoth(2, 0, 1)], true),
+    (&[Order::DownBoth(2, 0, 0)], false),
+    (&[Order::DownBoth(2, 2, 1)], false),
+    (&[Order::DownBoth(2, 0, 2)], false),
+    (&[Order::DownBoth(0, 2, 1)], false),
 ];
-
-/// Whether semaphores at these places may be taken at once.
-fn may_take_both(
-    alloc: Global,
-    shapes: &[SemaphoreShape; 3],
-    places: &[usize; 3],
-) -> Result<bool, Fail> {
-    let [first, second, third] = *places;
-    let (Some(common), Some(one), Some(other)) = (
-        shapes.get(first),
-        shapes.get(second),
-        shapes.get(third),
-    ) else {
-        return Err(Fail::new("no such semaphore"));
-    };
-    let commands = vec![in alloc; Command::DownBoth(*common, *one, *other)]?;
-    Ok(makes_one(commands))
-}
 
 #[test]
 fn three_semaphores_are_different(rt: HostRuntime) -> Result<(), Fail> {
-    let (_, shapes) = three_semaphores(2)?;
-    for (places, is_one) in &CHOICES {
-        assert!(rt; may_take_both(rt.alloc(), &shapes, places)? == *is_one);
-    }
-    Ok(())
+    are_told(rt.alloc(), Ground::Semaphores(2), &CHOICES)
 }

@@ -5,12 +5,11 @@ use crate::drive::{
     History, Line, Sight, Step, World, act_of, declared, is_told, run_of, sees, shows,
 };
 use crate::histories::{
-    AWAIT_OF_ROUNDS, AWAIT_OF_ZERO, OVERTAKEN_READ, READ_OVERTAKEN_OFTEN, TOTAL_IN_THE_MIDDLE,
-    TWO_READS, many_advances,
+    AWAIT_OF_ROUNDS, AWAIT_OF_ZERO, MANY_ADVANCES, OVERTAKEN_READ, READ_OVERTAKEN_OFTEN,
+    TOTAL_IN_THE_MIDDLE, TWO_READS,
 };
 use crate::ids::{event, worker};
 use ec_core::{Refusal, Run, StepFault, VALUE_MAX, World as Worlds, without};
-use std::alloc::Global;
 use std::test::Fail;
 
 static AFTER_OVERTAKEN_READ: [Sight; 2] = [Sight::Length(4), Sight::Total(0, Some(2))];
@@ -56,6 +55,7 @@ const SIGNALLER_AND_OBSERVER: World = World {
 
 static BEGINS: History = History {
     world: SIGNALLER_AND_OBSERVER,
+    advances: 0,
     steps: &[(0, Advance(0), Done), (1, Await(0, 2), Pending)],
 };
 
@@ -63,6 +63,7 @@ static HALF_A_ROUND: [Sight; 1] = [Sight::UnderWay(1, Some((Await(0, 2), 1, 1)))
 
 static FALLS_SHORT: History = History {
     world: SIGNALLER_AND_OBSERVER,
+    advances: 0,
     steps: &[
         (0, Advance(0), Done),
         (1, Await(0, 2), Pending),
@@ -92,6 +93,7 @@ static UP_TO_THE_LIMIT: History = History {
         workers: 3,
         lines: &[Line::Event(&[0, 1], &[2])],
     },
+    advances: 0,
     steps: &[
         (0, Advance(0), Done),
         (0, Advance(0), Done),
@@ -114,6 +116,7 @@ static TICKETS: History = History {
         workers: 1,
         lines: &[Line::Sequencer(&[0])],
     },
+    advances: 0,
     steps: &[
         (0, Ticket(0), Number(0)),
         (0, Ticket(0), Number(1)),
@@ -128,34 +131,25 @@ fn tickets_up_to_the_limit(rt: HostRuntime) -> Result<(), Fail> {
     shows(rt.alloc(), &TICKETS, &ISSUED)
 }
 
-static AFTER_FIFTEEN: [Sight; 2] = [Sight::Length(31), Sight::Total(0, Some(15))];
-
-/// Whether a copy of a run has its entries, of which there are at most so many.
-fn is_copied(run: &Run, most: usize) -> Result<bool, Fail> {
-    let copy = run.copy()?;
-    for place in 0..=most {
-        if copy.entry(place) != run.entry(place) {
-            return Ok(false);
-        }
-    }
-    Ok(copy.len() == run.len())
-}
+static AFTER_FIFTEEN: [Sight; 3] = [
+    Sight::Length(31),
+    Sight::Total(0, Some(15)),
+    Sight::Copied(31),
+];
 
 #[test]
 fn a_read_of_sixteen_components_overtaken_fifteen_times(rt: HostRuntime) -> Result<(), Fail> {
-    let run = run_of(rt.alloc(), &READ_OVERTAKEN_OFTEN)?;
-    sees(&run, &AFTER_FIFTEEN)?;
-    assert!(rt; is_copied(&run, 31)?);
-    Ok(())
+    shows(rt.alloc(), &READ_OVERTAKEN_OFTEN, &AFTER_FIFTEEN)
 }
 
-/// A run without the third worker, which is silent, while the first is not.
-fn without_the_third(run: &Run) -> Result<Run, Fail> {
+/// All of this is seen of a run without the third worker, which is silent, while the first is not.
+fn shows_without_the_third(run: &Run, sights: &[Sight]) -> Result<(), Fail> {
     let (loud, silent) = (worker(0), worker(2));
     if run.setup().is_silent(loud) || !run.setup().is_silent(silent) {
         return Err(Fail::new("another worker is silent"));
     }
-    Ok(without(run, &[silent])?)
+    let rest = without(run, &[silent])?;
+    sees(&rest, sights)
 }
 
 static TWO_ADVANCES: [Sight; 3] = [
@@ -167,27 +161,20 @@ static TWO_ADVANCES: [Sight; 3] = [
 #[test]
 fn an_overtaken_read_without_its_reader_is_two_advances(rt: HostRuntime) -> Result<(), Fail> {
     let run = run_of(rt.alloc(), &OVERTAKEN_READ)?;
-    let rest = without_the_third(&run)?;
-    sees(&rest, &TWO_ADVANCES)
+    shows_without_the_third(&run, &TWO_ADVANCES)
 }
 
-static MANY_ENTRIES: [Sight; 4] = [
+static MANY_ENTRIES: [Sight; 5] = [
     Sight::Length(8194),
+    Sight::Entries(8194),
     Sight::Entry(4095, Some((0, Advance(0), Done))),
     Sight::Entry(4096, Some((0, Advance(0), Done))),
     Sight::Entry(8192, Some((0, Advance(0), Done))),
 ];
 
-/// How many entries are gone through.
-fn entries_of(run: &Run) -> usize {
-    run.entries().count()
-}
-
 #[test]
 fn eight_thousand_advances_and_a_read(rt: HostRuntime) -> Result<(), Fail> {
-    let run = many_advances(rt.alloc())?;
-    assert!(rt; entries_of(&run) == 8194);
-    sees(&run, &MANY_ENTRIES)
+    shows(rt.alloc(), &MANY_ADVANCES, &MANY_ENTRIES)
 }
 
 /// One worker writes and reads a cell.
@@ -197,6 +184,7 @@ static PUTS: History = History {
         workers: 1,
         lines: &[Line::Cells(1, &[0], &[0])],
     },
+    advances: 0,
     steps: &[
         (0, Put(0, 7), Done),
         (
@@ -224,6 +212,7 @@ static IDLE_AND_BUSY: History = History {
         workers: 3,
         lines: &[Line::Event(&[0, 1], &[2])],
     },
+    advances: 0,
     steps: &[
         (2, Go, Refused(Refusal::Idle)),
         (2, Read(0), Pending),
@@ -249,6 +238,7 @@ const ONE_AND_ONE: World = World {
 
 static NOT_PERMITTED: History = History {
     world: ONE_AND_ONE,
+    advances: 0,
     steps: &[
         (2, Advance(0), Refused(Refusal::UnknownWorker)),
         (0, Advance(1), Refused(Refusal::UnknownObject)),
@@ -274,6 +264,7 @@ fn what_is_not_declared_or_not_permitted(rt: HostRuntime) -> Result<(), Fail> {
 
 static NO_STEPS: History = History {
     world: ONE_AND_ONE,
+    advances: 0,
     steps: &[],
 };
 
@@ -315,8 +306,8 @@ fn answers(world: &Worlds, step: &Step) -> bool {
 }
 
 /// A world without steps.
-fn opened(alloc: Global, world: &World) -> Result<Worlds, Fail> {
-    Ok(Worlds::open(declared(alloc, world)?))
+fn opened(world: &World) -> Result<Worlds, Fail> {
+    Ok(Worlds::open(declared(world)?))
 }
 
 static ONE_ADVANCE: Step = (0, Advance(0), Done);
@@ -328,7 +319,7 @@ static AFTER_ONE_ADVANCE: [Step; 2] = [
 
 #[test]
 fn a_world_alone(rt: HostRuntime) -> Result<(), Fail> {
-    let mut world = opened(rt.alloc(), &LIMIT_OF_ONE)?;
+    let mut world = opened(&LIMIT_OF_ONE)?;
     assert!(rt; answers(&world, &ONE_ADVANCE));
     assert!(rt; world.total(event(0)) == Some(0));
     assert!(rt; steps(&mut world, &ONE_ADVANCE));

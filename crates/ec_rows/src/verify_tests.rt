@@ -1,11 +1,11 @@
 //! What is first wrong with an order.
 use crate::drive::Ask::{Advance, Await, Read};
-use crate::drive::{Ask, History, act_of, run_of};
+use crate::drive::{Ask, History, act_of, right, run_of};
 use crate::histories::{AWAIT_OF_ROUNDS, OVERTAKEN_READ};
 use crate::ids::worker;
-use crate::order_tests::ordered;
+use crate::order_tests::{self, is_judged};
 use ec_core::{Reply, Run};
-use ec_order::{Call, Placed, Verdict, verify};
+use ec_order::{Call, Placed, Verdict};
 use std::alloc::Global;
 use std::test::Fail;
 
@@ -27,30 +27,22 @@ fn placed(row: &Row) -> Placed {
     Placed { call, point }
 }
 
-/// What is said of an order.
-pub(crate) fn judged(alloc: Global, run: &Run, placed: &[Placed]) -> Result<Verdict, Fail> {
-    match verify(alloc, run, placed) {
-        Ok(verdict) => Ok(verdict),
-        Err(_) => Err(Fail::new("no verdict")),
-    }
-}
-
-/// What is said of an order of these rows.
-fn verdict(alloc: Global, run: &Run, rows: &[Row]) -> Result<Verdict, Fail> {
+/// Whether this is said of an order of these rows.
+fn is_verdict(alloc: Global, run: &Run, rows: &[Row], right: Verdict) -> bool {
     let mut list = Vec::new(alloc);
     for row in rows {
-        list.push(placed(row))?;
+        if list.push(placed(row)).is_err() {
+            return false;
+        }
     }
-    judged(alloc, run, list.as_slice())
+    is_judged(alloc, run, list.as_slice(), right)
 }
 
 /// Of orders of the run of a history is said what their rows say.
 fn are_judged(alloc: Global, history: &History, cases: &[(&[Row], Verdict)]) -> Result<(), Fail> {
     let run = run_of(alloc, history)?;
-    for (place, (rows, right)) in cases.iter().enumerate() {
-        if verdict(alloc, &run, rows)? != *right {
-            return Err(Fail::new(format_args!("another verdict at row {place}")));
-        }
+    for (place, (rows, verdict)) in cases.iter().enumerate() {
+        right(place, is_verdict(alloc, &run, rows, *verdict))?;
     }
     Ok(())
 }
@@ -70,16 +62,11 @@ const EARLY_AWAIT: Row = (2, Await(0, 2), Reply::Number(2), 0, 4, 5, 3);
 
 static GOOD: [(&[Row], Verdict); 1] = [(&[FIRST, OVERTAKEN, SECOND], Verdict::Good)];
 
-/// Whether the order of the run of a history is good.
-fn has_good_order(alloc: Global, history: &History) -> Result<bool, Fail> {
-    let run = run_of(alloc, history)?;
-    let list = ordered(alloc, &run)?;
-    Ok(judged(alloc, &run, list.as_slice())? == Verdict::Good)
-}
+static FOUND_GOOD: [order_tests::Row; 1] = [order_tests::Row::Good];
 
 #[test]
 fn an_order_with_points_is_good(rt: HostRuntime) -> Result<(), Fail> {
-    assert!(rt; has_good_order(rt.alloc(), &OVERTAKEN_READ)?);
+    order_tests::shows(rt.alloc(), &OVERTAKEN_READ, &FOUND_GOOD)?;
     are_judged(rt.alloc(), &OVERTAKEN_READ, &GOOD)
 }
 
