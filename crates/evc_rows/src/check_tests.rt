@@ -2,14 +2,14 @@
 use crate::broken_texts::{BROKEN, TWO_SPACES};
 use crate::fakes::{Endless, Pieces};
 use crate::outcome::{Ending, Row, all_end, ends};
-use crate::texts::{OVERTAKEN_READ, WORKED};
+use crate::texts::{OVERTAKEN_READ, worked};
 use evc_engine::Status;
-use std::alloc::Global;
+use std::alloc::{AllocError, Global};
 use std::test::Fail;
 
 #[test]
 fn worked_traces_have_their_order_and_totals(rt: HostRuntime) -> Result<(), Fail> {
-    all_end(rt.alloc(), &WORKED)
+    all_end(rt.alloc(), worked())
 }
 
 #[test]
@@ -40,7 +40,7 @@ static PIECES: [usize; 4] = [1, 2, 3, 5];
 #[test]
 fn pieces_change_nothing(rt: HostRuntime) -> Result<(), Fail> {
     for most in &PIECES {
-        all_end_in_pieces(rt.alloc(), &WORKED, *most)?;
+        all_end_in_pieces(rt.alloc(), worked(), *most)?;
         all_end_in_pieces(rt.alloc(), &BROKEN, *most)?;
     }
     Ok(())
@@ -60,12 +60,18 @@ fn a_cut_trace_is_unfinished(rt: HostRuntime) {
     }
 }
 
-/// A text with so many bytes of one kind behind it.
-fn filled(alloc: Global, text: &str, byte: u8, n: usize) -> Result<Vec<u8>, Fail> {
-    let mut bytes = Vec::from_slice(alloc, text.as_bytes())?;
+/// Adds so many bytes of one kind.
+fn fill(bytes: &mut Vec<u8>, byte: u8, n: usize) -> Result<(), AllocError> {
     for _ in 0..n {
         bytes.push(byte)?;
     }
+    Ok(())
+}
+
+/// A text with so many bytes of one kind behind it.
+fn filled(alloc: Global, text: &str, byte: u8, n: usize) -> Result<Vec<u8>, AllocError> {
+    let mut bytes = Vec::from_slice(alloc, text.as_bytes())?;
+    fill(&mut bytes, byte, n)?;
     Ok(bytes)
 }
 
@@ -100,7 +106,7 @@ fn nothing_is_read_long_after_a_broken_line(rt: HostRuntime) -> Result<(), Fail>
 }
 
 /// Three lines of a trace, and so many bytes of a fourth.
-fn long_line(alloc: Global, n: usize) -> Result<Vec<u8>, Fail> {
+fn long_line(alloc: Global, n: usize) -> Result<Vec<u8>, AllocError> {
     filled(alloc, "evc-trace 1\nlimit 10\nworkers a c\n", b'x', n)
 }
 

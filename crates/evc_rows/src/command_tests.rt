@@ -182,11 +182,15 @@ fn each_fault_of_a_run(rt: HostRuntime) -> Result<(), Fail> {
     all_faults(&rt, rt.alloc(), &RUN_OF_TICKETS)
 }
 
+/// Whether the workers of a text, on threads, come to an end with these notes.
+fn run_ends<H: Threads + Wait + Sync>(rt: &H, alloc: Global, text: &str, right: &[u8]) -> bool {
+    let mut out = Vec::new(alloc);
+    let (status, notes) = commanded_into(rt, alloc, Command::Run, &mut text.as_bytes(), &mut out);
+    status == Status::Done && notes.as_slice() == right
+}
+
 #[test]
 fn the_run_of_the_script_of_tickets_finishes(rt: HostRuntime) {
-    let mut reader = RUN_OF_TICKETS.text.as_bytes();
-    let mut out = Vec::new(rt.alloc());
-    let (status, notes) = commanded_into(&rt, rt.alloc(), Command::Run, &mut reader, &mut out);
-    assert_eq!(rt; status, Status::Done);
-    assert!(rt; notes.as_slice() == b"outcome a finished\noutcome b finished\n".as_slice());
+    let notes = b"outcome a finished\noutcome b finished\n".as_slice();
+    assert!(rt; run_ends(&rt, rt.alloc(), RUN_OF_TICKETS.text, notes));
 }

@@ -59,8 +59,8 @@ fn a_broken_line_before_a_failed_read(rt: HostRuntime) {
 }
 
 /// Whether `check` of a text tells that a write failed, where the writer then has these bytes.
-fn fails_behind(alloc: Global, text: &str, mut out: Fickle, bytes: &[u8]) -> bool {
-    let (status, notes) = checked_into(alloc, &mut text.as_bytes(), &mut out);
+fn fails_behind(alloc: Global, text: &str, out: &mut Fickle, bytes: &[u8]) -> bool {
+    let (status, notes) = checked_into(alloc, &mut text.as_bytes(), out);
     status == Status::InputOutput
         && out.bytes.as_slice() == bytes
         && notes.as_slice() == b"write fault\n".as_slice()
@@ -68,16 +68,16 @@ fn fails_behind(alloc: Global, text: &str, mut out: Fickle, bytes: &[u8]) -> boo
 
 #[test]
 fn a_writer_that_takes_5_bytes_and_fails(rt: HostRuntime) {
-    let out = Fickle::new(rt.alloc(), 5, Trouble::Fails, 1);
-    assert!(rt; fails_behind(rt.alloc(), THREE_ADVANCES, out, b"evc-o".as_slice()));
+    let mut out = Fickle::new(rt.alloc(), 5, Trouble::Fails, 1);
+    assert!(rt; fails_behind(rt.alloc(), THREE_ADVANCES, &mut out, b"evc-o".as_slice()));
 }
 
 /// Whether a write fails so that the writer has what it took by so many writes of so many bytes.
 fn fails_at_write(alloc: Global, trouble: Trouble, most: usize, k: usize) -> bool {
     let right = OVERTAKEN_READ_ORDER.as_bytes();
     let given = k.saturating_mul(most).min(right.len());
-    let out = Fickle::new(alloc, most, trouble, k);
-    fails_behind(alloc, OVERTAKEN_READ, out, &right[..given])
+    let mut out = Fickle::new(alloc, most, trouble, k);
+    fails_behind(alloc, OVERTAKEN_READ, &mut out, &right[..given])
 }
 
 /// Each write of so many bytes is told where it fails.
@@ -118,24 +118,16 @@ fn a_writer_that_takes_little(rt: HostRuntime) {
     }
 }
 
-/// What a writer of notes that fails at a write has of the notes, where the trace is refused and nothing is written.
-fn notes_before(alloc: Global, text: &str, at: usize) -> Option<Vec<u8>> {
+/// Whether a trace is refused and nothing is written, where a writer of notes fails at a write and has these bytes.
+fn notes_end_behind(alloc: Global, text: &str, at: usize, bytes: &[u8]) -> bool {
     let mut out = Vec::<u8>::new(alloc);
     let mut notes = Notes::new(Fickle::new(alloc, 1, Trouble::Fails, at));
     let status = check(alloc, &mut text.as_bytes(), &mut out, &mut notes);
-    if status == Status::Refused && out.is_empty() {
-        Some(notes.writer.bytes)
-    } else {
-        None
-    }
+    status == Status::Refused && out.is_empty() && notes.writer.bytes.as_slice() == bytes
 }
 
 #[test]
-fn notes_that_cannot_be_written_are_not_told(rt: HostRuntime) -> Result<(), Fail> {
+fn notes_that_cannot_be_written_are_not_told(rt: HostRuntime) {
     let (text, _) = IDLE;
-    let Some(told) = notes_before(rt.alloc(), text, 4) else {
-        return Err(Fail::new("another ending"));
-    };
-    assert!(rt; told.as_slice() == b"line".as_slice());
-    Ok(())
+    assert!(rt; notes_end_behind(rt.alloc(), text, 4, b"line".as_slice()));
 }

@@ -201,25 +201,47 @@ fn is_right(alloc: Global, heading: &mut Heading, row: &Row) -> Result<bool, Fai
     }
 }
 
-/// A heading with limit 10 that has taken these lines.
-fn opened(alloc: Global, lines: &[&str]) -> Result<Heading, Fail> {
-    let limit = Limit::new(10).ok_or("no limit")?;
-    let mut heading = Heading::new(alloc, limit)?;
-    for line in lines {
-        if heading.line(line.as_bytes()) != Ok(()) {
-            return Err(Fail::new(format_args!("refused: {line}")));
-        }
-    }
-    Ok(heading)
+/// A heading with this limit that has taken no line.
+pub(crate) fn empty_heading(alloc: Global, limit: u64) -> Option<Heading> {
+    let limit = Limit::new(limit)?;
+    Heading::new(alloc, limit).ok()
 }
 
-/// The rows, one after another on a heading with limit 10 that has taken these lines, are right.
-pub(crate) fn shows(alloc: Global, lines: &[&str], rows: &[Row]) -> Result<(), Fail> {
-    let mut heading = opened(alloc, lines)?;
+/// The lines are accepted, one after another.
+pub(crate) fn takes_all(heading: &mut Heading, lines: &[&str]) -> Result<(), Fail> {
+    for (place, line) in lines.iter().enumerate() {
+        if heading.line(line.as_bytes()) != Ok(()) {
+            return Err(Fail::new(format_args!("refused: line {place}")));
+        }
+    }
+    Ok(())
+}
+
+/// The rows, one after another, are right.
+fn all_right(alloc: Global, heading: &mut Heading, rows: &[Row]) -> Result<(), Fail> {
     for (place, row) in rows.iter().enumerate() {
-        if !is_right(alloc, &mut heading, row)? {
+        if !is_right(alloc, heading, row)? {
             return Err(Fail::new(format_args!("another answer at row {place}")));
         }
     }
     Ok(())
+}
+
+/// The lines are accepted, and the rows behind them are right.
+fn shows_on(
+    alloc: Global,
+    heading: &mut Heading,
+    lines: &[&str],
+    rows: &[Row],
+) -> Result<(), Fail> {
+    takes_all(heading, lines)?;
+    all_right(alloc, heading, rows)
+}
+
+/// The rows, one after another on a heading with limit 10 that has taken these lines, are right.
+pub(crate) fn shows(alloc: Global, lines: &[&str], rows: &[Row]) -> Result<(), Fail> {
+    match empty_heading(alloc, 10) {
+        Some(mut heading) => shows_on(alloc, &mut heading, lines, rows),
+        None => Err(Fail::new("no heading")),
+    }
 }

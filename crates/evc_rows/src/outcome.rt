@@ -1,6 +1,6 @@
 //! Texts with how `check` ends on them, as tables.
 use evc_engine::{Notes, Status, check};
-use std::alloc::Global;
+use std::alloc::{AllocError, Global};
 use std::io::{Read, Write};
 use std::test::Fail;
 
@@ -79,12 +79,17 @@ pub(crate) struct Frame {
     pub(crate) tail: &'static str,
 }
 
-/// The text of a line in its frame.
-fn framed(alloc: Global, frame: &Frame, line: &str) -> Result<Vec<u8>, Fail> {
-    let mut text = Vec::new(alloc);
+/// Adds a line in its frame to a text.
+fn add_framed(text: &mut Vec<u8>, frame: &Frame, line: &str) -> Result<(), AllocError> {
     text.extend_from_slice(frame.head.as_bytes())?;
     text.extend_from_slice(line.as_bytes())?;
-    text.extend_from_slice(frame.tail.as_bytes())?;
+    text.extend_from_slice(frame.tail.as_bytes())
+}
+
+/// The text of a line in its frame.
+fn framed(alloc: Global, frame: &Frame, line: &str) -> Result<Vec<u8>, AllocError> {
+    let mut text = Vec::new(alloc);
+    add_framed(&mut text, frame, line)?;
     Ok(text)
 }
 

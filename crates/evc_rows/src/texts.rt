@@ -308,7 +308,7 @@ end
 ";
 
 /// Each worked trace, and the text that `check` writes for it.
-pub(crate) static WORKED: [Row; 12] = [
+static WORKED: [Row; 12] = [
     (EMPTY, Ending::Done(EMPTY_ORDER)),
     (THREE_ADVANCES, Ending::Done(THREE_ADVANCES_ORDER)),
     (OVERTAKEN_READ, Ending::Done(OVERTAKEN_READ_ORDER)),
@@ -322,3 +322,8 @@ pub(crate) static WORKED: [Row; 12] = [
     (TWO_STUCK, Ending::Done(TWO_STUCK_ORDER)),
     (OVERTAKEN_OFTEN, Ending::Done(OVERTAKEN_OFTEN_ORDER)),
 ];
+
+/// The rows of the worked traces. Only this function names the table, which is read into the proof of each that does.
+pub(crate) fn worked() -> &'static [Row] {
+    &WORKED
+}

@@ -1,11 +1,12 @@
 //! Traces and entries as they are written.
 use crate::fakes::{Fickle, Trouble};
+use crate::headings::{empty_heading, takes_all};
 use crate::ids::{event, worker};
 use crate::outcome::checked_into;
-use crate::texts::{OVERTAKEN_READ, WORKED};
+use crate::texts::{OVERTAKEN_READ, worked};
 use crate::written::{all_are_written_again, read};
 use ec_core::{Act, Entry, Reply, Run};
-use ec_count::{Limit, Setup};
+use ec_count::Setup;
 use ec_text::WriteFault;
 use ec_trace::{Heading, Traced, write_entry, write_trace};
 use evc_engine::Status;
@@ -14,28 +15,25 @@ use std::test::Fail;
 
 #[test]
 fn traces_that_were_read_are_written_again(rt: HostRuntime) -> Result<(), Fail> {
-    for (text, _) in &WORKED {
+    for (text, _) in worked() {
         all_are_written_again(rt.alloc(), &[*text])?;
     }
     Ok(())
 }
 
-/// A heading with these lines.
-fn heading(alloc: Global, limit: u64, lines: &[&str]) -> Result<Heading, Fail> {
-    let mut heading = Heading::new(alloc, Limit::new(limit).ok_or("no limit")?)?;
-    for line in lines {
-        heading.line(line.as_bytes())?;
-    }
-    Ok(heading)
-}
-
-/// One worker's 8193 advances, and its read.
-fn many_advances(alloc: Global, setup: Setup) -> Result<Run, Fail> {
-    let mut run = Run::open(alloc, setup)?;
+/// Makes one worker's 8193 advances, and its read.
+fn make_advances(run: &mut Run) -> Result<(), Fail> {
     for _ in 0..8193 {
         run.step(worker(0), Act::Advance(event(0)))?;
     }
     run.step(worker(0), Act::Read(event(0)))?;
+    Ok(())
+}
+
+/// The run of those advances and that read.
+fn many_advances(alloc: Global, setup: Setup) -> Result<Run, Fail> {
+    let mut run = Run::open(alloc, setup)?;
+    make_advances(&mut run)?;
     Ok(run)
 }
 
@@ -51,22 +49,26 @@ fn written_under(alloc: Global, run: &Run, heading: &Heading) -> Result<Vec<u8>,
 
 static ONE_WORKER: [&str; 2] = ["workers a", "eventcount E signal a observe a"];
 
-/// The trace of those advances and that read.
-fn advances_written(alloc: Global) -> Result<Vec<u8>, Fail> {
-    let heading = heading(alloc, 20_000, &ONE_WORKER)?;
+/// The trace of those advances and that read, under a heading that takes the lines of their worker.
+fn advances_under(alloc: Global, heading: &mut Heading) -> Result<Vec<u8>, Fail> {
+    takes_all(heading, &ONE_WORKER)?;
     let run = many_advances(alloc, heading.setup().copy())?;
-    written_under(alloc, &run, &heading)
+    written_under(alloc, &run, heading)
 }
 
-/// What `check` writes for a text that is a trace.
-fn order_of(alloc: Global, text: &[u8]) -> Result<Vec<u8>, Fail> {
+/// The same, under a new heading.
+fn advances_written(alloc: Global) -> Result<Vec<u8>, Fail> {
+    match empty_heading(alloc, 20_000) {
+        Some(mut heading) => advances_under(alloc, &mut heading),
+        None => Err(Fail::new("no heading")),
+    }
+}
+
+/// Whether `check` takes a text, and what it writes ends so.
+fn has_order_to(alloc: Global, text: &[u8], end: &[u8]) -> bool {
     let mut out = Vec::new(alloc);
     let (status, _) = checked_into(alloc, &mut &text[..], &mut out);
-    if status == Status::Done {
-        Ok(out)
-    } else {
-        Err(Fail::new("no order"))
-    }
+    status == Status::Done && out.ends_with(end)
 }
 
 #[test]
@@ -75,10 +77,9 @@ fn eight_thousand_advances_are_written_and_checked(rt: HostRuntime) -> Result<()
     let head =
         b"evc-trace 1\nlimit 20000\nworkers a\neventcount E signal a observe a\nrun\n".as_slice();
     assert!(rt; text.starts_with(head));
-    let order = order_of(rt.alloc(), text.as_slice())?;
     let end =
         b"\n8192 a advance E = done\n8193 a read E = 8193\ntotals\neventcount E 8193\nend\n".as_slice();
-    assert!(rt; order.ends_with(end));
+    assert!(rt; has_order_to(rt.alloc(), text.as_slice(), end));
     Ok(())
 }
 
@@ -91,15 +92,28 @@ fn line_of(alloc: Global, entry: &Entry, heading: &Heading) -> Result<Vec<u8>, F
     Ok(out)
 }
 
+/// The same, under a heading that takes the lines of two workers.
+fn line_under(alloc: Global, entry: &Entry, heading: &mut Heading) -> Result<Vec<u8>, Fail> {
+    takes_all(heading, &TWO_WORKERS)?;
+    line_of(alloc, entry, heading)
+}
+
+/// The same, under a new heading.
+fn line_written(alloc: Global, entry: &Entry) -> Result<Vec<u8>, Fail> {
+    match empty_heading(alloc, 10) {
+        Some(mut heading) => line_under(alloc, entry, &mut heading),
+        None => Err(Fail::new("no heading")),
+    }
+}
+
 #[test]
 fn an_entry_is_written_without_line_feed(rt: HostRuntime) -> Result<(), Fail> {
-    let heading = heading(rt.alloc(), 10, &TWO_WORKERS)?;
     let entry = Entry {
         worker: worker(1),
         act: Act::Go,
         reply: Reply::Number(1),
     };
-    let line = line_of(rt.alloc(), &entry, &heading)?;
+    let line = line_written(rt.alloc(), &entry)?;
     assert!(rt; line.as_slice() == b"c go = 1".as_slice());
     Ok(())
 }
