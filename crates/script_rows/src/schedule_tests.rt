@@ -1,17 +1,16 @@
 //! Schedules of worked scripts, played.
-ghost use Rattle.std.specs.Prelude.{◌<◌, IsTrue};
-ghost use Rattle.std.specs.List.{All};
+ghost use Rattle.ec_script.specs.Confined.{IsPlan};
+ghost use Rattle.ec_script.specs.Outcome.{shown_plan};
 
-use crate::drive::{A_ADVANCES, C_WAITS, Script, plan_of, text_of};
+use crate::drive::{A_ADVANCES, C_WAITS, Script, text_of};
 use crate::ids::{cell, event, sequencer};
 use crate::schedule_tests::Ask::{Advance, Await, Get, Go, Put, Read, Ticket};
 use ec_core::Reply::{Done, Number, Pending};
 use ec_core::{Act, Entry, Refusal, Reply, Run};
-use ec_count::WorkerId;
 use ec_machine::Outcome;
 use ec_machine::Outcome::{Finished, Running, ValueTooLarge};
 use ec_runner::{Report, SimFault, simulate};
-use ec_script::Plan;
+use ec_script::{Plan, parse};
 use std::alloc::Global;
 use std::test::Fail;
 
@@ -88,20 +87,11 @@ fn steps_of(steps: &[Step], worker: usize) -> usize {
     n
 }
 
-/// Whether all of these workers are among the first so many.
-fn are_among(schedule: &[WorkerId], workers: usize) -> bool
-    ensures { IsTrue result → All (λ w. w < workers) schedule.now }
-{
-    schedule.iter().all(|worker| worker.get() < workers)
-}
-
 /// What comes of a plan.
-fn played(alloc: Global, plan: &Plan) -> Result<Result<Report, SimFault>, Fail> {
-    let workers = plan.heading.setup().workers();
-    if plan.programs.len() != workers || !are_among(plan.schedule.as_slice(), workers) {
-        return Err(Fail::from("no plan of its workers"));
-    }
-    Ok(simulate(alloc, plan))
+fn played(alloc: Global, plan: &Plan) -> Result<Report, SimFault>
+    requires { IsPlan (shown_plan plan.now) }
+{
+    simulate(alloc, plan)
 }
 
 /// What comes of a script.
@@ -140,12 +130,18 @@ fn comes(came: &Result<Report, SimFault>, right: &Outcomes) -> bool {
     }
 }
 
-/// This comes of a script.
+/// Whether this comes of a text.
+fn comes_of(alloc: Global, text: &[u8], right: &Outcomes) -> bool {
+    match parse(alloc, text) {
+        Ok(plan) => comes(&played(alloc, &plan), right),
+        Err(_) => false,
+    }
+}
+
+/// Whether this comes of a script.
 fn shows(alloc: Global, script: Script, right: &Outcomes) -> Result<bool, Fail> {
     let text = text_of(alloc, script)?;
-    let plan = plan_of(alloc, text.as_slice())?;
-    let came = played(alloc, &plan)?;
-    Ok(comes(&came, right))
+    Ok(comes_of(alloc, text.as_slice(), right))
 }
 
 /// A script, and what comes of it.
