@@ -1,1 +1,0 @@
-run --turns 1

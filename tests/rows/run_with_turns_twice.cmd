@@ -1,1 +1,0 @@
-run --turns 5 --turns 6
