@@ -14,7 +14,7 @@ use Rattle.ec_order.specs.declared.call.Call.{Call}
 use Rattle.ec_order.specs.Calls.{finished_calls, is_reading}
 use Rattle.ec_order.specs.Orders.{calls_in}
 use Rattle.ec_order.specs.Points.{first_entries, point_of, ordered_by_points, IsLeastMoment}
-use Rattle.ec_order.specs.Laws.{StoodBetween, PointsExist, EveryAcceptedHistoryHasAnOrder}
+use Rattle.ec_order.specs.Laws.{StoodBetween, PointsExist, OrderByPointsIsGood, EveryAcceptedHistoryHasAnOrder}
 use Rattle.ec_order.proofs.Points.{first_of_past}
 use Rattle.ec_order.proofs.Reaching.{first_all}
 use Rattle.ec_order.proofs.Fits.{Fits, all_fit, has_point, acts_there, point_least}
@@ -62,9 +62,13 @@ stood_between h c f r =
     let low : c.round ≤ point_of (reverse h) c = m.low in
     record { moment = point_of (reverse h) c; from_first = omega arith; to_last = m.high; total_is = m.total_is }
 
+pub order_by_points : OrderByPointsIsGood
+order_by_points t h d acc = order_good t (reverse h) d acc
+
 pub every_history : EveryAcceptedHistoryHasAnOrder
 every_history t h d acc = record {
   order = calls_in (ordered_by_points t (reverse h));
+  by_points = refl;
   legal = (order_good t (reverse h) d acc).legal;
   stood = λ c known r. stood_between h c (fits_known t h c d acc known) r;
 }

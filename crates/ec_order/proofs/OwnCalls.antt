@@ -11,7 +11,7 @@ use Rattle.ec_core.specs.declared.act.Reply.{Reply}
 use Rattle.ec_core.specs.declared.act.Entry.{Entry}
 use Rattle.ec_core.specs.Acceptance.{IsAccepted}
 use Rattle.ec_core.specs.Calls.{CallSoFar, under_way, gone_on, is_go, is_pending}
-use Rattle.ec_core.specs.Following.{Told, opened}
+use Rattle.ec_core.specs.Following.{opened}
 use Rattle.ec_core.specs.JoinedLists.{finished_by}
 use Rattle.ec_core.proofs.Answering.{allowed}
 use Rattle.ec_core.proofs.FittingCalls.{finished_other, finished_same, finished_more}

@@ -12,8 +12,9 @@ use Rattle.ec_core.specs.JoinedLists.{finished_by}
 use Rattle.ec_order.specs.declared.call.Call.{Call}
 use Rattle.ec_order.specs.Calls.{finished_calls, is_reading, number_of}
 use Rattle.ec_order.specs.Cuts.{IsFinishedCall}
-use Rattle.ec_order.specs.Orders.{IsLegalOrder}
-use Rattle.ec_order.specs.Points.{IsPoint, point_of}
+use Rattle.ec_order.specs.Orders.{IsLegalOrder, calls_in}
+use Rattle.ec_order.specs.Points.{IsPoint, point_of, ordered_by_points}
+use Rattle.ec_order.specs.Verdicts.{IsGood}
 
 -- the finished calls are exactly the calls that the worker's entries are cut into, in order of their last entries
 pub record AreFinishedCalls (t : Tables) (h : List Entry) (cs : List Call) : Type 0 where
@@ -49,13 +50,18 @@ pub record StoodBetween (h : List Entry) (c : Call) : Type 0 where
   pub to_last : moment ≤ c.last
   pub total_is : total (event_or c.op) (past_at moment h) ≡ number_of c.reply
 
+-- the order by points is a legal order of the finished calls, in which each stands with its point
+abbrev pub OrderByPointsIsGood : Type 0
+OrderByPointsIsGood = (t : Tables) (h : List Entry) → IsDeclared t → IsAccepted t (reverse h) → IsGood t (reverse h) (ordered_by_points t (reverse h))
+
 -- a list of the finished calls, each once, that keeps every finished-before pair and is a run of the sequential
--- object; and for every finished read or await a moment at which the total was its answer
+-- object: the one by points; and for every finished read or await a moment at which the total was its answer
 pub record HasAnOrder (t : Tables) (h : List Entry) : Type 0 where
   pub order : List Call
+  pub by_points : order ≡ calls_in (ordered_by_points t (reverse h))
   pub legal : IsLegalOrder t (reverse h) order
   pub stood : (c : Call) → Contains (finished_calls t (reverse h)) c → is_reading c.op ≡ true → StoodBetween h c
 
--- the headline: whatever the interleaving, every accepted history has an order
+-- the headline: whatever the interleaving, every accepted history has an order, the one by points
 abbrev pub EveryAcceptedHistoryHasAnOrder : Type 0
 EveryAcceptedHistoryHasAnOrder = (t : Tables) (h : List Entry) → IsDeclared t → IsAccepted t (reverse h) → HasAnOrder t h

@@ -1,5 +1,5 @@
 //! Laws of every accepted history, each the contract of a function that does nothing.
-ghost use Rattle.ec_order.specs.Laws.{CallsAreCutInOrder, ProtocolsSpeakOfTheseCalls, PointsExist, EveryAcceptedHistoryHasAnOrder};
+ghost use Rattle.ec_order.specs.Laws.{CallsAreCutInOrder, ProtocolsSpeakOfTheseCalls, PointsExist, OrderByPointsIsGood, EveryAcceptedHistoryHasAnOrder};
 
 /// The finished calls are exactly what the workers' entries are cut into: each begins with an act that is no go, goes on
 /// with its worker's goes, and ends with the first reply that is not Pending. They go by their last entries.
@@ -19,8 +19,15 @@ pub fn points_exist()
     ensures { PointsExist }
 {}
 
+/// The order by points of every accepted history is a legal order of its finished calls, and each call stands in it
+/// with its point.
+pub fn order_by_points_is_good()
+    ensures { OrderByPointsIsGood }
+{}
+
 /// The finished calls of every accepted history stand in an order that keeps every finished-before pair and is a run
-/// of the sequential object, and each finished read's total stood at a moment between its first and last steps.
+/// of the sequential object: the order by points. And each finished read's total stood at a moment between its first
+/// and last steps.
 pub fn every_accepted_history_has_an_order()
     ensures { EveryAcceptedHistoryHasAnOrder }
 {}

@@ -3,6 +3,7 @@ ghost use Rattle.std.specs.Prelude.{◌≡◌, ◌≤◌, ◌<◌, ◌+◌, ◌�
 ghost use Rattle.std.specs.Option.{option_to_list};
 ghost use Rattle.ec_core.specs.declared.act.Entry.{Entry};
 ghost use Rattle.ec_order.specs.Points.{ordered_by_points};
+ghost use Rattle.ec_order.specs.Verdicts.{IsGood};
 ghost use Rattle.ec_order.specs.Walk.{own_calls, readings_by_points};
 
 use crate::gather::{is_alone, readings_by_points};
@@ -93,10 +94,12 @@ impl<'a> Iterator for InOrder<'a> {
     }
 }
 
-/// The finished calls of a run by their points, as `order` lists them, one after another. It wants memory for the reads
-/// and awaits alone. The run is as before, with want of memory too.
+/// The finished calls of a run by their points, as `order` lists them, one after another: a legal order of them, whatever
+/// the run. It wants memory for the reads and awaits alone. The run is as before, with want of memory too.
 pub fn in_order(alloc: Global, run: &Run) -> Result<InOrder<'_>, OrderFault>
-    ensures { IfOk result (λ calls. calls ≡ ordered_by_points run.now.setup (reverse run.now.entries)) }
+    ensures value { IfOk result (λ calls.
+        calls ≡ ordered_by_points run.now.setup (reverse run.now.entries)) }
+    ensures good { IfOk result (λ calls. IsGood run.now.setup (reverse run.now.entries) calls) }
 {
     run.known();
     let readings = readings_by_points(alloc, run)?;
