@@ -1,7 +1,10 @@
 -- What `check` answered and wrote, for an input whose bytes are known.
-use Rattle.std.specs.Prelude.{◌≡◌, ◌⊎◌, ℕ, List, [], Option, Ok, Err, codes}
+use Rattle.std.specs.Prelude.{◌≡◌, ◌⊎◌, ℕ, List, [], reverse, Option, Ok, Err, codes}
 use Rattle.std.specs.Io.KnownBytes.{Appends, Keeps}
 use Rattle.ec_text.specs.Puts.{Held, Puts, AppendsPrefix}
+use Rattle.ec_order.specs.declared.placed.Placed.{Placed}
+use Rattle.ec_order.specs.Verdicts.{IsGood}
+use Rattle.ec_heading.specs.Spelling.{text_of}
 use Rattle.ec_trace.specs.Recounted.{Recounted}
 use Rattle.ec_trace.specs.Outcome.{outcome, HasNoFault}
 use Rattle.ec_trace.specs.ReadingLaws.{IsTraceOf, IsNoTrace}
@@ -10,7 +13,7 @@ use Rattle.ec_trace.specs.declared.read.TheConstants.{TRACE_MAX}
 use Rattle.evc_engine.specs.declared.status.Status.{Status}
 use Rattle.evc_engine.specs.declared.status.Status.TheVariants.{Done, Refused, Usage, InputOutput, Memory, Stopped}
 use Rattle.evc_engine.specs.Notes.{fault_note}
-use Rattle.evc_engine.specs.Texts.{check_text}
+use Rattle.evc_engine.specs.Texts.{check_lines, check_text}
 
 -- where the text and the notes go: what the writer of the text holds, what the writer of the notes holds, and the
 -- notes that wait for it
@@ -27,9 +30,15 @@ Notes old new note = Puts old.notes old.held new.notes new.held note
 abbrev pub text_for : Recounted → List ℕ
 text_for t = check_text t.heading t.entries
 
+-- the text of a trace tells a legal order of its finished calls, each with its point
+pub record TellsGoodOrder (t : Recounted) (text : List ℕ) : Type 0 where
+  pub placed : List Placed
+  pub good : IsGood t.heading.setup (reverse t.entries) placed
+  pub is : text ≡ text_of (check_lines t.heading t.entries placed)
+
 -- how the writing of the text of a trace ended
 abbrev pub Writes : Recounted → Status → Outlets → Outlets → Type 0
-Writes t Done old new = Appends old.out new.out (text_for t) × Notes old new []
+Writes t Done old new = Appends old.out new.out (text_for t) × TellsGoodOrder t (text_for t) × Notes old new []
 Writes t InputOutput old new = AppendsPrefix old.out new.out (text_for t) × Notes old new (codes "write fault\n")
 Writes t Memory old new = Keeps old.out new.out × Notes old new (codes "no memory\n")
 Writes t Refused old new = ⊥
@@ -46,8 +55,8 @@ pub record RefusedFor (bytes : List ℕ) (fault : TraceFault) : Type 0 where
   pub none : IsNoTrace bytes
   pub told : outcome TRACE_MAX bytes ≡ Err fault
 
--- how `check` ended: the bytes are a trace and its text was written; or they are none, and nothing was written but the
--- note of the first fault; or a read, a write or memory failed
+-- how `check` ended: the bytes are a trace and its text was written, which tells a legal order of its finished calls; or
+-- they are none, and nothing was written but the note of the first fault; or a read, a write or memory failed
 abbrev pub Checks : List ℕ → Status → Outlets → Outlets → Type 0
 Checks bytes Done old new = (t : Recounted) × ReadsAs bytes t × Writes t Done old new
 Checks bytes Refused old new = (fault : TraceFault) × RefusedFor bytes fault × Keeps old.out new.out × Notes old new (fault_note fault)
