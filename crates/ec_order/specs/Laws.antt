@@ -1,6 +1,6 @@
 -- Laws of every accepted history, over the history in its natural order: the oldest entry first, so that `past_at k h`
 -- is moment k, at which the first k entries have happened.
-use Rattle.std.specs.Prelude.{◌≡◌, ℕ, ◌<◌, ◌≤◌, ◌==◌, true, List, reverse, map}
+use Rattle.std.specs.Prelude.{◌≡◌, ◌⊎◌, ℕ, ◌<◌, ◌≤◌, ◌==◌, true, false, List, reverse, map}
 use Rattle.std.specs.List.{AllPairs, Contains, filter}
 use Rattle.ec_count.specs.Tables.{Tables, IsDeclared}
 use Rattle.ec_core.specs.declared.act.Entry.{Entry}
@@ -10,6 +10,7 @@ use Rattle.ec_core.specs.Acceptance.{IsAccepted}
 use Rattle.ec_core.specs.Following.{Told}
 use Rattle.ec_core.specs.JoinedLists.{finished_by}
 use Rattle.ec_order.specs.declared.call.Call.{Call}
+use Rattle.ec_order.specs.declared.placed.Placed.{Placed}
 use Rattle.ec_order.specs.Calls.{finished_calls, is_reading, number_of}
 use Rattle.ec_order.specs.Cuts.{IsFinishedCall}
 use Rattle.ec_order.specs.Orders.{IsLegalOrder, calls_in}
@@ -53,6 +54,14 @@ pub record StoodBetween (h : List Entry) (c : Call) : Type 0 where
 -- the order by points is a legal order of the finished calls, in which each stands with its point
 abbrev pub OrderByPointsIsGood : Type 0
 OrderByPointsIsGood = (t : Tables) (h : List Entry) → IsDeclared t → IsAccepted t (reverse h) → IsGood t (reverse h) (ordered_by_points t (reverse h))
+
+-- p comes before q: its point is less; or they have one point, p is a read or an await, and q is none or ended later
+abbrev pub ComesFirst : Placed → Placed → Type 0
+ComesFirst p q = (p.point < q.point) ⊎ ((p.point ≡ q.point) × (is_reading p.call.op ≡ true) × ((is_reading q.call.op ≡ false) ⊎ (p.call.last < q.call.last)))
+
+-- each place of the order by points comes before each later one
+abbrev pub OrderByPointsAscends : Type 0
+OrderByPointsAscends = (t : Tables) (h : List Entry) → IsDeclared t → IsAccepted t (reverse h) → AllPairs ComesFirst (ordered_by_points t (reverse h))
 
 -- a list of the finished calls, each once, that keeps every finished-before pair and is a run of the sequential
 -- object: the one by points; and for every finished read or await a moment at which the total was its answer
