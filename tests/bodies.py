@@ -1,0 +1,286 @@
+"""Wrong bodies: their files, which of them fit into one copy of a crate, and what a check said of each.
+
+A file `crates/NAME/must-fail/FILE.edit` holds one or several wrong bodies. For example:
+
+    body: event_id_taken_at_32
+    file: src/event_id.rt
+    old: if n < 32 {
+    new: if n < 33 {
+
+`body:` begins a body and names it; a file with no such line is one body, which has the file's name.
+`file:` names the text that changes, and each `old:` stands in it exactly once. `refused-in: FUNCTION`
+names a function that has to be refused in the place of the one that changes, as the caller of a private
+helper whose own contract says nothing of it, or what reads a table; FUNCTION is as the check prints it,
+or the end of that. Where several are named, each has to be refused.
+"""
+
+import os
+import re
+from dataclasses import dataclass, field
+
+
+@dataclass
+class Body:
+    """One wrong body of a crate."""
+
+    crate: str
+    name: str
+    # The file in must-fail/ that it stands in, without its ending.
+    stands_in: str
+    # What it changes: (file, old text, new text), in turn.
+    pairs: list = field(default_factory=list)
+    # The functions that have to be refused, where these are not the changed ones.
+    refused_in: list = field(default_factory=list)
+
+
+class BadBody(Exception):
+    """A wrong body that can't be tried, and why."""
+
+
+def names_of_files(folder):
+    """Returns the names of a crate's files of wrong bodies, without their ending."""
+    place = os.path.join(folder, "must-fail")
+    return sorted(it[: -len(".edit")] for it in os.listdir(place) if it.endswith(".edit")) if os.path.isdir(place) else []
+
+
+def bodies_in(folder, stands_in):
+    """Returns the bodies of one file, in order."""
+    crate = os.path.basename(folder)
+    found, file, old = [], None, None
+    with open(os.path.join(folder, "must-fail", f"{stands_in}.edit"), encoding="utf-8") as text:
+        lines = text.read().split("\n")
+    if not any(it.startswith("body: ") for it in lines):
+        found.append(Body(crate, stands_in, stands_in))
+    for line in lines:
+        word, _, rest = line.partition(": ")
+        if word == "body":
+            found.append(Body(crate, rest.strip(), stands_in))
+        elif word == "file":
+            file = rest.strip()
+        elif word == "old":
+            old = rest
+        elif word == "refused-in":
+            found[-1].refused_in.append(rest.strip())
+        elif line == "new:" or word == "new":
+            found[-1].pairs.append((file, old, rest))
+    return found
+
+
+def bodies_of(folder):
+    """Returns all wrong bodies of a crate; two of one name are an error."""
+    found = [body for name in names_of_files(folder) for body in bodies_in(folder, name)]
+    names = [it.name for it in found]
+    twice = sorted({it for it in names if names.count(it) > 1})
+    if twice:
+        raise BadBody(f"{os.path.basename(folder)} has two wrong bodies named {', '.join(twice)}")
+    return found
+
+
+def read(folder, file):
+    with open(os.path.join(folder, file), encoding="utf-8") as text:
+        return text.read()
+
+
+def applied(folder, body, texts):
+    """Returns these texts with the body put into them, or None where a text of it doesn't stand there exactly once."""
+    texts = dict(texts)
+    for file, old, new in body.pairs:
+        text = texts[file] if file in texts else read(folder, file)
+        if text.count(old) != 1:
+            return None
+        texts[file] = text.replace(old, new)
+    return texts
+
+
+def faults(folder, body):
+    """Returns why the body can't be tried by itself."""
+    if not body.pairs:
+        yield "it changes nothing"
+    elif applied(folder, body, {}) is None:
+        yield "an 'old:' text of it does not stand in its file exactly once"
+    elif not targets(folder, body):
+        yield "it changes no function: 'refused-in:' has to name the one that is to be refused"
+
+
+def faults_of_files(folder):
+    """Returns the files of a crate whose bodies can't be tried together, each with its reason."""
+    for name in names_of_files(folder):
+        if len(fitting(folder, bodies_in(folder, name))) > 1:
+            yield name, "two bodies of it change one function: they belong into two files"
+
+
+# Where a body stands in the text
+
+
+@dataclass(frozen=True)
+class Function:
+    """A function of a source file, by the end of the name that a check prints."""
+
+    file: str
+    name: str
+    first: int
+    last: int
+
+
+ITEM = re.compile(
+    r"^(?P<indent>[ ]*)(?:pub(?:\([a-z]+\))?[ ]+)?(?:(?:const|unsafe)[ ]+)*"
+    r"(?:fn[ ]+(?P<fn>\w+)|impl(?:<[^>]*>)?[ ]+(?P<impl>[^{]*)|trait[ ]+(?P<trait>\w+))"
+)
+
+
+def word_of(type_name):
+    """Returns the bare name of a type or a trait, as `Board` of `crate::board::Board<'a, A>`."""
+    return re.sub(r"<.*", "", type_name.strip().lstrip("&")).split("::")[-1].strip()
+
+
+def block_name(head):
+    """Returns what a check puts before the names of the methods of an `impl`: the type, and the trait where there is one."""
+    trait, is_of_trait, type_name = re.sub(r"\bwhere\b.*", "", head).partition(" for ")
+    return word_of(type_name) + word_of(trait) if is_of_trait else word_of(trait)
+
+
+def functions_of(file, text):
+    """Returns the functions of a source file, each from its head to the line before the next item's head."""
+    found, block, block_indent = [], "", -1
+    module = os.path.splitext(os.path.basename(file))[0]
+    lines = text.split("\n")
+    for number, line in enumerate(lines, 1):
+        indent = len(line) - len(line.lstrip())
+        if block and line.strip() == "}" and indent == block_indent:
+            block, block_indent = "", -1
+        head = ITEM.match(line)
+        if not head:
+            continue
+        if head["impl"] is not None or head["trait"] is not None:
+            block = head["trait"] or block_name(head["impl"])
+            block_indent = indent
+        elif head["fn"]:
+            end = next(
+                (at for at in range(number, len(lines) + 1) if lines[at - 1].rstrip() == " " * indent + "}"), len(lines)
+            )
+            found.append(Function(file, f"{block or module}::{head['fn']}", number, end))
+    return found
+
+
+def function_at(file, text, old):
+    """Returns the function of the file that the text `old` stands in, or None where it stands in none."""
+    place = text.find(old)
+    first = text.count("\n", 0, place + len(old) - len(old.lstrip())) + 1
+    inside = [it for it in functions_of(file, text) if it.first <= first <= it.last]
+    return inside[-1] if inside else None
+
+
+def targets(folder, body):
+    """Returns the ends of the names of the functions that have to be refused: each of those that the body names,
+    or one of those that it changes."""
+    if body.refused_in:
+        return sorted(set(body.refused_in))
+    found = {function_at(file, read(folder, file), old) for file, old, _ in body.pairs}
+    return sorted(it.name for it in found if it)
+
+
+def stands_alone(folder, body):
+    """Returns whether the body changes a type, so that functions beside its own may no longer be proved."""
+    outside = [old for file, old, _ in body.pairs if not function_at(file, read(folder, file), old)]
+    return any(not old.strip().startswith(("///", "const ", '"')) for old in outside)
+
+
+def fitting(folder, bodies):
+    """Cuts the bodies into groups, each of which can be put into one copy of the crate: no two of a group
+    change one function, change a text of the other, or have to be refused in one function, and none of
+    several changes a type."""
+    groups = []
+    for body in bodies:
+        if stands_alone(folder, body):
+            groups.append({"bodies": [body], "taken": None, "texts": applied(folder, body, {})})
+            continue
+        mine = {(file, getattr(function_at(file, read(folder, file), old), "name", old)) for file, old, _ in body.pairs}
+        mine |= {("", it) for it in targets(folder, body)}
+        for group in groups:
+            is_free = group["taken"] is not None and not mine & group["taken"]
+            texts = applied(folder, body, group["texts"]) if is_free else None
+            if texts is not None:
+                group["bodies"].append(body)
+                group["taken"] |= mine
+                group["texts"] = texts
+                break
+        else:
+            texts = applied(folder, body, {})
+            if texts is None:
+                raise BadBody(f"{body.crate}/{body.name}: a text of it does not stand in its file exactly once")
+            groups.append({"bodies": [body], "taken": mine, "texts": texts})
+    return [(it["bodies"], it["texts"]) for it in groups]
+
+
+# What a check said
+
+GOAL, ANSWER, OTHER, PROVED, UNREAD = "goal", "answer", "other", "proved", "unread"
+WORSE = (GOAL, ANSWER, OTHER, UNREAD, PROVED)
+
+
+def is_named(printed, end):
+    """Returns whether the printed name of a function is this one, or that of a closure in it."""
+    return re.search(rf"(^|::){re.escape(end)}(::[^:]*)*$", printed) is not None
+
+
+def verdict_on(ends, log):
+    """Returns what the log of a check says of functions: GOAL where a goal of one was not proved, ANSWER where
+    only a written answer no longer fits, OTHER where it only calls what is not proved, PROVED, or UNREAD."""
+    said = [it for it in re.findall(r"(?m)^fn (\S+): (.*)$", log) if any(is_named(it[0], end) for end in ends)]
+    if not said or not ends:
+        return UNREAD
+    if all(rest == "proved" for _, rest in said):
+        return PROVED
+    if any("`search` did not prove" in rest or "`grind` did not prove" in rest for _, rest in said):
+        return GOAL
+    if any(rest == "not proved" or refuses_an_answer(name, log) for name, rest in said if rest != "proved"):
+        return ANSWER
+    return OTHER
+
+
+def refuses_an_answer(name, log):
+    """Returns whether the check found a mistake in a proof file of the function; one that calls itself has a
+    folder whose name begins with a plus sign."""
+    *above, last = name.split("::")[1:]
+    place = "/".join([*map(re.escape, above), rf"\+?{re.escape(last)}"])
+    return re.search(rf"(?m)^(?:\./)?proofs/{place}/\w+\.antt:\d+:\d+: error", log) is not None
+
+
+@dataclass
+class Judged:
+    """A body, and what the checks that were made said of it."""
+
+    body: Body
+    verdict: str
+    # Where it was refused though its own function was proved: what it changes shows there.
+    elsewhere: list = field(default_factory=list)
+
+    def is_refused(self):
+        return self.verdict in (GOAL, ANSWER)
+
+
+def alone(body):
+    """Returns the name of the log of a body that was tried by itself."""
+    return f"{body.stands_in}.{body.name}.alone"
+
+
+def judged(folder, body, logs):
+    """Judges a body by the logs of a folder: of the check of its file, or of the one that tried it alone."""
+    ends = targets(folder, body)
+    for name in (alone(body), body.stands_in):
+        file = os.path.join(logs, f"{name}.log")
+        if os.path.isfile(file):
+            return judged_by(body, ends, text_of(file))
+    return Judged(body, UNREAD)
+
+
+def judged_by(body, ends, log):
+    each = [[it] for it in ends] if body.refused_in else [ends]
+    verdict = max((verdict_on(it, log) for it in each), key=WORSE.index)
+    others = [] if verdict in (GOAL, ANSWER) else sorted(set(re.findall(r"(?m)^fn (\S+): no(?:t proved| proof)", log)))
+    return Judged(body, verdict, others)
+
+
+def text_of(file):
+    with open(file, encoding="utf-8") as text:
+        return text.read()
