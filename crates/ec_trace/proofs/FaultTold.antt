@@ -1,12 +1,12 @@
 -- The first faulty line of a text gives its fault.
-use Rattle.std.proofs.Common.{◌≡◌, ◌≢◌, ℕ, ◌+◌, List, ◌++◌, length, take, false, ltb, refl, sym, ap, ◌∙◌, arith, Err, le-ltb, inl, inr, ◌⊎◌}
+use Rattle.std.proofs.Common.{Ok, ◌≡◌, ◌≢◌, ℕ, ◌+◌, List, ◌++◌, length, take, false, ltb, refl, sym, ap, ◌∙◌, arith, Err, le-ltb, inl, inr, ◌⊎◌}
 use Rattle.std.specs.List.{All}
 use Rattle.ec_trace.specs.declared.fault.LineFault.{LineFault}
 use Rattle.ec_trace.specs.declared.stage.Stage.{Stage}
 use Rattle.ec_trace.specs.declared.stage.Stage.TheVariants.{Opening}
 use Rattle.ec_trace.specs.declared.read.TheConstants.{TRACE_MAX}
 use Rattle.ec_trace.specs.Outcome.{goes, goes_from, parts_of, numbered, start, outcome, bounded}
-use Rattle.ec_trace.specs.FirstFault.{IsTooLong, IsBehindTheEnd, IsRefusedThere, IsFirstFault, FirstFaultIsTold}
+use Rattle.ec_trace.specs.FirstFault.{IsTooLong, IsBehindTheEnd, IsRefusedThere, IsFirstFault, FirstFaultIsTold, FailedReadHasNoFault}
 use Rattle.ec_trace.proofs.Goes.{goes_line, goes_long, goes_after_end}
 use Rattle.ec_trace.proofs.Leads.{goes_lines}
 
@@ -31,3 +31,6 @@ text_told text n f h =
 pub first_fault_is_told : FirstFaultIsTold
 unfolding outcome
 first_fault_is_told bytes n f h = ap (bounded TRACE_MAX bytes) (text_told (take TRACE_MAX bytes) n f h)
+
+pub failed_read_has_no_fault : FailedReadHasNoFault
+failed_read_has_no_fault bytes left failed n f h = (let e : Err (numbered n f) ≡ Ok failed.place = sym (text_told failed.given n f h) ∙ failed.goes in cc)

@@ -298,23 +298,23 @@ read_is_trace bytes t e =
 
 -- WHAT AN ANSWER SAYS OF THE BYTES
 
-pub told_trace : (a : Option (List ℕ)) (r : Result Recounted TraceFault) → IfSome a (λ bytes. Tells TRACE_MAX bytes r) → IfSome a (λ bytes. IfOk r (IsTraceOf bytes))
-told_trace None r h = tt
-told_trace (Some bytes) (Ok t) h = read_is_trace bytes t h
-told_trace (Some bytes) (Err f) h = tt
+pub told_trace : (a left : Option (List ℕ)) (r : Result Recounted TraceFault) → IfSome a (λ bytes. Tells TRACE_MAX bytes left r) → IfSome a (λ bytes. IfOk r (IsTraceOf bytes))
+told_trace None left r h = tt
+told_trace (Some bytes) left (Ok t) h = read_is_trace bytes t h
+told_trace (Some bytes) left (Err f) h = tt
 
 refuses : (bytes : List ℕ) (f : TraceFault) → outcome TRACE_MAX bytes ≡ Err f → IsNoTrace bytes
 refuses bytes f e o es h = (let k : Ok (recount o es) ≡ Err f = sym (trace_is_read bytes o es h) ∙ e in cc)
 
-fault_refuses : (bytes : List ℕ) (f : TraceFault) → Tells TRACE_MAX bytes (Err f) → Refuses f bytes
-fault_refuses bytes Memory h = tt
-fault_refuses bytes Read h = tt
-fault_refuses bytes f h = refuses bytes f h
+fault_refuses : (bytes : List ℕ) (left : Option (List ℕ)) (f : TraceFault) → Tells TRACE_MAX bytes left (Err f) → Refuses f bytes
+fault_refuses bytes left Memory h = tt
+fault_refuses bytes left Read h = tt
+fault_refuses bytes left f h = refuses bytes f h
 
-pub told_fault : (a : Option (List ℕ)) (r : Result Recounted TraceFault) → IfSome a (λ bytes. Tells TRACE_MAX bytes r) → IfSome a (λ bytes. IfErr r (λ f. Refuses f bytes))
-told_fault None r h = tt
-told_fault (Some bytes) (Ok t) h = tt
-told_fault (Some bytes) (Err f) h = fault_refuses bytes f h
+pub told_fault : (a left : Option (List ℕ)) (r : Result Recounted TraceFault) → IfSome a (λ bytes. Tells TRACE_MAX bytes left r) → IfSome a (λ bytes. IfErr r (λ f. Refuses f bytes))
+told_fault None left r h = tt
+told_fault (Some bytes) left (Ok t) h = tt
+told_fault (Some bytes) left (Err f) h = fault_refuses bytes left f h
 
 -- what is written is read again
 pub written_is_read : (o : Outline) (entries : List Entry) → IsOutline o → IsAccepted (headed o).setup (reverse entries) → length (trace_text o entries) ≤ TRACE_MAX

@@ -3,9 +3,9 @@ use Rattle.std.proofs.Common.{◌≡◌, ℕ, ◌+◌, ◌-◌, ◌<◌, ◌≤�
 use Rattle.std.proofs.Math.Seq.{take-append-add, take-append_seam}
 use Rattle.std.proofs.lemmas.Bool.{cond-true, cond-false}
 use Rattle.std.proofs.lemmas.List.{take_all}
-use Rattle.std.specs.Io.KnownBytes.{Consumes, IsAtEnd}
+use Rattle.std.specs.Io.KnownBytes.{Consumes, Keeps, IsAtEnd}
 use Rattle.ec_trace.specs.Recounted.{Recounted}
-use Rattle.ec_trace.specs.Outcome.{Place, goes_from, start, outcome, bounded, ended_at, Tells, Brought, Stands, Finishes, Ends, FailsAs, Arrived, Arrives}
+use Rattle.ec_trace.specs.Outcome.{Place, goes_from, start, outcome, bounded, ended_at, Tells, Brought, Stands, Finishes, Ends, FailsAs, FailsThere, Arrived, Arrives}
 use Rattle.ec_trace.specs.declared.fault.TraceFault.{TraceFault}
 use Rattle.ec_trace.specs.declared.fault.TraceFault.TheVariants.{TooLarge, Read, Memory}
 
@@ -30,6 +30,12 @@ stands_more (Some xs) (Some ys) (Some zs) p q n piece s took moves = brought_mor
 -- the same, by a count that is known to be the length
 pub stands_by : (a b c : Option (List ℕ)) (p q : Place) (n m : ℕ) (piece : List ℕ) → Stands a b p n → Consumes b c piece → m ≡ length piece → ((more : List ℕ) → goes_from q more ≡ goes_from p (piece ++ more)) → Stands a c q (n + m)
 stands_by a b c p q n m piece s took e moves = subst (λ (k : ℕ). Stands a c q (n + k)) (sym e) (stands_more a b c p q n piece s took moves)
+
+-- a fault of the rest is told before a failed read
+pub rest_first : (f : TraceFault) (p : Place) → ((more : List ℕ) → FailsAs f (goes_from p more)) → FailsThere f p
+rest_first Memory p fails = tt
+rest_first Read p fails = absurd (fails [])
+rest_first f p fails = fails
 
 module _ (max : ℕ) where
   brought : (xs : List ℕ) (p : Place) → Arrived max xs p → Brought xs [] p (length xs)
@@ -97,46 +103,51 @@ module _ (max : ℕ) where
   some_fault_in (Some xs) (Some ys) None p n f piece over s took small fails = absurd took
   some_fault_in (Some xs) (Some ys) (Some zs) p n f piece over s took small fails = fault_in xs ys zs p n f piece over s took small fails
 
-  if_some_unit : (a : Option (List ℕ)) → IfSome a (λ xs. Tells max xs (Err Memory))
-  if_some_unit None = tt
-  if_some_unit (Some xs) = tt
+  if_some_unit : (a left : Option (List ℕ)) → IfSome a (λ xs. Tells max xs left (Err Memory))
+  if_some_unit None left = tt
+  if_some_unit (Some xs) left = tt
 
-  pub tells_fails : (a b : Option (List ℕ)) (p : Place) (n : ℕ) (f : TraceFault) → Stands a b p n → n ≤ max → ((more : List ℕ) → FailsAs f (goes_from p more)) → IfSome a (λ xs. Tells max xs (Err f))
-  tells_fails a b p n Memory s small fails = if_some_unit a
-  tells_fails a b p n Read s small fails = absurd (fails [])
-  tells_fails a b p n f s small fails = some_fault a b p n f s small fails
+  tells_fails : (a b left : Option (List ℕ)) (p : Place) (n : ℕ) (f : TraceFault) → Stands a b p n → n ≤ max → ((more : List ℕ) → FailsAs f (goes_from p more)) → IfSome a (λ xs. Tells max xs left (Err f))
+  tells_fails a b left p n Memory s small fails = if_some_unit a left
+  tells_fails a b left p n Read s small fails = absurd (fails [])
+  tells_fails a b left p n f s small fails = some_fault a b p n f s small fails
 
-  pub tells_fails_in : (a b c : Option (List ℕ)) (p : Place) (n : ℕ) (f : TraceFault) (piece over : List ℕ) → Stands a b p n → Consumes b c (piece ++ over) → n + length piece ≤ max → ((more : List ℕ) → FailsAs f (goes_from p (piece ++ more))) → IfSome a (λ xs. Tells max xs (Err f))
-  tells_fails_in a b c p n Memory piece over s took small fails = if_some_unit a
+  pub tells_fails_in : (a b c : Option (List ℕ)) (p : Place) (n : ℕ) (f : TraceFault) (piece over : List ℕ) → Stands a b p n → Consumes b c (piece ++ over) → n + length piece ≤ max → ((more : List ℕ) → FailsAs f (goes_from p (piece ++ more))) → IfSome a (λ xs. Tells max xs c (Err f))
+  tells_fails_in a b c p n Memory piece over s took small fails = if_some_unit a c
   tells_fails_in a b c p n Read piece over s took small fails = absurd (fails [])
   tells_fails_in a b c p n f piece over s took small fails = some_fault_in a b c p n f piece over s took small fails
 
   -- the same after a piece that was taken
-  pub tells_fails_after : (a b c : Option (List ℕ)) (p q : Place) (n : ℕ) (f : TraceFault) (piece over : List ℕ) → Stands a b p n → Consumes b c (piece ++ over) → n + length piece ≤ max → ((more : List ℕ) → goes_from q more ≡ goes_from p (piece ++ more)) → ((more : List ℕ) → FailsAs f (goes_from q more)) → IfSome a (λ xs. Tells max xs (Err f))
+  pub tells_fails_after : (a b c : Option (List ℕ)) (p q : Place) (n : ℕ) (f : TraceFault) (piece over : List ℕ) → Stands a b p n → Consumes b c (piece ++ over) → n + length piece ≤ max → ((more : List ℕ) → goes_from q more ≡ goes_from p (piece ++ more)) → ((more : List ℕ) → FailsAs f (goes_from q more)) → IfSome a (λ xs. Tells max xs c (Err f))
   tells_fails_after a b c p q n f piece over s took small moves fails =
       tells_fails_in a b c p n f piece over s took small (λ more. subst (FailsAs f) (moves more) (fails more))
 
-  pub tells_large : (a b c : Option (List ℕ)) (p q : Place) (n : ℕ) (piece over : List ℕ) → Stands a b p n → Consumes b c (piece ++ over) → n + length piece ≡ max → 0 < length over → ((more : List ℕ) → goes_from q more ≡ goes_from p (piece ++ more)) → goes_from q [] ≡ Ok q → IfSome a (λ xs. Tells max xs (Err TooLarge))
+  pub tells_large : (a b c : Option (List ℕ)) (p q : Place) (n : ℕ) (piece over : List ℕ) → Stands a b p n → Consumes b c (piece ++ over) → n + length piece ≡ max → 0 < length over → ((more : List ℕ) → goes_from q more ≡ goes_from p (piece ++ more)) → goes_from q [] ≡ Ok q → IfSome a (λ xs. Tells max xs c (Err TooLarge))
   tells_large None b c p q n piece over s took full some moves rest = tt
   tells_large (Some xs) None c p q n piece over s took full some moves rest = absurd s
   tells_large (Some xs) (Some ys) None p q n piece over s took full some moves rest = absurd took
   tells_large (Some xs) (Some ys) (Some zs) p q n piece over s took full some moves rest = large_at xs ys zs p q n piece over s took full some moves rest
 
-  -- a read failed
-  pub tells_read : (a b : Option (List ℕ)) (p : Place) (n : ℕ) → Stands a b p n → n ≤ max → goes_from p [] ≡ Ok p → IfSome a (λ xs. Tells max xs (Err Read))
-  tells_read None b p n s small rest = tt
-  tells_read (Some xs) None p n s small rest = absurd s
-  tells_read (Some xs) (Some ys) p n s small rest = record {
+  -- a read failed, and took nothing
+  no_fault : (a b c : Option (List ℕ)) (p : Place) (n : ℕ) → Stands a b p n → Keeps b c → n ≤ max → goes_from p [] ≡ Ok p → IfSome a (λ xs. Tells max xs c (Err Read))
+  no_fault None b c p n s kept small rest = tt
+  no_fault (Some xs) None c p n s kept small rest = absurd s
+  no_fault (Some xs) (Some ys) None p n s kept small rest = absurd kept
+  no_fault (Some xs) (Some ys) (Some zs) p n s kept small rest = record {
     given = s.given;
-    rest = ys;
     place = p;
-    whole = s.whole;
+    gave = s.whole ∙ ap (λ (r : List ℕ). s.given ++ r) (sym kept);
     within = omega (arith, s.len);
     goes = ap (goes_from start) (sym (append-nil s.given)) ∙ sym (s.goes []) ∙ rest;
   }
 
+  pub tells_failed : (a b c : Option (List ℕ)) (p : Place) (n : ℕ) (f : TraceFault) → Stands a b p n → Keeps b c → n ≤ max → FailsThere f p → IfSome a (λ xs. Tells max xs c (Err f))
+  tells_failed a b c p n Memory s kept small fails = if_some_unit a c
+  tells_failed a b c p n Read s kept small fails = no_fault a b c p n s kept small fails
+  tells_failed a b c p n f s kept small fails = some_fault a b p n f s small fails
+
   -- the input is at its end
-  pub arrives : (a b c : Option (List ℕ)) (p : Place) (n : ℕ) → Stands a b p n → n ≤ max → Consumes b c [] → IsAtEnd c → IfSome a (λ xs. Arrives max xs (Ok tt) p)
+  pub arrives : (a b c : Option (List ℕ)) (p : Place) (n : ℕ) → Stands a b p n → n ≤ max → Consumes b c [] → IsAtEnd c → IfSome a (λ xs. Arrives max xs c (Ok tt) p)
   arrives None b c p n s small took end = tt
   arrives (Some xs) None c p n s small took end = absurd s
   arrives (Some xs) (Some ys) None p n s small took end = absurd took
@@ -148,12 +159,12 @@ module _ (max : ℕ) where
         goes = λ more. s.goes more ∙ ap (λ (k : List ℕ). goes_from start (k ++ more)) whole;
       }
 
-  end_at : (xs : List ℕ) (p : Place) (r : Result Recounted TraceFault) → Arrived max xs p → Finishes r p → Tells max xs r
-  end_at xs p (Ok t) a fin = outcome_at_end xs p (length xs) (brought xs p a) a.within fin.0 ∙ fin.1
-  end_at xs p (Err f) a (inl fails) = tells_fails (Some xs) (Some []) p (length xs) f (brought xs p a) a.within fails
-  end_at xs p (Err f) a (inr h) = subst (λ (g : TraceFault). Tells max xs (Err g)) (sym h.0) (outcome_at_end xs p (length xs) (brought xs p a) a.within h.1 ∙ h.2)
+  end_at : (xs : List ℕ) (left : Option (List ℕ)) (p : Place) (r : Result Recounted TraceFault) → Arrived max xs p → Finishes r p → Tells max xs left r
+  end_at xs left p (Ok t) a fin = outcome_at_end xs p (length xs) (brought xs p a) a.within fin.0 ∙ fin.1
+  end_at xs left p (Err f) a (inl fails) = tells_fails (Some xs) (Some []) left p (length xs) f (brought xs p a) a.within fails
+  end_at xs left p (Err f) a (inr h) = subst (λ (g : TraceFault). Tells max xs left (Err g)) (sym h.0) (outcome_at_end xs p (length xs) (brought xs p a) a.within h.1 ∙ h.2)
 
-  pub ends : (a : Option (List ℕ)) (p : Place) (read : Result (Unit {0}) TraceFault) (r : Result Recounted TraceFault) → IfSome a (λ xs. Arrives max xs read p) → Ends read r p → IfSome a (λ xs. Tells max xs r)
-  ends None p read r a e = tt
-  ends (Some xs) p (Ok x) r a e = end_at xs p r a e
-  ends (Some xs) p (Err f) r a e = subst (Tells max xs) (sym e) a
+  pub ends : (a left : Option (List ℕ)) (p : Place) (read : Result (Unit {0}) TraceFault) (r : Result Recounted TraceFault) → IfSome a (λ xs. Arrives max xs left read p) → Ends read r p → IfSome a (λ xs. Tells max xs left r)
+  ends None left p read r a e = tt
+  ends (Some xs) left p (Ok x) r a e = end_at xs left p r a e
+  ends (Some xs) left p (Err f) r a e = subst (Tells max xs left) (sym e) a

@@ -1,5 +1,5 @@
 -- What a fault says of the text: which line is at fault, why, and that no line before it is.
-use Rattle.std.specs.Prelude.{◌≡◌, ◌≢◌, ◌⊎◌, ℕ, ◌+◌, ◌<◌, ◌≤◌, List, [], ◌∷◌, ◌++◌, length, take, true, Ok, Err}
+use Rattle.std.specs.Prelude.{◌≡◌, ◌≢◌, ◌⊎◌, Option, ℕ, ◌+◌, ◌<◌, ◌≤◌, List, [], ◌∷◌, ◌++◌, length, take, true, Ok, Err}
 use Rattle.std.specs.List.{All, AllByRecursion}
 use Rattle.ec_trace.specs.declared.fault.LineFault.{LineFault}
 use Rattle.ec_trace.specs.declared.fault.LineFault.TheVariants.{Bad}
@@ -9,7 +9,7 @@ use Rattle.ec_trace.specs.declared.stage.Stage.TheVariants.{Opening}
 use Rattle.ec_trace.specs.declared.read.TheConstants.{TRACE_MAX}
 use Rattle.ec_heading.specs.Spelling.{text_of}
 use Rattle.ec_trace.specs.Step.{step, is_ended}
-use Rattle.ec_trace.specs.Outcome.{numbered, outcome}
+use Rattle.ec_trace.specs.Outcome.{numbered, outcome, HasNoFault}
 
 -- a line, without its LF
 pub record IsLine (line : List ℕ) : Type 0 where
@@ -58,3 +58,7 @@ FirstFaultIsTold = (bytes : List ℕ) (n : ℕ) (fault : LineFault) → IsFirstF
 abbrev pub FaultOfTheWhole : Type 0
 FaultOfTheWhole = (bytes : List ℕ)
     → (outcome TRACE_MAX bytes ≡ Err TooLarge → TRACE_MAX < length bytes) × (outcome TRACE_MAX bytes ≡ Err Unfinished → length bytes ≤ TRACE_MAX)
+
+-- where a failed read is told, what the reader gave has no faulty line
+abbrev pub FailedReadHasNoFault : Type 0
+FailedReadHasNoFault = (bytes : List ℕ) (left : Option (List ℕ)) (failed : HasNoFault TRACE_MAX bytes left) (n : ℕ) (fault : LineFault) → IsFirstFault failed.given n fault → ⊥

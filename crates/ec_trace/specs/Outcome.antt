@@ -1,6 +1,7 @@
 -- What a text comes to: a function of its bytes.
 use Rattle.std.specs.Prelude.{◌≡◌, ◌⊎◌, ◌≤◌, Option, Some, None, ℕ, ◌+◌, List, [], ◌∷◌, ◌++◌, length, take, Bool, Result, Ok, Err, if◌then◌else◌, ◌==◌, ◌&&◌, ◌||◌, nat_lt}
 use Rattle.std.specs.List.{slice_split}
+use Rattle.std.specs.Io.KnownBytes.{Consumes}
 use Rattle.ec_trace.specs.declared.fault.LineFault.{LineFault}
 use Rattle.ec_trace.specs.declared.fault.LineFault.TheVariants as line
 use Rattle.ec_trace.specs.declared.fault.StageFault.{StageFault}
@@ -73,21 +74,21 @@ bounded max xs (Ok p) = if nat_lt max (length xs) then Err TooLarge else ended_a
 unfoldable pub outcome : ℕ → List ℕ → Result Recounted TraceFault
 outcome max xs = bounded max xs (goes_from start (take max xs))
 
--- what is known where a read failed: the lines that came before have no fault
-pub record HasNoFault (max : ℕ) (xs : List ℕ) : Type 0 where
+-- what is known where a read failed, of a reader that had these bytes and has those left: in what it gave no line is
+-- faulty, and what stands behind the last LF is not faulty either
+pub record HasNoFault (max : ℕ) (xs : List ℕ) (left : Option (List ℕ)) : Type 0 where
   pub given : List ℕ
-  pub rest : List ℕ
   pub place : Place
-  pub whole : xs ≡ given ++ rest
+  pub gave : Consumes (Some xs) left given
   pub within : length given ≤ max
   pub goes : goes_from start given ≡ Ok place
 
--- what was answered for an input that had these bytes left
-abbrev pub Tells : ℕ → List ℕ → Result Recounted TraceFault → Type 0
-Tells max xs (Ok t) = outcome max xs ≡ Ok t
-Tells max xs (Err Memory) = Unit {0}
-Tells max xs (Err Read) = HasNoFault max xs
-Tells max xs (Err fault) = outcome max xs ≡ Err fault
+-- what was answered for an input that had these bytes, and has those left
+abbrev pub Tells : ℕ → List ℕ → Option (List ℕ) → Result Recounted TraceFault → Type 0
+Tells max xs left (Ok t) = outcome max xs ≡ Ok t
+Tells max xs left (Err Memory) = Unit {0}
+Tells max xs left (Err Read) = HasNoFault max xs left
+Tells max xs left (Err fault) = outcome max xs ≡ Err fault
 
 -- STEPS OF THE READER
 
@@ -105,6 +106,13 @@ Moves (Err e) old new bytes = (more : List ℕ) → FailsAs e (goes_from old (by
 abbrev pub Rests : Result (Unit {0}) TraceFault → Place → Type 0
 Rests (Ok x) p = goes_from p [] ≡ Ok p
 Rests (Err f) p = (more : List ℕ) → FailsAs f (goes_from p more)
+
+-- what is told of a read that failed at this place: a fault that nothing that follows mends, and the failed read only
+-- where the line in progress has none
+abbrev pub FailsThere : TraceFault → Place → Type 0
+FailsThere Memory p = Unit {0}
+FailsThere Read p = goes_from p [] ≡ Ok p
+FailsThere fault p = (more : List ℕ) → goes_from p more ≡ Err fault
 
 -- what was read of an input brought the text to this place
 pub record Brought (xs ys : List ℕ) (p : Place) (taken : ℕ) : Type 0 where
@@ -133,6 +141,6 @@ pub record Arrived (max : ℕ) (xs : List ℕ) (p : Place) : Type 0 where
   pub within : length xs ≤ max
   pub goes : (more : List ℕ) → goes_from p more ≡ goes_from start (xs ++ more)
 
-abbrev pub Arrives : ℕ → List ℕ → Result (Unit {0}) TraceFault → Place → Type 0
-Arrives max xs (Ok x) p = Arrived max xs p
-Arrives max xs (Err f) p = Tells max xs (Err f)
+abbrev pub Arrives : ℕ → List ℕ → Option (List ℕ) → Result (Unit {0}) TraceFault → Place → Type 0
+Arrives max xs left (Ok x) p = Arrived max xs p
+Arrives max xs left (Err f) p = Tells max xs left (Err f)

@@ -1,6 +1,6 @@
 //! A trace that comes in pieces: the line in progress, and what the lines before it built.
 ghost use Rattle.std.specs.Prelude.{◌≡◌, ◌≢◌, ◌≤◌, ◌<◌, ◌+◌, ◌++◌, ◌^◌, ◌∷◌, [], All, Err, IfNone, IfSome, Ok, length};
-ghost use Rattle.ec_trace.specs.Outcome.{Moves, Rests, Ends, fault_at, goes_from, start};
+ghost use Rattle.ec_trace.specs.Outcome.{Moves, Rests, Ends, FailsThere, fault_at, goes_from, start};
 
 use crate::fault::{LineFault, StageFault, TraceFault};
 use crate::stage::Stage;
@@ -147,6 +147,17 @@ impl Progress {
             return Err(TraceFault::BadLine(self.number));
         }
         Ok(())
+    }
+
+    /// What a failed read is told as here: what came before it may be at fault.
+    #[tactic(auto, using(crate::proofs::Stood::rest_first))]
+    pub(crate) fn failed_read(&self) -> TraceFault
+        ensures { FailsThere result self.now }
+    {
+        match self.rest() {
+            Err(fault) => fault,
+            Ok(()) => TraceFault::Read,
+        }
     }
 
     /// Why the text may not end here, if it may not: what its reading came to, or a last line without its LF.

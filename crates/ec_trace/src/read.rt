@@ -43,17 +43,14 @@ fn feed_front(
 /// Reads to the end of the input, up to the first fault of a line.
 fn read_lines<R: Read>(reader: &mut R, progress: &mut Progress) -> Result<(), TraceFault>
     requires { progress.old ≡ start }
-    ensures { IfSome (R.remaining reader.old) (λ bytes. Arrives TRACE_MAX bytes result progress.new) }
+    ensures { IfSome (R.remaining reader.old) (λ bytes. Arrives TRACE_MAX bytes (R.remaining reader.new) result progress.new) }
 {
     let mut table: ArrayVec<u8, 8192> = ArrayVec::from([0u8; 8192]);
     let mut taken = 0usize;
     loop {
         let room = TRACE_MAX - taken;
         match read_piece(reader, &mut table) {
-            Err(_) => {
-                progress.rest()?;
-                return Err(TraceFault::Read);
-            }
+            Err(_) => return Err(progress.failed_read()),
             Ok(0) => return Ok(()),
             Ok(n) => {
                 if n > room {
@@ -70,9 +67,10 @@ fn read_lines<R: Read>(reader: &mut R, progress: &mut Progress) -> Result<(), Tr
 
 /// Reads a trace to its end, in pieces of at most 8192 bytes, up to its first fault.
 ///
-/// Nothing grows with the text but the heading and the run. A failed read is not tried again.
+/// Nothing grows with the text but the heading and the run. A failed read is not tried again, and
+/// a fault of what came before it is told in its place.
 pub fn read_trace<R: Read>(alloc: Global, reader: &mut R) -> Result<Traced, TraceFault>
-    ensures tells { IfSome (R.remaining reader.old) (λ bytes. Tells TRACE_MAX bytes result) }
+    ensures tells { IfSome (R.remaining reader.old) (λ bytes. Tells TRACE_MAX bytes (R.remaining reader.new) result) }
     ensures trace { IfSome (R.remaining reader.old) (λ bytes. IfOk result (IsTraceOf bytes)) }
     ensures refused { IfSome (R.remaining reader.old) (λ bytes. IfErr result (λ fault. Refuses fault bytes)) }
 {

@@ -1,5 +1,5 @@
 //! Laws of reading. Each is the contract of a function that does nothing.
-ghost use Rattle.ec_trace.specs.FirstFault.{LineFaultIsTheFirst, FirstFaultIsTold, FaultOfTheWhole};
+ghost use Rattle.ec_trace.specs.FirstFault.{LineFaultIsTheFirst, FirstFaultIsTold, FaultOfTheWhole, FailedReadHasNoFault};
 ghost use Rattle.ec_trace.specs.ReadingLaws.{TraceIsRead, ReadIsTrace, TraceHasOneMeaning, NoTraceBeginsAnother, WrittenIsReadAgain};
 
 /// A trace is read as its heading and its history.
@@ -42,6 +42,11 @@ pub fn first_fault_is_told()
 #[tactic(auto, using(crate::proofs::FirstFaults::fault_of_the_whole))]
 pub fn fault_of_the_whole()
     ensures { FaultOfTheWhole }
+{}
+
+/// Where a failed read is told, what the reader gave has no faulty line.
+pub fn failed_read_has_no_fault()
+    ensures { FailedReadHasNoFault }
 {}
 
 /// What `write_trace` writes of a run under a heading is read again as the same heading and the same run, where it is within the bound.

@@ -1,5 +1,5 @@
 -- What `audit` answered and wrote, for an input whose bytes are known.
-use Rattle.std.specs.Prelude.{◌≡◌, ◌⊎◌, ⊤, ℕ, ◌<◌, List, [], ◌∷◌, length, map, reverse, Some, slice_get, codes}
+use Rattle.std.specs.Prelude.{◌≡◌, ◌⊎◌, ⊤, Option, ℕ, ◌<◌, List, [], ◌∷◌, length, map, reverse, Some, slice_get, codes}
 use Rattle.std.specs.Io.KnownBytes.{Appends, Keeps}
 use Rattle.ec_core.specs.declared.act.Entry.{Entry}
 use Rattle.ec_core.specs.Following.{BreaksAt}
@@ -115,15 +115,16 @@ AuditEnds t Stopped old new = ⊥
 
 -- how `audit` ended: the bytes are a trace, each of its groups is followed, and what their audits found was written; or
 -- they are a trace with a group that is not followed, or no trace, and nothing was written but the note of the first such
--- group or the first fault; or a read, a write or memory failed
-abbrev pub Audits : List ℕ → Status → Outlets → Outlets → Type 0
-Audits bytes Done old new = (t : Recounted) × ReadsAs bytes t × AuditEnds t Done old new
-Audits bytes Refused old new =
+-- group or the first fault; or a read failed, and what the reader had given until then has no fault; or a write or memory
+-- failed
+abbrev pub Audits : List ℕ → Option (List ℕ) → Status → Outlets → Outlets → Type 0
+Audits bytes left Done old new = (t : Recounted) × ReadsAs bytes t × AuditEnds t Done old new
+Audits bytes left Refused old new =
     ((t : Recounted) × ReadsAs bytes t × AuditEnds t Refused old new)
     ⊎ ((fault : TraceFault) × RefusedFor bytes fault × Keeps old.out new.out × Notes old new (fault_note fault))
-Audits bytes InputOutput old new =
+Audits bytes left InputOutput old new =
     ((t : Recounted) × ReadsAs bytes t × AuditEnds t InputOutput old new)
-    ⊎ (HasNoFault TRACE_MAX bytes × Keeps old.out new.out × Notes old new (codes "read fault\n"))
-Audits bytes Memory old new = Keeps old.out new.out × Notes old new (codes "no memory\n")
-Audits bytes Usage old new = ⊥
-Audits bytes Stopped old new = ⊥
+    ⊎ (HasNoFault TRACE_MAX bytes left × Keeps old.out new.out × Notes old new (codes "read fault\n"))
+Audits bytes left Memory old new = Keeps old.out new.out × Notes old new (codes "no memory\n")
+Audits bytes left Usage old new = ⊥
+Audits bytes left Stopped old new = ⊥

@@ -55,14 +55,15 @@ pub record RefusedFor (bytes : List ℕ) (fault : TraceFault) : Type 0 where
   pub none : IsNoTrace bytes
   pub told : outcome TRACE_MAX bytes ≡ Err fault
 
--- how `check` ended: the bytes are a trace and its text was written, which tells a legal order of its finished calls; or
--- they are none, and nothing was written but the note of the first fault; or a read, a write or memory failed
-abbrev pub Checks : List ℕ → Status → Outlets → Outlets → Type 0
-Checks bytes Done old new = (t : Recounted) × ReadsAs bytes t × Writes t Done old new
-Checks bytes Refused old new = (fault : TraceFault) × RefusedFor bytes fault × Keeps old.out new.out × Notes old new (fault_note fault)
-Checks bytes InputOutput old new =
+-- how `check` ended, for an input that had these bytes and has those left: the bytes are a trace and its text was written,
+-- which tells a legal order of its finished calls; or they are none, and nothing was written but the note of the first
+-- fault; or a read failed, and what the reader had given until then has no fault; or a write or memory failed
+abbrev pub Checks : List ℕ → Option (List ℕ) → Status → Outlets → Outlets → Type 0
+Checks bytes left Done old new = (t : Recounted) × ReadsAs bytes t × Writes t Done old new
+Checks bytes left Refused old new = (fault : TraceFault) × RefusedFor bytes fault × Keeps old.out new.out × Notes old new (fault_note fault)
+Checks bytes left InputOutput old new =
     ((t : Recounted) × ReadsAs bytes t × Writes t InputOutput old new)
-    ⊎ (HasNoFault TRACE_MAX bytes × Keeps old.out new.out × Notes old new (codes "read fault\n"))
-Checks bytes Memory old new = Keeps old.out new.out × Notes old new (codes "no memory\n")
-Checks bytes Usage old new = ⊥
-Checks bytes Stopped old new = ⊥
+    ⊎ (HasNoFault TRACE_MAX bytes left × Keeps old.out new.out × Notes old new (codes "read fault\n"))
+Checks bytes left Memory old new = Keeps old.out new.out × Notes old new (codes "no memory\n")
+Checks bytes left Usage old new = ⊥
+Checks bytes left Stopped old new = ⊥

@@ -198,7 +198,7 @@ pub fn audit<R: Read, W: Write, N: Write>(
     out: &mut W,
     notes: &mut Notes<N>,
 ) -> Status
-    ensures { IfSome (R.remaining reader.old) (λ bytes. Audits bytes result
+    ensures { IfSome (R.remaining reader.old) (λ bytes. Audits bytes (R.remaining reader.new) result
         (record { out = W.contents out.old; notes = N.contents notes.old.writer; held = notes.old.table })
         (record { out = W.contents out.new; notes = N.contents notes.new.writer; held = notes.new.table })) }
 {

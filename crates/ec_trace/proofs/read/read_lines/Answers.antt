@@ -4,7 +4,7 @@ use Rattle.std.proofs.lemmas.Result.{err_from_is_err_and}
 use Rattle.std.proofs.lemmas.List.{take-append-drop, take-take}
 use Rattle.std.specs.Io.KnownBytes.{Consumes}
 use Rattle.ec_trace.specs.Outcome.{start}
-use Rattle.ec_trace.proofs.Stood.{stands_start, stands_by, arrives, tells_fails, tells_fails_in, tells_fails_after, tells_large}
+use Rattle.ec_trace.proofs.Stood.{stands_start, stands_by, arrives, tells_failed, tells_fails_in, tells_fails_after, tells_large}
 use Rattle.ec_trace.proofs.read.read_lines.Goals as goal
 
 pub loop-progress-init : goal.loop-progress-init
@@ -16,10 +16,9 @@ loop-progress-init g c = record {
   stands = rw c.requires (stands_start _);
 }
 
-pub returns-in_err-rest-in-Err : goal.returns-in_err-rest-in-Err
-returns-in_err-rest-in-Err g c =
-    let p = err_from_is_err_and c.from_residual.result c.from_residual.ensures.1 in
-    rw (p.1, p.2) (tells_fails 67108864 _ (g.R.Read.remaining c.loop-progress.reader) _ _ _ c.loop-progress.invariant.stands c.loop-progress.invariant.taken c.in_err-rest-in-Err.ensures)
+pub returns-in-Err : goal.returns-in-Err
+returns-in-Err g c =
+    tells_failed 67108864 _ (g.R.Read.remaining c.loop-progress.reader) (g.R.Read.remaining c.read_piece.new.reader) _ _ _ c.loop-progress.invariant.stands c.in-Err.ensures.bytes c.loop-progress.invariant.taken c.failed_read.ensures
 
 pub returns-in-Ok-eq0 : goal.returns-in-Ok-eq0
 returns-in-Ok-eq0 g c =
@@ -39,7 +38,7 @@ cut known left room n buf within took =
 
 pub returns-in_err-feed_front-in-Ok : goal.returns-in_err-feed_front-in-Ok
 returns-in_err-feed_front-in-Ok g c =
-    let p = err_from_is_err_and c.from_residual-in_err-feed_front-in-Ok.result c.from_residual-in_err-feed_front-in-Ok.ensures.1 in
+    let p = err_from_is_err_and c.from_residual.result c.from_residual.ensures.1 in
     let b = c.in-Ok.ensures in
     let small : c.loop-progress.taken + length (take (67108864 - c.loop-progress.taken) c.read_piece.new.table.items) ≤ 67108864 =
     omega (arith, length-take (67108864 - c.loop-progress.taken) c.read_piece.new.table.items, c.loop-progress.invariant.taken) in
