@@ -3,3 +3,4 @@ pub mod Undeclared
 pub mod TotalLemmas
 pub mod CheckLemmas
 pub mod OneText
+pub mod NoteLemmas

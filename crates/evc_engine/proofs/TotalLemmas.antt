@@ -69,7 +69,7 @@ pub cells_put : (a b : Option (List ℕ)) (x y : Held) (past : List Entry) (word
     → Puts a x b y (text_of (cell_lines word past first 0 n)) → Puts a x b y (text_of (totals_of past word target))
 cells_put a b x y past word target first n at put = subst (Puts a x b y) (ap (λ t. text_of (totals_of past word t)) (sym at)) put
 
-pub nothing_put : (now : Option (List ℕ)) (held : Held) → Puts now held now held []
+nothing_put : (now : Option (List ℕ)) (held : Held) → Puts now held now held []
 nothing_put now held = λ start all h. rw append-nil h
 
 pub nothing_put_for : (now : Option (List ℕ)) (held : Held) (lines : List (List ℕ)) → lines ≡ [] → Puts now held now held (text_of lines)

@@ -1,5 +1,5 @@
 -- What `audit` answered and wrote, for an input whose bytes are known.
-use Rattle.std.specs.Prelude.{◌≡◌, ◌⊎◌, ⊤, Option, ℕ, ◌<◌, List, [], ◌∷◌, length, map, reverse, Some, slice_get, codes}
+use Rattle.std.specs.Prelude.{◌≡◌, ◌⊎◌, ⊤, Option, ℕ, ◌<◌, List, length, map, reverse, Some, slice_get, codes}
 use Rattle.std.specs.Io.KnownBytes.{Appends, Keeps}
 use Rattle.ec_core.specs.declared.act.Entry.{Entry}
 use Rattle.ec_core.specs.Following.{BreaksAt}
@@ -26,7 +26,7 @@ use Rattle.ec_core.specs.declared.audit.AuditFault.TheVariants as faults
 use Rattle.evc_engine.specs.declared.status.Status.{Status}
 use Rattle.evc_engine.specs.declared.status.Status.TheVariants.{Done, Refused, Usage, InputOutput, Memory, Stopped}
 use Rattle.evc_engine.specs.AuditTexts.{now_of, audit_text, group_word, worker_word}
-use Rattle.evc_engine.specs.Checks.{Outlets, Notes, ReadsAs, RefusedFor}
+use Rattle.evc_engine.specs.Checks.{Outlets, Notes, KeepsNotes, ReadsAs, RefusedFor}
 use Rattle.evc_engine.specs.Notes.{fault_note, break_note}
 
 -- FOLLOWING
@@ -85,7 +85,7 @@ stop_note h i faults.Memory = codes "no memory\n"
 
 -- how the writing of the text ended, for what the audits found
 abbrev pub AuditWrites : Headed → List Audited → Status → Outlets → Outlets → Type 0
-AuditWrites h found Done old new = Appends old.out new.out (audit_text h found) × Notes old new []
+AuditWrites h found Done old new = Appends old.out new.out (audit_text h found) × KeepsNotes old new
 AuditWrites h found InputOutput old new = AppendsPrefix old.out new.out (audit_text h found) × Notes old new (codes "write fault\n")
 AuditWrites h found status old new = ⊥
 

@@ -1,5 +1,5 @@
 -- What `check` answered and wrote, for an input whose bytes are known.
-use Rattle.std.specs.Prelude.{◌≡◌, ◌⊎◌, ℕ, List, [], reverse, Option, Ok, Err, codes}
+use Rattle.std.specs.Prelude.{◌≡◌, ◌⊎◌, ℕ, List, reverse, Option, Ok, Err, codes}
 use Rattle.std.specs.Io.KnownBytes.{Appends, Keeps}
 use Rattle.ec_text.specs.Puts.{Held, Puts, AppendsPrefix}
 use Rattle.ec_order.specs.declared.placed.Placed.{Placed}
@@ -12,7 +12,7 @@ use Rattle.ec_trace.specs.declared.fault.TraceFault.{TraceFault}
 use Rattle.ec_trace.specs.declared.read.TheConstants.{TRACE_MAX}
 use Rattle.evc_engine.specs.declared.status.Status.{Status}
 use Rattle.evc_engine.specs.declared.status.Status.TheVariants.{Done, Refused, Usage, InputOutput, Memory, Stopped}
-use Rattle.evc_engine.specs.Notes.{fault_note}
+use Rattle.evc_engine.specs.Notes.{IsWrittenOut, fault_note}
 use Rattle.evc_engine.specs.Texts.{check_lines, check_text}
 
 -- where the text and the notes go: what the writer of the text holds, what the writer of the notes holds, and the
@@ -22,9 +22,13 @@ pub record Outlets : Type 0 where
   pub notes : Option (List ℕ)
   pub held : Held
 
--- the note was put, and nothing else
+-- the note was put, and nothing else; and it doesn't wait: it was written, or a write has failed
 abbrev pub Notes : Outlets → Outlets → List ℕ → Type 0
-Notes old new note = Puts old.notes old.held new.notes new.held note
+Notes old new note = Puts old.notes old.held new.notes new.held note × IsWrittenOut new.held
+
+-- no note was put: the writer holds what it held, and the same notes wait
+abbrev pub KeepsNotes : Outlets → Outlets → Type 0
+KeepsNotes old new = (new.notes ≡ old.notes) × (new.held ≡ old.held)
 
 -- the text of a trace that was read
 abbrev pub text_for : Recounted → List ℕ
@@ -38,7 +42,7 @@ pub record TellsGoodOrder (t : Recounted) (text : List ℕ) : Type 0 where
 
 -- how the writing of the text of a trace ended
 abbrev pub Writes : Recounted → Status → Outlets → Outlets → Type 0
-Writes t Done old new = Appends old.out new.out (text_for t) × TellsGoodOrder t (text_for t) × Notes old new []
+Writes t Done old new = Appends old.out new.out (text_for t) × TellsGoodOrder t (text_for t) × KeepsNotes old new
 Writes t InputOutput old new = AppendsPrefix old.out new.out (text_for t) × Notes old new (codes "write fault\n")
 Writes t Memory old new = Keeps old.out new.out × Notes old new (codes "no memory\n")
 Writes t Refused old new = ⊥

@@ -5,3 +5,4 @@ pub mod Checks
 pub mod AuditTexts
 pub mod Audits
 pub mod AuditLaws
+pub mod NoteLaws

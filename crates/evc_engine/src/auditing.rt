@@ -7,6 +7,7 @@ ghost use Rattle.ec_semaphore.specs.Uses.{use_rules};
 ghost use Rattle.ec_semaphore.specs.Both.{is_line, both_rules};
 ghost use Rattle.ec_heading.specs.Groups.{FitsGroup};
 ghost use Rattle.evc_engine.specs.AuditTexts.{now_of};
+ghost use Rattle.evc_engine.specs.Notes.{IsWrittenOut};
 ghost use Rattle.ec_heading.specs.Rules.{semaphores_of, group_rules};
 ghost use Rattle.evc_engine.specs.Audits.{IsPairsOf, IsAudited, AreAudited, IsStop, stop_status, stop_note, AuditEnds, Audits};
 ghost use Rattle.ec_text.specs.Puts.{Puts};
@@ -151,6 +152,7 @@ fn audit_groups(alloc: Global, traced: &Traced) -> Result<Vec<Audited>, Stop>
 fn note_stop<N: Write>(heading: &Heading, stop: Stop, notes: &mut Notes<N>) -> Status
     ensures status { result ≡ stop_status stop.fault }
     ensures note { Puts (N.contents notes.old.writer) notes.old.table (N.contents notes.new.writer) notes.new.table (stop_note heading.now stop.group stop.fault) }
+    ensures written { IsWrittenOut notes.new.table }
 {
     match &stop.fault {
         AuditFault::NotFollowed { worker, entry } => {
@@ -171,9 +173,10 @@ fn write_audited<W: Write, N: Write>(
     out: &mut W,
     notes: &mut Notes<N>,
 ) -> Status
-    ensures { AuditEnds traced.now result
+    ensures ends { AuditEnds traced.now result
         (record { out = W.contents out.old; notes = N.contents notes.old.writer; held = notes.old.table })
         (record { out = W.contents out.new; notes = N.contents notes.new.writer; held = notes.new.table }) }
+    ensures written { IsWrittenOut notes.old.table → IsWrittenOut notes.new.table }
 {
     let found = match audit_groups(alloc, traced) {
         Ok(found) => found,
@@ -198,9 +201,10 @@ pub fn audit<R: Read, W: Write, N: Write>(
     out: &mut W,
     notes: &mut Notes<N>,
 ) -> Status
-    ensures { IfSome (R.remaining reader.old) (λ bytes. Audits bytes (R.remaining reader.new) result
+    ensures ends { IfSome (R.remaining reader.old) (λ bytes. Audits bytes (R.remaining reader.new) result
         (record { out = W.contents out.old; notes = N.contents notes.old.writer; held = notes.old.table })
         (record { out = W.contents out.new; notes = N.contents notes.new.writer; held = notes.new.table })) }
+    ensures written { IsWrittenOut notes.old.table → IsWrittenOut notes.new.table }
 {
     match read_trace(alloc, reader) {
         Ok(traced) => write_audited(alloc, &traced, out, notes),

@@ -2,7 +2,7 @@
 ghost use Rattle.std.specs.Prelude.{◌≡◌, [], IfSome, Ok, Err};
 ghost use Rattle.ec_text.specs.Puts.{Puts};
 ghost use Rattle.evc_engine.specs.Checks.{Checks, Writes};
-ghost use Rattle.evc_engine.specs.Notes.{fault_status};
+ghost use Rattle.evc_engine.specs.Notes.{IsWrittenOut, fault_status};
 
 use crate::notes::Notes;
 use crate::status::Status;
@@ -34,9 +34,10 @@ fn write_checked<W: Write, N: Write>(
     out: &mut W,
     notes: &mut Notes<N>,
 ) -> Status
-    ensures { Writes traced.now result
+    ensures ends { Writes traced.now result
         (record { out = W.contents out.old; notes = N.contents notes.old.writer; held = notes.old.table })
         (record { out = W.contents out.new; notes = N.contents notes.new.writer; held = notes.new.table }) }
+    ensures written { IsWrittenOut notes.old.table → IsWrittenOut notes.new.table }
 {
     let run = traced.run();
     let Ok(order) = in_order(alloc, run) else {
@@ -61,9 +62,10 @@ pub fn check<R: Read, W: Write, N: Write>(
     out: &mut W,
     notes: &mut Notes<N>,
 ) -> Status
-    ensures { IfSome (R.remaining reader.old) (λ bytes. Checks bytes (R.remaining reader.new) result
+    ensures ends { IfSome (R.remaining reader.old) (λ bytes. Checks bytes (R.remaining reader.new) result
         (record { out = W.contents out.old; notes = N.contents notes.old.writer; held = notes.old.table })
         (record { out = W.contents out.new; notes = N.contents notes.new.writer; held = notes.new.table })) }
+    ensures written { IsWrittenOut notes.old.table → IsWrittenOut notes.new.table }
 {
     match read_trace(alloc, reader) {
         Ok(traced) => write_checked(alloc, &traced, out, notes),

@@ -1,5 +1,6 @@
 //! What the contracts of the commands mean: each function says a law and does nothing.
 ghost use Rattle.evc_engine.specs.AuditLaws.{AuditsHaveOneText, TextOrBreak};
+ghost use Rattle.evc_engine.specs.NoteLaws.{NotesLeaveTheTable};
 
 /// What `audit` writes where it is done is determined by the bytes that it read: there is one text.
 pub fn audits_have_one_text()
@@ -9,4 +10,10 @@ pub fn audits_have_one_text()
 /// A trace has the text of an audit or a first group that is not followed, and never both.
 pub fn audits_end_one_way()
     ensures { TextOrBreak }
+{}
+
+/// A note that was put where none waited has left the table: its writer has it, or a front of it
+/// where a write has failed.
+pub fn notes_leave_the_table()
+    ensures { NotesLeaveTheTable }
 {}

@@ -13,6 +13,6 @@ mod totals;
 
 pub use auditing::audit;
 pub use checking::check;
-pub use laws::{audits_end_one_way, audits_have_one_text};
+pub use laws::{audits_end_one_way, audits_have_one_text, notes_leave_the_table};
 pub use notes::{Notes, put_line, put_refused};
 pub use status::Status;

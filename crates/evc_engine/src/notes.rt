@@ -1,7 +1,7 @@
 //! The notes, on their way to their writer.
 ghost use Rattle.std.specs.Prelude.{◌≡◌, [], codes};
 ghost use Rattle.ec_text.specs.Puts.{Puts, nothing_held};
-ghost use Rattle.evc_engine.specs.Notes.{fault_note, refused_words, wrong_words, line_words, broken_words, breaker_words, break_note};
+ghost use Rattle.evc_engine.specs.Notes.{IsWrittenOut, fault_note, refused_words, wrong_words, line_words, broken_words, breaker_words, break_note};
 ghost use Rattle.evc_engine.specs.Audits.{not_followed_note};
 
 use crate::audit_text::group_word;
@@ -32,7 +32,8 @@ impl<W: Write> Notes<W> {
 
     /// Puts a note, and writes it.
     pub fn say(&mut self, note: &[u8])
-        ensures { Puts (W.contents self.old.writer) self.old.table (W.contents self.new.writer) self.new.table note.now }
+        ensures puts { Puts (W.contents self.old.writer) self.old.table (W.contents self.new.writer) self.new.table note.now }
+        ensures written { IsWrittenOut self.new.table }
     {
         put(&mut self.writer, &mut self.table, note);
         flush(&mut self.writer, &mut self.table);
@@ -127,7 +128,8 @@ fn put_breaker<W: Write>(writer: &mut W, table: &mut Buffered, worker: &[u8], en
 impl<W: Write> Notes<W> {
     /// Puts the note on a fault of a trace, and writes it.
     pub fn fault(&mut self, fault: &TraceFault)
-        ensures { Puts (W.contents self.old.writer) self.old.table (W.contents self.new.writer) self.new.table (fault_note fault.now) }
+        ensures puts { Puts (W.contents self.old.writer) self.old.table (W.contents self.new.writer) self.new.table (fault_note fault.now) }
+        ensures written { IsWrittenOut self.new.table }
     {
         put_fault(&mut self.writer, &mut self.table, fault);
         flush(&mut self.writer, &mut self.table);
@@ -136,7 +138,8 @@ impl<W: Write> Notes<W> {
     /// Puts the note on a group that is not followed, and writes it: the group's number, and the
     /// first entry that breaks its rule, with that entry's worker.
     pub fn not_followed(&mut self, heading: &Heading, group: usize, worker: WorkerId, entry: usize)
-        ensures { Puts (W.contents self.old.writer) self.old.table (W.contents self.new.writer) self.new.table (not_followed_note heading.now group worker entry) }
+        ensures puts { Puts (W.contents self.old.writer) self.old.table (W.contents self.new.writer) self.new.table (not_followed_note heading.now group worker entry) }
+        ensures written { IsWrittenOut self.new.table }
     {
         let spellings = Spellings::new(heading.words());
         put_break(
