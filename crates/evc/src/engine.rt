@@ -1,6 +1,7 @@
 //! Runs the task that the command line names.
 ghost use Rattle.std.specs.Prelude.{IfSome};
 ghost use Rattle.evc_engine.specs.Checks.{Checks};
+ghost use Rattle.evc_engine.specs.Notes.{IsWrittenOut};
 ghost use Rattle.evc.specs.Tasks.{Does};
 
 use evc_engine::{Notes, Status, audit, check};
@@ -20,9 +21,10 @@ pub fn engine<H: Threads + Wait + Sync, R: Read, W: Write, N: Write>(
     out: &mut W,
     notes: &mut Notes<N>,
 ) -> Status
-    ensures { IfSome (R.remaining reader.old) (λ bytes. Does task bytes (R.remaining reader.new) result
+    ensures ends { IfSome (R.remaining reader.old) (λ bytes. Does task bytes (R.remaining reader.new) result
         (record { out = W.contents out.old; notes = N.contents notes.old.writer; held = notes.old.table })
         (record { out = W.contents out.new; notes = N.contents notes.new.writer; held = notes.new.table })) }
+    ensures written { IsWrittenOut notes.old.table → IsWrittenOut notes.new.table }
 {
     match task {
         Task::Check => check(alloc, reader, out, notes),

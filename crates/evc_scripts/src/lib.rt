@@ -14,5 +14,6 @@ pub use laws::{
     refused_scripts_have_one_fault, refused_sims_have_one_note, sims_end_one_way,
     sims_have_one_text, simulated_is_read_again,
 };
+pub use outcomes::note_mismatch;
 pub use running::run;
 pub use simulating::sim;

@@ -4,6 +4,7 @@ ghost use Rattle.ec_text.specs.Puts.{Puts};
 ghost use Rattle.ec_heading.specs.Spelling.{text_of};
 ghost use Rattle.evc_scripts.specs.OutcomeNotes.{outcome_words, outcome_line, outcome_lines, outcomes_note, kind_words, script_note, ended_words, ended_note};
 ghost use Rattle.evc_engine.specs.AuditTexts.{worker_word};
+ghost use Rattle.evc_engine.specs.Notes.{IsWrittenOut};
 ghost use Rattle.evc_scripts.specs.Runs.{mismatch_words};
 
 use ec_count::WorkerId;
@@ -87,7 +88,8 @@ fn put_outcomes<W: Write>(
 /// Notes how the programs of the workers have ended, and writes it.
 pub(crate) fn note_outcomes<N: Write>(notes: &mut Notes<N>, heading: &Heading, outcomes: &[Outcome])
     requires { length outcomes.now ≤ 16 }
-    ensures { Puts (N.contents notes.old.writer) notes.old.table (N.contents notes.new.writer) notes.new.table (outcomes_note heading.now outcomes.now) }
+    ensures puts { Puts (N.contents notes.old.writer) notes.old.table (N.contents notes.new.writer) notes.new.table (outcomes_note heading.now outcomes.now) }
+    ensures written { IsWrittenOut notes.new.table }
 {
     let spellings = Spellings::new(heading.words());
     put_outcomes(&mut notes.writer, &mut notes.table, &spellings, outcomes);
@@ -114,7 +116,8 @@ fn put_script_fault<W: Write>(writer: &mut W, table: &mut Buffered, line: u64, k
 
 /// Notes the first faulty line of a script, and writes it.
 pub(crate) fn note_kind<N: Write>(notes: &mut Notes<N>, line: u64, kind: Kind)
-    ensures { Puts (N.contents notes.old.writer) notes.old.table (N.contents notes.new.writer) notes.new.table (script_note line kind) }
+    ensures puts { Puts (N.contents notes.old.writer) notes.old.table (N.contents notes.new.writer) notes.new.table (script_note line kind) }
+    ensures written { IsWrittenOut notes.new.table }
 {
     put_script_fault(&mut notes.writer, &mut notes.table, line, kind);
     flush(&mut notes.writer, &mut notes.table);
@@ -138,7 +141,8 @@ pub(crate) fn note_ended<N: Write>(
     place: usize,
     worker: WorkerId,
 )
-    ensures { Puts (N.contents notes.old.writer) notes.old.table (N.contents notes.new.writer) notes.new.table (ended_note heading.now place worker) }
+    ensures puts { Puts (N.contents notes.old.writer) notes.old.table (N.contents notes.new.writer) notes.new.table (ended_note heading.now place worker) }
+    ensures written { IsWrittenOut notes.new.table }
 {
     let spellings = Spellings::new(heading.words());
     put_ended(
@@ -159,9 +163,11 @@ fn put_mismatch<W: Write>(writer: &mut W, table: &mut Buffered, worker: &[u8])
     put(writer, table, b"\n");
 }
 
-/// Notes that what a worker was told is not what it did, and writes it.
-pub(crate) fn note_mismatch<N: Write>(notes: &mut Notes<N>, heading: &Heading, worker: WorkerId)
-    ensures { Puts (N.contents notes.old.writer) notes.old.table (N.contents notes.new.writer) notes.new.table (mismatch_words (worker_word heading.now.words worker)) }
+/// Notes that what a worker was told is not what it did, and writes it. No run is known to come to
+/// this; it is public so that a test can write the note.
+pub fn note_mismatch<N: Write>(notes: &mut Notes<N>, heading: &Heading, worker: WorkerId)
+    ensures puts { Puts (N.contents notes.old.writer) notes.old.table (N.contents notes.new.writer) notes.new.table (mismatch_words (worker_word heading.now.words worker)) }
+    ensures written { IsWrittenOut notes.new.table }
 {
     let spellings = Spellings::new(heading.words());
     put_mismatch(

@@ -6,6 +6,7 @@ ghost use Rattle.ec_text.specs.Puts.{Puts};
 ghost use Rattle.ec_script.specs.Outcome.{shown_plan};
 ghost use Rattle.ec_script.specs.Confined.{IsPlan};
 ghost use Rattle.ec_runner.specs.RunReports.{IsReportOf};
+ghost use Rattle.evc_engine.specs.Notes.{IsWrittenOut};
 ghost use Rattle.evc_scripts.specs.Runs.{RunEnds, TextRuns, Runs, status_for, is_memory, is_cut_short, run_fault_status, run_fault_note};
 
 use crate::input::{InputFault, read_script};
@@ -50,6 +51,7 @@ fn status_for(outcomes: &[Outcome]) -> Status
 fn note_fault<N: Write>(heading: &Heading, fault: RunFault, notes: &mut Notes<N>) -> Status
     ensures status { result ≡ run_fault_status fault }
     ensures note { Puts (N.contents notes.old.writer) notes.old.table (N.contents notes.new.writer) notes.new.table (run_fault_note heading.now fault) }
+    ensures written { IsWrittenOut notes.new.table }
 {
     match fault {
         RunFault::Mismatch(worker) => {
@@ -76,9 +78,10 @@ fn write_report<W: Write, N: Write>(
 ) -> Status
     requires plan { IsPlan (shown_plan plan.now) }
     requires few { length report.now.outcomes.items ≡ plan.now.heading.setup.workers }
-    ensures { (turns : ℕ) → IsReportOf plan.now.heading.setup plan.now.programs.items turns report.now → RunEnds (shown_plan plan.now) turns result
+    ensures ends { (turns : ℕ) → IsReportOf plan.now.heading.setup plan.now.programs.items turns report.now → RunEnds (shown_plan plan.now) turns result
         (record { out = W.contents out.old; notes = N.contents notes.old.writer; held = notes.old.table })
         (record { out = W.contents out.new; notes = N.contents notes.new.writer; held = notes.new.table }) }
+    ensures written { IsWrittenOut notes.new.table }
 {
     plan.heading.known();
     plan.heading.setup().known();
@@ -101,9 +104,10 @@ fn run_plan<H: Threads + Wait + Sync, W: Write, N: Write>(
     notes: &mut Notes<N>,
 ) -> Status
     requires { IsPlan (shown_plan plan.now) }
-    ensures { RunEnds (shown_plan plan.now) turns result
+    ensures ends { RunEnds (shown_plan plan.now) turns result
         (record { out = W.contents out.old; notes = N.contents notes.old.writer; held = notes.old.table })
         (record { out = W.contents out.new; notes = N.contents notes.new.writer; held = notes.new.table }) }
+    ensures written { IsWrittenOut notes.new.table }
 {
     match run_workers(rt, alloc, plan, &OpenGate, turns) {
         Ok(report) => write_report(plan, &report, out, notes),
@@ -120,9 +124,10 @@ fn run_text<H: Threads + Wait + Sync, W: Write, N: Write>(
     out: &mut W,
     notes: &mut Notes<N>,
 ) -> Status
-    ensures { TextRuns text.now turns result
+    ensures ends { TextRuns text.now turns result
         (record { out = W.contents out.old; notes = N.contents notes.old.writer; held = notes.old.table })
         (record { out = W.contents out.new; notes = N.contents notes.new.writer; held = notes.new.table }) }
+    ensures written { IsWrittenOut notes.new.table }
 {
     match parse(alloc, text) {
         Ok(plan) => run_plan(rt, alloc, turns, &plan, out, notes),
@@ -150,9 +155,10 @@ pub fn run<H: Threads + Wait + Sync, R: Read, W: Write, N: Write>(
     out: &mut W,
     notes: &mut Notes<N>,
 ) -> Status
-    ensures { IfSome (R.remaining reader.old) (λ bytes. Runs turns bytes result
+    ensures ends { IfSome (R.remaining reader.old) (λ bytes. Runs turns bytes result
         (record { out = W.contents out.old; notes = N.contents notes.old.writer; held = notes.old.table })
         (record { out = W.contents out.new; notes = N.contents notes.new.writer; held = notes.new.table })) }
+    ensures written { IsWrittenOut notes.new.table }
 {
     match read_script(alloc, reader) {
         Ok(text) => run_text(rt, alloc, turns, text.as_slice(), out, notes),

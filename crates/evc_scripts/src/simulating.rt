@@ -5,6 +5,7 @@ ghost use Rattle.ec_text.specs.Puts.{Puts};
 ghost use Rattle.ec_runner.specs.Reported.{IsReport};
 ghost use Rattle.ec_script.specs.Confined.{IsPlan};
 ghost use Rattle.ec_script.specs.Outcome.{shown_plan};
+ghost use Rattle.evc_engine.specs.Notes.{IsWrittenOut};
 ghost use Rattle.evc_scripts.specs.Sims.{PlanEnds, TextEnds, Sims, fault_status, sim_fault_note};
 
 use crate::input::{InputFault, read_script};
@@ -26,9 +27,10 @@ fn write_report<W: Write, N: Write>(
 ) -> Status
     requires plan { IsPlan (shown_plan plan.now) }
     requires report { IsReport plan.now.heading.setup plan.now.programs.items plan.now.schedule.items report.now }
-    ensures { PlanEnds (shown_plan plan.now) result
+    ensures ends { PlanEnds (shown_plan plan.now) result
         (record { out = W.contents out.old; notes = N.contents notes.old.writer; held = notes.old.table })
         (record { out = W.contents out.new; notes = N.contents notes.new.writer; held = notes.new.table }) }
+    ensures written { IsWrittenOut notes.new.table }
 {
     plan.heading.known();
     report.run.known();
@@ -44,6 +46,7 @@ fn write_report<W: Write, N: Write>(
 fn note_fault<N: Write>(heading: &Heading, fault: SimFault, notes: &mut Notes<N>) -> Status
     ensures status { result ≡ fault_status fault }
     ensures note { Puts (N.contents notes.old.writer) notes.old.table (N.contents notes.new.writer) notes.new.table (sim_fault_note heading.now fault) }
+    ensures written { IsWrittenOut notes.new.table }
 {
     match fault {
         SimFault::Ended { place, worker } => {
@@ -65,9 +68,10 @@ fn sim_plan<W: Write, N: Write>(
     notes: &mut Notes<N>,
 ) -> Status
     requires { IsPlan (shown_plan plan.now) }
-    ensures { PlanEnds (shown_plan plan.now) result
+    ensures ends { PlanEnds (shown_plan plan.now) result
         (record { out = W.contents out.old; notes = N.contents notes.old.writer; held = notes.old.table })
         (record { out = W.contents out.new; notes = N.contents notes.new.writer; held = notes.new.table }) }
+    ensures written { IsWrittenOut notes.new.table }
 {
     match simulate(alloc, plan) {
         Ok(report) => write_report(plan, &report, out, notes),
@@ -82,9 +86,10 @@ fn sim_text<W: Write, N: Write>(
     out: &mut W,
     notes: &mut Notes<N>,
 ) -> Status
-    ensures { TextEnds text.now result
+    ensures ends { TextEnds text.now result
         (record { out = W.contents out.old; notes = N.contents notes.old.writer; held = notes.old.table })
         (record { out = W.contents out.new; notes = N.contents notes.new.writer; held = notes.new.table }) }
+    ensures written { IsWrittenOut notes.new.table }
 {
     match parse(alloc, text) {
         Ok(plan) => sim_plan(alloc, &plan, out, notes),
@@ -109,9 +114,10 @@ pub fn sim<R: Read, W: Write, N: Write>(
     out: &mut W,
     notes: &mut Notes<N>,
 ) -> Status
-    ensures { IfSome (R.remaining reader.old) (λ bytes. Sims bytes result
+    ensures ends { IfSome (R.remaining reader.old) (λ bytes. Sims bytes result
         (record { out = W.contents out.old; notes = N.contents notes.old.writer; held = notes.old.table })
         (record { out = W.contents out.new; notes = N.contents notes.new.writer; held = notes.new.table })) }
+    ensures written { IsWrittenOut notes.new.table }
 {
     match read_script(alloc, reader) {
         Ok(text) => sim_text(alloc, text.as_slice(), out, notes),

@@ -4,6 +4,7 @@ ghost use Rattle.std.specs.Io.KnownBytes.{Appends};
 ghost use Rattle.ec_text.specs.Puts.{Puts, AppendsPrefix};
 ghost use Rattle.ec_heading.specs.Outline.{Outline, IsOutline, headed};
 ghost use Rattle.ec_heading.specs.Spelling.{trace_text};
+ghost use Rattle.evc_engine.specs.Notes.{IsWrittenOut};
 ghost use Rattle.evc_scripts.specs.OutcomeNotes.{outcomes_note};
 
 use crate::outcomes::note_outcomes;
@@ -26,6 +27,7 @@ pub(crate) fn write_run<W: Write, N: Write>(
     ensures all { (o : Outline) → IsOutline o → headed o ≡ heading.now → result ≡ true → Appends (W.contents out.old) (W.contents out.new) (trace_text o run.now.entries) }
     ensures front { (o : Outline) → IsOutline o → headed o ≡ heading.now → result ≡ false → AppendsPrefix (W.contents out.old) (W.contents out.new) (trace_text o run.now.entries) }
     ensures noted { Puts (N.contents notes.old.writer) notes.old.table (N.contents notes.new.writer) notes.new.table (if result then outcomes_note heading.now outcomes.now else codes "write fault\n") }
+    ensures written { IsWrittenOut notes.new.table }
 {
     match write_trace(run, heading, out) {
         Ok(()) => {

@@ -10,8 +10,8 @@ use Rattle.evc_scripts.specs.Runs.{RunEnds, status_for}
 use Rattle.evc_scripts.proofs.RunLemmas.{have_run, told_ends}
 use Rattle.evc_scripts.proofs.running.write_report.Goals as goal
 
-pub returns-then-write_run : goal.returns-then-write_run
-returns-then-write_run g c = λ turns told.
+pub returns-then-write_run-clause-ends : goal.returns-then-write_run-clause-ends
+returns-then-write_run-clause-ends g c = λ turns told.
     let h : HasOutline c.args.plan.now.heading = c.known.ensures.outline c.requires.plan.some in
     let same : c.status_for.result ≡ status_for c.args.report.now.outcomes.items = c.status_for.ensures ∙ ap status_for c.as_slice-outcomes.ensures.value in
     subst (λ (s : Status). RunEnds (shown_plan c.args.plan.now) turns s
@@ -23,11 +23,14 @@ returns-then-write_run g c = λ turns told.
       _,
       have_run c.args.plan.now c.args.report.now turns h told c.known-3.ensures.accepted,
       c.if-write_run.ensures.all h.outline h.is h.declares refl,
-      subst (λ (os : List Outcome). Puts (g.N.Write.contents c.args.notes.now.writer) c.args.notes.now.table (g.N.Write.contents c.write_run.new.notes.writer) c.write_run.new.notes.table (outcomes_note c.args.plan.now.heading os))
-          c.as_slice-outcomes.ensures.value c.if-write_run.ensures.noted,
+      (
+        subst (λ (os : List Outcome). Puts (g.N.Write.contents c.args.notes.now.writer) c.args.notes.now.table (g.N.Write.contents c.write_run.new.notes.writer) c.write_run.new.notes.table (outcomes_note c.args.plan.now.heading os))
+            c.as_slice-outcomes.ensures.value c.if-write_run.ensures.noted,
+        c.if-write_run.ensures.written,
+      ),
     ))
 
-pub returns-else-write_run : goal.returns-else-write_run
-returns-else-write_run g c = λ turns told.
+pub returns-else-write_run-clause-ends : goal.returns-else-write_run-clause-ends
+returns-else-write_run-clause-ends g c = λ turns told.
     let h : HasOutline c.args.plan.now.heading = c.known.ensures.outline c.requires.plan.some in
-    inl (_, _, _, have_run c.args.plan.now c.args.report.now turns h told c.known-3.ensures.accepted, c.if-write_run.ensures.front h.outline h.is h.declares refl, c.if-write_run.ensures.noted)
+    inl (_, _, _, have_run c.args.plan.now c.args.report.now turns h told c.known-3.ensures.accepted, c.if-write_run.ensures.front h.outline h.is h.declares refl, (c.if-write_run.ensures.noted, c.if-write_run.ensures.written))

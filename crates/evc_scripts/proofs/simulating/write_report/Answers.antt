@@ -6,18 +6,21 @@ use Rattle.evc_scripts.specs.OutcomeNotes.{outcomes_note}
 use Rattle.evc_scripts.proofs.SimEnds.{is_played}
 use Rattle.evc_scripts.proofs.simulating.write_report.Goals as goal
 
-pub returns-then-write_run : goal.returns-then-write_run
-returns-then-write_run g c =
+pub returns-then-write_run-clause-ends : goal.returns-then-write_run-clause-ends
+returns-then-write_run-clause-ends g c =
     let h : HasOutline c.args.plan.now.heading = c.known.ensures.outline c.requires.plan.some in (
       _,
       _,
       is_played c.args.plan.now c.args.report.now h c.requires.report,
       c.if-write_run.ensures.all h.outline h.is h.declares refl,
-      subst (λ (os : List Outcome). Puts (g.N.Write.contents c.args.notes.now.writer) c.args.notes.now.table (g.N.Write.contents c.write_run.new.notes.writer) c.write_run.new.notes.table (outcomes_note c.args.plan.now.heading os))
-          c.as_slice-outcomes.ensures.value c.if-write_run.ensures.noted,
+      (
+        subst (λ (os : List Outcome). Puts (g.N.Write.contents c.args.notes.now.writer) c.args.notes.now.table (g.N.Write.contents c.write_run.new.notes.writer) c.write_run.new.notes.table (outcomes_note c.args.plan.now.heading os))
+            c.as_slice-outcomes.ensures.value c.if-write_run.ensures.noted,
+        c.if-write_run.ensures.written,
+      ),
     )
 
-pub returns-else-write_run : goal.returns-else-write_run
-returns-else-write_run g c =
+pub returns-else-write_run-clause-ends : goal.returns-else-write_run-clause-ends
+returns-else-write_run-clause-ends g c =
     let h : HasOutline c.args.plan.now.heading = c.known.ensures.outline c.requires.plan.some in
-    (_, _, is_played c.args.plan.now c.args.report.now h c.requires.report, c.if-write_run.ensures.front h.outline h.is h.declares refl, c.if-write_run.ensures.noted)
+    (_, _, is_played c.args.plan.now c.args.report.now h c.requires.report, c.if-write_run.ensures.front h.outline h.is h.declares refl, (c.if-write_run.ensures.noted, c.if-write_run.ensures.written))
