@@ -33,6 +33,8 @@ mod hostile_tests;
 #[cfg(test)]
 mod ids;
 #[cfg(test)]
+mod note_tests;
+#[cfg(test)]
 mod outcome;
 #[cfg(test)]
 mod texts;
