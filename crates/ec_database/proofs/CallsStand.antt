@@ -1,9 +1,10 @@
 -- Where the calls of the list that a worker is in stand.
-use Rattle.std.proofs.Common.{◌≡◌, ◌≢◌, ℕ, suc, ◌+◌, ◌<◌, true, false, List, [], ◌∷◌, ◌++◌, length, take, reverse, append_assoc, Some, refl, ap, sym, ◌∙◌, arith, subst, cond, ◌==◌, inl, inr, slice_get, get_or}
+use Rattle.std.proofs.Common.{◌≡◌, ◌≢◌, ℕ, suc, ◌+◌, ◌<◌, Bool, true, false, List, [], ◌∷◌, ◌++◌, length, take, reverse, append_assoc, Some, refl, ap, sym, ◌∙◌, arith, subst, cond, ◌==◌, inl, inr, slice_get, get_or}
 use Rattle.std.proofs.lemmas.Bool.{eqb-true, eqb-false, eq-eqb, ne_eqb}
 use Rattle.std.proofs.lemmas.List.{length-append, take-append-le, reverse-append, reverse-reverse, length-reverse}
 use Rattle.std.proofs.lemmas.Option.{slice_get-get_or}
 use Rattle.std.proofs.Math.Seq.{take-append_seam}
+use Rattle.ec_core.specs.declared.act.Act.{Act}
 use Rattle.ec_core.specs.declared.act.Reply.{Reply}
 use Rattle.ec_core.specs.declared.act.Reply.TheVariants.{Done, Number, Pending}
 use Rattle.ec_core.specs.declared.act.Entry.{Entry}
@@ -11,9 +12,11 @@ use Rattle.ec_core.specs.Counts.{past_at}
 use Rattle.ec_core.specs.Calls.{is_pending}
 use Rattle.ec_core.specs.Rounds.{IsPastOf}
 use Rattle.ec_core.specs.Following.{Told, Rule, extended, block_after, block}
+use Rattle.ec_core.specs.JoinedLists.{SpeaksOf}
 use Rattle.ec_core.proofs.Joining.{get_back}
 use Rattle.ec_core.proofs.CallRounds.{past_by_length}
 use Rattle.ec_core.proofs.Following.{op_at, other_block, own_block}
+use Rattle.ec_database.proofs.CallNumbers.{number, number_other, number_pending, number_on, number_off}
 use Rattle.ec_database.proofs.Readers.{last_get}
 
 -- an entry of w ends the call, which comes after these in its list; early is the past of that entry
@@ -28,20 +31,27 @@ pub record CallEnds (r : Rule) (w : ℕ) (past : List Entry) (before : List Told
   pub on : r.concerns before c.op ≡ true
   pub after : block r w early ≡ before
 
--- each of the calls ends, one after another
-pub record CallsStand (r : Rule) (w : ℕ) (past : List Entry) (calls : List Told) : Type 0 where
+-- each of the calls ends, one after another, and they are the last calls on the group
+pub record CallsStand (r : Rule) (on : Act → Bool) (w : ℕ) (past : List Entry) (calls : List Told) : Type 0 where
   pub place : ℕ → List Entry
   pub each : (i : ℕ) (c : Told) → slice_get calls i ≡ Some c → CallEnds r w past (take i calls) c (place i)
   pub order : (i j : ℕ) → i < j → j < length calls → length (place i) < length (place j)
+  pub numbers : (i : ℕ) → i < length calls → number on w (place i) + length calls ≡ number on w past + i
 
 later_call : (r : Rule) (w : ℕ) (x : Entry) (past : List Entry) (before : List Told) (c : Told) (early : List Entry) → CallEnds r w past before c early → CallEnds r w (x ∷ past) before c early
 later_call r w x past before c early h = record { since = x ∷ h.since; entry = h.entry; is = ap (λ p. x ∷ p) h.is; by = h.by; began = h.began; told = h.told; done = h.done; on = h.on; after = h.after }
 
-stand_later : (r : Rule) (w : ℕ) (x : Entry) (past : List Entry) (calls : List Told) → CallsStand r w past calls → CallsStand r w (x ∷ past) calls
-stand_later r w x past calls h = record { place = h.place; each = λ i c at. later_call r w x past (take i calls) c (h.place i) (h.each i c at); order = h.order }
+stand_later : (r : Rule) (on : Act → Bool) (w : ℕ) (x : Entry) (past : List Entry) (calls : List Told) → number on w (x ∷ past) ≡ number on w past → CallsStand r on w past calls
+    → CallsStand r on w (x ∷ past) calls
+stand_later r on w x past calls same h = record {
+  place = h.place;
+  each = λ i c at. later_call r w x past (take i calls) c (h.place i) (h.each i c at);
+  order = h.order;
+  numbers = λ i lt. (let was = h.numbers i lt in omega arith);
+}
 
-none_stand : (r : Rule) (w : ℕ) (past : List Entry) → CallsStand r w past []
-none_stand r w past = record { place = λ i. []; each = λ i c at. cc; order = λ i j lt small. absurd (omega arith) }
+none_stand : (r : Rule) (on : Act → Bool) (w : ℕ) (past : List Entry) → CallsStand r on w past []
+none_stand r on w past = record { place = λ i. []; each = λ i c at. cc; order = λ i j lt small. absurd (omega arith); numbers = λ i lt. absurd (omega arith) }
 
 -- it ended before
 pub ends_before : (r : Rule) (w : ℕ) (past : List Entry) (before : List Told) (c : Told) (early : List Entry) → CallEnds r w past before c early → length early < length past
@@ -52,9 +62,9 @@ call_here : (r : Rule) (x : Entry) (past : List Entry) (calls : List Told) (c : 
     → r.concerns calls c.op ≡ true → CallEnds r x.worker (x ∷ past) calls c past
 call_here r x past calls c at began told done on = record { since = []; entry = x; is = refl; by = refl; began = began; told = told; done = done; on = on; after = at }
 
-stand_more : (r : Rule) (x : Entry) (past : List Entry) (calls : List Told) (c : Told) → CallsStand r x.worker past calls → CallEnds r x.worker (x ∷ past) calls c past
-    → CallsStand r x.worker (x ∷ past) (calls ++ c ∷ [])
-stand_more r x past calls c h new =
+stand_more : (r : Rule) (on : Act → Bool) (x : Entry) (past : List Entry) (calls : List Told) (c : Told) → number on x.worker (x ∷ past) ≡ number on x.worker past + 1
+    → CallsStand r on x.worker past calls → CallEnds r x.worker (x ∷ past) calls c past → CallsStand r on x.worker (x ∷ past) (calls ++ c ∷ [])
+stand_more r on x past calls c one h new =
     let place : ℕ → List Entry = λ i. cond (i == length calls) past (h.place i) in
     let earlier : (i : ℕ) → i < length calls → place i ≡ h.place i = λ i lt. ap (λ b. cond b past (h.place i)) (ne_eqb i (length calls) (λ e. omega arith)) in
     let last : (i : ℕ) → i ≡ length calls → place i ≡ past = λ i e. ap (λ b. cond b past (h.place i)) (eq-eqb i (length calls) e) in
@@ -92,45 +102,62 @@ stand_more r x past calls c h new =
                 let was : length (h.place i) < length (h.place j) = h.order i j lt within in
                 omega arith)
           ] refl);
+      numbers = λ i small.
+          (let longer : length (calls ++ c ∷ []) ≡ length calls + 1 = length-append calls (c ∷ []) in
+          elim (i == length calls) as (λ b. (i == length calls) ≡ b → number on x.worker (place i) + length (calls ++ c ∷ []) ≡ number on x.worker (x ∷ past) + i) [
+            | true ↦ λ e.
+                (let here : i ≡ length calls = eqb-true i (length calls) e in
+                let at : number on x.worker (place i) ≡ number on x.worker past = ap (number on x.worker) (last i here) in
+                omega arith)
+            | false ↦ λ e.
+                (let other : i ≢ length calls = eqb-false i (length calls) e in
+                let within : i < length calls = omega arith in
+                let at : number on x.worker (place i) ≡ number on x.worker (h.place i) = ap (number on x.worker) (earlier i within) in
+                let was = h.numbers i within in
+                omega arith)
+          ] refl);
     }
 
-stand_told : (r : Rule) (x : Entry) (past : List Entry) (calls : List Told) (reply : Reply) → CallsStand r x.worker past calls → block r x.worker past ≡ calls → x.reply ≡ reply → is_pending reply ≡ false
-    → CallsStand r x.worker (x ∷ past) (extended r calls (record { op = op_at x past; reply = reply }))
-stand_told r x past calls reply h at told done =
+stand_told : (r : Rule) (on : Act → Bool) (x : Entry) (past : List Entry) (calls : List Told) (reply : Reply) → SpeaksOf r on → CallsStand r on x.worker past calls → block r x.worker past ≡ calls
+    → x.reply ≡ reply → is_pending reply ≡ false → CallsStand r on x.worker (x ∷ past) (extended r calls (record { op = op_at x past; reply = reply }))
+stand_told r on x past calls reply speaks h at told done =
     let c : Told = record { op = op_at x past; reply = reply } in
-    elim (r.concerns calls (op_at x past)) as (λ b. r.concerns calls (op_at x past) ≡ b → CallsStand r x.worker (x ∷ past) (cond b (cond (r.ends (calls ++ c ∷ [])) [] (calls ++ c ∷ [])) calls)) [
-      | true ↦ λ on.
-          (elim (r.ends (calls ++ c ∷ [])) as (λ b. CallsStand r x.worker (x ∷ past) (cond b [] (calls ++ c ∷ []))) [
-            | true ↦ none_stand r x.worker (x ∷ past)
-            | false ↦ stand_more r x past calls c h (call_here r x past calls c at refl told (ap is_pending told ∙ done) on)
+    let done' : is_pending x.reply ≡ false = ap is_pending told ∙ done in
+    elim (r.concerns calls (op_at x past)) as (λ b. r.concerns calls (op_at x past) ≡ b → CallsStand r on x.worker (x ∷ past) (cond b (cond (r.ends (calls ++ c ∷ [])) [] (calls ++ c ∷ [])) calls)) [
+      | true ↦ λ is.
+          (elim (r.ends (calls ++ c ∷ [])) as (λ b. CallsStand r on x.worker (x ∷ past) (cond b [] (calls ++ c ∷ []))) [
+            | true ↦ none_stand r on x.worker (x ∷ past)
+            | false ↦
+                stand_more r on x past calls c (number_on on x past done' (sym (speaks calls (op_at x past)) ∙ is)) h
+                (call_here r x past calls c at refl told done' is)
           ])
-      | false ↦ λ off. stand_later r x.worker x past calls h
+      | false ↦ λ off. stand_later r on x.worker x past calls (number_off on x past done' (sym (speaks calls (op_at x past)) ∙ off)) h
     ] refl
 
-stand_after : (r : Rule) (x : Entry) (past : List Entry) (calls : List Told) (reply : Reply) → CallsStand r x.worker past calls → block r x.worker past ≡ calls → x.reply ≡ reply
-    → CallsStand r x.worker (x ∷ past) (block_after r calls (op_at x past) reply)
-stand_after r x past calls Pending h at told = stand_later r x.worker x past calls h
-stand_after r x past calls Done h at told = stand_told r x past calls Done h at told refl
-stand_after r x past calls (Number n) h at told = stand_told r x past calls (Number n) h at told refl
+stand_after : (r : Rule) (on : Act → Bool) (x : Entry) (past : List Entry) (calls : List Told) (reply : Reply) → SpeaksOf r on → CallsStand r on x.worker past calls → block r x.worker past ≡ calls
+    → x.reply ≡ reply → CallsStand r on x.worker (x ∷ past) (block_after r calls (op_at x past) reply)
+stand_after r on x past calls Pending speaks h at told = stand_later r on x.worker x past calls (number_pending on x past (ap is_pending told)) h
+stand_after r on x past calls Done speaks h at told = stand_told r on x past calls Done speaks h at told refl
+stand_after r on x past calls (Number n) speaks h at told = stand_told r on x past calls (Number n) speaks h at told refl
 
-none_first : (r : Rule) (w : ℕ) → CallsStand r w [] (block r w [])
+none_first : (r : Rule) (on : Act → Bool) (w : ℕ) → CallsStand r on w [] (block r w [])
 unfolding block
-none_first r w = none_stand r w []
+none_first r on w = none_stand r on w []
 
 -- the calls of a worker's list stand in its past
-pub calls_stand : (r : Rule) (w : ℕ) (past : List Entry) → CallsStand r w past (block r w past)
-calls_stand r w [] = none_first r w
-calls_stand r w (x ∷ past) =
-    elim (x.worker == w) as (λ b. (x.worker == w) ≡ b → CallsStand r w (x ∷ past) (block r w (x ∷ past))) [
+pub calls_stand : (r : Rule) (on : Act → Bool) (w : ℕ) (past : List Entry) → SpeaksOf r on → CallsStand r on w past (block r w past)
+calls_stand r on w [] speaks = none_first r on w
+calls_stand r on w (x ∷ past) speaks =
+    elim (x.worker == w) as (λ b. (x.worker == w) ≡ b → CallsStand r on w (x ∷ past) (block r w (x ∷ past))) [
       | true ↦ λ e.
           (let same : x.worker ≡ w = eqb-true x.worker w e in
-          let P : ℕ → Type 0 = λ v. CallsStand r v (x ∷ past) (block r v (x ∷ past)) in
-          let Q : ℕ → Type 0 = λ v. CallsStand r v past (block r v past) in
-          let R : List Told → Type 0 = λ calls. CallsStand r x.worker (x ∷ past) calls in
-          subst P same (subst R (sym (own_block r x past)) (stand_after r x past (block r x.worker past) x.reply (subst Q (sym same) (calls_stand r w past)) refl refl)))
+          let P : ℕ → Type 0 = λ v. CallsStand r on v (x ∷ past) (block r v (x ∷ past)) in
+          let Q : ℕ → Type 0 = λ v. CallsStand r on v past (block r v past) in
+          let R : List Told → Type 0 = λ calls. CallsStand r on x.worker (x ∷ past) calls in
+          subst P same (subst R (sym (own_block r x past)) (stand_after r on x past (block r x.worker past) x.reply speaks (subst Q (sym same) (calls_stand r on w past speaks)) refl refl)))
       | false ↦ λ e.
-          (let R : List Told → Type 0 = λ calls. CallsStand r w (x ∷ past) calls in
-          subst R (sym (other_block r w x past e)) (stand_later r w x past (block r w past) (calls_stand r w past)))
+          (let R : List Told → Type 0 = λ calls. CallsStand r on w (x ∷ past) calls in
+          subst R (sym (other_block r w x past e)) (stand_later r on w x past (block r w past) (number_other on w x past e) (calls_stand r on w past speaks)))
     ] refl
 
 -- IN ORDER OF TIME

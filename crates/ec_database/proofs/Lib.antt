@@ -1,4 +1,5 @@
 pub mod Asking
+pub mod CallNumbers
 pub mod CallsStand
 pub mod Counting
 pub mod Declaring
@@ -7,6 +8,7 @@ pub mod JoinedCalls
 pub mod Listing
 pub mod Once
 pub mod OneList
+pub mod OwnEntries
 pub mod Placed
 pub mod Readers
 pub mod Spelled

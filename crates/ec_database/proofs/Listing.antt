@@ -1,7 +1,6 @@
 -- The accepting tries are listed in the order of their last steps.
-use Rattle.std.proofs.Common.{◌≡◌, ℕ, Bool, List, [], ◌∷◌, ◌++◌, append_assoc, length, map, reverse, Option, Some, None, refl, ap, sym, ◌∙◌, arith, ◌⊎◌, inl, inr, slice_get, get_or}
-use Rattle.std.specs.Prelude.{option_to_list, All}
-use Rattle.std.proofs.lemmas.Option.{slice_get-get_or}
+use Rattle.std.proofs.Common.{◌≡◌, ℕ, Bool, List, [], ◌∷◌, ◌++◌, append_assoc, length, map, reverse, Option, Some, None, refl, ap, sym, ◌∙◌, arith, ◌⊎◌, inl, inr, slice_get}
+use Rattle.std.specs.Prelude.{option_to_list}
 use Rattle.std.proofs.lemmas.List.{append-nil, map-append}
 use Rattle.std.specs.Option.{option_map}
 use Rattle.ec_count.specs.Tables.{Tables}
@@ -10,7 +9,7 @@ use Rattle.ec_core.specs.Counts.{past_at}
 use Rattle.ec_core.proofs.Joining.{get_back}
 use Rattle.ec_database.specs.Shapes.{Database}
 use Rattle.ec_database.specs.Following.{writes}
-use Rattle.ec_database.specs.Tries.{AcceptedTry, ended_at, accepted_tries, ListsTries, IsUndisturbed}
+use Rattle.ec_database.specs.Tries.{AcceptedTry, ended_at, accepted_tries, ListsTries, AreUndisturbed}
 use Rattle.ec_database.specs.Laws.{IsFollowed, TriesAreListed}
 use Rattle.ec_database.proofs.Readers.{last_get}
 use Rattle.ec_database.proofs.CallsStand.{entry_at}
@@ -97,8 +96,5 @@ next_tries f d writers x past list (Some a) h told =
     map-append f list (a ∷ []) ∙ ap (λ l. l ++ f a ∷ []) h ∙ ap (λ z. accepted_tries d writers past ++ option_to_list z) told ∙ sym (tries_step d writers x past)
 
 -- each try of the list is undisturbed
-pub all_undisturbed : (t : Tables) (d : Database) (h : List Entry) (list : List AcceptedTry) → IsFollowed t d h → ListsTries t d h list → All (IsUndisturbed t d h) list
-all_undisturbed t d h list f tries k z lt =
-    let a = get_or list k z in
-    let e = tries.each k a (slice_get-get_or list k z lt) in
-    undisturbed t d h f e.0 a e.2
+pub all_undisturbed : (t : Tables) (d : Database) (h : List Entry) (list : List AcceptedTry) → IsFollowed t d h → ListsTries t d h list → AreUndisturbed t d h list
+all_undisturbed t d h list f tries i a at = (let e = tries.each i a at in (e.0, e.1, e.2, undisturbed t d h f e.0 a e.2))

@@ -29,7 +29,7 @@ use Rattle.ec_database.specs.Calls.{first_number, turn_of, try_call}
 use Rattle.ec_database.specs.Versions.{IsOfVersion}
 use Rattle.ec_database.specs.Following.{is_on, writes, write_rule, try_rule, database_rules, FollowsDatabase}
 use Rattle.ec_database.specs.Snapshots.{is_whole, agrees, version_read, values_got}
-use Rattle.ec_database.specs.Tries.{AcceptedTry, accepted_of, EndsCall, IsUndisturbed, is_put_on}
+use Rattle.ec_database.specs.Tries.{AcceptedTry, accepted_of, EndsCall, IsUndisturbed, is_put_on, calls_before}
 use Rattle.ec_database.specs.Laws.{IsFollowed, AcceptedTriesAreUndisturbed}
 use Rattle.ec_database.proofs.Trying.{whole_is}
 use Rattle.ec_database.proofs.Getting.{short}
@@ -39,6 +39,7 @@ use Rattle.ec_database.proofs.Steady.{lead_less, drawn_less, on_of, writing, put
 use Rattle.ec_database.proofs.Readers.{IsSnapshot, IsReader, readers}
 use Rattle.ec_database.proofs.Turns.{follow_before, put_stands, put_by_writer}
 use Rattle.ec_database.proofs.CallsStand.{CallEnds, CallsStand, calls_stand, ends_before, entry_at}
+use Rattle.ec_database.proofs.CallNumbers.{number, number_began}
 
 -- PASTS OF A HISTORY
 
@@ -288,9 +289,13 @@ got_is t d h w r i gets j c early lt le s =
 past_shorter : (p q : List Entry) → IsPastOf p q → length p ≤ length q
 past_shorter p q is = (let whole : length q ≡ length is.since + length p = ap length is.is ∙ length-append is.since p in omega arith)
 
+-- how many calls its reader had finished there
+counted : (d : Database) (h : List Entry) (v w : ℕ) (early : List Entry) → v ≡ w → past_at (length early) h ≡ early → calls_before d h v (length early) ≡ number (is_on d) w early
+counted d h v w early same is = ap (λ u. number (is_on d) u (past_at (length early) h)) same ∙ ap (number (is_on d) w) is
+
 -- THE LAW
 
-whole_try : (t : Tables) (d : Database) (h : List Entry) (k : ℕ) (x : Entry) (a : AcceptedTry) (r i : Told) (gets : List Told) → IsFollowed t d h → IsTry t d h k x a r i gets → IsUndisturbed t d h a
+whole_try : (t : Tables) (d : Database) (h : List Entry) (k : ℕ) (x : Entry) (a : AcceptedTry) (r i : Told) (gets : List Told) → IsFollowed t d h → IsTry t d h k x a r i gets → IsUndisturbed t d h k a
 whole_try t d h k x a r i gets f e =
     let w = x.worker in
     let q = began x (past_at k h) in
@@ -298,13 +303,15 @@ whole_try t d h k x a r i gets f e =
     let b = begun t d h k x a r i gets f e in
     let many : length gets ≡ d.cells = e.many in
     let some : 0 < d.cells = f.shape.some in
-    let number : Told → ℕ = λ c. number_of c.reply in
-    let S : List Told → Type 0 = λ cs. CallsStand (try_rule d) w q cs in
-    let stand : CallsStand (try_rule d) w q calls = subst S b.calls (calls_stand (try_rule d) w q) in
+    let answer : Told → ℕ = λ c. number_of c.reply in
+    let S : List Told → Type 0 = λ cs. CallsStand (try_rule d) (is_on d) w q cs in
+    let stand : CallsStand (try_rule d) (is_on d) w q calls = subst S b.calls (calls_stand (try_rule d) (is_on d) w q (λ before op. refl)) in
     let got : ℕ → ℕ = λ j. length (stand.place (suc (suc j))) in
     let get_at : (j : ℕ) → j < d.cells → slice_get gets j ≡ Some (get_or gets j r) = λ j lt. slice_get-get_or gets j r (omega arith) in
     let get_stands : (j : ℕ) → j < d.cells → CallEnds (try_rule d) w q (r ∷ i ∷ take j gets) (get_or gets j r) (stand.place (suc (suc j))) =
     λ j lt. stand.each (suc (suc j)) (get_or gets j r) (get_at j lt) in
+    let get : (j : ℕ) → j < d.cells → StandsAt t d h w (r ∷ i ∷ take j gets) (get_or gets j r) (stand.place (suc (suc j))) =
+    λ j lt. stands_at t d h w q (r ∷ i ∷ take j gets) (get_or gets j r) (stand.place (suc (suc j))) f b.past e.reader (get_stands j lt) in
     let first = stands_at t d h w q [] r (stand.place 0) f b.past e.reader (stand.each 0 r refl) in
     let op = first_due d r.op first.due in
     let reply : r.reply ≡ Number a.version =
@@ -317,20 +324,21 @@ whole_try t d h k x a r i gets f e =
     let before_last : got (d.cells - 1) < length q = ends_before (try_rule d) w q (r ∷ i ∷ take (d.cells - 1) gets) (get_or gets (d.cells - 1) r) (stand.place (suc (suc (d.cells - 1)))) (get_stands (d.cells - 1) last) in
     let within : length q ≤ length (past_at k h) = past_shorter q (past_at k h) (began_past x (past_at k h)).0 in
     let at_k : length (past_at k h) ≡ k = length_past h k x e.at in
+    let calls_of : List Entry → ℕ = number (is_on d) w in
+    let at_first : calls_before d h a.worker (length (stand.place 0)) ≡ calls_of (stand.place 0) = counted d h a.worker w (stand.place 0) e.worker first.past in
+    let none : calls_of (stand.place 0) + length calls ≡ calls_of q + 0 = stand.numbers 0 (omega arith) in
     let P : ℕ → Type 0 = λ v. EndsCall h (length (stand.place 0)) v (Read d.start) (Number a.version) in
     let Q : Reply → Type 0 = λ z. EndsCall h (length (stand.place 0)) w (Read d.start) z in
     record {
       first = length (stand.place 0);
       got = got;
-      last = k;
       read = subst P (sym e.worker) (subst Q reply (ends_call t d h w d.start [] r (stand.place 0) first op));
       gets = λ j lt.
           (let c = get_or gets j r in
-          let g = got_is t d h w r i gets j c (stand.place (suc (suc j))) lt (omega arith)
-          (stands_at t d h w q (r ∷ i ∷ take j gets) c (stand.place (suc (suc j))) f b.past e.reader (get_stands j lt)) in (
-            number c,
-            ap (λ vs. slice_get vs j) e.values ∙ slice_get-map number gets j ∙ ap (option_map number) (get_at j lt),
-            g.is ∙ ap (λ v. Some (record { worker = v; act = Get (d.first_cell + j); reply = Number (number c) })) (sym e.worker),
+          let g = got_is t d h w r i gets j c (stand.place (suc (suc j))) lt (omega arith) (get j lt) in (
+            answer c,
+            ap (λ vs. slice_get vs j) e.values ∙ slice_get-map answer gets j ∙ ap (option_map answer) (get_at j lt),
+            g.is ∙ ap (λ v. Some (record { worker = v; act = Get (d.first_cell + j); reply = Number (answer c) })) (sym e.worker),
           ));
       again = record {
         entry = x;
@@ -342,10 +350,18 @@ whole_try t d h k x a r i gets f e =
       begins = stand.order 0 2 (omega arith) (omega arith);
       order = λ m n lt small. stand.order (suc (suc m)) (suc (suc n)) (omega arith) (omega arith);
       ends = omega arith;
-      all = ap length e.values ∙ length-map gets number ∙ many;
+      gets_number = λ j lt.
+          (let at : calls_before d h a.worker (got j) ≡ calls_of (stand.place (suc (suc j))) = counted d h a.worker w (stand.place (suc (suc j))) e.worker (get j lt).past in
+          let some : calls_of (stand.place (suc (suc j))) + length calls ≡ calls_of q + suc (suc j) = stand.numbers (suc (suc j)) (omega arith) in
+          omega arith);
+      again_number =
+          (let at : calls_before d h a.worker k ≡ calls_of (past_at k h) = ap (λ v. number (is_on d) v (past_at k h)) e.worker in
+          let then : calls_of q ≡ calls_of (past_at k h) = number_began (is_on d) x (past_at k h) in
+          omega arith);
+      all = ap length e.values ∙ length-map gets answer ∙ many;
       calm = λ m y after before at. calm_between t d h m (number_of r.reply) y (stand.place 2) q f is_start b.past done b.low after (omega arith) at;
       holds = λ j v in_values.
-          (let z = map_at number gets j v (ap (λ vs. slice_get vs j) (sym e.values) ∙ in_values) in
+          (let z = map_at answer gets j v (ap (λ vs. slice_get vs j) (sym e.values) ∙ in_values) in
           let lt : j < length gets = slice_get_within gets j z.0 z.1 in
           let V : ℕ → Type 0 = λ n. IsVersionIn d (writes t d) n j v q in
           let U : ℕ → Type 0 = λ u. IsVersionIn d (writes t d) (number_of r.reply) j u q in

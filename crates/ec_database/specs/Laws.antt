@@ -31,11 +31,16 @@ VersionsArePutOnce = (t : Tables) (d : Database) (h : List Entry) → IsFollowed
 
 -- an accepting try holds one version, and nothing is put between its gets
 abbrev pub AcceptedTriesAreUndisturbed : Type 0
-AcceptedTriesAreUndisturbed = (t : Tables) (d : Database) (h : List Entry) → IsFollowed t d h → (k : ℕ) (a : AcceptedTry) → EndsTry t d h k a → IsUndisturbed t d h a
+AcceptedTriesAreUndisturbed = (t : Tables) (d : Database) (h : List Entry) → IsFollowed t d h → (k : ℕ) (a : AcceptedTry) → EndsTry t d h k a → IsUndisturbed t d h k a
 
 -- the accepting tries are listed, each once and no others, in the order of their last steps
 abbrev pub TriesAreListed : Type 0
 TriesAreListed = (t : Tables) (d : Database) (h : List Entry) → ListsTries t d h (accepted_tries d (writes t d) (reverse h))
+
+-- an accepting try has one first read and one get of each value: what makes it undisturbed is said of no other entries
+abbrev pub TriesHaveOwnEntries : Type 0
+TriesHaveOwnEntries = (t : Tables) (d : Database) (h : List Entry) (last : ℕ) (a : AcceptedTry) (x y : IsUndisturbed t d h last a)
+    → (x.first ≡ y.first) × ((j : ℕ) → j < d.cells → x.got j ≡ y.got j)
 
 -- there is one list of them
 abbrev pub TriesAreDetermined : Type 0

@@ -9,6 +9,7 @@ use Rattle.ec_core.specs.declared.act.Entry.{Entry}
 use Rattle.ec_core.specs.Counts.{past_at}
 use Rattle.ec_core.specs.Calls.{is_pending, under_way}
 use Rattle.ec_core.specs.Following.{Told, opened, block}
+use Rattle.ec_core.specs.JoinedLists.{finished_by, calls_on}
 use Rattle.ec_database.specs.Shapes.{Database}
 use Rattle.ec_database.specs.Following.{is_cell, is_on, writes, try_rule}
 use Rattle.ec_database.specs.Versions.{IsOfVersion}
@@ -71,18 +72,29 @@ pub record EndsCall (h : List Entry) (k w : ℕ) (op : Act) (reply : Reply) : Ty
   pub began : opened entry.act (under_way w (past_at k h)) ≡ op
   pub told : entry.reply ≡ reply
 
--- the entries of an accepting try: its reader read its version at entry first, got each value at entry got j, one after
--- another, and read the version again at entry last; no entry between the gets puts into the database
-pub record IsUndisturbed (t : Tables) (d : Database) (h : List Entry) (a : AcceptedTry) : Type 0 where
+-- how many calls on the database w has finished before entry k
+abbrev pub calls_before : Database → List Entry → ℕ → ℕ → ℕ
+calls_before d h w k = length (calls_on (is_on d) (finished_by w (past_at k h)))
+
+-- the entries of the accepting try that ends at entry last: its reader read its version at entry first, got each value at
+-- entry got j, one after another, and read the version again at entry last. The numbers say that these are of this try
+-- and of no other: from first to last its reader finished no call on the database but these, and one between the first
+-- and the gets, where the list has the await. No entry between the gets puts into the database
+pub record IsUndisturbed (t : Tables) (d : Database) (h : List Entry) (last : ℕ) (a : AcceptedTry) : Type 0 where
   pub first : ℕ
   pub got : ℕ → ℕ
-  pub last : ℕ
   pub read : EndsCall h first a.worker (Read d.start) (Number a.version)
   pub gets : (j : ℕ) → j < d.cells → (v : ℕ) × (slice_get a.values j ≡ Some v) × (slice_get h (got j) ≡ Some (record { worker = a.worker; act = Get (d.first_cell + j); reply = Number v }))
   pub again : EndsCall h last a.worker (Read d.start) (Number a.version)
   pub begins : first < got 0
   pub order : (i j : ℕ) → i < j → j < d.cells → got i < got j
   pub ends : got (d.cells - 1) < last
+  pub gets_number : (j : ℕ) → j < d.cells → calls_before d h a.worker (got j) ≡ calls_before d h a.worker first + (j + 2)
+  pub again_number : calls_before d h a.worker last ≡ calls_before d h a.worker first + (d.cells + 2)
   pub all : length a.values ≡ d.cells
   pub calm : (k : ℕ) (x : Entry) → got 0 < k → k < got (d.cells - 1) → slice_get h k ≡ Some x → is_put_on d x.act ≡ false
   pub holds : (j v : ℕ) → slice_get a.values j ≡ Some v → IsOfVersion t d h a.version j v
+
+-- try i of the list is the accepting try with i before it, and is undisturbed
+abbrev pub AreUndisturbed : Tables → Database → List Entry → List AcceptedTry → Type 0
+AreUndisturbed t d h list = (i : ℕ) (a : AcceptedTry) → slice_get list i ≡ Some a → (k : ℕ) × (tries_before t d h k ≡ i) × EndsTry t d h k a × IsUndisturbed t d h k a

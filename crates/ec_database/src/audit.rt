@@ -1,12 +1,12 @@
 //! The accepting tries of a run.
-ghost use Rattle.std.specs.Prelude.{◌≡◌, ◌<◌, ◌≤◌, ℕ, List, [], ◌∷◌, ◌++◌, option_to_list, length, map, take, reverse, slice_get, slice_set, All, Some, IfOk, OnOk, IfErr};
+ghost use Rattle.std.specs.Prelude.{◌≡◌, ◌<◌, ◌≤◌, ℕ, List, [], ◌∷◌, ◌++◌, option_to_list, length, map, take, reverse, slice_get, slice_set, Some, IfOk, OnOk, IfErr};
 ghost use Rattle.std.specs.Option.{option_map};
 ghost use Rattle.ec_core.specs.declared.act.Entry.{Entry};
 ghost use Rattle.ec_core.specs.Scanning.{IsScanned};
 ghost use Rattle.ec_core.specs.Audits.{IsAuditFault};
 ghost use Rattle.ec_database.specs.Following.{writes, rules, database_rules, FollowsDatabase};
 ghost use Rattle.ec_database.specs.Places.{kept_of};
-ghost use Rattle.ec_database.specs.Tries.{ended_at, accepted_tries, ListsTries, IsUndisturbed};
+ghost use Rattle.ec_database.specs.Tries.{ended_at, accepted_tries, ListsTries, AreUndisturbed};
 ghost use Rattle.ec_database.specs.Auditing.{shown, finished_call, rows_after, try_ended, HasRow, HoldsGot};
 
 use crate::DatabaseShape;
@@ -177,7 +177,7 @@ pub fn versions(
 ) -> Result<Vec<Accepted>, AuditFault>
     ensures followed { OnOk result (FollowsDatabase run.now.setup shape.now (reverse run.now.entries)) }
     ensures tries { IfOk result (λ list. ListsTries run.now.setup shape.now run.now.entries (map shown list.items)) }
-    ensures undisturbed { IfOk result (λ list. All (IsUndisturbed run.now.setup shape.now run.now.entries) (map shown list.items)) }
+    ensures undisturbed { IfOk result (λ list. AreUndisturbed run.now.setup shape.now run.now.entries (map shown list.items)) }
     ensures err { IfErr result (IsAuditFault (database_rules run.now.setup shape.now) run.now.entries) }
 {
     run.known();

@@ -1,6 +1,6 @@
 //! What the definitions mean: each function says a law and does nothing.
 ghost use Rattle.ec_database.specs.Joined.{FollowingMeansLists};
-ghost use Rattle.ec_database.specs.Laws.{DatabasesStay, VersionsArePutOnce, AcceptedTriesAreUndisturbed, TriesAreListed, TriesAreDetermined, CallListsAreWritten, SnapshotsAreTries};
+ghost use Rattle.ec_database.specs.Laws.{DatabasesStay, VersionsArePutOnce, AcceptedTriesAreUndisturbed, TriesHaveOwnEntries, TriesAreListed, TriesAreDetermined, CallListsAreWritten, SnapshotsAreTries};
 
 /// A database that fits declarations fits them still where more is declared.
 pub fn declared_databases_stay()
@@ -16,6 +16,12 @@ pub fn versions_are_put_once()
 /// put on the database stands between its first and its last get.
 pub fn accepted_tries_are_undisturbed()
     ensures { AcceptedTriesAreUndisturbed }
+{}
+
+/// An accepting try has one first read and one get of each value: that it is undisturbed is said of
+/// these entries and of no others.
+pub fn accepted_tries_have_own_entries()
+    ensures { TriesHaveOwnEntries }
 {}
 
 /// The accepting tries of a history are listed, each once and no others, in the order of their last

@@ -16,8 +16,8 @@ pub use audit::{Accepted, versions};
 pub use ending::SnapshotEnd;
 pub use laws::{
     accepted_tries_are_determined, accepted_tries_are_listed, accepted_tries_are_undisturbed,
-    call_lists_are_written_out, declared_databases_stay, following_means_lists,
-    snapshots_are_tries, versions_are_put_once,
+    accepted_tries_have_own_entries, call_lists_are_written_out, declared_databases_stay,
+    following_means_lists, snapshots_are_tries, versions_are_put_once,
 };
 pub use shape::{DatabaseShape, declare_database};
 pub use snapshot::Snapshot;
