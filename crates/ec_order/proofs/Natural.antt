@@ -2,7 +2,7 @@
 use Rattle.std.proofs.Common.{◌≡◌, ℕ, ◌≤◌, inl, inr, true, false, List, ◌++◌, length, refl, ap, sym, ◌∙◌, arith, take, drop, reverse}
 use Rattle.std.specs.Prelude.{MatchBool}
 use Rattle.std.specs.List.{Contains}
-use Rattle.std.proofs.lemmas.Bool.{cases_lt}
+use Rattle.std.proofs.lemmas.Bool.{cases_lt, cases_order}
 use Rattle.std.proofs.lemmas.List.{reverse-append, take-append-drop, take_all, length-reverse, length-take-le}
 use Rattle.std.proofs.lemmas.List.Elements.{All-contains}
 use Rattle.ec_count.specs.Tables.{Tables, IsDeclared}
@@ -13,7 +13,7 @@ use Rattle.ec_core.specs.Acceptance.{IsAccepted}
 use Rattle.ec_order.specs.declared.call.Call.{Call}
 use Rattle.ec_order.specs.Calls.{finished_calls, is_reading}
 use Rattle.ec_order.specs.Orders.{calls_in}
-use Rattle.ec_order.specs.Points.{first_entries, point_of, ordered_by_points, IsLeastMoment}
+use Rattle.ec_order.specs.Points.{first_entries, point_of, ordered_by_points, IsLeastMoment, IsPoint}
 use Rattle.ec_order.specs.Laws.{StoodBetween, PointsExist, OrderByPointsIsGood, EveryAcceptedHistoryHasAnOrder}
 use Rattle.ec_order.proofs.Points.{first_of_past}
 use Rattle.ec_order.proofs.Reaching.{first_all}
@@ -54,6 +54,22 @@ points_exist t h c d acc known =
       | true ↦ λ r. least_moment h c f r
       | false ↦ λ r. acts_there (reverse h) c r
     ] refl
+
+least_is : (h : List Entry) (c : Call) (j k : ℕ) → IsLeastMoment h c j → IsLeastMoment h c k → j ≡ k
+least_is h c j k a b =
+    elim (cases_order j k) [
+      | inl e ↦ e
+      | inr (inl lt) ↦ absurd (b.least j a.low lt a.total_is)
+      | inr (inr gt) ↦ absurd (a.least k b.low gt b.total_is)
+    ]
+
+-- a call has one point
+pub point_is : (h : List Entry) (c : Call) (j k : ℕ) → IsPoint h c j → IsPoint h c k → j ≡ k
+point_is h c j k =
+    elim (is_reading c.op) as (λ b. MatchBool b (IsLeastMoment h c j) (j ≡ c.last) → MatchBool b (IsLeastMoment h c k) (k ≡ c.last) → j ≡ k) [
+      | true ↦ λ a b. least_is h c j k a b
+      | false ↦ λ a b. a ∙ sym b
+    ]
 
 stood_between : (h : List Entry) (c : Call) → Fits (reverse h) c → is_reading c.op ≡ true → StoodBetween h c
 stood_between h c f r =

@@ -59,9 +59,20 @@ OrderByPointsIsGood = (t : Tables) (h : List Entry) → IsDeclared t → IsAccep
 abbrev pub ComesFirst : Placed → Placed → Type 0
 ComesFirst p q = (p.point < q.point) ⊎ ((p.point ≡ q.point) × (is_reading p.call.op ≡ true) × ((is_reading q.call.op ≡ false) ⊎ (p.call.last < q.call.last)))
 
--- each place of the order by points comes before each later one
+-- the places are exactly the finished calls with their points, and each comes before each later one; so no call stands
+-- twice, since no place comes before itself
+pub record AreFinishedCallsByPoints (t : Tables) (h : List Entry) (ps : List Placed) : Type 0 where
+  pub each : (p : Placed) → Contains ps p → IsFinishedCall t h p.call × IsPoint h p.call p.point
+  pub every : (p : Placed) → IsFinishedCall t h p.call → IsPoint h p.call p.point → Contains ps p
+  pub ascends : AllPairs ComesFirst ps
+
+-- the order by points is such a list
 abbrev pub OrderByPointsAscends : Type 0
-OrderByPointsAscends = (t : Tables) (h : List Entry) → IsDeclared t → IsAccepted t (reverse h) → AllPairs ComesFirst (ordered_by_points t (reverse h))
+OrderByPointsAscends = (t : Tables) (h : List Entry) → IsDeclared t → IsAccepted t (reverse h) → AreFinishedCallsByPoints t h (ordered_by_points t (reverse h))
+
+-- and no other list is one
+abbrev pub OrderByPointsIsTheOnlyOne : Type 0
+OrderByPointsIsTheOnlyOne = (t : Tables) (h : List Entry) (ps : List Placed) → IsDeclared t → IsAccepted t (reverse h) → AreFinishedCallsByPoints t h ps → ps ≡ ordered_by_points t (reverse h)
 
 -- a list of the finished calls, each once, that keeps every finished-before pair and is a run of the sequential
 -- object: the one by points; and for every finished read or await a moment at which the total was its answer

@@ -1,5 +1,5 @@
 //! Laws of every accepted history, each the contract of a function that does nothing.
-ghost use Rattle.ec_order.specs.Laws.{CallsAreCutInOrder, ProtocolsSpeakOfTheseCalls, PointsExist, OrderByPointsIsGood, OrderByPointsAscends, EveryAcceptedHistoryHasAnOrder};
+ghost use Rattle.ec_order.specs.Laws.{CallsAreCutInOrder, ProtocolsSpeakOfTheseCalls, PointsExist, OrderByPointsIsGood, OrderByPointsAscends, OrderByPointsIsTheOnlyOne, EveryAcceptedHistoryHasAnOrder};
 
 /// The finished calls are exactly what the workers' entries are cut into: each begins with an act that is no go, goes on
 /// with its worker's goes, and ends with the first reply that is not Pending. They go by their last entries.
@@ -25,10 +25,16 @@ pub fn order_by_points_is_good()
     ensures { OrderByPointsIsGood }
 {}
 
-/// The order by points goes by points; at one point the reads and awaits stand before the other call, and these go by
-/// their last steps.
+/// The order by points has exactly the finished calls, each with its point. It goes by points; at one point the reads
+/// and awaits stand before the other call, and these go by their last steps.
 pub fn order_by_points_ascends()
     ensures { OrderByPointsAscends }
+{}
+
+/// No other list is so: each list that has exactly the finished calls, each with its point, and goes that way is the
+/// order by points.
+pub fn order_by_points_is_the_only_one()
+    ensures { OrderByPointsIsTheOnlyOne }
 {}
 
 /// The finished calls of every accepted history stand in an order that keeps every finished-before pair and is a run
