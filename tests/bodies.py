@@ -185,31 +185,55 @@ def stands_alone(folder, body):
     return any(not old.strip().startswith(("///", "const ", '"')) for old in outside)
 
 
+def readers(folder, constant):
+    """Returns the functions of a crate that name a constant."""
+    for at, _, files in os.walk(os.path.join(folder, "src")):
+        for name in sorted(files):
+            file = os.path.relpath(os.path.join(at, name), folder)
+            lines = read(folder, file).split("\n")
+            for it in functions_of(file, "\n".join(lines)):
+                if any(re.search(rf"\b{constant}\b", line) for line in lines[it.first - 1 : it.last]):
+                    yield it.name
+
+
+def taken_by(folder, body):
+    """Returns what a body has for itself in a check with others: the functions that it changes, those that have to
+    be refused, those that read a constant which it changes, and a text outside functions."""
+    taken = set(targets(folder, body))
+    for file, old, _ in body.pairs:
+        inside = function_at(file, read(folder, file), old)
+        taken.add(inside.name if inside else old)
+        constant = None if inside else re.match(r"\s*const (\w+)", old)
+        taken.update(readers(folder, constant[1]) if constant else ())
+    return taken
+
+
+def all_applied(folder, together):
+    """Returns the texts with all of these bodies put into them, or None where one no longer fits."""
+    texts = {}
+    for body in together:
+        texts = applied(folder, body, texts)
+        if texts is None:
+            return None
+    return texts
+
+
 def fitting(folder, bodies):
-    """Cuts the bodies into groups, each of which can be put into one copy of the crate: no two of a group
-    change one function, change a text of the other, or have to be refused in one function, and none of
-    several changes a type."""
+    """Cuts the bodies into groups, each of which can be put into one copy of the crate: no two of a group change or
+    judge one function, or change a text of the other, and none of several changes a type."""
     groups = []
     for body in bodies:
-        if stands_alone(folder, body):
-            groups.append({"bodies": [body], "taken": None, "texts": applied(folder, body, {})})
-            continue
-        mine = {(file, getattr(function_at(file, read(folder, file), old), "name", old)) for file, old, _ in body.pairs}
-        mine |= {("", it) for it in targets(folder, body)}
-        for group in groups:
-            is_free = group["taken"] is not None and not mine & group["taken"]
-            texts = applied(folder, body, group["texts"]) if is_free else None
-            if texts is not None:
-                group["bodies"].append(body)
-                group["taken"] |= mine
-                group["texts"] = texts
+        if applied(folder, body, {}) is None:
+            raise BadBody(f"{body.crate}/{body.name}: a text of it does not stand in its file exactly once")
+        mine, is_alone = taken_by(folder, body), stands_alone(folder, body)
+        for together, taken in groups if not is_alone else ():
+            if taken is not None and not mine & taken and all_applied(folder, [*together, body]) is not None:
+                together.append(body)
+                taken |= mine
                 break
         else:
-            texts = applied(folder, body, {})
-            if texts is None:
-                raise BadBody(f"{body.crate}/{body.name}: a text of it does not stand in its file exactly once")
-            groups.append({"bodies": [body], "taken": mine, "texts": texts})
-    return [(it["bodies"], it["texts"]) for it in groups]
+            groups.append(([body], None if is_alone else mine))
+    return [together for together, _ in groups]
 
 
 # What a check said
@@ -259,28 +283,33 @@ class Judged:
         return self.verdict in (GOAL, ANSWER)
 
 
-def alone(body):
-    """Returns the name of the log of a body that was tried by itself."""
-    return f"{body.stands_in}.{body.name}.alone"
-
-
-def judged(folder, body, logs):
-    """Judges a body by the logs of a folder: of the check of its file, or of the one that tried it alone."""
+def judged_by(folder, body, log):
+    """Judges a body by the log of a check of the crate with it."""
     ends = targets(folder, body)
-    for name in (alone(body), body.stands_in):
-        file = os.path.join(logs, f"{name}.log")
-        if os.path.isfile(file):
-            return judged_by(body, ends, text_of(file))
-    return Judged(body, UNREAD)
-
-
-def judged_by(body, ends, log):
     each = [[it] for it in ends] if body.refused_in else [ends]
     verdict = max((verdict_on(it, log) for it in each), key=WORSE.index)
     others = [] if verdict in (GOAL, ANSWER) else sorted(set(re.findall(r"(?m)^fn (\S+): no(?:t proved| proof)", log)))
     return Judged(body, verdict, others)
 
 
-def text_of(file):
-    with open(file, encoding="utf-8") as text:
-        return text.read()
+def tried(folder, log_of):
+    """Tries the wrong bodies of a crate, as many in one check as fit together, and judges each. `log_of(name, texts)`
+    checks the crate with these texts and returns the log, which has that name."""
+    for number, together in enumerate(fitting(folder, bodies_of(folder)), 1):
+        yield from tried_together(folder, f"together_{number}", together, log_of)
+
+
+def tried_together(folder, name, together, log_of):
+    """Tries bodies that fit together, and then alone each of which that check says nothing of its own. Where it has no
+    verdict at all, as of a text that can't be read, each half of them is tried."""
+    log = log_of(name, all_applied(folder, together))
+    if len(together) > 1 and not re.search(r"(?m)^logic=", log):
+        half = len(together) // 2
+        yield from tried_together(folder, f"{name}a", together[:half], log_of)
+        yield from tried_together(folder, f"{name}b", together[half:], log_of)
+        return
+    for body in together:
+        found = judged_by(folder, body, log)
+        if not found.is_refused() and len(together) > 1:
+            found = judged_by(folder, body, log_of(body.name, applied(folder, body, {})))
+        yield found

@@ -2,6 +2,7 @@
 
 import importlib.machinery
 import importlib.util
+import json
 import os
 import shutil
 import sys
@@ -27,3 +28,26 @@ def check_over_copy(checked, crate, texts, flags, kept):
         if os.path.isdir(kept):
             shutil.copytree(kept, room, dirs_exist_ok=True)
         return checked(crate, texts, flags, room)
+
+
+def keep_proof(crate, kept):
+    """Puts what the proof of a library has left in its rlib where a check looks for work that is kept, so that a check
+    of the crate with a few changes proves these alone. Such a module counts only while all that it was proved from is
+    the same; where there is none, as of a program, the check proves all."""
+    modules, archive = (f"{crate.rlib}/toolchain/checked.{it}" for it in ("json", "a"))
+    if not os.path.isfile(modules):
+        return
+    folder = os.path.join(kept, made_by(crate).replace("/", "_"))
+    os.makedirs(folder)
+    with open(archive, "rb") as whole, open(modules, encoding="utf-8") as lines:
+        for name, start, length in map(json.loads, lines):
+            if "/" not in name:
+                whole.seek(start)
+                with open(os.path.join(folder, f"{name}.oantt"), "wb") as module:
+                    module.write(whole.read(length))
+
+
+def made_by(crate):
+    """Returns what made a crate's rlib, as kept work names it."""
+    with open(f"{crate.rlib}/format", encoding="utf-8") as lines:
+        return next(it.split(" ", 1)[1].strip() for it in lines if it.startswith("rattle-build "))

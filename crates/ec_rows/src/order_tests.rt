@@ -208,7 +208,7 @@ static THREE_ROUNDS: [Row; 1] = [Row::Order(&[
 ])];
 
 #[test]
-fn an_await_of_three_rounds(rt: HostRuntime) -> Result<(), Fail> {
+fn an_await_of_two_rounds(rt: HostRuntime) -> Result<(), Fail> {
     shows(rt.alloc(), &AWAIT_OF_ROUNDS, &THREE_ROUNDS)
 }
 

@@ -42,7 +42,7 @@ static AFTER_ROUNDS: [Sight; 2] = [
 ];
 
 #[test]
-fn an_await_of_three_rounds(rt: HostRuntime) -> Result<(), Fail> {
+fn an_await_of_two_rounds(rt: HostRuntime) -> Result<(), Fail> {
     shows(rt.alloc(), &AWAIT_OF_ROUNDS, &AFTER_ROUNDS)
 }
 

@@ -55,7 +55,7 @@ const SECOND: Row = (1, Advance(0), Reply::Done, 2, 2, 2, 2);
 /// The read of the history of an overtaken read.
 const OVERTAKEN: Row = (2, Read(0), Reply::Number(1), 0, 0, 3, 2);
 
-/// The await of the history of an await of three rounds, at its point and at another one.
+/// The await of the history of an await of two rounds, at its point and at another one.
 const AWAIT: Row = (2, Await(0, 2), Reply::Number(2), 0, 4, 5, 4);
 
 const EARLY_AWAIT: Row = (2, Await(0, 2), Reply::Number(2), 0, 4, 5, 3);
