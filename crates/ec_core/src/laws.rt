@@ -1,4 +1,6 @@
 //! What the definitions mean, in order of time: each function says a law and does nothing.
+ghost use Rattle.std.specs.Prelude.{◌≡◌};
+ghost use Rattle.ec_core.specs.declared.act.TheConstants.{VALUE_MAX};
 ghost use Rattle.ec_core.specs.Laws.{TotalsCountAdvances, ComponentsCountAdvances, IssuedCountsTickets, CellsHoldTheLastPut, CallsUnderWayAreCutInOrder, CallsUnderWayRead, RoundsAddTheirComponents, ComponentsAddUp, TotalsRiseByOne, CountsKeepTheLimit, RoundsLieBetween, RoundsOfCallsLieBetween, BeginningsAreAccepted, AcceptedMeansAnswered, NumbersAreSmall, RepliesFitTheirActs, OthersStand};
 
 /// The total of an eventcount at a moment is the number of its advances before it (Reed and
@@ -91,4 +93,9 @@ pub fn replies_fit_their_acts()
 /// stands as it was.
 pub fn others_stand()
     ensures { OthersStand }
+{}
+
+/// The greatest value of a put, of an await's threshold, and of what is told, as a number.
+pub fn greatest_value_is_eighteen_nines()
+    ensures { VALUE_MAX ≡ 999999999999999999 }
 {}

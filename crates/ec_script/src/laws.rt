@@ -1,4 +1,6 @@
 //! Laws of scripts. Each is the contract of a function that does nothing.
+ghost use Rattle.std.specs.Prelude.{◌≡◌};
+ghost use Rattle.ec_script.specs.declared.parsing.TheConstants.{SCRIPT_MAX};
 ghost use Rattle.ec_script.specs.Confined.{ConfinedLinesAreConfinedCommands, PlansAreConfined};
 ghost use Rattle.ec_script.specs.Given.{LinesSayOrders};
 ghost use Rattle.ec_script.specs.Grammar.{FaultIsTheFirst, LongIsLine1, ReadIsScript, ScriptIsRead};
@@ -69,4 +71,9 @@ pub fn lines_say_orders()
 /// twice, and the names of a schedule, all within the bounds.
 pub fn scripts_are_spelled()
     ensures { ScriptsAreSpelled }
+{}
+
+/// The most bytes that a script may have, as a number.
+pub fn scripts_have_a_mebibyte_at_most()
+    ensures { SCRIPT_MAX ≡ 1048576 }
 {}

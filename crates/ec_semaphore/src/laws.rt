@@ -1,4 +1,6 @@
 //! What the definitions mean, in order of time: each function says a law and does nothing.
+ghost use Rattle.std.specs.Prelude.{◌≡◌};
+ghost use Rattle.ec_semaphore.specs.declared.shape.TheConstants.{INITIAL_MAX};
 ghost use Rattle.ec_semaphore.specs.Joined.{FollowingMeansUses, UsesAreDownsAndUps, FollowingBothMeansGuardedParts, WholePartsAreGuarded, DownIsWritten, UpIsWritten, DownBothIsWritten};
 ghost use Rattle.ec_semaphore.specs.Laws.{SemaphoresStay, DownsCountFinishedWaits, BalancesAreNeverNegative, BothIsFollowedAsASemaphore, PairsAreDrawn, TicketsAgree};
 
@@ -54,4 +56,9 @@ pub fn pairs_are_drawn()
 /// ticket on it.
 pub fn tickets_agree()
     ensures { TicketsAgree }
+{}
+
+/// The greatest number that a semaphore begins with, as a number.
+pub fn greatest_initial_value_is_a_million()
+    ensures { INITIAL_MAX ≡ 1000000 }
 {}

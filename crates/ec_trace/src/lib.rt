@@ -24,7 +24,7 @@ pub use read::{TRACE_MAX, read_trace};
 pub use reading_laws::{
     failed_read_has_no_fault, fault_of_the_whole, first_fault_is_told, line_fault_is_the_first,
     no_trace_begins_another, read_is_trace, trace_has_one_meaning, trace_is_read,
-    written_is_read_again,
+    traces_have_64_mebibytes_at_most, written_is_read_again,
 };
 pub use spell::Spellings;
 pub use traced::Traced;

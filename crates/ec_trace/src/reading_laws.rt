@@ -1,4 +1,6 @@
 //! Laws of reading. Each is the contract of a function that does nothing.
+ghost use Rattle.std.specs.Prelude.{◌≡◌};
+ghost use Rattle.ec_trace.specs.declared.read.TheConstants.{TRACE_MAX};
 ghost use Rattle.ec_trace.specs.FirstFault.{LineFaultIsTheFirst, FirstFaultIsTold, FaultOfTheWhole, FailedReadHasNoFault};
 ghost use Rattle.ec_trace.specs.ReadingLaws.{TraceIsRead, ReadIsTrace, TraceHasOneMeaning, NoTraceBeginsAnother, WrittenIsReadAgain};
 
@@ -53,4 +55,9 @@ pub fn failed_read_has_no_fault()
 #[tactic(auto, using(crate::proofs::ReadTraces::written_is_read))]
 pub fn written_is_read_again()
     ensures { WrittenIsReadAgain }
+{}
+
+/// The most bytes that a trace may have, as a number.
+pub fn traces_have_64_mebibytes_at_most()
+    ensures { TRACE_MAX ≡ 67108864 }
 {}
