@@ -26,8 +26,17 @@ def check_over_copy(checked, crate, texts, flags, kept):
     was: each check keeps what it read in the place of what was there."""
     with tempfile.TemporaryDirectory(prefix="rt-kept-") as room:
         if os.path.isdir(kept):
-            shutil.copytree(kept, room, dirs_exist_ok=True)
+            shutil.copytree(kept, room, dirs_exist_ok=True, copy_function=linked)
         return checked(crate, texts, flags, room)
+
+
+def linked(old, new):
+    """Gives a file of kept work a second name, or copies it where that can't be. A check never writes into such a file:
+    it puts a new one in its place."""
+    try:
+        os.link(old, new)
+    except OSError:
+        shutil.copy2(old, new)
 
 
 def keep_proof(crate, kept):

@@ -1,5 +1,5 @@
 //! Scripts that are run: how their workers end.
-use crate::drive::{Block, Case, Sight, shows_often};
+use crate::threads::{Block, Case, Sight, shows_often};
 use ec_core::Refusal;
 use ec_machine::Outcome;
 use std::test::Fail;

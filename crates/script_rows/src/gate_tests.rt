@@ -1,5 +1,5 @@
 //! Gates that only threads of their own, and holds of single steps, get through.
-use crate::drive::{Case, Sight, shows};
+use crate::threads::{Case, Sight, shows};
 use ec_core::Reply;
 use ec_count::WorkerId;
 use ec_machine::Outcome;
