@@ -24,12 +24,12 @@ pub record IsFollowed (t : Tables) (d : Database) (h : List Entry) : Type 0 wher
   pub accepted : IsAccepted t (reverse h)
   pub followed : FollowsDatabase t d (reverse h)
 
--- each value of a version is put once
+-- no value of a version is put twice
 abbrev pub VersionsArePutOnce : Type 0
 VersionsArePutOnce = (t : Tables) (d : Database) (h : List Entry) → IsFollowed t d h
     → (j k turn i v w : ℕ) → i < d.cells → PutsValue t d h j turn i v → PutsValue t d h k turn i w → j ≡ k
 
--- an accepting try holds one version, and nothing is put between its gets
+-- an accepting try holds one version, and nothing is put into the database between its gets
 abbrev pub AcceptedTriesAreUndisturbed : Type 0
 AcceptedTriesAreUndisturbed = (t : Tables) (d : Database) (h : List Entry) → IsFollowed t d h → (k : ℕ) (a : AcceptedTry) → EndsTry t d h k a → IsUndisturbed t d h k a
 
@@ -37,7 +37,7 @@ AcceptedTriesAreUndisturbed = (t : Tables) (d : Database) (h : List Entry) → I
 abbrev pub TriesAreListed : Type 0
 TriesAreListed = (t : Tables) (d : Database) (h : List Entry) → ListsTries t d h (accepted_tries d (writes t d) (reverse h))
 
--- an accepting try has one first read and one get of each value: what makes it undisturbed is said of no other entries
+-- an undisturbed try has one first read and one get of each value: what makes it undisturbed is said of no other entries
 abbrev pub TriesHaveOwnEntries : Type 0
 TriesHaveOwnEntries = (t : Tables) (d : Database) (h : List Entry) (last : ℕ) (a : AcceptedTry) (x y : IsUndisturbed t d h last a)
     → (x.first ≡ y.first) × ((j : ℕ) → j < d.cells → x.got j ≡ y.got j)

@@ -1,4 +1,5 @@
--- Accepting tries: a try is accepting where its two reads of the count of starts agree.
+-- Accepting tries: a try is accepting where its two reads of the count of starts agree. These definitions mean a history
+-- that follows the database; of others they say how many calls on it a reader finished, and what two of them were told.
 use Rattle.std.specs.Prelude.{◌≡◌, ℕ, ◌+◌, ◌-◌, ◌<◌, Bool, false, ◌&&◌, ◌||◌, List, [], ◌∷◌, ◌++◌, length, slice_get, Option, Some, None, if◌then◌else◌, option_to_list}
 use Rattle.ec_count.specs.Tables.{Tables}
 use Rattle.ec_core.specs.declared.act.Act.{Act}
@@ -64,7 +65,7 @@ abbrev pub is_put_on : Database → Act → Bool
 is_put_on d (Put x v) = is_cell d x
 is_put_on d _ = false
 
--- entry k is the last of a call of w, which this act began, and was told this
+-- entry k is one of a call of w, which this act began, and was told this: the call's last one where that is not Pending
 pub record EndsCall (h : List Entry) (k w : ℕ) (op : Act) (reply : Reply) : Type 0 where
   pub entry : Entry
   pub is : slice_get h k ≡ Some entry

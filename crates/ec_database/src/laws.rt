@@ -7,19 +7,19 @@ pub fn declared_databases_stay()
     ensures { DatabasesStay }
 {}
 
-/// In a history that follows a database, each value of a version is put once.
+/// In an accepted history that follows a database, no value of a version is put twice.
 pub fn versions_are_put_once()
     ensures { VersionsArePutOnce }
 {}
 
-/// In a history that follows a database, an accepting try holds the version that it read, and no
-/// put on the database stands between its first and its last get.
+/// In an accepted history that follows a database, an accepting try holds the version that it read,
+/// and no put on the database stands between its first and its last get.
 pub fn accepted_tries_are_undisturbed()
     ensures { AcceptedTriesAreUndisturbed }
 {}
 
-/// An accepting try has one first read and one get of each value: that it is undisturbed is said of
-/// these entries and of no others.
+/// An undisturbed try has one first read and one get of each value: that it is undisturbed is said
+/// of these entries and of no others.
 pub fn accepted_tries_have_own_entries()
     ensures { TriesHaveOwnEntries }
 {}

@@ -110,7 +110,8 @@ impl DatabaseShape {
 
 /// Declares a database of n cells for these writers and readers. TooMany: a table has no room for
 /// 2 more eventcounts, a sequencer or n more cells, or a list has more than 16 entries. Empty:
-/// there is no writer, no reader, or n is 0. TwoRoles: a worker is in both lists.
+/// there is no writer, no reader, or n is 0. UnknownWorker: a list names a worker that is not
+/// declared. Repeated: a list names one twice. TwoRoles: a worker is in both lists.
 pub fn declare_database(
     setup: &mut Setup,
     n: usize,

@@ -14,7 +14,8 @@ use ec_core::{Act, Procedure, Reply};
 
 /// Reads all cells of a database in tries: each reads how many writings were started, waits until
 /// that many are done, gets each cell, and reads again how many were started. Where both reads
-/// agree, the values are those of one version; else the next try begins, until none is left.
+/// agree, it is accepted, and in a history that follows the database its values are those of one
+/// version; else the next try begins, until none is left.
 #[derive(Debug, Drop)]
 pub struct Snapshot {
     shape: DatabaseShape,

@@ -60,7 +60,7 @@ abbrev pub ComesFirst : Placed → Placed → Type 0
 ComesFirst p q = (p.point < q.point) ⊎ ((p.point ≡ q.point) × (is_reading p.call.op ≡ true) × ((is_reading q.call.op ≡ false) ⊎ (p.call.last < q.call.last)))
 
 -- the places are exactly the finished calls with their points, and each comes before each later one; so no call stands
--- twice, since no place comes before itself
+-- twice, since a call has one point, and no place comes before itself
 pub record AreFinishedCallsByPoints (t : Tables) (h : List Entry) (ps : List Placed) : Type 0 where
   pub each : (p : Placed) → Contains ps p → IsFinishedCall t h p.call × IsPoint h p.call p.point
   pub every : (p : Placed) → IsFinishedCall t h p.call → IsPoint h p.call p.point → Contains ps p

@@ -8,7 +8,7 @@ pub fn calls_are_cut_in_order()
 {}
 
 /// The calls of a worker that the protocols speak of, when they say that a history follows a buffer, a database or a
-/// semaphore, are its finished calls in the order.
+/// semaphore, are its finished calls as `calls` lists them.
 pub fn protocols_speak_of_these_calls()
     ensures { ProtocolsSpeakOfTheseCalls }
 {}

@@ -54,7 +54,7 @@ LineFaultIsTheFirst = (bytes : List ℕ) (n : ℕ) (fault : LineFault) → outco
 abbrev pub FirstFaultIsTold : Type 0
 FirstFaultIsTold = (bytes : List ℕ) (n : ℕ) (fault : LineFault) → IsFirstFault (take TRACE_MAX bytes) n fault → outcome TRACE_MAX bytes ≡ Err (numbered n fault)
 
--- a text is too large where it has more bytes than the bound, and unfinished only where it has not
+-- a text is too large only where it has more bytes than the bound, and unfinished only where it has not
 abbrev pub FaultOfTheWhole : Type 0
 FaultOfTheWhole = (bytes : List ℕ)
     → (outcome TRACE_MAX bytes ≡ Err TooLarge → TRACE_MAX < length bytes) × (outcome TRACE_MAX bytes ≡ Err Unfinished → length bytes ≤ TRACE_MAX)

@@ -74,7 +74,7 @@ bounded max xs (Ok p) = if nat_lt max (length xs) then Err TooLarge else ended_a
 unfoldable pub outcome : ℕ → List ℕ → Result Recounted TraceFault
 outcome max xs = bounded max xs (goes_from start (take max xs))
 
--- what is known where a read failed, of a reader that had these bytes and has those left: in what it gave no line is
+-- what is known where a failed read is told, of a reader that had these bytes and has those left: in what it gave no line is
 -- faulty, and what stands behind the last LF is not faulty either
 pub record HasNoFault (max : ℕ) (xs : List ℕ) (left : Option (List ℕ)) : Type 0 where
   pub given : List ℕ
@@ -108,7 +108,7 @@ Rests (Ok x) p = goes_from p [] ≡ Ok p
 Rests (Err f) p = (more : List ℕ) → FailsAs f (goes_from p more)
 
 -- what is told of a read that failed at this place: a fault that nothing that follows mends, and the failed read only
--- where the line in progress has none
+-- where the line in progress has none. Want of memory would say nothing
 abbrev pub FailsThere : TraceFault → Place → Type 0
 FailsThere Memory p = Unit {0}
 FailsThere Read p = goes_from p [] ≡ Ok p

@@ -25,7 +25,8 @@ pub record IsTraceOf (bytes : List ℕ) (t : Recounted) : Type 0 where
 abbrev pub IsNoTrace : List ℕ → Type 0
 IsNoTrace bytes = (o : Outline) (entries : List Entry) → IsTrace bytes o entries → ⊥
 
--- what a fault says of the bytes of a whole input: want of memory and a failed read say nothing
+-- what a fault says of the bytes of a whole input: want of memory and a failed read say nothing of them (of what the reader
+-- gave before a failed read, see HasNoFault)
 abbrev pub Refuses : TraceFault → List ℕ → Type 0
 Refuses Memory bytes = Unit {0}
 Refuses Read bytes = Unit {0}

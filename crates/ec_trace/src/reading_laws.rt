@@ -40,7 +40,8 @@ pub fn first_fault_is_told()
     ensures { FirstFaultIsTold }
 {}
 
-/// A text is too large where it has more bytes than the bound, and unfinished only where it has not.
+/// A text is too large only where it has more bytes than the bound, and unfinished only where it
+/// has not.
 #[tactic(auto, using(crate::proofs::FirstFaults::fault_of_the_whole))]
 pub fn fault_of_the_whole()
     ensures { FaultOfTheWhole }

@@ -115,8 +115,8 @@ AuditEnds t Stopped old new = ⊥
 
 -- how `audit` ended: the bytes are a trace, each of its groups is followed, and what their audits found was written; or
 -- they are a trace with a group that is not followed, or no trace, and nothing was written but the note of the first such
--- group or the first fault; or a read failed, and what the reader had given until then has no fault; or a write or memory
--- failed
+-- group or the first fault; or a failed read is told, and what the reader had given until then has no fault; or a failed
+-- write or want of memory is told
 abbrev pub Audits : List ℕ → Option (List ℕ) → Status → Outlets → Outlets → Type 0
 Audits bytes left Done old new = (t : Recounted) × ReadsAs bytes t × AuditEnds t Done old new
 Audits bytes left Refused old new =

@@ -22,7 +22,7 @@ pub record Outlets : Type 0 where
   pub notes : Option (List ℕ)
   pub held : Held
 
--- the note was put, and nothing else; and it doesn't wait: it was written, or a write has failed
+-- the note was put, and nothing else; and it doesn't wait: it was written, or the table stands as failed
 abbrev pub Notes : Outlets → Outlets → List ℕ → Type 0
 Notes old new note = Puts old.notes old.held new.notes new.held note × IsWrittenOut new.held
 
@@ -61,7 +61,8 @@ pub record RefusedFor (bytes : List ℕ) (fault : TraceFault) : Type 0 where
 
 -- how `check` ended, for an input that had these bytes and has those left: the bytes are a trace and its text was written,
 -- which tells a legal order of its finished calls; or they are none, and nothing was written but the note of the first
--- fault; or a read failed, and what the reader had given until then has no fault; or a write or memory failed
+-- fault; or a failed read is told, and what the reader had given until then has no fault; or a failed write or want of memory
+-- is told
 abbrev pub Checks : List ℕ → Option (List ℕ) → Status → Outlets → Outlets → Type 0
 Checks bytes left Done old new = (t : Recounted) × ReadsAs bytes t × Writes t Done old new
 Checks bytes left Refused old new = (fault : TraceFault) × RefusedFor bytes fault × Keeps old.out new.out × Notes old new (fault_note fault)

@@ -10,7 +10,7 @@ use Rattle.ec_trace.specs.declared.fault.TraceFault.TheVariants.{BadLine, Refuse
 use Rattle.evc_engine.specs.declared.status.Status.{Status}
 use Rattle.evc_engine.specs.declared.status.Status.TheVariants as statuses
 
--- no note waits in the table: all that were put have been written, or a write has failed
+-- no note waits in the table: all that were put have been written, or the table stands as failed
 abbrev pub IsWrittenOut : Held → Type 0
 IsWrittenOut held = held.failed ≡ false → held ≡ nothing_held
 

@@ -7,7 +7,7 @@ pub fn audits_have_one_text()
     ensures { AuditsHaveOneText }
 {}
 
-/// A trace has the text of an audit or a first group that is not followed, and never both.
+/// No trace has both the text of an audit and a first group that is not followed.
 pub fn audits_end_one_way()
     ensures { TextOrBreak }
 {}

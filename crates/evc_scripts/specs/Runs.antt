@@ -102,7 +102,8 @@ TextRuns text turns status old new = (p : Planned) × (outcome text ≡ Ok p) ×
 
 -- how `run` ended: the bytes are a script, its workers ran, and the trace of what they did was written, with no worker stopped, out of
 -- turns or out of memory; or the bytes are no script, and nothing was written but the note of the first faulty line; or a worker was stopped
--- or out of turns (5) or out of memory (4), and the trace was written; or a read, a write, a thread or memory failed
+-- or out of turns (5) or out of memory (4), and the trace was written; or what a worker did is not what it was told (5), and nothing was
+-- written; or a failed read, write or start of a thread is told, or want of memory
 abbrev pub Runs : ℕ → List ℕ → Status → Outlets → Outlets → Type 0
 Runs turns bytes Refused old new = (n : ℕ) × (kind : Kind) × RefusedAt bytes n kind × Says old new (script_note n kind)
 Runs turns bytes InputOutput old new =

@@ -100,7 +100,8 @@ pub record RefusedAt (bytes : List ℕ) (n : ℕ) (kind : Kind) : Type 0 where
   pub told : outcome (looked_at SCRIPT_MAX bytes) ≡ Err (n, kind)
 
 -- how `sim` ended: the bytes are a script, its schedule was played, and the trace was written; or they are a script whose
--- schedule names a worker that has ended, or no script, and nothing was written but a note; or a read, a write or memory failed
+-- schedule names a worker that has ended, or no script, and nothing was written but a note; or a failed read or write is told, or want of
+-- memory
 abbrev pub Sims : List ℕ → Status → Outlets → Outlets → Type 0
 Sims bytes Done old new = (p : Planned) × SaysPlan bytes p × PlanEnds p Done old new
 Sims bytes Refused old new =
