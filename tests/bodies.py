@@ -293,8 +293,9 @@ def judged_by(folder, body, log):
 
 
 def tried(folder, log_of):
-    """Tries the wrong bodies of a crate, as many in one check as fit together, and judges each. `log_of(name, texts)`
-    checks the crate with these texts and returns the log, which has that name."""
+    """Tries the wrong bodies of a crate, as many in one check as fit together, and judges each.
+    `log_of(name, texts, ends)` checks the functions whose names have these ends, in the crate with these texts, and
+    returns the log, which has that name."""
     for number, together in enumerate(fitting(folder, bodies_of(folder)), 1):
         yield from tried_together(folder, f"together_{number}", together, log_of)
 
@@ -302,8 +303,8 @@ def tried(folder, log_of):
 def tried_together(folder, name, together, log_of):
     """Tries bodies that fit together, and then alone each of which that check says nothing of its own. Where it has no
     verdict at all, as of a text that can't be read, each half of them is tried."""
-    log = log_of(name, all_applied(folder, together))
-    if len(together) > 1 and not re.search(r"(?m)^logic=", log):
+    log = log_of(name, all_applied(folder, together), ends_of(folder, together))
+    if len(together) > 1 and not re.search(r"(?m)^only=", log):
         half = len(together) // 2
         yield from tried_together(folder, f"{name}a", together[:half], log_of)
         yield from tried_together(folder, f"{name}b", together[half:], log_of)
@@ -311,5 +312,10 @@ def tried_together(folder, name, together, log_of):
     for body in together:
         found = judged_by(folder, body, log)
         if not found.is_refused() and len(together) > 1:
-            found = judged_by(folder, body, log_of(body.name, applied(folder, body, {})))
+            found = judged_by(folder, body, log_of(body.name, applied(folder, body, {}), targets(folder, body)))
         yield found
+
+
+def ends_of(folder, some):
+    """Returns the ends of the names of all functions that these bodies are judged by."""
+    return sorted({end for body in some for end in targets(folder, body)})

@@ -21,13 +21,14 @@ def load():
     return module
 
 
-def check_over_copy(checked, crate, texts, flags, kept):
-    """Checks a crate with these texts over a copy of its kept work, so that the next check finds that work as it
-    was: each check keeps what it read in the place of what was there."""
+def check_functions(rt, crate, texts, ends, kept):
+    """Checks the functions whose names have these ends, in a crate with these texts. It goes over a copy of the kept
+    work, so that the next check finds that as it was: each check keeps what it read in the place of what was there."""
+    flags = ["--jobs", "1", *(word for end in ends for word in ("--only", end))]
     with tempfile.TemporaryDirectory(prefix="rt-kept-") as room:
         if os.path.isdir(kept):
             shutil.copytree(kept, room, dirs_exist_ok=True, copy_function=linked)
-        return checked(crate, texts, flags, room)
+        return rt.checked(crate, texts, flags, room)
 
 
 def linked(old, new):
