@@ -1,10 +1,8 @@
 //! `evc`: a tool for histories of eventcounts and sequencers.
 #![tactic(auto)]
 
-mod engine;
-
-use engine::engine;
 use evc_engine::{Notes, Status};
+use evc_scripts::engine;
 use evc_task::{status_of, task};
 use std::alloc::AllocError;
 use std::env;

@@ -1,9 +1,12 @@
-//! The commands beside `check`, over readers and writers that fail.
+//! Each command by its task, over readers and writers that fail.
 use crate::commands::{
-    AUDIT_OF_A_BUFFER, Command, RUN_OF_TICKETS, SIM_OF_TICKETS, Worked, commanded_into,
+    AUDIT_OF_A_BUFFER, CHECK_OF_AN_OVERTAKEN_READ, RUN_OF_TICKETS, SIM_OF_TICKETS, TURNS, Worked,
+    commanded_into,
 };
 use crate::fakes::{Fickle, Pieces, Trouble};
-use evc_engine::Status;
+use evc_engine::{Notes, Status};
+use evc_scripts::engine_without_threads;
+use evc_task::Task;
 use std::alloc::Global;
 use std::sync::Wait;
 use std::test::Fail;
@@ -93,7 +96,7 @@ fn told_at<H: Threads + Wait + Sync>(
 ) -> Told {
     let mut reader = Pieces::failing(worked.text.as_bytes(), most, failing.read_at(k));
     let mut writer = failing.writer(alloc, most, k);
-    let (status, notes) = commanded_into(rt, alloc, worked.command, &mut reader, &mut writer);
+    let (status, notes) = commanded_into(rt, alloc, worked.task, &mut reader, &mut writer);
     Told {
         status,
         notes,
@@ -168,6 +171,11 @@ fn all_faults<H: Threads + Wait + Sync>(
 }
 
 #[test]
+fn each_fault_of_a_check(rt: HostRuntime) -> Result<(), Fail> {
+    all_faults(&rt, rt.alloc(), &CHECK_OF_AN_OVERTAKEN_READ)
+}
+
+#[test]
 fn each_fault_of_an_audit(rt: HostRuntime) -> Result<(), Fail> {
     all_faults(&rt, rt.alloc(), &AUDIT_OF_A_BUFFER)
 }
@@ -185,7 +193,13 @@ fn each_fault_of_a_run(rt: HostRuntime) -> Result<(), Fail> {
 /// Whether the workers of a text, on threads, come to an end with these notes.
 fn run_ends<H: Threads + Wait + Sync>(rt: &H, alloc: Global, text: &str, right: &[u8]) -> bool {
     let mut out = Vec::new(alloc);
-    let (status, notes) = commanded_into(rt, alloc, Command::Run, &mut text.as_bytes(), &mut out);
+    let (status, notes) = commanded_into(
+        rt,
+        alloc,
+        Task::Run(TURNS),
+        &mut text.as_bytes(),
+        &mut out,
+    );
     status == Status::Done && notes.as_slice() == right
 }
 
@@ -193,4 +207,14 @@ fn run_ends<H: Threads + Wait + Sync>(rt: &H, alloc: Global, text: &str, right: 
 fn the_run_of_the_script_of_tickets_finishes(rt: HostRuntime) {
     let notes = b"outcome a finished\noutcome b finished\n".as_slice();
     assert!(rt; run_ends(&rt, rt.alloc(), RUN_OF_TICKETS.text, notes));
+}
+
+#[test]
+fn a_run_is_left_to_threads(rt: HostRuntime) {
+    let text = RUN_OF_TICKETS.text.as_bytes();
+    let mut reader = text;
+    let mut out = Vec::<u8>::new(rt.alloc());
+    let mut notes = Notes::new(Vec::<u8>::new(rt.alloc()));
+    let left = engine_without_threads(rt.alloc(), Task::Run(7), &mut reader, &mut out, &mut notes);
+    assert!(rt; left == Err(7) && reader == text && out.is_empty() && notes.writer.is_empty());
 }

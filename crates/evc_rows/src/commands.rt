@@ -1,8 +1,10 @@
-//! The commands beside `check`: worked texts, and what each command answers on its own.
+//! The commands by their tasks: worked texts, and what each command answers on its own.
 use crate::group_texts::BUFFER;
 use crate::outcome::{Ending, checked_into, ends};
-use evc_engine::{Notes, Status, audit};
-use evc_scripts::{run, sim};
+use crate::texts::{OVERTAKEN_READ, OVERTAKEN_READ_ORDER};
+use evc_engine::{Notes, Status};
+use evc_scripts::engine;
+use evc_task::Task;
 use std::alloc::Global;
 use std::io::{Read, Write};
 use std::sync::Wait;
@@ -55,30 +57,18 @@ end
 ";
 
 /// How many turns a worker has.
-const TURNS: u64 = 10000;
-
-/// A command.
-#[derive(Clone, Copy)]
-pub(crate) enum Command {
-    Audit,
-    Sim,
-    Run,
-}
+pub(crate) const TURNS: u64 = 10000;
 
 /// What a command does with the bytes of a reader and a writer of the text: its status and its notes.
 pub(crate) fn commanded_into<H: Threads + Wait + Sync, R: Read, W: Write>(
     rt: &H,
     alloc: Global,
-    command: Command,
+    task: Task,
     reader: &mut R,
     out: &mut W,
 ) -> (Status, Vec<u8>) {
     let mut notes = Notes::new(Vec::new(alloc));
-    let status = match command {
-        Command::Audit => audit(alloc, reader, out, &mut notes),
-        Command::Sim => sim(alloc, reader, out, &mut notes),
-        Command::Run => run(rt, alloc, TURNS, reader, out, &mut notes),
-    };
+    let status = engine(rt, alloc, task, reader, out, &mut notes);
     (status, notes.writer)
 }
 
@@ -118,15 +108,23 @@ fn is_trace(alloc: Global, bytes: &[u8]) -> bool {
 
 /// A command with a text, and what it writes and notes where nothing fails.
 pub(crate) struct Worked {
-    pub(crate) command: Command,
+    pub(crate) task: Task,
     pub(crate) text: &'static str,
     pub(crate) right: Right,
     pub(crate) notes: &'static str,
 }
 
+/// The order of a read that one advance overtakes.
+pub(crate) static CHECK_OF_AN_OVERTAKEN_READ: Worked = Worked {
+    task: Task::Check,
+    text: OVERTAKEN_READ,
+    right: Right::Text(OVERTAKEN_READ_ORDER),
+    notes: "",
+};
+
 /// The audit of two producers and two consumers of a buffer.
 pub(crate) static AUDIT_OF_A_BUFFER: Worked = Worked {
-    command: Command::Audit,
+    task: Task::Audit,
     text: BUFFER,
     right: Right::Text(BUFFER_AUDIT),
     notes: "",
@@ -134,7 +132,7 @@ pub(crate) static AUDIT_OF_A_BUFFER: Worked = Worked {
 
 /// The schedule of the script of tickets.
 pub(crate) static SIM_OF_TICKETS: Worked = Worked {
-    command: Command::Sim,
+    task: Task::Sim,
     text: TICKETS,
     right: Right::Text(TICKETS_TRACE),
     notes: TICKETS_NOTES,
@@ -142,7 +140,7 @@ pub(crate) static SIM_OF_TICKETS: Worked = Worked {
 
 /// The workers of the script of tickets, on threads: their trace differs from run to run.
 pub(crate) static RUN_OF_TICKETS: Worked = Worked {
-    command: Command::Run,
+    task: Task::Run(TURNS),
     text: TICKETS,
     right: Right::Trace,
     notes: TICKETS_NOTES,

@@ -6,6 +6,7 @@ mod laws;
 mod outcomes;
 mod running;
 mod simulating;
+mod tasks;
 mod writing;
 
 pub use laws::{
@@ -17,3 +18,4 @@ pub use laws::{
 pub use outcomes::note_mismatch;
 pub use running::run;
 pub use simulating::sim;
+pub use tasks::{engine, engine_without_threads};

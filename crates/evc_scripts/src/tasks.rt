@@ -1,0 +1,64 @@
+//! What a task of the command line does.
+ghost use Rattle.std.specs.Prelude.{◌≡◌, IfErr, IfOk, IfSome};
+ghost use Rattle.evc_engine.specs.Checks.{Checks};
+ghost use Rattle.evc_engine.specs.Notes.{IsWrittenOut};
+ghost use Rattle.evc_task.specs.declared.choice.Task.TheVariants.{Run};
+ghost use Rattle.evc_scripts.specs.Tasks.{Does};
+
+use crate::running::run;
+use crate::simulating::sim;
+use evc_engine::{Notes, Status, audit, check};
+use evc_task::Task;
+use std::alloc::Global;
+use std::io::{Read, Write};
+use std::sync::Wait;
+use std::thread::Threads;
+
+/// Does what the task says, where that takes no threads: the input from `reader`, the text to `out`,
+/// the notes to `notes`. By its type it never waits.
+///
+/// `Err` tells the turns of `Task::Run`, which alone takes threads; then nothing was read or written.
+pub fn engine_without_threads<R: Read, W: Write, N: Write>(
+    alloc: Global,
+    task: Task,
+    reader: &mut R,
+    out: &mut W,
+    notes: &mut Notes<N>,
+) -> Result<Status, u64>
+    ensures ends { IfOk result (λ status. IfSome (R.remaining reader.old) (λ bytes. Does task bytes (R.remaining reader.new) status
+        (record { out = W.contents out.old; notes = N.contents notes.old.writer; held = notes.old.table })
+        (record { out = W.contents out.new; notes = N.contents notes.new.writer; held = notes.new.table }))) }
+    ensures written { IsWrittenOut notes.old.table → IsWrittenOut notes.new.table }
+    ensures run { IfErr result (λ turns. task ≡ Run turns) }
+    ensures kept { IfErr result (λ _. (reader.new ≡ reader.old) × (out.new ≡ out.old) × (notes.new ≡ notes.old)) }
+{
+    match task {
+        Task::Check => Ok(check(alloc, reader, out, notes)),
+        Task::Audit => Ok(audit(alloc, reader, out, notes)),
+        Task::Sim => Ok(sim(alloc, reader, out, notes)),
+        Task::Run(turns) => Err(turns),
+    }
+}
+
+/// Does what the task says: the input from `reader`, the text to `out`, the notes to `notes`.
+///
+/// By its type it may wait for every task, since one of them is `run`; `engine_without_threads`, by
+/// which it does the others, never does.
+pub fn engine<H: Threads + Wait + Sync, R: Read, W: Write, N: Write>(
+    rt: &H,
+    alloc: Global,
+    task: Task,
+    reader: &mut R,
+    out: &mut W,
+    notes: &mut Notes<N>,
+) -> Status
+    ensures ends { IfSome (R.remaining reader.old) (λ bytes. Does task bytes (R.remaining reader.new) result
+        (record { out = W.contents out.old; notes = N.contents notes.old.writer; held = notes.old.table })
+        (record { out = W.contents out.new; notes = N.contents notes.new.writer; held = notes.new.table })) }
+    ensures written { IsWrittenOut notes.old.table → IsWrittenOut notes.new.table }
+{
+    match engine_without_threads(alloc, task, reader, out, notes) {
+        Ok(status) => status,
+        Err(turns) => run(rt, alloc, turns, reader, out, notes),
+    }
+}
