@@ -1,8 +1,8 @@
 -- What is read of an input, piece by piece.
-use Rattle.std.proofs.Common.{◌≡◌, ◌≤◌, ◌+◌, ℕ, List, [], ◌++◌, length, take, drop, Option, Some, None, IfSome, refl, sym, ap, subst, ◌∙◌, append_assoc, append-nil, arith}
+use Rattle.std.proofs.Common.{◌≡◌, ◌≤◌, ◌<◌, ◌+◌, ◌⊎◌, inr, ℕ, List, [], ◌++◌, length, take, drop, Option, Some, None, IfSome, refl, sym, ap, subst, ◌∙◌, append_assoc, append-nil, arith}
 use Rattle.std.specs.Io.KnownBytes.{Consumes, IsAtEnd}
 use Rattle.std.proofs.lemmas.List.{take-append-drop, take-take, take_all, take_at, length-append, length-take-le}
-use Rattle.evc_scripts.specs.Inputs.{looked_at}
+use Rattle.evc_scripts.specs.Inputs.{looked_at, IsReadUp}
 
 -- what was consumed in two steps
 pub consumes_on : (old mid new : Option (List ℕ)) (xs ys : List ℕ) → Consumes old mid xs → Consumes mid new ys → Consumes old new (xs ++ ys)
@@ -43,3 +43,19 @@ enough_read max room n (Some o) (Some m) (Some r) text buf full within small a b
     let len : length (text ++ front) ≡ max + 1 =
     length-append text front ∙ ap (λ k. length text + k) (length-take-le room buf (omega (arith, within, small))) ∙ full in
     sym (take_at (text ++ front) (rest ++ r) (max + 1) len) ∙ ap (λ t. take (max + 1) t) (sym whole)
+
+-- HOW MUCH WAS READ
+
+-- one byte more than a text may have came, in a piece of n bytes
+pub past_bound : (max n : ℕ) (old now new : Option (List ℕ)) (text buf : List ℕ) → length text ≤ max → max < length text + n → n ≤ length buf → length buf ≡ 8192
+    → Consumes old now text → Consumes now new (take n buf) → IfSome old (λ bytes. IsReadUp max bytes new)
+past_bound max n None now new text buf small enough within full a b = tt
+past_bound max n (Some o) None new text buf small enough within full a b = absurd a
+past_bound max n (Some o) (Some m) None text buf small enough within full a b = absurd b
+past_bound max n (Some o) (Some m) (Some r) text buf small enough within full a b =
+    let len : length (text ++ take n buf) ≡ length text + n = length-append text (take n buf) ∙ ap (λ k. length text + k) (length-take-le n buf within) in record {
+      given = text ++ take n buf;
+      gave = consumes_on (Some o) (Some m) (Some r) text (take n buf) a b;
+      few = omega (arith, len, small, within, full);
+      enough = inr (omega (arith, len, enough));
+    }

@@ -40,20 +40,20 @@ plans_say p old new before after one other =
     (ap₂ (ended_note p.heading) same.0 same.1) (one.3, one.4) (other.3, other.4)
 
 pub sims_note : RefusedSimsHaveOneNote
-sims_note bytes old new before after (inl one) (inl other) =
+sims_note bytes left rest old new before after (inl one) (inl other) =
     plans_say one.0 old new before after one.2 (subst (λ p. PlanEnds p Refused before after) (one_plan bytes other.0 one.0 other.1 one.1) other.2)
-sims_note bytes old new before after (inl one) (inr other) = absurd (other.2.none one.0 one.1.script)
-sims_note bytes old new before after (inr one) (inl other) = absurd (one.2.none other.0 other.1.script)
-sims_note bytes old new before after (inr one) (inr other) =
+sims_note bytes left rest old new before after (inl one) (inr other) = absurd (other.2.none one.0 one.1.script)
+sims_note bytes left rest old new before after (inr one) (inl other) = absurd (one.2.none other.0 other.1.script)
+sims_note bytes left rest old new before after (inr one) (inr other) =
     both_say old new before after (script_note one.0 one.1) (script_note other.0 other.1)
     (same_note bytes one.0 other.0 one.1 other.1 one.2 other.2) (one.3, one.4) (other.3, other.4)
 
 pub runs_note : RefusedRunsHaveOneNote
-runs_note bytes turns most old new before after one other =
+runs_note bytes left rest turns most old new before after one other =
     both_say old new before after (script_note one.0 one.1) (script_note other.0 other.1) (same_note bytes one.0 other.0 one.1 other.1 one.2 other.2) one.3 other.3
 
 pub alike : RefusalsAreAlike
-alike bytes turns old new before after (inl one) other = absurd (other.2.none one.0 one.1.script)
-alike bytes turns old new before after (inr one) other =
+alike bytes left rest turns old new before after (inl one) other = absurd (other.2.none one.0 one.1.script)
+alike bytes left rest turns old new before after (inr one) other =
     both_say old new before after (script_note one.0 one.1) (script_note other.0 other.1)
     (same_note bytes one.0 other.0 one.1 other.1 one.2 other.2) (one.3, one.4) other.3

@@ -162,6 +162,6 @@ not_both p old new before after played early =
     never_played p early.0 early.1 is.turns is.outcomes early.2 is.played
 
 pub one_way : SimsEndOneWay
-one_way bytes old new before after done (inl e) =
+one_way bytes left rest old new before after done (inl e) =
     not_both done.0 old new before after done.2 (subst (λ p. PlanEnds p Refused before after) (one_plan bytes e.0 done.0 e.1 done.1) e.2)
-one_way bytes old new before after done (inr e) = e.2.none done.0 done.1.script
+one_way bytes left rest old new before after done (inr e) = e.2.none done.0 done.1.script

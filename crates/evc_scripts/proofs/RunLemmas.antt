@@ -19,7 +19,7 @@ use Rattle.ec_script.specs.Scripted.{Planned}
 use Rattle.evc_engine.specs.declared.status.Status.{Status}
 use Rattle.evc_engine.specs.declared.status.Status.TheVariants.{Done, Refused, Usage, InputOutput, Memory, Stopped}
 use Rattle.evc_engine.specs.Checks.{Outlets, Notes}
-use Rattle.evc_scripts.specs.Inputs.{looked_at}
+use Rattle.evc_scripts.specs.Inputs.{looked_at, IsReadUp}
 use Rattle.evc_scripts.specs.OutcomeNotes.{outcomes_note}
 use Rattle.evc_scripts.specs.Runs.{HaveRun, IsTold, HasNoReport, Says, RunEnds, TextRuns, Runs, status_for, is_memory, is_cut_short, run_fault_status, run_fault_note}
 use Rattle.evc_scripts.proofs.SimEnds.{says, refused_at}
@@ -69,16 +69,17 @@ fault_ends p turns faults.Memory s old new is said =
 
 -- THE COMMAND
 
-runs : (bytes : List ℕ) (turns : ℕ) (status : Status) (old new : Outlets) → TextRuns (looked_at SCRIPT_MAX bytes) turns status old new → Runs turns bytes status old new
-runs bytes turns Done old new e = (e.0, says bytes e.0 e.1, e.2)
-runs bytes turns Refused old new e = (e.0, e.1, refused_at bytes e.0 e.1 e.2, e.3)
-runs bytes turns InputOutput old new e = inl (e.0, says bytes e.0 e.1, e.2)
-runs bytes turns Memory old new (inl e) = inl (e.0, says bytes e.0 e.1, e.2)
-runs bytes turns Memory old new (inr e) = inr e
-runs bytes turns Stopped old new e = (e.0, says bytes e.0 e.1, e.2)
-runs bytes turns Usage old new e = absurd e.2
+runs : (bytes : List ℕ) (left : Option (List ℕ)) (turns : ℕ) (status : Status) (old new : Outlets) → IsReadUp SCRIPT_MAX bytes left
+    → TextRuns (looked_at SCRIPT_MAX bytes) turns status old new → Runs turns bytes left status old new
+runs bytes left turns Done old new r e = (e.0, says bytes e.0 e.1, e.2, r)
+runs bytes left turns Refused old new r e = (e.0, e.1, refused_at bytes e.0 e.1 e.2, e.3, r)
+runs bytes left turns InputOutput old new r e = inl (e.0, says bytes e.0 e.1, e.2, r)
+runs bytes left turns Memory old new r (inl e) = inl (e.0, says bytes e.0 e.1, e.2, r)
+runs bytes left turns Memory old new r (inr e) = inr e
+runs bytes left turns Stopped old new r e = (e.0, says bytes e.0 e.1, e.2, r)
+runs bytes left turns Usage old new r e = absurd e.2
 
-pub text_runs : (known : Option (List ℕ)) (text : List ℕ) (turns : ℕ) (status : Status) (old new : Outlets) → IfSome known (λ bytes. text ≡ looked_at SCRIPT_MAX bytes)
-    → TextRuns text turns status old new → IfSome known (λ bytes. Runs turns bytes status old new)
-text_runs None text turns status old new is e = tt
-text_runs (Some bytes) text turns status old new is e = runs bytes turns status old new (subst (λ (t : List ℕ). TextRuns t turns status old new) is e)
+pub text_runs : (known left : Option (List ℕ)) (text : List ℕ) (turns : ℕ) (status : Status) (old new : Outlets) → IfSome known (λ bytes. text ≡ looked_at SCRIPT_MAX bytes)
+    → IfSome known (λ bytes. IsReadUp SCRIPT_MAX bytes left) → TextRuns text turns status old new → IfSome known (λ bytes. Runs turns bytes left status old new)
+text_runs None left text turns status old new is r e = tt
+text_runs (Some bytes) left text turns status old new is r e = runs bytes left turns status old new r (subst (λ (t : List ℕ). TextRuns t turns status old new) is e)

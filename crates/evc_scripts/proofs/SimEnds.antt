@@ -19,7 +19,7 @@ use Rattle.ec_script.proofs.Texts.{read_is_script, script_is_read}
 use Rattle.evc_engine.specs.declared.status.Status.{Status}
 use Rattle.evc_engine.specs.declared.status.Status.TheVariants.{Done, Refused, Usage, InputOutput, Memory, Stopped}
 use Rattle.evc_engine.specs.Checks.{Outlets}
-use Rattle.evc_scripts.specs.Inputs.{looked_at}
+use Rattle.evc_scripts.specs.Inputs.{looked_at, IsReadUp}
 use Rattle.evc_scripts.specs.OutcomeNotes.{outcomes_note}
 use Rattle.evc_scripts.specs.Sims.{IsPlayed, TextEnds, SaysPlan, RefusedAt, Sims}
 
@@ -67,19 +67,20 @@ refused_at bytes n kind told = record {
 
 -- THE COMMAND
 
-sims : (bytes : List ℕ) (status : Status) (old new : Outlets) → TextEnds (looked_at SCRIPT_MAX bytes) status old new → Sims bytes status old new
-sims bytes Done old new e = (e.0, says bytes e.0 e.1, e.2)
-sims bytes Refused old new (inl e) = inl (e.0, says bytes e.0 e.1, e.2)
-sims bytes Refused old new (inr e) = inr (e.0, e.1, refused_at bytes e.0 e.1 e.2, e.3, e.4)
-sims bytes InputOutput old new e = inl (e.0, says bytes e.0 e.1, e.2)
-sims bytes Memory old new e = e
-sims bytes Usage old new e = e.2
-sims bytes Stopped old new e = e.2
+sims : (bytes : List ℕ) (left : Option (List ℕ)) (status : Status) (old new : Outlets) → IsReadUp SCRIPT_MAX bytes left → TextEnds (looked_at SCRIPT_MAX bytes) status old new
+    → Sims bytes left status old new
+sims bytes left Done old new r e = (e.0, says bytes e.0 e.1, e.2, r)
+sims bytes left Refused old new r (inl e) = inl (e.0, says bytes e.0 e.1, e.2, r)
+sims bytes left Refused old new r (inr e) = inr (e.0, e.1, refused_at bytes e.0 e.1 e.2, e.3, e.4, r)
+sims bytes left InputOutput old new r e = inl (e.0, says bytes e.0 e.1, e.2, r)
+sims bytes left Memory old new r e = e
+sims bytes left Usage old new r e = e.2
+sims bytes left Stopped old new r e = e.2
 
-pub text_sims : (known : Option (List ℕ)) (text : List ℕ) (status : Status) (old new : Outlets) → IfSome known (λ bytes. text ≡ looked_at SCRIPT_MAX bytes)
-    → TextEnds text status old new → IfSome known (λ bytes. Sims bytes status old new)
-text_sims None text status old new is e = tt
-text_sims (Some bytes) text status old new is e = sims bytes status old new (subst (λ (t : List ℕ). TextEnds t status old new) is e)
+pub text_sims : (known left : Option (List ℕ)) (text : List ℕ) (status : Status) (old new : Outlets) → IfSome known (λ bytes. text ≡ looked_at SCRIPT_MAX bytes)
+    → IfSome known (λ bytes. IsReadUp SCRIPT_MAX bytes left) → TextEnds text status old new → IfSome known (λ bytes. Sims bytes left status old new)
+text_sims None left text status old new is r e = tt
+text_sims (Some bytes) left text status old new is r e = sims bytes left status old new r (subst (λ (t : List ℕ). TextEnds t status old new) is e)
 
 -- there are as few outcomes as workers
 pub few_outcomes : (plan : Plan) (report : Report) (os : List Outcome) → os ≡ report.outcomes.items → IsReport plan.heading.setup plan.programs.items plan.schedule.items report → report.run.setup.workers ≤ 16

@@ -1,5 +1,5 @@
 -- What `run` answered and wrote, for an input whose bytes are known.
-use Rattle.std.specs.Prelude.{◌≡◌, ◌⊎◌, ℕ, Bool, true, false, ◌||◌, List, reverse, Ok, Err, codes, if◌then◌else◌, ◌++◌}
+use Rattle.std.specs.Prelude.{◌≡◌, ◌⊎◌, ℕ, Bool, true, false, ◌||◌, List, reverse, Ok, Err, Option, codes, if◌then◌else◌, ◌++◌}
 use Rattle.std.specs.List.{list_any}
 use Rattle.std.specs.Io.KnownBytes.{Appends, Keeps}
 use Rattle.ec_core.specs.Acceptance.{IsAccepted}
@@ -8,6 +8,7 @@ use Rattle.ec_machine.specs.declared.command.Command.{Command}
 use Rattle.ec_machine.specs.declared.outcome.Outcome.{Outcome}
 use Rattle.ec_machine.specs.declared.outcome.Outcome.TheVariants as outcomes
 use Rattle.ec_script.specs.declared.fault.Kind.{Kind}
+use Rattle.ec_script.specs.declared.parsing.TheConstants.{SCRIPT_MAX}
 use Rattle.ec_script.specs.Outcome.{outcome}
 use Rattle.ec_script.specs.Scripted.{Planned}
 use Rattle.ec_runner.specs.declared.report.Report.{Report}
@@ -20,6 +21,7 @@ use Rattle.evc_engine.specs.declared.status.Status.{Status}
 use Rattle.evc_engine.specs.declared.status.Status.TheVariants.{Done, Refused, Usage, InputOutput, Memory, Stopped}
 use Rattle.evc_engine.specs.AuditTexts.{worker_word}
 use Rattle.evc_engine.specs.Checks.{Outlets, Notes}
+use Rattle.evc_scripts.specs.Inputs.{IsReadUp, IsCutOff}
 use Rattle.evc_scripts.specs.OutcomeNotes.{outcomes_note, script_note}
 use Rattle.evc_scripts.specs.Sims.{AreProgramsOf, IsTraceUnder, SaysPlan, RefusedAt}
 
@@ -103,11 +105,12 @@ TextRuns text turns status old new = (p : Planned) × (outcome text ≡ Ok p) ×
 -- how `run` ended: the bytes are a script, its workers ran, and the trace of what they did was written, with no worker stopped, out of
 -- turns or out of memory; or the bytes are no script, and nothing was written but the note of the first faulty line; or a worker was stopped
 -- or out of turns (5) or out of memory (4), and the trace was written; or what a worker did is not what it was told (5), and nothing was
--- written; or a failed read, write or start of a thread is told, or want of memory
-abbrev pub Runs : ℕ → List ℕ → Status → Outlets → Outlets → Type 0
-Runs turns bytes Refused old new = (n : ℕ) × (kind : Kind) × RefusedAt bytes n kind × Says old new (script_note n kind)
-Runs turns bytes InputOutput old new =
-    ((p : Planned) × SaysPlan bytes p × RunEnds p turns InputOutput old new) ⊎ Says old new (codes "read fault\n")
-Runs turns bytes Memory old new =
-    ((p : Planned) × SaysPlan bytes p × RunEnds p turns Memory old new) ⊎ Says old new (codes "no memory\n")
-Runs turns bytes status old new = (p : Planned) × SaysPlan bytes p × RunEnds p turns status old new
+-- written; or a failed read, write or start of a thread is told, or want of memory. It reads as `sim` does
+abbrev pub Runs : ℕ → List ℕ → Option (List ℕ) → Status → Outlets → Outlets → Type 0
+Runs turns bytes left Refused old new = (n : ℕ) × (kind : Kind) × RefusedAt bytes n kind × Says old new (script_note n kind) × IsReadUp SCRIPT_MAX bytes left
+Runs turns bytes left InputOutput old new =
+    ((p : Planned) × SaysPlan bytes p × RunEnds p turns InputOutput old new × IsReadUp SCRIPT_MAX bytes left)
+    ⊎ (Says old new (codes "read fault\n") × IsCutOff SCRIPT_MAX bytes left)
+Runs turns bytes left Memory old new =
+    ((p : Planned) × SaysPlan bytes p × RunEnds p turns Memory old new × IsReadUp SCRIPT_MAX bytes left) ⊎ Says old new (codes "no memory\n")
+Runs turns bytes left status old new = (p : Planned) × SaysPlan bytes p × RunEnds p turns status old new × IsReadUp SCRIPT_MAX bytes left

@@ -1,5 +1,5 @@
 -- Laws of `sim` and `run`.
-use Rattle.std.specs.Prelude.{◌≡◌, ◌≤◌, ℕ, List, map, reverse, length, Ok}
+use Rattle.std.specs.Prelude.{◌≡◌, ◌≤◌, ℕ, List, map, reverse, length, Ok, Option}
 use Rattle.ec_count.specs.Tables.{Tables}
 use Rattle.ec_machine.specs.declared.command.Command.{Command}
 use Rattle.ec_machine.specs.declared.outcome.Outcome.{Outcome}
@@ -43,7 +43,7 @@ PlansEndAtOnePlace = (p : Planned) (place w other v : ℕ) → EndsEarly p place
 
 -- no input may end with status 0 and with status 1
 abbrev pub SimsEndOneWay : Type 0
-SimsEndOneWay = (bytes : List ℕ) (old new before after : Outlets) → Sims bytes Done old new → Sims bytes Refused before after → ⊥
+SimsEndOneWay = (bytes : List ℕ) (left rest : Option (List ℕ)) (old new before after : Outlets) → Sims bytes left Done old new → Sims bytes rest Refused before after → ⊥
 
 -- ONE NOTE FOR A REFUSAL
 
@@ -53,17 +53,17 @@ RefusedScriptsHaveOneFault = (bytes : List ℕ) (n m : ℕ) (kind sort : Kind) �
 
 -- whatever `sim` refuses, a script or bytes that are none: wherever it ends with status 1 on the same bytes, it writes nothing but the same note
 abbrev pub RefusedSimsHaveOneNote : Type 0
-RefusedSimsHaveOneNote = (bytes : List ℕ) (old new before after : Outlets) → Sims bytes Refused old new → Sims bytes Refused before after
+RefusedSimsHaveOneNote = (bytes : List ℕ) (left rest : Option (List ℕ)) (old new before after : Outlets) → Sims bytes left Refused old new → Sims bytes rest Refused before after
     → (note : List ℕ) × Says old new note × Says before after note
 
 -- the same of `run`, whatever the bounds of turns
 abbrev pub RefusedRunsHaveOneNote : Type 0
-RefusedRunsHaveOneNote = (bytes : List ℕ) (turns most : ℕ) (old new before after : Outlets) → Runs turns bytes Refused old new → Runs most bytes Refused before after
+RefusedRunsHaveOneNote = (bytes : List ℕ) (left rest : Option (List ℕ)) (turns most : ℕ) (old new before after : Outlets) → Runs turns bytes left Refused old new → Runs most bytes rest Refused before after
     → (note : List ℕ) × Says old new note × Says before after note
 
 -- and where `run` refuses, `sim` writes the same note, if it ends with status 1
 abbrev pub RefusalsAreAlike : Type 0
-RefusalsAreAlike = (bytes : List ℕ) (turns : ℕ) (old new before after : Outlets) → Sims bytes Refused old new → Runs turns bytes Refused before after
+RefusalsAreAlike = (bytes : List ℕ) (left rest : Option (List ℕ)) (turns : ℕ) (old new before after : Outlets) → Sims bytes left Refused old new → Runs turns bytes rest Refused before after
     → (note : List ℕ) × Says old new note × Says before after note
 
 -- WHAT IS WRITTEN IS READ AGAIN

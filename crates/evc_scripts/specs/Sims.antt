@@ -1,5 +1,5 @@
 -- What `sim` answered and wrote, for an input whose bytes are known.
-use Rattle.std.specs.Prelude.{◌≡◌, ◌⊎◌, ℕ, List, map, reverse, Ok, Err, codes}
+use Rattle.std.specs.Prelude.{◌≡◌, ◌⊎◌, ℕ, List, map, reverse, Ok, Err, Option, codes}
 use Rattle.std.specs.Io.KnownBytes.{Appends, Keeps}
 use Rattle.ec_core.specs.declared.act.Entry.{Entry}
 use Rattle.ec_text.specs.Puts.{AppendsPrefix}
@@ -22,7 +22,7 @@ use Rattle.ec_runner.specs.Schedules.{Turn, Plays, HasEnded, entries_of}
 use Rattle.evc_engine.specs.declared.status.Status.{Status}
 use Rattle.evc_engine.specs.declared.status.Status.TheVariants.{Done, Refused, Usage, InputOutput, Memory, Stopped}
 use Rattle.evc_engine.specs.Checks.{Outlets, Notes}
-use Rattle.evc_scripts.specs.Inputs.{looked_at}
+use Rattle.evc_scripts.specs.Inputs.{looked_at, IsReadUp, IsCutOff}
 use Rattle.evc_scripts.specs.OutcomeNotes.{outcomes_note, script_note, ended_note}
 
 -- PLANS
@@ -101,15 +101,15 @@ pub record RefusedAt (bytes : List ℕ) (n : ℕ) (kind : Kind) : Type 0 where
 
 -- how `sim` ended: the bytes are a script, its schedule was played, and the trace was written; or they are a script whose
 -- schedule names a worker that has ended, or no script, and nothing was written but a note; or a failed read or write is told, or want of
--- memory
-abbrev pub Sims : List ℕ → Status → Outlets → Outlets → Type 0
-Sims bytes Done old new = (p : Planned) × SaysPlan bytes p × PlanEnds p Done old new
-Sims bytes Refused old new =
-    ((p : Planned) × SaysPlan bytes p × PlanEnds p Refused old new)
-    ⊎ ((n : ℕ) × (kind : Kind) × RefusedAt bytes n kind × Keeps old.out new.out × Notes old new (script_note n kind))
-Sims bytes InputOutput old new =
-    ((p : Planned) × SaysPlan bytes p × PlanEnds p InputOutput old new)
-    ⊎ (Keeps old.out new.out × Notes old new (codes "read fault\n"))
-Sims bytes Memory old new = Keeps old.out new.out × Notes old new (codes "no memory\n")
-Sims bytes Usage old new = ⊥
-Sims bytes Stopped old new = ⊥
+-- memory. It reads all that it looks at before it looks, and tells a failed read where it could not
+abbrev pub Sims : List ℕ → Option (List ℕ) → Status → Outlets → Outlets → Type 0
+Sims bytes left Done old new = (p : Planned) × SaysPlan bytes p × PlanEnds p Done old new × IsReadUp SCRIPT_MAX bytes left
+Sims bytes left Refused old new =
+    ((p : Planned) × SaysPlan bytes p × PlanEnds p Refused old new × IsReadUp SCRIPT_MAX bytes left)
+    ⊎ ((n : ℕ) × (kind : Kind) × RefusedAt bytes n kind × Keeps old.out new.out × Notes old new (script_note n kind) × IsReadUp SCRIPT_MAX bytes left)
+Sims bytes left InputOutput old new =
+    ((p : Planned) × SaysPlan bytes p × PlanEnds p InputOutput old new × IsReadUp SCRIPT_MAX bytes left)
+    ⊎ (Keeps old.out new.out × Notes old new (codes "read fault\n") × IsCutOff SCRIPT_MAX bytes left)
+Sims bytes left Memory old new = Keeps old.out new.out × Notes old new (codes "no memory\n")
+Sims bytes left Usage old new = ⊥
+Sims bytes left Stopped old new = ⊥

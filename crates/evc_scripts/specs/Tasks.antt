@@ -11,5 +11,5 @@ use Rattle.evc_scripts.specs.Runs.{Runs}
 abbrev pub Does : Task → List ℕ → Option (List ℕ) → Status → Outlets → Outlets → Type 0
 Does Check bytes left status old new = Checks bytes left status old new
 Does Audit bytes left status old new = Audits bytes left status old new
-Does Sim bytes left status old new = Sims bytes status old new
-Does (Run turns) bytes left status old new = Runs turns bytes status old new
+Does Sim bytes left status old new = Sims bytes left status old new
+Does (Run turns) bytes left status old new = Runs turns bytes left status old new

@@ -2,7 +2,7 @@
 ghost use Rattle.std.specs.Prelude.{◌≡◌, ◌≤◌, ◌+◌, ◌++◌, IfSome, IfOk, OnOk, length, take};
 ghost use Rattle.std.specs.Io.KnownBytes.{ReadConsumes};
 ghost use Rattle.std.specs.Io.{ReadsAtMost};
-ghost use Rattle.evc_scripts.specs.Inputs.{looked_at};
+ghost use Rattle.evc_scripts.specs.Inputs.{IsReadFor, looked_at};
 
 use arrayvec::ArrayVec;
 use ec_script::SCRIPT_MAX;
@@ -40,7 +40,8 @@ fn keep_front(text: &mut Vec<u8>, table: &ArrayVec<u8, 8192>, n: usize) -> Resul
 /// The bytes of an input that a script is looked for in: all of them, or one more than a script may
 /// have. They are read in pieces of at most 8192 bytes, up to the end or the first failed read.
 pub(crate) fn read_script<R: Read>(alloc: Global, reader: &mut R) -> Result<Vec<u8>, InputFault>
-    ensures { IfSome (R.remaining reader.old) (λ bytes. IfOk result (λ text. text.items ≡ looked_at SCRIPT_MAX bytes)) }
+    ensures text { IfSome (R.remaining reader.old) (λ bytes. IfOk result (λ text. text.items ≡ looked_at SCRIPT_MAX bytes)) }
+    ensures read { IfSome (R.remaining reader.old) (λ bytes. IsReadFor SCRIPT_MAX bytes (R.remaining reader.new) result) }
 {
     let mut table: ArrayVec<u8, 8192> = ArrayVec::from([0u8; 8192]);
     let mut text = Vec::new(alloc);

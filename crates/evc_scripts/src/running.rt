@@ -155,7 +155,7 @@ pub fn run<H: Threads + Wait + Sync, R: Read, W: Write, N: Write>(
     out: &mut W,
     notes: &mut Notes<N>,
 ) -> Status
-    ensures ends { IfSome (R.remaining reader.old) (λ bytes. Runs turns bytes result
+    ensures ends { IfSome (R.remaining reader.old) (λ bytes. Runs turns bytes (R.remaining reader.new) result
         (record { out = W.contents out.old; notes = N.contents notes.old.writer; held = notes.old.table })
         (record { out = W.contents out.new; notes = N.contents notes.new.writer; held = notes.new.table })) }
     ensures written { IsWrittenOut notes.new.table }
