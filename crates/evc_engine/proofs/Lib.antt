@@ -4,3 +4,4 @@ pub mod TotalLemmas
 pub mod CheckLemmas
 pub mod OneText
 pub mod NoteLemmas
+pub mod OneNote

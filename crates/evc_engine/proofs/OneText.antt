@@ -187,7 +187,7 @@ module _ (h : Headed) (entries : List Entry) (read : IsRead h entries) where
       ap (λ x. text_of (codes "evc-audit 1" ∷ x ++ codes "end" ∷ [])) (same_text 0 h.groups found other read.shapes p.all q.all p.each q.each)
 
 -- one input is read as one heading and one history
-one_reading : (bytes : List ℕ) (t u : Recounted) → ReadsAs bytes t → ReadsAs bytes u → t ≡ u
+pub one_reading : (bytes : List ℕ) (t u : Recounted) → ReadsAs bytes t → ReadsAs bytes u → t ≡ u
 one_reading bytes t u p q = (let same : Ok t ≡ Ok u = sym p.told ∙ q.told in cc)
 
 pub one_text : AuditsHaveOneText

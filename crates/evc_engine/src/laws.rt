@@ -1,6 +1,6 @@
 //! What the contracts of the commands mean: each function says a law and does nothing.
 ghost use Rattle.evc_engine.specs.AuditLaws.{AuditsHaveOneText, TextOrBreak};
-ghost use Rattle.evc_engine.specs.NoteLaws.{NotesLeaveTheTable};
+ghost use Rattle.evc_engine.specs.NoteLaws.{NotesLeaveTheTable, RefusalsAreAlike, RefusedAuditsHaveOneNote, RefusedChecksHaveOneNote};
 
 /// What `audit` writes where it is done is determined by the bytes that it read: there is one text.
 pub fn audits_have_one_text()
@@ -16,4 +16,20 @@ pub fn audits_end_one_way()
 /// where a write has failed.
 pub fn notes_leave_the_table()
     ensures { NotesLeaveTheTable }
+{}
+
+/// Wherever `check` ends with status 1 on the same bytes, it writes nothing but the same note.
+pub fn refused_checks_have_one_note()
+    ensures { RefusedChecksHaveOneNote }
+{}
+
+/// The same of `audit`: where the bytes are no trace, and where they are one with a group that is
+/// not followed. So one group, one worker and one entry are named.
+pub fn refused_audits_have_one_note()
+    ensures { RefusedAuditsHaveOneNote }
+{}
+
+/// Where `check` ends with status 1 on bytes, and `audit` too, they write the same note.
+pub fn checks_and_audits_refuse_alike()
+    ensures { RefusalsAreAlike }
 {}
