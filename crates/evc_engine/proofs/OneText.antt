@@ -127,7 +127,7 @@ module _ (h : Headed) (entries : List Entry) (read : IsRead h entries) where
   versions_of name xs ys same = sym (map-map (version_line h.words name) shown xs) ∙ ap (map (version_line h.words name)) same ∙ map-map (version_line h.words name) shown ys
 
   told : (d : Database) (name : List ℕ) (a c : Audited) → IsAudited h entries (groups.Database d) a → IsAudited h entries (groups.Database d) c → audited_lines h name a ≡ audited_lines h name c
-  told d name (audits.Versions xs) (audits.Versions ys) p q = versions_of name xs.items ys.items (tries.determined h.setup d entries (map shown xs.items) (map shown ys.items) p.1 q.1)
+  told d name (audits.Versions xs) (audits.Versions ys) p q = versions_of name xs.items ys.items (tries.determined h.setup d entries (map shown xs.items) (map shown ys.items) p.1.0 q.1.0)
   told d name (audits.Versions xs) (audits.Deliveries ys) p q = absurd q.1
   told d name (audits.Versions xs) (audits.Balances m n) p q = absurd q.1
   told d name (audits.Versions xs) (audits.Pairs m n ys) p q = absurd q.1
