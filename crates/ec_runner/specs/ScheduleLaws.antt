@@ -75,3 +75,27 @@ SchedulesHaveOneRun = (t : Tables) (programs : List (List Command)) (schedule : 
 abbrev pub EndedIsNotPlayed : Type 0
 EndedIsNotPlayed = (t : Tables) (programs : List (List Command)) (schedule : List ℕ) (place w : ℕ) (turns : List Turn)
     → HasEnded t programs schedule place w → Plays t programs schedule turns → ⊥
+
+-- HISTORIES AND TURNS
+
+-- turns of the schedule made this history, and the programs ended so after them
+pub record IsMadeByTurns (t : Tables) (programs : List (List Command)) (schedule : List ℕ) (h : List Entry) (outcome : ℕ → Outcome) : Type 0 where
+  pub turns : List Turn
+  pub plays : Plays t programs schedule turns
+  pub entries : reverse h ≡ entries_of turns
+  pub after : (w : ℕ) → outcome w ≡ outcome_after programs w turns
+
+-- no other histories of a schedule are there than those that turns make
+abbrev pub HistoriesAreOfTurns : Type 0
+HistoriesAreOfTurns = (t : Tables) (programs : List (List Command)) (schedule : List ℕ) (h : List Entry) (outcome : ℕ → Outcome)
+    → IsHistoryOf t programs schedule h outcome → IsMadeByTurns t programs schedule h outcome
+
+-- so a schedule has one history at most, and its programs end in one way
+abbrev pub SchedulesHaveOneHistory : Type 0
+SchedulesHaveOneHistory = (t : Tables) (programs : List (List Command)) (schedule : List ℕ) (h others : List Entry) (outcome ends : ℕ → Outcome)
+    → IsHistoryOf t programs schedule h outcome → IsHistoryOf t programs schedule others ends → (h ≡ others) × ((w : ℕ) → outcome w ≡ ends w)
+
+-- and where it names a worker that has ended, it has none
+abbrev pub EndedHasNoHistory : Type 0
+EndedHasNoHistory = (t : Tables) (programs : List (List Command)) (schedule : List ℕ) (place w : ℕ) (h : List Entry) (outcome : ℕ → Outcome)
+    → HasEnded t programs schedule place w → IsHistoryOf t programs schedule h outcome → ⊥
