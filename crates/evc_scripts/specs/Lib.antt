@@ -3,3 +3,4 @@ pub mod OutcomeNotes
 pub mod Sims
 pub mod SimLaws
 pub mod Runs
+pub mod RunLaws
