@@ -17,8 +17,8 @@ use Rattle.ec_machine.specs.Follows.{program_at}
 use Rattle.ec_machine.specs.Runs.{next_act, outcome_of}
 use Rattle.ec_machine.specs.Steps.{own}
 use Rattle.ec_runner.specs.Schedules.{Turn, AreTurns, with_answer, entries_of, refusal_or, refusal_told, outcome_after}
-use Rattle.ec_runner.specs.ScheduleLaws.{made, unrefused, IsMarked, IsRefusedWith, IsHistoryOf, IsMadeByTurns, HistoriesAreOfTurns, SchedulesHaveOneHistory, EndedHasNoHistory}
-use Rattle.ec_runner.proofs.InOrder.{get_early, some_none, timely, timely_more, worker_of, mark_of, mark_at, made_append, told_is, told_none, outcome_told, one_run, ended_not_played}
+use Rattle.ec_runner.specs.ScheduleLaws.{made, unrefused, IsMarked, IsRefusedWith, IsHistoryOf, IsMadeByTurns, HistoriesAreOfTurns, SchedulesHaveOneHistory, EndedHasNoHistory, EndedIsAfterAHistory}
+use Rattle.ec_runner.proofs.InOrder.{get_early, some_none, timely, timely_more, worker_of, mark_of, mark_at, made_append, told_is, told_none, outcome_told, played_in_order, one_run, ended_not_played}
 
 -- LISTS
 
@@ -196,3 +196,17 @@ pub no_history : EndedHasNoHistory
 no_history t programs schedule place w h outcome ended is =
     let made_of = of_turns t programs schedule h outcome is in
     ended_not_played t programs schedule place w made_of.turns ended made_of.plays
+
+pub ended_after : EndedIsAfterAHistory
+ended_after t programs schedule place w = (
+  λ ended. record {
+    history = reverse (entries_of ended.turns);
+    outcome = λ v. outcome_after programs v ended.turns;
+    before = played_in_order t programs (take place schedule) ended.turns (reverse (entries_of ended.turns)) ended.plays (reverse-reverse (entries_of ended.turns));
+    named = ended.named;
+    ended = ended.ended;
+  },
+  λ after.
+      let made_of = of_turns t programs (take place schedule) after.history after.outcome after.before in
+      record { turns = made_of.turns; plays = made_of.plays; named = after.named; ended = λ running. after.ended (made_of.after w ∙ running) },
+)

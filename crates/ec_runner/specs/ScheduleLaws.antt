@@ -1,5 +1,5 @@
 -- What it means to play a schedule, in the order of time.
-use Rattle.std.specs.Prelude.{◌≡◌, ℕ, ◌+◌, ◌<◌, List, [], ◌∷◌, length, map, reverse, take, slice_get, Option, Some, None, Result, Ok, Err}
+use Rattle.std.specs.Prelude.{◌≡◌, ◌≢◌, ◌↔◌, ℕ, ◌+◌, ◌<◌, List, [], ◌∷◌, length, map, reverse, take, slice_get, Option, Some, None, Result, Ok, Err}
 use Rattle.ec_count.specs.Tables.{Tables}
 use Rattle.ec_core.specs.declared.act.Act.{Act}
 use Rattle.ec_core.specs.declared.act.Entry.{Entry}
@@ -99,3 +99,16 @@ SchedulesHaveOneHistory = (t : Tables) (programs : List (List Command)) (schedul
 abbrev pub EndedHasNoHistory : Type 0
 EndedHasNoHistory = (t : Tables) (programs : List (List Command)) (schedule : List ℕ) (place w : ℕ) (h : List Entry) (outcome : ℕ → Outcome)
     → HasEnded t programs schedule place w → IsHistoryOf t programs schedule h outcome → ⊥
+
+-- the places before this one have a history after which the worker that the schedule names there isn't running
+pub record HasEndedAfter (t : Tables) (programs : List (List Command)) (schedule : List ℕ) (place w : ℕ) : Type 0 where
+  pub history : List Entry
+  pub outcome : ℕ → Outcome
+  pub before : IsHistoryOf t programs (take place schedule) history outcome
+  pub named : slice_get schedule place ≡ Some w
+  pub ended : outcome w ≢ Running
+
+-- that is what it means that a place names a worker that has ended
+abbrev pub EndedIsAfterAHistory : Type 0
+EndedIsAfterAHistory = (t : Tables) (programs : List (List Command)) (schedule : List ℕ) (place w : ℕ)
+    → HasEnded t programs schedule place w ↔ HasEndedAfter t programs schedule place w
