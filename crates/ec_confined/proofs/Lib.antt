@@ -16,3 +16,4 @@ pub mod Tests
 pub mod TurnedRound
 pub mod Played
 pub mod Reported
+pub mod Passing

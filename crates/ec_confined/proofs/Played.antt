@@ -20,7 +20,7 @@ accepted_more : (t : Tables) (w : ℕ) (act : Act) (answer : Result Reply Refusa
 accepted_more t w act (Ok reply) past is acc = (is, acc)
 accepted_more t w act (Err r) past is acc = acc
 
-turns_accepted : (t : Tables) (programs : List (List Command)) (turns : List Turn) → AreTurns t programs turns → IsAccepted t (entries_of turns)
+pub turns_accepted : (t : Tables) (programs : List (List Command)) (turns : List Turn) → AreTurns t programs turns → IsAccepted t (entries_of turns)
 turns_accepted t programs [] are = tt
 turns_accepted t programs (x ∷ turns) are =
     accepted_more t x.worker x.act x.answer (entries_of turns) are.0.answer (turns_accepted t programs turns are.1)
@@ -39,7 +39,7 @@ run_more programs v w act (Ok reply) past due run =
     run_if (v == w) (program_at programs w) (record { worker = v; act = act; reply = reply }) (own w past)
     (λ is. subst (λ u. next_act (program_at programs u) (own u past) ≡ Some act) (eqb-true v w is) due) run
 
-turns_run : (t : Tables) (programs : List (List Command)) (w : ℕ) (turns : List Turn) → AreTurns t programs turns → IsRunOf (program_at programs w) (own w (entries_of turns))
+pub turns_run : (t : Tables) (programs : List (List Command)) (w : ℕ) (turns : List Turn) → AreTurns t programs turns → IsRunOf (program_at programs w) (own w (entries_of turns))
 unfolding IsRun
 turns_run t programs w [] are = tt
 turns_run t programs w (x ∷ turns) are =

@@ -2,3 +2,4 @@ pub mod Uses
 pub mod Laws
 pub mod Headings
 pub mod Reports
+pub mod Passing

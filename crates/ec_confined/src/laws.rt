@@ -1,5 +1,6 @@
 //! What the definitions mean: each function says a law and does nothing.
 ghost use Rattle.ec_confined.specs.Headings.{GroupsAreFollowed};
+ghost use Rattle.ec_confined.specs.Passing.{FollowedTracesPass, RanTracesPass, SimulatedTracesPass};
 ghost use Rattle.ec_confined.specs.Reports.{PlayedGroupsAreFollowed, ReportedGroupsAreFollowed};
 ghost use Rattle.ec_confined.specs.Laws.{BuffersAreFollowed, DatabasesAreFollowed, SemaphoresAreFollowed, BothIsFollowed, OwnEntriesTurnRound};
 
@@ -47,4 +48,22 @@ pub fn played_groups_are_followed()
 /// heading.
 pub fn reported_groups_are_followed()
     ensures { ReportedGroupsAreFollowed }
+{}
+
+/// `check` and `audit` refuse no trace that follows each group of its heading: they end with status
+/// 0, or tell a failed read or write or want of memory.
+pub fn followed_traces_pass()
+    ensures { FollowedTracesPass }
+{}
+
+/// What `sim` wrote of a script, with status 0, is such a trace, where it is within the bound of
+/// traces. So `check` and `audit` of it end with status 0, memory and failed reads and writes apart.
+pub fn simulated_traces_pass()
+    ensures { SimulatedTracesPass }
+{}
+
+/// What `run` wrote of a script is such a trace too, where it wrote it to the end: with status 0, or
+/// with 4 or 5 where it wrote anything.
+pub fn ran_traces_pass()
+    ensures { RanTracesPass }
 {}

@@ -23,7 +23,7 @@ use Rattle.ec_runner.proofs.Turning.{none_told}
 
 -- LISTS
 
-get_early : {X : Type 0} (xs ys : List X) (i : ℕ) → i < length xs → slice_get (xs ++ ys) i ≡ slice_get xs i
+pub get_early : {X : Type 0} (xs ys : List X) (i : ℕ) → i < length xs → slice_get (xs ++ ys) i ≡ slice_get xs i
 get_early [] ys i within = absurd (omega arith)
 get_early (x ∷ xs) ys zero within = refl
 get_early (x ∷ xs) ys (suc i) within = get_early xs ys i (omega arith)
@@ -32,17 +32,17 @@ get_here : {X : Type 0} (xs : List X) (y : X) (ys : List X) → slice_get (xs ++
 get_here [] y ys = refl
 get_here (x ∷ xs) y ys = get_here xs y ys
 
-some_none : (r : Refusal) → Some r ≡ None → ⊥
+pub some_none : (r : Refusal) → Some r ≡ None → ⊥
 some_none r is = cc
 
 cons_same : (a b : ℕ) (xs ys : List ℕ) → a ∷ xs ≡ b ∷ ys → (a ≡ b) × (xs ≡ ys)
 cons_same a b xs ys is = (cc, cc)
 
 -- in the order of time
-abbrev timely : {X : Type 0} → (Turn → X) → List Turn → List X
+abbrev pub timely : {X : Type 0} → (Turn → X) → List Turn → List X
 timely f turns = reverse (map f turns)
 
-timely_more : {X : Type 0} (f : Turn → X) (x : Turn) (turns : List Turn) → timely f (x ∷ turns) ≡ timely f turns ++ f x ∷ []
+pub timely_more : {X : Type 0} (f : Turn → X) (x : Turn) (turns : List Turn) → timely f (x ∷ turns) ≡ timely f turns ++ f x ∷ []
 timely_more f x turns = reverse-append (f x ∷ []) (map f turns)
 
 timely_split : {X : Type 0} (f : Turn → X) (later : List Turn) (x : Turn) (before : List Turn) → timely f (later ++ x ∷ before) ≡ timely f before ++ f x ∷ timely f later
@@ -50,13 +50,13 @@ timely_split f later x before =
     ap reverse (map-append f later (x ∷ before)) ∙ reverse-append (map f later) (f x ∷ map f before)
     ∙ ap (λ l. l ++ timely f later) (reverse-append (f x ∷ []) (map f before)) ∙ append_assoc (timely f before) (f x ∷ []) (timely f later)
 
-length_timely : {X : Type 0} (f : Turn → X) (turns : List Turn) → length (timely f turns) ≡ length turns
+pub length_timely : {X : Type 0} (f : Turn → X) (turns : List Turn) → length (timely f turns) ≡ length turns
 length_timely f turns = length-reverse (map f turns) ∙ length-map turns f
 
-abbrev worker_of : Turn → ℕ
+abbrev pub worker_of : Turn → ℕ
 worker_of x = x.worker
 
-abbrev mark_of : Turn → Option Refusal
+abbrev pub mark_of : Turn → Option Refusal
 mark_of x = refusal_or x.answer None
 
 -- a turn with those before it
@@ -139,7 +139,7 @@ place_is t programs later x before h is right =
           (ap (λ p. answer_of t p x.worker x.act) past ∙ right.answer);
     }
 
-made_append : (xs ys : List (Option Refusal)) → made (xs ++ ys) ≡ made xs + made ys
+pub made_append : (xs ys : List (Option Refusal)) → made (xs ++ ys) ≡ made xs + made ys
 made_append [] ys = omega arith
 made_append (None ∷ xs) ys = ap (λ n. n + 1) (made_append xs ys) ∙ (omega arith)
 made_append (Some r ∷ xs) ys = made_append xs ys
@@ -159,7 +159,7 @@ marks_before later x before =
     ap (λ l. made (take (length before) l)) (timely_split mark_of later x before)
     ∙ ap made (take_at (timely mark_of before) (mark_of x ∷ timely mark_of later) (length before) (length_timely mark_of before)) ∙ made_is before
 
-mark_at : {X : Type 0} (f : Turn → X) (later : List Turn) (x : Turn) (before : List Turn) → slice_get (timely f (later ++ x ∷ before)) (length before) ≡ Some (f x)
+pub mark_at : {X : Type 0} (f : Turn → X) (later : List Turn) (x : Turn) (before : List Turn) → slice_get (timely f (later ++ x ∷ before)) (length before) ≡ Some (f x)
 mark_at f later x before =
     ap (λ l. slice_get l (length before)) (timely_split f later x before) ∙ ap (slice_get (timely f before ++ f x ∷ timely f later)) (sym (length_timely f before))
     ∙ get_here (timely f before) (f x) (timely f later)
@@ -197,7 +197,7 @@ told_running : (t : Tables) (programs : List (List Command)) (before : List Turn
 told_running t programs before x right = none_told (refusal_told x.worker before) (outcome_of (program_at programs x.worker) (own x.worker (entries_of before))) right.running
 
 -- the refusal at a place of w is the one that w was told
-told_is : (t : Tables) (programs : List (List Command)) (turns : List Turn) (i w : ℕ) (r : Refusal) → AreTurns t programs turns
+pub told_is : (t : Tables) (programs : List (List Command)) (turns : List Turn) (i w : ℕ) (r : Refusal) → AreTurns t programs turns
     → slice_get (timely worker_of turns) i ≡ Some w → slice_get (timely mark_of turns) i ≡ Some (Some r) → refusal_told w turns ≡ Some r
 told_is t programs [] i w r each at mark = cc
 told_is t programs (x ∷ turns) i w r each at mark =
@@ -218,7 +218,7 @@ told_is t programs (x ∷ turns) i w r each at mark =
     (get_push (timely worker_of turns) x.worker i w (subst (λ l. slice_get l i ≡ Some w) (timely_more worker_of x turns) at))
 
 -- who has no such place was told none
-told_none : (turns : List Turn) (w : ℕ) → ((r : Refusal) → IsRefusedWith (timely worker_of turns) (timely mark_of turns) w r → ⊥) → refusal_told w turns ≡ None
+pub told_none : (turns : List Turn) (w : ℕ) → ((r : Refusal) → IsRefusedWith (timely worker_of turns) (timely mark_of turns) w r → ⊥) → refusal_told w turns ≡ None
 told_none [] w never = refl
 told_none (x ∷ turns) w never =
     let before : refusal_told w turns ≡ None = told_none turns w (λ r at. never r (
@@ -274,7 +274,7 @@ parts_are t programs (x ∷ turns) w each =
 
 -- THE LAWS
 
-outcome_told : (programs : List (List Command)) (turns : List Turn) (w : ℕ) (o : Option Refusal) → refusal_told w turns ≡ o
+pub outcome_told : (programs : List (List Command)) (turns : List Turn) (w : ℕ) (o : Option Refusal) → refusal_told w turns ≡ o
     → outcome_after programs w turns ≡ ended_by o (outcome_of (program_at programs w) (own w (entries_of turns)))
 outcome_told programs turns w o is = ap (λ o. ended_by o (outcome_of (program_at programs w) (own w (entries_of turns)))) is
 

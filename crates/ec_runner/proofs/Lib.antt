@@ -7,5 +7,6 @@ pub mod Starting
 pub mod Logging
 pub mod Reporting
 pub mod InOrder
+pub mod Histories
 pub mod Telling
 pub mod Interleaving

@@ -1,5 +1,5 @@
 -- What it means to play a schedule, in the order of time.
-use Rattle.std.specs.Prelude.{◌≡◌, ℕ, ◌+◌, ◌<◌, List, [], ◌∷◌, length, map, reverse, take, slice_get, Option, Some, None, Result, Ok, Err}
+use Rattle.std.specs.Prelude.{◌≡◌, ◌≢◌, ◌↔◌, ℕ, ◌+◌, ◌<◌, List, [], ◌∷◌, length, map, reverse, take, slice_get, Option, Some, None, Result, Ok, Err}
 use Rattle.ec_count.specs.Tables.{Tables}
 use Rattle.ec_core.specs.declared.act.Act.{Act}
 use Rattle.ec_core.specs.declared.act.Entry.{Entry}
@@ -75,3 +75,40 @@ SchedulesHaveOneRun = (t : Tables) (programs : List (List Command)) (schedule : 
 abbrev pub EndedIsNotPlayed : Type 0
 EndedIsNotPlayed = (t : Tables) (programs : List (List Command)) (schedule : List ℕ) (place w : ℕ) (turns : List Turn)
     → HasEnded t programs schedule place w → Plays t programs schedule turns → ⊥
+
+-- HISTORIES AND TURNS
+
+-- turns of the schedule made this history, and the programs ended so after them
+pub record IsMadeByTurns (t : Tables) (programs : List (List Command)) (schedule : List ℕ) (h : List Entry) (outcome : ℕ → Outcome) : Type 0 where
+  pub turns : List Turn
+  pub plays : Plays t programs schedule turns
+  pub entries : reverse h ≡ entries_of turns
+  pub after : (w : ℕ) → outcome w ≡ outcome_after programs w turns
+
+-- no other histories of a schedule are there than those that turns make
+abbrev pub HistoriesAreOfTurns : Type 0
+HistoriesAreOfTurns = (t : Tables) (programs : List (List Command)) (schedule : List ℕ) (h : List Entry) (outcome : ℕ → Outcome)
+    → IsHistoryOf t programs schedule h outcome → IsMadeByTurns t programs schedule h outcome
+
+-- so a schedule has one history at most, and its programs end in one way
+abbrev pub SchedulesHaveOneHistory : Type 0
+SchedulesHaveOneHistory = (t : Tables) (programs : List (List Command)) (schedule : List ℕ) (h others : List Entry) (outcome ends : ℕ → Outcome)
+    → IsHistoryOf t programs schedule h outcome → IsHistoryOf t programs schedule others ends → (h ≡ others) × ((w : ℕ) → outcome w ≡ ends w)
+
+-- and where it names a worker that has ended, it has none
+abbrev pub EndedHasNoHistory : Type 0
+EndedHasNoHistory = (t : Tables) (programs : List (List Command)) (schedule : List ℕ) (place w : ℕ) (h : List Entry) (outcome : ℕ → Outcome)
+    → HasEnded t programs schedule place w → IsHistoryOf t programs schedule h outcome → ⊥
+
+-- the places before this one have a history after which the worker that the schedule names there isn't running
+pub record HasEndedAfter (t : Tables) (programs : List (List Command)) (schedule : List ℕ) (place w : ℕ) : Type 0 where
+  pub history : List Entry
+  pub outcome : ℕ → Outcome
+  pub before : IsHistoryOf t programs (take place schedule) history outcome
+  pub named : slice_get schedule place ≡ Some w
+  pub ended : outcome w ≢ Running
+
+-- that is what it means that a place names a worker that has ended
+abbrev pub EndedIsAfterAHistory : Type 0
+EndedIsAfterAHistory = (t : Tables) (programs : List (List Command)) (schedule : List ℕ) (place w : ℕ)
+    → HasEnded t programs schedule place w ↔ HasEndedAfter t programs schedule place w

@@ -1,6 +1,6 @@
 //! What the definitions mean: each function says a law and does nothing.
 ghost use Rattle.ec_runner.specs.RunLaws.{OutcomesAreTheirs, ReportsInterleave};
-ghost use Rattle.ec_runner.specs.ScheduleLaws.{EndedIsNotPlayed, SchedulesArePlayedInOrder, SchedulesHaveOneRun};
+ghost use Rattle.ec_runner.specs.ScheduleLaws.{EndedHasNoHistory, EndedIsAfterAHistory, EndedIsNotPlayed, HistoriesAreOfTurns, SchedulesArePlayedInOrder, SchedulesHaveOneHistory, SchedulesHaveOneRun};
 
 /// In the order of time: the workers of a history of a schedule are those of the schedule without
 /// the places that were refused; the entries of each are a run of its program; at each place its
@@ -18,6 +18,28 @@ pub fn schedules_have_one_run()
 /// A schedule that names a worker that has ended has none.
 pub fn ended_is_not_played()
     ensures { EndedIsNotPlayed }
+{}
+
+/// Each history of a schedule, as `schedules_are_played_in_order` says what one is, is made by turns
+/// of it, and its programs end as after those.
+pub fn histories_are_of_turns()
+    ensures { HistoriesAreOfTurns }
+{}
+
+/// So a schedule has one history at most, and its programs end in one way.
+pub fn schedules_have_one_history()
+    ensures { SchedulesHaveOneHistory }
+{}
+
+/// That a place of a schedule names a worker that has ended is this: the places before it have a
+/// history, after which that worker's program is not running.
+pub fn ended_is_after_a_history()
+    ensures { EndedIsAfterAHistory }
+{}
+
+/// A schedule that names a worker that has ended has no history at all.
+pub fn ended_has_no_history()
+    ensures { EndedHasNoHistory }
 {}
 
 /// In a report of workers on threads each entry of the run stands in the log of its worker, behind

@@ -26,8 +26,9 @@ mod workers;
 pub use board::{Board, BoardFault, Parked};
 pub use gate::{Gate, OpenGate};
 pub use laws::{
-    ended_is_not_played, outcomes_are_theirs, reports_interleave, schedules_are_played_in_order,
-    schedules_have_one_run,
+    ended_has_no_history, ended_is_after_a_history, ended_is_not_played, histories_are_of_turns,
+    outcomes_are_theirs, reports_interleave, schedules_are_played_in_order,
+    schedules_have_one_history, schedules_have_one_run,
 };
 pub use report::{Report, SimFault};
 pub use run_fault::RunFault;

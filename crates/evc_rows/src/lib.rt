@@ -37,6 +37,8 @@ mod note_tests;
 #[cfg(test)]
 mod outcome;
 #[cfg(test)]
+mod piping_tests;
+#[cfg(test)]
 mod texts;
 #[cfg(test)]
 mod things;

@@ -7,3 +7,4 @@ pub mod OutcomeLines
 pub mod ReadAgain
 pub mod SimEnds
 pub mod RunLemmas
+pub mod SameReports

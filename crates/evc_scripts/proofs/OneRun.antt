@@ -17,10 +17,11 @@ use Rattle.ec_script.specs.Scripted.{Planned}
 use Rattle.ec_runner.specs.Reported.{AreOutcomes}
 use Rattle.ec_runner.specs.Schedules.{Turn, IsTurn, AreTurns, Plays, HasEnded, entries_of, refusal_told, ended_by, outcome_after}
 use Rattle.ec_runner.proofs.InOrder.{one_run, ended_not_played}
+use Rattle.ec_runner.proofs.Histories.{no_history}
 use Rattle.evc_engine.specs.declared.status.Status.TheVariants.{Done, Refused}
 use Rattle.evc_engine.specs.Checks.{Outlets}
 use Rattle.evc_scripts.specs.OutcomeNotes.{outcomes_note}
-use Rattle.evc_scripts.specs.SimLaws.{LinesPlayAlike, PlansHaveOneRun, SimsHaveOneText, EndedPlansAreNotPlayed, PlansEndAtOnePlace, SimsEndOneWay}
+use Rattle.evc_scripts.specs.SimLaws.{LinesPlayAlike, PlansHaveOneRun, SimsHaveOneText, EndedPlansAreNotPlayed, EndedPlansHaveNoHistory, PlansEndAtOnePlace, SimsEndOneWay}
 use Rattle.evc_scripts.specs.Sims.{IsTraceUnder, IsPlayed, PlanEnds, SaysPlan}
 use Rattle.evc_scripts.proofs.SameLines.{same_next, same_outcome}
 
@@ -30,7 +31,7 @@ lines_same : (a b : List Order) (xs ys : List (List Order)) → a ∷ xs ≡ b �
 lines_same a b xs ys is = (cc, cc)
 
 -- those of one worker
-same_at : (programs others : List (List Command)) (w : ℕ) → map flat programs ≡ map flat others → flat (program_at programs w) ≡ flat (program_at others w)
+pub same_at : (programs others : List (List Command)) (w : ℕ) → map flat programs ≡ map flat others → flat (program_at programs w) ≡ flat (program_at others w)
 same_at [] [] w same = refl
 same_at [] (ds ∷ others) w same = cc
 same_at (cs ∷ programs) [] w same = cc
@@ -92,7 +93,7 @@ plan_once p turns others outcomes ends one other =
     (run, same_outcomes one.programs other.programs p.heading.setup.workers turns outcomes ends same one.after after)
 
 -- the outline of a heading is one
-one_trace : (h : Headed) (entries more : List Entry) (trace other : List ℕ) → entries ≡ more → IsTraceUnder h entries trace → IsTraceUnder h more other → trace ≡ other
+pub one_trace : (h : Headed) (entries more : List Entry) (trace other : List ℕ) → entries ≡ more → IsTraceUnder h entries trace → IsTraceUnder h more other → trace ≡ other
 one_trace h entries more trace other same p q =
     let outlines : p.outline ≡ q.outline = sym (outline_found p.outline p.is) ∙ ap outline_of (p.declares ∙ sym q.declares) ∙ outline_found q.outline q.is in
     p.text ∙ ap₂ trace_text outlines same ∙ sym q.text
@@ -108,6 +109,11 @@ pub never_played : EndedPlansAreNotPlayed
 never_played p place w turns outcomes early plays =
     ended_not_played p.heading.setup plays.programs p.schedule place w turns
     (same_ended p.heading.setup early.programs plays.programs (early.lines ∙ sym plays.lines) p.schedule place w early.ended) plays.plays
+
+pub never_made : EndedPlansHaveNoHistory
+never_made p place w programs h outcome early lines is =
+    no_history p.heading.setup programs p.schedule place w h outcome
+    (same_ended p.heading.setup early.programs programs (early.lines ∙ sym lines) p.schedule place w early.ended) is
 
 -- THE PLACE OF WHO HAS ENDED
 

@@ -4,3 +4,4 @@ pub mod Sims
 pub mod SimLaws
 pub mod Runs
 pub mod Tasks
+pub mod RunLaws

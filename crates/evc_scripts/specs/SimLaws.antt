@@ -1,6 +1,7 @@
 -- Laws of `sim` and `run`.
 use Rattle.std.specs.Prelude.{◌≡◌, ◌≤◌, ℕ, List, map, reverse, length, Ok, Option}
 use Rattle.ec_count.specs.Tables.{Tables}
+use Rattle.ec_core.specs.declared.act.Entry.{Entry}
 use Rattle.ec_machine.specs.declared.command.Command.{Command}
 use Rattle.ec_machine.specs.declared.outcome.Outcome.{Outcome}
 use Rattle.ec_trace.specs.Outcome.{outcome}
@@ -9,10 +10,11 @@ use Rattle.ec_script.specs.declared.fault.Kind.{Kind}
 use Rattle.ec_script.specs.Flat.{flat}
 use Rattle.ec_script.specs.Scripted.{Planned}
 use Rattle.ec_runner.specs.Schedules.{Turn, Plays, entries_of, outcome_after}
+use Rattle.ec_runner.specs.ScheduleLaws.{IsHistoryOf}
 use Rattle.evc_engine.specs.declared.status.Status.{Status}
 use Rattle.evc_engine.specs.declared.status.Status.TheVariants.{Done, Refused}
 use Rattle.evc_engine.specs.Checks.{Outlets}
-use Rattle.evc_scripts.specs.Sims.{PlaysPlan, EndsEarly, IsPlayed, RefusedAt, Sims}
+use Rattle.evc_scripts.specs.Sims.{AreProgramsOf, PlaysPlan, EndsEarly, IsPlayed, RefusedAt, Sims}
 use Rattle.evc_scripts.specs.Runs.{HaveRun, Says, Runs}
 
 -- ONE TEXT FOR A SCRIPT
@@ -36,6 +38,11 @@ SimsHaveOneText = (p : Planned) (trace note other remark : List ℕ)
 -- where its schedule names a worker that has ended, in none
 abbrev pub EndedPlansAreNotPlayed : Type 0
 EndedPlansAreNotPlayed = (p : Planned) (place w : ℕ) (turns : List Turn) (outcomes : List Outcome) → EndsEarly p place w → PlaysPlan p turns outcomes → ⊥
+
+-- and has no history, whatever programs of its lines made it and however they are said to have ended
+abbrev pub EndedPlansHaveNoHistory : Type 0
+EndedPlansHaveNoHistory = (p : Planned) (place w : ℕ) (programs : List (List Command)) (h : List Entry) (outcome : ℕ → Outcome)
+    → EndsEarly p place w → AreProgramsOf p programs → IsHistoryOf p.heading.setup programs p.schedule h outcome → ⊥
 
 -- and it does so first at one place
 abbrev pub PlansEndAtOnePlace : Type 0

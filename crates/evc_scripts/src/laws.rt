@@ -1,5 +1,6 @@
 //! What the contracts of the commands mean: each function says a law and does nothing.
-ghost use Rattle.evc_scripts.specs.SimLaws.{EndedPlansAreNotPlayed, LinesPlayAlike, PlansEndAtOnePlace, PlansHaveOneRun, RanIsReadAgain, RefusalsAreAlike, RefusedRunsHaveOneNote, RefusedScriptsHaveOneFault, RefusedSimsHaveOneNote, SimsEndOneWay, SimsHaveOneText, SimulatedIsReadAgain};
+ghost use Rattle.evc_scripts.specs.RunLaws.{LinesReportAlike, PlansReportAlike, ReportsHaveOneText};
+ghost use Rattle.evc_scripts.specs.SimLaws.{EndedPlansAreNotPlayed, EndedPlansHaveNoHistory, LinesPlayAlike, PlansEndAtOnePlace, PlansHaveOneRun, RanIsReadAgain, RefusalsAreAlike, RefusedRunsHaveOneNote, RefusedScriptsHaveOneFault, RefusedSimsHaveOneNote, SimsEndOneWay, SimsHaveOneText, SimulatedIsReadAgain};
 
 /// Commands of the same lines do the same, whatever holds their lists in memory: where a schedule is
 /// played for programs, the same turns play it for others of the same lines, and end them alike.
@@ -20,6 +21,12 @@ pub fn sims_have_one_text()
 /// A plan whose schedule names a worker that has ended has no run.
 pub fn ended_plans_are_not_played()
     ensures { EndedPlansAreNotPlayed }
+{}
+
+/// Nor has it a history, however that is said: entries that are a run of each program, in the order
+/// of the schedule, with each place as its refusal or its entry says.
+pub fn ended_plans_have_no_history()
+    ensures { EndedPlansHaveNoHistory }
 {}
 
 /// The place and the worker that are told of such a plan are the only ones that may be.
@@ -63,4 +70,22 @@ pub fn simulated_is_read_again()
 /// of traces.
 pub fn ran_is_read_again()
     ensures { RanIsReadAgain }
+{}
+
+/// Commands of the same lines report the same, whatever holds their lists in memory: a report of
+/// workers that ran some is a report of workers that ran others of the same lines.
+pub fn lines_report_alike()
+    ensures { LinesReportAlike }
+{}
+
+/// So what `run` wrote of a script depends on the script's lines alone: it may be told of all
+/// programs of these lines.
+pub fn plans_report_alike()
+    ensures { PlansReportAlike }
+{}
+
+/// Of one script, a run of the same entries has one trace, and workers that ended alike one note and
+/// one status.
+pub fn reports_have_one_text()
+    ensures { ReportsHaveOneText }
 {}

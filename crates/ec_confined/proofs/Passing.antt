@@ -1,0 +1,156 @@
+-- What `sim` and `run` wrote passes `check` and `audit`.
+use Rattle.std.proofs.Common.{◌≡◌, ◌≢◌, ◌≤◌, ℕ, List, [], ◌++◌, length, reverse, slice_get, Option, Some, Ok, inl, inr, refl, sym, ◌∙◌, subst, append-nil}
+use Rattle.std.specs.List.{All}
+use Rattle.std.specs.Io.KnownBytes.{Appends, Keeps}
+use Rattle.std.proofs.lemmas.List.{append_cancel_left, reverse-reverse}
+use Rattle.std.proofs.lemmas.Option.{get_or_from_slice_get, slice_get_within}
+use Rattle.ec_core.specs.declared.act.Entry.{Entry}
+use Rattle.ec_core.specs.Acceptance.{IsAccepted}
+use Rattle.ec_core.proofs.Breaks.{follow_or_break}
+use Rattle.ec_machine.specs.declared.command.Command.{Command}
+use Rattle.ec_machine.specs.Follows.{program_at}
+use Rattle.ec_machine.specs.Runs.{IsRunOf}
+use Rattle.ec_machine.specs.Steps.{own}
+use Rattle.ec_heading.specs.Headed.{Headed}
+use Rattle.ec_heading.specs.Outlined.{IsHeading}
+use Rattle.ec_heading.specs.Rules.{group_rules, FollowsGroup}
+use Rattle.ec_trace.specs.Outcome.{outcome}
+use Rattle.ec_trace.specs.Recounted.{Recounted}
+use Rattle.ec_trace.specs.declared.read.TheConstants.{TRACE_MAX}
+use Rattle.ec_trace.proofs.ReadTraces.{read_is_trace}
+use Rattle.ec_script.specs.declared.parsing.TheConstants.{SCRIPT_MAX}
+use Rattle.ec_script.specs.Confined.{AreConfined, AreConfinedPrograms}
+use Rattle.ec_script.specs.Scripted.{Planned}
+use Rattle.ec_script.proofs.Keeping.{plans_are_confined}
+use Rattle.ec_script.proofs.WrittenOut.{confined_lines}
+use Rattle.ec_runner.specs.Schedules.{entries_of}
+use Rattle.evc_engine.specs.declared.status.Status.{Status}
+use Rattle.evc_engine.specs.declared.status.Status.TheVariants.{Done, Refused, Usage, InputOutput, Memory, Stopped}
+use Rattle.evc_engine.specs.Audits.{IsNotFollowed, Audits}
+use Rattle.evc_engine.specs.Checks.{Outlets, Checks}
+use Rattle.evc_scripts.specs.Inputs.{looked_at}
+use Rattle.evc_scripts.specs.Runs.{HaveRun, IsTold, HasNoReport}
+use Rattle.evc_scripts.specs.Sims.{AreProgramsOf, IsTraceUnder, IsPlayed, SaysPlan}
+use Rattle.evc_scripts.proofs.ReadAgain.{simulated_again, ran_again}
+use Rattle.ec_confined.specs.Passing.{IsFollowedTrace, IsNoRefusal, Passes, FollowedTracesPass, HasWritten, SimulatedTracesPass, RanTracesPass}
+use Rattle.ec_confined.proofs.AllGroups.{groups_follow}
+use Rattle.ec_confined.proofs.Played.{turns_accepted, turns_run}
+use Rattle.ec_confined.proofs.Reported.{reported_follow}
+
+-- A FOLLOWED TRACE
+
+of_all : {X : Type 0} (P : X → Type 0) (xs : List X) (i : ℕ) (x : X) → All P xs → slice_get xs i ≡ Some x → P x
+of_all P xs i x all at = subst P (get_or_from_slice_get xs i x x at) (all i x (slice_get_within xs i x at))
+
+read_once : (text : List ℕ) (t u : Recounted) → outcome TRACE_MAX text ≡ Ok t → outcome TRACE_MAX text ≡ Ok u → t ≡ u
+read_once text t u one other = (let same : Ok t ≡ Ok u = sym one ∙ other in cc)
+
+never_refused : (text : List ℕ) → IsFollowedTrace text → (left : Option (List ℕ)) (old new : Outlets) → Audits text left Refused old new → ⊥
+never_refused text is left old new (inl (t, reads, names)) =
+    let r : Recounted = is.recounted in
+    let same : t ≡ r = read_once text t r reads.told is.reads.told in
+    let breaks : IsNotFollowed r.heading r.entries names.group names.worker names.entry =
+    subst (λ (u : Recounted). IsNotFollowed u.heading u.entries names.group names.worker names.entry) same names.breaks in
+    follow_or_break (group_rules r.heading.setup r.heading.groups breaks.group) r.entries names.worker names.entry breaks.breaks
+    (of_all (FollowsGroup r.heading.setup r.heading.groups (reverse r.entries)) r.heading.groups names.group breaks.group is.followed breaks.is)
+never_refused text is left old new (inr (fault, refused, keeps, notes)) = refused.none is.reads.trace.outline is.recounted.entries is.reads.trace.trace
+
+audit_ends : (text : List ℕ) → IsFollowedTrace text → (left : Option (List ℕ)) (status : Status) (old new : Outlets) → Audits text left status old new → IsNoRefusal status
+audit_ends text is left Done old new audits = inl refl
+audit_ends text is left Refused old new audits = absurd (never_refused text is left old new audits)
+audit_ends text is left Usage old new audits = absurd audits
+audit_ends text is left InputOutput old new audits = inr (inl refl)
+audit_ends text is left Memory old new audits = inr (inr refl)
+audit_ends text is left Stopped old new audits = absurd audits
+
+check_ends : (text : List ℕ) → IsFollowedTrace text → (left : Option (List ℕ)) (status : Status) (old new : Outlets) → Checks text left status old new → IsNoRefusal status
+check_ends text is left Done old new checks = inl refl
+check_ends text is left Refused old new (fault, refused, keeps, notes) = absurd (refused.none is.reads.trace.outline is.recounted.entries is.reads.trace.trace)
+check_ends text is left Usage old new checks = absurd checks
+check_ends text is left InputOutput old new checks = inr (inl refl)
+check_ends text is left Memory old new checks = inr (inr refl)
+check_ends text is left Stopped old new checks = absurd checks
+
+pub pass : FollowedTracesPass
+pass text is = record { check = check_ends text is; audit = audit_ends text is }
+
+-- PLANS
+
+heading_under : (h : Headed) (entries : List Entry) (trace : List ℕ) → IsTraceUnder h entries trace → IsHeading h
+heading_under h entries trace under = inr (record { outline = under.outline; is = under.is; declares = under.declares })
+
+-- the programs of a script are confined
+programs_confined : (bytes : List ℕ) (p : Planned) (programs : List (List Command)) → SaysPlan bytes p → AreProgramsOf p programs → AreConfinedPrograms p.heading.groups programs
+programs_confined bytes p programs says lines =
+    confined_lines p.heading.groups programs (subst (AreConfined p.heading.groups) (sym lines) (plans_are_confined (looked_at SCRIPT_MAX bytes) p says.told).confined)
+
+played_follows : (bytes : List ℕ) (p : Planned) (trace note : List ℕ) → SaysPlan bytes p → IsPlayed p trace note → length trace ≤ TRACE_MAX → IsFollowedTrace trace
+played_follows bytes p trace note says played short =
+    let past = entries_of played.turns in
+    let plan = played.played in
+    let back : reverse (reverse past) ≡ past = reverse-reverse past in
+    let t : Recounted = record { heading = p.heading; entries = reverse past } in
+    let told = simulated_again p trace note played short in
+    record {
+      recounted = t;
+      reads = record { trace = read_is_trace trace t told; told = told };
+      followed = groups_follow p.heading plan.programs (reverse past) (heading_under p.heading (reverse past) trace played.written)
+          (programs_confined bytes p plan.programs says plan.lines)
+          (subst (IsAccepted p.heading.setup) (sym back) (turns_accepted p.heading.setup plan.programs played.turns plan.plays.each))
+          (λ w lt. subst (λ l. IsRunOf (program_at plan.programs w) (own w l)) (sym back) (turns_run p.heading.setup plan.programs w played.turns plan.plays.each));
+    }
+
+ran_follows : (bytes : List ℕ) (p : Planned) (turns : ℕ) (status : Status) (trace note : List ℕ) → SaysPlan bytes p → HaveRun p turns status trace note → length trace ≤ TRACE_MAX
+    → IsFollowedTrace trace
+ran_follows bytes p turns status trace note says ran short =
+    let t : Recounted = record { heading = p.heading; entries = ran.report.run.entries } in
+    let told = ran_again p turns status trace note ran short in
+    record {
+      recounted = t;
+      reads = record { trace = read_is_trace trace t told; told = told };
+      followed = reported_follow p.heading ran.programs turns ran.report (heading_under p.heading ran.report.run.entries trace ran.written)
+          (programs_confined bytes p ran.programs says ran.lines) ran.accepted ran.told;
+    }
+
+-- WHAT WAS WRITTEN
+
+text_is : (old new : Outlets) (text trace : List ℕ) → HasWritten old new text → Appends old.out new.out trace → trace ≡ text
+text_is old new text trace w appends =
+    let known : w.before ++ text ≡ w.before ++ trace =
+    subst (λ o. Appends o (Some (w.before ++ text)) trace) w.had (subst (λ n. Appends old.out n trace) w.has appends) in
+    sym (append_cancel_left w.before text trace known)
+
+nothing_is : (old new : Outlets) (text : List ℕ) → HasWritten old new text → Keeps old.out new.out → text ≡ []
+nothing_is old new text w keeps =
+    let known : w.before ++ text ≡ w.before = subst (λ o. Keeps o (Some (w.before ++ text))) w.had (subst (λ n. Keeps old.out n) w.has keeps) in
+    append_cancel_left w.before text [] (known ∙ sym (append-nil w.before))
+
+followed_passes : (text : List ℕ) → IsFollowedTrace text → IsFollowedTrace text × Passes text
+followed_passes text is = (is, pass text is)
+
+pub simulated_pass : SimulatedTracesPass
+simulated_pass bytes text left old new (p, says, (trace, note, played, appends, notes), read) w short =
+    let same : trace ≡ text = text_is old new text trace w appends in
+    followed_passes text
+    (subst IsFollowedTrace same (played_follows bytes p trace note says played (subst (λ l. length l ≤ TRACE_MAX) (sym same) short)))
+
+told_passes : (turns : ℕ) (bytes text : List ℕ) (p : Planned) (status : Status) (old new : Outlets) → SaysPlan bytes p → IsTold p turns status old new → HasWritten old new text → length text ≤ TRACE_MAX
+    → IsFollowedTrace text × Passes text
+told_passes turns bytes text p status old new says (trace, note, ran, appends, notes) w short =
+    let same : trace ≡ text = text_is old new text trace w appends in
+    followed_passes text
+    (subst IsFollowedTrace same (ran_follows bytes p turns status trace note says ran (subst (λ l. length l ≤ TRACE_MAX) (sym same) short)))
+
+not_nothing : (text : List ℕ) (p : Planned) (status : Status) (old new : Outlets) → HasNoReport p status old new → HasWritten old new text → text ≢ [] → ⊥
+not_nothing text p status old new none w some = some (nothing_is old new text w none.says.0)
+
+pub ran_pass : RanTracesPass
+ran_pass turns bytes text left Done old new (p, says, told, read) w whole short = told_passes turns bytes text p Done old new says told w short
+ran_pass turns bytes text left Memory old new (inl (p, says, inl told, read)) w whole short = told_passes turns bytes text p Memory old new says told w short
+ran_pass turns bytes text left Memory old new (inl (p, says, inr none, read)) w whole short = absurd (not_nothing text p Memory old new none w whole)
+ran_pass turns bytes text left Memory old new (inr says) w whole short = absurd (whole (nothing_is old new text w says.0))
+ran_pass turns bytes text left Stopped old new (p, says, inl told, read) w whole short = told_passes turns bytes text p Stopped old new says told w short
+ran_pass turns bytes text left Stopped old new (p, says, inr none, read) w whole short = absurd (not_nothing text p Stopped old new none w whole)
+ran_pass turns bytes text left Refused old new runs w whole short = absurd whole
+ran_pass turns bytes text left Usage old new runs w whole short = absurd whole
+ran_pass turns bytes text left InputOutput old new runs w whole short = absurd whole
