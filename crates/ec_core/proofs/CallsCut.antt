@@ -18,26 +18,26 @@ use Rattle.ec_core.proofs.Pasts.{pending_is}
 use Rattle.ec_core.proofs.Totals.{sum_same}
 
 -- where entry k is not w's, its moments are as before
-moments_kept : (w : ℕ) (h : List Entry) (first k : ℕ) → is_own_at w h k ≡ false → own_moments w h first (suc k) ≡ own_moments w h first k
+pub moments_kept : (w : ℕ) (h : List Entry) (first k : ℕ) → is_own_at w h k ≡ false → own_moments w h first (suc k) ≡ own_moments w h first k
 unfolding own_moments
 moments_kept w h first k off =
     ap (λ b. cond (nat_le first k && b) (past_at k h ∷ own_moments w h first k) (own_moments w h first k)) off
     ∙ (elim (nat_le first k) as (λ b. cond (b && false) (past_at k h ∷ own_moments w h first k) (own_moments w h first k) ≡ own_moments w h first k) [ true ↦ refl | false ↦ refl ])
 
 -- and where it is, they have one more
-moments_more : (w : ℕ) (h : List Entry) (first k : ℕ) → first ≤ k → is_own_at w h k ≡ true → own_moments w h first (suc k) ≡ past_at k h ∷ own_moments w h first k
+pub moments_more : (w : ℕ) (h : List Entry) (first k : ℕ) → first ≤ k → is_own_at w h k ≡ true → own_moments w h first (suc k) ≡ past_at k h ∷ own_moments w h first k
 unfolding own_moments
 moments_more w h first k le own =
     ap (λ b. cond (b && is_own_at w h k) (past_at k h ∷ own_moments w h first k) (own_moments w h first k)) (le-leb first k le)
     ∙ ap (λ b. cond (true && b) (past_at k h ∷ own_moments w h first k) (own_moments w h first k)) own
 
-moments_none : (w : ℕ) (h : List Entry) (first k : ℕ) → k ≤ first → own_moments w h first k ≡ []
+pub moments_none : (w : ℕ) (h : List Entry) (first k : ℕ) → k ≤ first → own_moments w h first k ≡ []
 unfolding own_moments
 moments_none w h first zero le = refl
 moments_none w h first (suc k) le =
     ap (λ b. cond (b && is_own_at w h k) (past_at k h ∷ own_moments w h first k) (own_moments w h first k)) (lt-leb first k (omega arith)) ∙ moments_none w h first k (omega arith)
 
-own_is : (w : ℕ) (h : List Entry) (k : ℕ) (x : Entry) (b : Bool) → slice_get h k ≡ Some x → (x.worker == w) ≡ b → is_own_at w h k ≡ b
+pub own_is : (w : ℕ) (h : List Entry) (k : ℕ) (x : Entry) (b : Bool) → slice_get h k ≡ Some x → (x.worker == w) ≡ b → is_own_at w h k ≡ b
 own_is w h k x b at own = ap (λ o. option_map_or (λ (y : Entry). y.worker == w) o false) at ∙ own
 
 -- an entry of w's before moment k + 1 stands before moment k, where entry k is not w's

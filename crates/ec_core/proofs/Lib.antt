@@ -19,3 +19,4 @@ pub mod JoinedLists
 pub mod Breaks
 pub mod WrittenLists
 pub mod CallsCut
+pub mod FallenShort

@@ -22,3 +22,4 @@ pub mod Procedures
 pub mod JoinedLists
 pub mod Scanning
 pub mod Audits
+pub mod FallenShort

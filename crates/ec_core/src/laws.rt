@@ -1,6 +1,7 @@
 //! What the definitions mean, in order of time: each function says a law and does nothing.
 ghost use Rattle.std.specs.Prelude.{◌≡◌};
 ghost use Rattle.ec_core.specs.declared.act.TheConstants.{VALUE_MAX};
+ghost use Rattle.ec_core.specs.FallenShort.{IndexZeroMeansFallenShort};
 ghost use Rattle.ec_core.specs.Laws.{TotalsCountAdvances, ComponentsCountAdvances, IssuedCountsTickets, CellsHoldTheLastPut, CallsUnderWayAreCutInOrder, CallsUnderWayRead, RoundsAddTheirComponents, ComponentsAddUp, TotalsRiseByOne, CountsKeepTheLimit, RoundsLieBetween, RoundsOfCallsLieBetween, BeginningsAreAccepted, AcceptedMeansAnswered, NumbersAreSmall, RepliesFitTheirActs, OthersStand};
 
 /// The total of an eventcount at a moment is the number of its advances before it (Reed and
@@ -34,6 +35,12 @@ pub fn calls_under_way_are_cut_in_order()
 /// In an accepted history a call under way is a read or an await of a declared eventcount.
 pub fn calls_under_way_read()
     ensures { CallsUnderWayRead }
+{}
+
+/// An await under way has 0 as the component that comes next exactly where it has just ended a round
+/// that fell short.
+pub fn index_zero_means_fallen_short()
+    ensures { IndexZeroMeansFallenShort }
 {}
 
 /// The sum of a round adds each component as it was at its own moment.

@@ -21,6 +21,17 @@ use Rattle.ec_heading.specs.Lists.{ids_in, has_unknown, has_word_twice}
 abbrev pub Named : Type 0
 Named = List (List ℕ × Target)
 
+-- the number of each kind of fault, which it has among the faults of scripts; want of memory is no fault of a line
+abbrev pub fault_number : HeadFault → Option ℕ
+fault_number faults.BadLine = Some 2
+fault_number faults.BadName = Some 3
+fault_number faults.NameTaken = Some 4
+fault_number faults.UnknownName = Some 5
+fault_number faults.BadNumber = Some 6
+fault_number faults.TooMany = Some 7
+fault_number faults.TwoRoles = Some 9
+fault_number faults.Memory = None
+
 -- A LINE OF WORKERS
 
 -- the least fault of the names of workers

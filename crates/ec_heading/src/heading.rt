@@ -51,15 +51,33 @@ pub enum HeadFault {
     /// A table would pass its bound.
     #[error("a table would pass its bound")]
     TooMany,
-    /// The line names an object of a group.
-    #[error("the object belongs to a group")]
-    Hidden,
     /// A worker stands in both lists of a group.
     #[error("a worker stands in both roles")]
     TwoRoles,
     /// Memory was refused.
     #[error("memory was refused")]
     Memory,
+}
+
+impl HeadFault {
+    ghost use Rattle.ec_heading.specs.Kinds.{fault_number};
+
+    /// Its number among the kinds of faults of scripts, from 2 to 9; none of want of memory, for which
+    /// no line is to blame.
+    pub fn number(self) -> Option<u64>
+        ensures { result ≡ fault_number self }
+    {
+        match self {
+            HeadFault::BadLine => Some(2),
+            HeadFault::BadName => Some(3),
+            HeadFault::NameTaken => Some(4),
+            HeadFault::UnknownName => Some(5),
+            HeadFault::BadNumber => Some(6),
+            HeadFault::TooMany => Some(7),
+            HeadFault::TwoRoles => Some(9),
+            HeadFault::Memory => None,
+        }
+    }
 }
 
 /// What a heading declares: the limit, the workers, and their objects, with their names and the

@@ -128,7 +128,7 @@ abbrev act_in : Option Act → Act
 act_in None = acts.Go
 act_in (Some act) = act
 
-begun_alone : (act : Act) → begun_by act None ≡ act
+pub begun_alone : (act : Act) → begun_by act None ≡ act
 begun_alone (acts.Advance e) = refl
 begun_alone (acts.Read e) = refl
 begun_alone (acts.Await e v) = refl

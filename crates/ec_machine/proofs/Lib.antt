@@ -4,3 +4,4 @@ pub mod Going
 pub mod OwnCalls
 pub mod OwnSteps
 pub mod WholeLists
+pub mod Joined

@@ -17,7 +17,7 @@ use Rattle.ec_machine.proofs.Going.{begun_is_due, opening_is_due}
 
 -- WRITTEN LISTS
 
-written_none : (list : List Told → Option Act) → IsWritten list []
+pub written_none : (list : List Told → Option Act) → IsWritten list []
 written_none list k c at = cc
 
 written_if : (b : Bool) (list : List Told → Option Act) (done : List Told) (c : Told) → IsWritten list done → list done ≡ Some c.op
@@ -35,7 +35,7 @@ finished_written list (x ∷ past) run =
 
 -- THE CALLS FROM A PLACE ON
 
-last_append : (last : ℕ) (xs ys : List Told) → last_number last (xs ++ ys) ≡ last_number (last_number last xs) ys
+pub last_append : (last : ℕ) (xs ys : List Told) → last_number last (xs ++ ys) ≡ last_number (last_number last xs) ys
 last_append last [] ys = refl
 last_append last (x ∷ xs) ys = last_append (number_after last x.reply) xs ys
 
@@ -51,14 +51,14 @@ pub record IsSplit (left : List Command) (last : ℕ) (told calls : List Told) :
   pub place : place_after (record { left = left; last = last; told = told }) calls ≡ record { left = rest; last = last_number last (flat_map (λ b. b) lists); told = part }
 
 -- each call is the one that is next after those before it
-abbrev IsAsked : Place → List Told → Type 0
+abbrev pub IsAsked : Place → List Told → Type 0
 IsAsked p calls = (k : ℕ) (c : Told) → slice_get calls k ≡ Some c → next_call (place_after p (take k calls)) ≡ Some c.op
 
 begun_first : (last : ℕ) (left : List Command) → IsBegun last left []
 begun_first last [] = refl
 begun_first last (d ∷ ds) = record { asked = written_none (command_call last d); fits = λ large. refl; unfinished = inl refl }
 
-fits_of : (b : Bool) (o : Option Act) (act : Act) → (if b then None else o) ≡ Some act → (b ≡ false) × (o ≡ Some act)
+pub fits_of : (b : Bool) (o : Option Act) (act : Act) → (if b then None else o) ≡ Some act → (b ≡ false) × (o ≡ Some act)
 fits_of true o act is = cc
 fits_of false o act is = (refl, is)
 
@@ -70,7 +70,7 @@ asked_after : (p q : Place) (c : Told) (calls : List Told) → after_call p c �
 unfolding place_after
 asked_after p q c calls is asked k d at = ap (λ r. next_call (place_after r (take k calls))) (sym is) ∙ asked (suc k) d at
 
-place_next : (p q : Place) (c : Told) (calls : List Told) → after_call p c ≡ q → place_after p (c ∷ calls) ≡ place_after q calls
+pub place_next : (p q : Place) (c : Told) (calls : List Told) → after_call p c ≡ q → place_after p (c ∷ calls) ≡ place_after q calls
 unfolding place_after
 place_next p q c calls is = ap (λ r. place_after r calls) is
 
@@ -141,7 +141,7 @@ split (c ∷ calls) (d ∷ ds) last told begun asked =
 
 -- RUNS
 
-calls_of : (cs : List Command) (calls : List Told) → IsWritten (program_call cs) calls → AreCallsOf cs calls
+pub calls_of : (cs : List Command) (calls : List Told) → IsWritten (program_call cs) calls → AreCallsOf cs calls
 calls_of cs calls asked =
     let s = split calls (written cs) 0 [] (begun_first 0 (written cs)) asked in
     record {

@@ -11,3 +11,4 @@ pub mod Steps
 pub mod Tasks
 pub mod Values
 pub mod Written
+pub mod Joined

@@ -1,4 +1,5 @@
 //! What the definitions mean: each function says a law and does nothing.
+ghost use Rattle.ec_machine.specs.Joined.{RunsMeanWholeLists, FollowingMeansWholeLists};
 ghost use Rattle.ec_machine.specs.Laws.{RunsAreOfWholeLists, OwnStepsAreCut, BeginningsAreRuns};
 
 /// In a run of a program the finished calls are whole lists of calls joined end to end, one for
@@ -6,6 +7,18 @@ ghost use Rattle.ec_machine.specs.Laws.{RunsAreOfWholeLists, OwnStepsAreCut, Beg
 /// the command that follows; the call under way is the one that comes next.
 pub fn runs_are_of_whole_lists()
     ensures { RunsAreOfWholeLists }
+{}
+
+/// Steps are a run of a program exactly where their finished calls are such lists, and the call under
+/// way is the one that comes next.
+pub fn runs_mean_whole_lists()
+    ensures { RunsMeanWholeLists }
+{}
+
+/// In an accepted history the entries of a worker follow its program exactly where its finished calls
+/// are such lists, and its call under way is the one that comes next.
+pub fn following_means_whole_lists()
+    ensures { FollowingMeansWholeLists }
 {}
 
 /// In an accepted history the calls of a worker's own steps are its calls.

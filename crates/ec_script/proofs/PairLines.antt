@@ -29,7 +29,6 @@ head_roles heads.NameTaken is = cc
 head_roles heads.UnknownName is = cc
 head_roles heads.BadNumber is = cc
 head_roles heads.TooMany is = cc
-head_roles heads.Hidden is = cc
 head_roles heads.TwoRoles is = refl
 head_roles heads.Memory is = cc
 

@@ -1,11 +1,12 @@
 -- The kinds of faults, by number and by name, and those of headings among them.
-use Rattle.std.specs.Prelude.{ℕ, List, codes}
+use Rattle.std.specs.Prelude.{◌≡◌, ℕ, List, Some, codes}
 use Rattle.ec_script.specs.declared.fault.Kind.{Kind}
 use Rattle.ec_script.specs.declared.fault.Kind.TheVariants as kinds
 use Rattle.ec_script.specs.declared.fault.StageFault.{StageFault}
 use Rattle.ec_script.specs.declared.fault.StageFault.TheVariants as faults
 use Rattle.ec_heading.specs.declared.heading.HeadFault.{HeadFault}
 use Rattle.ec_heading.specs.declared.heading.HeadFault.TheVariants as heads
+use Rattle.ec_heading.specs.Kinds.{fault_number}
 
 abbrev pub kind_number : Kind → ℕ
 kind_number kinds.BadHeader = 1
@@ -43,9 +44,12 @@ kind_of_head heads.NameTaken = kinds.NameTaken
 kind_of_head heads.UnknownName = kinds.UnknownName
 kind_of_head heads.BadNumber = kinds.BadNumber
 kind_of_head heads.TooMany = kinds.TooMany
-kind_of_head heads.Hidden = kinds.Hidden
 kind_of_head heads.TwoRoles = kinds.TwoRoles
 kind_of_head heads.Memory = kinds.BadLine
+
+-- a fault of a heading's line has the number of its kind among the faults of scripts
+abbrev pub HeadFaultsKeepTheirNumbers : Type 0
+HeadFaultsKeepTheirNumbers = (fault : HeadFault) (n : ℕ) → fault_number fault ≡ Some n → kind_number (kind_of_head fault) ≡ n
 
 -- why a line was not taken that a heading refused
 abbrev pub stage_fault : HeadFault → StageFault

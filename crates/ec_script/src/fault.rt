@@ -119,7 +119,6 @@ fn kind_of_head(fault: HeadFault) -> Kind
         HeadFault::UnknownName => Kind::UnknownName,
         HeadFault::BadNumber => Kind::BadNumber,
         HeadFault::TooMany => Kind::TooMany,
-        HeadFault::Hidden => Kind::Hidden,
         HeadFault::TwoRoles => Kind::TwoRoles,
     }
 }

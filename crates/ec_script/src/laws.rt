@@ -2,6 +2,7 @@
 ghost use Rattle.std.specs.Prelude.{◌≡◌};
 ghost use Rattle.ec_script.specs.declared.parsing.TheConstants.{SCRIPT_MAX};
 ghost use Rattle.ec_script.specs.Confined.{ConfinedLinesAreConfinedCommands, PlansAreConfined};
+ghost use Rattle.ec_script.specs.Faults.{HeadFaultsKeepTheirNumbers};
 ghost use Rattle.ec_script.specs.Given.{LinesSayOrders};
 ghost use Rattle.ec_script.specs.Grammar.{FaultIsTheFirst, LongIsLine1, ReadIsScript, ScriptIsRead};
 ghost use Rattle.ec_script.specs.Layout.{LayoutsAreScripts, ScriptsAreLaidOut};
@@ -21,6 +22,11 @@ pub fn read_is_script()
 /// The fault that is told of a text within the bound is that of its first faulty line.
 pub fn fault_is_the_first()
     ensures { FaultIsTheFirst }
+{}
+
+/// A fault of a line of a heading has one number there and among the faults of scripts.
+pub fn head_faults_keep_their_numbers()
+    ensures { HeadFaultsKeepTheirNumbers }
 {}
 
 /// The fault that is told of a longer text is that of line 1.

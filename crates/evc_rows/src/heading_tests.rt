@@ -165,3 +165,24 @@ static CELLS: [Row; 22] = [
 fn spellings_of_cells(rt: HostRuntime) -> Result<(), Fail> {
     shows(rt.alloc(), &EACH, &CELLS)
 }
+
+static NUMBERS: [(HeadFault, Option<u64>); 8] = [
+    (HeadFault::BadLine, Some(2)),
+    (HeadFault::BadName, Some(3)),
+    (HeadFault::NameTaken, Some(4)),
+    (HeadFault::UnknownName, Some(5)),
+    (HeadFault::BadNumber, Some(6)),
+    (HeadFault::TooMany, Some(7)),
+    (HeadFault::TwoRoles, Some(9)),
+    (HeadFault::Memory, None),
+];
+
+#[test]
+fn faults_of_lines_tell_their_numbers(rt: HostRuntime) -> Result<(), Fail> {
+    for (fault, number) in &NUMBERS {
+        if fault.number() != *number {
+            return Err(Fail::new(format_args!("another number than that of {fault}")));
+        }
+    }
+    Ok(())
+}

@@ -1,0 +1,354 @@
+-- Whole lists joined end to end, and the beginning of one more, are a run of a program.
+use Rattle.std.proofs.Common.{◌≡◌, ℕ, zero, suc, ◌<◌, Bool, true, false, not, ◌==◌, ◌&&◌, ◌⊎◌, List, [], ◌∷◌, ◌++◌, length, map, reverse, Option, Some, None, IsSome, is_some, IfSome, if◌then◌else◌, cond, Ok, refl, sym, ◌∙◌, ap, subst, append_assoc, append-nil, arith, inl, inr, eqb-true}
+use Rattle.std.specs.List.{flat_map, AllByRecursion}
+use Rattle.ec_count.specs.Tables.{Tables}
+use Rattle.ec_core.specs.declared.act.Act.{Act}
+use Rattle.ec_core.specs.declared.act.Act.TheVariants as acts
+use Rattle.ec_core.specs.declared.act.Entry.{Entry}
+use Rattle.ec_core.specs.Acceptance.{answer_of, IsAccepted}
+use Rattle.ec_core.specs.Calls.{CallSoFar, is_go, is_pending, under_way}
+use Rattle.ec_core.specs.Following.{Told}
+use Rattle.ec_core.specs.JoinedLists.{finished_by, op_of}
+use Rattle.ec_core.specs.Procedures.{next_of, IsWritten}
+use Rattle.ec_core.proofs.Answering.{allowed}
+use Rattle.ec_machine.specs.declared.command.Command.{Command, map-Command}
+use Rattle.ec_machine.specs.declared.command.Command.TheOpen.{Command-F}
+use Rattle.ec_machine.specs.declared.command.Command.TheOpen as layer
+use Rattle.ec_machine.specs.declared.command.Command.TheViews.{roll-Command}
+use Rattle.ec_machine.specs.declared.command.Command.TheFolds.{ind-Command, fold-roll-Command}
+use Rattle.ec_machine.specs.declared.command.Command.TheVariants as commands
+use Rattle.ec_machine.specs.Written.{written, written_one, written_step, repeated}
+use Rattle.ec_machine.specs.Values.{has_large}
+use Rattle.ec_machine.specs.Steps.{begun_by, opening, finished, IsRun, own}
+use Rattle.ec_machine.specs.Runs.{Place, start, command_call, next_call, next_in, last_number, after_call, place_after, program_call, IsRunOf}
+use Rattle.ec_machine.specs.Follows.{program_at}
+use Rattle.ec_machine.specs.Laws.{AreWhole, IsBegunOf, IsBegun, number_told}
+use Rattle.ec_machine.specs.Joined.{AreListsOf, AreSteps, RunsMeanWholeLists, FollowingMeansWholeLists}
+use Rattle.ec_machine.proofs.Going.{begun_alone, opening_is_due}
+use Rattle.ec_machine.proofs.OwnCalls.{own_cut}
+use Rattle.ec_machine.proofs.WholeLists.{last_append, place_next, written_none, finished_written, calls_of, IsAsked}
+
+-- EACH COMMAND OF A WRITTEN-OUT PROGRAM HAS A FIRST CALL
+
+abbrev Asks : Command → Type 0
+Asks c = (last : ℕ) → IsSome (command_call last c [])
+
+every_append : (xs ys : List Command) → AllByRecursion Asks xs → AllByRecursion Asks ys → AllByRecursion Asks (xs ++ ys)
+every_append [] ys a b = b
+every_append (x ∷ xs) ys a b = (a.0, every_append xs ys a.1 b)
+
+every_back : (xs ys : List Command) → AllByRecursion Asks (xs ++ ys) → AllByRecursion Asks ys
+every_back [] ys all = all
+every_back (x ∷ xs) ys all = every_back xs ys all.1
+
+every_repeated : (n : ℕ) (xs : List Command) → AllByRecursion Asks xs → AllByRecursion Asks (repeated n xs)
+unfolding repeated
+every_repeated zero xs all = tt
+every_repeated (suc n) xs all = every_append xs (repeated n xs) all (every_repeated n xs all)
+
+abbrev AllAsk : Command → Type 0
+AllAsk c = AllByRecursion Asks (written_one c)
+
+all_ask : (es : List ((c : Command) × AllAsk c)) → AllByRecursion Asks (written (map (λ e. e.0) es))
+all_ask [] = tt
+all_ask (e ∷ es) = every_append (written_one e.0) (written (map (λ e. e.0) es)) e.1 (all_ask es)
+
+-- the same of the block of a repeat
+abbrev BlockAsks : Command-F Command → Type 0
+BlockAsks (layer.Repeat n block) = AllByRecursion Asks (written block.items)
+BlockAsks _ = Unit {0}
+
+block_asks : (y : Command-F ((c : Command) × AllAsk c)) → BlockAsks (map-Command ((c : Command) × AllAsk c) Command (λ e. e.0) y)
+block_asks (layer.Repeat n block) = all_ask block.items
+block_asks _ = tt
+
+one : (d : Command-F Command) (c : Command) → written_one (roll-Command d) ≡ c ∷ [] → Asks c → AllAsk (roll-Command d)
+one d c is asks = subst (AllByRecursion Asks) (sym is) (asks, tt)
+
+asks : (d : Command-F Command) → BlockAsks d → AllAsk (roll-Command d)
+asks (layer.Advance e) inner = one _ (commands.Advance e) (fold-roll-Command (List Command) written_step (layer.Advance e)) (λ last. refl)
+asks (layer.Read e) inner = one _ (commands.Read e) (fold-roll-Command (List Command) written_step (layer.Read e)) (λ last. refl)
+asks (layer.Await e v) inner = one _ (commands.Await e v) (fold-roll-Command (List Command) written_step (layer.Await e v)) (λ last. refl)
+asks (layer.Ticket q) inner = one _ (commands.Ticket q) (fold-roll-Command (List Command) written_step (layer.Ticket q)) (λ last. refl)
+asks (layer.Put x v) inner = one _ (commands.Put x v) (fold-roll-Command (List Command) written_step (layer.Put x v)) (λ last. refl)
+asks (layer.Get x) inner = one _ (commands.Get x) (fold-roll-Command (List Command) written_step (layer.Get x)) (λ last. refl)
+asks (layer.Produce b v) inner = one _ (commands.Produce b v) (fold-roll-Command (List Command) written_step (layer.Produce b v)) (λ last. refl)
+asks (layer.Consume b) inner = one _ (commands.Consume b) (fold-roll-Command (List Command) written_step (layer.Consume b)) (λ last. refl)
+asks (layer.WriteAll d vs) inner = one _ (commands.WriteAll d vs) (fold-roll-Command (List Command) written_step (layer.WriteAll d vs)) (λ last. refl)
+asks (layer.Snapshot d n) inner = one _ (commands.Snapshot d n) (fold-roll-Command (List Command) written_step (layer.Snapshot d n)) (λ last. refl)
+asks (layer.Down s) inner = one _ (commands.Down s) (fold-roll-Command (List Command) written_step (layer.Down s)) (λ last. refl)
+asks (layer.Up s) inner = one _ (commands.Up s) (fold-roll-Command (List Command) written_step (layer.Up s)) (λ last. refl)
+asks (layer.DownBoth r s u) inner = one _ (commands.DownBoth r s u) (fold-roll-Command (List Command) written_step (layer.DownBoth r s u)) (λ last. refl)
+asks (layer.Repeat n block) inner =
+    subst (AllByRecursion Asks) (sym (fold-roll-Command (List Command) written_step (layer.Repeat n block))) (every_repeated n (written block.items) inner)
+
+command_asks : (c : Command) → AllAsk c
+command_asks = ind-Command AllAsk (λ x y is. asks x (subst BlockAsks is (block_asks y)))
+
+program_asks : (cs : List Command) → AllByRecursion Asks (written cs)
+program_asks [] = tt
+program_asks (c ∷ cs) = every_append (written_one c) (written cs) (command_asks c) (program_asks cs)
+
+every_front : (xs ys : List Command) → AllByRecursion Asks (xs ++ ys) → AllByRecursion Asks xs
+every_front [] ys all = tt
+every_front (x ∷ xs) ys all = (all.0, every_front xs ys all.1)
+
+-- WRITTEN LISTS, CALL BY CALL
+
+-- after these calls each of the further ones is the one that the list has next
+abbrev AskedBy : (List Told → Option Act) → List Told → List Told → Type 0
+AskedBy list told [] = Unit {0}
+AskedBy list told (c ∷ more) = (list told ≡ Some c.op) × AskedBy list (told ++ c ∷ []) more
+
+written_at : (list : List Told → Option Act) (told : List Told) (c : Told) (more : List Told) → IsWritten list (told ++ c ∷ more) → list told ≡ Some c.op
+written_at list [] c more w = w 0 c refl
+written_at list (t ∷ told) c more w = written_at (λ l. list (t ∷ l)) told c more (λ k d at. w (suc k) d at)
+
+asked_by : (list : List Told → Option Act) (told more : List Told) → IsWritten list (told ++ more) → AskedBy list told more
+asked_by list told [] w = tt
+asked_by list told (c ∷ more) w = (written_at list told c more w, asked_by list (told ++ c ∷ []) more (subst (IsWritten list) (sym (append_assoc told (c ∷ []) more)) w))
+
+written_cons : (list : List Told → Option Act) (x : Told) (xs : List Told) → list [] ≡ Some x.op → IsWritten (λ l. list (x ∷ l)) xs → IsWritten list (x ∷ xs)
+written_cons list x xs first rest zero d at = (let same : x ≡ d = cc in first ∙ ap (λ (y : Told). Some y.op) same)
+written_cons list x xs first rest (suc k) d at = rest k d at
+
+written_front : (list : List Told → Option Act) (xs : List Told) (c : Told) → IsWritten list (xs ++ c ∷ []) → IsWritten list xs
+written_front list [] c w = written_none list
+written_front list (x ∷ xs) c w = written_cons list x xs (w 0 x refl) (written_front (λ l. list (x ∷ l)) xs c (λ k d at. w (suc k) d at))
+
+-- THE CALLS FROM A PLACE ON
+
+abbrev AskedFrom : Place → List Told → Type 0
+AskedFrom p [] = Unit {0}
+AskedFrom p (c ∷ calls) = (next_call p ≡ Some c.op) × AskedFrom (after_call p c) calls
+
+from_append : (p : Place) (xs ys : List Told) → AskedFrom p xs → AskedFrom (place_after p xs) ys → AskedFrom p (xs ++ ys)
+unfolding place_after
+from_append p [] ys a b = b
+from_append p (x ∷ xs) ys a b = (a.0, from_append (after_call p x) xs ys a.1 b)
+
+after_append : (p : Place) (xs ys : List Told) → place_after p (xs ++ ys) ≡ place_after (place_after p xs) ys
+unfolding place_after
+after_append p [] ys = refl
+after_append p (x ∷ xs) ys = after_append (after_call p x) xs ys
+
+asked_of : (p : Place) (calls : List Told) → AskedFrom p calls → IsAsked p calls
+unfolding place_after
+asked_of p [] asked k d at = cc
+asked_of p (c ∷ calls) asked zero d at = (let same : c ≡ d = cc in asked.0 ∙ ap (λ (y : Told). Some y.op) same)
+asked_of p (c ∷ calls) asked (suc k) d at = asked_of (after_call p c) calls asked.1 k d at
+
+abbrev at_place : List Command → ℕ → List Told → Place
+at_place left last told = record { left = left; last = last; told = told }
+
+-- what these calls lead to, each of them being next
+abbrev Leads : Place → List Told → Place → Type 0
+Leads p calls q = AskedFrom p calls × (place_after p calls ≡ q)
+
+leads_next : (p q r : Place) (c : Told) (calls : List Told) → next_call p ≡ Some c.op → after_call p c ≡ q → Leads q calls r → Leads p (c ∷ calls) r
+leads_next p q r c calls next is lead = ((next, subst (λ z. AskedFrom z calls) (sym is) lead.0), place_next p q c calls is ∙ lead.1)
+
+leads_on : (p q r : Place) (xs ys : List Told) → Leads p xs q → Leads q ys r → Leads p (xs ++ ys) r
+leads_on p q r xs ys a b =
+    (from_append p xs ys a.0 (subst (λ z. AskedFrom z ys) (sym a.1) b.0), after_append p xs ys ∙ ap (λ z. place_after z ys) a.1 ∙ b.1)
+
+leads_nowhere : (p : Place) → Leads p [] p
+unfolding place_after
+leads_nowhere p = (tt, refl)
+
+next_fits : (d : Command) (ds : List Command) (last : ℕ) (told : List Told) (act : Act) → has_large last d ≡ false → command_call last d told ≡ Some act
+    → next_call (at_place (d ∷ ds) last told) ≡ Some act
+next_fits d ds last told act fits due = ap (λ b. if b then None else command_call last d told) fits ∙ due
+
+stays : (d : Command) (ds : List Command) (last : ℕ) (told : List Told) (c : Told) → is_some (command_call last d (told ++ c ∷ [])) ≡ true
+    → after_call (at_place (d ∷ ds) last told) c ≡ at_place (d ∷ ds) last (told ++ c ∷ [])
+stays d ds last told c some =
+    ap (λ b. if b then at_place (d ∷ ds) last (told ++ c ∷ []) else at_place ds (last_number last (told ++ c ∷ [])) []) some
+
+moves : (d : Command) (ds : List Command) (last : ℕ) (told : List Told) (c : Told) → is_some (command_call last d (told ++ c ∷ [])) ≡ false
+    → after_call (at_place (d ∷ ds) last told) c ≡ at_place ds (last_number last (told ++ c ∷ [])) []
+moves d ds last told c none =
+    ap (λ b. if b then at_place (d ∷ ds) last (told ++ c ∷ []) else at_place ds (last_number last (told ++ c ∷ [])) []) none
+
+-- the rest of a whole list leads to the next command
+whole_list : (d : Command) (ds : List Command) (last : ℕ) (told more : List Told) → has_large last d ≡ false → AskedBy (command_call last d) told more
+    → command_call last d (told ++ more) ≡ None → 0 < length more
+    → Leads (at_place (d ∷ ds) last told) more (at_place ds (last_number last (told ++ more)) [])
+whole_list d ds last told [] fits asked none some = absurd (omega arith)
+whole_list d ds last told (c ∷ []) fits asked none some =
+    let q = at_place ds (last_number last (told ++ c ∷ [])) [] in
+    leads_next (at_place (d ∷ ds) last told) q q c [] (next_fits d ds last told c.op fits asked.0) (moves d ds last told c (ap is_some none)) (leads_nowhere q)
+whole_list d ds last told (c ∷ (b ∷ more)) fits asked none some =
+    let now = told ++ c ∷ [] in
+    let same = append_assoc told (c ∷ []) (b ∷ more) in
+    let q = at_place ds (last_number last (told ++ c ∷ (b ∷ more))) [] in
+    let rest = whole_list d ds last now (b ∷ more) fits asked.1 (ap (command_call last d) same ∙ none) (omega arith) in
+    leads_next (at_place (d ∷ ds) last told) (at_place (d ∷ ds) last now) q c (b ∷ more) (next_fits d ds last told c.op fits asked.0)
+    (stays d ds last told c (ap is_some asked.1.0))
+    (subst (λ l. Leads (at_place (d ∷ ds) last now) (b ∷ more) (at_place ds (last_number last l) [])) same rest)
+
+-- the rest of a beginning stays with its command
+begun_list : (d : Command) (ds : List Command) (last : ℕ) (told more : List Told) → has_large last d ≡ false → AskedBy (command_call last d) told more
+    → (more ≡ []) ⊎ IsSome (command_call last d (told ++ more))
+    → Leads (at_place (d ∷ ds) last told) more (at_place (d ∷ ds) last (told ++ more))
+begun_list d ds last told [] fits asked some =
+    subst (λ l. Leads (at_place (d ∷ ds) last told) [] (at_place (d ∷ ds) last l)) (sym (append-nil told)) (leads_nowhere (at_place (d ∷ ds) last told))
+begun_list d ds last told (c ∷ []) fits asked (inl none) = cc
+begun_list d ds last told (c ∷ []) fits asked (inr some) =
+    let q = at_place (d ∷ ds) last (told ++ c ∷ []) in
+    leads_next (at_place (d ∷ ds) last told) q q c [] (next_fits d ds last told c.op fits asked.0) (stays d ds last told c some) (leads_nowhere q)
+begun_list d ds last told (c ∷ (b ∷ more)) fits asked (inl none) = cc
+begun_list d ds last told (c ∷ (b ∷ more)) fits asked (inr some) =
+    let now = told ++ c ∷ [] in
+    let same = append_assoc told (c ∷ []) (b ∷ more) in
+    let q = at_place (d ∷ ds) last (told ++ c ∷ (b ∷ more)) in
+    let rest = begun_list d ds last now (b ∷ more) fits asked.1 (inr (subst (λ l. IsSome (command_call last d l)) (sym same) some)) in
+    leads_next (at_place (d ∷ ds) last told) (at_place (d ∷ ds) last now) q c (b ∷ more) (next_fits d ds last told c.op fits asked.0)
+    (stays d ds last told c (ap is_some asked.1.0))
+    (subst (λ l. Leads (at_place (d ∷ ds) last now) (b ∷ more) (at_place (d ∷ ds) last l)) same rest)
+
+begun_if : (b : Bool) (d : Command) (ds : List Command) (last : ℕ) (part : List Told) → has_large last d ≡ b → IsBegunOf last d part
+    → Leads (at_place (d ∷ ds) last []) part (at_place (d ∷ ds) last part)
+begun_if true d ds last part large begun =
+    subst (λ l. Leads (at_place (d ∷ ds) last []) l (at_place (d ∷ ds) last l)) (sym (begun.fits large)) (leads_nowhere (at_place (d ∷ ds) last []))
+begun_if false d ds last part fits begun =
+    begun_list d ds last [] part fits (asked_by (command_call last d) [] part begun.asked) begun.unfinished
+
+begun_leads : (left : List Command) (last : ℕ) (part : List Told) → IsBegun last left part → Leads (at_place left last []) part (at_place left last part)
+begun_leads [] last part none =
+    subst (λ l. Leads (at_place [] last []) l (at_place [] last l)) (sym none) (leads_nowhere (at_place [] last []))
+begun_leads (d ∷ ds) last part begun = begun_if (has_large last d) d ds last part refl begun
+
+some_call : (last : ℕ) (d : Command) (b : List Told) → IsSome (command_call last d []) → command_call last d b ≡ None → 0 < length b
+some_call last d [] some none = (let no : false ≡ true = ap is_some (sym none) ∙ some in cc)
+some_call last d (c ∷ b) some none = omega arith
+
+lists_lead : (done left : List Command) (lists : List (List Told)) (last : ℕ) (part : List Told) → AllByRecursion Asks done → AreWhole last done lists
+    → IsBegun (last_number last (flat_map (λ b. b) lists)) left part
+    → Leads (at_place (done ++ left) last []) (flat_map (λ b. b) lists ++ part) (at_place left (last_number last (flat_map (λ b. b) lists)) part)
+lists_lead [] left [] last part asks whole begun = begun_leads left last part begun
+lists_lead [] left (b ∷ lists) last part asks whole begun = absurd whole
+lists_lead (d ∷ ds) left [] last part asks whole begun = absurd whole
+lists_lead (d ∷ ds) left (b ∷ lists) last part asks whole begun =
+    let first = whole.0 in
+    let all = flat_map (λ c. c) lists in
+    let number : last_number last (b ++ all) ≡ last_number (last_number last b) all = last_append last b all in
+    let here = whole_list d (ds ++ left) last [] b first.fits (asked_by (command_call last d) [] b first.asked) first.whole (some_call last d b (asks.0 last) first.whole) in
+    let rest = lists_lead ds left lists (last_number last b) part asks.1 whole.1 (subst (λ n. IsBegun n left part) number begun) in
+    let q = at_place (ds ++ left) (last_number last b) [] in
+    let joined = leads_on (at_place (d ∷ (ds ++ left)) last []) q (at_place left (last_number (last_number last b) all) part) b (all ++ part) here rest in
+    subst (λ n. Leads (at_place (d ∷ (ds ++ left)) last []) ((b ++ all) ++ part) (at_place left n part)) (sym number)
+    (subst (λ l. Leads (at_place (d ∷ (ds ++ left)) last []) l (at_place left (last_number (last_number last b) all) part)) (sym (append_assoc b all part)) joined)
+
+-- STEPS
+
+go_is : (act : Act) → is_go act ≡ true → act ≡ acts.Go
+go_is acts.Go is = refl
+go_is (acts.Advance e) is = cc
+go_is (acts.Read e) is = cc
+go_is (acts.Await e v) is = cc
+go_is (acts.Ticket q) is = cc
+go_is (acts.Put x v) is = cc
+go_is (acts.Get x) is = cc
+
+due_of : (due o : Option Act) (act : Act) → is_go act ≡ is_some o → due ≡ Some (begun_by act o) → next_of (is_some o) due ≡ Some act
+due_of due None act go is = is ∙ ap (λ a. Some a) (begun_alone act)
+due_of due (Some op) act go is = ap (λ a. Some a) (sym (go_is act go))
+
+under_of : (due o : Option Act) (act op : Act) → is_go act ≡ is_some o → due ≡ Some (begun_by act o) → o ≡ Some op → due ≡ Some op
+under_of due None act op go is under = cc
+under_of due (Some f) act op go is under =
+    (let same : f ≡ op = cc in is ∙ ap (λ a. Some (begun_by a (Some f))) (go_is act go) ∙ ap (λ a. Some a) same)
+
+-- what the calls after one more step say of those before it
+before_if : (b : Bool) (list : List Told → Option Act) (done : List Told) (c : Told) → IsWritten list (if b then done else done ++ c ∷ [])
+    → ((op : Act) → (if b then Some c.op else None) ≡ Some op → list (if b then done else done ++ c ∷ []) ≡ Some op)
+    → IsWritten list done × (list done ≡ Some c.op)
+before_if true list done c w under = (w, under c.op refl)
+before_if false list done c w under = (written_front list done c w, written_at list done c [] w)
+
+run_of : (list : List Told → Option Act) (past : List Entry) → AreSteps past → IsWritten list (finished past)
+    → ((op : Act) → opening past ≡ Some op → list (finished past) ≡ Some op) → IsRun list past
+unfolding IsRun AreSteps finished opening
+run_of list [] steps w under = tt
+run_of list (x ∷ past) steps w under =
+    let b = before_if (is_pending x.reply) list (finished past) (record { op = begun_by x.act (opening past); reply = x.reply }) w under in (
+      due_of (list (finished past)) (opening past) x.act steps.0 b.1,
+      run_of list past steps.1 b.0 (λ op is. under_of (list (finished past)) (opening past) x.act op steps.0 b.1 is),
+    )
+
+-- BOTH DIRECTIONS
+
+for_some : (o : Option Act) (P : Act → Type 0) → ((x : Act) → o ≡ Some x → P x) → IfSome o P
+for_some None P each = tt
+for_some (Some x) P each = each x refl
+
+of_some : (o : Option Act) (P : Act → Type 0) (x : Act) → o ≡ Some x → IfSome o P → P x
+of_some o P x is each = subst (λ p. IfSome p P) is each
+
+lists_of : (cs : List Command) (past : List Entry) → IsRunOf cs past → AreListsOf cs (finished past) (opening past)
+lists_of cs past run =
+    let a = calls_of cs (finished past) (finished_written (program_call cs) past run) in
+    record {
+      done = a.done;
+      left = a.left;
+      lists = a.lists;
+      last = a.last;
+      commands = a.commands;
+      order = a.order;
+      whole = a.whole;
+      begun = a.begun;
+      next = for_some (opening past) (λ op. next_in a.left (number_told a.lists) a.last ≡ Some op)
+          (λ op is. sym a.next ∙ opening_is_due (program_call cs) past run op is);
+    }
+
+run_of_lists : (cs : List Command) (past : List Entry) → AreSteps past → AreListsOf cs (finished past) (opening past) → IsRunOf cs past
+run_of_lists cs past steps a =
+    let q = at_place a.left (number_told a.lists) a.last in
+    let asks = every_front a.done a.left (subst (AllByRecursion Asks) a.commands (program_asks cs)) in
+    let lead = lists_lead a.done a.left a.lists 0 a.last asks a.whole a.begun in
+    let all : Leads (start cs) (finished past) q =
+    subst (λ ws. Leads (at_place ws 0 []) (finished past) q) (sym a.commands) (subst (λ l. Leads (at_place (a.done ++ a.left) 0 []) l q) (sym a.order) lead) in
+    run_of (program_call cs) past steps (asked_of (start cs) (finished past) all.0)
+    (λ op is. ap next_call all.1 ∙ of_some (opening past) (λ o. next_in a.left (number_told a.lists) a.last ≡ Some o) op is a.next)
+
+pub runs_mean : RunsMeanWholeLists
+runs_mean cs past steps = (lists_of cs past, run_of_lists cs past steps)
+
+-- IN A HISTORY
+
+alike : (a b : Bool) → (a && not b) ≡ false → (not a && b) ≡ false → b ≡ a
+alike true true f g = refl
+alike true false f g = cc
+alike false true f g = cc
+alike false false f g = refl
+
+is_some_op : (o : Option CallSoFar) → is_some (op_of o) ≡ is_some o
+is_some_op None = refl
+is_some_op (Some call) = refl
+
+-- a worker's entries in an accepted history are steps
+own_steps : (t : Tables) (w : ℕ) (past : List Entry) → IsAccepted t past → AreSteps (own w past)
+unfolding AreSteps
+own_steps t w [] acc = tt
+own_steps t w (x ∷ past) acc =
+    elim (x.worker == w) as (λ b. (x.worker == w) ≡ b → AreSteps (cond b (x ∷ own w past) (own w past))) [
+      | true ↦ λ h.
+          (let P : ℕ → Type 0 = λ v. answer_of t past v x.act ≡ Ok x.reply in
+          let a = allowed t past w x.act x.reply (subst P (eqb-true x.worker w h) acc.0) in (
+            alike (is_some (under_way w past)) (is_go x.act) a.0.free a.0.going ∙ sym (ap is_some (own_cut t w past acc.1).1 ∙ is_some_op (under_way w past)),
+            own_steps t w past acc.1,
+          ))
+      | false ↦ λ h. own_steps t w past acc.1
+    ] refl
+
+pub following_means : FollowingMeansWholeLists
+following_means t programs h w acc =
+    let cs = program_at programs w in
+    let past = reverse h in
+    let steps = own_steps t w past acc in
+    let cut = own_cut t w past acc in (
+      λ run. subst (AreListsOf cs (finished_by w past)) cut.1 (subst (λ calls. AreListsOf cs calls (opening (own w past))) cut.0 (lists_of cs (own w past) run)),
+      λ a. run_of_lists cs (own w past) steps
+          (subst (AreListsOf cs (finished (own w past))) (sym cut.1) (subst (λ calls. AreListsOf cs calls (op_of (under_way w past))) (sym cut.0) a)),
+    )
