@@ -21,6 +21,8 @@ mod program_tests;
 #[cfg(test)]
 mod semaphore_tests;
 #[cfg(test)]
+mod size_tests;
+#[cfg(test)]
 mod steps_tests;
 #[cfg(test)]
 mod verify_tests;
