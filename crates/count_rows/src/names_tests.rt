@@ -1,6 +1,6 @@
 //! Names and what they stand for.
 use crate::things::{Thing, is_found, target};
-use ec_count::{NameFault, Names};
+use ec_count::{NameFault, Names, Target};
 use std::alloc::Global;
 use std::test::Fail;
 
@@ -41,15 +41,20 @@ fn no_names(alloc: Global) -> Result<Names, Fail> {
     Ok(Names::new(alloc)?)
 }
 
-/// The calls of a table, made one after another on no names at first, get their answers.
-fn shows(alloc: Global, rows: &[Row]) -> Result<(), Fail> {
-    let mut names = no_names(alloc)?;
+/// The calls of a table get their answers.
+fn go_on(names: &mut Names, rows: &[Row]) -> Result<(), Fail> {
     for (place, row) in rows.iter().enumerate() {
-        if !is_right(&mut names, row) {
+        if !is_right(names, row) {
             return Err(Fail::new(format_args!("another answer at row {place}")));
         }
     }
     Ok(())
+}
+
+/// The calls of a table, made one after another on no names at first, get their answers.
+fn shows(alloc: Global, rows: &[Row]) -> Result<(), Fail> {
+    let mut names = no_names(alloc)?;
+    go_on(&mut names, rows)
 }
 
 static FINDS: [Row; 7] = [
@@ -198,4 +203,29 @@ static TAKEN: [Row; 4] = [
 #[test]
 fn a_name_is_taken_once(rt: HostRuntime) -> Result<(), Fail> {
     shows(rt.alloc(), &TAKEN)
+}
+
+/// The names w0, w1 and so on, so many, each of a target of its own.
+fn numbered(alloc: Global, many: usize) -> Result<Names, Fail> {
+    let mut names = no_names(alloc)?;
+    for n in 0..many {
+        let name = format!(in alloc; "w{n}")?;
+        if names.add(name.as_str(), Target::Group(n)).is_err() {
+            return Err(Fail::new(format_args!("no new name {n}")));
+        }
+    }
+    Ok(names)
+}
+
+static LAST_OF_MANY: [Row; 4] = [
+    Row::Length(2_100_000),
+    Row::Find("w2099999", Some(Thing::Group(2_099_999))),
+    Row::Named(Thing::Group(2_099_999), Some("w2099999")),
+    Row::Refuse("w0", Thing::Worker(0), NameFault::NameTaken),
+];
+
+#[test]
+fn more_than_two_million_names(rt: HostRuntime) -> Result<(), Fail> {
+    let mut names = numbered(rt.alloc(), 2_100_000)?;
+    go_on(&mut names, &LAST_OF_MANY)
 }

@@ -183,3 +183,15 @@ fn words_that_are_dropped_may_be_added_again(rt: HostRuntime) -> Result<(), Fail
     let mut words = numbered(rt.alloc(), 500)?;
     go_on(&mut words, &DROPPED)
 }
+
+static LAST_OF_MANY: [Row; 3] = [
+    Row::Length(2_100_000),
+    Row::At(2_099_999, Some(("w2099999", Thing::Group(2_099_999)))),
+    Row::Find("w2099999", Some(Thing::Group(2_099_999))),
+];
+
+#[test]
+fn more_than_two_million_words(rt: HostRuntime) -> Result<(), Fail> {
+    let mut words = numbered(rt.alloc(), 2_100_000)?;
+    go_on(&mut words, &LAST_OF_MANY)
+}

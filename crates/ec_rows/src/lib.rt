@@ -7,6 +7,8 @@ mod board_tests;
 #[cfg(test)]
 mod buffer_tests;
 #[cfg(test)]
+mod choice_tests;
+#[cfg(test)]
 mod database_tests;
 #[cfg(test)]
 mod drive;
@@ -15,11 +17,21 @@ mod histories;
 #[cfg(test)]
 mod ids;
 #[cfg(test)]
+mod machines;
+#[cfg(test)]
 mod order_tests;
 #[cfg(test)]
 mod program_tests;
 #[cfg(test)]
+mod programs;
+#[cfg(test)]
+mod semaphore_setup_tests;
+#[cfg(test)]
 mod semaphore_tests;
+#[cfg(test)]
+mod semaphores;
+#[cfg(test)]
+mod size_tests;
 #[cfg(test)]
 mod steps_tests;
 #[cfg(test)]

@@ -138,13 +138,18 @@ fn is_right(alloc: Global, run: &Run, row: &Row) -> bool {
     }
 }
 
+/// What the rows say of a run is right.
+pub(crate) fn are_shown(alloc: Global, run: &Run, rows: &[Row]) -> Result<(), Fail> {
+    for (place, row) in rows.iter().enumerate() {
+        right(place, is_right(alloc, run, row))?;
+    }
+    Ok(())
+}
+
 /// What the rows say of the run of a history is right.
 pub(crate) fn shows(alloc: Global, history: &History, rows: &[Row]) -> Result<(), Fail> {
     let run = run_of(alloc, history)?;
-    for (place, row) in rows.iter().enumerate() {
-        right(place, is_right(alloc, &run, row))?;
-    }
-    Ok(())
+    are_shown(alloc, &run, rows)
 }
 
 static OVERTAKEN: [Row; 1] = [Row::Order(&[

@@ -143,7 +143,7 @@ fn a_read_of_sixteen_components_overtaken_fifteen_times(rt: HostRuntime) -> Resu
 }
 
 /// All of this is seen of a run without the third worker, which is silent, while the first is not.
-fn shows_without_the_third(run: &Run, sights: &[Sight]) -> Result<(), Fail> {
+pub(crate) fn shows_without_the_third(run: &Run, sights: &[Sight]) -> Result<(), Fail> {
     let (loud, silent) = (worker(0), worker(2));
     if run.setup().is_silent(loud) || !run.setup().is_silent(silent) {
         return Err(Fail::new("another worker is silent"));

@@ -1,10 +1,11 @@
 //! Readers and writers that fail under `check`, at the places that a table of all commands has not.
 use crate::broken_texts::IDLE;
 use crate::fakes::{Fickle, Pieces, Trouble};
-use crate::outcome::{Ending, checked_into, ends};
+use crate::outcome::{Ending, audit_ends, checked_into, ends};
 use crate::texts::THREE_ADVANCES;
 use evc_engine::{Notes, Status, check};
-use std::alloc::Global;
+use std::alloc::{AllocError, Global};
+use std::test::Fail;
 
 const READ_FAULT: Ending = Ending::Failed("read fault\n");
 
@@ -23,6 +24,52 @@ fn a_broken_line_before_a_failed_read(rt: HostRuntime) {
     let (text, right) = IDLE;
     let bytes = text.as_bytes();
     assert!(rt; ends_at_read(rt.alloc(), bytes, bytes.len(), 1, right));
+}
+
+/// How many bytes come at a time.
+static READS: [usize; 4] = [1, 5, 64, 8192];
+
+/// What stands behind the end of a whole trace before a read fails, and how `check` and `audit` end. Any byte there
+/// is a bad line, which is told in place of the failed read.
+static BEHIND: [(&str, Ending); 5] = [
+    ("", READ_FAULT),
+    ("x", Ending::Refused("line 11: bad line\n")),
+    ("\n", Ending::Refused("line 11: bad line\n")),
+    ("end\n", Ending::Refused("line 11: bad line\n")),
+    ("x\ny", Ending::Refused("line 11: bad line\n")),
+];
+
+/// The bytes of a whole trace of ten lines, and more behind them.
+fn followed(alloc: Global, behind: &str) -> Result<Vec<u8>, AllocError> {
+    let mut bytes = Vec::from_slice(alloc, THREE_ADVANCES.as_bytes())?;
+    bytes.extend_from_slice(behind.as_bytes())?;
+    Ok(bytes)
+}
+
+/// Whether both commands end so on bytes that come so many at a time, where the read behind them fails.
+fn both_end_behind(alloc: Global, bytes: &[u8], most: usize, right: Ending) -> bool {
+    let reads = bytes.len().div_ceil(most.max(1));
+    ends_at_read(alloc, bytes, most, reads, right)
+        && audit_ends(alloc, &mut Pieces::failing(bytes, most, reads), right)
+}
+
+/// Both commands end so, however many bytes come at a time.
+fn end_behind(alloc: Global, behind: &str, right: Ending) -> Result<(), Fail> {
+    let bytes = followed(alloc, behind)?;
+    for most in &READS {
+        if !both_end_behind(alloc, bytes.as_slice(), *most, right) {
+            return Err(Fail::new(format_args!("behind {behind}, by {most} bytes")));
+        }
+    }
+    Ok(())
+}
+
+#[test]
+fn bytes_behind_a_whole_trace_before_a_failed_read(rt: HostRuntime) -> Result<(), Fail> {
+    for (behind, right) in &BEHIND {
+        end_behind(rt.alloc(), behind, *right)?;
+    }
+    Ok(())
 }
 
 /// Whether `check` of a text tells that a write failed, where the writer then has these bytes.

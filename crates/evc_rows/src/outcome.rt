@@ -1,10 +1,10 @@
 //! Texts with how `check` ends on them, as tables.
-use evc_engine::{Notes, Status, check};
+use evc_engine::{Notes, Status, audit, check};
 use std::alloc::{AllocError, Global};
 use std::io::{Read, Write};
 use std::test::Fail;
 
-/// How `check` ends.
+/// How `check` or `audit` ends.
 #[derive(Clone, Copy)]
 pub(crate) enum Ending {
     /// It writes this text, and no note.
@@ -50,13 +50,24 @@ pub(crate) fn checked_into<R: Read, W: Write>(
     (status, notes.writer)
 }
 
+/// Whether a command that ended with this status and wrote these bytes and notes has ended so.
+fn is_ending(status: Status, out: &[u8], notes: &[u8], right: Ending) -> bool {
+    status == right.status() && out == right.out().as_bytes() && notes == right.notes().as_bytes()
+}
+
 /// Whether `check` ends so with the bytes of a reader.
 pub(crate) fn ends<R: Read>(alloc: Global, reader: &mut R, right: Ending) -> bool {
     let mut out = Vec::new(alloc);
     let (status, notes) = checked_into(alloc, reader, &mut out);
-    status == right.status()
-        && out.as_slice() == right.out().as_bytes()
-        && notes.as_slice() == right.notes().as_bytes()
+    is_ending(status, out.as_slice(), notes.as_slice(), right)
+}
+
+/// Whether `audit` ends so with the bytes of a reader.
+pub(crate) fn audit_ends<R: Read>(alloc: Global, reader: &mut R, right: Ending) -> bool {
+    let mut out = Vec::new(alloc);
+    let mut notes = Notes::new(Vec::new(alloc));
+    let status = audit(alloc, reader, &mut out, &mut notes);
+    is_ending(status, out.as_slice(), notes.writer.as_slice(), right)
 }
 
 /// A text, and how `check` ends on it.

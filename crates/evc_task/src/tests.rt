@@ -39,3 +39,40 @@ fn the_turns_of_run(rt: HostRuntime) -> Result<(), Fail> {
     assert!(rt; answer(alloc, &["evc", "sim", "--turns", "7"])? == (None, 2));
     Ok(())
 }
+
+// A number behind so many zeros.
+fn seven_behind(alloc: Global, zeros: usize) -> Result<String, AllocError> {
+    let mut text = String::new(alloc);
+    for _ in 0..zeros {
+        text.push('0')?;
+    }
+    text.push('7')?;
+    Ok(text)
+}
+
+#[test]
+fn a_word_of_more_than_two_million_bytes(rt: HostRuntime) -> Result<(), Fail> {
+    let alloc = rt.alloc();
+    let turns = seven_behind(alloc, 2_100_000)?;
+    assert!(rt;
+        answer(alloc, &["evc", "run", "--turns", turns.as_str()])? == (Some(Task::Run(7)), 0)
+    );
+    Ok(())
+}
+
+// More words than two million, behind the one that names a command.
+fn many_words(alloc: Global) -> Result<Vec<&'static str>, AllocError> {
+    let mut texts = vec![in alloc; "evc", "check"]?;
+    for _ in 0..2_100_000 {
+        texts.push("x")?;
+    }
+    Ok(texts)
+}
+
+#[test]
+fn more_than_two_million_words(rt: HostRuntime) -> Result<(), Fail> {
+    let alloc = rt.alloc();
+    let texts = many_words(alloc)?;
+    assert!(rt; answer(alloc, texts.as_slice())? == (None, 2));
+    Ok(())
+}
