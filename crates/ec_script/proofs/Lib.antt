@@ -29,3 +29,4 @@ pub mod Namings
 pub mod Sayings
 pub mod Spellings
 pub mod Cleans
+pub mod FaultsTold
