@@ -1,5 +1,5 @@
 -- A fault is told of a text exactly where it is that of its first faulty line, or of line 1 where the text is too long.
-use Rattle.std.proofs.Common.{◌≡◌, ◌≢◌, ◌⊎◌, inl, inr, ℕ, ◌+◌, ◌<◌, ◌≤◌, List, [], ◌∷◌, ◌++◌, length, Bool, true, false, cond, Option, Some, None, Result, Ok, Err, refl, sym, ap, ◌∙◌, subst, arith, append_assoc, append-nil, bytes_eq, codes}
+use Rattle.std.proofs.Common.{◌≡◌, ◌≢◌, ◌⊎◌, inl, inr, ℕ, ◌+◌, ◌<◌, ◌≤◌, List, [], ◌∷◌, ◌++◌, length, true, false, cond, Err, refl, sym, ap, ◌∙◌, subst, arith, append_assoc, append-nil, bytes_eq, codes}
 use Rattle.std.specs.List.{AllByRecursion}
 use Rattle.std.proofs.lemmas.Bool.{true≢false, false_from_ne_true, cases_lt}
 use Rattle.std.proofs.lemmas.Slice.Eq.{bytes_eq-Decides}
@@ -9,7 +9,7 @@ use Rattle.ec_script.specs.declared.parsing.TheConstants.{SCRIPT_MAX}
 use Rattle.ec_script.specs.declared.stage.Stage.{Stage}
 use Rattle.ec_script.specs.declared.stage.Stage.TheVariants.{Opening}
 use Rattle.ec_script.specs.Reading.{step}
-use Rattle.ec_script.specs.Outcome.{Parsed, parts_of, plan_in, finished, taken, ended, goes, outcome, first_of, long_kind}
+use Rattle.ec_script.specs.Outcome.{parts_of, finished, taken, ended, goes, outcome, first_of, long_kind}
 use Rattle.ec_script.specs.Grammar.{text_of, IsLine, Leads, IsRefused, IsCutOff, IsFirstFault, IsLongFault, IsFault, FaultsAreTold}
 use Rattle.ec_script.proofs.Lines.{HasFirst, has_first, parts_line, parts_rest, goes_line, goes_rest}
 use Rattle.ec_script.proofs.Texts.{within_goes, long_goes, fault_is_first, long_is_line_1, whole, line_at, are_lines, behind_of}

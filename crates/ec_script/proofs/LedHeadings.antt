@@ -139,5 +139,8 @@ leads_heads : (s : Stage) (lines : List (List ℕ)) (t : Stage) → StageHeads s
 leads_heads s [] t heads leads = subst StageHeads leads heads
 leads_heads s (line ∷ lines) t heads leads = leads_heads leads.0 lines t (step_heads s leads.0 line heads leads.1) leads.2
 
+pub lines_outlined : (before : List (List ℕ)) (s : Scripted) → Leads Opening before (Reading s) → HasOutline s.heading
+lines_outlined before s leads = leads_heads Opening before (Reading s) tt leads
+
 pub lines_lead : LinesLeadToHeadings
-lines_lead before s leads = inr (leads_heads Opening before (Reading s) tt leads)
+lines_lead before s leads = inr (lines_outlined before s leads)

@@ -30,3 +30,8 @@ pub mod Sayings
 pub mod Spellings
 pub mod Cleans
 pub mod FaultsTold
+pub mod Least
+pub mod Deciding
+pub mod HeadKinds
+pub mod OtherKinds
+pub mod KindsTold
