@@ -1,9 +1,11 @@
 -- The lines of a heading are those of its outline.
-use Rattle.std.proofs.Common.{◌≡◌, ℕ, List, [], ◌∷◌, map, refl, sym, ap, ap₂, subst, ◌∙◌}
+use Rattle.std.proofs.Common.{◌≡◌, ℕ, ◌≤◌, ◌<◌, ◌^◌, List, [], ◌∷◌, ◌++◌, Ok, map, refl, sym, ap, ap₂, subst, ◌∙◌}
 use Rattle.ec_heading.specs.Headed.{Headed}
-use Rattle.ec_heading.specs.Outline.{Declaration, AreWorkers, AreDeclarable, opened, declared_by, declared_all}
-use Rattle.ec_heading.specs.Spelling.{declaration_line}
-use Rattle.ec_heading.specs.HeadingLaws.{LinesLead, OutlineLinesLead, LinesHaveAnOutline, NamesWorkers, Declares}
+use Rattle.ec_heading.specs.Outline.{Declaration, Outline, AreWorkers, AreDeclarable, opened, declared_by, declared_all}
+use Rattle.ec_heading.specs.Outlined.{HasOutline}
+use Rattle.ec_heading.specs.Heading.{head_step}
+use Rattle.ec_heading.specs.Spelling.{workers_line, declaration_line}
+use Rattle.ec_heading.specs.HeadingLaws.{LinesLead, OutlineLinesLead, LinesHaveAnOutline, Outlines, NamesWorkers, Declares, outline_lines}
 use Rattle.ec_heading.proofs.Declarable.{Heads, heads_opened, heads_more}
 use Rattle.ec_heading.proofs.ReadLines.{workers_read, line_declared}
 use Rattle.ec_heading.proofs.SpelledLines.{workers_spelled, line_spelled}
@@ -51,3 +53,24 @@ leads_outline limit line lines end low high (next, taken, leads) =
       lines_are = ap₂ (λ (l : List ℕ) (ls : List (List ℕ)). l ∷ ls) w.spelled rest.lines_are;
       end_is = rest.end_is;
     }
+
+-- THE HEADING AFTER A LINE
+
+-- one more line
+lead_on : (h : Headed) (lines : List (List ℕ)) (t : Headed) (line : List ℕ) (u : Headed) → LinesLead h lines t → head_step t line ≡ Ok u → LinesLead h (lines ++ line ∷ []) u
+lead_on h [] t line u leads is = (u, subst (λ (g : Headed). head_step g line ≡ Ok u) (sym leads) is, refl)
+lead_on h (l ∷ lines) t line u leads is = (leads.0, leads.1, lead_on leads.0 lines t line u leads.2 is)
+
+outlined : (limit : ℕ) (line : List ℕ) (lines : List (List ℕ)) (h : Headed) → 1 ≤ limit → limit < 2 ^ 32 → LinesLead (opened limit []) (line ∷ lines) h → HasOutline h
+outlined limit line lines h low high leads =
+    let o : Outlines limit (line ∷ lines) h = leads_outline limit line lines h low high leads in
+    record { outline = o.outline; is = o.is; declares = sym o.end_is }
+
+pub named_outlined : (limit : ℕ) (line : List ℕ) (h : Headed) → 1 ≤ limit → limit < 2 ^ 32 → head_step (opened limit []) line ≡ Ok h → HasOutline h
+named_outlined limit line h low high is = outlined limit line [] h low high (h, is, refl)
+
+pub declared_outlined : (h : Headed) (line : List ℕ) (t : Headed) → HasOutline h → head_step h line ≡ Ok t → HasOutline t
+declared_outlined h line t has is =
+    let o : Outline = has.outline in
+    let leads = lead_on (opened o.limit []) (outline_lines o) h line t (subst (λ (g : Headed). LinesLead (opened o.limit []) (outline_lines o) g) has.declares (outline_leads o has.is)) is in
+    outlined o.limit (workers_line o.workers) _ t has.is.low has.is.high leads

@@ -38,7 +38,7 @@ same_self (Cells x n) = and_from _ _ (eq-eqb x x refl) (eq-eqb n n refl)
 same_self (Group i) = eq-eqb i i refl
 
 -- what holds of each target holds of one that is found
-found_all : (Q : Target → Type 0) (names : Named) (word : List ℕ) (t : Target) → AllByRecursion (λ (d : List ℕ × Target). Q d.1) names → find_name word names ≡ Some t → Q t
+pub found_all : (Q : Target → Type 0) (names : Named) (word : List ℕ) (t : Target) → AllByRecursion (λ (d : List ℕ × Target). Q d.1) names → find_name word names ≡ Some t → Q t
 found_all Q [] word t all e = cc
 found_all Q (x ∷ xs) word t all e =
     elim (bytes_eq word x.0) as (λ b. cond b (Some x.1) (find_name word xs) ≡ Some t → Q t) [

@@ -1,15 +1,13 @@
 -- What the lines of a script have declared is a heading.
-use Rattle.std.proofs.Common.{◌≡◌, inr, ℕ, ◌≤◌, ◌<◌, ◌^◌, ◌==◌, ◌&&◌, cond, Bool, true, false, not, List, [], ◌∷◌, ◌++◌, Option, Some, None, Result, Ok, Err, nat_lt, nat_le, slice_set, refl, sym, ap, ◌∙◌, subst, bytes_eq, codes, leb-true, ltb-true}
+use Rattle.std.proofs.Common.{◌≡◌, inr, ℕ, ◌≤◌, ◌<◌, ◌^◌, ◌==◌, ◌&&◌, cond, Bool, true, false, not, List, [], ◌∷◌, Option, Some, None, Result, Ok, Err, nat_lt, nat_le, slice_set, refl, sym, ap, ◌∙◌, subst, bytes_eq, codes, leb-true, ltb-true}
 use Rattle.std.proofs.lemmas.Bool.{and_parts}
 use Rattle.ec_text.specs.Words.{words_of, number_of}
 use Rattle.ec_heading.specs.Headed.{Headed}
 use Rattle.ec_heading.specs.Heading.{head_step, is_no_line}
-use Rattle.ec_heading.specs.Outline.{Outline, opened}
+use Rattle.ec_heading.specs.Outline.{opened}
 use Rattle.ec_heading.specs.Outlined.{HasOutline}
-use Rattle.ec_heading.specs.HeadingLaws.{LinesLead, Outlines, outline_lines}
-use Rattle.ec_heading.specs.Spelling.{workers_line}
 use Rattle.ec_heading.specs.declared.heading.HeadFault.{HeadFault}
-use Rattle.ec_heading.proofs.LeadLines.{outline_leads, leads_outline}
+use Rattle.ec_heading.proofs.LeadLines.{named_outlined, declared_outlined}
 use Rattle.ec_script.specs.declared.fault.Kind.{Kind}
 use Rattle.ec_script.specs.declared.fault.Kind.TheVariants as kinds
 use Rattle.ec_script.specs.declared.verb.Verb.{Verb}
@@ -30,27 +28,6 @@ use Rattle.ec_script.specs.Scripted.{Scripted}
 use Rattle.ec_script.specs.Reading.{seen, began, ordered_in, commanded, ended_in, after_verb, after, fault_or, phrased, headed_on, is_declaring, opens_outer, script_step, in_range, limited, limit_digits, limit_or, limit_step, script_of, named_on, read_on, step}
 use Rattle.ec_script.specs.Grammar.{Leads}
 use Rattle.ec_script.specs.Pairs.{LinesLeadToHeadings}
-
--- DECLARATIONS
-
--- one more line
-lead_on : (h : Headed) (lines : List (List ℕ)) (t : Headed) (line : List ℕ) (u : Headed) → LinesLead h lines t → head_step t line ≡ Ok u → LinesLead h (lines ++ line ∷ []) u
-lead_on h [] t line u leads is = (u, subst (λ (g : Headed). head_step g line ≡ Ok u) (sym leads) is, refl)
-lead_on h (l ∷ lines) t line u leads is = (leads.0, leads.1, lead_on leads.0 lines t line u leads.2 is)
-
-outlined : (limit : ℕ) (line : List ℕ) (lines : List (List ℕ)) (h : Headed) → 1 ≤ limit → limit < 2 ^ 32 → LinesLead (opened limit []) (line ∷ lines) h → HasOutline h
-outlined limit line lines h low high leads =
-    let o : Outlines limit (line ∷ lines) h = leads_outline limit line lines h low high leads in
-    record { outline = o.outline; is = o.is; declares = sym o.end_is }
-
-named_outlined : (limit : ℕ) (line : List ℕ) (h : Headed) → 1 ≤ limit → limit < 2 ^ 32 → head_step (opened limit []) line ≡ Ok h → HasOutline h
-named_outlined limit line h low high is = outlined limit line [] h low high (h, is, refl)
-
-declared_outlined : (h : Headed) (line : List ℕ) (t : Headed) → HasOutline h → head_step h line ≡ Ok t → HasOutline t
-declared_outlined h line t has is =
-    let o : Outline = has.outline in
-    let leads = lead_on (opened o.limit []) (outline_lines o) h line t (subst (λ (g : Headed). LinesLead (opened o.limit []) (outline_lines o) g) has.declares (outline_leads o has.is)) is in
-    outlined o.limit (workers_line o.workers) _ t has.is.low has.is.high leads
 
 -- LINES THAT DECLARE NOTHING
 
@@ -162,5 +139,8 @@ leads_heads : (s : Stage) (lines : List (List ℕ)) (t : Stage) → StageHeads s
 leads_heads s [] t heads leads = subst StageHeads leads heads
 leads_heads s (line ∷ lines) t heads leads = leads_heads leads.0 lines t (step_heads s leads.0 line heads leads.1) leads.2
 
+pub lines_outlined : (before : List (List ℕ)) (s : Scripted) → Leads Opening before (Reading s) → HasOutline s.heading
+lines_outlined before s leads = leads_heads Opening before (Reading s) tt leads
+
 pub lines_lead : LinesLeadToHeadings
-lines_lead before s leads = inr (leads_heads Opening before (Reading s) tt leads)
+lines_lead before s leads = inr (lines_outlined before s leads)

@@ -29,3 +29,9 @@ pub mod Namings
 pub mod Sayings
 pub mod Spellings
 pub mod Cleans
+pub mod FaultsTold
+pub mod Least
+pub mod Deciding
+pub mod HeadKinds
+pub mod OtherKinds
+pub mod KindsTold

@@ -75,7 +75,7 @@ either_back w (Some digits) v more is =
     let n = and_then_back last_plus (number_of digits) v is in
     more_back w digits more ∙ ap (λ (x : List ℕ). codes "last+" ++ x) (number_takes digits n.0 n.1).0 ∙ ap value_word (sym (plus_back n.0 v n.2))
 
-value_back : (w : List ℕ) (v : Value) → value_of w ≡ Some v → w ≡ value_word v
+pub value_back : (w : List ℕ) (v : Value) → value_of w ≡ Some v → w ≡ value_word v
 unfolding value_of
 value_back w v is =
     (elim (bytes_eq w (codes "last")) as (λ b. bytes_eq w (codes "last") ≡ b → cond b (Some Last) (number_or_more (more_in w) w) ≡ Some v → w ≡ value_word v) [

@@ -15,6 +15,7 @@ use Rattle.ec_heading.specs.Sorts.{has_name}
 use Rattle.ec_heading.specs.Objects.{Next, target_of, group_of}
 use Rattle.ec_heading.specs.Headed.{Headed}
 use Rattle.ec_heading.specs.Outline.{Declaration, Outline, opened, numbered, next_of, named_as, declared_by, declared_all, headed, with_objects}
+use Rattle.ec_heading.proofs.ReadNames.{found_all}
 use Rattle.ec_script.specs.declared.object.Object.{Object}
 use Rattle.ec_script.specs.Objects.{place_of, owns}
 use Rattle.ec_script.specs.Spelling.{is_owner, owner_word}
@@ -163,14 +164,6 @@ pub owning : (o : Outline) → Owning (headed o)
 owning o = owning_all (opened o.limit o.workers) o.declarations (owning_opened o.limit o.workers)
 
 -- THE NAME OF A GROUP
-
-found_all : (Q : Target → Type 0) (names : Named) (word : List ℕ) (t : Target) → AllByRecursion (λ (d : List ℕ × Target). Q d.1) names → find_name word names ≡ Some t → Q t
-found_all Q [] word t all e = cc
-found_all Q (x ∷ xs) word t all e =
-    elim (bytes_eq word x.0) as (λ b. cond b (Some x.1) (find_name word xs) ≡ Some t → Q t) [
-      | true ↦ λ g. (let q : x.1 ≡ t = cc in subst Q q all.0)
-      | false ↦ λ g. found_all Q xs word t all.1 g
-    ] e
 
 record Owner (gs : List Group) (o : Object) (t : Target) : Type 0 where
   place : ℕ

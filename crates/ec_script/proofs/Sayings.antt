@@ -75,10 +75,10 @@ no_more n small =
     cc)) in
     ap (λ b. cond b (Some (drop 5 (decimal n))) None) other
 
-record IsSpelled (v : Value) : Type 0 where
-  value : value_of (value_word v) ≡ Some v
-  form : is_value_form (value_word v) ≡ true
-  fits : IsFit (value_word v)
+pub record IsSpelled (v : Value) : Type 0 where
+  pub value : value_of (value_word v) ≡ Some v
+  pub form : is_value_form (value_word v) ≡ true
+  pub fits : IsFit (value_word v)
 
 last_spelled : IsSpelled Last
 unfolding value_of
@@ -111,7 +111,7 @@ plus_spelled n some small =
       };
     }
 
-value_spelled : (v : Value) → is_value v ≡ true → IsSpelled v
+pub value_spelled : (v : Value) → is_value v ≡ true → IsSpelled v
 value_spelled Last is = last_spelled
 value_spelled (Number n) is = (let few : n ≤ VALUE_MAX = leb-true n VALUE_MAX is in number_spelled n (omega (arith, few)))
 value_spelled (LastPlus n) is = (let p = and_parts (nat_le 1 n) (nat_le n VALUE_MAX) is in let few : n ≤ VALUE_MAX = leb-true n VALUE_MAX p.1 in plus_spelled n p.0 (omega (arith, few)))

@@ -50,7 +50,7 @@ line_step : (t : Bool) (b : ℕ) (ws : List (List ℕ)) → eqb b 10 ≡ t → A
 line_step true b ws is all = (All-nil (λ x. eqb x 10 ≡ false), all)
 line_step false b ws is all = onto_lines b ws is all
 
-are_lines : (bytes : List ℕ) → AllByRecursion IsLine (parts_of bytes)
+pub are_lines : (bytes : List ℕ) → AllByRecursion IsLine (parts_of bytes)
 are_lines [] = (All-nil (λ x. eqb x 10 ≡ false), tt)
 are_lines (b ∷ bytes) = line_step (eqb b 10) b (parts_of bytes) refl (are_lines bytes)
 
@@ -58,12 +58,12 @@ lines_before : (lines others : List (List ℕ)) → AllByRecursion IsLine (lines
 lines_before [] others all = tt
 lines_before (l ∷ lines) others all = (all.0, lines_before lines others all.1)
 
-line_at : (lines : List (List ℕ)) (line : List ℕ) (others : List (List ℕ)) → AllByRecursion IsLine (lines ++ line ∷ others) → IsLine line
+pub line_at : (lines : List (List ℕ)) (line : List ℕ) (others : List (List ℕ)) → AllByRecursion IsLine (lines ++ line ∷ others) → IsLine line
 line_at [] line others all = all.0
 line_at (l ∷ lines) line others all = line_at lines line others all.1
 
 -- what stands behind a part
-abbrev behind_of : List (List ℕ) → List ℕ
+abbrev pub behind_of : List (List ℕ) → List ℕ
 behind_of [] = []
 behind_of (p ∷ ps) = 10 ∷ join_with_byte 10 (p ∷ ps)
 
@@ -81,7 +81,7 @@ join_lines (l ∷ m ∷ ms) line after =
     ∙ sym (append_assoc l (10 ∷ []) (text_of (m ∷ ms) ++ (line ++ behind_of after)))
     ∙ sym (append_assoc (l ++ 10 ∷ []) (text_of (m ∷ ms)) (line ++ behind_of after))
 
-whole : (bytes : List ℕ) (lines : List (List ℕ)) (line : List ℕ) (after : List (List ℕ)) → parts_of bytes ≡ lines ++ line ∷ after → bytes ≡ text_of lines ++ (line ++ behind_of after)
+pub whole : (bytes : List ℕ) (lines : List (List ℕ)) (line : List ℕ) (after : List (List ℕ)) → parts_of bytes ≡ lines ++ line ∷ after → bytes ≡ text_of lines ++ (line ++ behind_of after)
 whole bytes lines line after is = sym (join_with_byte-slice_split 10 bytes) ∙ ap (join_with_byte 10) is ∙ join_lines lines line after
 
 -- WHAT IS READ IS A SCRIPT

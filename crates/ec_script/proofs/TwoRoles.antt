@@ -107,7 +107,7 @@ plain : {X : Type 0} (f : X → Object) (m : Option X) → ((x : X) → has_two_
 plain f None off on = cc
 plain f (Some x) off on = true≢false (sym on ∙ off x)
 
-pair_verb : (h : Headed) (v : Verb) (w : List ℕ) (ws : List (List ℕ)) → has_two_roles (or_nothing (object_for h v w ws)) ≡ true → v ≡ verbs.DownBoth
+pub pair_verb : (h : Headed) (v : Verb) (w : List ℕ) (ws : List (List ℕ)) → has_two_roles (or_nothing (object_for h v w ws)) ≡ true → v ≡ verbs.DownBoth
 pair_verb h verbs.Advance w ws on = absurd (plain Event (event_in h.words w) (λ x. refl) on)
 pair_verb h verbs.Read w ws on = absurd (plain Event (event_in h.words w) (λ x. refl) on)
 pair_verb h verbs.Await w ws on = absurd (plain Event (event_in h.words w) (λ x. refl) on)
@@ -196,7 +196,7 @@ there_is : (o : Option Object) → is_some o ≡ true → (is_none o || false) �
 there_is None is = cc
 there_is (Some x) is = refl
 
-first_again : (w v : List ℕ) → w ∷ [] ≡ v ∷ [] → bytes_eq w v ≡ true
+pub first_again : (w v : List ℕ) → w ∷ [] ≡ v ∷ [] → bytes_eq w v ≡ true
 first_again w v is = (let same : w ≡ v = cc in subst (λ x. bytes_eq w x ≡ true) same (is_itself w))
 
 two_told : (s : Seen) (w : List ℕ) → IsHeading s.heading → is_some (object_for s.heading verbs.DownBoth w (w ∷ [])) ≡ true → is_some s.nest ≡ true

@@ -1,5 +1,5 @@
 -- The grammar of scripts: which bytes say which plan, and which line is the first at fault. It says nothing of how a text is read.
-use Rattle.std.specs.Prelude.{◌≡◌, ◌⊎◌, ℕ, ◌==◌, false, ◌+◌, ◌<◌, ◌≤◌, List, [], ◌∷◌, ◌++◌, length, Some, None, Ok, Err}
+use Rattle.std.specs.Prelude.{◌≡◌, ◌≢◌, ◌⊎◌, ◌↔◌, ℕ, ◌==◌, false, ◌+◌, ◌<◌, ◌≤◌, List, [], ◌∷◌, ◌++◌, length, Some, None, Ok, Err, codes}
 use Rattle.std.specs.List.{All, AllByRecursion, flat_map}
 use Rattle.ec_script.specs.declared.fault.Kind.{Kind}
 use Rattle.ec_script.specs.declared.fault.Kind.TheVariants as kinds
@@ -80,3 +80,21 @@ FaultIsTheFirst = (text : List ℕ) (n : ℕ) (kind : Kind) → length text ≤ 
 -- of a longer one it is line 1, which is a header or none
 abbrev pub LongIsLine1 : Type 0
 LongIsLine1 = (text : List ℕ) (n : ℕ) (kind : Kind) → SCRIPT_MAX < length text → outcome text ≡ Err (n, kind) → (n ≡ 1) × (kind ≡ long_kind (first_of (parts_of text)))
+
+-- what stands before the first LF of a longer text, or all of it, is a header, and the text has too many bytes, or it is none
+pub record IsLongFault (text : List ℕ) (n : ℕ) (kind : Kind) : Type 0 where
+  pub line : List ℕ
+  pub behind : List ℕ
+  pub whole : text ≡ line ++ behind
+  pub plain : IsLine line
+  pub ends : ((more : List ℕ) × (behind ≡ 10 ∷ more)) ⊎ (behind ≡ [])
+  pub number : n ≡ 1
+  pub why : ((line ≡ codes "evc-script 1") × (kind ≡ kinds.TooMany)) ⊎ ((line ≢ codes "evc-script 1") × (kind ≡ kinds.BadHeader))
+
+-- the line and the kind for which a text is refused
+abbrev pub IsFault : List ℕ → ℕ → Kind → Type 0
+IsFault text n kind = ((length text ≤ SCRIPT_MAX) × IsFirstFault text n kind) ⊎ ((SCRIPT_MAX < length text) × IsLongFault text n kind)
+
+-- and they are told of that text, and of no other
+abbrev pub FaultsAreTold : Type 0
+FaultsAreTold = (text : List ℕ) (n : ℕ) (kind : Kind) → (outcome text ≡ Err (n, kind)) ↔ IsFault text n kind

@@ -18,3 +18,5 @@ pub mod Layout
 pub mod Spelling
 pub mod Given
 pub mod Spelled
+pub mod Placed
+pub mod Holding

@@ -4,7 +4,8 @@ ghost use Rattle.ec_script.specs.declared.parsing.TheConstants.{SCRIPT_MAX};
 ghost use Rattle.ec_script.specs.Confined.{ConfinedLinesAreConfinedCommands, PlansAreConfined};
 ghost use Rattle.ec_script.specs.Faults.{HeadFaultsKeepTheirNumbers};
 ghost use Rattle.ec_script.specs.Given.{LinesSayOrders};
-ghost use Rattle.ec_script.specs.Grammar.{FaultIsTheFirst, LongIsLine1, ReadIsScript, ScriptIsRead};
+ghost use Rattle.ec_script.specs.Grammar.{FaultIsTheFirst, FaultsAreTold, LongIsLine1, ReadIsScript, ScriptIsRead};
+ghost use Rattle.ec_script.specs.Holding.{LeastKindIsTold};
 ghost use Rattle.ec_script.specs.Layout.{LayoutsAreScripts, ScriptsAreLaidOut};
 ghost use Rattle.ec_script.specs.Spelled.{ScriptsAreSpelled};
 ghost use Rattle.ec_script.specs.Spelling.{LayoutsAreSpelled, LinesAreSpelled};
@@ -32,6 +33,18 @@ pub fn head_faults_keep_their_numbers()
 /// The fault that is told of a longer text is that of line 1.
 pub fn long_is_line_1()
     ensures { LongIsLine1 }
+{}
+
+/// So a line and a kind are told of a text exactly where they are its fault: of a text within the bound
+/// that of its first faulty line, of a longer one that of line 1.
+pub fn faults_are_told()
+    ensures { FaultsAreTold }
+{}
+
+/// A kind is told of a line exactly where it is the least that holds of the line in its place, each
+/// kind by its own words.
+pub fn least_kind_is_told()
+    ensures { LeastKindIsTold }
 {}
 
 /// Every plan has a program for each declared worker and a schedule of declared workers, and its

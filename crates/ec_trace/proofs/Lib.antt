@@ -13,3 +13,5 @@ pub mod FrontLemmas
 pub mod EntryParts
 pub mod LineParts
 pub mod TraceText
+pub mod LedOutlines
+pub mod EntryLines

@@ -201,28 +201,28 @@ entry_again names e are may = line_again names e.worker e.act e.reply are may.wo
 
 -- WHAT IS READ IS SPELLED
 
-bind_back : {A B : Type 0} (o : Option A) (f : A → Option B) (y : B) → (o >>= f) ≡ Some y → (x : A) × (o ≡ Some x) × (f x ≡ Some y)
+pub bind_back : {A B : Type 0} (o : Option A) (f : A → Option B) (y : B) → (o >>= f) ≡ Some y → (x : A) × (o ≡ Some x) × (f x ≡ Some y)
 bind_back None f y e = cc
 bind_back (Some x) f y e = (x, refl, e)
 
 same_word : (v w : List ℕ) → bytes_eq v w ≡ true → v ≡ w
 same_word v w h = (bytes_eq-Decides v w).0 h
 
-either : {X : Type 0} (b : Bool) (x y : Option X) (m : X) → cond b x y ≡ Some m → ((b ≡ true) × (x ≡ Some m)) ⊎ (y ≡ Some m)
+pub either : {X : Type 0} (b : Bool) (x y : Option X) (m : X) → cond b x y ≡ Some m → ((b ≡ true) × (x ≡ Some m)) ⊎ (y ≡ Some m)
 either true x y m e = inl (refl, e)
 either false x y m e = inr e
 
-event_found : (o : Option Target) (e : ℕ) → option_and_then event_of o ≡ Some e → o ≡ Some (Event e)
+pub event_found : (o : Option Target) (e : ℕ) → option_and_then event_of o ≡ Some e → o ≡ Some (Event e)
 event_found None e h = cc
 event_found (Some (Event d)) e h = cc
 event_found (Some _) e h = cc
 
-sequencer_found : (o : Option Target) (q : ℕ) → option_and_then sequencer_of o ≡ Some q → o ≡ Some (Sequencer q)
+pub sequencer_found : (o : Option Target) (q : ℕ) → option_and_then sequencer_of o ≡ Some q → o ≡ Some (Sequencer q)
 sequencer_found None q h = cc
 sequencer_found (Some (Sequencer p)) q h = cc
 sequencer_found (Some _) q h = cc
 
-worker_found : (o : Option Target) (w : ℕ) → option_and_then worker_of o ≡ Some w → o ≡ Some (Worker w)
+pub worker_found : (o : Option Target) (w : ℕ) → option_and_then worker_of o ≡ Some w → o ≡ Some (Worker w)
 worker_found None w h = cc
 worker_found (Some (Worker v)) w h = cc
 worker_found (Some _) w h = cc

@@ -50,7 +50,7 @@ accepted_front t pre es e h =
 
 -- AN ACCEPTED ENTRY MAY BE SPELLED
 
-act_named : (h : Headed) (a : Act) → IsSound h → names_unknown_object h.setup a ≡ false → is_too_large a ≡ false → ActIsNamed h.words a
+pub act_named : (h : Headed) (a : Act) → IsSound h → names_unknown_object h.setup a ≡ false → is_too_large a ≡ false → ActIsNamed h.words a
 act_named h (acts.Advance e) is known small = is.events e (leb-false _ _ known)
 act_named h (acts.Read e) is known small = is.events e (leb-false _ _ known)
 act_named h (acts.Await e v) is known small = (is.events e (leb-false _ _ known), (let l : v ≤ VALUE_MAX = ltb-false _ _ small in omega arith))
@@ -60,7 +60,7 @@ act_named h (acts.Put x v) is known small =
     (is.cells x (leb-false _ _ known), (let l : x < length h.setup.cells = leb-false _ _ known in omega (arith, is.bounds.cells)), (let l : v ≤ VALUE_MAX = ltb-false _ _ small in omega arith))
 act_named h (acts.Get x) is known small = (is.cells x (leb-false _ _ known), (let l : x < length h.setup.cells = leb-false _ _ known in omega (arith, is.bounds.cells)))
 
-reply_short : (r : Reply) → TellsAtMost VALUE_MAX r → ReplyIsShort r
+pub reply_short : (r : Reply) → TellsAtMost VALUE_MAX r → ReplyIsShort r
 reply_short Done h = tt
 reply_short Pending h = tt
 reply_short (Number n) h = omega arith
@@ -76,12 +76,12 @@ may_be_spelled h past e is acc =
 
 -- THE STEP OF AN ENTRY
 
-same_self : (r : Reply) → same_reply r r ≡ true
+pub same_self : (r : Reply) → same_reply r r ≡ true
 same_self Done = refl
 same_self Pending = refl
 same_self (Number n) = eq-eqb n n refl
 
-same_is : (q r : Reply) → same_reply q r ≡ true → q ≡ r
+pub same_is : (q r : Reply) → same_reply q r ≡ true → q ≡ r
 same_is Done Done h = refl
 same_is Pending Pending h = refl
 same_is (Number m) (Number n) h = ap Number (eqb-true m n h)
@@ -91,13 +91,13 @@ no_end : (names : Named) → entry_of names (codes "end") ≡ None
 unfolding entry_of entry_in
 no_end names = refl
 
-not_end : (names : Named) (line : List ℕ) (e : Entry) → entry_of names line ≡ Some e → bytes_eq line (codes "end") ≡ false
+pub not_end : (names : Named) (line : List ℕ) (e : Entry) → entry_of names line ≡ Some e → bytes_eq line (codes "end") ≡ false
 not_end names line e h =
     false_from_ne_true _ (λ same.
     let k : None ≡ Some e = sym (no_end names) ∙ ap (entry_of names) (sym ((bytes_eq-Decides line (codes "end")).0 same)) ∙ h in
     cc)
 
-abbrev with_entry : Recounted → Entry → Recounted
+abbrev pub with_entry : Recounted → Entry → Recounted
 with_entry t e = record { heading = t.heading; entries = t.entries ++ e ∷ [] }
 
 entered_so : (t : Recounted) (line : List ℕ) (e : Entry) → entry_of t.heading.words line ≡ Some e → answer_of t.heading.setup (reverse t.entries) e.worker e.act ≡ Ok e.reply → entry_step t line ≡ Ok (with_entry t e)
@@ -140,7 +140,7 @@ unfolding step
 after_end t u [] h = (refl, cc)
 after_end t u (line ∷ lines) h = (let k : Err Bad ≡ Ok h.0 = h.1 in cc)
 
-answered_back : (t u : Recounted) (e : Entry) (r : Result Reply Refusal) → answered t e r ≡ Ok u → (r ≡ Ok e.reply) × (u ≡ with_entry t e)
+pub answered_back : (t u : Recounted) (e : Entry) (r : Result Reply Refusal) → answered t e r ≡ Ok u → (r ≡ Ok e.reply) × (u ≡ with_entry t e)
 answered_back t u e (Err f) h = cc
 answered_back t u e (Ok right) h =
     elim (same_reply right e.reply) as (λ b. same_reply right e.reply ≡ b → cond b (Ok (with_entry t e)) (Err (WrongReply right)) ≡ Ok u → (◌≡◌ {A = Result Reply Refusal} (Ok right) (Ok e.reply)) × (u ≡ with_entry t e)) [
@@ -148,11 +148,11 @@ answered_back t u e (Ok right) h =
       | false ↦ λ q g. (cc)
     ] refl h
 
-entered_back : (t u : Recounted) (o : Option Entry) → entered t o ≡ Ok u → (e : Entry) × (o ≡ Some e) × (answered t e (answer_of t.heading.setup (reverse t.entries) e.worker e.act) ≡ Ok u)
+pub entered_back : (t u : Recounted) (o : Option Entry) → entered t o ≡ Ok u → (e : Entry) × (o ≡ Some e) × (answered t e (answer_of t.heading.setup (reverse t.entries) e.worker e.act) ≡ Ok u)
 entered_back t u None h = cc
 entered_back t u (Some e) h = (e, refl, h)
 
-ran_back : (r : Result Recounted LineFault) (s : Stage) → ran_on r ≡ Ok s → (u : Recounted) × (r ≡ Ok u) × (s ≡ Running u)
+pub ran_back : (r : Result Recounted LineFault) (s : Stage) → ran_on r ≡ Ok s → (u : Recounted) × (r ≡ Ok u) × (s ≡ Running u)
 ran_back (Ok u) s h = (u, refl, cc)
 ran_back (Err f) s h = cc
 

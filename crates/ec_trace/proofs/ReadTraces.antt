@@ -56,10 +56,10 @@ unfolding step
 limit_leads n low high = ap limited (limit_again n low high)
 
 -- such words say a limit
-record IsLimit (words : List (List ℕ)) (n : ℕ) : Type 0 where
-  are : words ≡ codes "limit" ∷ decimal n ∷ []
-  low : 1 ≤ n
-  high : n < 2 ^ 32
+pub record IsLimit (words : List (List ℕ)) (n : ℕ) : Type 0 where
+  pub are : words ≡ codes "limit" ∷ decimal n ∷ []
+  pub low : 1 ≤ n
+  pub high : n < 2 ^ 32
 
 range_back : (m n : ℕ) → in_range m ≡ Some n → (m ≡ n) × (1 ≤ n) × (n < 2 ^ 32)
 range_back m n e =
@@ -72,7 +72,7 @@ digits_back : (o : Option ℕ) (n : ℕ) → option_and_then in_range o ≡ Some
 digits_back None n e = cc
 digits_back (Some m) n e = (let r = range_back m n e in (ap Some r.0, r.1, r.2))
 
-limit_back : (words : List (List ℕ)) (n : ℕ) → limit_in words ≡ Some n → IsLimit words n
+pub limit_back : (words : List (List ℕ)) (n : ℕ) → limit_in words ≡ Some n → IsLimit words n
 limit_back [] n e = cc
 limit_back (w ∷ []) n e = cc
 limit_back (w ∷ d ∷ []) n e =
@@ -83,7 +83,7 @@ limit_back (w ∷ d ∷ []) n e =
     record { are = ap₂ (λ (x : List ℕ) (y : List ℕ). x ∷ y ∷ []) word digits; low = r.1; high = r.2 }
 limit_back (w ∷ d ∷ x ∷ words) n e = cc
 
-limited_back : (o : Option ℕ) (s : Stage) → limited o ≡ Ok s → (n : ℕ) × (o ≡ Some n) × (s ≡ Declaring (opened n []))
+pub limited_back : (o : Option ℕ) (s : Stage) → limited o ≡ Ok s → (n : ℕ) × (o ≡ Some n) × (s ≡ Declaring (opened n []))
 limited_back None s e = cc
 limited_back (Some n) s e = (n, refl, cc)
 
@@ -124,7 +124,7 @@ record IsHeaded (h : Headed) (lines : List (List ℕ)) (t : Recounted) : Type 0 
   some : 0 < end.setup.workers
   runs : Leads (Running (record { heading = end; entries = [] })) rest (Ended t)
 
-declared_back : (r : Result Headed HeadFault) (s : Stage) → declared r ≡ Ok s → (h : Headed) × (r ≡ Ok h) × (s ≡ Declaring h)
+pub declared_back : (r : Result Headed HeadFault) (s : Stage) → declared r ≡ Ok s → (h : Headed) × (r ≡ Ok h) × (s ≡ Declaring h)
 declared_back (Ok h) s e = (h, refl, cc)
 declared_back (Err f) s e = cc
 
@@ -272,7 +272,7 @@ limiting_back (line ∷ lines) t (next, taken, leads) =
     let is : line ≡ limit_line l.0 = sym (split_join line) ∙ ap (join_with_byte 32) k.are in
     subst (λ (x : List ℕ). AreOf (codes "evc-trace 1" ∷ x ∷ lines) t) (sym is) (declaring_back l.0 lines t k.low k.high (subst (λ (s : Stage). Leads s lines (Ended t)) l.2 leads))
 
-first_back : (line : List ℕ) (next : Stage) → step Opening line ≡ Ok next → (line ≡ codes "evc-trace 1") × (next ≡ Limiting)
+pub first_back : (line : List ℕ) (next : Stage) → step Opening line ≡ Ok next → (line ≡ codes "evc-trace 1") × (next ≡ Limiting)
 unfolding step
 first_back line next e =
     elim (bytes_eq line (codes "evc-trace 1")) as (λ b. bytes_eq line (codes "evc-trace 1") ≡ b → cond b (Ok Limiting) (Err Bad) ≡ Ok next → (line ≡ codes "evc-trace 1") × (next ≡ Limiting)) [

@@ -7,6 +7,7 @@ pub mod Step
 pub mod Outcome
 pub mod ReadingLaws
 pub mod FirstFault
+pub mod EntryLines
 pub use Rattle.ec_heading.specs.Form
 pub use Rattle.ec_heading.specs.Groups
 pub use Rattle.ec_heading.specs.Headed

@@ -1,6 +1,7 @@
 //! Laws of reading. Each is the contract of a function that does nothing.
 ghost use Rattle.std.specs.Prelude.{◌≡◌};
 ghost use Rattle.ec_trace.specs.declared.read.TheConstants.{TRACE_MAX};
+ghost use Rattle.ec_trace.specs.EntryLines.{EntriesAreSpelled, OtherLinesSpellNone, LinesLeadToOutlines, FaultsOfEntries};
 ghost use Rattle.ec_trace.specs.FirstFault.{LineFaultIsTheFirst, FirstFaultIsTold, FaultOfTheWhole, FailedReadHasNoFault};
 ghost use Rattle.ec_trace.specs.ReadingLaws.{TraceIsRead, ReadIsTrace, TraceHasOneMeaning, NoTraceBeginsAnother, WrittenIsReadAgain};
 
@@ -50,6 +51,28 @@ pub fn fault_of_the_whole()
 /// Where a failed read is told, what the reader gave has no faulty line.
 pub fn failed_read_has_no_fault()
     ensures { FailedReadHasNoFault }
+{}
+
+/// A line is read as an entry exactly where it is the spelling of that entry, one that may be written
+/// under the heading.
+pub fn entries_are_spelled()
+    ensures { EntriesAreSpelled }
+{}
+
+/// And a line is read as no entry exactly where it is the spelling of none.
+pub fn other_lines_spell_none()
+    ensures { OtherLinesSpellNone }
+{}
+
+/// Behind `run`, what the lines of a trace have declared is what an outline declares.
+pub fn lines_lead_to_outlines()
+    ensures { LinesLeadToOutlines }
+{}
+
+/// So a line behind `run` is told as a bad line exactly where it is neither `end` nor the spelling of
+/// an entry, as refused or as a wrong reply exactly where it spells an entry of which that holds.
+pub fn faults_of_entries()
+    ensures { FaultsOfEntries }
 {}
 
 /// What `write_trace` writes of a run under a heading is read again as the same heading and the same run, where it is within the bound.

@@ -1,0 +1,118 @@
+-- A fault is told of a text exactly where it is that of its first faulty line, or of line 1 where the text is too long.
+use Rattle.std.proofs.Common.{◌≡◌, ◌≢◌, ◌⊎◌, inl, inr, ℕ, ◌+◌, ◌<◌, ◌≤◌, List, [], ◌∷◌, ◌++◌, length, true, false, cond, Err, refl, sym, ap, ◌∙◌, subst, arith, append_assoc, append-nil, bytes_eq, codes}
+use Rattle.std.specs.List.{AllByRecursion}
+use Rattle.std.proofs.lemmas.Bool.{true≢false, false_from_ne_true, cases_lt}
+use Rattle.std.proofs.lemmas.Slice.Eq.{bytes_eq-Decides}
+use Rattle.ec_script.specs.declared.fault.Kind.{Kind}
+use Rattle.ec_script.specs.declared.fault.Kind.TheVariants as kinds
+use Rattle.ec_script.specs.declared.parsing.TheConstants.{SCRIPT_MAX}
+use Rattle.ec_script.specs.declared.stage.Stage.{Stage}
+use Rattle.ec_script.specs.declared.stage.Stage.TheVariants.{Opening}
+use Rattle.ec_script.specs.Reading.{step}
+use Rattle.ec_script.specs.Outcome.{parts_of, finished, taken, ended, goes, outcome, first_of, long_kind}
+use Rattle.ec_script.specs.Grammar.{text_of, IsLine, Leads, IsRefused, IsCutOff, IsFirstFault, IsLongFault, IsFault, FaultsAreTold}
+use Rattle.ec_script.proofs.Lines.{HasFirst, has_first, parts_line, parts_rest, goes_line, goes_rest}
+use Rattle.ec_script.proofs.Texts.{within_goes, long_goes, fault_is_first, long_is_line_1, whole, line_at, are_lines, behind_of}
+
+-- THE FIRST FAULTY LINE
+
+rest_ended : (n : ℕ) (s : Stage) (line : List ℕ) → 0 < length line → ended n s line ≡ taken n (step s line) (λ t. Err (n, kinds.Unfinished))
+rest_ended n s [] some = absurd (omega arith)
+rest_ended n s (b ∷ bs) some = refl
+
+-- the text ends in a line
+last_line : (n : ℕ) (s : Stage) (line behind : List ℕ) → IsLine line → behind ≡ [] → goes n s (parts_of (line ++ behind)) ≡ ended n s line
+last_line n s line behind plain none = ap (λ (r : List ℕ). goes n s (parts_of (line ++ r))) none ∙ ap (λ (r : List ℕ). goes n s (parts_of r)) (append-nil line) ∙ goes_rest n s line plain
+
+refused_goes : (n : ℕ) (s : Stage) (line behind : List ℕ) (kind : Kind) → IsLine line → IsRefused s line behind kind → goes n s (parts_of (line ++ behind)) ≡ Err (n, kind)
+refused_goes n s line behind kind plain (inl (more, is), refused) =
+    ap (λ (r : List ℕ). goes n s (parts_of (line ++ r))) is ∙ goes_line n s line more plain ∙ ap (λ r. taken n r (λ t. goes (n + 1) t (parts_of more))) refused
+refused_goes n s line behind kind plain (inr (none, some), refused) =
+    last_line n s line behind plain none ∙ rest_ended n s line some ∙ ap (λ r. taken n r (λ t. Err (n, kinds.Unfinished))) refused
+
+cut_goes : (n : ℕ) (s : Stage) (line behind : List ℕ) (kind : Kind) → IsLine line → IsCutOff s line behind kind → goes n s (parts_of (line ++ behind)) ≡ Err (n, kind)
+cut_goes n s line behind kind plain (none, is, inl (some, (next, taken_on))) =
+    last_line n s line behind plain none ∙ rest_ended n s line some ∙ ap (λ r. taken n r (λ t. Err (n, kinds.Unfinished))) taken_on ∙ ap (λ k. Err (n, k)) (sym is)
+cut_goes n s line behind kind plain (none, is, inr (empty, no_plan)) =
+    last_line n s line behind plain none ∙ ap (ended n s) empty ∙ ap (finished n) no_plan ∙ ap (λ k. Err (n, k)) (sym is)
+
+at_fault : (n : ℕ) (s : Stage) (line behind : List ℕ) (kind : Kind) → IsLine line → IsRefused s line behind kind ⊎ IsCutOff s line behind kind → goes n s (parts_of (line ++ behind)) ≡ Err (n, kind)
+at_fault n s line behind kind plain (inl refused) = refused_goes n s line behind kind plain refused
+at_fault n s line behind kind plain (inr cut) = cut_goes n s line behind kind plain cut
+
+faulty_goes : (n : ℕ) (s t : Stage) (before : List (List ℕ)) (line behind : List ℕ) (kind : Kind) → AllByRecursion IsLine before → Leads s before t → IsLine line → IsRefused t line behind kind ⊎ IsCutOff t line behind kind
+    → goes n s (parts_of (text_of before ++ (line ++ behind))) ≡ Err (n + length before, kind)
+faulty_goes n s t [] line behind kind each leads plain why =
+    ap (λ (u : Stage). goes n u (parts_of (line ++ behind))) leads ∙ at_fault n t line behind kind plain why ∙ ap (λ (m : ℕ). Err (m, kind)) (omega arith)
+faulty_goes n s t (l ∷ before) line behind kind each leads plain why =
+    let e : text_of (l ∷ before) ++ (line ++ behind) ≡ l ++ 10 ∷ (text_of before ++ (line ++ behind)) =
+    append_assoc (l ++ 10 ∷ []) (text_of before) (line ++ behind) ∙ append_assoc l (10 ∷ []) (text_of before ++ (line ++ behind)) in
+    ap (λ (bs : List ℕ). goes n s (parts_of bs)) e
+    ∙ goes_line n s l (text_of before ++ (line ++ behind)) each.0
+    ∙ ap (λ r. taken n r (λ u. goes (n + 1) u (parts_of (text_of before ++ (line ++ behind))))) leads.1
+    ∙ faulty_goes (n + 1) leads.0 t before line behind kind each.1 leads.2 plain why
+    ∙ ap (λ (m : ℕ). Err (m, kind)) (omega arith)
+
+first_is_told : (text : List ℕ) (n : ℕ) (kind : Kind) → length text ≤ SCRIPT_MAX → IsFirstFault text n kind → outcome text ≡ Err (n, kind)
+first_is_told text n kind within is =
+    within_goes text within
+    ∙ ap (λ (bs : List ℕ). goes 1 Opening (parts_of bs)) is.whole
+    ∙ faulty_goes 1 Opening is.stage is.before is.line is.behind kind is.each is.leads is.plain is.why
+    ∙ ap (λ (m : ℕ). Err (m, kind)) (omega (arith, is.number))
+
+-- A TEXT THAT IS TOO LONG
+
+-- its first line
+first_is : (line behind : List ℕ) → IsLine line → ((more : List ℕ) × (behind ≡ 10 ∷ more)) ⊎ (behind ≡ []) → first_of (parts_of (line ++ behind)) ≡ line
+first_is line behind plain (inl (more, is)) = ap (λ (r : List ℕ). first_of (parts_of (line ++ r))) is ∙ ap first_of (parts_line line more plain)
+first_is line behind plain (inr none) = ap (λ (r : List ℕ). first_of (parts_of (line ++ r))) none ∙ ap (λ (r : List ℕ). first_of (parts_of r)) (append-nil line) ∙ ap first_of (parts_rest line plain)
+
+long_kind_is : (line : List ℕ) (kind : Kind) → ((line ≡ codes "evc-script 1") × (kind ≡ kinds.TooMany)) ⊎ ((line ≢ codes "evc-script 1") × (kind ≡ kinds.BadHeader)) → long_kind line ≡ kind
+long_kind_is line kind (inl (is, many)) = ap (λ b. cond b kinds.TooMany kinds.BadHeader) ((bytes_eq-Decides line (codes "evc-script 1")).1 is) ∙ sym many
+long_kind_is line kind (inr (other, bad)) = ap (λ b. cond b kinds.TooMany kinds.BadHeader) (false_from_ne_true _ (λ same. other ((bytes_eq-Decides line (codes "evc-script 1")).0 same))) ∙ sym bad
+
+long_is_told : (text : List ℕ) (n : ℕ) (kind : Kind) → SCRIPT_MAX < length text → IsLongFault text n kind → outcome text ≡ Err (n, kind)
+long_is_told text n kind long is =
+    let first : first_of (parts_of text) ≡ is.line = ap (λ (t : List ℕ). first_of (parts_of t)) is.whole ∙ first_is is.line is.behind is.plain is.ends in
+    let kind_is : long_kind (first_of (parts_of text)) ≡ kind = ap long_kind first ∙ long_kind_is is.line kind is.why in
+    long_goes text long ∙ ap (λ k. Err (1, k)) kind_is ∙ ap (λ (m : ℕ). Err (m, kind)) (sym is.number)
+
+behind_ends : (after : List (List ℕ)) → ((more : List ℕ) × (behind_of after ≡ 10 ∷ more)) ⊎ (behind_of after ≡ [])
+behind_ends [] = inr refl
+behind_ends (p ∷ ps) = inl (_, refl)
+
+why_long : (line : List ℕ) (kind : Kind) → kind ≡ long_kind line → ((line ≡ codes "evc-script 1") × (kind ≡ kinds.TooMany)) ⊎ ((line ≢ codes "evc-script 1") × (kind ≡ kinds.BadHeader))
+why_long line kind is =
+    (elim (bytes_eq line (codes "evc-script 1")) as (λ b. bytes_eq line (codes "evc-script 1") ≡ b → kind ≡ cond b kinds.TooMany kinds.BadHeader → ((line ≡ codes "evc-script 1") × (kind ≡ kinds.TooMany)) ⊎ ((line ≢ codes "evc-script 1") × (kind ≡ kinds.BadHeader))) [
+      | true ↦ λ q k. inl ((bytes_eq-Decides line (codes "evc-script 1")).0 q, k)
+      | false ↦ λ q k. inr ((λ same. true≢false (sym ((bytes_eq-Decides line (codes "evc-script 1")).1 same) ∙ q)), k)
+    ]) refl is
+
+long_fault : (text : List ℕ) (n : ℕ) (kind : Kind) → SCRIPT_MAX < length text → outcome text ≡ Err (n, kind) → IsLongFault text n kind
+long_fault text n kind long is =
+    let f : HasFirst text = has_first text in
+    let q = long_is_line_1 text n kind long is in
+    record {
+      line = f.first;
+      behind = behind_of f.others;
+      whole = whole text [] f.first f.others f.is;
+      plain = line_at [] f.first f.others (subst (AllByRecursion IsLine) f.is (are_lines text));
+      ends = behind_ends f.others;
+      number = q.0;
+      why = why_long f.first kind (q.1 ∙ ap (λ ps. long_kind (first_of ps)) f.is);
+    }
+
+-- BOTH
+
+fault_of : (text : List ℕ) (n : ℕ) (kind : Kind) → outcome text ≡ Err (n, kind) → IsFault text n kind
+fault_of text n kind is = elim (cases_lt SCRIPT_MAX (length text)) [
+  | inl long ↦ inr (long, long_fault text n kind long is)
+  | inr within ↦ inl (within, fault_is_first text n kind within is)
+]
+
+fault_is_told : (text : List ℕ) (n : ℕ) (kind : Kind) → IsFault text n kind → outcome text ≡ Err (n, kind)
+fault_is_told text n kind (inl (within, is)) = first_is_told text n kind within is
+fault_is_told text n kind (inr (long, is)) = long_is_told text n kind long is
+
+pub faults_are_told : FaultsAreTold
+faults_are_told text n kind = (fault_of text n kind, fault_is_told text n kind)

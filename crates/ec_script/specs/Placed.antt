@@ -1,0 +1,40 @@
+-- Which form a line has in its place, by its words.
+use Rattle.std.specs.Prelude.{◌≡◌, ◌≢◌, ◌⊎◌, ℕ, ◌≤◌, true, List, [], ◌∷◌, length, Some, None, codes}
+use Rattle.std.specs.List.{AllByRecursion}
+use Rattle.ec_text.specs.Words.{words_of, is_number_form}
+use Rattle.ec_heading.specs.Form as headings
+use Rattle.ec_script.specs.declared.verb.Verb.{Verb}
+use Rattle.ec_script.specs.declared.verb.Verb.TheVariants as verbs
+use Rattle.ec_script.specs.Forms.{Phrase, phrase_in}
+use Rattle.ec_script.specs.Scripted.{Scripted}
+
+-- a line of at most 8192 bytes, each of whose words has a byte
+abbrev pub IsOfWords : List ℕ → Type 0
+IsOfWords line = (length line ≤ 8192) × AllByRecursion (λ w. w ≢ []) (words_of line)
+
+-- `limit` and digits
+abbrev pub IsLimitLine : List ℕ → List ℕ → Type 0
+IsLimitLine line digits = (length line ≤ 8192) × (words_of line ≡ codes "limit" ∷ digits ∷ []) × (is_number_form digits ≡ true)
+
+-- `workers` and some words
+abbrev pub IsWorkersLine : List ℕ → List (List ℕ) → Type 0
+IsWorkersLine line names = IsOfWords line × (words_of line ≡ codes "workers" ∷ names) × (names ≢ [])
+
+-- a declaration, where no `worker` line and no `schedule` line came yet
+pub record IsDeclaration (s : Scripted) (line : List ℕ) (p : headings.Phrase) : Type 0 where
+  pub first : (s.named ≡ []) × (s.schedule ≡ [])
+  pub whole : IsOfWords line
+  pub form : headings.parts_in (words_of line) ≡ Some p
+
+-- commands, `repeat` and `end` stand in a block; `worker` in a block, where it is badly nested, and before the schedule; `schedule`
+-- anywhere
+abbrev pub MayStand : Scripted → Verb → Type 0
+MayStand s verbs.Schedule = Unit {0}
+MayStand s verbs.Worker = (s.block ≢ None) ⊎ (s.schedule ≡ [])
+MayStand s _ = s.block ≢ None
+
+-- a line of a block, of the schedule, or the first of a block, where such a line may stand
+pub record IsOther (s : Scripted) (line : List ℕ) (p : Phrase) : Type 0 where
+  pub place : MayStand s p.verb
+  pub whole : IsOfWords line
+  pub form : phrase_in (words_of line) ≡ Some p

@@ -1,0 +1,78 @@
+-- What the lines of a trace have declared, where `run` came, is what an outline declares.
+use Rattle.std.proofs.Common.{◌≡◌, ◌⊎◌, inl, inr, ℕ, ◌<◌, ◌≤◌, ◌^◌, List, [], ◌∷◌, cond, true, false, ◌&&◌, nat_lt, Ok, refl, sym, ap, subst, ◌∙◌, arith, codes, reverse}
+use Rattle.std.specs.Prelude.{bytes_eq}
+use Rattle.std.proofs.lemmas.Bool.{and_parts, ltb-true}
+use Rattle.ec_core.specs.Acceptance.{answer_of}
+use Rattle.ec_text.specs.Words.{words_of}
+use Rattle.ec_heading.specs.Headed.{Headed}
+use Rattle.ec_heading.specs.Heading.{head_step}
+use Rattle.ec_heading.specs.Outline.{opened}
+use Rattle.ec_heading.specs.Outlined.{HasOutline}
+use Rattle.ec_heading.proofs.LeadLines.{named_outlined, declared_outlined}
+use Rattle.ec_trace.specs.declared.stage.Stage.{Stage}
+use Rattle.ec_trace.specs.declared.stage.Stage.TheVariants.{Opening, Limiting, Declaring, Running, Ended}
+use Rattle.ec_trace.specs.Entries.{entry_of}
+use Rattle.ec_trace.specs.EntryLines.{LinesLeadToOutlines}
+use Rattle.ec_trace.specs.FirstFault.{Leads}
+use Rattle.ec_trace.specs.Recounted.{Recounted}
+use Rattle.ec_trace.specs.Step.{step, limit_of, declared, entry_step, ran_on}
+use Rattle.ec_trace.proofs.ReadRuns.{ran_back, entered_back, answered_back}
+use Rattle.ec_trace.proofs.ReadTraces.{limit_back, limited_back, declared_back, first_back}
+
+-- the line of the workers is still to come, behind a limit, or an outline stands behind the heading
+abbrev IsBegun : Headed → Type 0
+IsBegun h = ((n : ℕ) × (1 ≤ n) × (n < 2 ^ 32) × (h ≡ opened n [])) ⊎ HasOutline h
+
+abbrev StageHeads : Stage → Type 0
+StageHeads Opening = Unit {0}
+StageHeads Limiting = Unit {0}
+StageHeads (Declaring h) = IsBegun h
+StageHeads (Running t) = HasOutline t.heading
+StageHeads (Ended t) = HasOutline t.heading
+
+line_outlined : (h next : Headed) (line : List ℕ) → IsBegun h → head_step h line ≡ Ok next → HasOutline next
+line_outlined h next line (inl n) is = named_outlined n.0 line next n.1 n.2 (ap (λ g. head_step g line) (sym n.3) ∙ is)
+line_outlined h next line (inr has) is = declared_outlined h line next has is
+
+run_outlined : (h : Headed) → IsBegun h → 0 < h.setup.workers → HasOutline h
+run_outlined h (inl n) some = absurd (let none : h.setup.workers ≡ 0 = ap (λ (g : Headed). g.setup.workers) n.3 in omega arith)
+run_outlined h (inr has) some = has
+
+entry_heading : (t u : Recounted) (line : List ℕ) → entry_step t line ≡ Ok u → u.heading ≡ t.heading
+unfolding entry_step
+entry_heading t u line is =
+    let o = entered_back t u (entry_of t.heading.words line) is in
+    ap (λ (x : Recounted). x.heading) (answered_back t u o.0 (answer_of t.heading.setup (reverse t.entries) o.0.worker o.0.act) o.2).1
+
+step_heads : (s t : Stage) (line : List ℕ) → StageHeads s → step s line ≡ Ok t → StageHeads t
+unfolding step limit_of
+step_heads Opening t line heads is = subst StageHeads (sym (first_back line t is).1) tt
+step_heads Limiting t line heads is =
+    let l = limited_back (limit_of line) t is in
+    let k = limit_back (words_of line) l.0 l.1 in
+    subst StageHeads (sym l.2) (inl (l.0, k.low, k.high, refl))
+step_heads (Declaring h) t line heads is =
+    elim (bytes_eq line (codes "run") && nat_lt 0 h.setup.workers) as (λ b. (bytes_eq line (codes "run") && nat_lt 0 h.setup.workers) ≡ b → cond b (Ok (Running (record { heading = h; entries = [] }))) (declared (head_step h line)) ≡ Ok t → StageHeads t) [
+      | true ↦ λ q g.
+          (let some : 0 < h.setup.workers = ltb-true _ _ (and_parts (bytes_eq line (codes "run")) (nat_lt 0 h.setup.workers) q).1 in
+          let same : Running (record { heading = h; entries = [] }) ≡ t = cc in
+          subst StageHeads same (run_outlined h heads some))
+      | false ↦ λ q g.
+          (let d = declared_back (head_step h line) t g in
+          subst StageHeads (sym d.2) (inr (line_outlined h d.0 line heads d.1)))
+    ] refl is
+step_heads (Running u) t line heads is =
+    elim (bytes_eq line (codes "end")) as (λ b. cond b (Ok (Ended u)) (ran_on (entry_step u line)) ≡ Ok t → StageHeads t) [
+      | true ↦ λ g. (let same : Ended u ≡ t = cc in subst StageHeads same heads)
+      | false ↦ λ g.
+          (let r = ran_back (entry_step u line) t g in
+          subst StageHeads (sym r.2) (subst HasOutline (sym (entry_heading u r.0 line r.1)) heads))
+    ] is
+step_heads (Ended u) t line heads is = cc
+
+leads_heads : (s : Stage) (lines : List (List ℕ)) (t : Stage) → StageHeads s → Leads s lines t → StageHeads t
+leads_heads s [] t heads leads = subst StageHeads leads heads
+leads_heads s (line ∷ lines) t heads (next, taken, leads) = leads_heads next lines t (step_heads s next line heads taken) leads
+
+pub lines_lead : LinesLeadToOutlines
+lines_lead before t leads = leads_heads Opening before (Running t) tt leads

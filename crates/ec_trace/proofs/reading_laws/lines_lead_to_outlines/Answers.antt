@@ -1,0 +1,5 @@
+use Rattle.ec_trace.proofs.LedOutlines.{lines_lead}
+use Rattle.ec_trace.proofs.reading_laws.lines_lead_to_outlines.Goals as goal
+
+pub returns : goal.returns
+returns c = lines_lead

@@ -1,0 +1,61 @@
+-- Which lines are entries: the spellings of those that may be written under a heading, and no others. So what a faulty line behind
+-- `run` is, with nothing of how a line is read.
+use Rattle.std.specs.Prelude.{◌≡◌, ◌≢◌, ◌↔◌, ℕ, ◌<◌, List, false, codes, reverse, Some, None, Ok, Err}
+use Rattle.ec_count.specs.Tables.{Tables}
+use Rattle.ec_core.specs.declared.act.Entry.{Entry}
+use Rattle.ec_core.specs.declared.act.TheConstants.{VALUE_MAX}
+use Rattle.ec_core.specs.Acceptance.{names_unknown_object, is_too_large, answer_of}
+use Rattle.ec_core.specs.Values.{TellsAtMost}
+use Rattle.ec_heading.specs.Headed.{Headed}
+use Rattle.ec_heading.specs.Outline.{Outline, IsOutline, headed}
+use Rattle.ec_heading.specs.Outlined.{HasOutline}
+use Rattle.ec_heading.specs.Spelling.{entry_line}
+use Rattle.ec_trace.specs.declared.fault.LineFault.{LineFault}
+use Rattle.ec_trace.specs.declared.fault.LineFault.TheVariants.{Bad, Refused, WrongReply}
+use Rattle.ec_trace.specs.declared.stage.Stage.TheVariants.{Opening, Running}
+use Rattle.ec_trace.specs.Entries.{entry_of}
+use Rattle.ec_trace.specs.FirstFault.{Leads}
+use Rattle.ec_trace.specs.Recounted.{Recounted}
+use Rattle.ec_trace.specs.Step.{step}
+
+-- the worker and the object that an entry names are declared, and its value and the number of its reply are at most the greatest
+-- value; whether it is accepted is another matter
+pub record MayBeWritten (t : Tables) (e : Entry) : Type 0 where
+  pub worker : e.worker < t.workers
+  pub object : names_unknown_object t e.act ≡ false
+  pub value : is_too_large e.act ≡ false
+  pub reply : TellsAtMost VALUE_MAX e.reply
+
+-- the line is the one spelling of this entry
+abbrev pub SpellsEntry : Headed → List ℕ → Entry → Type 0
+SpellsEntry h line e = MayBeWritten h.setup e × (line ≡ entry_line h.words e)
+
+-- the line is the spelling of no entry
+abbrev pub SpellsNoEntry : Headed → List ℕ → Type 0
+SpellsNoEntry h line = (e : Entry) → SpellsEntry h line e → ⊥
+
+-- why a line behind `run` is refused, after these entries: it is neither `end` nor the spelling of an entry, or it spells an entry that is
+-- refused, or one whose right reply is another
+abbrev pub IsEntryFault : Recounted → List ℕ → LineFault → Type 0
+IsEntryFault t line Bad = (line ≢ codes "end") × SpellsNoEntry t.heading line
+IsEntryFault t line (Refused r) = (e : Entry) × SpellsEntry t.heading line e × (answer_of t.heading.setup (reverse t.entries) e.worker e.act ≡ Err r)
+IsEntryFault t line (WrongReply right) = (e : Entry) × SpellsEntry t.heading line e × (answer_of t.heading.setup (reverse t.entries) e.worker e.act ≡ Ok right) × (right ≢ e.reply)
+
+-- LAWS
+
+-- a line is read as an entry exactly where it spells that entry
+abbrev pub EntriesAreSpelled : Type 0
+EntriesAreSpelled = (o : Outline) (line : List ℕ) (e : Entry) → IsOutline o → (entry_of (headed o).words line ≡ Some e) ↔ SpellsEntry (headed o) line e
+
+-- and as none exactly where it spells none
+abbrev pub OtherLinesSpellNone : Type 0
+OtherLinesSpellNone = (o : Outline) (line : List ℕ) → IsOutline o → (entry_of (headed o).words line ≡ None) ↔ SpellsNoEntry (headed o) line
+
+-- what the lines of a trace have declared, where `run` came, is what an outline declares
+abbrev pub LinesLeadToOutlines : Type 0
+LinesLeadToOutlines = (before : List (List ℕ)) (t : Recounted) → Leads Opening before (Running t) → HasOutline t.heading
+
+-- so a line behind `run` is told a fault exactly where it has it
+abbrev pub FaultsOfEntries : Type 0
+FaultsOfEntries = (before : List (List ℕ)) (t : Recounted) (line : List ℕ) (fault : LineFault) → Leads Opening before (Running t)
+    → (step (Running t) line ≡ Err fault) ↔ IsEntryFault t line fault
