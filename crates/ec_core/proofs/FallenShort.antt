@@ -17,7 +17,7 @@ use Rattle.ec_core.specs.Rounds.{event_or, width, sum_read, round_sum, round_rep
 use Rattle.ec_core.specs.Acceptance.{answer_of, reply_of, names_unknown_object, IsAccepted}
 use Rattle.ec_core.specs.Progress.{Progress}
 use Rattle.ec_core.specs.Standing.{shown, progress_of}
-use Rattle.ec_core.specs.FallenShort.{HasJustFallenShort, IndexZeroMeansFallenShort}
+use Rattle.ec_core.specs.FallenShort.{HasJustFallenShort, IndexZeroMeansFallenShort, IndexZeroIsAnAwait}
 use Rattle.ec_core.proofs.Answering.{allowed, call_reads, mod_next, width_some, IsReading, IsReadingCall}
 use Rattle.ec_core.proofs.CallsCut.{calls_are_cut, moments_kept, moments_more, moments_none, own_is}
 use Rattle.ec_core.proofs.Following.{reply_read}
@@ -26,8 +26,9 @@ use Rattle.ec_core.proofs.Pasts.{pending_is}
 
 -- THE END OF A ROUND
 
--- an await under way whose entries make whole rounds fell short in the last one
+-- the entries of a read under way never make whole rounds, and an await under way whose entries do fell short in the last one
 abbrev FellShort : Tables → Act → List (List Entry) → Type 0
+FellShort t (Read e) moments = length moments % width t e ≡ 0 → ⊥
 FellShort t (Await e v) moments = length moments % width t e ≡ 0 → round_sum t e moments < v
 FellShort t _ moments = Unit {0}
 
@@ -57,10 +58,22 @@ fell_next t e v past moments some p whole =
       | false ↦ λ h z q. absurd (omega arith)
     ] refl next p
 
+read_next : (t : Tables) (e : ℕ) (past : List Entry) (moments : List (List Entry)) → 0 < width t e → read_reply t (Read e) past moments ≡ Pending
+    → FellShort t (Read e) (past ∷ moments)
+unfolding read_reply
+read_next t e past moments some p whole =
+    let n = width t e in
+    let c = next_component t e moments in
+    let next = sym (mod_next n (length moments) some) ∙ whole in
+    elim (nat_le n (c + 1)) as (λ b. nat_le n (c + 1) ≡ b → cond b 0 (c + 1) ≡ 0 → cond b (round_reply (Read e) (sum_read t e (suc c) (past ∷ moments))) Pending ≡ Pending → ⊥) [
+      | true ↦ λ h z q. cc
+      | false ↦ λ h z q. absurd (omega arith)
+    ] refl next p
+
 fell_op : (t : Tables) (op : Act) (past : List Entry) (moments : List (List Entry)) → IsDeclared t → IsReading t op → read_reply t op past moments ≡ Pending → FellShort t op (past ∷ moments)
 fell_op t (Await e v) past moments d r p = fell_next t e v past moments (width_some t e d r) p
 fell_op t (Advance e) past moments d r p = tt
-fell_op t (Read e) past moments d r p = tt
+fell_op t (Read e) past moments d r p = read_next t e past moments (width_some t e d r) p
 fell_op t Go past moments d r p = tt
 fell_op t (Ticket q) past moments d r p = tt
 fell_op t (Put y v) past moments d r p = tt
@@ -71,7 +84,7 @@ fell_gone : (t : Tables) (past : List Entry) (w : ℕ) (act : Act) (o : Option C
 fell_gone t past w Go None d e known r p = tt
 fell_gone t past w Go (Some call) d e known r p = fell_op t call.op past call.moments d r (sym (reply_read t past w Go (Some call) e r) ∙ p)
 fell_gone t past w (Await f v) o d e known r p = fell_next t f v past [] (width_some t f d (leb-false (length t.events) f known)) p
-fell_gone t past w (Read f) o d e known r p = tt
+fell_gone t past w (Read f) o d e known r p = read_next t f past [] (width_some t f d (leb-false (length t.events) f known)) p
 fell_gone t past w (Advance f) o d e known r p = tt
 fell_gone t past w (Ticket q) o d e known r p = tt
 fell_gone t past w (Put y v) o d e known r p = tt
@@ -301,3 +314,27 @@ back t h w k e v sum r none =
 
 pub index_zero : IndexZeroMeansFallenShort
 index_zero t h w k e v sum d acc = (forth t h w k e v sum d acc, λ r. back t h w k e v sum r.0 r.1)
+
+-- A READ IS NEVER THERE
+
+await_of : (t : Tables) (op : Act) (moments : List (List Entry)) → IsReading t op → FellShort t op moments → next_component t (event_or op) moments ≡ 0
+    → (e : ℕ) × (v : ℕ) × (op ≡ Await e v)
+await_of t (Await e v) moments r fell index = (e, v, refl)
+await_of t (Read e) moments r fell index = absurd (fell index)
+await_of t (Advance e) moments r fell index = absurd r
+await_of t Go moments r fell index = absurd r
+await_of t (Ticket q) moments r fell index = absurd r
+await_of t (Put x v) moments r fell index = absurd r
+await_of t (Get x) moments r fell index = absurd r
+
+pub index_zero_awaits : IndexZeroIsAnAwait
+index_zero_awaits t h w k progress d acc is zero_index =
+    let c = shown_back t (under_way w (past_at k h)) progress is in
+    let call = c.0 in
+    let early = beginnings t k h acc in
+    let reading : IsReading t call.op = subst (IsReadingCall t) c.1 (call_reads t (past_at k h) w early) in
+    let fell_now : FellShort t call.op call.moments = subst (FellShortCall t) c.1 (fell t w (past_at k h) d early) in
+    let found = await_of t call.op call.moments reading fell_now (ap (λ (p : Progress). p.index) c.2 ∙ zero_index) in
+    let op : progress.op ≡ call.op = sym (ap (λ (p : Progress). p.op) c.2) in
+    let await : call.op ≡ Await found.0 found.1 = found.2 in
+    (found.0, found.1, op ∙ await)

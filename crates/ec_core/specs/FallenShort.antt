@@ -8,6 +8,7 @@ use Rattle.ec_core.specs.Counts.{past_at}
 use Rattle.ec_core.specs.CallsInOrder.{is_own_at, own_moments}
 use Rattle.ec_core.specs.Rounds.{width, round_sum}
 use Rattle.ec_core.specs.Acceptance.{IsAccepted}
+use Rattle.ec_core.specs.Progress.{Progress}
 use Rattle.ec_core.specs.Standing.{progress_of}
 
 -- an await of v on e by w has just ended a round that fell short, at moment k: w's entry at first began it, and all of w's
@@ -31,3 +32,8 @@ pub record HasJustFallenShort (t : Tables) (w : ℕ) (h : List Entry) (k e v : �
 abbrev pub IndexZeroMeansFallenShort : Type 0
 IndexZeroMeansFallenShort = (t : Tables) (h : List Entry) (w k e v sum : ℕ) → IsDeclared t → IsAccepted t (reverse h)
     → (progress_of t w (past_at k h) ≡ Some (record { op = Await e v; index = 0; sum = sum })) ↔ (HasJustFallenShort t w h k e v × (sum ≡ 0))
+
+-- of a read that is under way the next component is never the first again: so such a call is an await
+abbrev pub IndexZeroIsAnAwait : Type 0
+IndexZeroIsAnAwait = (t : Tables) (h : List Entry) (w k : ℕ) (progress : Progress) → IsDeclared t → IsAccepted t (reverse h)
+    → progress_of t w (past_at k h) ≡ Some progress → progress.index ≡ 0 → (e : ℕ) × (v : ℕ) × (progress.op ≡ Await e v)

@@ -1,7 +1,7 @@
 //! What the definitions mean, in order of time: each function says a law and does nothing.
 ghost use Rattle.std.specs.Prelude.{◌≡◌};
 ghost use Rattle.ec_core.specs.declared.act.TheConstants.{VALUE_MAX};
-ghost use Rattle.ec_core.specs.FallenShort.{IndexZeroMeansFallenShort};
+ghost use Rattle.ec_core.specs.FallenShort.{IndexZeroIsAnAwait, IndexZeroMeansFallenShort};
 ghost use Rattle.ec_core.specs.Laws.{TotalsCountAdvances, ComponentsCountAdvances, IssuedCountsTickets, CellsHoldTheLastPut, CallsUnderWayAreCutInOrder, CallsUnderWayRead, RoundsAddTheirComponents, ComponentsAddUp, TotalsRiseByOne, CountsKeepTheLimit, RoundsLieBetween, RoundsOfCallsLieBetween, BeginningsAreAccepted, AcceptedMeansAnswered, NumbersAreSmall, RepliesFitTheirActs, OthersStand};
 
 /// The total of an eventcount at a moment is the number of its advances before it (Reed and
@@ -41,6 +41,11 @@ pub fn calls_under_way_read()
 /// that fell short.
 pub fn index_zero_means_fallen_short()
     ensures { IndexZeroMeansFallenShort }
+{}
+
+/// A read under way never has 0 as the component that comes next: a call that does is an await.
+pub fn index_zero_is_an_await()
+    ensures { IndexZeroIsAnAwait }
 {}
 
 /// The sum of a round adds each component as it was at its own moment.
