@@ -1,15 +1,14 @@
 -- What the notes are: each leaves its table, and what is refused has one.
 use Rattle.std.specs.Prelude.{◌≡◌, ℕ, false, true, List, Option}
 use Rattle.std.specs.Io.KnownBytes.{Appends, Keeps}
-use Rattle.ec_text.specs.Puts.{AppendsPrefix}
+use Rattle.ec_text.specs.Puts.{AppendsPrefix, nothing_held}
 use Rattle.evc_engine.specs.declared.status.Status.TheVariants.{Refused}
 use Rattle.evc_engine.specs.Checks.{Outlets, Notes, Checks}
 use Rattle.evc_engine.specs.Audits.{Audits}
-use Rattle.evc_engine.specs.Notes.{IsWrittenOut}
 
--- where none waited before, the writer has the whole note, or a front of it where a write has failed
+-- where none waited before, the writer has the whole note, or a proper front of it where a write has failed
 abbrev pub NotesLeaveTheTable : Type 0
-NotesLeaveTheTable = (old new : Outlets) (note : List ℕ) → IsWrittenOut old.held → Notes old new note
+NotesLeaveTheTable = (old new : Outlets) (note : List ℕ) → old.held ≡ nothing_held → Notes old new note
     → (new.held.failed ≡ false → Appends old.notes new.notes note) × (new.held.failed ≡ true → AppendsPrefix old.notes new.notes note)
 
 -- nothing was written but this note, both times
