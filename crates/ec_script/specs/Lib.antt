@@ -20,3 +20,4 @@ pub mod Given
 pub mod Spelled
 pub mod Placed
 pub mod Holding
+pub mod Endings
