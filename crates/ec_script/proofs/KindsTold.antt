@@ -21,7 +21,8 @@ use Rattle.ec_heading.specs.Kinds.{workers_fault, declaration_fault, declaration
 use Rattle.ec_heading.specs.Outline.{opened, declared_by}
 use Rattle.ec_heading.specs.Outlined.{HasOutline}
 use Rattle.ec_heading.specs.Sorts.{sort_word}
-use Rattle.ec_heading.proofs.Phrases.{parts_spelled}
+use Rattle.ec_heading.specs.Phrased.{IsSpelled}
+use Rattle.ec_heading.proofs.Phrases.{parts_spelled, spelled_parts}
 use Rattle.ec_heading.proofs.ReadHeadings.{IsSound, sound}
 use Rattle.ec_script.specs.declared.fault.Kind.{Kind}
 use Rattle.ec_script.specs.declared.fault.Kind.TheVariants as kinds
@@ -37,6 +38,7 @@ use Rattle.ec_script.specs.Grammar.{Leads}
 use Rattle.ec_script.specs.Holding.{LimitHas, WorkersHave, DeclarationHas, OtherHas, OfForm, OfEither, HasKind, LeastKindIsTold}
 use Rattle.ec_script.specs.Kinds.{is_allowed, phrase_fault}
 use Rattle.ec_script.specs.Objects.{object_in}
+use Rattle.ec_script.specs.Phrased.{Worded}
 use Rattle.ec_script.specs.Placed.{IsOfWords, IsLimitLine, IsWorkersLine, IsDeclaration, MayStand, IsOther}
 use Rattle.ec_script.specs.Reading.{nest_of, seen, after, fault_or, phrased, headed_on, is_declaring, opens_outer, script_step, in_range, limited, limit_digits, limit_or, limit_step, named_on, read_on, step}
 use Rattle.ec_script.specs.Scripted.{Scripted}
@@ -47,7 +49,7 @@ use Rattle.ec_script.proofs.Keeping.{Keeps, leads_keeps}
 use Rattle.ec_script.proofs.Least.{least, least_holds, none_holds}
 use Rattle.ec_script.proofs.LedHeadings.{lines_outlined}
 use Rattle.ec_script.proofs.OtherKinds.{other_tests, other_decided, other_least}
-use Rattle.ec_script.proofs.PhraseWords.{worded, verb_again}
+use Rattle.ec_script.proofs.PhraseWords.{worded, worded_again, verb_again}
 
 -- THE FAULT THAT IS TOLD
 
@@ -297,11 +299,11 @@ sort_opens sorts.Both ws = refl
 opens_with : (s : Sort) {ws vs : List (List ℕ)} → ws ≡ sort_word s ∷ vs → opens_outer ws ≡ false
 opens_with s {ws} {vs} is = ap opens_outer is ∙ sort_opens s vs
 
-declaration_opens : (ws : List (List ℕ)) (p : headings.Phrase) → headings.parts_in ws ≡ Some p → opens_outer ws ≡ false
-declaration_opens ws p is = opens_with p.sort (parts_spelled ws p is).words
+declaration_opens : (ws : List (List ℕ)) (p : headings.Phrase) → IsSpelled ws p → opens_outer ws ≡ false
+declaration_opens ws p is = opens_with p.sort is.words
 
-phrase_opens : (ws : List (List ℕ)) (p : Phrase) → phrase_in ws ≡ Some p → opens_outer ws ≡ is_outer p.verb
-phrase_opens ws p is = ap opens_outer (worded ws p is).are ∙ ap (λ o. option_map_or is_outer o false) (verb_again p.verb)
+phrase_opens : (ws : List (List ℕ)) (p : Phrase) → Worded ws p → opens_outer ws ≡ is_outer p.verb
+phrase_opens ws p is = ap opens_outer is.are ∙ ap (λ o. option_map_or is_outer o false) (verb_again p.verb)
 
 -- no block is open while declarations may come
 behind_begun : (s : Scripted) → Keeps s → is_declaring s ≡ true → s.block ≡ None
@@ -333,7 +335,7 @@ declared_has s line f declaring plain is =
       | None ↦ λ e h. cc
       | Some p ↦ λ e h.
           (let q = and_parts (length s.named == 0) (length s.schedule == 0) declaring in
-          let d : IsForm s line (inl p) = record { first = ((empty_is s.named).0 q.0, (empty_is s.schedule).0 q.1); whole = of_words line plain; form = e } in
+          let d : IsForm s line (inl p) = record { first = ((empty_is s.named).0 q.0, (empty_is s.schedule).0 q.1); whole = of_words line plain; form = parts_spelled (words_of line) p e } in
           subst (IsForm s line) (same_Some (inl p) f h) d)
     ]) refl is
 
@@ -343,7 +345,7 @@ other_has s line f plain is =
       | None ↦ λ e h. cc
       | Some p ↦ λ e h. (elim (allowed s p) as (λ b. allowed s p ≡ b → cond b (Some (inr p)) None ≡ Some f → IsForm s line f) [
         | true ↦ λ a k.
-            (let d : IsForm s line (inr p) = record { place = (place_decided s p.verb).0 a; whole = of_words line plain; form = e } in
+            (let d : IsForm s line (inr p) = record { place = (place_decided s p.verb).0 a; whole = of_words line plain; form = worded (words_of line) p e } in
             subst (IsForm s line) (same_Some (inr p) f k) d)
         | false ↦ λ a k. cc
       ]) refl h
@@ -367,11 +369,11 @@ reading_read : (s : Scripted) (line : List ℕ) → Keeps s → (f : headings.Ph
 reading_read s line keeps (inl p) is =
     ap (λ a. cond a (cond (is_no_line line) None (declared_form (headings.parts_in (words_of line)))) (cond (is_no_line line) None (other_form s (phrase_in (words_of line))))) (declaration_before s line p is)
     ∙ ap (λ b. cond b None (declared_form (headings.parts_in (words_of line)))) (words_so line is.whole)
-    ∙ ap declared_form is.form
+    ∙ ap declared_form (spelled_parts (words_of line) p is.form)
 reading_read s line keeps (inr p) is =
     ap (λ a. cond a (cond (is_no_line line) None (declared_form (headings.parts_in (words_of line)))) (cond (is_no_line line) None (other_form s (phrase_in (words_of line))))) (other_behind s line p keeps is)
     ∙ ap (λ b. cond b None (other_form s (phrase_in (words_of line)))) (words_so line is.whole)
-    ∙ ap (other_form s) is.form
+    ∙ ap (other_form s) (worded_again (words_of line) p is.form)
     ∙ ap (λ b. cond b (Some (inr p)) None) ((place_decided s p.verb).1 is.place)
 
 reading_reads : (s : Scripted) (line : List ℕ) → Keeps s → Reads (reading_form s line) (IsForm s line)
@@ -432,7 +434,7 @@ reading_decided s line has =
       line = λ f is. elim f as (λ g. reading_tests s g kinds.BadLine ≡ false) [ inl p ↦ refl | inr p ↦ refl ];
       each = λ f k is. (elim f as (λ g. IsForm s line g → Decides (reading_tests s g k) (FormHas s g k)) [
         | inl p ↦ λ d. declaration_decided s.heading p k sound.bounds
-        | inr p ↦ λ d. other_decided s p k (inr has) (worded (words_of line) p d.form).tail
+        | inr p ↦ λ d. other_decided s p k (inr has) d.form.tail
       ]) is;
     }
 

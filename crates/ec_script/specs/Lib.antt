@@ -1,5 +1,6 @@
 pub mod Verbs
 pub mod Forms
+pub mod Phrased
 pub mod Faults
 pub mod Flat
 pub mod Objects
