@@ -22,7 +22,7 @@ use Rattle.ec_heading.specs.declared.sort.Sort.{Sort}
 use Rattle.ec_heading.specs.declared.sort.Sort.TheVariants as sorts
 use Rattle.ec_heading.specs.declared.heading.HeadFault.{HeadFault}
 use Rattle.ec_heading.specs.declared.heading.HeadFault.TheVariants as faults
-use Rattle.ec_heading.proofs.Phrases.{IsSpelled, SecondFits, NumberFits, HasWords}
+use Rattle.ec_heading.specs.Phrased.{IsSpelled, SecondFits, NumberFits, HasWords}
 use Rattle.ec_heading.proofs.SortFacts.{zero_in_range, number_small}
 use Rattle.ec_heading.proofs.Listed.{Named, HasNoWorker, no_worker-append, with_others, AreBelow, known_below, below_known, ids_below, ids_some}
 

@@ -6,6 +6,7 @@ use Rattle.ec_text.specs.Words.{is_number_form}
 use Rattle.ec_heading.specs.Sorts.{sort_of, sort_word, has_name, has_number, opener, other, needs_other}
 use Rattle.ec_heading.specs.Spelling.{name_words}
 use Rattle.ec_heading.specs.Form.{Phrase, TwoLists, split_words, on_first, both_lists, is_well, well_or, phrase_of, listed_in, opened_in, numbered_in, called_in, named_in, sorted_in, parts_in}
+use Rattle.ec_heading.specs.Phrased.{HasWords, NameFits, number_part, NumberFits, second_part, SecondFits, behind_name, HasNoStop, IsSpelled}
 use Rattle.ec_heading.specs.declared.sort.Sort.{Sort}
 use Rattle.ec_heading.specs.declared.sort.Sort.TheVariants as sorts
 
@@ -25,44 +26,7 @@ either : {X : Type 0} (b : Bool) (x y : X) (r : Option X) → cond b (Some x) r 
 either true x y r e = inl (refl, cc)
 either false x y r e = inr e
 
--- the words of a list, if there is one
-abbrev pub HasWords : List (List ℕ) → Type 0
-HasWords ws = (v : List ℕ) × (vs : List (List ℕ)) × (ws ≡ v ∷ vs)
-
--- THE PARTS OF A LINE, SPELLED
-
--- a form without a name is called by its own word
-abbrev pub NameFits : Sort → List ℕ → Type 0
-NameFits s name = has_name s ≡ false → name ≡ sort_word s
-
-abbrev pub number_part : Sort → List ℕ → List (List ℕ)
-number_part s number = if has_number s then number ∷ [] else []
-
--- the number is a number by its form, and where the form has none there is none
-pub record NumberFits (s : Sort) (number : List ℕ) : Type 0 where
-  pub none : has_number s ≡ false → number ≡ []
-  pub some : has_number s ≡ true → is_number_form number ≡ true
-
-abbrev pub second_part : Option (List ℕ) → Option (List (List ℕ)) → List (List ℕ)
-second_part (Some stop) (Some vs) = stop ∷ vs
-second_part _ _ = []
-
-abbrev pub SecondFits : Bool → Option (List ℕ) → Option (List (List ℕ)) → Type 0
-SecondFits needs o None = needs ≡ false
-SecondFits needs None (Some vs) = ⊥
-SecondFits needs (Some stop) (Some vs) = HasWords vs
-
--- the words behind the name
-abbrev pub behind_name : Sort → List ℕ → List (List ℕ) → List (List ℕ)
-behind_name s number ws = number_part s number ++ opener s ∷ ws
-
--- these words spell this phrase
-pub record IsSpelled (ws : List (List ℕ)) (p : Phrase) : Type 0 where
-  pub words : ws ≡ sort_word p.sort ∷ (name_words p.sort p.name ++ behind_name p.sort p.number (p.first ++ second_part (other p.sort) p.second))
-  pub name : NameFits p.sort p.name
-  pub number : NumberFits p.sort p.number
-  pub first : HasWords p.first
-  pub second : SecondFits (needs_other p.sort) (other p.sort) p.second
+-- THE TWO LISTS
 
 -- the two lists, end to end, are the words that they were cut from
 split_joins : (stop : List ℕ) (ws : List (List ℕ)) → (split_words stop ws).0 ++ second_part (Some stop) (split_words stop ws).1 ≡ ws
@@ -94,6 +58,20 @@ well_second needs o ws q is e = fits o (both_lists o ws).0 q (λ (n : o ≡ None
     fits None (v ∷ vs) (Some us) n e = (let h : Some us ≡ None = n refl in cc)
     fits (Some stop) (v ∷ vs) (Some []) n e = absurd (true≢false (sym e))
     fits (Some stop) (v ∷ vs) (Some (u ∷ us)) n e = (u, us, refl)
+
+-- the first list ends before the first word that ends it
+words_stop : (stop : List ℕ) (ws : List (List ℕ)) → HasNoStop (Some stop) (split_words stop ws).0
+unfolding split_words
+words_stop stop [] = tt
+words_stop stop (w ∷ ws) =
+    (elim (bytes_eq w stop) as (λ b. bytes_eq w stop ≡ b → HasNoStop (Some stop) (cond b ([], Some ws) (on_first w (split_words stop ws))).0) [
+      | true ↦ λ e. tt
+      | false ↦ λ e. (e, words_stop stop ws)
+    ]) refl
+
+lists_stop : (o : Option (List ℕ)) (ws : List (List ℕ)) → HasNoStop o (both_lists o ws).0
+lists_stop None ws = tt
+lists_stop (Some stop) ws = words_stop stop ws
 
 -- WHAT IS READ IS SPELLED
 
@@ -138,6 +116,7 @@ listed s name number ws p called fits e =
             number = fits;
             first = well_first (needs_other s) (both_lists (other s) ws) w;
             second = well_second (needs_other s) (other s) ws (both_lists (other s) ws).1 refl w;
+            apart = lists_stop (other s) ws;
           } in
           subst (IsSpelled (headed s name (behind_name s number ws))) same is
       | false ↦ λ w f. (cc)
@@ -199,12 +178,6 @@ parts_spelled (w ∷ ws) p e = sorted w (sort_of w) ws p refl e
 
 -- WHAT IS SPELLED IS READ
 
--- no word of the list is the one that ends it
-abbrev pub HasNoStop : Option (List ℕ) → List (List ℕ) → Type 0
-HasNoStop None ws = Unit {0}
-HasNoStop (Some stop) [] = Unit {0}
-HasNoStop (Some stop) (w ∷ ws) = (bytes_eq w stop ≡ false) × HasNoStop (Some stop) ws
-
 split_again : (stop : List ℕ) (ws : List (List ℕ)) (o : Option (List (List ℕ))) → HasNoStop (Some stop) ws → split_words stop (ws ++ second_part (Some stop) o) ≡ (ws, o)
 unfolding split_words
 split_again stop [] None apart = refl
@@ -260,12 +233,12 @@ named_again s name ws o fits is =
     ] in
     go refl
 
--- the words that spell a phrase are read as it, where no word of its first list ends that list
-pub spelled_parts : (ws : List (List ℕ)) (p : Phrase) → IsSpelled ws p → HasNoStop (other p.sort) p.first → parts_in ws ≡ Some p
+-- the words that spell a phrase are read as it
+pub spelled_parts : (ws : List (List ℕ)) (p : Phrase) → IsSpelled ws p → parts_in ws ≡ Some p
 unfolding parts_in
-spelled_parts ws p is apart =
+spelled_parts ws p is =
     let lists : List (List ℕ) = p.first ++ second_part (other p.sort) p.second in
-    let whole : listed_in p.sort p.name p.number (p.first ++ second_part (other p.sort) p.second) ≡ Some p = listed_again p.sort p.name p.number p.first p.second is.first apart is.second in
+    let whole : listed_in p.sort p.name p.number (p.first ++ second_part (other p.sort) p.second) ≡ Some p = listed_again p.sort p.name p.number p.first p.second is.first is.apart is.second in
     ap parts_in is.words
     ∙ ap (λ (o : Option Sort). sorted_in o (name_words p.sort p.name ++ behind_name p.sort p.number lists)) (sort_again p.sort)
     ∙ named_again p.sort p.name (behind_name p.sort p.number lists) (Some p) is.name (numbered_again p.sort p.name p.number lists (Some p) is.number whole)

@@ -22,7 +22,8 @@ use Rattle.ec_heading.specs.Heading.{head_step, fault_or, opened_by, declared_or
 use Rattle.ec_heading.specs.HeadingLaws.{SpelledWorkersAreRead, SpelledDeclarationIsRead}
 use Rattle.ec_heading.specs.declared.sort.Sort.{Sort}
 use Rattle.ec_heading.specs.declared.heading.HeadFault.{HeadFault}
-use Rattle.ec_heading.proofs.Phrases.{HasWords, IsSpelled, NameFits, NumberFits, SecondFits, HasNoStop, number_part, second_part, behind_name, guarded, spelled_parts}
+use Rattle.ec_heading.specs.Phrased.{HasWords, IsSpelled, NameFits, NumberFits, SecondFits, HasNoStop, number_part, second_part, behind_name}
+use Rattle.ec_heading.proofs.Phrases.{guarded, spelled_parts}
 use Rattle.ec_heading.proofs.SortFacts.{is_literal, IsLiteral, literal, literal_lacks, is_stop, other_stop, sort_literal, opener_literal, number_small, number_none, called_name, called_word}
 use Rattle.ec_heading.proofs.Listed.{Named, AreBelow, ids_again, ids_known}
 use Rattle.ec_heading.proofs.Declarable.{Heads, HasRoom, heads_all, heads_opened, has_room, is_clean, no_kind}
@@ -184,11 +185,12 @@ module _ (ws : List (List ℕ)) (are : AreWorkers ws) (h : Headed) (heads : Head
     number = number_fits d.sort d.number may.range;
     first = some_words ws d.first room.some;
     second = second_fits ws (needs_other d.sort) (other d.sort) d.second may.form room.needed;
+    apart = ends_right (other d.sort) (list_words ws d.first) (other_stop d.sort) named_first;
   }
 
   parts : parts_in (declaration_words ws d) ≡ Some (spelled_by ws d)
   unfolding spelled_by
-  parts = spelled_parts (declaration_words ws d) (spelled_by ws d) spelled (ends_right (other d.sort) (list_words ws d.first) (other_stop d.sort) named_first)
+  parts = spelled_parts (declaration_words ws d) (spelled_by ws d) spelled
 
   again : (ids : List ℕ) → AreBelow (length ws) ids → ids_in h.words (list_words ws ids) ≡ ids
   again ids below = ap (λ (names : Named). ids_in names (list_words ws ids)) heads.words ∙ ids_again ws heads.others ids are.differ below

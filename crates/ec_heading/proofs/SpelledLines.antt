@@ -17,7 +17,8 @@ use Rattle.ec_heading.specs.HeadingLaws.{Declares, ReadWorkersAreSpelled, ReadDe
 use Rattle.ec_heading.specs.declared.sort.Sort.{Sort}
 use Rattle.ec_heading.specs.declared.heading.HeadFault.{HeadFault}
 use Rattle.ec_heading.specs.declared.heading.HeadFault.TheVariants as faults
-use Rattle.ec_heading.proofs.Phrases.{IsSpelled, NumberFits, SecondFits, number_part, second_part, same_word, parts_spelled}
+use Rattle.ec_heading.specs.Phrased.{IsSpelled, NumberFits, SecondFits, number_part, second_part}
+use Rattle.ec_heading.proofs.Phrases.{same_word, parts_spelled}
 use Rattle.ec_heading.proofs.Listed.{Named, ids_spelled, ids_some}
 use Rattle.ec_heading.proofs.Declarable.{Heads, IsClean, clean, heads_all, heads_opened, may_declare}
 use Rattle.ec_heading.proofs.WorkersLine.{are_workers}

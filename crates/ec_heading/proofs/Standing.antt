@@ -21,7 +21,8 @@ use Rattle.ec_heading.specs.Outline.{Declaration, Outline, IsDeclarable, AreDecl
 use Rattle.ec_heading.specs.Outlined.{HasOutline, IsHeading}
 use Rattle.ec_heading.specs.Form.{Phrase, parts_in}
 use Rattle.ec_heading.specs.Kinds.{workers_fault, declaration_fault, declaration_of}
-use Rattle.ec_heading.proofs.Phrases.{HasWords, parts_spelled}
+use Rattle.ec_heading.specs.Phrased.{HasWords}
+use Rattle.ec_heading.proofs.Phrases.{parts_spelled}
 use Rattle.ec_heading.proofs.Declarable.{Heads, heads_all, heads_opened, may_declare}
 use Rattle.ec_heading.proofs.AddedObjects.{buffer_there, database_there, semaphore_there}
 use Rattle.ec_heading.proofs.Each.{each_append, each_weaker}

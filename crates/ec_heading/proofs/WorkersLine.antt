@@ -13,7 +13,8 @@ use Rattle.ec_heading.specs.Heading.{workers_in}
 use Rattle.ec_heading.specs.Kinds.{workers_fault}
 use Rattle.ec_heading.specs.declared.heading.HeadFault.{HeadFault}
 use Rattle.ec_heading.specs.declared.heading.HeadFault.TheVariants as faults
-use Rattle.ec_heading.proofs.Phrases.{HasWords, same_word}
+use Rattle.ec_heading.specs.Phrased.{HasWords}
+use Rattle.ec_heading.proofs.Phrases.{same_word}
 use Rattle.ec_heading.proofs.Listed.{Differ, tail_differs, head_differs}
 use Rattle.ec_heading.proofs.Declarable.{passed}
 

@@ -8,6 +8,7 @@ pub mod Outlined
 pub mod Spelling
 pub mod Lists
 pub mod Form
+pub mod Phrased
 pub mod Kinds
 pub mod Heading
 pub mod HeadingLaws

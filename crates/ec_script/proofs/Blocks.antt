@@ -32,7 +32,8 @@ use Rattle.ec_script.specs.Reading.{nest_of, seen, after, after_verb, commanded,
 use Rattle.ec_script.specs.Outcome.{plan_in}
 use Rattle.ec_script.specs.Grammar.{Leads}
 use Rattle.ec_script.specs.Layout.{order_by, Says, Block, IsBlock, texts_of, orders_of, AreNested, commands_in, worker_line, block_lines, schedule_line, IsRow, joined, workers_of}
-use Rattle.ec_script.proofs.PhraseWords.{made, Worded, worded}
+use Rattle.ec_script.specs.Phrased.{Worded}
+use Rattle.ec_script.proofs.PhraseWords.{made, worded}
 use Rattle.ec_script.proofs.Passing.{Passes, IsTaken, IsBehind, taken_back, read_back}
 use Rattle.ec_script.proofs.Said.{IsCommand, Ordered, ordered_of, some_object, said, MayNest, step_may, nested_more, few_more, room_more, orders_more, below, end_inner}
 

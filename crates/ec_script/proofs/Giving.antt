@@ -36,7 +36,8 @@ use Rattle.ec_script.specs.Orders.{amount_of, amount_in, size_in}
 use Rattle.ec_script.specs.Confined.{UsesGroups, AreApart}
 use Rattle.ec_script.specs.Layout.{order_by, Says}
 use Rattle.ec_script.specs.Given.{may_do, is_line_of, IsGiven}
-use Rattle.ec_script.proofs.PhraseWords.{Worded, worded}
+use Rattle.ec_script.specs.Phrased.{Worded}
+use Rattle.ec_script.proofs.PhraseWords.{worded}
 use Rattle.ec_script.proofs.Said.{IsCommand}
 use Rattle.ec_script.proofs.Sizes.{count_range, size_sound, as_many}
 use Rattle.ec_script.proofs.Confining.{found_group, found_semaphore, only_semaphore, lines_differ}

@@ -21,7 +21,8 @@ use Rattle.ec_heading.specs.Kinds.{workers_fault, declaration_fault, declaration
 use Rattle.ec_heading.specs.Outline.{opened, declared_by}
 use Rattle.ec_heading.specs.Outlined.{HasOutline}
 use Rattle.ec_heading.specs.Sorts.{sort_word}
-use Rattle.ec_heading.proofs.Phrases.{parts_spelled}
+use Rattle.ec_heading.specs.Phrased.{IsSpelled}
+use Rattle.ec_heading.proofs.Phrases.{parts_spelled, spelled_parts}
 use Rattle.ec_heading.proofs.ReadHeadings.{IsSound, sound}
 use Rattle.ec_script.specs.declared.fault.Kind.{Kind}
 use Rattle.ec_script.specs.declared.fault.Kind.TheVariants as kinds
@@ -30,12 +31,14 @@ use Rattle.ec_script.specs.declared.stage.Stage.{Stage}
 use Rattle.ec_script.specs.declared.stage.Stage.TheVariants.{Opening, Limiting, Naming, Reading}
 use Rattle.ec_script.specs.declared.verb.Verb.{Verb}
 use Rattle.ec_script.specs.declared.verb.Verb.TheVariants as verbs
+use Rattle.ec_script.specs.Endings.{FaultlessLinesAreTaken}
 use Rattle.ec_script.specs.Faults.{kind_number, kind_of_head}
 use Rattle.ec_script.specs.Forms.{Phrase, phrase_in}
 use Rattle.ec_script.specs.Grammar.{Leads}
-use Rattle.ec_script.specs.Holding.{LimitHas, WorkersHave, DeclarationHas, OtherHas, OfForm, OfEither, HasKind, IsLeast, LeastKindIsTold}
+use Rattle.ec_script.specs.Holding.{LimitHas, WorkersHave, DeclarationHas, OtherHas, OfForm, OfEither, HasKind, LeastKindIsTold}
 use Rattle.ec_script.specs.Kinds.{is_allowed, phrase_fault}
 use Rattle.ec_script.specs.Objects.{object_in}
+use Rattle.ec_script.specs.Phrased.{Worded}
 use Rattle.ec_script.specs.Placed.{IsOfWords, IsLimitLine, IsWorkersLine, IsDeclaration, MayStand, IsOther}
 use Rattle.ec_script.specs.Reading.{nest_of, seen, after, fault_or, phrased, headed_on, is_declaring, opens_outer, script_step, in_range, limited, limit_digits, limit_or, limit_step, named_on, read_on, step}
 use Rattle.ec_script.specs.Scripted.{Scripted}
@@ -43,10 +46,10 @@ use Rattle.ec_script.specs.Verbs.{is_outer}
 use Rattle.ec_script.proofs.Deciding.{never, decides_not}
 use Rattle.ec_script.proofs.HeadKinds.{limit_tests, limit_decided, workers_tests, workers_decided, workers_least, declaration_tests, declaration_decided, declaration_least}
 use Rattle.ec_script.proofs.Keeping.{Keeps, leads_keeps}
-use Rattle.ec_script.proofs.Least.{least, least_holds}
+use Rattle.ec_script.proofs.Least.{least, least_holds, none_holds}
 use Rattle.ec_script.proofs.LedHeadings.{lines_outlined}
 use Rattle.ec_script.proofs.OtherKinds.{other_tests, other_decided, other_least}
-use Rattle.ec_script.proofs.PhraseWords.{worded, verb_again}
+use Rattle.ec_script.proofs.PhraseWords.{worded, worded_again, verb_again}
 
 -- THE FAULT THAT IS TOLD
 
@@ -58,11 +61,25 @@ err_of : {S : Type 0} (r : Result S Kind) (k : Kind) → fault_in r ≡ Some k �
 err_of (Ok s) k is = cc
 err_of (Err l) k is = ap Err (same_Some l k is)
 
-told_so : {S : Type 0} (r : Result S Kind) (t : Kind → Bool) (T : Kind → Type 0) → fault_in r ≡ least t → ((k : Kind) → Decides (t k) (T k)) → (k : Kind)
-    → (r ≡ Err k) ↔ (T k × ((j : Kind) → kind_number j < kind_number k → T j → ⊥))
-told_so r t T is decides k =
-    let h = least_holds t T decides k in
-    ((λ e. h.0 (sym is ∙ ap fault_in e)), λ w. err_of r k (is ∙ h.1 w))
+-- what a line comes to is what its tests give, and each decides what it is of
+record Tested {S : Type 0} (r : Result S Kind) (T : Kind → Type 0) : Type 0 where
+  tests : Kind → Bool
+  is : fault_in r ≡ least tests
+  decides : (k : Kind) → Decides (tests k) (T k)
+
+told_so : {S : Type 0} (r : Result S Kind) (T : Kind → Type 0) → Tested r T → (k : Kind) → (r ≡ Err k) ↔ (T k × ((j : Kind) → kind_number j < kind_number k → T j → ⊥))
+told_so r T t k =
+    let h = least_holds t.tests T t.decides k in
+    ((λ e. h.0 (sym t.is ∙ ap fault_in e)), λ w. err_of r k (t.is ∙ h.1 w))
+
+ok_of : {S : Type 0} (r : Result S Kind) → fault_in r ≡ None → (s : S) × (r ≡ Ok s)
+ok_of (Ok s) is = (s, refl)
+ok_of (Err k) is = cc
+
+taken_so : {S : Type 0} (r : Result S Kind) (T : Kind → Type 0) → Tested r T → ((s : S) × (r ≡ Ok s)) ↔ ((k : Kind) → T k → ⊥)
+taken_so r T t =
+    let h = none_holds t.tests T t.decides in
+    ((λ o. h.0 (sym t.is ∙ ap fault_in o.1)), λ w. ok_of r (t.is ∙ h.1 w))
 
 -- LINES OF A FORM
 
@@ -282,11 +299,11 @@ sort_opens sorts.Both ws = refl
 opens_with : (s : Sort) {ws vs : List (List ℕ)} → ws ≡ sort_word s ∷ vs → opens_outer ws ≡ false
 opens_with s {ws} {vs} is = ap opens_outer is ∙ sort_opens s vs
 
-declaration_opens : (ws : List (List ℕ)) (p : headings.Phrase) → headings.parts_in ws ≡ Some p → opens_outer ws ≡ false
-declaration_opens ws p is = opens_with p.sort (parts_spelled ws p is).words
+declaration_opens : (ws : List (List ℕ)) (p : headings.Phrase) → IsSpelled ws p → opens_outer ws ≡ false
+declaration_opens ws p is = opens_with p.sort is.words
 
-phrase_opens : (ws : List (List ℕ)) (p : Phrase) → phrase_in ws ≡ Some p → opens_outer ws ≡ is_outer p.verb
-phrase_opens ws p is = ap opens_outer (worded ws p is).are ∙ ap (λ o. option_map_or is_outer o false) (verb_again p.verb)
+phrase_opens : (ws : List (List ℕ)) (p : Phrase) → Worded ws p → opens_outer ws ≡ is_outer p.verb
+phrase_opens ws p is = ap opens_outer is.are ∙ ap (λ o. option_map_or is_outer o false) (verb_again p.verb)
 
 -- no block is open while declarations may come
 behind_begun : (s : Scripted) → Keeps s → is_declaring s ≡ true → s.block ≡ None
@@ -318,7 +335,7 @@ declared_has s line f declaring plain is =
       | None ↦ λ e h. cc
       | Some p ↦ λ e h.
           (let q = and_parts (length s.named == 0) (length s.schedule == 0) declaring in
-          let d : IsForm s line (inl p) = record { first = ((empty_is s.named).0 q.0, (empty_is s.schedule).0 q.1); whole = of_words line plain; form = e } in
+          let d : IsForm s line (inl p) = record { first = ((empty_is s.named).0 q.0, (empty_is s.schedule).0 q.1); whole = of_words line plain; form = parts_spelled (words_of line) p e } in
           subst (IsForm s line) (same_Some (inl p) f h) d)
     ]) refl is
 
@@ -328,7 +345,7 @@ other_has s line f plain is =
       | None ↦ λ e h. cc
       | Some p ↦ λ e h. (elim (allowed s p) as (λ b. allowed s p ≡ b → cond b (Some (inr p)) None ≡ Some f → IsForm s line f) [
         | true ↦ λ a k.
-            (let d : IsForm s line (inr p) = record { place = (place_decided s p.verb).0 a; whole = of_words line plain; form = e } in
+            (let d : IsForm s line (inr p) = record { place = (place_decided s p.verb).0 a; whole = of_words line plain; form = worded (words_of line) p e } in
             subst (IsForm s line) (same_Some (inr p) f k) d)
         | false ↦ λ a k. cc
       ]) refl h
@@ -352,11 +369,11 @@ reading_read : (s : Scripted) (line : List ℕ) → Keeps s → (f : headings.Ph
 reading_read s line keeps (inl p) is =
     ap (λ a. cond a (cond (is_no_line line) None (declared_form (headings.parts_in (words_of line)))) (cond (is_no_line line) None (other_form s (phrase_in (words_of line))))) (declaration_before s line p is)
     ∙ ap (λ b. cond b None (declared_form (headings.parts_in (words_of line)))) (words_so line is.whole)
-    ∙ ap declared_form is.form
+    ∙ ap declared_form (spelled_parts (words_of line) p is.form)
 reading_read s line keeps (inr p) is =
     ap (λ a. cond a (cond (is_no_line line) None (declared_form (headings.parts_in (words_of line)))) (cond (is_no_line line) None (other_form s (phrase_in (words_of line))))) (other_behind s line p keeps is)
     ∙ ap (λ b. cond b None (other_form s (phrase_in (words_of line)))) (words_so line is.whole)
-    ∙ ap (other_form s) is.form
+    ∙ ap (other_form s) (worded_again (words_of line) p is.form)
     ∙ ap (λ b. cond b (Some (inr p)) None) ((place_decided s p.verb).1 is.place)
 
 reading_reads : (s : Scripted) (line : List ℕ) → Keeps s → Reads (reading_form s line) (IsForm s line)
@@ -417,7 +434,7 @@ reading_decided s line has =
       line = λ f is. elim f as (λ g. reading_tests s g kinds.BadLine ≡ false) [ inl p ↦ refl | inr p ↦ refl ];
       each = λ f k is. (elim f as (λ g. IsForm s line g → Decides (reading_tests s g k) (FormHas s g k)) [
         | inl p ↦ λ d. declaration_decided s.heading p k sound.bounds
-        | inr p ↦ λ d. other_decided s p k (inr has) (worded (words_of line) p d.form).tail
+        | inr p ↦ λ d. other_decided s p k (inr has) d.form.tail
       ]) is;
     }
 
@@ -446,18 +463,25 @@ limit_kinds line = record { line = λ digits is. refl; each = λ digits k is. li
 workers_kinds : (line : List ℕ) → Decided (IsWorkersLine line) WorkersHave workers_tests
 workers_kinds line = record { line = λ names is. refl; each = λ names k is. workers_decided names k }
 
-told_at : (stage : Stage) (line : List ℕ) (k : Kind) → StageFits stage → (step stage line ≡ Err k) ↔ IsLeast stage line k
+tested_at : (stage : Stage) (line : List ℕ) → StageFits stage → Tested (step stage line) (HasKind stage line)
 unfolding step
-told_at Opening line k fits = told_so (step Opening line) (opening_tests line) (HasKind Opening line) (opening_least line) (opening_decided line) k
-told_at Limiting line k fits =
-    told_so (limit_step line) (form_tests (limit_form line) limit_tests) (HasKind Limiting line) (limit_least line) (formed (limit_form line) (IsLimitLine line) LimitHas limit_tests (limit_reads line) (limit_kinds line)) k
-told_at (Naming n) line k fits =
-    told_so (step (Naming n) line) (form_tests (workers_form line) workers_tests) (HasKind (Naming n) line) (naming_least n line)
-    (formed (workers_form line) (IsWorkersLine line) WorkersHave workers_tests (workers_reads line) (workers_kinds line)) k
-told_at (Reading s) line k fits =
-    told_so (read_on (script_step s line)) (form_tests (reading_form s line) (reading_tests s)) (HasKind (Reading s) line) (read_fault (script_step s line) ∙ reading_least s line fits.0)
-    (λ j. either_line s line (form_tests (reading_form s line) (reading_tests s) j) j
-    (formed (reading_form s line) (IsForm s line) (FormHas s) (reading_tests s) (reading_reads s line fits.0) (reading_decided s line fits.1) j)) k
+tested_at Opening line fits = record { tests = opening_tests line; is = opening_least line; decides = opening_decided line }
+tested_at Limiting line fits = record {
+  tests = form_tests (limit_form line) limit_tests;
+  is = limit_least line;
+  decides = formed (limit_form line) (IsLimitLine line) LimitHas limit_tests (limit_reads line) (limit_kinds line);
+}
+tested_at (Naming n) line fits = record {
+  tests = form_tests (workers_form line) workers_tests;
+  is = naming_least n line;
+  decides = formed (workers_form line) (IsWorkersLine line) WorkersHave workers_tests (workers_reads line) (workers_kinds line);
+}
+tested_at (Reading s) line fits = record {
+  tests = form_tests (reading_form s line) (reading_tests s);
+  is = read_fault (script_step s line) ∙ reading_least s line fits.0;
+  decides = λ j. either_line s line (form_tests (reading_form s line) (reading_tests s) j) j
+      (formed (reading_form s line) (IsForm s line) (FormHas s) (reading_tests s) (reading_reads s line fits.0) (reading_decided s line fits.1) j);
+}
 
 stage_fits : (before : List (List ℕ)) (stage : Stage) → Leads Opening before stage → StageFits stage
 stage_fits before Opening leads = tt
@@ -466,4 +490,7 @@ stage_fits before (Naming n) leads = tt
 stage_fits before (Reading s) leads = (leads_keeps Opening before (Reading s) tt leads, lines_outlined before s leads)
 
 pub least_is_told : LeastKindIsTold
-least_is_told before stage line kind leads = told_at stage line kind (stage_fits before stage leads)
+least_is_told before stage line kind leads = told_so (step stage line) (HasKind stage line) (tested_at stage line (stage_fits before stage leads)) kind
+
+pub faultless_taken : FaultlessLinesAreTaken
+faultless_taken before stage line leads = taken_so (step stage line) (HasKind stage line) (tested_at stage line (stage_fits before stage leads))

@@ -43,7 +43,8 @@ use Rattle.ec_script.specs.Reading.{nest_of, seen, after_verb, commanded, ordere
 use Rattle.ec_script.specs.Grammar.{Leads, IsScript, IsLine}
 use Rattle.ec_script.specs.Layout.{order_by, Says, Block, IsBlock, texts_of, orders_of, AreNested, commands_in, worker_line, block_lines, schedule_line, IsRow, joined, workers_of, layout_lines, program_of, IsLaidOut}
 use Rattle.ec_script.proofs.Declaring.{HeadKeeps, Grows, first_keeps, head_grows}
-use Rattle.ec_script.proofs.PhraseWords.{made, verb_word, verb_back}
+use Rattle.ec_script.specs.Phrased.{verb_word}
+use Rattle.ec_script.proofs.PhraseWords.{made, verb_back}
 use Rattle.ec_script.proofs.Passing.{Passes, taken_so}
 use Rattle.ec_script.proofs.Said.{IsCommand, IsStep, Ordered, ordered_of, MayNest, orders_more}
 use Rattle.ec_script.proofs.Blocks.{state, set_all, planned, joins}

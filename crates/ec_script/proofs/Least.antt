@@ -1,10 +1,12 @@
 -- The first of the tests of kinds, in the order of their numbers, is that of the least kind that holds.
-use Rattle.std.proofs.Common.{◌≡◌, ◌⊎◌, inl, inr, ℕ, ◌+◌, ◌<◌, ◌≤◌, List, [], ◌∷◌, length, map, Bool, true, false, cond, Option, Some, refl, sym, ap, ◌∙◌, arith, slice_get}
+use Rattle.std.proofs.Common.{◌≡◌, ◌⊎◌, inl, inr, ℕ, ◌+◌, ◌<◌, ◌≤◌, List, [], ◌∷◌, length, map, Bool, true, false, cond, Option, Some, None, refl, sym, ap, ◌∙◌, arith, slice_get}
 use Rattle.std.proofs.lemmas.Bool.{true≢false, false_from_ne_true, cases_eq}
 use Rattle.std.proofs.lemmas.Option.{same_Some}
 use Rattle.std.specs.Bool.{Decides}
+use Rattle.std.specs.List.{AllByRecursion}
 use Rattle.std.specs.Prelude.{◌↔◌}
 use Rattle.ec_count.specs.Tables.{first_that}
+use Rattle.ec_heading.proofs.Declarable.{passed}
 use Rattle.ec_script.specs.declared.fault.Kind.{Kind}
 use Rattle.ec_script.specs.declared.fault.Kind.TheVariants as kinds
 use Rattle.ec_script.specs.Faults.{kind_number}
@@ -117,4 +119,34 @@ least_holds t T decides k = (
       (let f : IsFirst t all_kinds k = first_is t all_kinds k is in
       ((decides k).0 (first_holds t all_kinds k f), λ j less h. true≢false (sym ((decides j).1 h) ∙ first_none 1 t all_kinds k j all_numbered f (in_range j).low less)))),
   λ h. is_first t all_kinds k (first_so 1 t all_kinds k all_numbered (in_range k).low (in_range k).high ((decides k).1 h.0) (λ j less. false_from_ne_true _ (λ on. h.1 j less ((decides j).0 on)))),
+)
+
+-- WHERE NO TEST HOLDS
+
+all_off : (t : Kind → Bool) (ks : List Kind) → first_that (tested t ks) ≡ None → AllByRecursion (λ k. t k ≡ false) ks
+all_off t [] none = tt
+all_off t (k ∷ ks) none = (let p = passed (t k) k (tested t ks) none in (p.0, all_off t ks p.1))
+
+none_of : (t : Kind → Bool) (ks : List Kind) → ((k : Kind) → t k ≡ false) → first_that (tested t ks) ≡ None
+none_of t [] off = refl
+none_of t (k ∷ ks) off = ap (λ b. cond b (Some k) (first_that (tested t ks))) (off k) ∙ none_of t ks off
+
+each_of : (P : Kind → Type 0) → AllByRecursion P all_kinds → (k : Kind) → P k
+each_of P all kinds.BadHeader = all.0
+each_of P all kinds.BadLine = all.1.0
+each_of P all kinds.BadName = all.1.1.0
+each_of P all kinds.NameTaken = all.1.1.1.0
+each_of P all kinds.UnknownName = all.1.1.1.1.0
+each_of P all kinds.BadNumber = all.1.1.1.1.1.0
+each_of P all kinds.TooMany = all.1.1.1.1.1.1.0
+each_of P all kinds.Hidden = all.1.1.1.1.1.1.1.0
+each_of P all kinds.TwoRoles = all.1.1.1.1.1.1.1.1.0
+each_of P all kinds.NoRight = all.1.1.1.1.1.1.1.1.1.0
+each_of P all kinds.BadNesting = all.1.1.1.1.1.1.1.1.1.1.0
+each_of P all kinds.Unfinished = all.1.1.1.1.1.1.1.1.1.1.1.0
+
+pub none_holds : (t : Kind → Bool) (T : Kind → Type 0) → ((k : Kind) → Decides (t k) (T k)) → (least t ≡ None) ↔ ((k : Kind) → T k → ⊥)
+none_holds t T decides = (
+  (λ none k h. true≢false (sym ((decides k).1 h) ∙ each_of (λ j. t j ≡ false) (all_off t all_kinds none) k)),
+  λ none. none_of t all_kinds (λ k. false_from_ne_true _ (λ on. none k ((decides k).0 on))),
 )

@@ -35,3 +35,4 @@ pub mod Deciding
 pub mod HeadKinds
 pub mod OtherKinds
 pub mod KindsTold
+pub mod Endings

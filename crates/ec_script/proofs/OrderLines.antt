@@ -42,7 +42,8 @@ use Rattle.ec_script.specs.Orders.{amount_of, amount_in, size_in}
 use Rattle.ec_script.specs.Grammar.{text_of}
 use Rattle.ec_script.specs.Layout.{order_by, Says, Block, IsBlock, texts_of, orders_of, worker_line, block_lines, schedule_line, Layout, IsLayout, layout_lines}
 use Rattle.ec_script.specs.Spelling.{value_word, group_word, command_words, order_words, order_line, spelled_block, script_lines, ordered_blocks, LinesAreSpelled, LayoutsAreSpelled}
-use Rattle.ec_script.proofs.PhraseWords.{verb_word, behind_verb, Worded, worded}
+use Rattle.ec_script.specs.Phrased.{verb_word, behind_verb, Worded}
+use Rattle.ec_script.proofs.PhraseWords.{worded}
 use Rattle.ec_script.proofs.Blocks.{line_of, no_words}
 use Rattle.ec_script.proofs.Said.{IsCommand}
 use Rattle.ec_script.proofs.CellWords.{and_then_back, cell_spelled}

@@ -1,31 +1,13 @@
 -- A line of one of the forms, by its words.
-use Rattle.std.proofs.Common.{◌≡◌, ℕ, List, [], ◌∷◌, Bool, true, false, cond, Option, Some, None, refl, sym, ap, ◌∙◌, subst, bytes_eq, codes}
+use Rattle.std.proofs.Common.{◌≡◌, ℕ, List, [], ◌∷◌, Bool, true, false, cond, Option, Some, None, refl, sym, ap, ◌∙◌, subst, bytes_eq}
 use Rattle.std.proofs.lemmas.Slice.Eq.{bytes_eq-Decides}
 use Rattle.ec_script.specs.declared.verb.Verb.{Verb}
 use Rattle.ec_script.specs.declared.verb.Verb.TheVariants as verbs
 use Rattle.ec_script.specs.Verbs.{raw_verb_of, procedure_verb_of, order_verb_of, or_else, verb_of, has_object, tail_of}
+use Rattle.ec_script.specs.Phrased.{verb_word, behind_verb, object_word, Worded}
 use Rattle.ec_script.specs.Forms.{Phrase, is_tail, tailed_in, objected_in, verbed_in, phrase_in}
 
 -- THE FIRST WORD
-
-abbrev pub verb_word : Verb → List ℕ
-verb_word verbs.Advance = codes "advance"
-verb_word verbs.Read = codes "read"
-verb_word verbs.Await = codes "await"
-verb_word verbs.Ticket = codes "ticket"
-verb_word verbs.Put = codes "put"
-verb_word verbs.Get = codes "get"
-verb_word verbs.Produce = codes "produce"
-verb_word verbs.Consume = codes "consume"
-verb_word verbs.Write = codes "write"
-verb_word verbs.Snapshot = codes "snapshot"
-verb_word verbs.Down = codes "p"
-verb_word verbs.Up = codes "v"
-verb_word verbs.DownBoth = codes "pboth"
-verb_word verbs.Repeat = codes "repeat"
-verb_word verbs.End = codes "end"
-verb_word verbs.Worker = codes "worker"
-verb_word verbs.Schedule = codes "schedule"
 
 -- a word that is tested first, and then the others
 pick : (w : List ℕ) (u : Verb) (o : Option Verb) (v : Verb) → (o ≡ Some v → w ≡ verb_word v) → cond (bytes_eq w (verb_word u)) (Some u) o ≡ Some v → w ≡ verb_word v
@@ -82,21 +64,6 @@ verb_again verbs.Schedule = refl
 abbrev pub made : Verb → List ℕ → List (List ℕ) → Phrase
 made v object ws = record { verb = v; object = object; rest = ws }
 
--- the words behind the first one
-abbrev pub behind_verb : Bool → List ℕ → List (List ℕ) → List (List ℕ)
-behind_verb true object ws = object ∷ ws
-behind_verb false object ws = ws
-
-abbrev pub object_word : Bool → List ℕ → Type 0
-object_word true object = Unit {0}
-object_word false object = object ≡ []
-
--- the words are those of the phrase, whose tail is one of its verb
-pub record Worded (words : List (List ℕ)) (p : Phrase) : Type 0 where
-  pub are : words ≡ verb_word p.verb ∷ behind_verb (has_object p.verb) p.object p.rest
-  pub none : object_word (has_object p.verb) p.object
-  pub tail : is_tail (tail_of p.verb) p.rest ≡ true
-
 tailed_back : (v : Verb) (object : List ℕ) (ws : List (List ℕ)) (p : Phrase) → tailed_in v object ws ≡ Some p → (made v object ws ≡ p) × (is_tail (tail_of v) ws ≡ true)
 tailed_back v object ws p is =
     (elim (is_tail (tail_of v) ws) as (λ b. is_tail (tail_of v) ws ≡ b → cond b (Some (made v object ws)) None ≡ Some p → (made v object ws ≡ p) × (is_tail (tail_of v) ws ≡ true)) [
@@ -138,3 +105,16 @@ pub worded : (words : List (List ℕ)) (p : Phrase) → phrase_in words ≡ Some
 unfolding phrase_in
 worded [] p h = cc
 worded (w ∷ ws) p h = verbed_back w (verb_of w) ws p (verb_back w) h
+
+-- and such words are read as it
+verbed_again : (v : Verb) (object : List ℕ) (ws : List (List ℕ)) (b : Bool) → object_word b object → is_tail (tail_of v) ws ≡ true
+    → cond b (objected_in v (behind_verb b object ws)) (tailed_in v [] (behind_verb b object ws)) ≡ Some (made v object ws)
+verbed_again v object ws true none tail = ap (λ b. cond b (Some (made v object ws)) None) tail
+verbed_again v object ws false none tail = ap (λ b. cond b (Some (made v [] ws)) None) tail ∙ ap (λ (o : List ℕ). Some (made v o ws)) (sym none)
+
+pub worded_again : (words : List (List ℕ)) (p : Phrase) → Worded words p → phrase_in words ≡ Some p
+unfolding phrase_in
+worded_again words p is =
+    ap phrase_in is.are
+    ∙ ap (λ o. verbed_in o (behind_verb (has_object p.verb) p.object p.rest)) (verb_again p.verb)
+    ∙ verbed_again p.verb p.object p.rest (has_object p.verb) is.none is.tail

@@ -48,7 +48,8 @@ use Rattle.ec_script.specs.Confined.{UsesGroups}
 use Rattle.ec_script.specs.Layout.{order_by, Says}
 use Rattle.ec_script.specs.Spelling.{value_word, group_word, command_words, order_words, order_line}
 use Rattle.ec_script.specs.Given.{may_do, is_line_of, IsGiven, MayGive, LinesSayOrders}
-use Rattle.ec_script.proofs.PhraseWords.{made, verb_word, verb_again}
+use Rattle.ec_script.specs.Phrased.{verb_word}
+use Rattle.ec_script.proofs.PhraseWords.{made, verb_again}
 use Rattle.ec_script.proofs.LayoutsLead.{fit_line, none_owned}
 use Rattle.ec_script.proofs.OrderLines.{line_spelled}
 use Rattle.ec_script.proofs.Owners.{owning}

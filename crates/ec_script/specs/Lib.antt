@@ -1,5 +1,6 @@
 pub mod Verbs
 pub mod Forms
+pub mod Phrased
 pub mod Faults
 pub mod Flat
 pub mod Objects
@@ -20,3 +21,4 @@ pub mod Given
 pub mod Spelled
 pub mod Placed
 pub mod Holding
+pub mod Endings

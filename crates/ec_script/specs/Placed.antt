@@ -1,11 +1,13 @@
 -- Which form a line has in its place, by its words.
-use Rattle.std.specs.Prelude.{◌≡◌, ◌≢◌, ◌⊎◌, ℕ, ◌≤◌, true, List, [], ◌∷◌, length, Some, None, codes}
+use Rattle.std.specs.Prelude.{◌≡◌, ◌≢◌, ◌⊎◌, ℕ, ◌≤◌, true, List, [], ◌∷◌, length, None, codes}
 use Rattle.std.specs.List.{AllByRecursion}
 use Rattle.ec_text.specs.Words.{words_of, is_number_form}
 use Rattle.ec_heading.specs.Form as headings
+use Rattle.ec_heading.specs.Phrased.{IsSpelled}
 use Rattle.ec_script.specs.declared.verb.Verb.{Verb}
 use Rattle.ec_script.specs.declared.verb.Verb.TheVariants as verbs
-use Rattle.ec_script.specs.Forms.{Phrase, phrase_in}
+use Rattle.ec_script.specs.Forms.{Phrase}
+use Rattle.ec_script.specs.Phrased.{Worded}
 use Rattle.ec_script.specs.Scripted.{Scripted}
 
 -- a line of at most 8192 bytes, each of whose words has a byte
@@ -24,7 +26,7 @@ IsWorkersLine line names = IsOfWords line × (words_of line ≡ codes "workers" 
 pub record IsDeclaration (s : Scripted) (line : List ℕ) (p : headings.Phrase) : Type 0 where
   pub first : (s.named ≡ []) × (s.schedule ≡ [])
   pub whole : IsOfWords line
-  pub form : headings.parts_in (words_of line) ≡ Some p
+  pub form : IsSpelled (words_of line) p
 
 -- commands, `repeat` and `end` stand in a block; `worker` in a block, where it is badly nested, and before the schedule; `schedule`
 -- anywhere
@@ -37,4 +39,4 @@ MayStand s _ = s.block ≢ None
 pub record IsOther (s : Scripted) (line : List ℕ) (p : Phrase) : Type 0 where
   pub place : MayStand s p.verb
   pub whole : IsOfWords line
-  pub form : phrase_in (words_of line) ≡ Some p
+  pub form : Worded (words_of line) p

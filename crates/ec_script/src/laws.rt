@@ -2,6 +2,7 @@
 ghost use Rattle.std.specs.Prelude.{◌≡◌};
 ghost use Rattle.ec_script.specs.declared.parsing.TheConstants.{SCRIPT_MAX};
 ghost use Rattle.ec_script.specs.Confined.{ConfinedLinesAreConfinedCommands, PlansAreConfined};
+ghost use Rattle.ec_script.specs.Endings.{FaultlessLinesAreTaken, UnfinishedIsTold};
 ghost use Rattle.ec_script.specs.Faults.{HeadFaultsKeepTheirNumbers};
 ghost use Rattle.ec_script.specs.Given.{LinesSayOrders};
 ghost use Rattle.ec_script.specs.Grammar.{FaultIsTheFirst, FaultsAreTold, LongIsLine1, ReadIsScript, ScriptIsRead};
@@ -45,6 +46,17 @@ pub fn faults_are_told()
 /// kind by its own words.
 pub fn least_kind_is_told()
     ensures { LeastKindIsTold }
+{}
+
+/// And a line is taken exactly where none holds of it.
+pub fn faultless_lines_are_taken()
+    ensures { FaultlessLinesAreTaken }
+{}
+
+/// A text is told as unfinished exactly where it is within the bound and ends too early: before the
+/// line of the workers, inside a block, or without the LF of a last line that has no other fault.
+pub fn unfinished_is_told()
+    ensures { UnfinishedIsTold }
 {}
 
 /// Every plan has a program for each declared worker and a schedule of declared workers, and its

@@ -1,0 +1,55 @@
+-- How a declaration is written: the words of a line of its form.
+use Rattle.std.specs.Prelude.{◌≡◌, ℕ, Bool, true, false, List, [], ◌∷◌, ◌++◌, Option, Some, None, if◌then◌else◌, bytes_eq}
+use Rattle.ec_text.specs.Words.{is_number_form}
+use Rattle.ec_heading.specs.declared.sort.Sort.{Sort}
+use Rattle.ec_heading.specs.Form.{Phrase}
+use Rattle.ec_heading.specs.Sorts.{sort_word, has_name, has_number, opener, other, needs_other}
+use Rattle.ec_heading.specs.Spelling.{name_words}
+
+-- a list of one word or more
+abbrev pub HasWords : List (List ℕ) → Type 0
+HasWords ws = (v : List ℕ) × (vs : List (List ℕ)) × (ws ≡ v ∷ vs)
+
+-- a form without a name is called by its own word
+abbrev pub NameFits : Sort → List ℕ → Type 0
+NameFits s name = has_name s ≡ false → name ≡ sort_word s
+
+-- the number, where the form has one
+abbrev pub number_part : Sort → List ℕ → List (List ℕ)
+number_part s number = if has_number s then number ∷ [] else []
+
+-- the number is a number by its form, and where the form has none there is none
+pub record NumberFits (s : Sort) (number : List ℕ) : Type 0 where
+  pub none : has_number s ≡ false → number ≡ []
+  pub some : has_number s ≡ true → is_number_form number ≡ true
+
+-- the second list behind its word, where it stands there
+abbrev pub second_part : Option (List ℕ) → Option (List (List ℕ)) → List (List ℕ)
+second_part (Some stop) (Some vs) = stop ∷ vs
+second_part _ _ = []
+
+-- it may be left out where the form doesn't need it, and has a word where it stands
+abbrev pub SecondFits : Bool → Option (List ℕ) → Option (List (List ℕ)) → Type 0
+SecondFits needs o None = needs ≡ false
+SecondFits needs None (Some vs) = ⊥
+SecondFits needs (Some stop) (Some vs) = HasWords vs
+
+-- the words behind the name
+abbrev pub behind_name : Sort → List ℕ → List (List ℕ) → List (List ℕ)
+behind_name s number ws = number_part s number ++ opener s ∷ ws
+
+-- no word of the list is the one that ends it
+abbrev pub HasNoStop : Option (List ℕ) → List (List ℕ) → Type 0
+HasNoStop None ws = Unit {0}
+HasNoStop (Some stop) [] = Unit {0}
+HasNoStop (Some stop) (w ∷ ws) = (bytes_eq w stop ≡ false) × HasNoStop (Some stop) ws
+
+-- the words are those of this phrase: its sort's word, its name and its number where its form has them, the word before its first
+-- list, that list, and the second one behind its word; each list has a word, and the first ends before the first such word
+pub record IsSpelled (ws : List (List ℕ)) (p : Phrase) : Type 0 where
+  pub words : ws ≡ sort_word p.sort ∷ (name_words p.sort p.name ++ behind_name p.sort p.number (p.first ++ second_part (other p.sort) p.second))
+  pub name : NameFits p.sort p.name
+  pub number : NumberFits p.sort p.number
+  pub first : HasWords p.first
+  pub second : SecondFits (needs_other p.sort) (other p.sort) p.second
+  pub apart : HasNoStop (other p.sort) p.first
