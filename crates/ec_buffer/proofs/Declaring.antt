@@ -4,8 +4,8 @@ use Rattle.std.specs.Prelude.{Result, Ok, OnOk}
 use Rattle.std.proofs.lemmas.Bool.{or_parts, ltb-false}
 use Rattle.ec_count.specs.Members.{is_faulty}
 use Rattle.ec_count.specs.Tables.{Tables, IsDeclared, event_fault, cells_fault, with_event}
-use Rattle.ec_count.proofs.Adding.{event_free, cells_free}
-use Rattle.ec_count.proofs.Disjoint.{roles_of, joined_sound}
+use Rattle.ec_count.proofs.shared.Adding.{event_free, cells_free}
+use Rattle.ec_count.proofs.shared.Disjoint.{roles_of, joined_sound}
 use Rattle.ec_buffer.specs.Shapes.{lacks_room, buffer_fault}
 
 -- nothing speaks against any object of the buffer, once those before it are added

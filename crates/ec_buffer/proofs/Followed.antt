@@ -6,8 +6,8 @@ use Rattle.ec_core.specs.declared.act.Entry.{Entry}
 use Rattle.ec_core.specs.Counts.{total, issued}
 use Rattle.ec_core.specs.Acceptance.{IsAccepted}
 use Rattle.ec_core.specs.Following.{Told, block, Follow}
-use Rattle.ec_core.proofs.Following.{op_at, step_told, step_due, off_block}
-use Rattle.ec_core.proofs.Queue.{Seat, IsQueue}
+use Rattle.ec_core.proofs.shared.Following.{op_at, step_told, step_due, off_block}
+use Rattle.ec_core.proofs.shared.Queue.{Seat, IsQueue}
 use Rattle.ec_buffer.specs.Shapes.{Buffer}
 use Rattle.ec_buffer.specs.Follows.{is_on, produce_rule, consume_rule, role_rules}
 use Rattle.ec_buffer.proofs.Moves.{puts, gets}

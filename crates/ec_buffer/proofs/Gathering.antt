@@ -12,8 +12,8 @@ use Rattle.ec_core.specs.Calls.{CallSoFar, under_way}
 use Rattle.ec_core.specs.CallLists.{number_of}
 use Rattle.ec_core.specs.Counts.{past_at, put_in}
 use Rattle.ec_core.specs.Following.{opened}
-use Rattle.ec_core.proofs.Joining.{last_get}
-use Rattle.ec_core.proofs.Moments.{past_next, past_end}
+use Rattle.ec_core.proofs.shared.Joining.{last_get}
+use Rattle.ec_core.proofs.shared.Moments.{past_next, past_end}
 use Rattle.ec_buffer.specs.declared.delivery.Delivery.{Delivery}
 use Rattle.ec_buffer.specs.Shapes.{Buffer, IsShape}
 use Rattle.ec_buffer.specs.Follows.{is_cell}

@@ -11,8 +11,8 @@ use Rattle.ec_core.specs.Counts.{total, issued, cell_value, is_advance, is_ticke
 use Rattle.ec_core.specs.Acceptance.{IsAccepted}
 use Rattle.ec_core.specs.Following.{Told, block}
 use Rattle.ec_core.specs.CallLists.{number_of}
-use Rattle.ec_core.proofs.Following.{other_block, same_test, op_at, step_opened, total_step, issued_step}
-use Rattle.ec_core.proofs.Queue.{Seat, IsQueue, IsElsewhereSame, each, still}
+use Rattle.ec_core.proofs.shared.Following.{other_block, same_test, op_at, step_opened, total_step, issued_step}
+use Rattle.ec_core.proofs.shared.Queue.{Seat, IsQueue, IsElsewhereSame, each, still}
 use Rattle.ec_buffer.specs.Shapes.{Buffer}
 use Rattle.ec_buffer.specs.CallLists.{turn_of}
 use Rattle.ec_buffer.specs.Follows.{is_cell, is_on, produce_rule, consume_rule, role_rules}

@@ -14,9 +14,9 @@ use Rattle.ec_core.specs.Calls.{CallSoFar, under_way}
 use Rattle.ec_core.specs.CallLists.{number_of}
 use Rattle.ec_core.specs.Counts.{past_at, cell_value}
 use Rattle.ec_core.specs.Following.{block, opened}
-use Rattle.ec_core.proofs.Following.{IsTold, step_told}
-use Rattle.ec_core.proofs.Moments.{past_next, past_end, moment_before, accepted_of}
-use Rattle.ec_core.proofs.Breaks.{follow_of}
+use Rattle.ec_core.proofs.shared.Following.{IsTold, step_told}
+use Rattle.ec_core.proofs.shared.Moments.{past_next, past_end, moment_before, accepted_of}
+use Rattle.ec_core.proofs.shared.Breaks.{follow_of}
 use Rattle.ec_buffer.specs.Shapes.{Buffer}
 use Rattle.ec_buffer.specs.CallLists.{turn_of}
 use Rattle.ec_buffer.specs.Follows.{buffer_rules, FollowsBuffer}

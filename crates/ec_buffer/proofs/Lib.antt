@@ -1,3 +1,4 @@
+pub mod shared
 pub mod Declaring
 pub mod Followed
 pub mod Gathering
@@ -6,8 +7,6 @@ pub mod InTime
 pub mod Moves
 pub mod Moving
 pub mod Numbering
-pub mod OneList
 pub mod Placing
-pub mod Staying
 pub mod Stock
 pub mod Written

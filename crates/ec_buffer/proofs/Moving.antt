@@ -12,8 +12,8 @@ use Rattle.ec_core.specs.Counts.{total, issued, cell_value, put_in}
 use Rattle.ec_core.specs.Calls.{is_pending}
 use Rattle.ec_core.specs.Following.{Told, block}
 use Rattle.ec_core.specs.CallLists.{is_due, unvalued, number_of}
-use Rattle.ec_core.proofs.Following.{IsTold, op_at, due_is, after_told, after_pending}
-use Rattle.ec_core.proofs.Queue.{Seat, draw, enter, make, leave, turn_is}
+use Rattle.ec_core.proofs.shared.Following.{IsTold, op_at, due_is, after_told, after_pending}
+use Rattle.ec_core.proofs.shared.Queue.{Seat, draw, enter, make, leave, turn_is}
 use Rattle.ec_buffer.specs.Shapes.{Buffer}
 use Rattle.ec_buffer.specs.CallLists.{produce_call, consume_call, turn_of}
 use Rattle.ec_buffer.specs.Follows.{is_on, produce_rule, consume_rule, role_rules}

@@ -9,8 +9,8 @@ use Rattle.ec_core.specs.Counts.{total}
 use Rattle.ec_core.specs.Acceptance.{IsAccepted}
 use Rattle.ec_core.specs.Following.{Told, block, Follow}
 use Rattle.ec_core.specs.CallLists.{is_due, unvalued, number_of}
-use Rattle.ec_core.proofs.Following.{op_at, step_due, due_is}
-use Rattle.ec_core.proofs.Queue.{Seat, turn_is}
+use Rattle.ec_core.proofs.shared.Following.{op_at, step_due, due_is}
+use Rattle.ec_core.proofs.shared.Queue.{Seat, turn_is}
 use Rattle.ec_buffer.specs.Shapes.{Buffer}
 use Rattle.ec_buffer.specs.CallLists.{produce_call, consume_call, turn_of}
 use Rattle.ec_buffer.specs.Follows.{produce_rule, consume_rule, role_rules}

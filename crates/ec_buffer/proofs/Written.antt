@@ -10,8 +10,8 @@ use Rattle.ec_core.specs.declared.act.Act.TheVariants.{Advance, Read, Await, Go,
 use Rattle.ec_core.specs.CallLists.{is_act, is_due, unvalued, rule_of}
 use Rattle.ec_core.specs.Following.{Told, Rule}
 use Rattle.ec_core.specs.JoinedLists.{ComesNext, IsBeginning, IsWholeList, IsJoined, SpeaksOf, is_whole}
-use Rattle.ec_core.proofs.Following.{is_act-true}
-use Rattle.ec_core.proofs.JoinedLists.{following_joins}
+use Rattle.ec_core.proofs.shared.Following.{is_act-true}
+use Rattle.ec_core.proofs.shared.JoinedLists.{following_joins}
 use Rattle.ec_buffer.specs.Shapes.{Buffer}
 use Rattle.ec_buffer.specs.CallLists.{produce_list, consume_list, turn_of}
 use Rattle.ec_buffer.specs.Follows.{is_on, produce_rule, consume_rule, buffer_rules}

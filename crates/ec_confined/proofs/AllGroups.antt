@@ -20,7 +20,7 @@ use Rattle.ec_machine.specs.Follows.{program_at}
 use Rattle.ec_heading.specs.declared.group.Group.{Group}
 use Rattle.ec_heading.specs.declared.group.Group.TheVariants as groups
 use Rattle.ec_heading.specs.Groups.{FitsGroup}
-use Rattle.ec_heading.proofs.Standing.{heading_fits}
+use Rattle.ec_heading.proofs.shared.Standing.{heading_fits}
 use Rattle.ec_script.specs.Confined.{UsesGroups, IsConfinedProgram, AreConfinedPrograms}
 use Rattle.ec_confined.specs.Uses.{IsApart, UsesBuffer, UsesDatabase, UsesSemaphore, UsesBoth, EachCommand, AreRuns}
 use Rattle.ec_heading.specs.Rules.{semaphores_of, FollowsGroup}

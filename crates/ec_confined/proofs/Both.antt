@@ -5,8 +5,8 @@ use Rattle.ec_core.specs.declared.act.Act.{Act}
 use Rattle.ec_core.specs.declared.act.Act.TheVariants.{Advance, Await, Ticket}
 use Rattle.ec_core.specs.Following.{Told, extended}
 use Rattle.ec_core.specs.CallLists.{number_of, is_due}
-use Rattle.ec_core.proofs.Following.{is_act-same}
-use Rattle.ec_core.proofs.FittingCalls.{is_fitting}
+use Rattle.ec_core.proofs.shared.Following.{is_act-same}
+use Rattle.ec_core.proofs.shared.FittingCalls.{is_fitting}
 use Rattle.ec_semaphore.specs.Shapes.{Semaphore}
 use Rattle.ec_semaphore.specs.Uses.{threshold, is_on}
 use Rattle.ec_semaphore.specs.Both.{down_both_call, guarded_call, line_of, is_choice, both_rule, both_rules}

@@ -9,7 +9,7 @@ use Rattle.ec_core.specs.declared.act.Act.{Act}
 use Rattle.ec_core.specs.declared.act.Act.TheVariants.{Advance, Read, Await, Ticket, Put, Get}
 use Rattle.ec_core.specs.CallLists.{unvalued, number_of}
 use Rattle.ec_core.specs.Following.{Told, extended}
-use Rattle.ec_core.proofs.FittingCalls.{is_fitting}
+use Rattle.ec_core.proofs.shared.FittingCalls.{is_fitting}
 use Rattle.ec_database.specs.Shapes.{Database, DeclaresDatabase, Fits}
 use Rattle.ec_database.specs.Calls.{write_call, try_call}
 use Rattle.ec_database.specs.Snapshots.{is_whole, agrees, Trying, try_again, after_call, trying_after, trying, snapshot_call}

@@ -9,7 +9,7 @@ use Rattle.ec_core.specs.Acceptance.{has_right, IsAccepted}
 use Rattle.ec_core.specs.Calls.{CallSoFar, is_go, is_pending, gone_on, under_way}
 use Rattle.ec_core.specs.Following.{opened}
 use Rattle.ec_core.specs.JoinedLists.{finished_by}
-use Rattle.ec_core.proofs.Answering.{allowed}
+use Rattle.ec_core.proofs.shared.Answering.{allowed}
 use Rattle.ec_confined.proofs.Suiting.{AreAllowed, allowed_more}
 
 -- the tables give w the right that the act needs

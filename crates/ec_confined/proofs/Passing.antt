@@ -6,7 +6,7 @@ use Rattle.std.proofs.lemmas.List.{append_cancel_left, reverse-reverse}
 use Rattle.std.proofs.lemmas.Option.{get_or_from_slice_get, slice_get_within}
 use Rattle.ec_core.specs.declared.act.Entry.{Entry}
 use Rattle.ec_core.specs.Acceptance.{IsAccepted}
-use Rattle.ec_core.proofs.Breaks.{follow_or_break}
+use Rattle.ec_core.proofs.shared.Breaks.{follow_or_break}
 use Rattle.ec_machine.specs.declared.command.Command.{Command}
 use Rattle.ec_machine.specs.Follows.{program_at}
 use Rattle.ec_machine.specs.Runs.{IsRunOf}
@@ -17,12 +17,12 @@ use Rattle.ec_heading.specs.Rules.{group_rules, FollowsGroup}
 use Rattle.ec_trace.specs.Outcome.{outcome}
 use Rattle.ec_trace.specs.Recounted.{Recounted}
 use Rattle.ec_trace.specs.declared.read.TheConstants.{TRACE_MAX}
-use Rattle.ec_trace.proofs.ReadTraces.{read_is_trace}
+use Rattle.ec_trace.proofs.shared.ReadTraces.{read_is_trace}
 use Rattle.ec_script.specs.declared.parsing.TheConstants.{SCRIPT_MAX}
 use Rattle.ec_script.specs.Confined.{AreConfined, AreConfinedPrograms}
 use Rattle.ec_script.specs.Scripted.{Planned}
-use Rattle.ec_script.proofs.Keeping.{plans_are_confined}
-use Rattle.ec_script.proofs.WrittenOut.{confined_lines}
+use Rattle.ec_script.proofs.shared.Keeping.{plans_are_confined}
+use Rattle.ec_script.proofs.shared.WrittenOut.{confined_lines}
 use Rattle.ec_runner.specs.Schedules.{entries_of}
 use Rattle.evc_engine.specs.declared.status.Status.{Status}
 use Rattle.evc_engine.specs.declared.status.Status.TheVariants.{Done, Refused, Usage, InputOutput, Memory, Stopped}
@@ -31,7 +31,7 @@ use Rattle.evc_engine.specs.Checks.{Outlets, Checks}
 use Rattle.evc_scripts.specs.Inputs.{looked_at}
 use Rattle.evc_scripts.specs.Runs.{HaveRun, IsTold, HasNoReport}
 use Rattle.evc_scripts.specs.Sims.{AreProgramsOf, IsTraceUnder, IsPlayed, SaysPlan}
-use Rattle.evc_scripts.proofs.ReadAgain.{simulated_again, ran_again}
+use Rattle.evc_scripts.proofs.shared.ReadAgain.{simulated_again, ran_again}
 use Rattle.ec_confined.specs.Passing.{IsFollowedTrace, IsNoRefusal, Passes, FollowedTracesPass, HasWritten, SimulatedTracesPass, RanTracesPass}
 use Rattle.ec_confined.proofs.AllGroups.{groups_follow}
 use Rattle.ec_confined.proofs.Played.{turns_accepted, turns_run}

@@ -3,7 +3,7 @@ use Rattle.std.proofs.Common.{◌≡◌, Bool, true, not, List, [], ◌∷◌, �
 use Rattle.ec_core.specs.declared.act.Act.{Act}
 use Rattle.ec_core.specs.Following.{Told}
 use Rattle.ec_core.specs.CallLists.{unvalued, is_due, rule_of}
-use Rattle.ec_core.proofs.Following.{is_act-same}
+use Rattle.ec_core.proofs.shared.Following.{is_act-same}
 use Rattle.ec_confined.proofs.Suiting.{Suits, suits_own}
 
 -- the list of the rule has the same calls, with 0 for the values that are put

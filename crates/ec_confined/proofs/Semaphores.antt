@@ -6,8 +6,8 @@ use Rattle.ec_core.specs.declared.act.Act.TheVariants.{Advance, Await, Ticket}
 use Rattle.ec_core.specs.Counts.{is_advance}
 use Rattle.ec_core.specs.Following.{Told, extended}
 use Rattle.ec_core.specs.CallLists.{is_due, number_of}
-use Rattle.ec_core.proofs.Following.{is_act-same}
-use Rattle.ec_core.proofs.FittingCalls.{is_fitting}
+use Rattle.ec_core.proofs.shared.Following.{is_act-same}
+use Rattle.ec_core.proofs.shared.FittingCalls.{is_fitting}
 use Rattle.ec_semaphore.specs.Shapes.{Semaphore}
 use Rattle.ec_semaphore.specs.Uses.{threshold, down_call, up_call, is_on, use_rule, use_rules}
 use Rattle.ec_semaphore.specs.Both.{down_both_call}

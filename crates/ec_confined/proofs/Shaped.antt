@@ -4,7 +4,7 @@ use Rattle.std.specs.List.{AllByRecursion, cons_option}
 use Rattle.std.proofs.lemmas.Bool.{or_parts, ltb-false, eqb-false}
 use Rattle.std.proofs.lemmas.List.Elements.{All-from_recursion}
 use Rattle.ec_count.specs.Tables.{Tables}
-use Rattle.ec_count.proofs.Disjoint.{roles_of}
+use Rattle.ec_count.proofs.shared.Disjoint.{roles_of}
 use Rattle.ec_buffer.specs.Shapes as buffers
 use Rattle.ec_heading.specs.declared.sort.Sort.{Sort}
 use Rattle.ec_heading.specs.declared.sort.Sort.TheVariants as sorts

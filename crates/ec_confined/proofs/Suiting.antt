@@ -5,9 +5,9 @@ use Rattle.std.proofs.Math.Seq.{take-append_seam}
 use Rattle.ec_core.specs.declared.act.Act.{Act}
 use Rattle.ec_core.specs.Following.{Told, Rule, extended}
 use Rattle.ec_core.specs.Procedures.{IsWritten}
-use Rattle.ec_core.proofs.Joining.{get_back}
+use Rattle.ec_core.proofs.shared.Joining.{get_back}
 use Rattle.ec_confined.proofs.Tests.{turned}
-use Rattle.ec_core.proofs.FittingCalls.{is_fitting, list_after, AreFitting, after_more}
+use Rattle.ec_core.proofs.shared.FittingCalls.{is_fitting, list_after, AreFitting, after_more}
 
 -- ASKED AND ALLOWED CALLS
 

@@ -3,7 +3,7 @@ use Rattle.std.proofs.Common.{◌≡◌, Bool, true, false, ◌==◌, cond, List
 use Rattle.std.proofs.lemmas.List.{append-nil, reverse-append}
 use Rattle.ec_core.specs.declared.act.Entry.{Entry}
 use Rattle.ec_machine.specs.Steps.{own}
-use Rattle.ec_machine.proofs.OwnSteps.{own_append}
+use Rattle.ec_machine.proofs.shared.OwnSteps.{own_append}
 use Rattle.ec_confined.specs.Laws.{OwnEntriesTurnRound}
 
 turn_first : (b : Bool) (x : Entry) (past : List Entry) → reverse past ++ cond b (x ∷ []) [] ≡ reverse (cond b (x ∷ past) past)

@@ -11,16 +11,16 @@ use Rattle.ec_core.specs.Acceptance.{IsAccepted}
 use Rattle.ec_core.specs.Calls.{CallSoFar, under_way}
 use Rattle.ec_core.specs.Following.{Told, Rule, block, Follow}
 use Rattle.ec_core.specs.JoinedLists.{finished_by, op_of}
-use Rattle.ec_core.proofs.FittingCalls.{is_fitting, list_after, AreFitting, after_more, fitting_more, block_is, IsFittingCall, FitsAlone, follow_alone}
+use Rattle.ec_core.proofs.shared.FittingCalls.{is_fitting, list_after, AreFitting, after_more, fitting_more, block_is, IsFittingCall, FitsAlone, follow_alone}
 use Rattle.ec_machine.specs.declared.command.Command.{Command}
 use Rattle.ec_machine.specs.Values.{has_large}
 use Rattle.ec_machine.specs.Written.{written}
-use Rattle.ec_core.proofs.Answering.{allowed}
+use Rattle.ec_core.proofs.shared.Answering.{allowed}
 use Rattle.ec_machine.specs.Steps.{own, IsRun}
 use Rattle.ec_machine.specs.Runs.{command_call, last_number, next_in, program_call, IsRunOf}
 use Rattle.ec_machine.specs.Laws.{AreWhole, IsBegun, AreCallsOf}
-use Rattle.ec_machine.proofs.WholeLists.{runs_of_lists}
-use Rattle.ec_machine.proofs.OwnCalls.{own_cut}
+use Rattle.ec_machine.proofs.shared.WholeLists.{runs_of_lists}
+use Rattle.ec_machine.proofs.shared.OwnCalls.{own_cut}
 use Rattle.ec_confined.specs.Uses.{EachCommand, AreRuns}
 use Rattle.ec_confined.proofs.Suiting.{AreAllowed, allowed_front, allowed_back, asked_all, Suits, suited}
 use Rattle.ec_confined.proofs.Granted.{IsGranted, IsGrantedCall, granted}

@@ -12,10 +12,10 @@ use Rattle.ec_core.specs.Calls.{CallSoFar, under_way, gone_on, is_go, is_pending
 use Rattle.ec_core.specs.CallsInOrder.{IsUnderWay, is_own_at, own_moments}
 use Rattle.ec_core.specs.Rounds.{sum_read, read_of}
 use Rattle.ec_core.specs.Laws.{CallsUnderWayAreCutInOrder, CallsUnderWayRead, RoundsAddTheirComponents}
-use Rattle.ec_core.proofs.Answering.{IsReading, IsReadingCall, call_reads}
-use Rattle.ec_core.proofs.Moments.{past_next, past_end, beginnings}
-use Rattle.ec_core.proofs.Pasts.{pending_is}
-use Rattle.ec_core.proofs.Totals.{sum_same}
+use Rattle.ec_core.proofs.shared.Answering.{IsReading, IsReadingCall, call_reads}
+use Rattle.ec_core.proofs.shared.Moments.{past_next, past_end, beginnings}
+use Rattle.ec_core.proofs.shared.Pasts.{pending_is}
+use Rattle.ec_core.proofs.shared.Totals.{sum_same}
 
 -- where entry k is not w's, its moments are as before
 pub moments_kept : (w : ℕ) (h : List Entry) (first k : ℕ) → is_own_at w h k ≡ false → own_moments w h first (suc k) ≡ own_moments w h first k

@@ -18,11 +18,11 @@ use Rattle.ec_core.specs.Acceptance.{answer_of, reply_of, names_unknown_object, 
 use Rattle.ec_core.specs.Progress.{Progress}
 use Rattle.ec_core.specs.Standing.{shown, progress_of}
 use Rattle.ec_core.specs.FallenShort.{HasJustFallenShort, IndexZeroMeansFallenShort, IndexZeroIsAnAwait}
-use Rattle.ec_core.proofs.Answering.{allowed, call_reads, mod_next, width_some, IsReading, IsReadingCall}
+use Rattle.ec_core.proofs.shared.Answering.{allowed, call_reads, mod_next, width_some, IsReading, IsReadingCall}
 use Rattle.ec_core.proofs.CallsCut.{calls_are_cut, moments_kept, moments_more, moments_none, own_is}
-use Rattle.ec_core.proofs.Following.{reply_read}
-use Rattle.ec_core.proofs.Moments.{beginnings}
-use Rattle.ec_core.proofs.Pasts.{pending_is}
+use Rattle.ec_core.proofs.shared.Following.{reply_read}
+use Rattle.ec_core.proofs.shared.Moments.{beginnings}
+use Rattle.ec_core.proofs.shared.Pasts.{pending_is}
 
 -- THE END OF A ROUND
 

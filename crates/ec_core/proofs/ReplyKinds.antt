@@ -13,9 +13,9 @@ use Rattle.ec_core.specs.Rounds.{event_or, width, sum_read, next_component, roun
 use Rattle.ec_core.specs.Acceptance.{reply_of, answer_of, IsAccepted}
 use Rattle.ec_core.specs.Values.{TellsAtMost}
 use Rattle.ec_core.specs.Procedures.{IsNumber, IsReply}
-use Rattle.ec_core.proofs.Answering.{allowed}
-use Rattle.ec_core.proofs.Bounds.{told_small}
-use Rattle.ec_core.proofs.Moments.{accepted_until, answered_after}
+use Rattle.ec_core.proofs.shared.Answering.{allowed}
+use Rattle.ec_core.proofs.shared.Bounds.{told_small}
+use Rattle.ec_core.proofs.shared.Moments.{accepted_until, answered_after}
 
 number_told : (reply : Reply) (n : ℕ) → TellsAtMost VALUE_MAX reply → reply ≡ Number n → IsNumber reply
 number_told reply n small is = record { number = n; is = is; small = subst (TellsAtMost VALUE_MAX) is small }

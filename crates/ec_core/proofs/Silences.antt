@@ -9,7 +9,7 @@ use Rattle.std.proofs.lemmas.List.Elements.{filter-append}
 use Rattle.ec_count.specs.Tables.{Tables, may_take, may_write, is_silent}
 use Rattle.ec_count.specs.Members.{is_member}
 use Rattle.ec_count.specs.Laws.{HasNoRight}
-use Rattle.ec_count.proofs.Quiet.{silent_has_none}
+use Rattle.ec_count.proofs.shared.Quiet.{silent_has_none}
 use Rattle.ec_core.specs.declared.act.Act.{Act}
 use Rattle.ec_core.specs.declared.act.Act.TheVariants.{Advance, Read, Await, Go, Ticket, Put, Get}
 use Rattle.ec_core.specs.declared.act.Reply.TheVariants.{Number, Pending}
@@ -20,8 +20,8 @@ use Rattle.ec_core.specs.Rounds.{event_or, width, sum_read, next_component, roun
 use Rattle.ec_core.specs.Acceptance.{reply_of, answer_of, refusal_of, refusal_in, refused_or, has_right, is_at_limit, IsAccepted}
 use Rattle.ec_core.specs.Silence.{without}
 use Rattle.ec_core.specs.Laws.{OthersStand}
-use Rattle.ec_core.proofs.Answering.{allowed}
-use Rattle.ec_core.proofs.Moments.{accepted_until, answered_after, split_at}
+use Rattle.ec_core.proofs.shared.Answering.{allowed}
+use Rattle.ec_core.proofs.shared.Moments.{accepted_until, answered_after, split_at}
 
 comp_without : (t : Tables) (s : ℕ → Bool) (e c : ℕ) (past : List Entry) → ((w : ℕ) → s w ≡ true → HasNoRight t w) → component_total t e c (without s past) ≡ component_total t e c past
 unfolding component_total

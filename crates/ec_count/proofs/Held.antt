@@ -10,7 +10,7 @@ use Rattle.ec_count.specs.declared.setup.Access.{Access}
 use Rattle.ec_count.specs.Members.{AreWorkers, AreTwoLists, is_member, place_of}
 use Rattle.ec_count.specs.Tables.{Tables, IsDeclared, component_of}
 use Rattle.ec_count.specs.Laws.{RightsAreDeclared}
-use Rattle.ec_count.proofs.Declared.{at_place, found_there, rights_at}
+use Rattle.ec_count.proofs.shared.Declared.{at_place, found_there, rights_at}
 
 member_below : (n w : ℕ) (ws : List ℕ) → All (λ v. v < n) ws → is_member w ws ≡ true → w < n
 member_below n w [] all h = cc

@@ -8,9 +8,9 @@ use Rattle.ec_core.specs.declared.act.Entry.{Entry}
 use Rattle.ec_core.specs.Calls.{is_pending}
 use Rattle.ec_core.specs.Following.{Told, Rule, block}
 use Rattle.ec_core.specs.JoinedLists.{finished_by, calls_on}
-use Rattle.ec_core.proofs.FittingCalls.{list_after, told_at, block_is, finished_other, finished_same, finished_more}
-use Rattle.ec_core.proofs.Following.{op_at}
-use Rattle.ec_core.proofs.Reading.{began, began_block}
+use Rattle.ec_core.proofs.shared.FittingCalls.{list_after, told_at, block_is, finished_other, finished_same, finished_more}
+use Rattle.ec_core.proofs.shared.Following.{op_at}
+use Rattle.ec_core.proofs.shared.Reading.{began, began_block}
 
 abbrev pub number : (Act → Bool) → ℕ → List Entry → ℕ
 number on w past = length (calls_on on (finished_by w past))

@@ -13,9 +13,9 @@ use Rattle.ec_core.specs.Calls.{is_pending}
 use Rattle.ec_core.specs.Rounds.{IsPastOf}
 use Rattle.ec_core.specs.Following.{Told, Rule, extended, block_after, block}
 use Rattle.ec_core.specs.JoinedLists.{SpeaksOf}
-use Rattle.ec_core.proofs.Joining.{get_back}
-use Rattle.ec_core.proofs.CallRounds.{past_by_length}
-use Rattle.ec_core.proofs.Following.{op_at, other_block, own_block}
+use Rattle.ec_core.proofs.shared.Joining.{get_back}
+use Rattle.ec_core.proofs.shared.CallRounds.{past_by_length}
+use Rattle.ec_core.proofs.shared.Following.{op_at, other_block, own_block}
 use Rattle.ec_database.proofs.CallNumbers.{number, number_other, number_pending, number_on, number_off}
 use Rattle.ec_database.proofs.Readers.{last_get}
 

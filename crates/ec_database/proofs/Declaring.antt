@@ -8,10 +8,10 @@ use Rattle.ec_count.specs.declared.setup.Rights.{Rights}
 use Rattle.ec_count.specs.declared.setup.Access.{Access}
 use Rattle.ec_count.specs.Members.{is_faulty}
 use Rattle.ec_count.specs.Tables.{Tables, IsDeclared, event_fault, cells_fault, with_event}
-use Rattle.ec_count.proofs.Adding.{event_free, cells_free}
-use Rattle.ec_count.proofs.Disjoint.{roles_of, joined_sound}
-use Rattle.ec_count.proofs.Keeping.{still_there}
-use Rattle.ec_core.proofs.Joining.{get_back}
+use Rattle.ec_count.proofs.shared.Adding.{event_free, cells_free}
+use Rattle.ec_count.proofs.shared.Disjoint.{roles_of, joined_sound}
+use Rattle.ec_count.proofs.shared.Keeping.{still_there}
+use Rattle.ec_core.proofs.shared.Joining.{get_back}
 use Rattle.ec_database.specs.Shapes.{DeclaresDatabase, lacks_room, database_fault, with_database, next_database}
 
 -- nothing speaks against any object of the database, once those before it are added

@@ -14,8 +14,8 @@ use Rattle.ec_core.specs.declared.protocol.Kept.{Kept}
 use Rattle.ec_core.specs.Calls.{is_pending, under_way}
 use Rattle.ec_core.specs.Following.{Told, opened, block_after, block}
 use Rattle.ec_core.specs.CallLists.{number_of}
-use Rattle.ec_core.proofs.Places.{get_set}
-use Rattle.ec_core.proofs.Following.{op_at, other_block, after_told, after_pending, off_block}
+use Rattle.ec_core.proofs.shared.Places.{get_set}
+use Rattle.ec_core.proofs.shared.Following.{op_at, other_block, after_told, after_pending, off_block}
 use Rattle.ec_database.specs.declared.audit.ReaderCall.{ReaderCall}
 use Rattle.ec_database.specs.Shapes.{Database}
 use Rattle.ec_database.specs.Calls.{first_number}

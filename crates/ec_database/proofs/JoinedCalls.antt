@@ -9,8 +9,8 @@ use Rattle.ec_core.specs.declared.act.Act.TheVariants.{Advance, Read, Await, Go,
 use Rattle.ec_core.specs.CallLists.{is_act, is_due, unvalued, rule_of}
 use Rattle.ec_core.specs.Following.{Told}
 use Rattle.ec_core.specs.JoinedLists.{ComesNext, IsBeginning, IsWholeList, IsJoined, SpeaksOf, is_whole}
-use Rattle.ec_core.proofs.Following.{is_act-true}
-use Rattle.ec_core.proofs.JoinedLists.{following_joins}
+use Rattle.ec_core.proofs.shared.Following.{is_act-true}
+use Rattle.ec_core.proofs.shared.JoinedLists.{following_joins}
 use Rattle.ec_database.specs.Shapes.{Database}
 use Rattle.ec_database.specs.Calls.{first_number, turn_of, write_call, try_call, write_list, try_list}
 use Rattle.ec_database.specs.Following.{is_on, writes, write_rule, try_rule, database_rules}

@@ -1,3 +1,4 @@
+pub mod shared
 pub mod Asking
 pub mod CallNumbers
 pub mod CallsStand
@@ -7,12 +8,10 @@ pub mod Getting
 pub mod JoinedCalls
 pub mod Listing
 pub mod Once
-pub mod OneList
 pub mod OwnEntries
 pub mod Placed
 pub mod Readers
 pub mod Spelled
-pub mod Staying
 pub mod Steady
 pub mod Trying
 pub mod Turns

@@ -6,7 +6,7 @@ use Rattle.std.specs.Option.{option_map}
 use Rattle.ec_count.specs.Tables.{Tables}
 use Rattle.ec_core.specs.declared.act.Entry.{Entry}
 use Rattle.ec_core.specs.Counts.{past_at}
-use Rattle.ec_core.proofs.Joining.{get_back}
+use Rattle.ec_core.proofs.shared.Joining.{get_back}
 use Rattle.ec_database.specs.Shapes.{Database}
 use Rattle.ec_database.specs.Following.{writes}
 use Rattle.ec_database.specs.Tries.{AcceptedTry, ended_at, accepted_tries, ListsTries, AreUndisturbed}

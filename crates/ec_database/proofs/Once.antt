@@ -5,7 +5,7 @@ use Rattle.ec_count.specs.Tables.{Tables}
 use Rattle.ec_core.specs.declared.act.Entry.{Entry}
 use Rattle.ec_core.specs.Counts.{past_at}
 use Rattle.ec_core.specs.Following.{block}
-use Rattle.ec_core.proofs.Moments.{past_next, past_end, accepted_of}
+use Rattle.ec_core.proofs.shared.Moments.{past_next, past_end, accepted_of}
 use Rattle.ec_core.specs.Acceptance.{IsAccepted}
 use Rattle.ec_database.specs.Shapes.{Database}
 use Rattle.ec_database.specs.Calls.{turn_of}

@@ -8,8 +8,8 @@ use Rattle.ec_core.specs.declared.act.Entry.{Entry}
 use Rattle.ec_core.specs.Counts.{past_at}
 use Rattle.ec_core.specs.Calls.{is_pending, under_way}
 use Rattle.ec_core.specs.Following.{opened}
-use Rattle.ec_core.proofs.Following.{op_at}
-use Rattle.ec_core.proofs.Moments.{past_next, past_end}
+use Rattle.ec_core.proofs.shared.Following.{op_at}
+use Rattle.ec_core.proofs.shared.Moments.{past_next, past_end}
 use Rattle.ec_database.specs.Shapes.{Database}
 use Rattle.ec_database.specs.Following.{is_on}
 use Rattle.ec_database.specs.Tries.{EndsCall}

@@ -13,7 +13,7 @@ use Rattle.ec_core.specs.Calls.{is_pending}
 use Rattle.ec_core.specs.Acceptance.{IsAccepted}
 use Rattle.ec_core.specs.Following.{Told, block, Follow}
 use Rattle.ec_core.specs.CallLists.{is_due, unvalued, number_of}
-use Rattle.ec_core.proofs.Following.{other_block, IsTold, op_at, step_told, total_step, cell_step, step_due, due_is, after_told, after_pending, off_block}
+use Rattle.ec_core.proofs.shared.Following.{other_block, IsTold, op_at, step_told, total_step, cell_step, step_due, due_is, after_told, after_pending, off_block}
 use Rattle.ec_database.specs.Shapes.{Database, IsShape}
 use Rattle.ec_database.specs.Calls.{try_call}
 use Rattle.ec_database.specs.Following.{is_on, write_rule, try_rule, rules}

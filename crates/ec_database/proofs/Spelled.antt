@@ -6,7 +6,7 @@ use Rattle.std.proofs.lemmas.Option.{slice_get_past}
 use Rattle.ec_core.specs.declared.act.Act.{Act}
 use Rattle.ec_core.specs.declared.act.Act.TheVariants.{Advance, Read, Put, Get}
 use Rattle.ec_core.specs.Following.{Told}
-use Rattle.ec_core.proofs.Joining.{get_back}
+use Rattle.ec_core.proofs.shared.Joining.{get_back}
 use Rattle.ec_database.specs.Shapes.{Database}
 use Rattle.ec_database.specs.Calls.{first_number, turn_of, write_call, try_call, puts_from, gets_from, write_list, try_list}
 use Rattle.ec_database.specs.Laws.{CallListsAreWritten}

@@ -9,10 +9,10 @@ use Rattle.ec_core.specs.Counts.{total, issued, cell_value, is_advance, is_ticke
 use Rattle.ec_core.specs.Acceptance.{IsAccepted}
 use Rattle.ec_core.specs.Following.{Told, block, Follow}
 use Rattle.ec_core.specs.CallLists.{is_due, unvalued, number_of}
-use Rattle.ec_core.proofs.Answering.{allowed}
-use Rattle.ec_core.proofs.Following.{same_test, op_at, step_told, step_opened, step_due, due_is, off_block}
-use Rattle.ec_core.proofs.Queue.{Seat, IsQueue}
-use Rattle.ec_core.proofs.Reading.{made_by, total_by, issued_by, sum_least, sum_less}
+use Rattle.ec_core.proofs.shared.Answering.{allowed}
+use Rattle.ec_core.proofs.shared.Following.{same_test, op_at, step_told, step_opened, step_due, due_is, off_block}
+use Rattle.ec_core.proofs.shared.Queue.{Seat, IsQueue}
+use Rattle.ec_core.proofs.shared.Reading.{made_by, total_by, issued_by, sum_least, sum_less}
 use Rattle.ec_database.specs.Shapes.{Database, IsShape}
 use Rattle.ec_database.specs.Calls.{write_call, try_call}
 use Rattle.ec_database.specs.Following.{is_on, write_rule, try_rule, rules}

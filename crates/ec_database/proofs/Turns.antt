@@ -8,8 +8,8 @@ use Rattle.ec_core.specs.declared.act.Entry.{Entry}
 use Rattle.ec_core.specs.Counts.{put_in}
 use Rattle.ec_core.specs.Acceptance.{IsAccepted}
 use Rattle.ec_core.specs.Following.{Rule, block, Follow}
-use Rattle.ec_core.proofs.Following.{op_at}
-use Rattle.ec_core.proofs.Queue.{Seat, turn_is}
+use Rattle.ec_core.proofs.shared.Following.{op_at}
+use Rattle.ec_core.proofs.shared.Queue.{Seat, turn_is}
 use Rattle.ec_database.specs.Shapes.{Database, IsShape}
 use Rattle.ec_database.specs.Following.{is_on, rules}
 use Rattle.ec_database.specs.Calls.{turn_of}

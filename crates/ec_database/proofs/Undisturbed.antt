@@ -18,12 +18,12 @@ use Rattle.ec_core.specs.Rounds.{IsPastOf}
 use Rattle.ec_core.specs.Acceptance.{IsAccepted}
 use Rattle.ec_core.specs.Following.{Told, opened, block}
 use Rattle.ec_core.specs.CallLists.{is_due, unvalued, number_of}
-use Rattle.ec_core.proofs.Answering.{IsReading}
-use Rattle.ec_core.proofs.CallRounds.{past_by_length}
-use Rattle.ec_core.proofs.Counting.{totals_rise}
-use Rattle.ec_core.proofs.Moments.{past_next, moment_before, accepted_of as accepted_past}
-use Rattle.ec_core.proofs.Following.{op_at, IsTold, step_told, step_opened, step_due, due_is}
-use Rattle.ec_core.proofs.Reading.{began, began_past, began_block, read_low}
+use Rattle.ec_core.proofs.shared.Answering.{IsReading}
+use Rattle.ec_core.proofs.shared.CallRounds.{past_by_length}
+use Rattle.ec_core.proofs.shared.Counting.{totals_rise}
+use Rattle.ec_core.proofs.shared.Moments.{past_next, moment_before, accepted_of as accepted_past}
+use Rattle.ec_core.proofs.shared.Following.{op_at, IsTold, step_told, step_opened, step_due, due_is}
+use Rattle.ec_core.proofs.shared.Reading.{began, began_past, began_block, read_low}
 use Rattle.ec_database.specs.Shapes.{Database}
 use Rattle.ec_database.specs.Calls.{first_number, turn_of, try_call}
 use Rattle.ec_database.specs.Versions.{IsOfVersion}

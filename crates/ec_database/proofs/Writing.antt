@@ -13,9 +13,9 @@ use Rattle.ec_core.specs.Calls.{is_pending}
 use Rattle.ec_core.specs.Acceptance.{IsAccepted}
 use Rattle.ec_core.specs.Following.{Told, block}
 use Rattle.ec_core.specs.CallLists.{is_due, unvalued, number_of}
-use Rattle.ec_core.proofs.Following.{other_block, same_test, IsTold, op_at, step_opened, total_step, issued_step, cell_step, due_is, after_told, after_pending}
-use Rattle.ec_core.proofs.Queue.{Seat, IsQueue, IsElsewhereSame, still, draw, enter, make, leave, turn_is}
-use Rattle.ec_core.proofs.Reading.{made_by, made_by_other, made_by_own}
+use Rattle.ec_core.proofs.shared.Following.{other_block, same_test, IsTold, op_at, step_opened, total_step, issued_step, cell_step, due_is, after_told, after_pending}
+use Rattle.ec_core.proofs.shared.Queue.{Seat, IsQueue, IsElsewhereSame, still, draw, enter, make, leave, turn_is}
+use Rattle.ec_core.proofs.shared.Reading.{made_by, made_by_other, made_by_own}
 use Rattle.ec_database.specs.Shapes.{Database, IsShape}
 use Rattle.ec_database.specs.Calls.{write_call}
 use Rattle.ec_database.specs.Following.{is_cell, is_on, write_rule, try_rule, rules}

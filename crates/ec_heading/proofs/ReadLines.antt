@@ -8,9 +8,9 @@ use Rattle.std.proofs.lemmas.Fmt.{digits_decimal, decimal_nonempty}
 use Rattle.std.proofs.lemmas.List.Elements.{recursion_from_All}
 use Rattle.ec_count.specs.Reserved.{is_name, is_reserved}
 use Rattle.ec_text.specs.Words.{is_number_form, has_form, number_of}
-use Rattle.ec_text.proofs.WordLemmas.{literal_word}
-use Rattle.ec_text.proofs.NumberLemmas.{number_again, own}
-use Rattle.ec_text.proofs.DecimalLemmas.{at_most_20}
+use Rattle.ec_text.proofs.shared.WordLemmas.{literal_word}
+use Rattle.ec_text.proofs.shared.NumberLemmas.{number_again, own}
+use Rattle.ec_text.proofs.shared.DecimalLemmas.{at_most_20}
 use Rattle.ec_heading.specs.Sorts.{sort_word, has_name, has_number, opener, other, needs_other, is_called, is_in_range}
 use Rattle.ec_heading.specs.Headed.{Headed}
 use Rattle.ec_heading.specs.Outline.{Declaration, AreWorkers, IsDeclarable, opened, declared_by, declared_all, fits_form}
@@ -23,12 +23,12 @@ use Rattle.ec_heading.specs.HeadingLaws.{SpelledWorkersAreRead, SpelledDeclarati
 use Rattle.ec_heading.specs.declared.sort.Sort.{Sort}
 use Rattle.ec_heading.specs.declared.heading.HeadFault.{HeadFault}
 use Rattle.ec_heading.specs.Phrased.{HasWords, IsSpelled, NameFits, NumberFits, SecondFits, HasNoStop, number_part, second_part, behind_name}
-use Rattle.ec_heading.proofs.Phrases.{guarded, spelled_parts}
-use Rattle.ec_heading.proofs.SortFacts.{is_literal, IsLiteral, literal, literal_lacks, is_stop, other_stop, sort_literal, opener_literal, number_small, number_none, called_name, called_word}
-use Rattle.ec_heading.proofs.Listed.{Named, AreBelow, ids_again, ids_known}
-use Rattle.ec_heading.proofs.Declarable.{Heads, HasRoom, heads_all, heads_opened, has_room, is_clean, no_kind}
-use Rattle.ec_heading.proofs.NameWords.{name_is_word, name_not_empty, named, IsNamed, name_apart}
-use Rattle.ec_heading.proofs.LineWords.{IsFit, AreFit, AreNamed, fit-append, letters, letters-append, line_read, names_fit, names_letters, listed_named, listed_length}
+use Rattle.ec_heading.proofs.shared.Phrases.{guarded, spelled_parts}
+use Rattle.ec_heading.proofs.shared.SortFacts.{is_literal, IsLiteral, literal, literal_lacks, is_stop, other_stop, sort_literal, opener_literal, number_small, number_none, called_name, called_word}
+use Rattle.ec_heading.proofs.shared.Listed.{Named, AreBelow, ids_again, ids_known}
+use Rattle.ec_heading.proofs.shared.Declarable.{Heads, HasRoom, heads_all, heads_opened, has_room, is_clean, no_kind}
+use Rattle.ec_heading.proofs.shared.NameWords.{name_is_word, name_not_empty, named, IsNamed, name_apart}
+use Rattle.ec_heading.proofs.shared.LineWords.{IsFit, AreFit, AreNamed, fit-append, letters, letters-append, line_read, names_fit, names_letters, listed_named, listed_length}
 use Rattle.ec_heading.proofs.WorkersLine.{no_workers_fault}
 
 -- a word that is written out

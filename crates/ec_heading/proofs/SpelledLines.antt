@@ -3,8 +3,8 @@ use Rattle.std.proofs.Common.{◌≡◌, ℕ, ◌≤◌, List, [], ◌∷◌, �
 use Rattle.std.specs.List.{join_with_byte}
 use Rattle.std.proofs.lemmas.Bool.{true≢false, eqb-false, cond-false}
 use Rattle.ec_text.specs.Words.{words_of, number_of}
-use Rattle.ec_text.proofs.WordLemmas.{split_join}
-use Rattle.ec_text.proofs.NumberLemmas.{number_takes}
+use Rattle.ec_text.proofs.shared.WordLemmas.{split_join}
+use Rattle.ec_text.proofs.shared.NumberLemmas.{number_takes}
 use Rattle.ec_heading.specs.Sorts.{sort_word, has_number, opener, other, needs_other}
 use Rattle.ec_heading.specs.Headed.{Headed}
 use Rattle.ec_heading.specs.Outline.{Declaration, AreWorkers, IsDeclarable, opened, declared_by, declared_all}
@@ -18,9 +18,9 @@ use Rattle.ec_heading.specs.declared.sort.Sort.{Sort}
 use Rattle.ec_heading.specs.declared.heading.HeadFault.{HeadFault}
 use Rattle.ec_heading.specs.declared.heading.HeadFault.TheVariants as faults
 use Rattle.ec_heading.specs.Phrased.{IsSpelled, NumberFits, SecondFits, number_part, second_part}
-use Rattle.ec_heading.proofs.Phrases.{same_word, parts_spelled}
-use Rattle.ec_heading.proofs.Listed.{Named, ids_spelled, ids_some}
-use Rattle.ec_heading.proofs.Declarable.{Heads, IsClean, clean, heads_all, heads_opened, may_declare}
+use Rattle.ec_heading.proofs.shared.Phrases.{same_word, parts_spelled}
+use Rattle.ec_heading.proofs.shared.Listed.{Named, ids_spelled, ids_some}
+use Rattle.ec_heading.proofs.shared.Declarable.{Heads, IsClean, clean, heads_all, heads_opened, may_declare}
 use Rattle.ec_heading.proofs.WorkersLine.{are_workers}
 
 -- A LINE THAT IS TAKEN

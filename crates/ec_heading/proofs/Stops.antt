@@ -5,7 +5,7 @@ use Rattle.std.proofs.lemmas.Slice.Eq.{bytes_eq-Decides}
 use Rattle.std.proofs.lemmas.Option.{none-some}
 use Rattle.std.proofs.Math.Seq.{take-append-add, drop-append-add, take-append_seam, drop-append_seam, drop-length}
 use Rattle.ec_text.specs.Words.{words_of, IsWord}
-use Rattle.ec_text.proofs.WordLemmas.{has_first, words_at, words_alone}
+use Rattle.ec_text.proofs.shared.WordLemmas.{has_first, words_at, words_alone}
 use Rattle.ec_heading.specs.Sorts.{sort_word, sort_of, has_name, opener, other, needs_other}
 use Rattle.ec_heading.specs.Form.{TwoLists, split_words, StopsAt, front_words, behind_words, on_first, is_well, well_or, both_lists, phrase_of, listed_in, opened_in, called_in, numbered_in, sorted_in}
 use Rattle.ec_heading.specs.declared.sort.Sort.{Sort}

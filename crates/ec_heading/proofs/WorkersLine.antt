@@ -8,15 +8,15 @@ use Rattle.ec_count.specs.Reserved.{is_name}
 use Rattle.ec_heading.specs.Outline.{AreWorkers}
 use Rattle.ec_heading.specs.Lists.{has_word, has_word_twice}
 use Rattle.ec_text.specs.Words.{words_of}
-use Rattle.ec_text.proofs.WordLemmas.{has_first}
+use Rattle.ec_text.proofs.shared.WordLemmas.{has_first}
 use Rattle.ec_heading.specs.Heading.{workers_in}
 use Rattle.ec_heading.specs.Kinds.{workers_fault}
 use Rattle.ec_heading.specs.declared.heading.HeadFault.{HeadFault}
 use Rattle.ec_heading.specs.declared.heading.HeadFault.TheVariants as faults
 use Rattle.ec_heading.specs.Phrased.{HasWords}
-use Rattle.ec_heading.proofs.Phrases.{same_word}
-use Rattle.ec_heading.proofs.Listed.{Differ, tail_differs, head_differs}
-use Rattle.ec_heading.proofs.Declarable.{passed}
+use Rattle.ec_heading.proofs.shared.Phrases.{same_word}
+use Rattle.ec_heading.proofs.shared.Listed.{Differ, tail_differs, head_differs}
+use Rattle.ec_heading.proofs.shared.Declarable.{passed}
 
 -- each word is a name
 names_each : (ws : List (List ℕ)) → list_any (λ w. not (is_name w)) ws ≡ false → AllByRecursion (λ w. is_name w ≡ true) ws

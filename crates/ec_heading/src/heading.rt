@@ -317,7 +317,7 @@ impl Heading {
     }
 
     /// What is true of a heading.
-    #[tactic(auto, using(crate::proofs::Standing::has_outline_from))]
+    #[tactic(auto, using(crate::proofs::shared::Standing::has_outline_from))]
     pub fn known(&self)
         ensures heading { IsHeading self.now }
         ensures outline { 1 ≤ self.now.setup.workers → HasOutline self.now }

@@ -26,13 +26,13 @@ pub fn read_declaration_is_spelled()
 {}
 
 /// The lines of an outline lead to what it declares.
-#[tactic(auto, using(crate::proofs::LeadLines::outline_leads))]
+#[tactic(auto, using(crate::proofs::shared::LeadLines::outline_leads))]
 pub fn outline_lines_lead()
     ensures { OutlineLinesLead }
 {}
 
 /// Lines that lead to a heading are those of an outline, and the heading is what that outline declares.
-#[tactic(auto, using(crate::proofs::LeadLines::leads_outline))]
+#[tactic(auto, using(crate::proofs::shared::LeadLines::leads_outline))]
 pub fn lines_have_an_outline()
     ensures { LinesHaveAnOutline }
 {}

@@ -10,7 +10,7 @@ use Rattle.ec_core.specs.Calls.{CallSoFar, is_go, is_pending, under_way}
 use Rattle.ec_core.specs.Following.{Told}
 use Rattle.ec_core.specs.JoinedLists.{finished_by, op_of}
 use Rattle.ec_core.specs.Procedures.{next_of, IsWritten}
-use Rattle.ec_core.proofs.Answering.{allowed}
+use Rattle.ec_core.proofs.shared.Answering.{allowed}
 use Rattle.ec_machine.specs.declared.command.Command.{Command, map-Command}
 use Rattle.ec_machine.specs.declared.command.Command.TheOpen.{Command-F}
 use Rattle.ec_machine.specs.declared.command.Command.TheOpen as layer
@@ -25,8 +25,8 @@ use Rattle.ec_machine.specs.Follows.{program_at}
 use Rattle.ec_machine.specs.Laws.{AreWhole, IsBegunOf, IsBegun, number_told}
 use Rattle.ec_machine.specs.Joined.{AreListsOf, AreSteps, RunsMeanWholeLists, FollowingMeansWholeLists}
 use Rattle.ec_machine.proofs.Going.{begun_alone, opening_is_due}
-use Rattle.ec_machine.proofs.OwnCalls.{own_cut}
-use Rattle.ec_machine.proofs.WholeLists.{last_append, place_next, written_none, finished_written, calls_of, IsAsked}
+use Rattle.ec_machine.proofs.shared.OwnCalls.{own_cut}
+use Rattle.ec_machine.proofs.shared.WholeLists.{last_append, place_next, written_none, finished_written, calls_of, IsAsked}
 
 -- EACH COMMAND OF A WRITTEN-OUT PROGRAM HAS A FIRST CALL
 

@@ -18,7 +18,7 @@ use Rattle.ec_order.specs.Laws.{ComesFirst, OrderByPointsAscends, OrderByPointsI
 use Rattle.ec_order.proofs.Fits.{acts_there}
 use Rattle.ec_order.proofs.Finished.{calls_cut}
 use Rattle.ec_order.proofs.Legal.{order_good}
-use Rattle.ec_order.proofs.Matching.{has_from, contains_from, same_ascending, has_mapped, mapped_from}
+use Rattle.ec_order.proofs.shared.Matching.{has_from, contains_from, same_ascending, has_mapped, mapped_from}
 use Rattle.ec_order.proofs.Natural.{points_exist, point_is}
 use Rattle.ec_order.proofs.Sorting.{AllPairs-append, AllPairs-map, moment_is, moments_below}
 

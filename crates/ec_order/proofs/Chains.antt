@@ -7,7 +7,7 @@ use Rattle.ec_core.specs.declared.act.Entry.{Entry}
 use Rattle.ec_core.specs.Calls.{CallSoFar, under_way, gone_on, is_pending}
 use Rattle.ec_core.specs.Rounds.{sum_read, IsPastOf, IsPastOfEach, EachIsPastOf}
 use Rattle.ec_core.specs.Counts.{component_total}
-use Rattle.ec_core.proofs.Pasts.{past_itself}
+use Rattle.ec_core.proofs.shared.Pasts.{past_itself}
 
 pub past_trans : (a b c : List Entry) → IsPastOf a b → IsPastOf b c → IsPastOf a c
 past_trans a b c p q = record { since = q.since ++ p.since; is = q.is ∙ ap (λ z. q.since ++ z) p.is ∙ sym (append_assoc q.since p.since a) }

@@ -19,7 +19,7 @@ use Rattle.ec_order.proofs.Fits.{Fits, all_fit}
 use Rattle.ec_order.proofs.Ends.{Ends, ends}
 use Rattle.ec_order.proofs.Running.{run_append, ended_last}
 use Rattle.ec_order.proofs.Sorting.{AllPairs-map, AllPairs-append}
-use Rattle.ec_order.proofs.Matching.{Has, Differ, has_from, contains_from, same_elements, at_index}
+use Rattle.ec_order.proofs.shared.Matching.{Has, Differ, has_from, contains_from, same_elements, at_index}
 
 -- one place more
 pub taken_more : (ps : List Placed) (i : ℕ) (p : Placed) → slice_get ps i ≡ Some p → take (i + 1) ps ≡ take i ps ++ p ∷ []

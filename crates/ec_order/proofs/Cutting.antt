@@ -11,7 +11,7 @@ use Rattle.ec_core.specs.declared.act.Reply.TheVariants.{Done, Number, Pending}
 use Rattle.ec_core.specs.declared.act.Entry.{Entry}
 use Rattle.ec_core.specs.Calls.{CallSoFar, under_way, gone_on, is_go, is_pending}
 use Rattle.ec_core.specs.Rounds.{IsPastOf}
-use Rattle.ec_core.proofs.Pasts.{past_itself}
+use Rattle.ec_core.proofs.shared.Pasts.{past_itself}
 use Rattle.ec_order.proofs.Chains.{past_trans, past_before, past_next}
 use Rattle.ec_order.proofs.Positions.{entry_at, entry_here, entry_before, entry_since, entry_within, entry_in, find_entry, past_of_both, same_some}
 

@@ -25,7 +25,7 @@ use Rattle.ec_order.proofs.Chains.{past_trans, past_before, past_shorter}
 use Rattle.ec_order.proofs.Points.{first_of_past}
 use Rattle.ec_order.proofs.Ends.{Ends, ends}
 use Rattle.ec_order.proofs.Natural.{first_is_past_at}
-use Rattle.ec_order.proofs.Matching.{none_in}
+use Rattle.ec_order.proofs.shared.Matching.{none_in}
 use Rattle.ec_order.proofs.Positions.{entry_at, entry_in, entry_since, entry_within, find_entry, past_of_both, same_past, same_some}
 use Rattle.ec_order.proofs.Cutting.{own_count, own_rises, first_past, first_at_end, own_under_way, first_more, IsUnderWay, under_way_is, gone_begins, IsWhole, whole_alone, whole_from, so_far}
 

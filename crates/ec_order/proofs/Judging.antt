@@ -12,7 +12,7 @@ use Rattle.ec_core.specs.declared.act.Reply.TheVariants.{Number}
 use Rattle.ec_core.specs.declared.act.Entry.{Entry}
 use Rattle.ec_core.specs.Acceptance.{IsAccepted}
 use Rattle.ec_core.specs.Fields.{IsNamed}
-use Rattle.ec_core.proofs.Places.{get_set}
+use Rattle.ec_core.proofs.shared.Places.{get_set}
 use Rattle.ec_order.specs.declared.call.Call.{Call}
 use Rattle.ec_order.specs.declared.placed.Placed.{Placed}
 use Rattle.ec_order.specs.declared.numbers.Numbers.{Numbers}
@@ -24,7 +24,7 @@ use Rattle.ec_order.specs.Orders.{calls_in}
 use Rattle.ec_order.specs.Index.{IsIndex, point_in}
 use Rattle.ec_order.specs.Verdicts.{IsSound, AreSound, IsVerdict, IsLate}
 use Rattle.ec_order.specs.Numbered.{reply_in, after_in, AreFew}
-use Rattle.ec_order.proofs.Matching.{none_in, at_index}
+use Rattle.ec_order.proofs.shared.Matching.{none_in, at_index}
 use Rattle.ec_order.proofs.Fits.{Fits, all_fit}
 use Rattle.ec_order.proofs.Running.{after_append}
 use Rattle.ec_order.proofs.Reaching.{placed_is}

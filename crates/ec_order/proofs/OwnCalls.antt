@@ -13,8 +13,8 @@ use Rattle.ec_core.specs.Acceptance.{IsAccepted}
 use Rattle.ec_core.specs.Calls.{CallSoFar, under_way, gone_on, is_go, is_pending}
 use Rattle.ec_core.specs.Following.{opened}
 use Rattle.ec_core.specs.JoinedLists.{finished_by}
-use Rattle.ec_core.proofs.Answering.{allowed}
-use Rattle.ec_core.proofs.FittingCalls.{finished_other, finished_same, finished_more}
+use Rattle.ec_core.proofs.shared.Answering.{allowed}
+use Rattle.ec_core.proofs.shared.FittingCalls.{finished_other, finished_same, finished_more}
 use Rattle.ec_order.specs.declared.call.Call.{Call}
 use Rattle.ec_order.specs.Calls.{call_of_entries, ended_by, finished_calls}
 use Rattle.ec_order.specs.Laws.{told_of, told_by}

@@ -6,7 +6,7 @@ use Rattle.std.proofs.lemmas.Option.{slice_get_within}
 use Rattle.ec_core.specs.declared.act.Entry.{Entry}
 use Rattle.ec_core.specs.Rounds.{IsPastOf}
 use Rattle.ec_order.specs.Points.{first_entries}
-use Rattle.ec_core.proofs.Pasts.{past_itself}
+use Rattle.ec_core.proofs.shared.Pasts.{past_itself}
 use Rattle.ec_order.proofs.Chains.{past_next}
 use Rattle.ec_order.proofs.Points.{first_since, first_of_past}
 

@@ -14,7 +14,7 @@ use Rattle.ec_core.specs.Counts.{total, issued, cell_value}
 use Rattle.ec_core.specs.Calls.{under_way, gone_on}
 use Rattle.ec_core.specs.Rounds.{event_or, IsPastOf}
 use Rattle.ec_core.specs.Acceptance.{IsAccepted}
-use Rattle.ec_core.proofs.Moments.{accepted_before}
+use Rattle.ec_core.proofs.shared.Moments.{accepted_before}
 use Rattle.ec_order.specs.declared.call.Call.{Call}
 use Rattle.ec_order.specs.declared.placed.Placed.{Placed}
 use Rattle.ec_order.specs.Calls.{call_of_entries, ended_by, finished_calls, is_reading, number_of}

@@ -14,9 +14,9 @@ use Rattle.ec_core.specs.declared.act.Entry.{Entry}
 use Rattle.ec_core.specs.Calls.{CallSoFar, under_way, gone_on, is_pending}
 use Rattle.ec_core.specs.Rounds.{event_or, width}
 use Rattle.ec_core.specs.Acceptance.{IsAccepted}
-use Rattle.ec_core.proofs.Answering.{IsReadingCall, call_reads, reading_event, width_some, mod_next}
-use Rattle.ec_core.proofs.Moments.{accepted_before}
-use Rattle.ec_core.proofs.Places.{get_set}
+use Rattle.ec_core.proofs.shared.Answering.{IsReadingCall, call_reads, reading_event, width_some, mod_next}
+use Rattle.ec_core.proofs.shared.Moments.{accepted_before}
+use Rattle.ec_core.proofs.shared.Places.{get_set}
 use Rattle.ec_order.specs.declared.call.Call.{Call}
 use Rattle.ec_order.specs.declared.begun.Begun.{Begun}
 use Rattle.ec_order.specs.Calls.{call_of_entries, ended_by, finished_calls}

@@ -13,10 +13,10 @@ use Rattle.ec_core.specs.Counts.{total, is_advance}
 use Rattle.ec_core.specs.Calls.{CallSoFar, under_way}
 use Rattle.ec_core.specs.Rounds.{event_or, next_component}
 use Rattle.ec_core.specs.Acceptance.{IsAccepted}
-use Rattle.ec_core.proofs.Places.{get_set}
-use Rattle.ec_core.proofs.Answering.{IsReading, IsReadingCall, call_reads}
-use Rattle.ec_core.proofs.Stepping.{past_after}
-use Rattle.ec_core.proofs.Scans.{call_other}
+use Rattle.ec_core.proofs.shared.Places.{get_set}
+use Rattle.ec_core.proofs.shared.Answering.{IsReading, IsReadingCall, call_reads}
+use Rattle.ec_core.proofs.shared.Stepping.{past_after}
+use Rattle.ec_core.proofs.shared.Scans.{call_other}
 use Rattle.ec_runner.specs.declared.seat.Seat.{Seat}
 use Rattle.ec_runner.specs.declared.seat.Seat.TheVariants.{Gone, Running, Waiting}
 use Rattle.ec_runner.specs.declared.wait.Wait.{Wait}

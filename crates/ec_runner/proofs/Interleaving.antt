@@ -9,7 +9,7 @@ use Rattle.ec_core.specs.declared.act.Entry.{Entry}
 use Rattle.ec_core.specs.Laws.{AcceptedMeansAnswered}
 use Rattle.ec_core.specs.Recorded.{Recorded}
 use Rattle.ec_core.specs.Counts.{past_at}
-use Rattle.ec_core.proofs.Answering.{allowed}
+use Rattle.ec_core.proofs.shared.Answering.{allowed}
 use Rattle.ec_machine.specs.declared.command.Command.{Command}
 use Rattle.ec_machine.specs.declared.outcome.Outcome.{Outcome}
 use Rattle.ec_machine.specs.declared.outcome.Outcome.TheVariants.{Running, Finished, Refused, ValueTooLarge, Stopped, OutOfTurns, Memory}

@@ -1,3 +1,4 @@
+pub mod shared
 pub mod Lining
 pub mod Boarding
 pub mod Walking
@@ -6,7 +7,5 @@ pub mod Places
 pub mod Starting
 pub mod Logging
 pub mod Reporting
-pub mod InOrder
-pub mod Histories
 pub mod Telling
 pub mod Interleaving

@@ -7,7 +7,7 @@ use Rattle.std.specs.Option.{option_map_or}
 use Rattle.std.specs.List.{insert}
 use Rattle.ec_core.specs.Fields.{changed_at}
 use Rattle.std.proofs.Math.ListN.{length-set}
-use Rattle.ec_core.proofs.Places.{get_set}
+use Rattle.ec_core.proofs.shared.Places.{get_set}
 use Rattle.ec_runner.specs.declared.line.Waiter.{Waiter}
 use Rattle.ec_runner.specs.declared.seat.Seat.{Seat}
 use Rattle.ec_runner.specs.declared.seat.Seat.TheVariants.{Gone, Running, Waiting}

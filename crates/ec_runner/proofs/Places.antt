@@ -9,7 +9,7 @@ use Rattle.ec_core.specs.declared.act.Entry.{Entry}
 use Rattle.ec_core.specs.declared.act.Reply.{Reply}
 use Rattle.ec_core.specs.declared.act.Refusal.{Refusal}
 use Rattle.ec_core.specs.Recorded.{Recorded}
-use Rattle.ec_core.proofs.Places.{get_set}
+use Rattle.ec_core.proofs.shared.Places.{get_set}
 use Rattle.ec_machine.specs.declared.command.Command.{Command}
 use Rattle.ec_machine.specs.declared.machine.Machine.{Machine}
 use Rattle.ec_machine.specs.Follows.{program_at}

@@ -12,7 +12,7 @@ use Rattle.ec_core.specs.Acceptance.{IsAccepted}
 use Rattle.ec_core.specs.Procedures.{IsReply}
 use Rattle.ec_core.specs.Laws.{RepliesFitTheirActs}
 use Rattle.ec_machine.specs.Steps.{own}
-use Rattle.ec_machine.proofs.OwnSteps.{own_append}
+use Rattle.ec_machine.proofs.shared.OwnSteps.{own_append}
 use Rattle.ec_runner.specs.declared.told.Told.{Told}
 use Rattle.ec_runner.specs.Walks.{AreWalked, AreLogsOf}
 

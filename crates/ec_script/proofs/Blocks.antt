@@ -4,14 +4,14 @@ use Rattle.std.specs.List.{AllByRecursion, flat_map, join_with_byte, list_any}
 use Rattle.std.proofs.lemmas.Bool.{or_parts, or_from, leb-true, ltb-false, eqb-false, and_left, and_right}
 use Rattle.ec_count.specs.Members.{is_member, has_repeat}
 use Rattle.ec_text.specs.Words.{words_of}
-use Rattle.ec_text.proofs.WordLemmas.{split_join}
+use Rattle.ec_text.proofs.shared.WordLemmas.{split_join}
 use Rattle.ec_heading.specs.Headed.{Headed}
 use Rattle.ec_heading.specs.Heading.{is_no_line}
 use Rattle.ec_heading.specs.Lists.{worker_in, ids_in, has_unknown}
 use Rattle.ec_heading.specs.Spelling.{list_words}
-use Rattle.ec_heading.proofs.Declarable.{Heads}
-use Rattle.ec_heading.proofs.Listed.{IsAt, AreBelow, with_others, worker_found, ids_spelled, ids_below}
-use Rattle.ec_heading.proofs.LineWords.{listed_length}
+use Rattle.ec_heading.proofs.shared.Declarable.{Heads}
+use Rattle.ec_heading.proofs.shared.Listed.{IsAt, AreBelow, with_others, worker_found, ids_spelled, ids_below}
+use Rattle.ec_heading.proofs.shared.LineWords.{listed_length}
 use Rattle.ec_script.specs.declared.verb.Verb.{Verb}
 use Rattle.ec_script.specs.declared.verb.Verb.TheVariants as verbs
 use Rattle.ec_script.specs.declared.object.Object.{Object}

@@ -7,10 +7,10 @@ use Rattle.ec_count.specs.Names.{find_name}
 use Rattle.ec_count.specs.declared.target.Target.{Target}
 use Rattle.ec_count.specs.declared.target.Target.TheVariants.{Cells}
 use Rattle.ec_text.specs.Words.{number_of}
-use Rattle.ec_text.proofs.NumberLemmas.{number_takes, guarded}
+use Rattle.ec_text.proofs.shared.NumberLemmas.{number_takes, guarded}
 use Rattle.ec_heading.specs.Spelling.{cell_word}
 use Rattle.ec_heading.specs.Spelled.{Named, cut_at, closed_number, block_of, cell_at, cell_of, cell_by, cell_in_word}
-use Rattle.ec_heading.proofs.ReadNames.{AreApart, bracketed, cell_back}
+use Rattle.ec_heading.proofs.shared.ReadNames.{AreApart, bracketed, cell_back}
 
 pub and_then_back : {A B : Type 0} (f : A → Option B) (o : Option A) (y : B) → option_and_then f o ≡ Some y → (x : A) × (o ≡ Some x) × (f x ≡ Some y)
 and_then_back f None y e = cc

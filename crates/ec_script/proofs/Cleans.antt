@@ -22,8 +22,8 @@ use Rattle.ec_heading.specs.Sorts.{sort_word, has_name, has_number, opener, othe
 use Rattle.ec_heading.specs.Headed.{Headed}
 use Rattle.ec_heading.specs.Outline.{Declaration, Outline, IsOutline, IsDeclarable, AreDeclarable, opened, declared_by, headed}
 use Rattle.ec_heading.specs.Spelling.{declaration_line, declaration_words, list_words, name_words, number_words, second_words, heading_lines}
-use Rattle.ec_heading.proofs.Each.{each_append}
-use Rattle.ec_heading.proofs.SortFacts.{is_literal, literal, literal_lacks as letters_lack, is_stop, other_stop, sort_literal, opener_literal, number_small, called_name}
+use Rattle.ec_heading.proofs.shared.Each.{each_append}
+use Rattle.ec_heading.proofs.shared.SortFacts.{is_literal, literal, literal_lacks as letters_lack, is_stop, other_stop, sort_literal, opener_literal, number_small, called_name}
 use Rattle.ec_script.specs.declared.object.Object.TheVariants.{Event, Sequencer}
 use Rattle.ec_script.specs.declared.order.Order.{Order}
 use Rattle.ec_script.specs.declared.order.Order.TheVariants.{Do, Write, Begin, End}

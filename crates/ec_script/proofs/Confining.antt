@@ -26,7 +26,7 @@ use Rattle.ec_script.specs.Objects.{place_of, group_in, buffer_of, database_of, 
 use Rattle.ec_script.specs.Kinds.{or_nothing, has_two_roles}
 use Rattle.ec_script.specs.Orders.{event_order, cell_order, buffer_order, database_order, semaphore_order, command_in, amount_in, size_in}
 use Rattle.ec_script.specs.Confined.{IsConfined, AreApart}
-use Rattle.ec_script.proofs.WrittenOut.{uses_of}
+use Rattle.ec_script.proofs.shared.WrittenOut.{uses_of}
 
 -- OBJECTS
 

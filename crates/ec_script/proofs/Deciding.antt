@@ -11,7 +11,7 @@ use Rattle.std.proofs.lemmas.Option.{same_Some}
 use Rattle.std.proofs.lemmas.Slice.Eq.{bytes_eq-Decides}
 use Rattle.ec_count.specs.Members.{is_member, has_repeat}
 use Rattle.ec_text.specs.Words.{number_of}
-use Rattle.ec_text.proofs.NumberLemmas.{number_again, number_takes}
+use Rattle.ec_text.proofs.shared.NumberLemmas.{number_again, number_takes}
 use Rattle.ec_heading.specs.Lists.{has_word_twice}
 use Rattle.ec_script.specs.declared.script.Block.{Block}
 use Rattle.ec_script.specs.declared.kinds.Nest.{Nest}

@@ -12,7 +12,7 @@ use Rattle.ec_script.specs.Reading.{step}
 use Rattle.ec_script.specs.Outcome.{parts_of, finished, taken, ended, goes, outcome, first_of, long_kind}
 use Rattle.ec_script.specs.Grammar.{text_of, IsLine, Leads, IsRefused, IsCutOff, IsFirstFault, IsLongFault, IsFault, FaultsAreTold}
 use Rattle.ec_script.proofs.Lines.{HasFirst, has_first, parts_line, parts_rest, goes_line, goes_rest}
-use Rattle.ec_script.proofs.Texts.{within_goes, long_goes, fault_is_first, long_is_line_1, whole, line_at, are_lines, behind_of}
+use Rattle.ec_script.proofs.shared.Texts.{within_goes, long_goes, fault_is_first, long_is_line_1, whole, line_at, are_lines, behind_of}
 
 -- THE FIRST FAULTY LINE
 

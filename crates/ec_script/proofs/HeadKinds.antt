@@ -20,7 +20,7 @@ use Rattle.ec_heading.specs.Kinds.{workers_fault, declaration_fault, declaration
 use Rattle.ec_heading.specs.Lists.{worker_in, ids_in, has_unknown, has_word_twice}
 use Rattle.ec_heading.specs.Outline.{Declaration, with_objects}
 use Rattle.ec_heading.specs.Sorts.{has_number, keeps_apart, is_called, is_in_range, least as least_number, greatest}
-use Rattle.ec_heading.proofs.AddedObjects.{Bounds}
+use Rattle.ec_heading.proofs.shared.AddedObjects.{Bounds}
 use Rattle.ec_script.specs.declared.fault.Kind.{Kind}
 use Rattle.ec_script.specs.declared.fault.Kind.TheVariants as kinds
 use Rattle.ec_script.specs.Faults.{kind_of_head}

@@ -22,8 +22,8 @@ use Rattle.ec_heading.specs.Outline.{opened, declared_by}
 use Rattle.ec_heading.specs.Outlined.{HasOutline}
 use Rattle.ec_heading.specs.Sorts.{sort_word}
 use Rattle.ec_heading.specs.Phrased.{IsSpelled}
-use Rattle.ec_heading.proofs.Phrases.{parts_spelled, spelled_parts}
-use Rattle.ec_heading.proofs.ReadHeadings.{IsSound, sound}
+use Rattle.ec_heading.proofs.shared.Phrases.{parts_spelled, spelled_parts}
+use Rattle.ec_heading.proofs.shared.ReadHeadings.{IsSound, sound}
 use Rattle.ec_script.specs.declared.fault.Kind.{Kind}
 use Rattle.ec_script.specs.declared.fault.Kind.TheVariants as kinds
 use Rattle.ec_script.specs.declared.script.Block.{Block}
@@ -45,7 +45,7 @@ use Rattle.ec_script.specs.Scripted.{Scripted}
 use Rattle.ec_script.specs.Verbs.{is_outer}
 use Rattle.ec_script.proofs.Deciding.{never, decides_not}
 use Rattle.ec_script.proofs.HeadKinds.{limit_tests, limit_decided, workers_tests, workers_decided, workers_least, declaration_tests, declaration_decided, declaration_least}
-use Rattle.ec_script.proofs.Keeping.{Keeps, leads_keeps}
+use Rattle.ec_script.proofs.shared.Keeping.{Keeps, leads_keeps}
 use Rattle.ec_script.proofs.Least.{least, least_holds, none_holds}
 use Rattle.ec_script.proofs.LedHeadings.{lines_outlined}
 use Rattle.ec_script.proofs.OtherKinds.{other_tests, other_decided, other_least}

@@ -7,15 +7,15 @@ use Rattle.std.proofs.lemmas.List.{ext_get_or, get_or-set_same, get_or-set_other
 use Rattle.std.proofs.lemmas.List.FromFn.{get_or-map-range_with_len, length-map-range_with_len}
 use Rattle.ec_count.specs.Members.{is_member, has_repeat}
 use Rattle.ec_text.specs.Words.{words_of, number_of, is_number_form}
-use Rattle.ec_text.proofs.NumberLemmas.{number_takes}
+use Rattle.ec_text.proofs.shared.NumberLemmas.{number_takes}
 use Rattle.ec_heading.specs.Headed.{Headed}
 use Rattle.ec_heading.specs.Outline.{Outline, IsOutline, opened, headed}
 use Rattle.ec_heading.specs.Heading.{head_step, is_no_line}
 use Rattle.ec_heading.specs.HeadingLaws.{LinesLead, Outlines, outline_lines}
 use Rattle.ec_heading.specs.Spelling.{limit_line, heading_lines}
 use Rattle.ec_heading.specs.declared.heading.HeadFault.{HeadFault}
-use Rattle.ec_heading.proofs.Declarable.{Heads, heads_opened, heads_all}
-use Rattle.ec_heading.proofs.LeadLines.{leads_outline}
+use Rattle.ec_heading.proofs.shared.Declarable.{Heads, heads_opened, heads_all}
+use Rattle.ec_heading.proofs.shared.LeadLines.{leads_outline}
 use Rattle.ec_script.specs.declared.fault.Kind.TheVariants as kinds
 use Rattle.ec_script.specs.declared.order.Order.{Order}
 use Rattle.ec_script.specs.declared.stage.Stage.{Stage}

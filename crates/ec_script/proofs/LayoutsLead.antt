@@ -5,9 +5,9 @@ use Rattle.std.specs.Option.{option_map_or}
 use Rattle.std.proofs.lemmas.Bool.{and_from, and_left, and_right, or_parts, or_from, not_from_true, not_from_false, le-ltb, lt-ltb, le-leb, lt-leb, eqb-false, false_from_ne_true}
 use Rattle.ec_count.specs.Members.{is_member, has_repeat}
 use Rattle.ec_text.specs.Words.{words_of, number_of, is_number_form, AreWords}
-use Rattle.ec_text.proofs.WordLemmas.{words_join, literal_word}
-use Rattle.ec_text.proofs.NumberLemmas.{number_again, number_is_form, number_word}
-use Rattle.ec_text.proofs.DecimalLemmas.{at_most_20}
+use Rattle.ec_text.proofs.shared.WordLemmas.{words_join, literal_word}
+use Rattle.ec_text.proofs.shared.NumberLemmas.{number_again, number_is_form, number_word}
+use Rattle.ec_text.proofs.shared.DecimalLemmas.{at_most_20}
 use Rattle.ec_heading.specs.declared.group.Group.{Group}
 use Rattle.ec_heading.specs.Headed.{Headed}
 use Rattle.ec_heading.specs.Outline.{Outline, IsOutline, AreWorkers, opened, headed}
@@ -18,10 +18,10 @@ use Rattle.ec_heading.specs.Lists.{worker_in, ids_in, has_unknown}
 use Rattle.ec_heading.specs.Spelling.{limit_line, heading_lines, list_words}
 use Rattle.ec_heading.specs.declared.heading.HeadFault.{HeadFault}
 use Rattle.ec_heading.specs.declared.heading.HeadFault.TheVariants as faults
-use Rattle.ec_heading.proofs.Declarable.{Heads, heads_opened, heads_all}
-use Rattle.ec_heading.proofs.LeadLines.{outline_leads}
-use Rattle.ec_heading.proofs.Listed.{AreBelow, finds_worker, ids_again, ids_known}
-use Rattle.ec_heading.proofs.LineWords.{AreFit, letters, AreNamed, names_fit, names_letters, listed_named, listed_length}
+use Rattle.ec_heading.proofs.shared.Declarable.{Heads, heads_opened, heads_all}
+use Rattle.ec_heading.proofs.shared.LeadLines.{outline_leads}
+use Rattle.ec_heading.proofs.shared.Listed.{AreBelow, finds_worker, ids_again, ids_known}
+use Rattle.ec_heading.proofs.shared.LineWords.{AreFit, letters, AreNamed, names_fit, names_letters, listed_named, listed_length}
 use Rattle.ec_script.specs.declared.fault.Kind.TheVariants as kinds
 use Rattle.ec_script.specs.declared.verb.Verb.{Verb}
 use Rattle.ec_script.specs.declared.verb.Verb.TheVariants as verbs

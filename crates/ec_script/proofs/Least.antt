@@ -6,7 +6,7 @@ use Rattle.std.specs.Bool.{Decides}
 use Rattle.std.specs.List.{AllByRecursion}
 use Rattle.std.specs.Prelude.{◌↔◌}
 use Rattle.ec_count.specs.Tables.{first_that}
-use Rattle.ec_heading.proofs.Declarable.{passed}
+use Rattle.ec_heading.proofs.shared.Declarable.{passed}
 use Rattle.ec_script.specs.declared.fault.Kind.{Kind}
 use Rattle.ec_script.specs.declared.fault.Kind.TheVariants as kinds
 use Rattle.ec_script.specs.Faults.{kind_number}

@@ -7,7 +7,7 @@ use Rattle.ec_heading.specs.Heading.{head_step, is_no_line}
 use Rattle.ec_heading.specs.Outline.{opened}
 use Rattle.ec_heading.specs.Outlined.{HasOutline}
 use Rattle.ec_heading.specs.declared.heading.HeadFault.{HeadFault}
-use Rattle.ec_heading.proofs.LeadLines.{named_outlined, declared_outlined}
+use Rattle.ec_heading.proofs.shared.LeadLines.{named_outlined, declared_outlined}
 use Rattle.ec_script.specs.declared.fault.Kind.{Kind}
 use Rattle.ec_script.specs.declared.fault.Kind.TheVariants as kinds
 use Rattle.ec_script.specs.declared.verb.Verb.{Verb}

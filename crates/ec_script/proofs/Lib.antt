@@ -1,9 +1,9 @@
+pub mod shared
 pub mod Words
 pub mod Drafts
 pub mod Sizes
 pub mod Room
 pub mod Lines
-pub mod Texts
 pub mod Onward
 pub mod Apart
 pub mod OneName
@@ -13,8 +13,6 @@ pub mod LedHeadings
 pub mod PairLines
 pub mod Declaring
 pub mod Confining
-pub mod WrittenOut
-pub mod Keeping
 pub mod PhraseWords
 pub mod Passing
 pub mod Said

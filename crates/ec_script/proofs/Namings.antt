@@ -13,7 +13,7 @@ use Rattle.ec_count.specs.Names.{find_name}
 use Rattle.ec_count.specs.Reserved.{is_name, is_name_byte}
 use Rattle.ec_count.specs.declared.target.Target.{Target}
 use Rattle.ec_count.specs.declared.target.Target.TheVariants as targets
-use Rattle.ec_text.proofs.NumberLemmas.{own, number_again}
+use Rattle.ec_text.proofs.shared.NumberLemmas.{own, number_again}
 use Rattle.ec_heading.specs.declared.group.Group.{Group}
 use Rattle.ec_heading.specs.declared.group.Group.TheVariants as groups
 use Rattle.ec_heading.specs.declared.sort.Sort.{Sort}
@@ -24,13 +24,13 @@ use Rattle.ec_heading.specs.Headed.{Headed}
 use Rattle.ec_heading.specs.Outline.{Declaration, Outline, IsOutline, IsDeclarable, AreDeclarable, opened, numbered, next_of, named_as, declared_by, declared_all, headed}
 use Rattle.ec_heading.specs.Spelling.{word_of, cell_word}
 use Rattle.ec_heading.specs.Spelled.{cut_at, event_of, sequencer_of, event_in, sequencer_in, cell_in_word}
-use Rattle.ec_heading.proofs.Each.{each_append}
-use Rattle.ec_heading.proofs.LineWords.{IsFit, AreNamed}
-use Rattle.ec_heading.proofs.NameWords.{name_is_word, name_not_empty}
-use Rattle.ec_heading.proofs.ReadNames.{bracketed, HasBlock, has_block, IsNamedBy, named_by, block_by, word_lacks}
-use Rattle.ec_heading.proofs.ReadHeadings.{IsSound, sound, sound_all}
-use Rattle.ec_heading.proofs.SortFacts.{name_called}
-use Rattle.ec_heading.proofs.SpelledWords.{IsPlainWord, found_word, find-append_none}
+use Rattle.ec_heading.proofs.shared.Each.{each_append}
+use Rattle.ec_heading.proofs.shared.LineWords.{IsFit, AreNamed}
+use Rattle.ec_heading.proofs.shared.NameWords.{name_is_word, name_not_empty}
+use Rattle.ec_heading.proofs.shared.ReadNames.{bracketed, HasBlock, has_block, IsNamedBy, named_by, block_by, word_lacks}
+use Rattle.ec_heading.proofs.shared.ReadHeadings.{IsSound, sound, sound_all}
+use Rattle.ec_heading.proofs.shared.SortFacts.{name_called}
+use Rattle.ec_heading.proofs.shared.SpelledWords.{IsPlainWord, found_word, find-append_none}
 use Rattle.ec_script.specs.declared.object.Object.{Object}
 use Rattle.ec_script.specs.Objects.{place_of, group_in, owns}
 use Rattle.ec_script.specs.Spelling.{group_word}

@@ -17,8 +17,8 @@ use Rattle.ec_heading.specs.Objects.{Next, target_of, group_of}
 use Rattle.ec_heading.specs.Headed.{Headed}
 use Rattle.ec_heading.specs.Outline.{Declaration, with_objects, named_as, next_of, numbered, opened, declared_by, declared_all, Outline}
 use Rattle.ec_heading.specs.Outlined.{IsHeading}
-use Rattle.ec_heading.proofs.OutlineGrows.{objects_grow}
-use Rattle.ec_heading.proofs.Phrases.{same_word}
+use Rattle.ec_heading.proofs.shared.OutlineGrows.{objects_grow}
+use Rattle.ec_heading.proofs.shared.Phrases.{same_word}
 use Rattle.ec_script.specs.Objects.{place_of, group_in, semaphore_of, semaphore_in}
 
 abbrev Named : Type 0

@@ -12,7 +12,7 @@ use Rattle.ec_buffer.specs.Shapes.{Buffer}
 use Rattle.ec_database.specs.Shapes.{Database}
 use Rattle.ec_semaphore.specs.Shapes.{Semaphore}
 use Rattle.ec_text.specs.Words.{words_of, number_of}
-use Rattle.ec_text.proofs.NumberLemmas.{number_takes}
+use Rattle.ec_text.proofs.shared.NumberLemmas.{number_takes}
 use Rattle.ec_machine.specs.declared.command.Value.{Value}
 use Rattle.ec_machine.specs.declared.command.Value.TheVariants.{Number, Last, LastPlus}
 use Rattle.ec_machine.specs.declared.command.Command.{Command}
@@ -26,8 +26,8 @@ use Rattle.ec_heading.specs.Headed.{Headed}
 use Rattle.ec_heading.specs.Outline.{Outline, IsOutline, headed}
 use Rattle.ec_heading.specs.Spelling.{word_of, heading_lines}
 use Rattle.ec_heading.specs.Spelled.{Named, event_of, sequencer_of, event_in, sequencer_in, cell_in_word}
-use Rattle.ec_heading.proofs.ReadNames.{AreApart, word_back}
-use Rattle.ec_heading.proofs.ReadHeadings.{sound}
+use Rattle.ec_heading.proofs.shared.ReadNames.{AreApart, word_back}
+use Rattle.ec_heading.proofs.shared.ReadHeadings.{sound}
 use Rattle.ec_script.specs.declared.verb.Verb.{Verb}
 use Rattle.ec_script.specs.declared.verb.Verb.TheVariants as verbs
 use Rattle.ec_script.specs.declared.object.Object.{Object}

@@ -10,7 +10,7 @@ use Rattle.ec_core.specs.declared.act.TheConstants.{VALUE_MAX}
 use Rattle.ec_count.specs.Tables.{Tables, first_that}
 use Rattle.ec_database.specs.Shapes.{Database}
 use Rattle.ec_text.specs.Words.{number_of}
-use Rattle.ec_text.proofs.NumberLemmas.{number_takes}
+use Rattle.ec_text.proofs.shared.NumberLemmas.{number_takes}
 use Rattle.ec_machine.specs.declared.command.Value.{Value}
 use Rattle.ec_machine.specs.declared.command.Value.TheVariants.{Number, Last, LastPlus}
 use Rattle.ec_machine.specs.Limits.{is_value}
@@ -18,7 +18,7 @@ use Rattle.ec_heading.specs.declared.group.Group.{Group}
 use Rattle.ec_heading.specs.Headed.{Headed}
 use Rattle.ec_heading.specs.Lists.{worker_in, has_unknown}
 use Rattle.ec_heading.specs.Outlined.{IsHeading}
-use Rattle.ec_heading.proofs.Phrases.{same_word}
+use Rattle.ec_heading.proofs.shared.Phrases.{same_word}
 use Rattle.ec_script.specs.declared.fault.Kind.{Kind}
 use Rattle.ec_script.specs.declared.fault.Kind.TheVariants as kinds
 use Rattle.ec_script.specs.declared.kinds.Nest.{Nest}

@@ -15,7 +15,7 @@ use Rattle.ec_heading.specs.Sorts.{has_name}
 use Rattle.ec_heading.specs.Objects.{Next, target_of, group_of}
 use Rattle.ec_heading.specs.Headed.{Headed}
 use Rattle.ec_heading.specs.Outline.{Declaration, Outline, opened, numbered, next_of, named_as, declared_by, declared_all, headed, with_objects}
-use Rattle.ec_heading.proofs.ReadNames.{found_all}
+use Rattle.ec_heading.proofs.shared.ReadNames.{found_all}
 use Rattle.ec_script.specs.declared.object.Object.{Object}
 use Rattle.ec_script.specs.Objects.{place_of, owns}
 use Rattle.ec_script.specs.Spelling.{is_owner, owner_word}

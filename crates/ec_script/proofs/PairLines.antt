@@ -18,7 +18,7 @@ use Rattle.ec_script.specs.Kinds.{phrase_fault}
 use Rattle.ec_script.specs.Scripted.{Scripted}
 use Rattle.ec_script.specs.Reading.{nest_of, seen, after, fault_or, phrased, headed_on, is_declaring, opens_outer, script_step, read_on, step}
 use Rattle.ec_script.specs.Pairs.{PairsOneName, LinesOfTwoRoles}
-use Rattle.ec_script.proofs.Keeping.{Keeps, not_bare, leads_keeps}
+use Rattle.ec_script.proofs.shared.Keeping.{Keeps, not_bare, leads_keeps}
 use Rattle.ec_script.proofs.LedHeadings.{lines_lead}
 use Rattle.ec_script.proofs.TwoRoles.{names_one, is_told}
 

@@ -4,7 +4,7 @@ use Rattle.std.proofs.lemmas.Bool.{or_parts, or_from, not-false, not_from_true}
 use Rattle.ec_count.specs.Tables.{first_that}
 use Rattle.ec_text.specs.Words.{words_of}
 use Rattle.ec_heading.specs.Heading.{head_step, is_no_line}
-use Rattle.ec_heading.proofs.Declarable.{passed, pass}
+use Rattle.ec_heading.proofs.shared.Declarable.{passed, pass}
 use Rattle.ec_script.specs.declared.fault.Kind.{Kind}
 use Rattle.ec_script.specs.declared.fault.Kind.TheVariants as kinds
 use Rattle.ec_script.specs.declared.object.Object.{Object}

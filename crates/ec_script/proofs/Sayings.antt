@@ -17,8 +17,8 @@ use Rattle.ec_buffer.specs.Shapes.{Buffer}
 use Rattle.ec_database.specs.Shapes.{Database}
 use Rattle.ec_semaphore.specs.Shapes.{Semaphore}
 use Rattle.ec_text.specs.Words.{words_of, number_of, is_number_form}
-use Rattle.ec_text.proofs.WordLemmas.{literal_word}
-use Rattle.ec_text.proofs.NumberLemmas.{number_again, number_is_form, number_word, number_is_other, no_number}
+use Rattle.ec_text.proofs.shared.WordLemmas.{literal_word}
+use Rattle.ec_text.proofs.shared.NumberLemmas.{number_again, number_is_form, number_word, number_is_other, no_number}
 use Rattle.ec_machine.specs.declared.command.Value.{Value}
 use Rattle.ec_machine.specs.declared.command.Value.TheVariants.{Number, Last, LastPlus}
 use Rattle.ec_machine.specs.declared.command.Command.{Command}
@@ -31,8 +31,8 @@ use Rattle.ec_heading.specs.declared.group.Group.TheVariants as groups
 use Rattle.ec_heading.specs.Headed.{Headed}
 use Rattle.ec_heading.specs.Outline.{Outline, IsOutline, headed}
 use Rattle.ec_heading.specs.Spelling.{word_of, cell_word}
-use Rattle.ec_heading.proofs.Each.{each_append}
-use Rattle.ec_heading.proofs.LineWords.{IsFit, AreFit}
+use Rattle.ec_heading.proofs.shared.Each.{each_append}
+use Rattle.ec_heading.proofs.shared.LineWords.{IsFit, AreFit}
 use Rattle.ec_script.specs.declared.verb.Verb.{Verb}
 use Rattle.ec_script.specs.declared.verb.Verb.TheVariants as verbs
 use Rattle.ec_script.specs.declared.object.Object.{Object}

@@ -10,7 +10,7 @@ use Rattle.ec_heading.specs.Headed.{Headed}
 use Rattle.ec_heading.specs.Lists.{worker_in}
 use Rattle.ec_heading.specs.Outlined.{IsHeading}
 use Rattle.ec_heading.specs.Spelled.{event_in, sequencer_in, cell_in_word}
-use Rattle.ec_heading.proofs.Phrases.{same_word, is_itself}
+use Rattle.ec_heading.proofs.shared.Phrases.{same_word, is_itself}
 use Rattle.ec_script.specs.declared.fault.Kind.{Kind}
 use Rattle.ec_script.specs.declared.fault.Kind.TheVariants as kinds
 use Rattle.ec_script.specs.declared.kinds.Nest.{Nest}

@@ -5,7 +5,7 @@ use Rattle.ec_core.specs.declared.act.Entry.{Entry}
 use Rattle.ec_core.specs.Counts.{total, is_advance}
 use Rattle.ec_core.specs.Calls.{under_way, is_pending}
 use Rattle.ec_core.specs.Following.{opened}
-use Rattle.ec_core.proofs.Stepping.{past_after}
+use Rattle.ec_core.proofs.shared.Stepping.{past_after}
 use Rattle.ec_semaphore.specs.Shapes.{Semaphore}
 use Rattle.ec_semaphore.specs.Balances.{is_await, is_down, downs, ups}
 

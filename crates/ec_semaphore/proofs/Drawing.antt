@@ -15,12 +15,12 @@ use Rattle.ec_core.specs.Calls.{is_pending}
 use Rattle.ec_core.specs.Acceptance.{IsAccepted}
 use Rattle.ec_core.specs.Following.{Told, block, Follow}
 use Rattle.ec_core.specs.CallLists.{is_act, number_of}
-use Rattle.ec_core.proofs.Answering.{IsReading}
-use Rattle.ec_core.proofs.Joining.{get_back}
-use Rattle.ec_core.proofs.Breaks.{follow_of}
-use Rattle.ec_core.proofs.Moments.{past_next, past_end, moment_before, beginnings}
-use Rattle.ec_core.proofs.Queue.{Seat, turn_is}
-use Rattle.ec_core.proofs.Following.{other_block, IsTold, op_at, step_told, step_opened, step_due, is_act-true, after_told, after_pending, off_block}
+use Rattle.ec_core.proofs.shared.Answering.{IsReading}
+use Rattle.ec_core.proofs.shared.Joining.{get_back}
+use Rattle.ec_core.proofs.shared.Breaks.{follow_of}
+use Rattle.ec_core.proofs.shared.Moments.{past_next, past_end, moment_before, beginnings}
+use Rattle.ec_core.proofs.shared.Queue.{Seat, turn_is}
+use Rattle.ec_core.proofs.shared.Following.{other_block, IsTold, op_at, step_told, step_opened, step_due, is_act-true, after_told, after_pending, off_block}
 use Rattle.ec_semaphore.specs.declared.pair.Pair.{Pair}
 use Rattle.ec_semaphore.specs.Shapes.{Semaphore}
 use Rattle.ec_semaphore.specs.Uses.{is_on}

@@ -11,11 +11,11 @@ use Rattle.ec_core.specs.declared.protocol.Kept.{Kept}
 use Rattle.ec_core.specs.Acceptance.{IsAccepted}
 use Rattle.ec_core.specs.Following.{Told, block, Follow}
 use Rattle.ec_core.specs.CallLists.{number_of}
-use Rattle.ec_core.proofs.Breaks.{follow_before}
-use Rattle.ec_core.proofs.Moments.{accepted_until}
-use Rattle.ec_core.proofs.Places.{get_set}
-use Rattle.ec_core.proofs.Following.{other_block}
-use Rattle.ec_core.proofs.Stepping.{past_after}
+use Rattle.ec_core.proofs.shared.Breaks.{follow_before}
+use Rattle.ec_core.proofs.shared.Moments.{accepted_until}
+use Rattle.ec_core.proofs.shared.Places.{get_set}
+use Rattle.ec_core.proofs.shared.Following.{other_block}
+use Rattle.ec_core.proofs.shared.Stepping.{past_after}
 use Rattle.ec_semaphore.specs.declared.pair.Pair.{Pair}
 use Rattle.ec_semaphore.specs.declared.pairing.Drawn.{Drawn}
 use Rattle.ec_semaphore.specs.Shapes.{Semaphore}

@@ -1,10 +1,8 @@
+pub mod shared
 pub mod NeverNegative
 pub mod Moments
-pub mod Staying
 pub mod TicketOrder
-pub mod Implying
 pub mod Drawing
-pub mod Lines
 pub mod Counting
 pub mod Smallness
 pub mod Latest

@@ -5,8 +5,8 @@ use Rattle.std.proofs.Math.Nat.{zero-add}
 use Rattle.std.proofs.lemmas.Int.{ints}
 use Rattle.ec_core.specs.declared.act.Entry.{Entry}
 use Rattle.ec_core.specs.Counts.{past_at, total, sum_to}
-use Rattle.ec_core.proofs.Breaks.{follow_of}
-use Rattle.ec_core.proofs.Moments.{past_next, past_end, moment_before, beginnings}
+use Rattle.ec_core.proofs.shared.Breaks.{follow_of}
+use Rattle.ec_core.proofs.shared.Moments.{past_next, past_end, moment_before, beginnings}
 use Rattle.ec_semaphore.specs.Shapes.{Semaphore}
 use Rattle.ec_semaphore.specs.Uses.{use_rules}
 use Rattle.ec_semaphore.specs.Balances.{is_down, downs}

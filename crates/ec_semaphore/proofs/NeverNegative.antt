@@ -12,8 +12,8 @@ use Rattle.ec_core.specs.Calls.{is_pending}
 use Rattle.ec_core.specs.Acceptance.{IsAccepted}
 use Rattle.ec_core.specs.Following.{Told, block, Follow}
 use Rattle.ec_core.specs.CallLists.{is_due, number_of}
-use Rattle.ec_core.proofs.Totals.{one_more}
-use Rattle.ec_core.proofs.Following.{other_block, IsTold, op_at, step_told, total_step, issued_step, step_due, is_act-true, after_told, after_pending, off_block}
+use Rattle.ec_core.proofs.shared.Totals.{one_more}
+use Rattle.ec_core.proofs.shared.Following.{other_block, IsTold, op_at, step_told, total_step, issued_step, step_due, is_act-true, after_told, after_pending, off_block}
 use Rattle.ec_semaphore.specs.Shapes.{Semaphore}
 use Rattle.ec_semaphore.specs.Uses.{down_call, up_call, is_on, use_rule, use_rules}
 use Rattle.ec_semaphore.specs.Balances.{is_await, is_down, downs}

@@ -1,13 +1,13 @@
 -- How large a total can be.
 use Rattle.std.proofs.Common.{◌≡◌, ℕ, zero, suc, ◌*◌, ◌^◌, ◌<◌, ◌≤◌, List, length, arith}
 use Rattle.ec_count.specs.Tables.{Tables, IsDeclared, signallers}
-use Rattle.ec_count.proofs.Declared.{few_signallers}
+use Rattle.ec_count.proofs.shared.Declared.{few_signallers}
 use Rattle.ec_core.specs.declared.act.Entry.{Entry}
 use Rattle.ec_core.specs.Counts.{total, component_total, sum_to}
 use Rattle.ec_core.specs.Rounds.{width}
 use Rattle.ec_core.specs.Acceptance.{IsAccepted}
-use Rattle.ec_core.proofs.Bounds.{component_within}
-use Rattle.ec_core.proofs.Totals.{total_is}
+use Rattle.ec_core.proofs.shared.Bounds.{component_within}
+use Rattle.ec_core.proofs.shared.Totals.{total_is}
 
 sum_within : (f : ℕ → ℕ) (m n : ℕ) → ((c : ℕ) → f c < m) → sum_to f n ≤ n * m
 unfolding sum_to

@@ -17,8 +17,8 @@ use Rattle.ec_core.specs.Calls.{is_pending}
 use Rattle.ec_core.specs.Acceptance.{IsAccepted}
 use Rattle.ec_core.specs.Following.{Told, block, Follow}
 use Rattle.ec_core.specs.CallLists.{is_act, number_of}
-use Rattle.ec_core.proofs.Queue.{Seat, IsQueue, IsElsewhereSame, still, draw, enter, make, leave, turn_is}
-use Rattle.ec_core.proofs.Following.{other_block, same_test, IsTold, op_at, step_told, step_opened, total_step, issued_step, step_due, is_act-true, after_told, after_pending, off_block}
+use Rattle.ec_core.proofs.shared.Queue.{Seat, IsQueue, IsElsewhereSame, still, draw, enter, make, leave, turn_is}
+use Rattle.ec_core.proofs.shared.Following.{other_block, same_test, IsTold, op_at, step_told, step_opened, total_step, issued_step, step_due, is_act-true, after_told, after_pending, off_block}
 use Rattle.ec_semaphore.specs.declared.pair.Pair.{Pair}
 use Rattle.ec_semaphore.specs.Shapes.{Semaphore}
 use Rattle.ec_semaphore.specs.Uses.{is_on}

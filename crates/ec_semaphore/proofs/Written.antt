@@ -8,8 +8,8 @@ use Rattle.ec_core.specs.CallLists.{is_act, number_of}
 use Rattle.ec_core.specs.Following.{Told}
 use Rattle.ec_core.specs.JoinedLists.{ComesNext, IsWholeList}
 use Rattle.ec_core.specs.Procedures.{IsWritten}
-use Rattle.ec_core.proofs.Following.{is_act-true}
-use Rattle.ec_core.proofs.JoinedLists.{following_joins, following_stands}
+use Rattle.ec_core.proofs.shared.Following.{is_act-true}
+use Rattle.ec_core.proofs.shared.JoinedLists.{following_joins, following_stands}
 use Rattle.ec_semaphore.specs.Shapes.{Semaphore}
 use Rattle.ec_semaphore.specs.Uses.{threshold, is_on, use_rule, use_rules}
 use Rattle.ec_semaphore.specs.Both.{line_of, is_line, down_both_call, both_rule, both_rules}

@@ -1,6 +1,3 @@
+pub mod shared
 pub mod AppendLemmas
-pub mod DecimalLemmas
 pub mod LineCuts
-pub mod NumberLemmas
-pub mod PutLemmas
-pub mod WordLemmas

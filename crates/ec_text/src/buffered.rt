@@ -100,7 +100,7 @@ pub fn put<W: Write>(writer: &mut W, buffered: &mut Buffered, bytes: &[u8])
 /// Puts bytes for which the table has no room beside those that are held.
 #[cold]
 #[inline(never)]
-#[tactic(auto, using(crate::proofs::PutLemmas::puts_after_flush))]
+#[tactic(auto, using(crate::proofs::shared::PutLemmas::puts_after_flush))]
 fn put_behind<W: Write>(writer: &mut W, buffered: &mut Buffered, bytes: &[u8])
     ensures { Puts (W.contents writer.old) buffered.old (W.contents writer.new) buffered.new bytes.now }
 {
@@ -112,7 +112,7 @@ fn put_behind<W: Write>(writer: &mut W, buffered: &mut Buffered, bytes: &[u8])
 }
 
 /// Writes bytes for which the empty table has no room.
-#[tactic(auto, using(crate::proofs::PutLemmas::puts_written))]
+#[tactic(auto, using(crate::proofs::shared::PutLemmas::puts_written))]
 fn put_long<W: Write>(writer: &mut W, buffered: &mut Buffered, bytes: &[u8])
     requires { buffered.old ≡ nothing_held }
     ensures { Puts (W.contents writer.old) buffered.old (W.contents writer.new) buffered.new bytes.now }

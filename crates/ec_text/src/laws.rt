@@ -2,19 +2,19 @@
 ghost use Rattle.ec_text.specs.Spelling.{JoinIsUndone, SplitIsUndone, WordsHaveNoSpace, NumberHasOneSpelling, NumberIsReadBack, NumbersAreShortForms};
 
 /// Words without spaces, joined by single spaces, are found again by the split at spaces.
-#[tactic(auto, using(crate::proofs::WordLemmas::words_join))]
+#[tactic(auto, using(crate::proofs::shared::WordLemmas::words_join))]
 pub fn join_is_undone()
     ensures { JoinIsUndone }
 {}
 
 /// The words of a line, joined by single spaces, are the line.
-#[tactic(auto, using(crate::proofs::WordLemmas::split_join))]
+#[tactic(auto, using(crate::proofs::shared::WordLemmas::split_join))]
 pub fn split_is_undone()
     ensures { SplitIsUndone }
 {}
 
 /// No word of a line has a space in it.
-#[tactic(auto, using(crate::proofs::WordLemmas::are_words))]
+#[tactic(auto, using(crate::proofs::shared::WordLemmas::are_words))]
 pub fn words_have_no_space()
     ensures { WordsHaveNoSpace }
 {}
@@ -25,7 +25,7 @@ pub fn number_has_one_spelling()
 {}
 
 /// The decimal digits of a number below 10^18 are read as that number.
-#[tactic(auto, using(crate::proofs::NumberLemmas::number_again))]
+#[tactic(auto, using(crate::proofs::shared::NumberLemmas::number_again))]
 pub fn number_is_read_back()
     ensures { NumberIsReadBack }
 {}

@@ -39,7 +39,7 @@ fn front_of_8(line: &[u8]) -> usize
 
 /// Some bytes at the front among which there is no space, found at once where the line is long enough.
 #[inline(always)]
-#[tactic(auto, using(crate::proofs::WordLemmas::fronts))]
+#[tactic(auto, using(crate::proofs::shared::WordLemmas::fronts))]
 fn front(line: &[u8]) -> usize
     ensures within { result ≤ length line.now }
     ensures none { (k : ℕ) → k < result → slice_index line.now k ≢ 32 }
@@ -56,7 +56,7 @@ fn front(line: &[u8]) -> usize
 /// The first word of a line, and what stands behind the space after it: `None` where no space follows.
 ///
 /// Words are what lies between single spaces, so that two spaces in a row have an empty word between them.
-#[tactic(auto, using(crate::proofs::WordLemmas::cuts))]
+#[tactic(auto, using(crate::proofs::shared::WordLemmas::cuts))]
 pub fn cut_word(line: &[u8]) -> (&[u8], Option<&[u8]>)
     ensures words { MatchOption result.1 (words_of line.now ≡ result.0.now ∷ [])
         (λ rest. words_of line.now ≡ result.0.now ∷ words_of rest.now) }

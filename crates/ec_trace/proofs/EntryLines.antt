@@ -15,15 +15,15 @@ use Rattle.ec_core.specs.declared.act.Entry.{Entry}
 use Rattle.ec_count.specs.Names.{find_name}
 use Rattle.ec_count.specs.declared.target.Target.TheVariants.{Worker, Event, Sequencer, Cells}
 use Rattle.ec_text.specs.Words.{words_of, number_of}
-use Rattle.ec_text.proofs.NumberLemmas.{number_takes, guarded}
+use Rattle.ec_text.proofs.shared.NumberLemmas.{number_takes, guarded}
 use Rattle.ec_heading.specs.Headed.{Headed}
 use Rattle.ec_heading.specs.Lists.{worker_in}
 use Rattle.ec_heading.specs.Outline.{headed}
 use Rattle.ec_heading.specs.Outlined.{HasOutline}
 use Rattle.ec_heading.specs.Spelled.{event_in, sequencer_in, cell_in_word}
-use Rattle.ec_heading.proofs.AddedObjects.{is_below}
-use Rattle.ec_heading.proofs.ReadHeadings.{IsSound, sound}
-use Rattle.ec_heading.proofs.ReadNames.{found_all}
+use Rattle.ec_heading.proofs.shared.AddedObjects.{is_below}
+use Rattle.ec_heading.proofs.shared.ReadHeadings.{IsSound, sound}
+use Rattle.ec_heading.proofs.shared.ReadNames.{found_all}
 use Rattle.ec_trace.specs.declared.fault.LineFault.{LineFault}
 use Rattle.ec_trace.specs.declared.fault.LineFault.TheVariants.{Bad, Refused, WrongReply}
 use Rattle.ec_trace.specs.declared.stage.Stage.TheVariants.{Running, Ended}

@@ -5,15 +5,15 @@ use Rattle.std.specs.List.{onto_first}
 use Rattle.std.proofs.lemmas.List.{take-append-drop, take_all, get_or-drop}
 use Rattle.std.proofs.lemmas.List.Elements.{All-from_get_or}
 use Rattle.std.proofs.lemmas.Slice.Eq.{bytes_eq-Decides}
-use Rattle.ec_core.proofs.Places.{get_set}
+use Rattle.ec_core.proofs.shared.Places.{get_set}
 use Rattle.ec_core.specs.declared.act.Act.{Act}
 use Rattle.ec_core.specs.declared.act.Act.TheVariants as acts
 use Rattle.ec_core.specs.declared.act.Reply.{Reply}
 use Rattle.ec_core.specs.declared.act.Reply.TheVariants.{Done, Pending}
 use Rattle.ec_core.specs.declared.act.Entry.{Entry}
 use Rattle.ec_text.specs.Words.{words_of, number_of, IsWord}
-use Rattle.ec_text.proofs.WordLemmas.{HasFirst, has_first, words_alone, literal_word}
-use Rattle.ec_text.proofs.NumberLemmas.{guarded}
+use Rattle.ec_text.proofs.shared.WordLemmas.{HasFirst, has_first, words_alone, literal_word}
+use Rattle.ec_text.proofs.shared.NumberLemmas.{guarded}
 use Rattle.ec_heading.specs.Spelled.{Named, event_in, sequencer_in, cell_in_word}
 use Rattle.ec_heading.specs.Lists.{worker_in}
 use Rattle.ec_trace.specs.Entries.{◌>>=◌, act_alone, act_on, act_with, reply_of, entry_by, entry_in, entry_of}

@@ -8,7 +8,7 @@ use Rattle.ec_heading.specs.Headed.{Headed}
 use Rattle.ec_heading.specs.Heading.{head_step}
 use Rattle.ec_heading.specs.Outline.{opened}
 use Rattle.ec_heading.specs.Outlined.{HasOutline}
-use Rattle.ec_heading.proofs.LeadLines.{named_outlined, declared_outlined}
+use Rattle.ec_heading.proofs.shared.LeadLines.{named_outlined, declared_outlined}
 use Rattle.ec_trace.specs.declared.stage.Stage.{Stage}
 use Rattle.ec_trace.specs.declared.stage.Stage.TheVariants.{Opening, Limiting, Declaring, Running, Ended}
 use Rattle.ec_trace.specs.Entries.{entry_of}
@@ -17,7 +17,7 @@ use Rattle.ec_trace.specs.FirstFault.{Leads}
 use Rattle.ec_trace.specs.Recounted.{Recounted}
 use Rattle.ec_trace.specs.Step.{step, limit_of, declared, entry_step, ran_on}
 use Rattle.ec_trace.proofs.ReadRuns.{ran_back, entered_back, answered_back}
-use Rattle.ec_trace.proofs.ReadTraces.{limit_back, limited_back, declared_back, first_back}
+use Rattle.ec_trace.proofs.shared.ReadTraces.{limit_back, limited_back, declared_back, first_back}
 
 -- the line of the workers is still to come, behind a limit, or an outline stands behind the heading
 abbrev IsBegun : Headed → Type 0

@@ -1,3 +1,4 @@
+pub mod shared
 pub mod ReadCells
 pub mod ReadEntries
 pub mod Leads
@@ -5,13 +6,11 @@ pub mod FirstFaults
 pub mod FaultTold
 pub mod TraceLines
 pub mod ReadRuns
-pub mod ReadTraces
 pub mod Goes
 pub mod Stood
 pub mod SpelledLemmas
 pub mod FrontLemmas
 pub mod EntryParts
-pub mod LineParts
 pub mod TraceText
 pub mod LedOutlines
 pub mod EntryLines

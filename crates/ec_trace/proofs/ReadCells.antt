@@ -9,14 +9,14 @@ use Rattle.std.proofs.lemmas.List.Elements.{All-from_get_or, recursion_from_All}
 use Rattle.std.proofs.lemmas.Str.Parse.{not_in_digits}
 use Rattle.std.proofs.lemmas.Fmt.{digits_decimal}
 use Rattle.ec_count.specs.Names.{find_name}
-use Rattle.ec_heading.proofs.SpelledWords.{AreWords}
+use Rattle.ec_heading.proofs.shared.SpelledWords.{AreWords}
 use Rattle.ec_count.specs.declared.target.Target.{Target}
 use Rattle.ec_count.specs.declared.target.Target.TheVariants.{Cells}
 use Rattle.ec_text.specs.Words.{number_of}
-use Rattle.ec_text.proofs.NumberLemmas.{own, number_again, number_takes, guarded}
+use Rattle.ec_text.proofs.shared.NumberLemmas.{own, number_again, number_takes, guarded}
 use Rattle.ec_heading.specs.Spelling.{cell_word}
 use Rattle.ec_heading.specs.Spelled.{Named, cut_at, closed_number, block_of, cell_at, cell_of, cell_by, cell_in_word}
-use Rattle.ec_heading.proofs.ReadNames.{AreApart, bracketed, cell_back, HasBlock, block_by, IsNamedBy, word_lacks}
+use Rattle.ec_heading.proofs.shared.ReadNames.{AreApart, bracketed, cell_back, HasBlock, block_by, IsNamedBy, word_lacks}
 
 -- STEPS THAT MAY FAIL
 

@@ -15,18 +15,18 @@ use Rattle.ec_core.specs.declared.act.Reply.{Reply}
 use Rattle.ec_core.specs.declared.act.Reply.TheVariants.{Done, Number, Pending}
 use Rattle.ec_core.specs.declared.act.Entry.{Entry}
 use Rattle.ec_count.specs.Names.{find_name}
-use Rattle.ec_heading.proofs.SpelledWords.{AreWords}
+use Rattle.ec_heading.proofs.shared.SpelledWords.{AreWords}
 use Rattle.ec_count.specs.declared.target.Target.{Target}
 use Rattle.ec_count.specs.declared.target.Target.TheVariants.{Worker, Event, Sequencer}
 use Rattle.ec_text.specs.Words.{words_of, number_of, IsWord}
-use Rattle.ec_text.proofs.WordLemmas.{HasFirst, has_first, words_join, split_join, literal_word}
-use Rattle.ec_text.proofs.NumberLemmas.{own, number_again, number_takes, guarded}
+use Rattle.ec_text.proofs.shared.WordLemmas.{HasFirst, has_first, words_join, split_join, literal_word}
+use Rattle.ec_text.proofs.shared.NumberLemmas.{own, number_again, number_takes, guarded}
 use Rattle.ec_heading.specs.Spelling.{word_of, cell_word, act_words, reply_word, entry_words, entry_line}
 use Rattle.ec_heading.specs.Lists.{worker_of, worker_in}
 use Rattle.ec_heading.specs.Spelled.{Named, event_of, sequencer_of, event_in, sequencer_in, cell_in_word}
 use Rattle.ec_trace.specs.Entries.{◌>>=◌, act_alone, act_on, act_with, reply_of, entry_by, entry_in, entry_of}
 use Rattle.ec_trace.specs.Step.{limit_in}
-use Rattle.ec_heading.proofs.ReadNames.{AreApart, HasName, is_celled, HasBlock, has_block, block_by, IsNamedBy, named_by, word_lacks, word_back, bracketed}
+use Rattle.ec_heading.proofs.shared.ReadNames.{AreApart, HasName, is_celled, HasBlock, has_block, block_by, IsNamedBy, named_by, word_lacks, word_back, bracketed}
 use Rattle.ec_trace.proofs.ReadCells.{decimal_lacks, cell_again, cell_spelled}
 
 pub too_many : (names : Named) (a b c d e f more : List ℕ) → entry_in names (a ∷ b ∷ c ∷ d ∷ e ∷ f ∷ words_of more) ≡ None

@@ -16,8 +16,8 @@ use Rattle.ec_core.specs.declared.act.Reply.{Reply}
 use Rattle.ec_core.specs.declared.act.Reply.TheVariants.{Done, Number, Pending}
 use Rattle.ec_core.specs.declared.act.Refusal.{Refusal}
 use Rattle.ec_core.specs.declared.act.Entry.{Entry}
-use Rattle.ec_core.proofs.Answering.{allowed}
-use Rattle.ec_core.proofs.Bounds.{told_small}
+use Rattle.ec_core.proofs.shared.Answering.{allowed}
+use Rattle.ec_core.proofs.shared.Bounds.{told_small}
 use Rattle.ec_heading.specs.Headed.{Headed}
 use Rattle.ec_trace.specs.declared.fault.LineFault.{LineFault}
 use Rattle.ec_trace.specs.declared.fault.LineFault.TheVariants.{Bad, WrongReply}
@@ -30,7 +30,7 @@ use Rattle.ec_trace.specs.Entries.{entry_in, entry_of}
 use Rattle.ec_trace.specs.Step.{step, entry_step, entered, answered, ran_on, same_reply}
 use Rattle.ec_trace.specs.FirstFault.{Leads, IsLine}
 use Rattle.ec_trace.proofs.TraceLines.{entry_line_is}
-use Rattle.ec_heading.proofs.ReadHeadings.{IsSound, is_declared}
+use Rattle.ec_heading.proofs.shared.ReadHeadings.{IsSound, is_declared}
 use Rattle.ec_trace.proofs.ReadEntries.{ActIsNamed, ReplyIsShort, IsSpellable, entry_again, entry_spelled}
 
 -- PASTS THAT GROW

@@ -10,7 +10,7 @@ use Rattle.ec_core.specs.declared.act.Act.TheVariants as acts
 use Rattle.ec_core.specs.declared.act.Reply.{Reply}
 use Rattle.ec_core.specs.declared.act.Reply.TheVariants.{Done, Number, Pending}
 use Rattle.ec_core.specs.declared.act.Entry.{Entry}
-use Rattle.ec_heading.proofs.SpelledWords.{IsPlainWord, AreWords}
+use Rattle.ec_heading.proofs.shared.SpelledWords.{IsPlainWord, AreWords}
 use Rattle.ec_count.specs.Reserved.{is_name, is_name_byte, is_reserved}
 use Rattle.ec_count.specs.declared.target.Target.TheVariants.{Worker, Event, Sequencer}
 use Rattle.ec_text.specs.Words.{words_of}
@@ -24,9 +24,9 @@ use Rattle.ec_heading.specs.Spelled.{Named}
 use Rattle.ec_heading.specs.Heading.{head_step, is_no_line, words_step}
 use Rattle.ec_heading.specs.HeadingLaws.{LinesLead, outline_lines}
 use Rattle.ec_trace.specs.FirstFault.{IsLine}
-use Rattle.ec_heading.proofs.Each.{each_append}
-use Rattle.ec_heading.proofs.SortFacts.{is_literal, literal, literal_lacks as letters_lack, is_stop, other_stop, sort_literal, opener_literal, number_small, name_called, called}
-use Rattle.ec_heading.proofs.ReadNames.{HasBlock, has_block, block_by, named_by, word_lacks}
+use Rattle.ec_heading.proofs.shared.Each.{each_append}
+use Rattle.ec_heading.proofs.shared.SortFacts.{is_literal, literal, literal_lacks as letters_lack, is_stop, other_stop, sort_literal, opener_literal, number_small, name_called, called}
+use Rattle.ec_heading.proofs.shared.ReadNames.{HasBlock, has_block, block_by, named_by, word_lacks}
 use Rattle.ec_trace.proofs.ReadCells.{decimal_lacks}
 use Rattle.ec_trace.proofs.ReadEntries.{ActIsNamed, ReplyIsShort, IsSpellable}
 

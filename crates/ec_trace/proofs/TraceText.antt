@@ -6,9 +6,9 @@ use Rattle.ec_heading.specs.Sorts.{sort_word, opener, other}
 use Rattle.ec_heading.specs.Outline.{Declaration, Outline, IsOutline, headed}
 use Rattle.ec_heading.specs.Spelling.{Named, list_words, second_words, name_words, number_words, declaration_line, limit_line, workers_line, entry_line, heading_lines, text_of, trace_text}
 use Rattle.ec_heading.specs.Recalled.{names_of, second_names, declared_words, declared_line, declarations_of, worker_names, opening_text, written_text}
-use Rattle.ec_trace.proofs.LineParts.{join_spaced, text_of-append}
-use Rattle.ec_heading.proofs.OutlineNames.{workers_found}
-use Rattle.ec_heading.proofs.OutlineFound.{declarations_found, name_of_worker, limit_found, worker_names_found}
+use Rattle.ec_trace.proofs.shared.LineParts.{join_spaced, text_of-append}
+use Rattle.ec_heading.proofs.shared.OutlineNames.{workers_found}
+use Rattle.ec_heading.proofs.shared.OutlineFound.{declarations_found, name_of_worker, limit_found, worker_names_found}
 
 -- the names of workers that an outline gives
 HasWorkers : List (List ℕ) → Named → Type 0

@@ -6,25 +6,25 @@ ghost use Rattle.ec_trace.specs.FirstFault.{LineFaultIsTheFirst, FirstFaultIsTol
 ghost use Rattle.ec_trace.specs.ReadingLaws.{TraceIsRead, ReadIsTrace, TraceHasOneMeaning, NoTraceBeginsAnother, WrittenIsReadAgain};
 
 /// A trace is read as its heading and its history.
-#[tactic(auto, using(crate::proofs::ReadTraces::trace_is_read))]
+#[tactic(auto, using(crate::proofs::shared::ReadTraces::trace_is_read))]
 pub fn trace_is_read()
     ensures { TraceIsRead }
 {}
 
 /// What is read is a trace of the heading and of the history that it is read as.
-#[tactic(auto, using(crate::proofs::ReadTraces::read_is_trace))]
+#[tactic(auto, using(crate::proofs::shared::ReadTraces::read_is_trace))]
 pub fn read_is_trace()
     ensures { ReadIsTrace }
 {}
 
 /// No two pairs of a heading and a history share a trace.
-#[tactic(auto, using(crate::proofs::ReadTraces::trace_has_one_meaning))]
+#[tactic(auto, using(crate::proofs::shared::ReadTraces::trace_has_one_meaning))]
 pub fn trace_has_one_meaning()
     ensures { TraceHasOneMeaning }
 {}
 
 /// No trace is a proper front of another.
-#[tactic(auto, using(crate::proofs::ReadTraces::no_trace_begins_another))]
+#[tactic(auto, using(crate::proofs::shared::ReadTraces::no_trace_begins_another))]
 pub fn no_trace_begins_another()
     ensures { NoTraceBeginsAnother }
 {}
@@ -76,7 +76,7 @@ pub fn faults_of_entries()
 {}
 
 /// What `write_trace` writes of a run under a heading is read again as the same heading and the same run, where it is within the bound.
-#[tactic(auto, using(crate::proofs::ReadTraces::written_is_read))]
+#[tactic(auto, using(crate::proofs::shared::ReadTraces::written_is_read))]
 pub fn written_is_read_again()
     ensures { WrittenIsReadAgain }
 {}

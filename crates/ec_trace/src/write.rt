@@ -133,7 +133,7 @@ fn put_entry_at<W: Write>(
 }
 
 /// Puts the lines of a run's entries.
-#[tactic(auto, using(crate::proofs::LineParts::one_more_entry))]
+#[tactic(auto, using(crate::proofs::shared::LineParts::one_more_entry))]
 fn put_entries<W: Write>(
     writer: &mut W,
     buffered: &mut Buffered,

@@ -173,7 +173,7 @@ fn put_second<W: Write>(
 }
 
 /// Puts the line of a declaration, without LF.
-#[tactic(auto, using(crate::proofs::LineParts::line_parts))]
+#[tactic(auto, using(crate::proofs::shared::LineParts::line_parts))]
 fn put_line<W: Write>(
     writer: &mut W,
     buffered: &mut Buffered,
@@ -191,7 +191,7 @@ fn put_line<W: Write>(
 }
 
 /// Puts the names of the first workers, each with a space before it.
-#[tactic(auto, using(crate::proofs::LineParts::one_more_worker))]
+#[tactic(auto, using(crate::proofs::shared::LineParts::one_more_worker))]
 fn put_workers<W: Write>(
     writer: &mut W,
     buffered: &mut Buffered,
@@ -225,7 +225,7 @@ fn put_target<W: Write>(
 }
 
 /// Puts the lines of the declarations.
-#[tactic(auto, using(crate::proofs::LineParts::one_more_target))]
+#[tactic(auto, using(crate::proofs::shared::LineParts::one_more_target))]
 fn put_targets<W: Write>(
     writer: &mut W,
     buffered: &mut Buffered,
@@ -240,7 +240,7 @@ fn put_targets<W: Write>(
 }
 
 /// Puts the lines before the entries.
-#[tactic(auto, using(crate::proofs::LineParts::opening_parts))]
+#[tactic(auto, using(crate::proofs::shared::LineParts::opening_parts))]
 pub(crate) fn put_opening<W: Write>(
     writer: &mut W,
     buffered: &mut Buffered,

@@ -1,6 +1,5 @@
-pub mod AuditLemmas
+pub mod shared
 pub mod Undeclared
-pub mod TotalLemmas
 pub mod CheckLemmas
 pub mod OneText
 pub mod NoteLemmas

@@ -1,7 +1,7 @@
 -- Notes leave their table.
 use Rattle.std.proofs.Common.{◌≡◌, ℕ, List, [], subst, sym}
 use Rattle.ec_text.specs.Puts.{Held, Holds, nothing_held}
-use Rattle.ec_text.proofs.PutLemmas.{begins, ends_ok, ends_err}
+use Rattle.ec_text.proofs.shared.PutLemmas.{begins, ends_ok, ends_err}
 use Rattle.evc_engine.specs.Checks.{Outlets, Notes}
 use Rattle.evc_engine.specs.NoteLaws.{NotesLeaveTheTable}
 

@@ -4,7 +4,7 @@ use Rattle.std.specs.Io.KnownBytes.{Keeps}
 use Rattle.std.proofs.lemmas.Bool.{cases_order}
 use Rattle.ec_core.specs.declared.act.Entry.{Entry}
 use Rattle.ec_core.specs.Following.{Rule, BreaksAt}
-use Rattle.ec_core.proofs.Breaks.{breaks_first, follow_or_break}
+use Rattle.ec_core.proofs.shared.Breaks.{breaks_first, follow_or_break}
 use Rattle.ec_heading.specs.Headed.{Headed}
 use Rattle.ec_heading.specs.declared.group.Group.{Group}
 use Rattle.ec_heading.specs.Rules.{group_rules}

@@ -10,17 +10,17 @@ use Rattle.ec_core.specs.Acceptance.{IsAccepted}
 use Rattle.ec_buffer.specs.declared.delivery.Delivery.{Delivery}
 use Rattle.ec_buffer.specs.Items.{AreDeliveries}
 use Rattle.ec_buffer.specs.Shapes.{Buffer, IsShape, next_buffer, buffer_fault, lacks_room}
-use Rattle.ec_buffer.proofs.OneList as deliveries
+use Rattle.ec_buffer.proofs.shared.OneList as deliveries
 use Rattle.ec_count.specs.Tables.{IsDeclared}
-use Rattle.ec_count.proofs.Disjoint.{roles_of}
+use Rattle.ec_count.proofs.shared.Disjoint.{roles_of}
 use Rattle.std.proofs.lemmas.Bool.{or_parts, ne_eqb, ltb-false}
-use Rattle.ec_core.proofs.Breaks.{follow_or_break}
+use Rattle.ec_core.proofs.shared.Breaks.{follow_or_break}
 use Rattle.ec_database.specs.Shapes.{Database}
 use Rattle.ec_database.specs.Tries.{AcceptedTry, ListsTries}
 use Rattle.ec_database.specs.declared.audit.Accepted.{Accepted}
 use Rattle.ec_database.specs.Auditing.{shown}
-use Rattle.ec_database.proofs.OneList as tries
-use Rattle.ec_order.proofs.Matching.{at_index}
+use Rattle.ec_database.proofs.shared.OneList as tries
+use Rattle.ec_order.proofs.shared.Matching.{at_index}
 use Rattle.ec_semaphore.specs.Shapes.{Semaphore}
 use Rattle.ec_semaphore.specs.Balances.{parts_of}
 use Rattle.ec_semaphore.specs.Pairs.{pairs_of}
@@ -32,8 +32,8 @@ use Rattle.ec_heading.specs.declared.sort.Sort.TheVariants as sorts
 use Rattle.ec_heading.specs.Spelling.{text_of}
 use Rattle.ec_trace.specs.Outcome.{outcome}
 use Rattle.ec_trace.specs.declared.fault.TraceFault.{TraceFault}
-use Rattle.ec_heading.proofs.Each.{each_append}
-use Rattle.ec_heading.proofs.ReadHeadings.{sound, is_declared}
+use Rattle.ec_heading.proofs.shared.Each.{each_append}
+use Rattle.ec_heading.proofs.shared.ReadHeadings.{sound, is_declared}
 use Rattle.ec_heading.specs.Headed.{Headed}
 use Rattle.ec_trace.specs.Recounted.{Recounted}
 use Rattle.ec_heading.specs.declared.group.Group.{Group}

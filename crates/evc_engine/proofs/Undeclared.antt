@@ -10,8 +10,8 @@ use Rattle.ec_core.specs.declared.act.Entry.{Entry}
 use Rattle.ec_core.specs.Counts.{total, issued, cell_value, component_total, sum_to, is_ticket, put_in}
 use Rattle.ec_core.specs.Acceptance.{IsAccepted, names_unknown_object}
 use Rattle.ec_core.specs.Standing.{State, StandsFor}
-use Rattle.ec_core.proofs.Totals.{total_is}
-use Rattle.ec_core.proofs.Answering.{allowed}
+use Rattle.ec_core.proofs.shared.Totals.{total_is}
+use Rattle.ec_core.proofs.shared.Answering.{allowed}
 
 none_at : (rows : List Rights) (e : ℕ) → length rows ≤ e → length (option_map_or (λ (r : Rights). r.signal) (slice_get rows e) []) ≡ 0
 none_at [] e h = refl

@@ -1,10 +1,10 @@
+pub mod shared
 pub mod InputLemmas
 pub mod WrittenLines
 pub mod SameLines
 pub mod OneRun
 pub mod OneNote
 pub mod OutcomeLines
-pub mod ReadAgain
 pub mod SimEnds
 pub mod RunLemmas
 pub mod SameReports

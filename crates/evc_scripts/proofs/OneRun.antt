@@ -10,14 +10,14 @@ use Rattle.ec_machine.specs.Steps.{own}
 use Rattle.ec_heading.specs.Headed.{Headed}
 use Rattle.ec_heading.specs.Recalled.{outline_of}
 use Rattle.ec_heading.specs.Spelling.{trace_text}
-use Rattle.ec_heading.proofs.OutlineFound.{outline_found}
+use Rattle.ec_heading.proofs.shared.OutlineFound.{outline_found}
 use Rattle.ec_script.specs.declared.order.Order.{Order}
 use Rattle.ec_script.specs.Flat.{flat}
 use Rattle.ec_script.specs.Scripted.{Planned}
 use Rattle.ec_runner.specs.Reported.{AreOutcomes}
 use Rattle.ec_runner.specs.Schedules.{Turn, IsTurn, AreTurns, Plays, HasEnded, entries_of, refusal_told, ended_by, outcome_after}
-use Rattle.ec_runner.proofs.InOrder.{one_run, ended_not_played}
-use Rattle.ec_runner.proofs.Histories.{no_history}
+use Rattle.ec_runner.proofs.shared.InOrder.{one_run, ended_not_played}
+use Rattle.ec_runner.proofs.shared.Histories.{no_history}
 use Rattle.evc_engine.specs.declared.status.Status.TheVariants.{Done, Refused}
 use Rattle.evc_engine.specs.Checks.{Outlets}
 use Rattle.evc_scripts.specs.OutcomeNotes.{outcomes_note}

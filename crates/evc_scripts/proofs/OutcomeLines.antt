@@ -2,11 +2,11 @@
 use Rattle.std.proofs.Common.{◌≡◌, ℕ, suc, ◌+◌, List, [], ◌∷◌, ◌++◌, Option, Some, length, take, slice_get, ap, sym, subst, ◌∙◌, refl, arith, append_assoc, append-nil}
 use Rattle.ec_machine.specs.declared.outcome.Outcome.{Outcome}
 use Rattle.ec_text.specs.Puts.{Puts, Held}
-use Rattle.ec_text.proofs.PutLemmas.{puts_then}
+use Rattle.ec_text.proofs.shared.PutLemmas.{puts_then}
 use Rattle.ec_heading.specs.Spelling.{Named, text_of}
-use Rattle.ec_trace.proofs.LineParts.{text_of-append}
-use Rattle.evc_engine.proofs.TotalLemmas.{take_next}
-use Rattle.evc_engine.proofs.AuditLemmas.{taken_length}
+use Rattle.ec_trace.proofs.shared.LineParts.{text_of-append}
+use Rattle.evc_engine.proofs.shared.TotalLemmas.{take_next}
+use Rattle.evc_engine.proofs.shared.AuditLemmas.{taken_length}
 use Rattle.evc_scripts.specs.OutcomeNotes.{outcome_line, outcome_lines}
 
 -- the lines of one more worker

@@ -15,7 +15,7 @@ use Rattle.ec_script.specs.declared.plan.Plan.{Plan}
 use Rattle.ec_script.specs.Grammar.{IsScript, IsNoScript}
 use Rattle.ec_script.specs.Outcome.{outcome, shown_plan}
 use Rattle.ec_script.specs.Scripted.{Planned}
-use Rattle.ec_script.proofs.Texts.{read_is_script, script_is_read}
+use Rattle.ec_script.proofs.shared.Texts.{read_is_script, script_is_read}
 use Rattle.evc_engine.specs.declared.status.Status.{Status}
 use Rattle.evc_engine.specs.declared.status.Status.TheVariants.{Done, Refused, Usage, InputOutput, Memory, Stopped}
 use Rattle.evc_engine.specs.Checks.{Outlets}

@@ -1,4 +1,4 @@
-use Rattle.ec_buffer.proofs.Staying.{buffers_stay}
+use Rattle.ec_buffer.proofs.shared.Staying.{buffers_stay}
 use Rattle.ec_buffer.proofs.laws.declared_buffers_stay.Goals as goal
 
 pub returns : goal.returns

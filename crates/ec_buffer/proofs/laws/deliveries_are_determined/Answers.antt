@@ -1,4 +1,4 @@
-use Rattle.ec_buffer.proofs.OneList.{determined}
+use Rattle.ec_buffer.proofs.shared.OneList.{determined}
 use Rattle.ec_buffer.proofs.laws.deliveries_are_determined.Goals as goal
 
 pub returns : goal.returns

@@ -2,7 +2,7 @@ use Rattle.std.proofs.Common.{◌≡◌, ◌∙◌, ℕ, ap, sym, refl, arith}
 use Rattle.ec_core.specs.Counts.{sum_to}
 use Rattle.ec_core.specs.Fields.{value_of}
 use Rattle.ec_core.specs.Standing.{count_at}
-use Rattle.ec_core.proofs.Totals.{sum_to_next}
+use Rattle.ec_core.proofs.shared.Totals.{sum_to_next}
 use Rattle.ec_core.proofs.fields.sum_of.Goals as goal
 
 pub loop-component-init : goal.loop-component-init

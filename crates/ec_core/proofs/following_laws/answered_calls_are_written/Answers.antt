@@ -1,4 +1,4 @@
-use Rattle.ec_core.proofs.WrittenLists.{answered}
+use Rattle.ec_core.proofs.shared.WrittenLists.{answered}
 use Rattle.ec_core.proofs.following_laws.answered_calls_are_written.Goals as goal
 
 pub returns : goal.returns

@@ -1,4 +1,4 @@
-use Rattle.ec_core.proofs.JoinedLists.{following_joins}
+use Rattle.ec_core.proofs.shared.JoinedLists.{following_joins}
 use Rattle.ec_core.proofs.following_laws.following_means_joined_lists.Goals as goal
 
 pub returns : goal.returns

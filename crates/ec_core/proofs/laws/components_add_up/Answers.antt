@@ -1,6 +1,6 @@
 use Rattle.ec_core.specs.Counts.{past_at}
-use Rattle.ec_core.proofs.Moments.{beginnings}
-use Rattle.ec_core.proofs.Totals.{total_is}
+use Rattle.ec_core.proofs.shared.Moments.{beginnings}
+use Rattle.ec_core.proofs.shared.Totals.{total_is}
 use Rattle.ec_core.proofs.laws.components_add_up.Goals as goal
 
 pub returns : goal.returns

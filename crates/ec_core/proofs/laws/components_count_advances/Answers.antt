@@ -1,4 +1,4 @@
-use Rattle.ec_core.proofs.Counting.{components_count}
+use Rattle.ec_core.proofs.shared.Counting.{components_count}
 use Rattle.ec_core.proofs.laws.components_count_advances.Goals as goal
 
 pub returns : goal.returns

@@ -1,6 +1,6 @@
 use Rattle.ec_core.specs.Counts.{past_at}
-use Rattle.ec_core.proofs.Bounds.{component_within, issued_within}
-use Rattle.ec_core.proofs.Moments.{beginnings}
+use Rattle.ec_core.proofs.shared.Bounds.{component_within, issued_within}
+use Rattle.ec_core.proofs.shared.Moments.{beginnings}
 use Rattle.ec_core.proofs.laws.counts_keep_the_limit.Goals as goal
 
 pub returns : goal.returns

@@ -1,4 +1,4 @@
-use Rattle.ec_core.proofs.Counting.{issued_count}
+use Rattle.ec_core.proofs.shared.Counting.{issued_count}
 use Rattle.ec_core.proofs.laws.issued_counts_tickets.Goals as goal
 
 pub returns : goal.returns

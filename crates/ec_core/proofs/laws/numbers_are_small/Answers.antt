@@ -1,6 +1,6 @@
 use Rattle.ec_core.specs.Counts.{past_at}
-use Rattle.ec_core.proofs.Bounds.{told_small}
-use Rattle.ec_core.proofs.Moments.{beginnings, accepted_at}
+use Rattle.ec_core.proofs.shared.Bounds.{told_small}
+use Rattle.ec_core.proofs.shared.Moments.{beginnings, accepted_at}
 use Rattle.ec_core.proofs.laws.numbers_are_small.Goals as goal
 
 pub returns : goal.returns

@@ -1,5 +1,5 @@
 use Rattle.ec_core.specs.Counts.{past_at}
-use Rattle.ec_core.proofs.Moments.{beginnings, accepted_at}
+use Rattle.ec_core.proofs.shared.Moments.{beginnings, accepted_at}
 use Rattle.ec_core.proofs.ReplyKinds.{kind_is}
 use Rattle.ec_core.proofs.laws.replies_fit_their_acts.Goals as goal
 

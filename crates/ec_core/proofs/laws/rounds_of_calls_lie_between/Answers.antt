@@ -1,4 +1,4 @@
-use Rattle.ec_core.proofs.CallRounds.{rounds_of_calls}
+use Rattle.ec_core.proofs.shared.CallRounds.{rounds_of_calls}
 use Rattle.ec_core.proofs.laws.rounds_of_calls_lie_between.Goals as goal
 
 pub returns : goal.returns

@@ -1,4 +1,4 @@
-use Rattle.ec_core.proofs.Counting.{totals_rise}
+use Rattle.ec_core.proofs.shared.Counting.{totals_rise}
 use Rattle.ec_core.proofs.laws.totals_rise_by_one.Goals as goal
 
 pub returns : goal.returns

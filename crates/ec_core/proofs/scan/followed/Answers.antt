@@ -1,6 +1,6 @@
 use Rattle.std.proofs.Common.{reverse}
 use Rattle.ec_core.specs.Following.{block}
-use Rattle.ec_core.proofs.Breaks.{break_next, follow_or_break}
+use Rattle.ec_core.proofs.shared.Breaks.{break_next, follow_or_break}
 use Rattle.ec_core.proofs.scan.followed.Goals as goal
 
 pub returns-then-not-is_right-clause-err : goal.returns-then-not-is_right-clause-err

@@ -1,6 +1,6 @@
 use Rattle.std.proofs.Common.{◌≡◌, ◌+◌, ◌-◌, ◌*◌, ◌/◌, ◌%◌, ◌<◌, ◌≤◌, ◌∙◌, length, slice_get, Some, ap, sym, refl, arith}
 use Rattle.std.proofs.lemmas.Option.{slice_get_read}
-use Rattle.ec_core.proofs.Joining.{get_joined, get_last, place_small}
+use Rattle.ec_core.proofs.shared.Joining.{get_joined, get_last, place_small}
 use Rattle.ec_core.proofs.segments.stored_at.Goals as goal
 
 pub returns-then-place-len-clause-value : goal.returns-then-place-len-clause-value

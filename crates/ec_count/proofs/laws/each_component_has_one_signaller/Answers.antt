@@ -1,4 +1,4 @@
-use Rattle.ec_count.proofs.Declared.{one_signaller}
+use Rattle.ec_count.proofs.shared.Declared.{one_signaller}
 use Rattle.ec_count.proofs.laws.each_component_has_one_signaller.Goals as goal
 
 pub returns : goal.returns

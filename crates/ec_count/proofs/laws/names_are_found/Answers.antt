@@ -1,4 +1,4 @@
-use Rattle.ec_count.proofs.Named.{names_found}
+use Rattle.ec_count.proofs.shared.Named.{names_found}
 use Rattle.ec_count.proofs.laws.names_are_found.Goals as goal
 
 pub returns : goal.returns

@@ -1,4 +1,4 @@
-use Rattle.ec_count.proofs.Named.{name_utf8}
+use Rattle.ec_count.proofs.shared.Named.{name_utf8}
 use Rattle.ec_count.proofs.names.text_of.Goals as goal
 
 pub unreachable-requires : goal.unreachable-requires

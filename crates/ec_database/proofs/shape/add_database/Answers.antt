@@ -1,7 +1,7 @@
 use Rattle.std.proofs.Common.{◌≡◌, ℕ, List, ap, ◌∙◌, ◌++◌}
 use Rattle.ec_count.specs.Tables.{Tables, event_fault, with_event}
 use Rattle.ec_count.specs.Declares.{with_sequencer}
-use Rattle.ec_count.proofs.Adding.{ok_of}
+use Rattle.ec_count.proofs.shared.Adding.{ok_of}
 use Rattle.ec_database.proofs.Declaring.{free_of, result_of}
 use Rattle.ec_database.proofs.shape.add_database.Goals as goal
 

@@ -1,4 +1,4 @@
-use Rattle.ec_heading.proofs.NameWords.{added_short}
+use Rattle.ec_heading.proofs.shared.NameWords.{added_short}
 use Rattle.ec_heading.proofs.heading.+add_workers.Goals as goal
 
 pub add-requires-clause-short : goal.add-requires-clause-short

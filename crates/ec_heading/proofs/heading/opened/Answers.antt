@@ -3,7 +3,7 @@ use Rattle.ec_count.specs.Tables.{Tables}
 use Rattle.ec_count.specs.declared.target.Target.{Target}
 use Rattle.ec_text.specs.Words.{words_of}
 use Rattle.ec_heading.specs.Outline.{numbered}
-use Rattle.ec_heading.proofs.Standing.{opens}
+use Rattle.ec_heading.proofs.shared.Standing.{opens}
 use Rattle.ec_heading.proofs.heading.opened.Goals as goal
 
 pub invariant_of-result : goal.invariant_of-result

@@ -3,7 +3,7 @@ use Rattle.std.specs.Option.{unwrap_or}
 use Rattle.std.specs.Borrow.{Bor}
 use Rattle.ec_text.specs.Words.{words_of}
 use Rattle.ec_heading.specs.Lists.{ids_in}
-use Rattle.ec_heading.proofs.Declarable.{no_second}
+use Rattle.ec_heading.proofs.shared.Declarable.{no_second}
 use Rattle.ec_heading.proofs.kinds.has_two_roles.Goals as goal
 
 pub returns-in-None : goal.returns-in-None

@@ -1,7 +1,7 @@
 use Rattle.std.proofs.Common.{sym, ◌∙◌, subst, length}
 use Rattle.ec_machine.specs.Follows.{program_at}
 use Rattle.ec_machine.specs.Standing.{StandsFor}
-use Rattle.ec_machine.proofs.OwnSteps.{own_more, not_due, entry_next, order_more}
+use Rattle.ec_machine.proofs.shared.OwnSteps.{own_more, not_due, entry_next, order_more}
 use Rattle.ec_machine.proofs.follow.follows_one.Goals as goal
 
 pub goes_with-requires : goal.goes_with-requires

@@ -1,5 +1,5 @@
 use Rattle.ec_machine.specs.Runs.{program_call}
-use Rattle.ec_machine.proofs.OwnSteps.{run_before}
+use Rattle.ec_machine.proofs.shared.OwnSteps.{run_before}
 use Rattle.ec_machine.proofs.laws.beginnings_are_runs.Goals as goal
 
 pub returns : goal.returns

@@ -1,4 +1,4 @@
-use Rattle.ec_runner.proofs.Histories.{no_history}
+use Rattle.ec_runner.proofs.shared.Histories.{no_history}
 use Rattle.ec_runner.proofs.laws.ended_has_no_history.Goals as goal
 
 pub returns : goal.returns

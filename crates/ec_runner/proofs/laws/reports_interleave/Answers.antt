@@ -1,4 +1,4 @@
-use Rattle.ec_core.proofs.Moments.{accepted_means}
+use Rattle.ec_core.proofs.shared.Moments.{accepted_means}
 use Rattle.ec_runner.proofs.Interleaving.{interleave}
 use Rattle.ec_runner.proofs.laws.reports_interleave.Goals as goal
 

@@ -1,5 +1,5 @@
 use Rattle.std.proofs.Common.{◌≡◌, sym, ◌∙◌, ap, ◌++◌, subst}
-use Rattle.ec_machine.proofs.OwnSteps.{order_more}
+use Rattle.ec_machine.proofs.shared.OwnSteps.{order_more}
 use Rattle.ec_runner.specs.Walks.{AreLogsOf}
 use Rattle.ec_runner.proofs.Walking.{all_walked, append_none, then_none}
 use Rattle.ec_runner.proofs.walk.first_unlike.Goals as goal

@@ -1,4 +1,4 @@
-use Rattle.ec_script.proofs.WrittenOut.{confined_lines}
+use Rattle.ec_script.proofs.shared.WrittenOut.{confined_lines}
 use Rattle.ec_script.proofs.laws.confined_lines_are_confined_commands.Goals as goal
 
 pub returns : goal.returns

@@ -1,4 +1,4 @@
-use Rattle.ec_script.proofs.Texts.{fault_is_first}
+use Rattle.ec_script.proofs.shared.Texts.{fault_is_first}
 use Rattle.ec_script.proofs.laws.fault_is_the_first.Goals as goal
 
 pub returns : goal.returns

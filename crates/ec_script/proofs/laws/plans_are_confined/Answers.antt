@@ -1,4 +1,4 @@
-use Rattle.ec_script.proofs.Keeping.{plans_are_confined}
+use Rattle.ec_script.proofs.shared.Keeping.{plans_are_confined}
 use Rattle.ec_script.proofs.laws.plans_are_confined.Goals as goal
 
 pub returns : goal.returns

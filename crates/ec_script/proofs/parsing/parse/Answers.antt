@@ -1,7 +1,7 @@
 use Rattle.std.proofs.Common.{sym, subst, arith}
 use Rattle.ec_script.specs.Outcome.{Tells}
-use Rattle.ec_script.proofs.Texts.{within_goes}
-use Rattle.ec_script.proofs.Keeping.{told_plan, told_commands}
+use Rattle.ec_script.proofs.shared.Texts.{within_goes}
+use Rattle.ec_script.proofs.shared.Keeping.{told_plan, told_commands}
 use Rattle.ec_script.proofs.parsing.parse.Goals as goal
 
 pub returns-clause-plan : goal.returns-clause-plan

@@ -1,7 +1,7 @@
 use Rattle.std.proofs.Common.{List, reverse, subst, sym, ◌∙◌, arith}
 use Rattle.ec_core.specs.declared.act.Entry.{Entry}
 use Rattle.ec_core.specs.Scanning.{IsScanned}
-use Rattle.ec_core.proofs.Stepping.{past_after}
+use Rattle.ec_core.proofs.shared.Stepping.{past_after}
 use Rattle.ec_semaphore.specs.Keeping.{kept_of_use}
 use Rattle.ec_semaphore.specs.Uses.{use_rules}
 use Rattle.ec_semaphore.proofs.Counting.{no_downs, no_ups, down_more, up_more, few_more, order_more}

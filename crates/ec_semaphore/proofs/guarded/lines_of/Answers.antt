@@ -1,6 +1,6 @@
 use Rattle.std.proofs.Common.{false, refl, replicate, ◌∙◌, arith}
 use Rattle.std.proofs.Math.ListN.{length-set}
-use Rattle.ec_semaphore.proofs.Lines.{tabled_none, tabled_next}
+use Rattle.ec_semaphore.proofs.shared.Lines.{tabled_none, tabled_next}
 use Rattle.ec_semaphore.proofs.guarded.lines_of.Goals as goal
 
 pub loop-shape-init : goal.loop-shape-init

@@ -1,7 +1,7 @@
 use Rattle.std.proofs.Common.{reverse}
 use Rattle.ec_semaphore.specs.Both.{is_line}
-use Rattle.ec_semaphore.proofs.Implying.{both_implies_use}
-use Rattle.ec_semaphore.proofs.Lines.{not_common}
+use Rattle.ec_semaphore.proofs.shared.Implying.{both_implies_use}
+use Rattle.ec_semaphore.proofs.shared.Lines.{not_common}
 use Rattle.ec_semaphore.proofs.laws.both_is_followed_as_a_semaphore.Goals as goal
 
 pub returns : goal.returns

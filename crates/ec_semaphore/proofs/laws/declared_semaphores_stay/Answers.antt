@@ -1,4 +1,4 @@
-use Rattle.ec_semaphore.proofs.Staying.{semaphores_stay}
+use Rattle.ec_semaphore.proofs.shared.Staying.{semaphores_stay}
 use Rattle.ec_semaphore.proofs.laws.declared_semaphores_stay.Goals as goal
 
 pub returns : goal.returns

@@ -1,6 +1,6 @@
 use Rattle.ec_semaphore.specs.Both.{is_line}
 use Rattle.ec_semaphore.proofs.Drawing.{pairs_drawn}
-use Rattle.ec_semaphore.proofs.Lines.{not_common}
+use Rattle.ec_semaphore.proofs.shared.Lines.{not_common}
 use Rattle.ec_semaphore.proofs.laws.pairs_are_drawn.Goals as goal
 
 pub returns : goal.returns

@@ -1,7 +1,7 @@
 use Rattle.std.proofs.Common.{reverse}
 use Rattle.ec_semaphore.specs.Both.{is_line}
 use Rattle.ec_semaphore.proofs.TicketOrder.{pairs_ordered}
-use Rattle.ec_semaphore.proofs.Lines.{not_common}
+use Rattle.ec_semaphore.proofs.shared.Lines.{not_common}
 use Rattle.ec_semaphore.proofs.laws.tickets_agree.Goals as goal
 
 pub returns : goal.returns

@@ -7,7 +7,7 @@ use Rattle.ec_semaphore.specs.InOrder.{ArePairs}
 use Rattle.ec_semaphore.specs.Pairs.{IsEarlier, pairs_of}
 use Rattle.ec_semaphore.specs.Shapes.{Semaphore}
 use Rattle.ec_semaphore.proofs.Drawing.{pairs_drawn}
-use Rattle.ec_semaphore.proofs.Lines.{not_common}
+use Rattle.ec_semaphore.proofs.shared.Lines.{not_common}
 use Rattle.ec_semaphore.proofs.TicketOrder.{pairs_ordered}
 use Rattle.ec_semaphore.proofs.pairing.pairs.Goals as goal
 

@@ -3,7 +3,7 @@ use Rattle.std.proofs.Math.ListN.{length-set}
 use Rattle.ec_core.specs.declared.act.Entry.{Entry}
 use Rattle.ec_core.specs.Following.{block}
 use Rattle.ec_core.specs.Scanning.{IsScanned}
-use Rattle.ec_core.proofs.Stepping.{past_after}
+use Rattle.ec_core.proofs.shared.Stepping.{past_after}
 use Rattle.ec_semaphore.specs.Both.{is_line, both_rule, both_rules}
 use Rattle.ec_semaphore.specs.Keeping.{kept_of_both}
 use Rattle.ec_semaphore.proofs.Counting.{order_more}

@@ -1,7 +1,7 @@
 use Rattle.std.proofs.Common.{rules}
 use Rattle.std.specs.Io.KnownBytes.{Appends}
 use Rattle.ec_text.specs.Puts.{AppendsPrefix}
-use Rattle.ec_text.proofs.PutLemmas.{ends_flushed, ends_failed}
+use Rattle.ec_text.proofs.shared.PutLemmas.{ends_flushed, ends_failed}
 use Rattle.ec_text.proofs.buffered.finish.Goals as goal
 
 pub returns-then-has_failed-clause-err : goal.returns-then-has_failed-clause-err

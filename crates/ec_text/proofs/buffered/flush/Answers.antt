@@ -1,5 +1,5 @@
 use Rattle.std.proofs.Common.{rules}
-use Rattle.ec_text.proofs.PutLemmas.{puts_flushed}
+use Rattle.ec_text.proofs.shared.PutLemmas.{puts_flushed}
 use Rattle.ec_text.proofs.buffered.flush.Goals as goal
 
 pub returns-clause-puts : goal.returns-clause-puts

@@ -1,4 +1,4 @@
-use Rattle.ec_text.proofs.NumberLemmas.{number_takes}
+use Rattle.ec_text.proofs.shared.NumberLemmas.{number_takes}
 use Rattle.ec_text.proofs.laws.number_has_one_spelling.Goals as goal
 
 pub returns : goal.returns

@@ -1,4 +1,4 @@
-use Rattle.ec_text.proofs.WordLemmas.{front_none}
+use Rattle.ec_text.proofs.shared.WordLemmas.{front_none}
 use Rattle.ec_text.proofs.words.front.Goals as goal
 
 pub returns-then-line-ge16-clause-none : goal.returns-then-line-ge16-clause-none

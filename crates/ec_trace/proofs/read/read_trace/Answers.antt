@@ -1,5 +1,5 @@
 use Rattle.ec_trace.proofs.Stood.{ends}
-use Rattle.ec_trace.proofs.ReadTraces.{told_trace, told_fault}
+use Rattle.ec_trace.proofs.shared.ReadTraces.{told_trace, told_fault}
 use Rattle.ec_trace.proofs.read.read_trace.Goals as goal
 
 pub returns-clause-tells : goal.returns-clause-tells

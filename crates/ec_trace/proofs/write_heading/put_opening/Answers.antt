@@ -2,9 +2,9 @@ use Rattle.std.proofs.Common.{◌≡◌, ℕ, [], sym, ◌∙◌, ap, subst, dec
 use Rattle.std.specs.List.{range_with_len}
 use Rattle.ec_count.specs.Tables.{Tables}
 use Rattle.ec_text.specs.Puts.{Puts}
-use Rattle.ec_text.proofs.PutLemmas.{puts_then}
+use Rattle.ec_text.proofs.shared.PutLemmas.{puts_then}
 use Rattle.ec_heading.specs.Recalled.{spaced, names_of}
-use Rattle.ec_trace.proofs.LineParts.{opening_parts}
+use Rattle.ec_trace.proofs.shared.LineParts.{opening_parts}
 use Rattle.ec_trace.proofs.write_heading.put_opening.Goals as goal
 
 pub returns : goal.returns

@@ -4,7 +4,7 @@ use Rattle.ec_heading.specs.Spelling.{text_of}
 use Rattle.ec_heading.specs.Recalled.{declared_line, declaration_of}
 use Rattle.std.proofs.lemmas.List.{take_more}
 use Rattle.ec_count.specs.declared.target.Target.{Target}
-use Rattle.ec_trace.proofs.LineParts.{one_more_target}
+use Rattle.ec_trace.proofs.shared.LineParts.{one_more_target}
 use Rattle.ec_trace.proofs.write_heading.put_targets.Goals as goal
 
 pub loop-target-preserved : goal.loop-target-preserved

@@ -1,7 +1,7 @@
 use Rattle.std.proofs.Common.{sym, subst}
 use Rattle.ec_text.specs.Puts.{Puts}
-use Rattle.ec_text.proofs.PutLemmas.{puts_then}
-use Rattle.evc_engine.proofs.AuditLemmas.{audit_parts}
+use Rattle.ec_text.proofs.shared.PutLemmas.{puts_then}
+use Rattle.evc_engine.proofs.shared.AuditLemmas.{audit_parts}
 use Rattle.evc_engine.proofs.audit_text.put_audit.Goals as goal
 
 pub returns : goal.returns

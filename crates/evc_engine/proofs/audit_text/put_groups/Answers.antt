@@ -4,7 +4,7 @@ use Rattle.std.proofs.lemmas.List.{take_all}
 use Rattle.ec_text.specs.Puts.{Puts}
 use Rattle.ec_heading.specs.Spelling.{text_of}
 use Rattle.evc_engine.specs.AuditTexts.{group_word, audited_lines, groups_lines}
-use Rattle.evc_engine.proofs.AuditLemmas.{group_put, no_groups_put, taken_length}
+use Rattle.evc_engine.proofs.shared.AuditLemmas.{group_put, no_groups_put, taken_length}
 use Rattle.evc_engine.proofs.audit_text.put_groups.Goals as goal
 
 pub loop-i-init : goal.loop-i-init

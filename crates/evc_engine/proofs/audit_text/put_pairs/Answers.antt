@@ -4,7 +4,7 @@ use Rattle.std.proofs.lemmas.List.{take_all}
 use Rattle.ec_text.specs.Puts.{Puts}
 use Rattle.ec_heading.specs.Spelling.{text_of}
 use Rattle.evc_engine.specs.AuditTexts.{pair_line, semaphore_word}
-use Rattle.evc_engine.proofs.AuditLemmas.{line_at}
+use Rattle.evc_engine.proofs.shared.AuditLemmas.{line_at}
 use Rattle.evc_engine.proofs.audit_text.put_pairs.Goals as goal
 
 pub loop-pair-preserved : goal.loop-pair-preserved

@@ -5,7 +5,7 @@ use Rattle.ec_database.specs.Auditing.{shown}
 use Rattle.ec_text.specs.Puts.{Puts}
 use Rattle.ec_heading.specs.Spelling.{text_of}
 use Rattle.evc_engine.specs.AuditTexts.{version_line}
-use Rattle.evc_engine.proofs.AuditLemmas.{line_at}
+use Rattle.evc_engine.proofs.shared.AuditLemmas.{line_at}
 use Rattle.evc_engine.proofs.audit_text.put_versions.Goals as goal
 
 pub loop-accepted-preserved : goal.loop-accepted-preserved

@@ -1,7 +1,7 @@
 use Rattle.std.proofs.Common.{true≢false, sym, refl, reverse}
 use Rattle.ec_semaphore.specs.Both.{is_line}
-use Rattle.ec_semaphore.proofs.Implying.{both_implies_use}
-use Rattle.ec_semaphore.proofs.Lines.{not_common}
+use Rattle.ec_semaphore.proofs.shared.Implying.{both_implies_use}
+use Rattle.ec_semaphore.proofs.shared.Lines.{not_common}
 use Rattle.evc_engine.proofs.auditing.audit_both.Goals as goal
 
 -- who follows `both` follows its common semaphore

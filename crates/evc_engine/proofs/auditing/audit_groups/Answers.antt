@@ -2,7 +2,7 @@ use Rattle.std.proofs.Common.{◌≡◌, Some, slice_get, subst, sym, ap, ◌∙
 use Rattle.std.proofs.lemmas.Option.{slice_get_read}
 use Rattle.ec_heading.specs.Headed.{Headed}
 use Rattle.ec_heading.specs.declared.group.Group.{Group}
-use Rattle.evc_engine.proofs.AuditLemmas.{EachIsAudited, one_more_audited, stops, audited_length}
+use Rattle.evc_engine.proofs.shared.AuditLemmas.{EachIsAudited, one_more_audited, stops, audited_length}
 use Rattle.evc_engine.proofs.auditing.audit_groups.Goals as goal
 
 pub returns-in-Err-clause-err : goal.returns-in-Err-clause-err

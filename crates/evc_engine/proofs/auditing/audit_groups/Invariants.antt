@@ -1,5 +1,5 @@
 use Rattle.std.proofs.Common.{◌≡◌, length}
-use Rattle.evc_engine.proofs.AuditLemmas.{EachIsAudited}
+use Rattle.evc_engine.proofs.shared.AuditLemmas.{EachIsAudited}
 use Rattle.evc_engine.proofs.auditing.audit_groups.Given as goal
 
 -- the groups so far

@@ -1,4 +1,4 @@
-use Rattle.ec_text.proofs.PutLemmas.{puts_then}
+use Rattle.ec_text.proofs.shared.PutLemmas.{puts_then}
 use Rattle.evc_engine.proofs.notes.put_wrong.Goals as goal
 
 pub returns : goal.returns

@@ -1,6 +1,6 @@
 use Rattle.std.proofs.Common.{sym, subst, reverse, codes, map, ◌∙◌}
 use Rattle.ec_text.specs.Puts.{Puts}
-use Rattle.ec_text.proofs.PutLemmas.{puts_then}
+use Rattle.ec_text.proofs.shared.PutLemmas.{puts_then}
 use Rattle.ec_heading.specs.Spelling.{Named, text_of}
 use Rattle.evc_engine.specs.Texts.{placed_line, totals_lines}
 use Rattle.evc_engine.proofs.CheckLemmas.{text_parts}

@@ -1,5 +1,5 @@
 use Rattle.std.proofs.Common.{reverse}
-use Rattle.evc_engine.proofs.TotalLemmas.{none_put, cell_put}
+use Rattle.evc_engine.proofs.shared.TotalLemmas.{none_put, cell_put}
 use Rattle.evc_engine.proofs.totals.put_cells.Goals as goal
 
 pub loop-place-init : goal.loop-place-init

@@ -1,6 +1,6 @@
 use Rattle.std.proofs.Common.{reverse, ap}
 use Rattle.evc_engine.specs.Texts.{totals_of}
-use Rattle.evc_engine.proofs.TotalLemmas.{event_put, sequencer_put, cells_put, nothing_put_for}
+use Rattle.evc_engine.proofs.shared.TotalLemmas.{event_put, sequencer_put, cells_put, nothing_put_for}
 use Rattle.evc_engine.proofs.totals.put_target.Goals as goal
 
 pub returns-in-Event : goal.returns-in-Event

@@ -1,5 +1,5 @@
 use Rattle.std.proofs.Common.{◌≤◌, length, reverse, arith}
-use Rattle.evc_engine.proofs.TotalLemmas.{totals_put, totals_all}
+use Rattle.evc_engine.proofs.shared.TotalLemmas.{totals_put, totals_all}
 use Rattle.evc_engine.proofs.totals.put_totals.Goals as goal
 
 pub loop-place-preserved : goal.loop-place-preserved

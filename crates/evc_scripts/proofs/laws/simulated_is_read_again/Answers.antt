@@ -1,4 +1,4 @@
-use Rattle.evc_scripts.proofs.ReadAgain.{simulated_again}
+use Rattle.evc_scripts.proofs.shared.ReadAgain.{simulated_again}
 use Rattle.evc_scripts.proofs.laws.simulated_is_read_again.Goals as goal
 
 pub returns : goal.returns

@@ -1,5 +1,5 @@
 use Rattle.std.proofs.Common.{◌≡◌, ◌+◌, ◌<◌, ◌∙◌, [], ◌∷◌, length, drop, slice_get, Some, None, ap, sym, arith}
-use Rattle.ec_core.proofs.Joining.{drop_next, drop_none}
+use Rattle.ec_core.proofs.shared.Joining.{drop_next, drop_none}
 use Rattle.ec_core.proofs.entries.EntriesIterator.next.Goals as goal
 
 pub returns-in-None-clause-steps : goal.returns-in-None-clause-steps

@@ -1,4 +1,4 @@
-use Rattle.ec_core.proofs.Scans.{scanned_first}
+use Rattle.ec_core.proofs.shared.Scans.{scanned_first}
 use Rattle.ec_core.proofs.scan.Scan.new.Goals as goal
 
 pub returns : goal.returns

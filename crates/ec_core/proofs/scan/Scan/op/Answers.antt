@@ -1,7 +1,7 @@
 use Rattle.std.proofs.Common.{ap, ◌∙◌}
 use Rattle.ec_core.specs.Calls.{under_way}
 use Rattle.ec_core.specs.Scanning.{opened_by}
-use Rattle.ec_core.proofs.Scans.{opened_same}
+use Rattle.ec_core.proofs.shared.Scans.{opened_same}
 use Rattle.ec_core.proofs.scan.Scan.op.Goals as goal
 
 pub returns : goal.returns

@@ -1,6 +1,6 @@
 use Rattle.std.proofs.Common.{subst, sym}
 use Rattle.ec_core.specs.Scanning.{Scanned, IsScanned}
-use Rattle.ec_core.proofs.Scans.{scanned_take}
+use Rattle.ec_core.proofs.shared.Scans.{scanned_take}
 use Rattle.ec_core.proofs.scan.Scan.take.Goals as goal
 
 pub returns : goal.returns

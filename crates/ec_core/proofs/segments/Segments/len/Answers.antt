@@ -2,7 +2,7 @@ use Rattle.std.proofs.Common.{◌≡◌, ◌+◌, ◌*◌, ◌∙◌, length, ap
 use Rattle.std.proofs.lemmas.List.{length-map}
 use Rattle.ec_core.specs.Segmented.{joined}
 use Rattle.ec_core.specs.Stored.{stored_entry}
-use Rattle.ec_core.proofs.Joining.{length_joined}
+use Rattle.ec_core.proofs.shared.Joining.{length_joined}
 use Rattle.ec_core.proofs.segments.Segments.len.Goals as goal
 
 pub returns : goal.returns

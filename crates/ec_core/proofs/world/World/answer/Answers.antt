@@ -1,9 +1,9 @@
 use Rattle.std.proofs.Common.{◌<◌, ◌∙◌, ap, sym, arith, reverse, None}
 use Rattle.ec_core.specs.Acceptance.{refused_or}
 use Rattle.ec_core.specs.Fields.{reply_in}
-use Rattle.ec_core.proofs.Bounds.{told_small}
+use Rattle.ec_core.proofs.shared.Bounds.{told_small}
 use Rattle.ec_core.proofs.ReplyKinds.{kind_is}
-use Rattle.ec_core.proofs.Stepping.{answer_is}
+use Rattle.ec_core.proofs.shared.Stepping.{answer_is}
 use Rattle.ec_core.proofs.world.World.answer.Goals as goal
 
 pub returns-in-Some-clause-answer : goal.returns-in-Some-clause-answer

@@ -4,7 +4,7 @@ use Rattle.ec_core.specs.Counts.{sum_to}
 use Rattle.ec_core.specs.Rounds.{width}
 use Rattle.ec_core.specs.Standing.{State, count_at}
 use Rattle.ec_core.specs.Fields.{value_of}
-use Rattle.ec_core.proofs.Totals.{total_now}
+use Rattle.ec_core.proofs.shared.Totals.{total_now}
 use Rattle.ec_core.proofs.world.World.total.Goals as goal
 
 pub returns : goal.returns

@@ -4,7 +4,7 @@ use Rattle.std.specs.Map.{lookup}
 use Rattle.indexmap.proofs.CallerLemmas.{insert_entry-new}
 use Rattle.ec_count.specs.declared.target.Target.{Target}
 use Rattle.ec_count.specs.Names.{KeepsNames, by_bytes, name_fault, with_first, same_target}
-use Rattle.ec_count.proofs.Named.{find_lookup, by_bytes-append, KeepsNames-push, no_fault, none_left}
+use Rattle.ec_count.proofs.shared.Named.{find_lookup, by_bytes-append, KeepsNames-push, no_fault, none_left}
 use Rattle.ec_count.proofs.names.Names.add_bytes.Goals as goal
 
 free : (c : goal.After-note_first) → name_fault c.args.name.now (by_bytes c.self.inside.table.entries) ≡ None

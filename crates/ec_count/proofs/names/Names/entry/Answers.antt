@@ -1,7 +1,7 @@
 use Rattle.std.proofs.Common.{◌≡◌, ◌∙◌, Some, slice_get, sym, ap}
 use Rattle.ec_count.specs.Names.{by_bytes}
 use Rattle.ec_count.specs.Reserved.{is_name}
-use Rattle.ec_count.proofs.Named.{name_at, by_bytes_at}
+use Rattle.ec_count.proofs.shared.Named.{name_at, by_bytes_at}
 use Rattle.ec_count.proofs.names.Names.entry.Goals as goal
 
 pub returns-in-Some-clause-named : goal.returns-in-Some-clause-named

@@ -1,6 +1,6 @@
 use Rattle.std.proofs.Common.{sym, ap, ◌∙◌}
 use Rattle.ec_count.specs.Names.{find_name}
-use Rattle.ec_count.proofs.Named.{find_lookup}
+use Rattle.ec_count.proofs.shared.Named.{find_lookup}
 use Rattle.ec_count.proofs.names.Names.find_bytes.Goals as goal
 
 pub returns : goal.returns

@@ -1,7 +1,7 @@
 use Rattle.std.proofs.Common.{ℕ, List, Option, option_map, slice_get, sym, ap, ◌∙◌}
 use Rattle.std.specs.Option.{option_and_then}
 use Rattle.ec_count.specs.declared.target.Target.{Target}
-use Rattle.ec_count.proofs.Named.{name_at_place}
+use Rattle.ec_count.proofs.shared.Named.{name_at_place}
 use Rattle.ec_count.proofs.names.Names.name_of.Goals as goal
 
 -- the name at a place, from a table

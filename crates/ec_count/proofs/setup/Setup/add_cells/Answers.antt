@@ -1,7 +1,7 @@
 use Rattle.std.proofs.Common.{◌≡◌, None, subst, sym, ap, ◌∙◌}
 use Rattle.ec_count.specs.Tables.{Tables, cells_fault, has_faulty_access}
-use Rattle.ec_count.proofs.Named.{none_left}
-use Rattle.ec_count.proofs.Declared.{fresh_cells, more_cells}
+use Rattle.ec_count.proofs.shared.Named.{none_left}
+use Rattle.ec_count.proofs.shared.Declared.{fresh_cells, more_cells}
 use Rattle.ec_count.proofs.setup.Setup.add_cells.Goals as goal
 
 pub invariant_of-self : goal.invariant_of-self

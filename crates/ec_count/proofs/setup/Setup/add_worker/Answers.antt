@@ -1,6 +1,6 @@
 use Rattle.std.proofs.Common.{sym, ap, ◌∙◌}
 use Rattle.std.specs.Prelude.{is_ok}
-use Rattle.ec_count.proofs.Declared.{more_kept}
+use Rattle.ec_count.proofs.shared.Declared.{more_kept}
 use Rattle.ec_count.proofs.setup.Setup.add_worker.Goals as goal
 
 pub invariant_of-self : goal.invariant_of-self

@@ -2,7 +2,7 @@ use Rattle.std.proofs.Common.{ℕ, ◌≤◌, ◌<◌, ◌^◌, List, length, su
 use Rattle.ec_count.specs.declared.setup.Rights.{Rights}
 use Rattle.ec_count.specs.declared.setup.Access.{Access}
 use Rattle.ec_count.specs.Tables.{IsDeclared}
-use Rattle.ec_count.proofs.Declared.{rights_of, takers_of, access_of}
+use Rattle.ec_count.proofs.shared.Declared.{rights_of, takers_of, access_of}
 use Rattle.ec_count.proofs.setup.Setup.known.Goals as goal
 
 pub returns : goal.returns

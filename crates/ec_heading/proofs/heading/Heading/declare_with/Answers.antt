@@ -6,7 +6,7 @@ use Rattle.ec_heading.specs.Kinds.{declaration_of, size_in}
 use Rattle.ec_heading.specs.Objects.{AreNew, ids_after, objects_of}
 use Rattle.ec_heading.specs.Outline.{next_of}
 use Rattle.ec_heading.specs.Outlined.{IsHeading}
-use Rattle.ec_heading.proofs.Standing.{declares, words_new}
+use Rattle.ec_heading.proofs.shared.Standing.{declares, words_new}
 use Rattle.ec_heading.proofs.heading.Heading.declare_with.Goals as goal
 
 pub spell_declaration-requires-clause-new : goal.spell_declaration-requires-clause-new

@@ -1,6 +1,6 @@
 use Rattle.std.proofs.Common.{subst}
 use Rattle.ec_heading.specs.Outlined.{IsHeading}
-use Rattle.ec_heading.proofs.Standing.{heading_fits}
+use Rattle.ec_heading.proofs.shared.Standing.{heading_fits}
 use Rattle.ec_heading.proofs.heading.Heading.known.Goals as goal
 
 pub returns-clause-groups : goal.returns-clause-groups

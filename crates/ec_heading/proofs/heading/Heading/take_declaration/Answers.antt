@@ -1,6 +1,6 @@
 use Rattle.std.proofs.Common.{◌≡◌, ◌∙◌, Option, Some, Err, refl, sym, ap, subst, None, arith}
 use Rattle.std.proofs.lemmas.Grind.{common_steps}
-use Rattle.ec_count.proofs.Named.{none_left}
+use Rattle.ec_count.proofs.shared.Named.{none_left}
 use Rattle.ec_text.specs.Words.{words_of}
 use Rattle.ec_heading.specs.Form.{parts_in, shown}
 use Rattle.ec_heading.specs.Headed.{Headed}
@@ -9,8 +9,8 @@ use Rattle.ec_heading.specs.Kinds.{declaration_fault, declaration_of}
 use Rattle.ec_heading.specs.Outline.{declared_by}
 use Rattle.ec_heading.specs.Outlined.{IsHeading}
 use Rattle.ec_heading.specs.declared.heading.HeadFault.{HeadFault}
-use Rattle.ec_heading.proofs.Declarable.{fault_fails}
-use Rattle.ec_heading.proofs.Standing.{line_declares}
+use Rattle.ec_heading.proofs.shared.Declarable.{fault_fails}
+use Rattle.ec_heading.proofs.shared.Standing.{line_declares}
 use Rattle.ec_heading.proofs.heading.Heading.take_declaration.Goals as goal
 
 pub declare-requires-clause-may : goal.declare-requires-clause-may

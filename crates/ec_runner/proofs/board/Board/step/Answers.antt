@@ -3,7 +3,7 @@ use Rattle.std.proofs.lemmas.Bool.{leb-false}
 use Rattle.ec_core.specs.declared.act.Entry.{Entry}
 use Rattle.ec_core.specs.Recorded.{Recorded}
 use Rattle.ec_core.specs.Acceptance.{names_unknown_object}
-use Rattle.ec_core.proofs.Answering.{allowed}
+use Rattle.ec_core.proofs.shared.Answering.{allowed}
 use Rattle.ec_runner.specs.declared.seat.Seat.{Seat}
 use Rattle.ec_runner.specs.declared.seat.Seat.TheVariants.{Running}
 use Rattle.ec_runner.specs.Seated.{woken}

@@ -1,5 +1,5 @@
 use Rattle.std.proofs.Common.{rules}
-use Rattle.ec_text.proofs.PutLemmas.{puts_failed, puts_taken}
+use Rattle.ec_text.proofs.shared.PutLemmas.{puts_failed, puts_taken}
 use Rattle.ec_text.proofs.buffered.Buffered.take_in.Goals as goal
 
 pub returns-then-has_failed-clause-puts : goal.returns-then-has_failed-clause-puts

@@ -1,7 +1,7 @@
 use Rattle.std.proofs.Common.{◌-◌, drop, subst, sym, arith}
 use Rattle.ec_heading.specs.Spelling.{Named}
 use Rattle.ec_trace.specs.WordTables.{Spells}
-use Rattle.ec_heading.proofs.Places.{drop_before, none_inside}
+use Rattle.ec_heading.proofs.shared.Places.{drop_before, none_inside}
 use Rattle.ec_trace.proofs.spell.Spellings.new.Goals as goal
 
 pub loop-place-preserved-in-Some : goal.loop-place-preserved-in-Some

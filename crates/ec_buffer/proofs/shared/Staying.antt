@@ -1,0 +1,33 @@
+-- A declared buffer stays declared where more is declared.
+use Rattle.std.proofs.Common.{ℕ, List, ◌++◌}
+use Rattle.ec_count.specs.Declares.{KeepsObjects, with_sequencer}
+use Rattle.ec_count.specs.Tables.{Tables, with_event}
+use Rattle.ec_count.proofs.shared.Keeping.{keeps_then, keeps_event, keeps_sequencer, keeps_cells}
+use Rattle.ec_buffer.specs.Shapes.{Buffer, DeclaresBuffer, with_buffer}
+use Rattle.ec_buffer.specs.Laws.{BuffersStay}
+
+pub still_declared : (b : Buffer) (old new : Tables) (produce consume : List ℕ) → KeepsObjects old new → DeclaresBuffer b old produce consume → DeclaresBuffer b new produce consume
+still_declared b old new produce consume k d = record {
+  in_count = k.events _ _ d.in_count;
+  out_count = k.events _ _ d.out_count;
+  put_seq = k.takers _ _ d.put_seq;
+  take_seq = k.takers _ _ d.take_seq;
+  cells = λ i lt. k.cells _ _ (d.cells i lt);
+  apart = d.apart;
+}
+
+pub buffers_stay : BuffersStay
+buffers_stay b old new k f = (f.0, f.1, still_declared b old new f.0 f.1 k f.2)
+
+-- what was declared before a buffer stays declared
+pub keeps_buffer : (t : Tables) (n : ℕ) (produce consume : List ℕ) → KeepsObjects t (with_buffer t n produce consume)
+keeps_buffer t n produce consume =
+    let both = produce ++ consume in
+    let one = with_event t produce both in
+    let two = with_event one consume both in
+    let three = with_sequencer two produce in
+    let four = with_sequencer three consume in
+    keeps_then t one _ (keeps_event t produce both)
+    (keeps_then one two _ (keeps_event one consume both)
+    (keeps_then two three _ (keeps_sequencer two produce)
+    (keeps_then three four _ (keeps_sequencer three consume) (keeps_cells four n produce consume))))

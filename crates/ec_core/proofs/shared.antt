@@ -1,0 +1,19 @@
+-- Lemmas that the proofs of other crates cite too.
+pub mod Answering
+pub mod Places
+pub mod Stepping
+pub mod Totals
+pub mod Moments
+pub mod Pasts
+pub mod Bounds
+pub mod Joining
+pub mod Counting
+pub mod CallRounds
+pub mod Following
+pub mod Queue
+pub mod Reading
+pub mod Scans
+pub mod FittingCalls
+pub mod JoinedLists
+pub mod Breaks
+pub mod WrittenLists

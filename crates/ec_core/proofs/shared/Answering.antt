@@ -1,0 +1,198 @@
+-- A world answers as its history says.
+use Rattle.std.proofs.Common.{◌≡◌, ℕ, suc, ◌+◌, ◌%◌, ◌<◌, ◌≤◌, Bool, true, false, not, ◌&&◌, List, [], ◌∷◌, length, Option, Some, None, is_some, nat_le, unwrap_or, Ok, refl, ap, ◌∙◌, arith, add-one, subst, cond, ◌==◌}
+use Rattle.std.specs.List.{position_from}
+use Rattle.std.specs.Option.{option_map, option_map_or}
+use Rattle.std.proofs.lemmas.Bool.{eqb-true, leb-false, leb-true}
+use Rattle.std.proofs.lemmas.Nat.{mod_below}
+use Rattle.std.proofs.Math.Nat.{suc-mod, mod_self, mod-eq_of_lt}
+use Rattle.ec_count.specs.Tables.{Tables, IsDeclared, signallers, component_of}
+use Rattle.ec_count.proofs.shared.Declared.{few_signallers, some_signaller}
+use Rattle.ec_core.specs.declared.act.Act.{Act}
+use Rattle.ec_core.specs.declared.act.Act.TheVariants.{Advance, Read, Await, Go, Ticket, Put, Get}
+use Rattle.ec_core.specs.declared.act.Reply.{Reply}
+use Rattle.ec_core.specs.declared.act.Reply.TheVariants.{Done, Number, Pending}
+use Rattle.ec_core.specs.declared.act.Entry.{Entry}
+use Rattle.ec_core.specs.declared.act.Refusal.{Refusal}
+use Rattle.ec_core.specs.Counts.{component_total}
+use Rattle.ec_core.specs.Calls.{CallSoFar, under_way, is_pending, gone_on}
+use Rattle.ec_core.specs.Rounds.{event_or, width, sum_read, next_component, round_reply, read_reply}
+use Rattle.ec_core.specs.Acceptance.{reply_of, answer_of, refusal_of, refused_or, has_right, is_at_limit, IsAccepted, names_unknown_object, is_too_large}
+use Rattle.ec_core.specs.Calls.{is_go}
+use Rattle.ec_core.specs.Standing.{State, Stands, count_at, shown, progress_of}
+use Rattle.ec_core.specs.Fields.{kept_call, is_full, is_full_for, value_of, one_read, after_round, next_reply, next_progress, IsNamed}
+
+-- a place is within the list
+pub place_within : (w : ℕ) (ws : List ℕ) (low c : ℕ) → position_from (λ v. v == w) low ws ≡ Some c → c < low + length ws
+place_within w [] low c h = cc
+place_within w (v ∷ ws) low c h =
+    elim (v == w) as (λ b. cond b (Some low) (position_from (λ u. u == w) (low + 1) ws) ≡ Some c → c < low + suc (length ws)) [
+      | true ↦ λ e. (let k : low ≡ c = cc in omega arith)
+      | false ↦ λ e. (let k : c < low + 1 + length ws = place_within w ws (low + 1) c e in omega arith)
+    ] h
+
+-- an eventcount has at most 16 components, and at least one where it is declared
+pub width_few : (t : Tables) (e : ℕ) → IsDeclared t → width t e ≤ 16
+width_few t e d = few_signallers t e d
+
+pub width_some : (t : Tables) (e : ℕ) → IsDeclared t → e < length t.events → 0 < width t e
+width_some t e d lt = some_signaller t e d lt
+
+pub component_few : (t : Tables) (e w c : ℕ) → IsDeclared t → component_of t e w ≡ Some c → c < 16
+component_few t e w c d h = omega (arith, place_within w (signallers t e) 0 c h, width_few t e d)
+
+-- the call under way that the world has kept
+pub kept_is : (s : State) (past : List Entry) (w : ℕ) → Stands s past → w < 16 → kept_call s w ≡ progress_of s.setup w past
+kept_is s past w st lt = ap (λ o. unwrap_or o None) (st.calls w lt)
+
+pub is_some_map : (t : Tables) (o : Option CallSoFar) → is_some (option_map (shown t) o) ≡ is_some o
+is_some_map t None = refl
+is_some_map t (Some call) = refl
+
+advance_full : (s : State) (past : List Entry) (w e : ℕ) → Stands s past → e < 32 → (o : Option ℕ) → component_of s.setup e w ≡ o
+    → option_map_or (λ c. is_full (count_at s.counts e c)) o false ≡ option_map_or (λ c. component_total s.setup e c past == s.setup.limit) o false
+advance_full s past w e st lt None h = refl
+advance_full s past w e st lt (Some c) h = ap is_full (st.counts e c lt (component_few s.setup e w c st.declared h))
+
+-- the count that an act would raise is at its limit as the history says
+pub full_is : (s : State) (past : List Entry) (w : ℕ) (act : Act) → Stands s past → IsNamed act
+    → is_full_for s w act ≡ is_at_limit s.setup past w act
+full_is s past w (Advance e) st named = advance_full s past w e st named (component_of s.setup e w) refl
+full_is s past w (Read e) st named = refl
+full_is s past w (Await e v) st named = refl
+full_is s past w Go st named = refl
+full_is s past w (Ticket q) st named = ap is_full (st.issued q named)
+full_is s past w (Put x v) st named = refl
+full_is s past w (Get x) st named = refl
+
+-- one more read tells what the history says
+pub read_is : (s : State) (past : List Entry) (op : Act) (moments : List (List Entry)) → Stands s past → event_or op < 32
+    → next_component s.setup (event_or op) moments < 16
+    → next_reply s (shown s.setup (record { op = op; moments = moments })) ≡ read_reply s.setup op past moments
+unfolding read_reply sum_read
+read_is s past op moments st e c =
+    ap (λ o. one_read op (width s.setup (event_or op)) (next_component s.setup (event_or op) moments) (value_of o + sum_read s.setup (event_or op) (next_component s.setup (event_or op) moments) moments))
+    (st.counts (event_or op) (next_component s.setup (event_or op) moments) e c)
+
+-- the act that began a call under way is a Read or an Await of a declared eventcount
+abbrev pub IsReading : Tables → Act → Type 0
+IsReading t (Read e) = e < length t.events
+IsReading t (Await e v) = e < length t.events
+IsReading t _ = ⊥
+
+abbrev pub IsReadingCall : Tables → Option CallSoFar → Type 0
+IsReadingCall t None = Unit {0}
+IsReadingCall t (Some call) = IsReading t call.op
+
+chosen_none : {F : Type 0} (b : Bool) (f : F) (o : Option F) → cond b (Some f) o ≡ None → (b ≡ false) × (o ≡ None)
+chosen_none true f o h = cc
+chosen_none false f o h = (refl, h)
+
+-- what an answer that is no refusal tells of the tests
+pub record IsAllowed (t : Tables) (past : List Entry) (w : ℕ) (act : Act) : Type 0 where
+  pub declared : nat_le t.workers w ≡ false
+  pub free : (is_some (under_way w past) && not (is_go act)) ≡ false
+  pub going : (not (is_some (under_way w past)) && is_go act) ≡ false
+  pub known : names_unknown_object t act ≡ false
+  pub right : not (has_right t past w act) ≡ false
+  pub small : is_too_large act ≡ false
+  pub room : is_at_limit t past w act ≡ false
+
+accepted_or : (o : Option Refusal) (x y : Reply) → refused_or o x ≡ Ok y → (o ≡ None) × (x ≡ y)
+accepted_or None x y h = (refl, cc)
+accepted_or (Some r) x y h = cc
+
+pub allowed : (t : Tables) (past : List Entry) (w : ℕ) (act : Act) (reply : Reply) → answer_of t past w act ≡ Ok reply
+    → IsAllowed t past w act × (reply_of t past w act ≡ reply)
+unfolding answer_of
+allowed t past w act reply h =
+    let k = accepted_or (refusal_of t past w act) (reply_of t past w act) reply h in
+    let a = chosen_none _ _ _ k.0 in
+    let b = chosen_none _ _ _ a.1 in
+    let c = chosen_none _ _ _ b.1 in
+    let d = chosen_none _ _ _ c.1 in
+    let e = chosen_none _ _ _ d.1 in
+    let f = chosen_none _ _ _ e.1 in
+    let g = chosen_none _ _ _ f.1 in
+    (record { declared = a.0; free = b.0; going = c.0; known = d.0; right = e.0; small = f.0; room = g.0 }, k.1)
+
+kept_or : (t : Tables) (b : Bool) (o : Option CallSoFar) → IsReadingCall t o → IsReadingCall t (cond b o None)
+kept_or t true o h = h
+kept_or t false o h = tt
+
+go_kept : (t : Tables) (past : List Entry) (o : Option CallSoFar) → IsReadingCall t o → IsReadingCall t (gone_on Go past o)
+go_kept t past None h = tt
+go_kept t past (Some call) h = h
+
+-- a step leaves its worker with such a call
+reading_step : (t : Tables) (past : List Entry) (w : ℕ) (act : Act) (reply : Reply) → IsAllowed t past w act → reply_of t past w act ≡ reply
+    → IsReadingCall t (under_way w past) → IsReadingCall t (cond (is_pending reply) (gone_on act past (under_way w past)) None)
+reading_step t past w (Advance e) reply a r h = subst (λ p. IsReadingCall t (cond (is_pending p) (gone_on (Advance e) past (under_way w past)) None)) r tt
+reading_step t past w (Read e) reply a r h = kept_or t (is_pending reply) (Some (record { op = Read e; moments = past ∷ [] })) (leb-false (length t.events) e a.known)
+reading_step t past w (Await e v) reply a r h = kept_or t (is_pending reply) (Some (record { op = Await e v; moments = past ∷ [] })) (leb-false (length t.events) e a.known)
+reading_step t past w Go reply a r h = kept_or t (is_pending reply) (gone_on Go past (under_way w past)) (go_kept t past (under_way w past) h)
+reading_step t past w (Ticket q) reply a r h = subst (λ p. IsReadingCall t (cond (is_pending p) (gone_on (Ticket q) past (under_way w past)) None)) r tt
+reading_step t past w (Put x v) reply a r h = subst (λ p. IsReadingCall t (cond (is_pending p) (gone_on (Put x v) past (under_way w past)) None)) r tt
+reading_step t past w (Get x) reply a r h = subst (λ p. IsReadingCall t (cond (is_pending p) (gone_on (Get x) past (under_way w past)) None)) r tt
+
+-- each call under way in an accepted history is a Read or an Await of a declared eventcount
+pub call_reads : (t : Tables) (past : List Entry) (w : ℕ) → IsAccepted t past → IsReadingCall t (under_way w past)
+unfolding under_way
+call_reads t [] w acc = tt
+call_reads t (x ∷ past) w acc =
+    elim (x.worker == w) as (λ b. (x.worker == w) ≡ b → IsReadingCall t (cond b (cond (is_pending x.reply) (gone_on x.act past (under_way w past)) None) (under_way w past))) [
+      | true ↦ λ h.
+          (let P : ℕ → Type 0 = λ v. answer_of t past v x.act ≡ Ok x.reply in
+          let k = allowed t past w x.act x.reply (subst P (eqb-true x.worker w h) acc.0) in
+          reading_step t past w x.act x.reply k.0 k.1 (call_reads t past w acc.1))
+      | false ↦ λ h. call_reads t past w acc.1
+    ] refl
+
+pub reading_event : (t : Tables) (op : Act) → IsReading t op → event_or op < length t.events
+reading_event t (Read e) h = h
+reading_event t (Await e v) h = h
+reading_event t (Advance e) h = absurd h
+reading_event t Go h = absurd h
+reading_event t (Ticket q) h = absurd h
+reading_event t (Put x v) h = absurd h
+reading_event t (Get x) h = absurd h
+
+-- counting round
+pub mod_next : (n k : ℕ) → 0 < n → suc k % n ≡ cond (nat_le n (k % n + 1)) 0 (k % n + 1)
+mod_next n k h =
+    elim (nat_le n (k % n + 1)) as (λ b. nat_le n (k % n + 1) ≡ b → suc k % n ≡ cond b 0 (k % n + 1)) [
+      | true ↦ λ e.
+          (let le : n ≤ k % n + 1 = leb-true n (k % n + 1) e in
+          let lt : k % n < n = mod_below k n h in
+          let whole : suc (k % n) ≡ n = omega arith in
+          suc-mod k n ∙ ap (λ v. v % n) whole ∙ mod_self n)
+      | false ↦ λ e.
+          (let below : k % n + 1 < n = leb-false n (k % n + 1) e in
+          let lt : suc (k % n) < n = omega arith in
+          let one : suc (k % n) ≡ k % n + 1 = omega arith in
+          suc-mod k n ∙ mod-eq_of_lt lt ∙ one)
+    ] refl
+
+way_round : (op : Act) (r : Reply) (c : ℕ) (f : ℕ → ℕ) → c ≡ 0 → f 0 ≡ 0 → after_round op r ≡ cond (is_pending r) (Some (record { op = op; index = c; sum = f c })) None
+way_round op Pending c f e z = cc
+way_round op Done c f e z = refl
+way_round op (Number n) c f e z = refl
+
+way_on : (op : Act) (b : Bool) (next c total : ℕ) (f : ℕ → ℕ) → next ≡ cond b 0 (c + 1) → f 0 ≡ 0 → f (c + 1) ≡ total
+    → cond b (after_round op (round_reply op total)) (Some (record { op = op; index = c + 1; sum = total }))
+    ≡ cond (is_pending (cond b (round_reply op total) Pending)) (Some (record { op = op; index = next; sum = f next })) None
+way_on op true next c total f e z g = way_round op (round_reply op total) next f e z
+way_on op false next c total f e z g = cc
+
+-- the call that one more read leaves under way is the one of the history
+pub way_is : (s : State) (past : List Entry) (op : Act) (moments : List (List Entry)) → Stands s past → event_or op < 32
+    → 0 < width s.setup (event_or op) → next_component s.setup (event_or op) moments < 16
+    → next_progress s (shown s.setup (record { op = op; moments = moments }))
+    ≡ cond (is_pending (read_reply s.setup op past moments)) (Some (shown s.setup (record { op = op; moments = past ∷ moments }))) None
+unfolding read_reply sum_read
+way_is s past op moments st e some c =
+    let n = width s.setup (event_or op) in
+    let i = next_component s.setup (event_or op) moments in
+    let rest = sum_read s.setup (event_or op) i moments in
+    ap (λ o. cond (nat_le n (i + 1)) (after_round op (round_reply op (value_of o + rest))) (Some (record { op = op; index = i + 1; sum = value_of o + rest }))) (st.counts (event_or op) i e c)
+    ∙ way_on op (nat_le n (i + 1)) (suc (length moments) % n) i (component_total s.setup (event_or op) i past + rest) (λ j. sum_read s.setup (event_or op) j (past ∷ moments))
+    (mod_next n (length moments) some) refl (ap (λ j. sum_read s.setup (event_or op) j (past ∷ moments)) (add-one i))

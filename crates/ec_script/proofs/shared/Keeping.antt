@@ -1,0 +1,283 @@
+-- The lines of a script keep its programs confined, and so every plan is.
+use Rattle.std.proofs.Common.{◌≡◌, ℕ, ◌<◌, List, [], ◌∷◌, ◌++◌, length, replicate, zero, suc, Bool, true, false, cond, not, ◌&&◌, eqb, Option, Some, None, Result, Ok, Err, refl, sym, ap, ◌∙◌, subst, arith, bytes_eq, codes, nat_lt, eqb-true, length-append, length-set, slice_set}
+use Rattle.std.specs.List.{AllByRecursion}
+use Rattle.std.specs.Option.{IfSome}
+use Rattle.std.specs.Result.{IfOk}
+use Rattle.std.proofs.lemmas.Bool.{and_parts}
+use Rattle.std.proofs.lemmas.List.{length-replicate}
+use Rattle.std.proofs.lemmas.List.Elements.{All-from_recursion, recursion_from_All, All-set}
+use Rattle.ec_text.specs.Words.{words_of, number_of}
+use Rattle.ec_heading.specs.declared.group.Group.{Group}
+use Rattle.ec_heading.specs.declared.heading.HeadFault.{HeadFault}
+use Rattle.ec_heading.specs.Headed.{Headed}
+use Rattle.ec_heading.specs.Outline.{opened}
+use Rattle.ec_heading.specs.Heading.{head_step, is_no_line}
+use Rattle.ec_heading.specs.Lists.{ids_in}
+use Rattle.ec_script.specs.declared.fault.Kind.{Kind}
+use Rattle.ec_script.specs.declared.fault.Kind.TheVariants as kinds
+use Rattle.ec_script.specs.declared.fault.ScriptFault.{ScriptFault}
+use Rattle.ec_script.specs.declared.plan.Plan.{Plan}
+use Rattle.ec_script.specs.declared.verb.Verb.{Verb}
+use Rattle.ec_script.specs.declared.verb.Verb.TheVariants as verbs
+use Rattle.ec_script.specs.declared.object.Object.{Object}
+use Rattle.ec_script.specs.declared.object.Object.TheVariants.{Worker}
+use Rattle.ec_script.specs.declared.order.Order.{Order}
+use Rattle.ec_script.specs.declared.order.Order.TheVariants.{Do, Write, Begin, End}
+use Rattle.ec_script.specs.declared.script.Block.{Block}
+use Rattle.ec_script.specs.declared.stage.Stage.{Stage}
+use Rattle.ec_script.specs.declared.stage.Stage.TheVariants.{Opening, Limiting, Naming, Reading}
+use Rattle.ec_script.specs.Verbs.{is_giving}
+use Rattle.ec_script.specs.Forms.{Phrase, phrase_in}
+use Rattle.ec_script.specs.Objects.{object_for, object_in, is_owned}
+use Rattle.ec_script.specs.Drafted.{Drafted, with_order}
+use Rattle.ec_script.specs.Kinds.{phrase_fault, or_nothing, has_two_roles}
+use Rattle.ec_script.specs.Orders.{size_in, command_in}
+use Rattle.ec_script.specs.Scripted.{Scripted, Planned}
+use Rattle.ec_script.specs.Reading.{seen, began, ordered_in, commanded, ended_in, after_verb, after, fault_or, phrased, headed_on, is_declaring, opens_outer, script_step, in_range, limited, limit_digits, limit_or, limit_step, script_of, named_on, read_on, step}
+use Rattle.ec_script.specs.Outcome.{plan_or, plan_in, outcome, Tells, shown_plan}
+use Rattle.ec_script.specs.Grammar.{Leads, IsScript}
+use Rattle.ec_script.specs.Confined.{IsConfined, AreConfined, IsPlan, AreConfinedPrograms}
+use Rattle.ec_script.proofs.Room.{NoFault, no_fault}
+use Rattle.ec_script.proofs.shared.Texts.{read_is_script}
+use Rattle.ec_script.proofs.shared.WrittenOut.{every_append, confined_lines}
+use Rattle.ec_script.proofs.Declaring.{HeadKeeps, Grows, first_keeps, head_grows, ids_below}
+use Rattle.ec_script.proofs.Confining.{object_fits, command_confined}
+
+-- LISTS
+
+every_set : {X : Type 0} (P : X → Type 0) (xs : List X) (i : ℕ) (x : X) → P x → AllByRecursion P xs → AllByRecursion P (slice_set xs i x)
+every_set P xs i x one all = recursion_from_All P (slice_set xs i x) (All-set P xs i x one (All-from_recursion P xs all))
+
+none_confined : (gs : List Group) (n : ℕ) → AreConfined gs (replicate n [])
+none_confined gs zero = tt
+none_confined gs (suc n) = (tt, none_confined gs n)
+
+-- WHAT A SCRIPT KEEPS
+
+abbrev BlockKeeps : List Group → Option Block → Type 0
+BlockKeeps gs None = Unit {0}
+BlockKeeps gs (Some b) = AllByRecursion (IsConfined gs) b.draft.orders
+
+-- nothing is commanded yet
+abbrev IsBare : Scripted → Type 0
+IsBare s = (s.block ≡ None) × (s.programs ≡ replicate s.heading.setup.workers [])
+
+pub record Keeps (s : Scripted) : Type 0 where
+  pub head : HeadKeeps s.heading
+  pub programs : length s.programs ≡ s.heading.setup.workers
+  pub confined : AreConfined s.heading.groups s.programs
+  pub block : BlockKeeps s.heading.groups s.block
+  pub schedule : AllByRecursion (λ w. w < s.heading.setup.workers) s.schedule
+  pub early : length s.named ≡ 0 → IsBare s
+
+script_keeps : (h : Headed) → HeadKeeps h → Keeps (script_of h)
+script_keeps h head = record {
+  head = head;
+  programs = length-replicate h.setup.workers [];
+  confined = none_confined h.groups h.setup.workers;
+  block = tt;
+  schedule = tt;
+  early = λ none. (refl, refl);
+}
+
+-- A DECLARATION
+
+grown_keeps : (s : Scripted) (h : Headed) → Keeps s → length s.named ≡ 0 → Grows s.heading h → Keeps (record s { heading = h })
+grown_keeps s h keeps none grows =
+    let bare : IsBare s = keeps.early none in
+    let same : s.programs ≡ replicate h.setup.workers [] = bare.1 ∙ ap (λ (n : ℕ). replicate n []) (sym grows.workers) in
+    record {
+      head = grows.keeps;
+      programs = keeps.programs ∙ sym grows.workers;
+      confined = subst (AreConfined h.groups) (sym same) (none_confined h.groups h.setup.workers);
+      block = subst (BlockKeeps h.groups) (sym bare.0) tt;
+      schedule = subst (λ (n : ℕ). AllByRecursion (λ w. w < n) s.schedule) (sym grows.workers) keeps.schedule;
+      early = λ none. (bare.0, same);
+    }
+
+declared_keeps : (s t : Scripted) (r : Result Headed HeadFault) → Keeps s → length s.named ≡ 0 → ((h : Headed) → r ≡ Ok h → Grows s.heading h) → headed_on s r ≡ Ok t → Keeps t
+declared_keeps s t (Ok h) keeps none grows is = let e : record s { heading = h } ≡ t = cc in subst Keeps e (grown_keeps s h keeps none (grows h refl))
+declared_keeps s t (Err f) keeps none grows is = cc
+
+-- A LINE OF A BLOCK
+
+with_order_adds : (d : Drafted) (o : Order) → (with_order d o).orders ≡ d.orders ++ o ∷ []
+with_order_adds d (Do c) = refl
+with_order_adds d (Write b vs) = refl
+with_order_adds d (Begin n) = refl
+with_order_adds d End = refl
+
+pub not_bare : (s : Scripted) (b : Block) → s.block ≡ Some b → IsBare s → ⊥
+not_bare s b is bare = let e : s.block ≡ None = bare.0 in cc
+
+ordered_keeps : (s : Scripted) (o : Order) (b : Option Block) → s.block ≡ b → Keeps s → IsConfined s.heading.groups o → Keeps (ordered_in s b o)
+ordered_keeps s o None is keeps one = keeps
+ordered_keeps s o (Some b) is keeps one = record {
+  head = keeps.head;
+  programs = keeps.programs;
+  confined = keeps.confined;
+  block = subst (AllByRecursion (IsConfined s.heading.groups)) (sym (with_order_adds b.draft o))
+      (every_append (IsConfined s.heading.groups) b.draft.orders (o ∷ []) (subst (BlockKeeps s.heading.groups) is keeps.block) (one, tt));
+  schedule = keeps.schedule;
+  early = λ none. absurd (not_bare s b is (keeps.early none));
+}
+
+commanded_keeps : (s : Scripted) (o : Option Order) → Keeps s → IfSome o (IsConfined s.heading.groups) → Keeps (commanded s o)
+commanded_keeps s None keeps one = keeps
+commanded_keeps s (Some o) keeps one = ordered_keeps s o s.block refl keeps one
+
+closed_keeps : (s : Scripted) (b : Block) → s.block ≡ Some b → Keeps s → Keeps (record s { programs = slice_set s.programs b.worker b.draft.orders; block = None })
+closed_keeps s b is keeps = record {
+  head = keeps.head;
+  programs = length-set s.programs b.worker b.draft.orders ∙ keeps.programs;
+  confined = every_set (AllByRecursion (IsConfined s.heading.groups)) s.programs b.worker b.draft.orders (subst (BlockKeeps s.heading.groups) is keeps.block) keeps.confined;
+  block = tt;
+  schedule = keeps.schedule;
+  early = λ none. absurd (not_bare s b is (keeps.early none));
+}
+
+ended_keeps : (s : Scripted) (b : Option Block) → s.block ≡ b → Keeps s → Keeps (ended_in s b)
+ended_keeps s None is keeps = keeps
+ended_keeps s (Some b) is keeps =
+    let P : Bool → Type 0 = λ t. Keeps (cond t (record s { programs = slice_set s.programs b.worker b.draft.orders; block = None }) (ordered_in s (Some b) End)) in
+    let go : P (eqb b.draft.depth 0) = elim (eqb b.draft.depth 0) as P [ true ↦ closed_keeps s b is keeps | false ↦ ordered_keeps s End (Some b) is keeps tt ] in
+    go
+
+began_keeps : (s : Scripted) (o : Object) → Keeps s → Keeps (began s o)
+began_keeps s (Worker w) keeps = record {
+  head = keeps.head;
+  programs = keeps.programs;
+  confined = keeps.confined;
+  block = tt;
+  schedule = keeps.schedule;
+  early = λ none. absurd (omega (arith, length-append s.named (w ∷ []), none));
+}
+began_keeps s _ keeps = keeps
+
+scheduled_keeps : (s : Scripted) (ws : List (List ℕ)) → Keeps s → Keeps (record s { schedule = s.schedule ++ ids_in s.heading.words ws })
+scheduled_keeps s ws keeps = record {
+  head = keeps.head;
+  programs = keeps.programs;
+  confined = keeps.confined;
+  block = keeps.block;
+  schedule = every_append (λ w. w < s.heading.setup.workers) s.schedule (ids_in s.heading.words ws) keeps.schedule (ids_below s.heading.setup.workers s.heading.words ws keeps.head.words);
+  early = keeps.early;
+}
+
+-- BY ITS VERB
+
+command_keeps : (s : Scripted) (v : Verb) (w : List ℕ) (ws : List (List ℕ)) → Keeps s → is_owned s.heading.groups (or_nothing (object_for s.heading v w ws)) ≡ false → has_two_roles (or_nothing (object_for s.heading v w ws)) ≡ false
+    → Keeps (commanded s (command_in v (is_giving v) (or_nothing (object_for s.heading v w ws)) ws))
+command_keeps s v w ws keeps free roles =
+    commanded_keeps s (command_in v (is_giving v) (or_nothing (object_for s.heading v w ws)) ws) keeps
+    (command_confined s.heading.groups v (is_giving v) (or_nothing (object_for s.heading v w ws)) ws (object_fits s.heading v w ws keeps.head.apart.apart free roles))
+
+after_keeps : (s : Scripted) (v : Verb) (w : List ℕ) (ws : List (List ℕ)) → Keeps s → is_owned s.heading.groups (or_nothing (object_for s.heading v w ws)) ≡ false → has_two_roles (or_nothing (object_for s.heading v w ws)) ≡ false
+    → Keeps (after_verb v s (or_nothing (object_for s.heading v w ws)) ws)
+after_keeps s verbs.Worker w ws keeps free roles = began_keeps s (or_nothing (object_for s.heading verbs.Worker w ws)) keeps
+after_keeps s verbs.Schedule w ws keeps free roles = scheduled_keeps s ws keeps
+after_keeps s verbs.Repeat w ws keeps free roles = ordered_keeps s (Begin (size_in ws)) s.block refl keeps tt
+after_keeps s verbs.End w ws keeps free roles = ended_keeps s s.block refl keeps
+after_keeps s v w ws keeps free roles = command_keeps s v w ws keeps free roles
+
+unfaulted : (o : Option Kind) (s t : Scripted) → fault_or o s ≡ Ok t → (o ≡ None) × (s ≡ t)
+unfaulted None s t is = (refl, cc)
+unfaulted (Some k) s t is = cc
+
+phrased_keeps : (s t : Scripted) (o : Option Phrase) → Keeps s → phrased s o ≡ Ok t → Keeps t
+phrased_keeps s t None keeps is = cc
+phrased_keeps s t (Some p) keeps is =
+    let f = unfaulted (phrase_fault (seen s) p (object_in s.heading p)) (after s p) t is in
+    let n : NoFault (seen s) p (object_in s.heading p) = no_fault (seen s) p (object_in s.heading p) f.0 in
+    subst Keeps f.1 (after_keeps s p.verb p.object p.rest keeps n.owned n.roles)
+
+-- LINES
+
+not_refused : {S : Type 0} (b : Bool) (k : Kind) (r : Result S Kind) (t : S) → cond b (Err k) r ≡ Ok t → r ≡ Ok t
+not_refused true k r t is = cc
+not_refused false k r t is = is
+
+line_keeps : (s t : Scripted) (line : List ℕ) → Keeps s → script_step s line ≡ Ok t → Keeps t
+unfolding script_step
+line_keeps s t line keeps is =
+    (elim (is_declaring s && not (opens_outer (words_of line))) as (λ b.
+    (is_declaring s && not (opens_outer (words_of line))) ≡ b
+    → cond b (headed_on s (head_step s.heading line)) (cond (is_no_line line) (Err kinds.BadLine) (phrased s (phrase_in (words_of line)))) ≡ Ok t
+    → Keeps t) [
+      | true ↦ λ e h.
+          let p = and_parts (is_declaring s) (not (opens_outer (words_of line))) e in
+          let q = and_parts (eqb (length s.named) 0) (eqb (length s.schedule) 0) p.0 in
+          declared_keeps s t (head_step s.heading line) keeps (eqb-true _ _ q.0) (λ g is. head_grows s.heading line g keeps.head is) h
+      | false ↦ λ e h. phrased_keeps s t (phrase_in (words_of line)) keeps (not_refused (is_no_line line) kinds.BadLine _ t h)
+    ]) refl is
+
+-- STAGES
+
+abbrev pub StageKeeps : Stage → Type 0
+StageKeeps (Reading s) = Keeps s
+StageKeeps _ = Unit {0}
+
+opening_keeps : (b : Bool) (t : Stage) → cond b (Ok Limiting) (Err kinds.BadHeader) ≡ Ok t → StageKeeps t
+opening_keeps true t is = let e : Limiting ≡ t = cc in subst StageKeeps e tt
+opening_keeps false t is = cc
+
+naming_keeps : (b : Bool) (n : ℕ) (t : Stage) → cond b (Ok (Naming n)) (Err kinds.BadNumber) ≡ Ok t → StageKeeps t
+naming_keeps true n t is = let e : Naming n ≡ t = cc in subst StageKeeps e tt
+naming_keeps false n t is = cc
+
+limited_keeps : (o : Option ℕ) (t : Stage) → limited o ≡ Ok t → StageKeeps t
+limited_keeps None t is = cc
+limited_keeps (Some n) t is = naming_keeps (in_range n) n t is
+
+limit_keeps : (o : Option (List ℕ)) (t : Stage) → limit_or o ≡ Ok t → StageKeeps t
+limit_keeps None t is = cc
+limit_keeps (Some digits) t is = limited_keeps (number_of digits) t is
+
+limit_line_keeps : (line : List ℕ) (t : Stage) → limit_step line ≡ Ok t → StageKeeps t
+unfolding limit_step
+limit_line_keeps line t is = limit_keeps (limit_digits (words_of line)) t (not_refused (nat_lt 8192 (length line)) kinds.BadLine _ t is)
+
+named_keeps : (r : Result Headed HeadFault) (t : Stage) → ((h : Headed) → r ≡ Ok h → HeadKeeps h) → named_on r ≡ Ok t → StageKeeps t
+named_keeps (Ok h) t keeps is = let e : Reading (script_of h) ≡ t = cc in subst StageKeeps e (script_keeps h (keeps h refl))
+named_keeps (Err f) t keeps is = cc
+
+read_keeps : (r : Result Scripted Kind) (t : Stage) → ((s : Scripted) → r ≡ Ok s → Keeps s) → read_on r ≡ Ok t → StageKeeps t
+read_keeps (Ok s) t keeps is = let e : Reading s ≡ t = cc in subst StageKeeps e (keeps s refl)
+read_keeps (Err k) t keeps is = cc
+
+step_keeps : (s t : Stage) (line : List ℕ) → StageKeeps s → step s line ≡ Ok t → StageKeeps t
+unfolding step
+step_keeps Opening t line keeps is = opening_keeps (bytes_eq line (codes "evc-script 1")) t is
+step_keeps Limiting t line keeps is = limit_line_keeps line t is
+step_keeps (Naming n) t line keeps is = named_keeps (head_step (opened n []) line) t (λ h e. first_keeps n line h e) is
+step_keeps (Reading s) t line keeps is = read_keeps (script_step s line) t (λ u e. line_keeps s u line keeps e) is
+
+pub leads_keeps : (s : Stage) (lines : List (List ℕ)) (t : Stage) → StageKeeps s → Leads s lines t → StageKeeps t
+leads_keeps s [] t keeps leads = subst StageKeeps leads keeps
+leads_keeps s (line ∷ lines) t keeps leads = leads_keeps leads.0 lines t (step_keeps s leads.0 line keeps leads.1) leads.2
+
+-- PLANS
+
+plan_of : (s : Scripted) (b : Option Block) (p : Planned) → Keeps s → plan_or s b ≡ Some p → IsPlan p
+plan_of s None p keeps is =
+    let e : (let q : Planned = record { heading = s.heading; programs = s.programs; schedule = s.schedule } in q) ≡ p = cc in
+    subst IsPlan e (record { some = keeps.head.some; apart = keeps.head.apart.apart; programs = keeps.programs; confined = keeps.confined; schedule = keeps.schedule })
+plan_of s (Some b) p keeps is = cc
+
+plan_keeps : (t : Stage) (p : Planned) → StageKeeps t → plan_in t ≡ Some p → IsPlan p
+plan_keeps (Reading s) p keeps is = plan_of s s.block p keeps is
+plan_keeps _ p keeps is = cc
+
+pub plans_are_confined : (bytes : List ℕ) (p : Planned) → outcome bytes ≡ Ok p → IsPlan p
+plans_are_confined bytes p is =
+    let r : IsScript bytes p = read_is_script bytes p is in
+    plan_keeps r.stage p (leads_keeps Opening r.lines r.stage tt r.leads) r.plan
+
+-- and what is told of a text is one
+pub told_plan : (bytes : List ℕ) (result : Result Plan ScriptFault) → Tells (outcome bytes) result → IfOk result (λ plan. IsPlan (shown_plan plan))
+told_plan bytes (Ok plan) tells = plans_are_confined bytes (shown_plan plan) tells
+told_plan bytes (Err f) tells = tt
+
+pub told_commands : (bytes : List ℕ) (result : Result Plan ScriptFault) → Tells (outcome bytes) result → IfOk result (λ plan. AreConfinedPrograms plan.heading.groups plan.programs.items)
+told_commands bytes (Ok plan) tells = confined_lines plan.heading.groups plan.programs.items (plans_are_confined bytes (shown_plan plan) tells).confined
+told_commands bytes (Err f) tells = tt

@@ -1,0 +1,4 @@
+-- Lemmas that the proofs of other crates cite too.
+pub mod Staying
+pub mod Implying
+pub mod Lines

@@ -1,0 +1,5 @@
+-- Lemmas that the proofs of other crates cite too.
+pub mod DecimalLemmas
+pub mod NumberLemmas
+pub mod PutLemmas
+pub mod WordLemmas

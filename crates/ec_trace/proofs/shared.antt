@@ -1,0 +1,3 @@
+-- Lemmas that the proofs of other crates cite too.
+pub mod ReadTraces
+pub mod LineParts

@@ -1,0 +1,323 @@
+-- A trace is read as what it spells, and nothing else is read.
+use Rattle.std.proofs.Common.{◌≡◌, ℕ, ◌<◌, ◌≤◌, ◌^◌, List, [], ◌∷◌, ◌++◌, length, cond, true, false, eqb, Option, Some, None, Result, Ok, Err, map, refl, sym, ap, ap₂, subst, ◌∙◌, arith, codes, decimal, append_assoc, reverse, nat_le, nat_lt, leb, ◌&&◌}
+use Rattle.std.specs.Prelude.{bytes_eq, not, IfSome, IfOk, IfErr}
+use Rattle.std.specs.Option.{option_and_then}
+use Rattle.std.specs.List.{AllByRecursion, join_with_byte, list_all}
+use Rattle.std.proofs.lemmas.Bool.{false_from_ne_true, and_parts, and_from, and_left, lt-ltb, le-leb, ltb-true, leb-true}
+use Rattle.std.proofs.lemmas.Slice.Eq.{bytes_eq-Decides}
+use Rattle.ec_core.specs.Acceptance.{IsAccepted}
+use Rattle.ec_core.specs.declared.act.Entry.{Entry}
+use Rattle.ec_text.specs.Words.{words_of, number_of}
+use Rattle.ec_text.proofs.shared.WordLemmas.{words_join, split_join, literal_word}
+use Rattle.ec_text.proofs.shared.NumberLemmas.{number_again, number_takes, guarded}
+use Rattle.ec_heading.specs.Headed.{Headed}
+use Rattle.ec_heading.specs.Outline.{Outline, IsOutline, opened, headed}
+use Rattle.ec_heading.specs.Form.{parts_in}
+use Rattle.ec_heading.specs.Heading.{head_step, opened_by, declared_or}
+use Rattle.ec_heading.specs.HeadingLaws.{LinesLead, Outlines, outline_lines}
+use Rattle.ec_heading.specs.declared.heading.HeadFault.{HeadFault}
+use Rattle.ec_heading.specs.declared.heading.HeadFault.TheVariants as head_faults
+use Rattle.ec_trace.specs.declared.fault.LineFault.{LineFault}
+use Rattle.ec_trace.specs.declared.fault.LineFault.TheVariants.{Bad}
+use Rattle.ec_trace.specs.declared.stage.Stage.{Stage}
+use Rattle.ec_trace.specs.declared.stage.Stage.TheVariants.{Opening, Limiting, Declaring, Running, Ended}
+use Rattle.ec_trace.specs.declared.fault.TraceFault.{TraceFault}
+use Rattle.ec_trace.specs.declared.fault.TraceFault.TheVariants.{Read, Memory}
+use Rattle.ec_trace.specs.Recounted.{Recounted}
+use Rattle.ec_trace.specs.Outcome.{outcome, Tells}
+use Rattle.ec_heading.specs.Spelling.{limit_line, entry_line, trace_lines, trace_text, text_of}
+use Rattle.ec_trace.specs.Grammar.{IsTrace}
+use Rattle.ec_trace.specs.Step.{step, limit_of, limit_in, in_range, limited, declared}
+use Rattle.ec_trace.specs.ReadingLaws.{TraceIsRead, IsTraceOf, IsNoTrace, Refuses, ReadIsTrace, TraceHasOneMeaning, NoTraceBeginsAnother}
+use Rattle.ec_trace.specs.declared.read.TheConstants.{TRACE_MAX}
+use Rattle.ec_heading.proofs.shared.Declarable.{Heads, heads_opened, heads_all}
+use Rattle.ec_heading.specs.Recalled.{outline_of}
+use Rattle.ec_heading.proofs.shared.OutlineFound.{outline_found}
+use Rattle.ec_heading.proofs.shared.LeadLines.{outline_leads, leads_outline}
+use Rattle.ec_trace.specs.FirstFault.{IsLine, Leads}
+use Rattle.ec_trace.proofs.Leads.{leads_append, IsText, text_read, no_front, one_meaning, text_back}
+use Rattle.ec_heading.proofs.shared.Each.{each_append}
+use Rattle.ec_trace.proofs.TraceLines.{line_is, literal_lacks, heading_lines_are, limit_line_is}
+use Rattle.ec_heading.proofs.shared.ReadHeadings.{IsSound, sound}
+use Rattle.ec_trace.proofs.ReadEntries.{number_word}
+use Rattle.ec_trace.proofs.ReadRuns.{entries_lead, entries_are_lines, end_leads, IsRunOf, run_back}
+
+-- THE LINE OF THE LIMIT
+
+limit_again : (n : ℕ) → 1 ≤ n → n < 2 ^ 32 → limit_of (limit_line n) ≡ Some n
+unfolding limit_of
+limit_again n low high =
+    let words : words_of (limit_line n) ≡ codes "limit" ∷ decimal n ∷ [] = words_join (codes "limit") (decimal n ∷ []) (literal_word (codes "limit") refl, (number_word n (omega arith), tt)) in
+    let range : (nat_le 1 n && nat_lt n 4294967296) ≡ true = and_from _ _ (le-leb _ _ low) (lt-ltb _ _ high) in
+    ap limit_in words ∙ ap (option_and_then in_range) (number_again n (omega arith)) ∙ rw range refl
+
+limit_leads : (n : ℕ) → 1 ≤ n → n < 2 ^ 32 → step Limiting (limit_line n) ≡ Ok (Declaring (opened n []))
+unfolding step
+limit_leads n low high = ap limited (limit_again n low high)
+
+-- such words say a limit
+pub record IsLimit (words : List (List ℕ)) (n : ℕ) : Type 0 where
+  pub are : words ≡ codes "limit" ∷ decimal n ∷ []
+  pub low : 1 ≤ n
+  pub high : n < 2 ^ 32
+
+range_back : (m n : ℕ) → in_range m ≡ Some n → (m ≡ n) × (1 ≤ n) × (n < 2 ^ 32)
+range_back m n e =
+    let g = guarded (nat_le 1 m && nat_lt m 4294967296) (Some m) n e in
+    let p = and_parts (nat_le 1 m) (nat_lt m 4294967296) g.0 in
+    let same : m ≡ n = cc in
+    (same, (let l : 1 ≤ m = leb-true _ _ p.0 in omega arith), (let l : m < 4294967296 = ltb-true _ _ p.1 in omega arith))
+
+digits_back : (o : Option ℕ) (n : ℕ) → option_and_then in_range o ≡ Some n → (o ≡ Some n) × (1 ≤ n) × (n < 2 ^ 32)
+digits_back None n e = cc
+digits_back (Some m) n e = (let r = range_back m n e in (ap Some r.0, r.1, r.2))
+
+pub limit_back : (words : List (List ℕ)) (n : ℕ) → limit_in words ≡ Some n → IsLimit words n
+limit_back [] n e = cc
+limit_back (w ∷ []) n e = cc
+limit_back (w ∷ d ∷ []) n e =
+    let g = guarded (bytes_eq w (codes "limit")) (option_and_then in_range (number_of d)) n e in
+    let r = digits_back (number_of d) n g.1 in
+    let word : w ≡ codes "limit" = (bytes_eq-Decides w (codes "limit")).0 g.0 in
+    let digits : d ≡ decimal n = (number_takes d n r.0).0 in
+    record { are = ap₂ (λ (x : List ℕ) (y : List ℕ). x ∷ y ∷ []) word digits; low = r.1; high = r.2 }
+limit_back (w ∷ d ∷ x ∷ words) n e = cc
+
+pub limited_back : (o : Option ℕ) (s : Stage) → limited o ≡ Ok s → (n : ℕ) × (o ≡ Some n) × (s ≡ Declaring (opened n []))
+limited_back None s e = cc
+limited_back (Some n) s e = (n, refl, cc)
+
+-- THE LINES OF THE HEADING
+
+-- `run` is no line of a heading
+not_heading : (h : Headed) → head_step h (codes "run") ≡ Err head_faults.BadLine
+unfolding head_step parts_in
+not_heading h = elim (eqb h.setup.workers 0) as (λ b. cond b (opened_by h.setup.limit None) (declared_or h None) ≡ Err head_faults.BadLine) [ true ↦ refl | false ↦ refl ]
+
+not_run : (h next : Headed) (line : List ℕ) → head_step h line ≡ Ok next → bytes_eq line (codes "run") ≡ false
+not_run h next line e =
+    false_from_ne_true _ (λ same.
+    let k : Err head_faults.BadLine ≡ Ok next = sym (not_heading h) ∙ ap (head_step h) (sym ((bytes_eq-Decides line (codes "run")).0 same)) ∙ e in
+    cc)
+
+declares_so : (h next : Headed) (line : List ℕ) → head_step h line ≡ Ok next → step (Declaring h) line ≡ Ok (Declaring next)
+unfolding step
+declares_so h next line e =
+    let other : (bytes_eq line (codes "run") && nat_lt 0 h.setup.workers) ≡ false = and_left _ _ (not_run h next line e) in
+    rw other (ap declared e)
+
+heading_leads : (h end : Headed) (lines : List (List ℕ)) → LinesLead h lines end → Leads (Declaring h) lines (Declaring end)
+heading_leads h end [] leads = ap Declaring leads
+heading_leads h end (line ∷ lines) leads = (Declaring leads.0, declares_so h leads.0 line leads.1, heading_leads leads.0 end lines leads.2)
+
+run_leads : (h : Headed) → 0 < h.setup.workers → step (Declaring h) (codes "run") ≡ Ok (Running (record { heading = h; entries = [] }))
+unfolding step
+run_leads h some = let l : nat_lt 0 h.setup.workers ≡ true = lt-ltb _ _ some in rw l refl
+
+-- lines of a heading, `run`, and what follows
+record IsHeaded (h : Headed) (lines : List (List ℕ)) (t : Recounted) : Type 0 where
+  head : List (List ℕ)
+  rest : List (List ℕ)
+  end : Headed
+  lines_are : lines ≡ head ++ codes "run" ∷ rest
+  heads : LinesLead h head end
+  some : 0 < end.setup.workers
+  runs : Leads (Running (record { heading = end; entries = [] })) rest (Ended t)
+
+pub declared_back : (r : Result Headed HeadFault) (s : Stage) → declared r ≡ Ok s → (h : Headed) × (r ≡ Ok h) × (s ≡ Declaring h)
+declared_back (Ok h) s e = (h, refl, cc)
+declared_back (Err f) s e = cc
+
+headed_here : (h : Headed) (line : List ℕ) (lines : List (List ℕ)) (t : Recounted) → line ≡ codes "run" → 0 < h.setup.workers → Leads (Running (record { heading = h; entries = [] })) lines (Ended t) → IsHeaded h (line ∷ lines) t
+headed_here h line lines t is some leads = record { head = []; rest = lines; end = h; lines_are = ap (λ (l : List ℕ). l ∷ lines) is; heads = refl; some = some; runs = leads }
+
+headed_along : (h next : Headed) (line : List ℕ) (lines : List (List ℕ)) (t : Recounted) → head_step h line ≡ Ok next → IsHeaded next lines t → IsHeaded h (line ∷ lines) t
+headed_along h next line lines t e r = record {
+  head = line ∷ r.head;
+  rest = r.rest;
+  end = r.end;
+  lines_are = ap (λ (ls : List (List ℕ)). line ∷ ls) r.lines_are;
+  heads = (next, e, r.heads);
+  some = r.some;
+  runs = r.runs;
+}
+
+ok_is : (x y : Stage) → ◌≡◌ {A = Result Stage LineFault} (Ok x) (Ok y) → y ≡ x
+ok_is x y e = cc
+
+heading_back : (h : Headed) (lines : List (List ℕ)) (t : Recounted) → Leads (Declaring h) lines (Ended t) → IsHeaded h lines t
+unfolding step
+heading_back h [] t leads = cc
+heading_back h (line ∷ lines) t (next, taken, leads) =
+    elim (bytes_eq line (codes "run") && nat_lt 0 h.setup.workers) as (λ b. (bytes_eq line (codes "run") && nat_lt 0 h.setup.workers) ≡ b → cond b (Ok (Running (record { heading = h; entries = [] }))) (declared (head_step h line)) ≡ Ok next → IsHeaded h (line ∷ lines) t) [
+      | true ↦ λ q g.
+          (let p = and_parts (bytes_eq line (codes "run")) (nat_lt 0 h.setup.workers) q in
+          headed_here h line lines t ((bytes_eq-Decides line (codes "run")).0 p.0) (ltb-true _ _ p.1) (subst (λ (s : Stage). Leads s lines (Ended t)) (ok_is (Running (record { heading = h; entries = [] })) next g) leads))
+      | false ↦ λ q g.
+          (let d = declared_back (head_step h line) next g in
+          headed_along h d.0 line lines t d.1 (heading_back d.0 lines t (subst (λ (s : Stage). Leads s lines (Ended t)) d.2 leads)))
+    ] refl taken
+
+-- WHAT IS SPELLED IS READ
+
+first_line_leads : step Opening (codes "evc-trace 1") ≡ Ok Limiting
+unfolding step
+first_line_leads = refl
+
+has_workers : (o : Outline) → IsOutline o → 0 < (headed o).setup.workers
+has_workers o is =
+    let h : Heads o.workers (headed o) = heads_all o.workers (opened o.limit o.workers) o.declarations (heads_opened o.limit o.workers) in
+    omega (arith, h.count, is.workers.some)
+
+abbrev recount : Outline → List Entry → Recounted
+recount o es = record { heading = headed o; entries = es }
+
+-- the lines behind the first two
+abbrev behind : Outline → List Entry → List (List ℕ)
+behind o es = (outline_lines o ++ codes "run" ∷ map (entry_line (headed o).words) es) ++ codes "end" ∷ []
+
+behind_leads : (o : Outline) (es : List Entry) → IsOutline o → IsAccepted (headed o).setup (reverse es) → Leads (Declaring (opened o.limit [])) (behind o es) (Ended (recount o es))
+behind_leads o es is acc =
+    leads_append (Declaring (opened o.limit [])) (Running (recount o es)) (Ended (recount o es)) (outline_lines o ++ codes "run" ∷ map (entry_line (headed o).words) es) (codes "end" ∷ [])
+    (leads_append (Declaring (opened o.limit [])) (Declaring (headed o)) (Running (recount o es)) (outline_lines o) (codes "run" ∷ map (entry_line (headed o).words) es)
+    (heading_leads (opened o.limit []) (headed o) (outline_lines o) (outline_leads o is))
+    (Running (recount o []), run_leads (headed o) (has_workers o is), entries_lead (headed o) [] es (sound o is) acc))
+    (end_leads (recount o es))
+
+all_lead : (o : Outline) (es : List Entry) → IsOutline o → IsAccepted (headed o).setup (reverse es) → Leads Opening (trace_lines o es) (Ended (recount o es))
+all_lead o es is acc =
+    (Limiting, first_line_leads, (Declaring (opened o.limit []), limit_leads o.limit is.low is.high, behind_leads o es is acc))
+
+literal_is : (line : List ℕ) → list_all (λ b. not (eqb b 10)) line ≡ true → leb (length line) 8192 ≡ true → IsLine line
+literal_is line clean short = line_is line (literal_lacks line clean) (leb-true _ _ short)
+
+all_lines : (o : Outline) (es : List Entry) → IsOutline o → IsAccepted (headed o).setup (reverse es) → AllByRecursion IsLine (trace_lines o es)
+all_lines o es is acc = (
+  literal_is (codes "evc-trace 1") refl refl,
+  (
+    limit_line_is o.limit is.high,
+    each_append IsLine (outline_lines o ++ codes "run" ∷ map (entry_line (headed o).words) es) (codes "end" ∷ [])
+        (each_append IsLine (outline_lines o) (codes "run" ∷ map (entry_line (headed o).words) es)
+        (heading_lines_are o (opened o.limit []) (headed o) is (outline_leads o is))
+        (literal_is (codes "run") refl refl, entries_are_lines (headed o) [] es (sound o is) acc))
+        (literal_is (codes "end") refl refl, tt),
+  ),
+)
+
+is_text : (bytes : List ℕ) (o : Outline) (es : List Entry) → IsTrace bytes o es → IsText bytes (trace_lines o es) (recount o es)
+unfolding trace_text
+is_text bytes o es h = record { spelled = h.text; each = all_lines o es h.heading h.accepted; leads = all_lead o es h.heading h.accepted }
+
+pub trace_is_read : TraceIsRead
+trace_is_read bytes o es h = text_read TRACE_MAX bytes (trace_lines o es) (recount o es) h.within (is_text bytes o es h)
+
+pub no_trace_begins_another : NoTraceBeginsAnother
+no_trace_begins_another bytes more o p es fs h k = no_front bytes more (trace_lines o es) (trace_lines p fs) (recount o es) (recount p fs) (is_text bytes o es h) (is_text (bytes ++ more) p fs k)
+
+pub trace_has_one_meaning : TraceHasOneMeaning
+trace_has_one_meaning bytes o p es fs h k =
+    let same : recount o es ≡ recount p fs = one_meaning bytes (trace_lines o es) (trace_lines p fs) (recount o es) (recount p fs) (is_text bytes o es h) (is_text bytes p fs k) in
+    let heading : headed o ≡ headed p = ap (λ (t : Recounted). t.heading) same in
+    (sym (outline_found o h.heading) ∙ ap outline_of heading ∙ outline_found p k.heading, ap (λ (t : Recounted). t.entries) same)
+
+-- WHAT IS READ IS SPELLED
+
+-- the lines that were read are those of a trace
+record AreOf (lines : List (List ℕ)) (t : Recounted) : Type 0 where
+  outline : Outline
+  is : IsOutline outline
+  declares : headed outline ≡ t.heading
+  accepted : IsAccepted (headed outline).setup (reverse t.entries)
+  lines_are : lines ≡ trace_lines outline t.entries
+
+-- the heading of such lines has an outline
+head_outline : (n : ℕ) (head : List (List ℕ)) (end : Headed) → 1 ≤ n → n < 2 ^ 32 → 0 < end.setup.workers → LinesLead (opened n []) head end → Outlines n head end
+head_outline n [] end low high some leads = absurd (let e : (opened n []).setup.workers ≡ end.setup.workers = ap (λ (h : Headed). h.setup.workers) leads in omega arith)
+head_outline n (line ∷ lines) end low high some leads = leads_outline n line lines end low high leads
+
+put_together : (n : ℕ) (head rest : List (List ℕ)) (end : Headed) (t : Recounted) → Outlines n head end → IsRunOf end [] rest t → AreOf (codes "evc-trace 1" ∷ limit_line n ∷ (head ++ codes "run" ∷ rest)) t
+put_together n head rest end t o r =
+    let heading : t.heading ≡ end = ap (λ (u : Recounted). u.heading) r.ends in
+    let entries : t.entries ≡ r.entries = ap (λ (u : Recounted). u.entries) r.ends in
+    let names : map (entry_line end.words) r.entries ≡ map (entry_line (headed o.outline).words) t.entries =
+    ap₂ (λ (h : Headed) (es : List Entry). map (entry_line h.words) es) o.end_is (sym entries) in
+    let tail : rest ≡ map (entry_line (headed o.outline).words) t.entries ++ codes "end" ∷ [] = r.lines_are ∙ ap (λ (ls : List (List ℕ)). ls ++ codes "end" ∷ []) names in
+    let body : head ++ codes "run" ∷ rest ≡ behind o.outline t.entries =
+    ap₂ (λ (a b : List (List ℕ)). a ++ codes "run" ∷ b) o.lines_are tail
+    ∙ sym (append_assoc (outline_lines o.outline) (codes "run" ∷ map (entry_line (headed o.outline).words) t.entries) (codes "end" ∷ [])) in
+    record {
+      outline = o.outline;
+      is = o.is;
+      declares = sym o.end_is ∙ sym heading;
+      accepted = subst (λ (es : List Entry). IsAccepted (headed o.outline).setup (reverse es)) (sym entries) (subst (λ (h : Headed). IsAccepted h.setup (reverse r.entries)) o.end_is r.accepted);
+      lines_are = ap₂ (λ (m : ℕ) (ls : List (List ℕ)). codes "evc-trace 1" ∷ limit_line m ∷ ls) (sym o.limit_is) body;
+    }
+
+-- behind the limit
+declaring_back : (n : ℕ) (lines : List (List ℕ)) (t : Recounted) → 1 ≤ n → n < 2 ^ 32 → Leads (Declaring (opened n [])) lines (Ended t) → AreOf (codes "evc-trace 1" ∷ limit_line n ∷ lines) t
+declaring_back n lines t low high leads =
+    let h = heading_back (opened n []) lines t leads in
+    let o = head_outline n h.head h.end low high h.some h.heads in
+    let s : IsSound h.end = subst IsSound (sym o.end_is) (sound o.outline o.is) in
+    let r = run_back h.end [] h.rest t s tt h.runs in
+    subst (λ (ls : List (List ℕ)). AreOf (codes "evc-trace 1" ∷ limit_line n ∷ ls) t) (sym h.lines_are) (put_together n h.head h.rest h.end t o r)
+
+-- behind the first line
+limiting_back : (lines : List (List ℕ)) (t : Recounted) → Leads Limiting lines (Ended t) → AreOf (codes "evc-trace 1" ∷ lines) t
+unfolding step limit_of
+limiting_back [] t leads = cc
+limiting_back (line ∷ lines) t (next, taken, leads) =
+    let l = limited_back (limit_of line) next taken in
+    let k = limit_back (words_of line) l.0 l.1 in
+    let is : line ≡ limit_line l.0 = sym (split_join line) ∙ ap (join_with_byte 32) k.are in
+    subst (λ (x : List ℕ). AreOf (codes "evc-trace 1" ∷ x ∷ lines) t) (sym is) (declaring_back l.0 lines t k.low k.high (subst (λ (s : Stage). Leads s lines (Ended t)) l.2 leads))
+
+pub first_back : (line : List ℕ) (next : Stage) → step Opening line ≡ Ok next → (line ≡ codes "evc-trace 1") × (next ≡ Limiting)
+unfolding step
+first_back line next e =
+    elim (bytes_eq line (codes "evc-trace 1")) as (λ b. bytes_eq line (codes "evc-trace 1") ≡ b → cond b (Ok Limiting) (Err Bad) ≡ Ok next → (line ≡ codes "evc-trace 1") × (next ≡ Limiting)) [
+      | true ↦ λ q g. ((bytes_eq-Decides line (codes "evc-trace 1")).0 q, ok_is Limiting next g)
+      | false ↦ λ q g. (cc)
+    ] refl e
+
+opening_back : (lines : List (List ℕ)) (t : Recounted) → Leads Opening lines (Ended t) → AreOf lines t
+opening_back [] t leads = cc
+opening_back (line ∷ lines) t (next, taken, leads) =
+    let f = first_back line next taken in
+    subst (λ (x : List ℕ). AreOf (x ∷ lines) t) (sym f.0) (limiting_back lines t (subst (λ (s : Stage). Leads s lines (Ended t)) f.1 leads))
+
+pub read_is_trace : ReadIsTrace
+unfolding trace_text
+read_is_trace bytes t e =
+    let r = text_back TRACE_MAX bytes t e in
+    let a = opening_back r.0.lines t r.0.leads in record {
+      outline = a.outline;
+      trace = record { heading = a.is; accepted = a.accepted; text = r.0.spelled ∙ ap text_of a.lines_are; within = r.1 };
+      declares = a.declares;
+    }
+
+-- WHAT AN ANSWER SAYS OF THE BYTES
+
+pub told_trace : (a left : Option (List ℕ)) (r : Result Recounted TraceFault) → IfSome a (λ bytes. Tells TRACE_MAX bytes left r) → IfSome a (λ bytes. IfOk r (IsTraceOf bytes))
+told_trace None left r h = tt
+told_trace (Some bytes) left (Ok t) h = read_is_trace bytes t h
+told_trace (Some bytes) left (Err f) h = tt
+
+refuses : (bytes : List ℕ) (f : TraceFault) → outcome TRACE_MAX bytes ≡ Err f → IsNoTrace bytes
+refuses bytes f e o es h = (let k : Ok (recount o es) ≡ Err f = sym (trace_is_read bytes o es h) ∙ e in cc)
+
+fault_refuses : (bytes : List ℕ) (left : Option (List ℕ)) (f : TraceFault) → Tells TRACE_MAX bytes left (Err f) → Refuses f bytes
+fault_refuses bytes left Memory h = tt
+fault_refuses bytes left Read h = tt
+fault_refuses bytes left f h = refuses bytes f h
+
+pub told_fault : (a left : Option (List ℕ)) (r : Result Recounted TraceFault) → IfSome a (λ bytes. Tells TRACE_MAX bytes left r) → IfSome a (λ bytes. IfErr r (λ f. Refuses f bytes))
+told_fault None left r h = tt
+told_fault (Some bytes) left (Ok t) h = tt
+told_fault (Some bytes) left (Err f) h = fault_refuses bytes left f h
+
+-- what is written is read again
+pub written_is_read : (o : Outline) (entries : List Entry) → IsOutline o → IsAccepted (headed o).setup (reverse entries) → length (trace_text o entries) ≤ TRACE_MAX
+    → outcome TRACE_MAX (trace_text o entries) ≡ Ok (record { heading = headed o; entries = entries })
+written_is_read o entries outline accepted within =
+    trace_is_read (trace_text o entries) o entries (record { heading = outline; accepted = accepted; text = refl; within = within })

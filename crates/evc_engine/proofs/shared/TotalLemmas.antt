@@ -1,0 +1,114 @@
+-- The lines of totals, one after another.
+use Rattle.std.proofs.Common.{◌≡◌, ℕ, zero, suc, ◌+◌, List, [], ◌∷◌, ◌++◌, Option, ap, sym, ◌∙◌, arith, add-one, append_assoc, append-nil, subst, codes, Some, take, slice_get, None, refl, length, ◌≤◌, map}
+use Rattle.std.proofs.lemmas.List.Concat.{flat_map-append}
+use Rattle.ec_count.specs.declared.target.Target.{Target}
+use Rattle.ec_count.specs.declared.target.Target.TheVariants.{Event, Sequencer, Cells}
+use Rattle.ec_core.specs.declared.act.Entry.{Entry}
+use Rattle.ec_core.specs.Counts.{total, issued, cell_value}
+use Rattle.ec_text.specs.Puts.{Puts, Held}
+use Rattle.ec_text.proofs.shared.PutLemmas.{puts_then}
+use Rattle.ec_heading.specs.Headed.{Headed}
+use Rattle.std.proofs.lemmas.List.{take_all, map-append}
+use Rattle.ec_heading.specs.Spelling.{Named, text_of, ended_line}
+use Rattle.evc_engine.specs.Texts.{cell_line, cell_lines, count_line, totals_of, totals_at, totals_by, totals_lines}
+
+take_more : {A : Type 0} (xs : List A) (k : ℕ) (x : A) → slice_get xs k ≡ Some x → take (suc k) xs ≡ take k xs ++ x ∷ []
+take_more [] k x h = cc
+take_more (y ∷ ys) zero x h = (let same : y ≡ x = cc in ap (λ z. z ∷ []) same)
+take_more (y ∷ ys) (suc k) x h = ap (λ t. y ∷ t) (take_more ys k x h)
+
+pub take_next : {A : Type 0} (xs : List A) (k : ℕ) (x : A) → slice_get xs k ≡ Some x → take (k + 1) xs ≡ take k xs ++ x ∷ []
+take_next xs k x h = rw add-one (take_more xs k x h)
+
+-- one more line at the end
+pub cells_next : (name : List ℕ) (past : List Entry) (first i n : ℕ)
+    → text_of (cell_lines name past first i (suc n)) ≡ text_of (cell_lines name past first i n) ++ ended_line (cell_line name (i + n) (cell_value (first + (i + n)) past))
+unfolding cell_lines
+cells_next name past first i zero =
+    (let same : i + zero ≡ i = omega arith in
+    rw same (append-nil (ended_line (cell_line name i (cell_value (first + i) past)))))
+cells_next name past first i (suc n) =
+    (let same : i + suc n ≡ i + 1 + n = omega arith in
+    rw same (ap (λ t. ended_line (cell_line name i (cell_value (first + i) past)) ++ t) (cells_next name past first (i + 1) n)
+    ∙ sym (append_assoc (ended_line (cell_line name i (cell_value (first + i) past))) (text_of (cell_lines name past first (i + 1) n)) _)))
+
+pub none_put : (now : Option (List ℕ)) (held : Held) (name : List ℕ) (past : List Entry) (first : ℕ) → Puts now held now held (text_of (cell_lines name past first 0 0))
+unfolding cell_lines
+none_put now held name past first = λ start all h. rw append-nil h
+
+pub cell_put : (a b c : Option (List ℕ)) (x y z : Held) (name : List ℕ) (past : List Entry) (first n value : ℕ)
+    → Puts a x b y (text_of (cell_lines name past first 0 n)) → value ≡ cell_value (first + n) past → Puts b y c z (cell_line name n value ++ 10 ∷ [])
+    → Puts a x c z (text_of (cell_lines name past first 0 (n + 1)))
+cell_put a b c x y z name past first n value before is now =
+    (let at : 0 + n ≡ n = omega arith in
+    let next : text_of (cell_lines name past first 0 (n + 1)) ≡ text_of (cell_lines name past first 0 n) ++ ended_line (cell_line name n value)
+    = ap (λ k. text_of (cell_lines name past first 0 k)) (add-one n) ∙ cells_next name past first 0 n
+    ∙ ap (λ k. text_of (cell_lines name past first 0 n) ++ ended_line (cell_line name k (cell_value (first + k) past))) at
+    ∙ ap (λ v. text_of (cell_lines name past first 0 n) ++ ended_line (cell_line name n v)) (sym is) in
+    subst (Puts a x c z) (sym next) (puts_then a b c x y z _ _ before now))
+
+-- the one line of a word
+pub one_put : (a b : Option (List ℕ)) (x y : Held) (past : List Entry) (word : List ℕ) (target : Target) (line : List ℕ) → totals_of past word target ≡ line ∷ []
+    → Puts a x b y (line ++ 10 ∷ []) → Puts a x b y (text_of (totals_of past word target))
+one_put a b x y past word target line is put =
+    subst (Puts a x b y) (sym (ap text_of is ∙ append-nil (ended_line line))) put
+
+pub event_put : (a b : Option (List ℕ)) (x y : Held) (past : List Entry) (word : List ℕ) (target : Target) (e n : ℕ) → target ≡ Event e → n ≡ total e past
+    → Puts a x b y (count_line (codes "eventcount ") word n ++ 10 ∷ []) → Puts a x b y (text_of (totals_of past word target))
+event_put a b x y past word target e n at is put =
+    one_put a b x y past word target (count_line (codes "eventcount ") word n)
+    (ap (totals_of past word) at ∙ ap (λ k. count_line (codes "eventcount ") word k ∷ []) (sym is)) put
+
+pub sequencer_put : (a b : Option (List ℕ)) (x y : Held) (past : List Entry) (word : List ℕ) (target : Target) (q n : ℕ) → target ≡ Sequencer q → n ≡ issued q past
+    → Puts a x b y (count_line (codes "sequencer ") word n ++ 10 ∷ []) → Puts a x b y (text_of (totals_of past word target))
+sequencer_put a b x y past word target q n at is put =
+    one_put a b x y past word target (count_line (codes "sequencer ") word n)
+    (ap (totals_of past word) at ∙ ap (λ k. count_line (codes "sequencer ") word k ∷ []) (sym is)) put
+
+pub cells_put : (a b : Option (List ℕ)) (x y : Held) (past : List Entry) (word : List ℕ) (target : Target) (first n : ℕ) → target ≡ Cells first n
+    → Puts a x b y (text_of (cell_lines word past first 0 n)) → Puts a x b y (text_of (totals_of past word target))
+cells_put a b x y past word target first n at put = subst (Puts a x b y) (ap (λ t. text_of (totals_of past word t)) (sym at)) put
+
+nothing_put : (now : Option (List ℕ)) (held : Held) → Puts now held now held []
+nothing_put now held = λ start all h. rw append-nil h
+
+pub nothing_put_for : (now : Option (List ℕ)) (held : Held) (lines : List (List ℕ)) → lines ≡ [] → Puts now held now held (text_of lines)
+nothing_put_for now held lines none = subst (λ ls. Puts now held now held (text_of ls)) (sym none) (nothing_put now held)
+
+take_past : {A : Type 0} (xs : List A) (k : ℕ) → slice_get xs k ≡ None → take (suc k) xs ≡ take k xs
+take_past [] zero h = refl
+take_past [] (suc k) h = refl
+take_past (y ∷ ys) zero h = cc
+take_past (y ∷ ys) (suc k) h = ap (λ t. y ∷ t) (take_past ys k h)
+
+-- the totals of one more word
+one_more : (past : List Entry) (words : Named) (k : ℕ) → totals_by past (take (k + 1) words) ≡ totals_by past (take k words) ++ totals_at past (slice_get words k)
+one_more past words k = elim (slice_get words k) as (λ o. slice_get words k ≡ o → totals_by past (take (k + 1) words) ≡ totals_by past (take k words) ++ totals_at past o) [
+  | None ↦ λ q. ap (λ n. totals_by past (take n words)) (add-one k) ∙ ap (totals_by past) (take_past words k q) ∙ sym (append-nil (totals_by past (take k words)))
+  | Some e ↦ λ q.
+      ap (totals_by past) (take_next words k e q)
+      ∙ flat_map-append (λ (d : List ℕ × Target). totals_of past d.0 d.1) (take k words) (e ∷ [])
+      ∙ ap (λ t. totals_by past (take k words) ++ t) (append-nil (totals_of past e.0 e.1))
+] refl
+
+pub totals_put : (a b c : Option (List ℕ)) (x y z : Held) (past : List Entry) (words : Named) (k : ℕ)
+    → Puts a x b y (text_of (totals_by past (take k words))) → Puts b y c z (text_of (totals_at past (slice_get words k)))
+    → Puts a x c z (text_of (totals_by past (take (k + 1) words)))
+totals_put a b c x y z past words k before now =
+    (let text : text_of (totals_by past (take (k + 1) words)) ≡ text_of (totals_by past (take k words)) ++ text_of (totals_at past (slice_get words k))
+    = ap text_of (one_more past words k) ∙ flat_map-append ended_line (totals_by past (take k words)) (totals_at past (slice_get words k)) in
+    subst (Puts a x c z) (sym text) (puts_then a b c x y z _ _ before now))
+
+-- all of them
+pub totals_all : (a b : Option (List ℕ)) (x y : Held) (past : List Entry) (words : Named) (k : ℕ) (heading : Headed) → length words ≤ k → words ≡ heading.words
+    → Puts a x b y (text_of (totals_by past (take k words))) → Puts a x b y (text_of (totals_lines heading past))
+totals_all a b x y past words k heading far all put =
+    subst (Puts a x b y) (ap (λ ws. text_of (totals_by past ws)) (take_all k words far ∙ all)) put
+
+-- one more line of a list
+pub line_put : {P : Type 0} (a b c : Option (List ℕ)) (x y z : Held) (f : P → List ℕ) (ps : List P) (p : P)
+    → Puts a x b y (text_of (map f ps)) → Puts b y c z (f p ++ 10 ∷ []) → Puts a x c z (text_of (map f (ps ++ p ∷ [])))
+line_put {P} a b c x y z f ps p before now =
+    (let text : text_of (map f (ps ++ p ∷ [])) ≡ text_of (map f ps) ++ (f p ++ 10 ∷ [])
+    = ap text_of (map-append f ps (p ∷ [])) ∙ flat_map-append ended_line (map f ps) (f p ∷ []) ∙ ap (λ t. text_of (map f ps) ++ t) (append-nil (ended_line (f p))) in
+    subst (Puts a x c z) (sym text) (puts_then a b c x y z _ _ before now))
