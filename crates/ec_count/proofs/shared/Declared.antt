@@ -73,15 +73,17 @@ two_lists_of n first second h =
     let q = or_parts (is_faulty n first) (is_faulty n second) p.0 in
     (workers_of n first q.0, some_length first p.1, workers_of n second q.1)
 
--- the same, of each list
+-- where no eventcount has a faulty list, each has sound signallers, at least one, and sound observers
 pub rights_of : (n : ℕ) (rows : List Rights) → has_faulty_rights n rows ≡ false → All (λ (r : Rights). AreTwoLists n r.signal r.observe) rows
 rights_of n rows h =
     all_from_none (λ (r : Rights). is_faulty_pair n r.signal r.observe) (λ (r : Rights). AreTwoLists n r.signal r.observe) (λ r. two_lists_of n r.signal r.observe) rows h
 
+-- where no sequencer has a faulty or an empty list, each has sound takers, at least one
 pub takers_of : (n : ℕ) (lists : List (List ℕ)) → has_faulty_takers n lists ≡ false → All (λ ws. AreWorkers n ws × (0 < length ws)) lists
 takers_of n lists h =
     all_from_none (λ ws. is_faulty n ws || length ws == 0) (λ ws. AreWorkers n ws × (0 < length ws)) (λ ws e. (let p = or_parts (is_faulty n ws) (length ws == 0) e in (workers_of n ws p.0, some_length ws p.1))) lists h
 
+-- where no cell has a faulty list, each has sound writers, at least one, and sound readers
 pub access_of : (n : ℕ) (rows : List Access) → has_faulty_access n rows ≡ false → All (λ (a : Access). AreTwoLists n a.write a.read) rows
 access_of n rows h =
     all_from_none (λ (a : Access). is_faulty_pair n a.write a.read) (λ (a : Access). AreTwoLists n a.write a.read) (λ a. two_lists_of n a.write a.read) rows h
@@ -123,7 +125,7 @@ at_place P xs i x all at = subst P (get_or_from_slice_get xs i x x at) (all i x 
 pub rights_at : (t : Tables) (e : ℕ) (r : Rights) → IsDeclared t → slice_get t.events e ≡ Some r → AreTwoLists t.workers r.signal r.observe
 rights_at t e r d at = at_place (λ (x : Rights). AreTwoLists t.workers x.signal x.observe) t.events e r d.rights at
 
--- an eventcount has few signallers
+-- an eventcount has at most 16 signallers
 pub few_signallers : (t : Tables) (e : ℕ) → IsDeclared t → length (signallers t e) ≤ 16
 few_signallers t e d =
     elim (slice_get t.events e) as (λ o. slice_get t.events e ≡ o → length (option_map_or (λ (r : Rights). r.signal) o []) ≤ 16) [
@@ -131,7 +133,7 @@ few_signallers t e d =
       | Some r ↦ λ at. (rights_at t e r d at).0.few
     ] refl
 
--- and at least one, where it is declared
+-- a declared eventcount has at least one signaller
 pub some_signaller : (t : Tables) (e : ℕ) → IsDeclared t → e < length t.events → 0 < length (signallers t e)
 some_signaller t e d lt =
     elim (slice_get t.events e) as (λ o. slice_get t.events e ≡ o → 0 < length (option_map_or (λ (r : Rights). r.signal) o [])) [
@@ -164,7 +166,7 @@ cells_tests t n write read =
     ∷ (n == 0 || length write == 0, Empty)
     ∷ []
 
--- what a fault that is not answered says of the lists of new cells
+-- new cells without a fault have sound writers, at least one, and sound readers
 pub fresh_cells : (t : Tables) (n : ℕ) (write read : List ℕ) → cells_fault t n write read ≡ None → (is_faulty t.workers write ≡ false) × (is_faulty t.workers read ≡ false) × ((length write == 0) ≡ false)
 fresh_cells t n write read h =
     let tests = none_is (cells_tests t n write read) h in
@@ -183,6 +185,7 @@ repeated : (n k : ℕ) (a : Access) → is_faulty_pair n a.write a.read ≡ fals
 repeated n zero a h = refl
 repeated n (suc k) a h = or_from (is_faulty_pair n a.write a.read) (has_faulty_access n (replicate k a)) h (repeated n k a h)
 
+-- where no cell has a faulty list, none has one after cells with sound lists and a writer are added
 pub more_cells : (n k : ℕ) (cells : List Access) (a : Access) → has_faulty_access n cells ≡ false
     → (is_faulty n a.write ≡ false) × (is_faulty n a.read ≡ false) × ((length a.write == 0) ≡ false)
     → has_faulty_access n (cells ++ replicate k a) ≡ false

@@ -62,7 +62,7 @@ joined_sound n ws others few p q apart =
     (or_from (list_any (λ w. nat_le n w) (ws ++ others)) (has_repeat (ws ++ others)) known different)
     (le-ltb 16 (length (ws ++ others)) (omega arith))
 
--- a list that has no fault
+-- of a list without a fault: there is room, nothing is missing, and the list is sound
 pub role_of : (t : Tables) (full : Bool) (ws : List ℕ) (none : Bool) → list_fault t full ws none ≡ None → (full ≡ false) × (none ≡ false) × (is_faulty t.workers ws ≡ false)
 role_of t full ws none h =
     let tests = none_is ((full || nat_lt 16 (length ws), TooMany) ∷ (names_unknown t ws, UnknownWorker) ∷ (has_repeat ws, Repeated) ∷ (none, Empty) ∷ []) h in
@@ -78,6 +78,7 @@ pub record AreRoles (t : Tables) (first second : List ℕ) : Type 0 where
   pub second_some : (length second == 0) ≡ false
   pub apart : shares_worker first second ≡ false
 
+-- of two roles without a fault: there is room, nothing is missing, and the lists are sound, not empty and apart
 pub roles_of : (t : Tables) (full : Bool) (first second : List ℕ) (none : Bool) → roles_fault t full first second none ≡ None → (full ≡ false) × (none ≡ false) × AreRoles t first second
 roles_of t full first second none h =
     let tests = none_is (

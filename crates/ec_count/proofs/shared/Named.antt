@@ -64,11 +64,12 @@ pub name_at : (names : List (List ℕ × Target)) (i : ℕ) (e : List ℕ × Tar
 name_at names i e h at =
     subst (λ (d : List ℕ × Target). is_name d.0 ≡ true) (get_or_from_slice_get names i e e at) (h.each i e (slice_get_within names i e at))
 
--- a name that was not added before joins the others
+-- an option that has no value is none
 pub none_left : {A : Type 0} (o : Option A) → ((x : A) → o ≡ Some x → ⊥) → o ≡ None
 none_left None h = refl
 none_left (Some x) h = absurd (h x refl)
 
+-- a word that may be added is a name, and stands for nothing yet
 pub no_fault : (name : List ℕ) (names : List (List ℕ × Target)) → name_fault name names ≡ None → (is_name name ≡ true) × (find_name name names ≡ None)
 no_fault name names =
     elim (is_name name) as (λ b. b ≡ is_name name → first_that ((not b, BadName) ∷ (is_some (find_name name names), NameTaken) ∷ []) ≡ None → (is_name name ≡ true) × (find_name name names ≡ None)) [
@@ -92,6 +93,7 @@ apart name (e ∷ es) h =
     at q rest zero d lt same = true≢false (sym ((bytes_eq-Decides name e.0).1 (sym same)) ∙ q)
     at q rest (suc k) d lt same = rest k d (omega arith) same
 
+-- with a name that may be added, each is still a name, and no two are the same
 pub AreNames-push : (names : List (List ℕ × Target)) (name : List ℕ) (target : Target) → AreNames names → name_fault name names ≡ None → AreNames (names ++ (name, target) ∷ [])
 AreNames-push names name target h free =
     let tests = no_fault name names free in

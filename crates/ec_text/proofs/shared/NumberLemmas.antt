@@ -25,6 +25,7 @@ digits_from_end n i word h = let e : drop i word ≡ [] = drop_all i word h in r
 
 pub ruleset digits_steps = (digits_from_step, digits_from_end)
 
+-- an option under a test has a value only where the test holds, and it is the value without the test
 pub guarded : {X : Type 0} (b : Bool) (x : Option X) (m : X) → cond b x None ≡ Some m → (b ≡ true) × (x ≡ Some m)
 guarded true x m e = (refl, e)
 guarded false x m e = cc
@@ -34,6 +35,7 @@ abbrev pub value_from : ℕ → List ℕ → ℕ
 value_from n [] = n
 value_from n (c ∷ cs) = value_from (10 * n + (c - 48)) cs
 
+-- the test for digits alone, and the number that they spell, mean what they mean in std
 pub own : IsNumeralModel (λ ds. all_ascii_digits ds ≡ true) (value_from 0)
 own = numerals_by_fold _ (search rules) value_from (search rules)
 
@@ -71,7 +73,7 @@ has_form_parts w e = elim (or_cases (eqb (length w) 1) (ltb 0 (length w) && not 
       (ltb-true _ _ p.0, λ is. absurd (other is))
 ]
 
--- what a number word says, and only what is spelled so
+-- a word that is read as a number is the digits of that number, which is below 10 ^ 18
 pub number_takes : (w : List ℕ) (n : ℕ) → number_of w ≡ Some n → (w ≡ decimal n) × (n < 1000000000000000000)
 number_takes w n e =
     let g = guarded (has_form w) _ n e in
@@ -94,6 +96,7 @@ has_form_decimal n small = elim (cases_lt 0 n) [
       ap has_form d
 ]
 
+-- the digits of a number below 10 ^ 18 are read as that number
 pub number_again : (n : ℕ) → n < 1000000000000000000 → number_of (decimal n) ≡ Some n
 number_again n small =
     let d : all_ascii_digits (decimal n) ≡ true = digits_decimal own n (omega arith) in
@@ -104,7 +107,7 @@ all_digits-list_all : (w : List ℕ) → all_ascii_digits w ≡ list_all is_asci
 all_digits-list_all [] = refl
 all_digits-list_all (c ∷ w) = ap (λ (b : Bool). is_ascii_digit c && b) (all_digits-list_all w)
 
--- a number has at most 18 digits
+-- a word that is read as a number has the form of one, and at most 18 digits
 pub number_is_form : (w : List ℕ) (n : ℕ) → number_of w ≡ Some n → (is_number_form w ≡ true) × (length w ≤ 18)
 number_is_form w n e =
     let g = guarded (has_form w) _ n e in
@@ -162,7 +165,7 @@ number_is_other n w small other = false_from_ne_true _ (λ e.
     let both : true ≡ false = sym digit ∙ ap (λ (x : List ℕ). is_ascii_digit (get_or x 0 0)) same ∙ other in
     cc)
 
--- and is read as none
+-- a word that doesn't begin with a digit is read as none
 pub no_number : (w : List ℕ) → is_ascii_digit (get_or w 0 0) ≡ false → number_of w ≡ None
 unfolding digits_from
 no_number [] other = refl

@@ -40,24 +40,25 @@ puts_flushed old new held waiting failed r good ok err none same =
 pub puts_written : {E : Type 0} (old new : Option (List ℕ)) (bs : List ℕ) (r : Result (Unit {0}) E) → OnOk r (Appends old new bs) → OnErr r (AppendsPrefix old new bs) → Puts old nothing_held new (record { bytes = []; failed = is_err r }) bs
 puts_written old new bs r ok err = wrote old new nothing_held bs r (λ i. false) ok err
 
--- one after another
+-- what is put in two steps is the bytes of the first, and then those of the second
 pub puts_then : (a b c : Option (List ℕ)) (x y z : Held) (p q : List ℕ) → Puts a x b y p → Puts b y c z q → Puts a x c z (p ++ q)
 puts_then a b c x y z p q one two = λ start all h. subst (Holds start c z) (append_assoc all p q) (two start (all ++ p) (one start all h))
 
 pub puts_after_flush : (a b c : Option (List ℕ)) (x y z : Held) (bs : List ℕ) → Puts a x b y [] → Puts b y c z bs → Puts a x c z bs
 puts_after_flush a b c x y z bs one two = λ start all h. two start all (subst (Holds start b y) (append-nil all) (one start all h))
 
--- nothing was put before
+-- at the start nothing is put, and nothing waits
 pub begins : (start : Option (List ℕ)) → Holds start start nothing_held []
 unfolding Holds
 begins None = ([], refl, tt)
 begins (Some xs) = ([], refl, sym (append-nil xs))
 
--- after a flush, what stands there at the end
+-- where nothing failed and nothing waits, all that was put stands there
 pub ends_ok : (start now : Option (List ℕ)) (all : List ℕ) → Holds start now nothing_held all → Appends start now all
 unfolding Holds
 ends_ok start now all h = subst (Appends start now) (sym (h.1 ∙ append-nil h.0)) h.2
 
+-- after a failure a front of what was put stands there
 pub ends_err : (start now : Option (List ℕ)) (held : Held) (all : List ℕ) → held.failed ≡ true → Holds start now held all → AppendsPrefix start now all
 unfolding Holds
 ends_err start now held all failed h = rw failed at h

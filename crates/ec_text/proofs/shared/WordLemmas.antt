@@ -56,6 +56,7 @@ onto_has : (b : ℕ) (parts : List (List ℕ)) → (first : List ℕ) × (others
 onto_has b [] = (b ∷ [], [], refl)
 onto_has b (part ∷ parts) = (b ∷ part, parts, refl)
 
+-- every line has a first word, if only an empty one
 pub has_first : (line : List ℕ) → HasFirst line
 has_first [] = record { first = []; others = []; is = refl }
 has_first (b ∷ line) =
@@ -86,17 +87,17 @@ pub are_words : (line : List ℕ) → AreWords (words_of line)
 are_words [] = (All-nil (λ x. eqb x 32 ≡ false), tt)
 are_words (b ∷ line) = word_step (eqb b 32) b (words_of line) refl (are_words line)
 
--- a word that is written out, as `literal_word (codes "read") refl`
+-- bytes that are seen to have no space are a word, as in `literal_word (codes "read") refl`
 pub literal_word : (w : List ℕ) → list_all (λ b. not (eqb b 32)) w ≡ true → IsWord w
 literal_word [] is = All-nil (λ x. eqb x 32 ≡ false)
 literal_word (b ∷ w) is =
     let p = and_parts (not (eqb b 32)) (list_all (λ c. not (eqb c 32)) w) is in
     All-cons (λ x. eqb x 32 ≡ false) b w (not-true _ p.0) (literal_word w p.1)
 
--- a word, and what stands behind the space after it
+-- the words of a word, a space and more are that word and the words of what stands behind the space
 pub words_at : (w rest : List ℕ) → IsWord w → words_of (w ++ 32 ∷ rest) ≡ w ∷ words_of rest
 words_at w rest is = slice_split_at (λ b. eqb b 32) w 32 rest is refl
 
--- a line of one word
+-- a word alone is a line of one word
 pub words_alone : (w : List ℕ) → IsWord w → words_of w ≡ w ∷ []
 words_alone w is = slice_split_none (λ b. eqb b 32) w is
