@@ -30,10 +30,11 @@ place_within w (v ∷ ws) low c h =
       | false ↦ λ e. (let k : c < low + 1 + length ws = place_within w ws (low + 1) c e in omega arith)
     ] h
 
--- an eventcount has at most 16 components, and at least one where it is declared
+-- an eventcount has at most 16 components
 pub width_few : (t : Tables) (e : ℕ) → IsDeclared t → width t e ≤ 16
 width_few t e d = few_signallers t e d
 
+-- a declared eventcount has at least one component
 pub width_some : (t : Tables) (e : ℕ) → IsDeclared t → e < length t.events → 0 < width t e
 width_some t e d lt = some_signaller t e d lt
 
@@ -79,6 +80,7 @@ IsReading t (Read e) = e < length t.events
 IsReading t (Await e v) = e < length t.events
 IsReading t _ = ⊥
 
+-- a call, where there is one, was begun by a read or an await of a declared eventcount
 abbrev pub IsReadingCall : Tables → Option CallSoFar → Type 0
 IsReadingCall t None = Unit {0}
 IsReadingCall t (Some call) = IsReading t call.op
@@ -101,6 +103,7 @@ accepted_or : (o : Option Refusal) (x y : Reply) → refused_or o x ≡ Ok y →
 accepted_or None x y h = (refl, cc)
 accepted_or (Some r) x y h = cc
 
+-- an act that is told a reply passed each test, and the reply is the right one
 pub allowed : (t : Tables) (past : List Entry) (w : ℕ) (act : Act) (reply : Reply) → answer_of t past w act ≡ Ok reply
     → IsAllowed t past w act × (reply_of t past w act ≡ reply)
 unfolding answer_of
@@ -147,6 +150,7 @@ call_reads t (x ∷ past) w acc =
       | false ↦ λ h. call_reads t past w acc.1
     ] refl
 
+-- the eventcount that such an act names is declared
 pub reading_event : (t : Tables) (op : Act) → IsReading t op → event_or op < length t.events
 reading_event t (Read e) h = h
 reading_event t (Await e v) h = h
@@ -156,7 +160,7 @@ reading_event t (Ticket q) h = absurd h
 reading_event t (Put x v) h = absurd h
 reading_event t (Get x) h = absurd h
 
--- counting round
+-- counting round: the next remainder is one more, or 0 where that makes the whole
 pub mod_next : (n k : ℕ) → 0 < n → suc k % n ≡ cond (nat_le n (k % n + 1)) 0 (k % n + 1)
 mod_next n k h =
     elim (nat_le n (k % n + 1)) as (λ b. nat_le n (k % n + 1) ≡ b → suc k % n ≡ cond b 0 (k % n + 1)) [

@@ -64,7 +64,7 @@ ticket_below t past w q Go h room = cc
 ticket_below t past w q (Put x v) h room = cc
 ticket_below t past w q (Get x) h room = cc
 
--- nor does the number of tickets drawn
+-- no number of tickets drawn passes the limit
 pub issued_within : (t : Tables) (q : ℕ) (past : List Entry) → IsAccepted t past → issued q past ≤ t.limit
 unfolding issued
 issued_within t q [] acc = omega arith
@@ -91,7 +91,7 @@ unfolding cell_value
 cell_within t x [] acc = omega arith
 cell_within t x (y ∷ past) acc = put_within x (cell_value x past) y.act (allowed t past y.worker y.act y.reply acc.0).0.small (cell_within t x past acc.1)
 
--- the sum of i components
+-- the sum of some components is at most 2 ^ 32 for each of them
 pub sum_within : (t : Tables) (e i : ℕ) (moments : List (List Entry)) (late : List Entry) → t.limit < 2 ^ 32 → IsAccepted t late → EachIsPastOf moments late
     → sum_read t e i moments ≤ i * 2 ^ 32
 unfolding sum_read
@@ -156,7 +156,7 @@ reply_small t past w (Ticket q) d low acc known = small_number (issued q past) t
 reply_small t past w (Put x v) d low acc known = tt
 reply_small t past w (Get x) d low acc known = cell_within t x past acc
 
--- what an act is told, where it is not refused
+-- no number that an act is told after an accepted history is above the greatest value
 pub told_small : (t : Tables) (past : List Entry) (w : ℕ) (act : Act) (reply : Reply) → IsDeclared t → IsAccepted t past
     → answer_of t past w act ≡ Ok reply → TellsAtMost VALUE_MAX reply
 told_small t past w act reply d acc h =

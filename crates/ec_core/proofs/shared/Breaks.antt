@@ -10,11 +10,12 @@ use Rattle.ec_core.specs.FollowingLaws.{FollowingHoldsOfBeginnings, FollowsOrBre
 use Rattle.ec_core.proofs.shared.Joining.{get_back}
 use Rattle.ec_core.proofs.shared.Moments.{past_next, past_end, moment_before}
 
--- each past of a history that follows does
+-- what came first in a past that follows does too
 pub follow_before : (rules : ℕ → Rule) (since early : List Entry) → Follow rules (since ++ early) → Follow rules early
 follow_before rules [] early h = h
 follow_before rules (x ∷ since) early h = follow_before rules since early h.1
 
+-- each past of a history that follows does
 pub follow_of : (rules : ℕ → Rule) (h p : List Entry) → Follow rules (reverse h) → IsPastOf p (reverse h) → Follow rules p
 follow_of rules h p f is = follow_before rules is.since p (subst (Follow rules) is.is f)
 
@@ -99,6 +100,7 @@ earlier h i k le = record {
       ∙ ap (λ l. reverse (drop i (take k h)) ++ reverse l) (take_take h i k le);
 }
 
+-- the beginnings up to a first break follow, and those that go past it don't
 pub breaks_first : BreaksAreFirst
 breaks_first rules h w k b i = (
   λ le. (let p = earlier h i k le in follow_before rules p.since (past_at i h) (subst (Follow rules) p.is b.before)),

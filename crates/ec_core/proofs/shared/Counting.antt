@@ -55,6 +55,7 @@ one_at_most : (o : Option Entry) (e : ℕ) → option_map_or (λ (x : Entry). co
 one_at_most None e = omega arith
 one_at_most (Some x) e = elim (is_advance e x.act) as (λ b. cond b 1 0 ≤ 1) [ true ↦ omega arith | false ↦ omega arith ]
 
+-- from one moment to the next a total never falls, and rises by at most one
 pub totals_rise : TotalsRiseByOne
 totals_rise e k h =
     let next : total e (past_at (suc k) h) ≡ option_map_or (λ (x : Entry). cond (is_advance e x.act) 1 0) (slice_get h k) 0 + total e (past_at k h) = total_next e k h (slice_get h k) refl in

@@ -31,10 +31,12 @@ abbrev pub AreFitting : Rule → List Told → List Told → Type 0
 AreFitting r b [] = Unit {0}
 AreFitting r b (c ∷ cs) = (is_fitting r b c.op ≡ true) × AreFitting r (extended r b c) cs
 
+-- the list after some calls and then others is that after the others, begun where the first leave it
 pub after_more : (r : Rule) (b xs ys : List Told) → list_after r b (xs ++ ys) ≡ list_after r (list_after r b xs) ys
 after_more r b [] ys = refl
 after_more r b (c ∷ xs) ys = after_more r (extended r b c) xs ys
 
+-- calls that fit, and then calls that fit after them, fit as one list
 pub fitting_more : (r : Rule) (b xs ys : List Told) → AreFitting r b xs → AreFitting r (list_after r b xs) ys → AreFitting r b (xs ++ ys)
 fitting_more r b [] ys f g = g
 fitting_more r b (c ∷ xs) ys f g = (f.0, fitting_more r (extended r b c) xs ys f.1 g)
@@ -49,17 +51,21 @@ fitting_back r b (c ∷ xs) ys f = fitting_back r (extended r b c) xs ys f.1
 
 -- FINISHED CALLS
 
+-- an entry's call, as a finished one: the act that began it and the reply
 abbrev pub told_at : Entry → List Entry → Told
 told_at x past = record { op = op_at x past; reply = x.reply }
 
+-- an entry leaves the finished calls of other workers as they are
 pub finished_other : (w : ℕ) (x : Entry) (past : List Entry) → (x.worker == w) ≡ false → finished_by w (x ∷ past) ≡ finished_by w past
 unfolding finished_by
 finished_other w x past h = rw h refl
 
+-- an entry that is told pending leaves its worker's finished calls as they are
 pub finished_same : (x : Entry) (past : List Entry) → is_pending x.reply ≡ true → finished_by x.worker (x ∷ past) ≡ finished_by x.worker past
 unfolding finished_by
 finished_same x past h = rw (eq-eqb x.worker x.worker refl, h) refl
 
+-- an entry that is told more than pending adds its call to its worker's finished calls
 pub finished_more : (x : Entry) (past : List Entry) → is_pending x.reply ≡ false → finished_by x.worker (x ∷ past) ≡ finished_by x.worker past ++ told_at x past ∷ []
 unfolding finished_by
 finished_more x past h = rw (eq-eqb x.worker x.worker refl, h) refl
@@ -95,6 +101,7 @@ block_is r w (x ∷ past) =
 
 -- THE CALL UNDER WAY
 
+-- a call, where there is one, is next in the list, or does not concern it
 abbrev pub IsFittingCall : Rule → List Told → Option CallSoFar → Type 0
 IsFittingCall r b None = Unit {0}
 IsFittingCall r b (Some call) = is_fitting r b call.op ≡ true
@@ -241,6 +248,7 @@ all_before rules t x past acc f w =
       | false ↦ λ e. other_before (rules w) w x past e (f w)
     ] refl
 
+-- an accepted history follows where each worker alone makes calls that fit
 pub follow_alone : (rules : ℕ → Rule) (t : Tables) (past : List Entry) → IsAccepted t past → ((w : ℕ) → FitsAlone (rules w) w past) → Follow rules past
 follow_alone rules t [] acc f = tt
 follow_alone rules t (x ∷ past) acc f = (

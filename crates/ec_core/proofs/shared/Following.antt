@@ -20,10 +20,12 @@ use Rattle.ec_core.proofs.shared.Pasts.{IsCallBefore, call_before, past_itself}
 
 -- BLOCKS
 
+-- an entry leaves the lists of other workers as they are
 pub other_block : (r : Rule) (w : ℕ) (x : Entry) (past : List Entry) → (x.worker == w) ≡ false → block r w (x ∷ past) ≡ block r w past
 unfolding block
 other_block r w x past h = rw h refl
 
+-- an entry takes its worker's list a step on, by the act that began its call and its reply
 pub own_block : (r : Rule) (x : Entry) (past : List Entry)
     → block r x.worker (x ∷ past) ≡ block_after r (block r x.worker past) (opened x.act (under_way x.worker past)) x.reply
 unfolding block
@@ -157,11 +159,13 @@ told_any t past w (Get x) o reply d acc b e h known going r = sym h
 abbrev pub op_at : Entry → List Entry → Act
 op_at x past = opened x.act (under_way x.worker past)
 
+-- each entry of an accepted history is told what the act that began its call may be told
 pub step_told : (t : Tables) (x : Entry) (past : List Entry) → IsDeclared t → IsAccepted t (x ∷ past) → IsTold t past (op_at x past) x.reply
 step_told t x past d acc =
     let k = allowed t past x.worker x.act x.reply acc.0 in
     told_any t past x.worker x.act (under_way x.worker past) x.reply d acc.1 (call_before x.worker past) refl k.1 k.0.known k.0.going (call_reads t past x.worker acc.1)
 
+-- each entry of an accepted history is the act that began its call, or a go of a read or an await
 pub step_opened : (t : Tables) (x : Entry) (past : List Entry) → IsAccepted t (x ∷ past) → (x.act ≡ op_at x past) ⊎ (IsReading t (op_at x past) × (x.act ≡ Go))
 step_opened t x past acc =
     let k = allowed t past x.worker x.act x.reply acc.0 in
@@ -169,14 +173,17 @@ step_opened t x past acc =
 
 -- COUNTS, BY THE ACT THAT BEGAN THE CALL
 
+-- an entry of an accepted history adds to a total what the act that began its call adds
 pub total_step : (t : Tables) (e : ℕ) (x : Entry) (past : List Entry) → IsAccepted t (x ∷ past) → total e (x ∷ past) ≡ cond (is_advance e (op_at x past)) 1 0 + total e past
 unfolding total
 total_step t e x past acc = ap (λ b. cond b 1 0 + total e past) (same_test (is_advance e) false t x.act (op_at x past) refl (λ f. refl) (λ f v. refl) (step_opened t x past acc))
 
+-- an entry of an accepted history draws the ticket that the act that began its call draws, and no other
 pub issued_step : (t : Tables) (q : ℕ) (x : Entry) (past : List Entry) → IsAccepted t (x ∷ past) → issued q (x ∷ past) ≡ cond (is_ticket q (op_at x past)) 1 0 + issued q past
 unfolding issued
 issued_step t q x past acc = ap (λ b. cond b 1 0 + issued q past) (same_test (is_ticket q) false t x.act (op_at x past) refl (λ f. refl) (λ f v. refl) (step_opened t x past acc))
 
+-- an entry of an accepted history puts into a cell what the act that began its call puts, and nothing else
 pub cell_step : (t : Tables) (y : ℕ) (x : Entry) (past : List Entry) → IsAccepted t (x ∷ past) → cell_value y (x ∷ past) ≡ unwrap_or (put_in y (op_at x past)) (cell_value y past)
 unfolding cell_value
 cell_step t y x past acc = ap (λ o. unwrap_or o (cell_value y past)) (same_test (put_in y) None t x.act (op_at x past) refl (λ f. refl) (λ f v. refl) (step_opened t x past acc))
@@ -257,6 +264,7 @@ step_due t rules x past d acc f =
 
 -- TESTS OF ACTS
 
+-- acts that the test finds to be one are the same
 pub is_act-true : (a b : Act) → is_act a b ≡ true → a ≡ b
 is_act-true (Advance e) (Advance f) h = ap Advance (eqb-true e f h)
 is_act-true (Read e) (Read f) h = ap Read (eqb-true e f h)
@@ -269,6 +277,7 @@ is_act-true (Put x v) (Put y u) h =
 is_act-true (Get x) (Get y) h = ap Get (eqb-true x y h)
 is_act-true _ _ h = cc
 
+-- the test finds each act to be itself
 pub is_act-same : (a : Act) → is_act a a ≡ true
 is_act-same (Advance e) = eq-eqb e e refl
 is_act-same (Read e) = eq-eqb e e refl
@@ -309,11 +318,13 @@ grown r calls op Pending on h = cc
 grown r calls op Done on h = rw on refl
 grown r calls op (Number n) on h = rw on refl
 
+-- a finished call that concerns its worker's list makes it longer, or begins it anew where it is whole
 pub after_told : (r : Rule) (x : Entry) (past : List Entry) (calls : List Told) (op : Act) → block r x.worker past ≡ calls → op_at x past ≡ op → r.concerns calls op ≡ true → is_pending x.reply ≡ false
     → block r x.worker (x ∷ past) ≡ cond (r.ends (calls ++ record { op = op; reply = x.reply } ∷ [])) [] (calls ++ record { op = op; reply = x.reply } ∷ [])
 after_told r x past calls op at is on done =
     own_block r x past ∙ ap (λ z. block_after r z (op_at x past) x.reply) at ∙ ap (λ o. block_after r calls o x.reply) is ∙ grown r calls op x.reply on done
 
+-- an entry that is told pending leaves its worker's list as it is
 pub after_pending : (r : Rule) (x : Entry) (past : List Entry) → x.reply ≡ Pending → block r x.worker (x ∷ past) ≡ block r x.worker past
 after_pending r x past e = own_block r x past ∙ ap (λ p. block_after r (block r x.worker past) (op_at x past) p) e
 
@@ -322,5 +333,6 @@ off_after r calls op Pending h = refl
 off_after r calls op Done h = rw h refl
 off_after r calls op (Number n) h = rw h refl
 
+-- an entry whose call does not concern the list of its worker leaves it as it is
 pub off_block : (r : Rule) (x : Entry) (past : List Entry) → r.concerns (block r x.worker past) (op_at x past) ≡ false → block r x.worker (x ∷ past) ≡ block r x.worker past
 off_block r x past h = own_block r x past ∙ off_after r (block r x.worker past) (op_at x past) x.reply h

@@ -315,6 +315,7 @@ joined_fits r is_on w past speaks j =
       going = fits_next r is_on (block r w past) j.last (under_way w past) speaks after j.next;
     }
 
+-- to follow is to make, on the group, whole lists of calls joined end to end, and the beginning of one more
 pub following_joins : FollowingMeansJoinedLists
 following_joins t rules is_on h d acc speaks = (
   λ f w. joined_from (rules w) (is_on w) w (reverse h) (speaks w) (fits_alone rules t (reverse h) d acc f w),
@@ -419,6 +420,7 @@ side_fits r is_on w past u j =
       going = next_some r is_on (block r w past) j.last (under_way w past) u after j.next;
     }
 
+-- to follow is to make whole lists with calls on other objects between them, and the beginning of one more
 pub following_stands : FollowingMeansUnbrokenLists
 following_stands t rules is_on h d acc u = (
   λ f w. side_from (rules w) (is_on w) w (reverse h) (u w) (fits_alone rules t (reverse h) d acc f w),

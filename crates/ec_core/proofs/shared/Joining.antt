@@ -9,6 +9,7 @@ get_front [] ys i h = absurd (omega arith)
 get_front (x ∷ xs) ys zero h = refl
 get_front (x ∷ xs) ys (suc i) h = get_front xs ys i (omega arith)
 
+-- behind the first of two lists end to end stand the elements of the second
 pub get_back : {X : Type 0} (xs ys : List X) (i j : ℕ) → i ≡ length xs + j → slice_get (xs ++ ys) i ≡ slice_get ys j
 get_back [] ys i j h = (let same : i ≡ j = omega arith in ap (slice_get ys) same)
 get_back (x ∷ xs) ys zero j h = absurd (omega arith)

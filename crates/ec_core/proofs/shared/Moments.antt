@@ -30,9 +30,11 @@ take_end (y ∷ ys) (suc k) h = ap (λ zs. y ∷ zs) (take_end ys k h)
 pub past_next : (h : List Entry) (k : ℕ) (x : Entry) → slice_get h k ≡ Some x → past_at (suc k) h ≡ x ∷ past_at k h
 past_next h k x at = ap reverse (take_next h k x at) ∙ reverse-append (take k h) (x ∷ [])
 
+-- past the last entry the past stays as it is
 pub past_end : (h : List Entry) (k : ℕ) → slice_get h k ≡ None → past_at (suc k) h ≡ past_at k h
 past_end h k at = ap reverse (take_end h k at)
 
+-- what came first in an accepted past is accepted
 pub accepted_before : (t : Tables) (since early : List Entry) → IsAccepted t (since ++ early) → IsAccepted t early
 accepted_before t [] early h = h
 accepted_before t (x ∷ since) early h = accepted_before t since early h.1
@@ -54,7 +56,7 @@ answered_after t h done others x acc is =
     let whole : reverse h ≡ reverse others ++ x ∷ reverse done = ap reverse (sym is) ∙ reverse-append done (x ∷ others) ∙ turned (reverse done) x others in
     (accepted_before t (reverse others) (x ∷ reverse done) (subst (IsAccepted t) whole acc)).0
 
--- and what came before it is accepted
+-- the first entries of an accepted history, whatever comes after them, are accepted
 pub accepted_until : (t : Tables) (h done others : List Entry) → IsAccepted t (reverse h) → done ++ others ≡ h → IsAccepted t (reverse done)
 accepted_until t h done others acc is =
     let whole : reverse h ≡ reverse others ++ reverse done = ap reverse (sym is) ∙ reverse-append done others in
@@ -68,6 +70,7 @@ moment_before h k = record { since = reverse (drop k h); is = ap reverse (sym (t
 pub accepted_of : (t : Tables) (h p : List Entry) → IsAccepted t (reverse h) → IsPastOf p (reverse h) → IsAccepted t p
 accepted_of t h p acc is = accepted_before t is.since p (subst (IsAccepted t) is.is acc)
 
+-- every beginning of an accepted history is accepted
 pub beginnings : BeginningsAreAccepted
 beginnings t k h acc = accepted_of t h (past_at k h) acc (moment_before h k)
 
@@ -82,6 +85,7 @@ accepted_from : (t : Tables) (h : List Entry) → ((k : ℕ) (x : Entry) → sli
 accepted_from t h right zero = tt
 accepted_from t h right (suc k) = next_accepted t h k (slice_get h k) refl (right k) (accepted_from t h right k)
 
+-- a history is accepted exactly where each entry is the answer to its act at its own moment
 pub accepted_means : AcceptedMeansAnswered
 accepted_means t h = (
   λ acc k x at. accepted_at t h k x acc at,

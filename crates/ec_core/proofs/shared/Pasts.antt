@@ -8,6 +8,7 @@ use Rattle.ec_core.specs.declared.act.Entry.{Entry}
 use Rattle.ec_core.specs.Calls.{CallSoFar, under_way, gone_on, is_pending}
 use Rattle.ec_core.specs.Rounds.{IsPastOf, EachIsPastOf}
 
+-- each past is one of itself
 pub past_itself : (past : List Entry) → IsPastOf past past
 past_itself past = record { since = []; is = refl }
 

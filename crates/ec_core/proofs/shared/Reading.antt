@@ -29,15 +29,17 @@ always : (b : Bool) → (b && true) ≡ b
 always true = refl
 always false = refl
 
--- the acts of w that pass a test
+-- how many acts of a worker pass a test
 unfoldable pub made_by : (Act → Bool) → ℕ → List Entry → ℕ
 made_by f w [] = 0
 made_by f w (x ∷ past) = cond (f x.act && (x.worker == w)) 1 0 + made_by f w past
 
+-- an entry does not add to the acts of other workers
 pub made_by_other : (f : Act → Bool) (w : ℕ) (x : Entry) (past : List Entry) → (x.worker == w) ≡ false → made_by f w (x ∷ past) ≡ made_by f w past
 unfolding made_by
 made_by_other f w x past h = ap (λ b. cond (f x.act && b) 1 0 + made_by f w past) h ∙ ap (λ b. cond b 1 0 + made_by f w past) (never (f x.act)) ∙ zero-add (made_by f w past)
 
+-- an entry adds its act to those of its worker, where it passes the test
 pub made_by_own : (f : Act → Bool) (x : Entry) (past : List Entry) → made_by f x.worker (x ∷ past) ≡ cond (f x.act) 1 0 + made_by f x.worker past
 unfolding made_by
 made_by_own f x past = ap (λ b. cond (f x.act && b) 1 0 + made_by f x.worker past) (eq-eqb x.worker x.worker refl) ∙ ap (λ b. cond b 1 0 + made_by f x.worker past) (always (f x.act))
@@ -65,17 +67,21 @@ unfolding made issued
 issued_made q [] = refl
 issued_made q (x ∷ past) = ap (λ n. cond (is_ticket q x.act) 1 0 + n) (issued_made q past)
 
+-- the advances of the workers add up to the total
 pub total_by : (t : Tables) (e : ℕ) (past : List Entry) → IsAccepted t past → sum_to (λ w. made_by (is_advance e) w past) t.workers ≡ total e past
 total_by t e past acc = made_is (is_advance e) t past acc ∙ total_made e past
 
+-- the tickets of the workers add up to those that were drawn
 pub issued_by : (t : Tables) (q : ℕ) (past : List Entry) → IsAccepted t past → sum_to (λ w. made_by (is_ticket q) w past) t.workers ≡ issued q past
 issued_by t q past acc = made_is (is_ticket q) t past acc ∙ issued_made q past
 
+-- where no number is greater than the other at its place, neither is the sum
 pub sum_least : (n : ℕ) (f g : ℕ → ℕ) → ((c : ℕ) → f c ≤ g c) → sum_to f n ≤ sum_to g n
 unfolding sum_to
 sum_least zero f g h = omega arith
 sum_least (suc n) f g h = (let here : f n ≤ g n = h n in let rest : sum_to f n ≤ sum_to g n = sum_least n f g h in omega arith)
 
+-- where no number is greater than the other at its place, and one is less, so is the sum
 pub sum_less : (n : ℕ) (f g : ℕ → ℕ) (w : ℕ) → ((c : ℕ) → f c ≤ g c) → w < n → f w < g w → sum_to f n < sum_to g n
 unfolding sum_to
 sum_less zero f g w h lt less = absurd (omega arith)
@@ -118,6 +124,7 @@ moments_stacked (Ticket q) o h = tt
 moments_stacked (Put y v) o h = tt
 moments_stacked (Get y) o h = tt
 
+-- the past at which an entry's call began is a past of that of each entry of the call so far
 pub began_past : (x : Entry) (past : List Entry) → IsPastOf (began x past) past × IsPastOfEach (began x past) (moments_of x.act (under_way x.worker past))
 began_past x past = oldest_past past (moments_of x.act (under_way x.worker past)) (moments_before x.act (under_way x.worker past) past (call_before x.worker past)) (moments_stacked x.act (under_way x.worker past) (call_stacked x.worker past))
 
@@ -183,6 +190,7 @@ began_of r w (Ticket q) past o h = refl
 began_of r w (Put y v) past o h = refl
 began_of r w (Get y) past o h = refl
 
+-- the list of an entry's worker is the one that it was in when the entry's call began
 pub began_block : (r : Rule) (x : Entry) (past : List Entry) → block r x.worker (began x past) ≡ block r x.worker past
 began_block r x past = began_of r x.worker x.act past (under_way x.worker past) (begun r x.worker past)
 
@@ -281,6 +289,7 @@ read_low_at t e early past moments s acc lt before each pasts =
       | false ↦ λ h p. cc
     ] refl
 
+-- a read tells at least the total at the moment at which it began
 pub read_low : (t : Tables) (x : Entry) (past : List Entry) (e s : ℕ) → IsDeclared t → IsAccepted t (x ∷ past) → op_at x past ≡ Read e → x.reply ≡ Number s → total e (began x past) ≤ s
 read_low t x past e s d acc op told =
     let k = allowed t past x.worker x.act x.reply acc.0 in

@@ -65,6 +65,7 @@ pub call_own : (x : Entry) (past : List Entry) → under_way x.worker (x ∷ pas
 unfolding under_way
 call_own x past = rw (eq-eqb x.worker x.worker refl) refl
 
+-- an entry leaves the calls under way of other workers as they are
 pub call_other : (w : ℕ) (x : Entry) (past : List Entry) → (x.worker == w) ≡ false → under_way w (x ∷ past) ≡ under_way w past
 unfolding under_way
 call_other w x past h = rw h refl

@@ -40,7 +40,7 @@ unfolding sum_to
 same_sum zero f = refl
 same_sum (suc n) f = (let rest : sum_to (λ c. 0 + f c) n ≡ 0 + sum_to f n = same_sum n f in omega arith)
 
--- the components whose counts an entry raises
+-- where an entry raises one of so many counts the sum is one more, and else the same
 pub raised_sum : (b : Bool) (o : Option ℕ) (n : ℕ) (f : ℕ → ℕ) → (b ≡ true → (d : ℕ) × (o ≡ Some d) × (d < n))
     → sum_to (λ c. cond (b && is_place c o) 1 0 + f c) n ≡ cond b 1 0 + sum_to f n
 raised_sum true o n f h =
@@ -68,7 +68,7 @@ advance_place t past w e (Ticket q) right is = cc
 advance_place t past w e (Put x v) right is = cc
 advance_place t past w e (Get x) right is = cc
 
--- so many times 0
+-- so many times 0 is 0
 pub zeros : (n : ℕ) → sum_to (λ c. 0) n ≡ 0
 unfolding sum_to
 zeros zero = refl
@@ -134,7 +134,7 @@ sum_same (suc n) f g h =
     let rest : sum_to f n ≡ sum_to g n = sum_same n f g (λ c lt. h c (omega arith)) in
     cc)
 
--- what the counts of a world add up to
+-- in a world that stands for a history the counts of an eventcount's components add up to its total
 pub total_now : (s : State) (h : List Entry) (e : ℕ) → StandsFor s h → e < 32
     → sum_to (λ c. value_of (count_at s.counts e c)) (width s.setup e) ≡ total e (reverse h)
 total_now s h e st lt =

@@ -8,6 +8,7 @@ use Rattle.ec_core.specs.Procedures.{IsWritten}
 use Rattle.ec_core.specs.FollowingLaws.{AnsweredCallsAreWritten}
 use Rattle.ec_core.proofs.shared.Joining.{last_get}
 
+-- a beginning of a written list, and the call that the list has next, are a beginning of it
 pub written_more : (list : List Told → Option Act) (done : List Told) (c : Told) → IsWritten list done → list done ≡ Some c.op → IsWritten list (done ++ c ∷ [])
 written_more list done c h next k d at =
     elim (last_get done c d k at) [
