@@ -46,6 +46,7 @@ one_list (x ∷ xs) (y ∷ ys) e h =
     let others : xs ≡ ys = one_list xs ys (omega arith) (λ i z at. h (suc i) z at) in
     (cc)
 
+-- two lists of the deliveries of a history that follows the buffer are the same
 pub determined : DeliveriesAreDetermined
 determined t b h f xs ys p q =
     let long : length xs ≡ length ys = p.each_get ∙ sym q.each_get in

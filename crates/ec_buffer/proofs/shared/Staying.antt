@@ -16,6 +16,7 @@ still_declared b old new produce consume k d = record {
   apart = d.apart;
 }
 
+-- a buffer that is declared stays so where more is declared
 pub buffers_stay : BuffersStay
 buffers_stay b old new k f = (f.0, f.1, still_declared b old new f.0 f.1 k f.2)
 

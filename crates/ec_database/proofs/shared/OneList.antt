@@ -22,5 +22,6 @@ there t d h xs ys p q i a at =
     let ends = p.each i a at in
     subst (λ n. slice_get ys n ≡ Some a) ends.1 (q.every ends.0 a ends.2)
 
+-- two lists of the accepting tries of a history are the same
 pub determined : TriesAreDetermined
 determined t d h xs ys p q = same_list xs ys (there t d h xs ys p q) (there t d h ys xs q p)

@@ -16,6 +16,7 @@ still_declared d old new write read k h = record {
   apart = h.apart;
 }
 
+-- a database that is declared stays so where more is declared
 pub databases_stay : DatabasesStay
 databases_stay d old new k f = (f.0, f.1, still_declared d old new f.0 f.1 k f.2)
 

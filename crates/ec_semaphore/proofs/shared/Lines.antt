@@ -8,7 +8,7 @@ use Rattle.ec_core.proofs.shared.Places.{get_set}
 use Rattle.ec_semaphore.specs.Shapes.{Semaphore}
 use Rattle.ec_semaphore.specs.Both.{is_line}
 
--- that of the common one is none of them
+-- the sequencer of the common semaphore is none of those of the semaphores that are handed in
 pub not_common : (c : Semaphore) (shapes : List Semaphore) → is_line c shapes c.line ≡ false
 not_common c shapes = ap (λ b. not b && list_any (λ (s : Semaphore). s.line == c.line) shapes) (eq-eqb c.line c.line refl)
 
