@@ -34,6 +34,7 @@ use Rattle.ec_heading.proofs.shared.ReadNames.{is_shared, AreApart, HasName, is_
 
 -- TARGETS WITHIN THE TABLES
 
+-- whether a target is within the tables and groups of a heading
 abbrev pub is_below : Headed → Target → Bool
 is_below h (Worker w) = nat_lt w h.setup.workers
 is_below h (Event e) = nat_lt e (length h.setup.events)

@@ -28,10 +28,12 @@ use Rattle.ec_heading.proofs.shared.Listed.{Named, HasNoWorker, no_worker-append
 
 -- A LIST OF TESTS
 
+-- where a list of tests has no fault, its first test does not hold, and the others have none
 pub passed : {F : Type 0} (b : Bool) (f : F) (rest : List (Bool × F)) → first_that ((b, f) ∷ rest) ≡ None → (b ≡ false) × (first_that rest ≡ None)
 passed true f rest e = cc
 passed false f rest e = (refl, e)
 
+-- a list of tests has no fault where its first test does not hold, and the others have none
 pub pass : {F : Type 0} (b : Bool) (f : F) (rest : List (Bool × F)) → b ≡ false → first_that rest ≡ None → first_that ((b, f) ∷ rest) ≡ None
 pass true f rest b e = absurd (true≢false b)
 pass false f rest b e = e
@@ -45,6 +47,7 @@ pub record Heads (ws : List (List ℕ)) (h : Headed) : Type 0 where
   pub words : h.words ≡ with_others ws others
   pub none : HasNoWorker others
 
+-- the workers of a heading without declarations are those that it was opened with
 pub heads_opened : (limit : ℕ) (ws : List (List ℕ)) → Heads ws (opened limit ws)
 heads_opened limit ws = record { count = refl; others = []; words = sym (append-nil (numbered 0 ws)); none = tt }
 
@@ -82,6 +85,7 @@ heads_more ws h d heads =
       none = no_worker-append heads.others (spelled_objects d.name (objects_of d.sort (next_of h) d.number)) heads.none (no_worker_spelled d.name objects (no_worker_there d.sort (next_of h) d.number));
     }
 
+-- declarations leave a heading the workers that it has
 pub heads_all : (ws : List (List ℕ)) (h : Headed) (ds : List Declaration) → Heads ws h → Heads ws (declared_all h ds)
 heads_all ws h [] heads = heads
 heads_all ws h (d ∷ ds) heads = heads_all ws (declared_by h d) ds (heads_more ws h d heads)

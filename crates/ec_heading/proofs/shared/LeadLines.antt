@@ -15,6 +15,7 @@ declarations_lead ws h [] are heads may = refl
 declarations_lead ws h (d ∷ ds) are heads may =
     (declared_by h d, line_declared ws are h heads d may.0, declarations_lead ws (declared_by h d) ds are (heads_more ws h d heads) may.1)
 
+-- the lines of an outline, each in its turn, lead from its limit alone to what it declares
 pub outline_leads : OutlineLinesLead
 outline_leads o is =
     (opened o.limit o.workers, workers_read o.limit o.workers is.workers, declarations_lead o.workers (opened o.limit o.workers) o.declarations is.workers (heads_opened o.limit o.workers) is.declarations)
@@ -41,6 +42,7 @@ lead_declarations ws h (line ∷ lines) end are heads (next, taken, leads) =
     declared_along ws h next line lines end one
     (lead_declarations ws next lines end are (subst (Heads ws) (sym one.adds) (heads_more ws h one.declaration heads)) leads)
 
+-- lines that lead on from a limit alone are those of an outline, and lead to what it declares
 pub leads_outline : LinesHaveAnOutline
 leads_outline limit line lines end low high (next, taken, leads) =
     let w : NamesWorkers limit line next = workers_spelled limit line next taken in
@@ -66,9 +68,11 @@ outlined limit line lines h low high leads =
     let o : Outlines limit (line ∷ lines) h = leads_outline limit line lines h low high leads in
     record { outline = o.outline; is = o.is; declares = sym o.end_is }
 
+-- a heading after the first line behind a limit in range is what an outline declares
 pub named_outlined : (limit : ℕ) (line : List ℕ) (h : Headed) → 1 ≤ limit → limit < 2 ^ 32 → head_step (opened limit []) line ≡ Ok h → HasOutline h
 named_outlined limit line h low high is = outlined limit line [] h low high (h, is, refl)
 
+-- where a heading is what an outline declares, so it is after one more line
 pub declared_outlined : (h : Headed) (line : List ℕ) (t : Headed) → HasOutline h → head_step h line ≡ Ok t → HasOutline t
 declared_outlined h line t has is =
     let o : Outline = has.outline in

@@ -16,6 +16,7 @@ pub record IsFit (w : List ℕ) : Type 0 where
   pub word : IsWord w
   pub some : eqb (length w) 0 ≡ false
 
+-- each of the words may stand in a line
 abbrev pub AreFit : List (List ℕ) → Type 0
 AreFit ws = AllByRecursion IsFit ws
 
@@ -58,13 +59,16 @@ line_read h w ws fit short =
 
 -- NAMES
 
+-- each of the words is a name
 abbrev pub AreNamed : List (List ℕ) → Type 0
 AreNamed ws = AllByRecursion (λ w. is_name w ≡ true) ws
 
+-- names may stand in a line
 pub names_fit : (ws : List (List ℕ)) → AreNamed ws → AreFit ws
 names_fit [] h = tt
 names_fit (w ∷ ws) h = (record { word = name_is_word w h.0; some = name_not_empty w h.0 }, names_fit ws h.1)
 
+-- names, each with a space, have at most 17 bytes apiece
 pub names_letters : (ws : List (List ℕ)) → AreNamed ws → letters ws ≤ 17 * length ws
 names_letters [] h = zero-le
 names_letters (w ∷ ws) h = (let n : IsNamed w = named w h.0 in omega (arith, n.short, names_letters ws h.1))
@@ -74,6 +78,7 @@ pub listed_named : (ws : List (List ℕ)) (ids : List ℕ) → All (λ w. is_nam
 listed_named ws [] h below = tt
 listed_named ws (i ∷ ids) h below = (h i [] below.0, listed_named ws ids h below.1)
 
+-- a list of workers has as many names as numbers
 pub listed_length : (ws : List (List ℕ)) (ids : List ℕ) → length (list_words ws ids) ≡ length ids
 listed_length ws [] = refl
 listed_length ws (i ∷ ids) = omega (arith, listed_length ws ids)

@@ -120,20 +120,24 @@ all_found h (d ∷ ds) l old may e =
     ∙ ap (λ (o : Option Declaration). (filter_map f h.declarations ++ cons_option o []) ++ ds) here
     ∙ append_assoc (filter_map f h.declarations) (d ∷ []) ds
 
+-- the declarations of an outline are read off the heading that it declares
 pub declarations_found : (o : Outline) → IsOutline o → declarations_of (headed o) ≡ o.declarations
 declarations_found o is = all_found (opened o.limit o.workers) o.declarations (headed o) (workers_old (next_of (opened o.limit o.workers)) 0 o.workers) is.declarations refl
 
+-- in what an outline declares each worker is named as the outline names the one at its place
 pub name_of_worker : (o : Outline) (i : ℕ) → word_of (headed o).words (Worker i) ≡ slice_index_or o.workers i []
 name_of_worker o i =
     let later = all_later (opened o.limit o.workers) o.declarations in
     worker_found o.workers (headed o).words later.words.0 i later.words.1 later.words.2
 
+-- the limit of what an outline declares is that of the outline
 pub limit_found : (o : Outline) → (headed o).setup.limit ≡ o.limit
 limit_found o = (all_later (opened o.limit o.workers) o.declarations).tables.limit
 
 pub workers_number : (o : Outline) → (headed o).setup.workers ≡ length o.workers
 workers_number o = (all_later (opened o.limit o.workers) o.declarations).tables.workers
 
+-- the names of the workers are read off the heading that an outline declares
 pub worker_names_found : (o : Outline) → worker_names (headed o) ≡ o.workers
 worker_names_found o =
     workers_found o.workers (headed o).words (range_with_len 0 (headed o).setup.workers) (name_of_worker o)
@@ -143,7 +147,7 @@ worker_names_found o =
 abbrev made : ℕ → List (List ℕ) → List Declaration → Outline
 made limit workers declarations = record { limit = limit; workers = workers; declarations = declarations }
 
--- the outline itself
+-- an outline is read off the heading that it declares
 pub outline_found : (o : Outline) → IsOutline o → outline_of (headed o) ≡ o
 outline_found o is =
     let limit = limit_found o in

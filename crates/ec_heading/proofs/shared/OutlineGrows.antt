@@ -121,6 +121,7 @@ grow_semaphore t ws =
     let one : Tables = with_event t ws ws in
     grow_then t one _ (grow_event t ws ws) (grow_sequencer one ws)
 
+-- the objects of a declaration leave the tables what they have, and make none shorter
 pub objects_grow : (s : Sort) (t : Tables) (n : ℕ) (ws vs : List ℕ) → TablesGrow t (with_objects s t n ws vs)
 objects_grow sorts.EventCount t n ws vs = grow_event t ws vs
 objects_grow sorts.Sequencer t n ws vs = grow_sequencer t ws

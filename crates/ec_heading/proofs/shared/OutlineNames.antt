@@ -155,11 +155,12 @@ at_number n (suc i) k (w ∷ ws) more e h =
 pub worker_found : (ws : List (List ℕ)) (names more : Named) (i : ℕ) → names ≡ numbered 0 ws ++ more → NamesNoWorker more → word_of names (Worker i) ≡ slice_index_or ws i []
 worker_found ws names more i e h = ap (λ (r : Named). word_of r (Worker i)) e ∙ at_number 0 i i ws more (sym (zero-add i)) h
 
+-- where each worker has the name at its place, a list of workers has the names at their places
 pub workers_found : (ws : List (List ℕ)) (names : Named) (ids : List ℕ) → ((i : ℕ) → word_of names (Worker i) ≡ slice_index_or ws i []) → names_of names ids ≡ list_words ws ids
 workers_found ws names [] h = refl
 workers_found ws names (i ∷ ids) h = let rest = workers_found ws names ids h in let first = h i in (cc)
 
--- all of them
+-- the names at all places of a list, in order, are the list
 pub all_workers : (ws : List (List ℕ)) → list_words ws (range_with_len 0 (length ws)) ≡ ws
 all_workers ws =
     let f : ℕ → List ℕ = λ i. slice_index_or ws i [] in

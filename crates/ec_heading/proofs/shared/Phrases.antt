@@ -12,9 +12,11 @@ use Rattle.ec_heading.specs.declared.sort.Sort.TheVariants as sorts
 
 -- SMALL STEPS
 
+-- words of equal bytes are the same
 pub same_word : (v w : List ℕ) → bytes_eq v w ≡ true → v ≡ w
 same_word v w e = (bytes_eq-Decides v w).0 e
 
+-- a word has the same bytes as itself
 pub is_itself : (w : List ℕ) → bytes_eq w w ≡ true
 is_itself w = (bytes_eq-Decides w w).1 refl
 

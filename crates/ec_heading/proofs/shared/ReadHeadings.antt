@@ -145,6 +145,7 @@ workers_are_words ws h =
 
 -- ALL OF A HEADING
 
+-- each thing that is declared has a word, words find what is declared, and tables and limit keep their bounds
 pub record IsSound (h : Headed) : Type 0 where
   pub names : AreNames h.names
   pub known : AllByRecursion (λ (e : List ℕ × Target). is_some (find_name e.0 h.words) ≡ true) h.names
@@ -263,13 +264,16 @@ sound_more h d is may =
       bounds = bounds_more d.sort h.setup d.number d.first d.second room is.bounds;
     }
 
+-- declarations each of which may stand where it stands leave a sound heading so
 pub sound_all : (h : Headed) (ds : List Declaration) → IsSound h → AreDeclarable h ds → IsSound (declared_all h ds)
 sound_all h [] is may = is
 sound_all h (d ∷ ds) is may = sound_all (declared_by h d) ds (sound_more h d is may.0) may.1
 
+-- the heading that an outline declares is so
 pub sound : (o : Outline) → IsOutline o → IsSound (headed o)
 sound o is = sound_all (opened o.limit o.workers) o.declarations (sound_opened o.limit o.workers is.low is.high is.workers) is.declarations
 
+-- in a sound heading the tables keep the rules of declarations
 pub is_declared : (h : Headed) → IsSound h → IsDeclared h.setup
 is_declared h is = record {
   few = is.bounds.events;

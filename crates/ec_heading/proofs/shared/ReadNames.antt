@@ -18,6 +18,7 @@ abbrev pub is_shared : Target → Target → Bool
 is_shared (Cells x m) (Cells y n) = nat_lt x (y + n) && nat_lt y (x + m)
 is_shared s t = same_target s t
 
+-- no two targets are one, or share a cell
 abbrev pub AreApart : Named → Type 0
 AreApart [] = Unit {0}
 AreApart (e ∷ es) = AllByRecursion (λ (d : List ℕ × Target). is_shared e.1 d.1 ≡ false) es × AreApart es
@@ -61,11 +62,13 @@ named_back (x ∷ xs) word t apart plain e =
           rw off (named_back xs word t apart.1 plain g))
     ] refl e
 
+-- where targets are apart, what a word is found as has that word as its name, if it is no block of cells
 pub word_back : (names : Named) (word : List ℕ) (t : Target) → AreApart names → is_block t ≡ false → find_name word names ≡ Some t → word_of names t ≡ word
 word_back names word t apart plain e = ap (λ (o : Option (List ℕ)). unwrap_or o []) (named_back names word t apart plain e)
 
 -- CELLS
 
+-- a cell of a block, spelled: the block's word, and the cell's number in brackets
 abbrev pub bracketed : List ℕ → ℕ → List ℕ
 bracketed block i = block ++ codes "[" ++ decimal i ++ codes "]"
 
@@ -102,10 +105,12 @@ cell_back (x ∷ xs) block first n i apart small e =
 
 -- WHAT IS DECLARED HAS A NAME
 
+-- some word is the name of the target
 pub record HasName (names : Named) (t : Target) : Type 0 where
   pub word : List ℕ
   pub is : name_of t names ≡ Some word
 
+-- whether a cell lies in some block of the table
 abbrev pub is_celled : ℕ → Named → Bool
 is_celled x names = list_any (λ (e : List ℕ × Target). cell_in x e.1) names
 
@@ -148,6 +153,7 @@ block_later x e rest off b = record {
   word = rw off b.word;
 }
 
+-- a cell that lies in a block of the table is spelled by one
 pub has_block : (names : Named) (x : ℕ) → is_celled x names ≡ true → HasBlock names x
 has_block [] x h = absurd (true≢false (sym h))
 has_block (e ∷ es) x h =
@@ -162,15 +168,16 @@ lacks : (c : ℕ) → is_plain c ≡ false → (bs : List ℕ) → AllByRecursio
 lacks c off [] h = tt
 lacks c off (b ∷ bs) h = (ne_eqb b c (λ same. true≢false (sym h.0 ∙ ap is_plain same ∙ off)), lacks c off bs h.1)
 
--- no such byte stands in a word
+-- a byte that is no letter, digit, underscore or dot stands in no plain word
 pub word_lacks : (c : ℕ) (word : List ℕ) → is_plain c ≡ false → IsPlainWord word → AllByRecursion (λ b. eqb b c ≡ false) word
 word_lacks c word off h = lacks c off word h.plain
 
--- the word of what has one
+-- the word is plain, and is found as the target
 pub record IsNamedBy (words : Named) (t : Target) (word : List ℕ) : Type 0 where
   pub found : find_name word words ≡ Some t
   pub plain : IsPlainWord word
 
+-- a target that has a name is found by it, and the name is plain
 pub named_by : (words : Named) (t : Target) → AreWords words → HasName words t → IsNamedBy words t (word_of words t)
 named_by words t are has =
     let word : has.word ≡ word_of words t = sym (ap (λ (o : Option (List ℕ)). unwrap_or o []) has.is) in
@@ -179,6 +186,7 @@ named_by words t are has =
       plain = given_word IsPlainWord words t has.word are.each has.is;
     })
 
+-- the block of a cell is found by its word, and the word is plain
 pub block_by : (words : Named) (x : ℕ) → AreWords words → (b : HasBlock words x) → IsNamedBy words (Cells b.first b.count) b.block
 block_by words x are b = record {
   found = entry_found words b.at (b.block, Cells b.first b.count) are.distinct b.there;

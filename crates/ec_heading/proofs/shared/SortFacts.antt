@@ -10,13 +10,15 @@ use Rattle.ec_heading.specs.Sorts.{sort_word, has_name, has_number, least, great
 use Rattle.ec_heading.specs.declared.sort.Sort.{Sort}
 use Rattle.ec_heading.specs.declared.sort.Sort.TheVariants as sorts
 
--- a word of the table: 1 to 10 small letters
+-- whether a byte is a small letter
 abbrev pub is_letter : ℕ → Bool
 is_letter b = nat_le 97 b && nat_le b 122
 
+-- whether a word is 1 to 10 small letters, as those of the table are
 abbrev pub is_literal : List ℕ → Bool
 is_literal w = list_all is_letter w && nat_lt 0 (length w) && nat_le (length w) 10
 
+-- the word that opens a declaration is 1 to 10 small letters
 pub sort_literal : (s : Sort) → is_literal (sort_word s) ≡ true
 sort_literal sorts.EventCount = refl
 sort_literal sorts.Sequencer = refl
@@ -26,6 +28,7 @@ sort_literal sorts.Database = refl
 sort_literal sorts.Semaphore = refl
 sort_literal sorts.Both = refl
 
+-- the word before the first list is 1 to 10 small letters
 pub opener_literal : (s : Sort) → is_literal (opener s) ≡ true
 opener_literal sorts.EventCount = refl
 opener_literal sorts.Sequencer = refl
@@ -35,11 +38,12 @@ opener_literal sorts.Database = refl
 opener_literal sorts.Semaphore = refl
 opener_literal sorts.Both = refl
 
--- the word before a second list is one, and no name
+-- whether a word, where there is one, is 1 to 10 small letters, and no name
 abbrev pub is_stop : Option (List ℕ) → Bool
 is_stop None = true
 is_stop (Some w) = is_literal w && is_reserved w
 
+-- the word before the second list, where there is one, is 1 to 10 small letters, and no name
 pub other_stop : (s : Sort) → is_stop (other s) ≡ true
 other_stop sorts.EventCount = refl
 other_stop sorts.Sequencer = refl
@@ -68,6 +72,7 @@ unnumbered sorts.Database h = absurd (true≢false h)
 unnumbered sorts.Semaphore h = absurd (true≢false h)
 unnumbered sorts.Both h = (refl, refl)
 
+-- the number of a declaration is at most 1000000
 pub number_small : (s : Sort) (n : ℕ) → is_in_range s n ≡ true → n ≤ 1000000
 number_small s n h =
     let p = and_parts (nat_le (least s) n) (nat_le n (greatest s)) h in
@@ -96,6 +101,7 @@ all_letters : (w : List ℕ) → list_all is_letter w ≡ true → AllByRecursio
 all_letters [] h = tt
 all_letters (b ∷ w) h = (let p = and_parts (is_letter b) (list_all is_letter w) h in (p.0, all_letters w p.1))
 
+-- what passes the test is 1 to 10 small letters
 pub literal : (w : List ℕ) → is_literal w ≡ true → IsLiteral w
 literal w h =
     let p = and_parts (list_all is_letter w && nat_lt 0 (length w)) (nat_le (length w) 10) h in
@@ -106,7 +112,7 @@ literal w h =
       short = leb-true (length w) 10 p.1;
     }
 
--- a byte that is no small letter stands in none
+-- a byte that is no small letter stands in no word of small letters
 pub literal_lacks : (c : ℕ) (w : List ℕ) → is_letter c ≡ false → AllByRecursion (λ b. is_letter b ≡ true) w → AllByRecursion (λ b. eqb b c ≡ false) w
 literal_lacks c [] off h = tt
 literal_lacks c (b ∷ w) off h = (ne_eqb b c (λ same. true≢false (sym h.0 ∙ ap is_letter same ∙ off)), literal_lacks c w off h.1)
@@ -133,6 +139,7 @@ letter_bytes : (w : List ℕ) → AllByRecursion (λ b. is_letter b ≡ true) w 
 letter_bytes [] h = tt
 letter_bytes (b ∷ w) h = (letter_byte b h.0, letter_bytes w h.1)
 
+-- a name has 1 to 16 bytes, each of which may stand in a name
 pub name_called : (w : List ℕ) → is_name w ≡ true → IsCalled w
 unfolding is_name
 name_called [] h = absurd (true≢false (sym h))
@@ -152,13 +159,15 @@ literal_called w h =
     some_bytes [] e = absurd (true≢false e)
     some_bytes (b ∷ w) e = omega arith
 
--- where the form has a name, and where it has none
+-- where the form of a sort has a name, its declaration is called by a name
 pub called_name : (s : Sort) (name : List ℕ) → has_name s ≡ true → is_called s name ≡ true → is_name name ≡ true
 called_name s name has h = sym (ap (λ b. cond b (is_name name) (bytes_eq name (sort_word s))) has) ∙ h
 
+-- where the form of a sort has none, its declaration is called by the sort's own word
 pub called_word : (s : Sort) (name : List ℕ) → has_name s ≡ false → is_called s name ≡ true → name ≡ sort_word s
 called_word s name has h = (bytes_eq-Decides name (sort_word s)).0 (sym (ap (λ b. cond b (is_name name) (bytes_eq name (sort_word s))) has) ∙ h)
 
+-- what a declaration may be called has 1 to 16 bytes, each of which may stand in a name
 pub called : (s : Sort) (name : List ℕ) → is_called s name ≡ true → IsCalled name
 called s name h =
     elim (has_name s) as (λ b. cond b (is_name name) (bytes_eq name (sort_word s)) ≡ true → IsCalled name) [

@@ -78,6 +78,7 @@ named_found (x ∷ xs) t w h e =
 
 -- WORDS THAT ARE ADDED
 
+-- a word that the first of two tables lacks is looked up in the second
 pub find-append_none : (w : List ℕ) (xs ys : Named) → find_name w xs ≡ None → find_name w (xs ++ ys) ≡ find_name w ys
 find-append_none w [] ys h = refl
 find-append_none w (x ∷ xs) ys h =
@@ -142,6 +143,7 @@ pub record IsPlainWord (w : List ℕ) : Type 0 where
   pub plain : AllByRecursion (λ b. is_plain b ≡ true) w
   pub short : length w ≤ 24
 
+-- each word is plain and short, no two are the same, and what stands before a dot is a word too
 pub record AreWords (words : Named) : Type 0 where
   pub each : AllByRecursion (λ (e : List ℕ × Target). IsPlainWord e.0) words
   pub distinct : AreDistinct words

@@ -76,7 +76,7 @@ outline_more h d has may =
 pub outline_heads : (h : Headed) (has : HasOutline h) → Heads has.outline.workers h
 outline_heads h has = subst (Heads has.outline.workers) has.declares (heads_all has.outline.workers (opened has.outline.limit has.outline.workers) has.outline.declarations (heads_opened has.outline.limit has.outline.workers))
 
--- once it declares a worker
+-- a heading that declares a worker is what an outline declares
 pub has_outline : (h : Headed) → IsHeading h → h.setup.workers ≢ 0 → HasOutline h
 has_outline h (inl is) some = absurd (some (ap (λ (g : Headed). g.setup.workers) is))
 has_outline h (inr has) some = has
@@ -140,6 +140,7 @@ groups_fit h (d ∷ ds) fit may =
     (new_fits d.sort h.setup d.number d.first d.second may.0.taken))
     may.1
 
+-- the objects of each group of a heading are declared there, with the rights of the group
 pub heading_fits : (h : Headed) → IsHeading h → All (FitsGroup h.setup) h.groups
 heading_fits h (inl is) = subst (λ (g : Headed). All (FitsGroup g.setup) g.groups) (sym is) (All-from_recursion (FitsGroup (opened h.setup.limit []).setup) [] tt)
 heading_fits h (inr has) =
