@@ -75,6 +75,7 @@ cut_if : (b : Bool) (t : Tables) (w : ℕ) (x : Entry) (past : List Entry) → (
 cut_if true t w x past is acc cut = cut_own t w x past (eqb-true x.worker w is) acc cut
 cut_if false t w x past is acc cut = cut_other w x past is cut
 
+-- in an accepted history the calls of a worker's own steps are its calls
 pub own_cut : OwnStepsAreCut
 unfolding finished opening finished_by under_way
 own_cut t w [] acc = (refl, refl)

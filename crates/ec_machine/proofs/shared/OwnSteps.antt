@@ -12,6 +12,7 @@ if_append : (b : Bool) (x : Entry) (xs ys : List Entry) → cond b (x ∷ (xs ++
 if_append true x xs ys = refl
 if_append false x xs ys = refl
 
+-- the steps of a worker in two lists end to end are those in the first, and then those in the second
 pub own_append : (w : ℕ) (xs ys : List Entry) → own w (xs ++ ys) ≡ own w xs ++ own w ys
 own_append w [] ys = refl
 own_append w (x ∷ xs) ys =
@@ -40,6 +41,7 @@ pub entry_next : (h done rest others : List Entry) (x : Entry) → done ++ rest 
 entry_next h done rest others x is first =
     subst (λ l. slice_get l (length done) ≡ Some x) (ap (λ r. done ++ r) (sym first) ∙ is) (slice_here done others x)
 
+-- the entries that were done, with the next one, and those behind it are still the history
 pub order_more : (h done rest others : List Entry) (x : Entry) → done ++ rest ≡ h → rest ≡ x ∷ others → (done ++ x ∷ []) ++ others ≡ h
 order_more h done rest others x is first = append_assoc done (x ∷ []) others ∙ ap (λ r. done ++ r) (sym first) ∙ is
 

@@ -157,5 +157,6 @@ calls_of cs calls asked =
       ends = ap outcome_at s.place;
     }
 
+-- a run's finished calls are whole lists and the beginning of one more, in which its call under way is next
 pub runs_of_lists : RunsAreOfWholeLists
 runs_of_lists cs past run = (calls_of cs (finished past) (finished_written (program_call cs) past run), opening_is_due (program_call cs) past run)

@@ -192,6 +192,7 @@ one_history t programs schedule h others outcome ends one other =
       λ w. a.after w ∙ ap (outcome_after programs w) same ∙ sym (b.after w),
     )
 
+-- a schedule that names a worker that has ended has no history
 pub no_history : EndedHasNoHistory
 no_history t programs schedule place w h outcome ended is =
     let made_of = of_turns t programs schedule h outcome is in

@@ -331,9 +331,11 @@ one_way t programs (x ∷ turns) (y ∷ others) each other same =
     let first = turn_same t programs others x y (subst (λ l. IsTurn t programs l x) rest each.0) other.0 parts.0 in
     cc
 
+-- turns that play the same schedule are the same
 pub one_run : (t : Tables) (programs : List (List Command)) (schedule : List ℕ) (turns others : List Turn) → Plays t programs schedule turns → Plays t programs schedule others → turns ≡ others
 one_run t programs schedule turns others plays other = one_way t programs turns others plays.each other.each (plays.workers ∙ sym other.workers)
 
+-- no turns play a schedule that names a worker that has ended
 pub ended_not_played : (t : Tables) (programs : List (List Command)) (schedule : List ℕ) (place w : ℕ) (turns : List Turn) → HasEnded t programs schedule place w → Plays t programs schedule turns → ⊥
 ended_not_played t programs schedule place w turns ended plays =
     let whole : timely worker_of turns ≡ schedule = ap reverse plays.workers ∙ reverse-reverse schedule in

@@ -268,12 +268,13 @@ plan_keeps : (t : Stage) (p : Planned) → StageKeeps t → plan_in t ≡ Some p
 plan_keeps (Reading s) p keeps is = plan_of s s.block p keeps is
 plan_keeps _ p keeps is = cc
 
+-- a plan that a text comes to has groups apart, confined programs, one for each worker, and a schedule of these
 pub plans_are_confined : (bytes : List ℕ) (p : Planned) → outcome bytes ≡ Ok p → IsPlan p
 plans_are_confined bytes p is =
     let r : IsScript bytes p = read_is_script bytes p is in
     plan_keeps r.stage p (leads_keeps Opening r.lines r.stage tt r.leads) r.plan
 
--- and what is told of a text is one
+-- and so has a plan that is told of a text
 pub told_plan : (bytes : List ℕ) (result : Result Plan ScriptFault) → Tells (outcome bytes) result → IfOk result (λ plan. IsPlan (shown_plan plan))
 told_plan bytes (Ok plan) tells = plans_are_confined bytes (shown_plan plan) tells
 told_plan bytes (Err f) tells = tt

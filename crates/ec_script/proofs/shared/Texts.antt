@@ -36,6 +36,7 @@ pub long_goes : (bytes : List ℕ) → SCRIPT_MAX < length bytes → outcome byt
 unfolding outcome
 long_goes bytes long = let e : nat_lt SCRIPT_MAX (length bytes) ≡ true = lt-ltb _ _ long in rw e refl
 
+-- a script of a plan comes to that plan
 pub script_is_read : (bytes : List ℕ) (p : Planned) → IsScript bytes p → outcome bytes ≡ Ok p
 script_is_read bytes p is =
     within_goes bytes is.within ∙ ap (λ (bs : List ℕ). goes 1 Opening (parts_of bs)) is.text ∙ lines_go 1 Opening is.stage is.lines p is.each is.leads is.plan
@@ -121,6 +122,7 @@ within_of bytes p is =
       | false ↦ λ e h. ltb-false SCRIPT_MAX (length bytes) e
     ]) refl is
 
+-- a text that comes to a plan is a script of it
 pub read_is_script : (bytes : List ℕ) (p : Planned) → outcome bytes ≡ Ok p → IsScript bytes p
 read_is_script bytes p is =
     let within = within_of bytes p is in

@@ -16,6 +16,7 @@ use Rattle.ec_script.specs.Confined.{UsesGroups, IsConfined, AreConfined, IsConf
 
 -- LISTS
 
+-- what holds of each element of two lists holds of each of the two end to end
 pub every_append : {X : Type 0} (P : X → Type 0) (xs ys : List X) → AllByRecursion P xs → AllByRecursion P ys → AllByRecursion P (xs ++ ys)
 every_append P [] ys a b = b
 every_append P (x ∷ xs) ys a b = (a.0, every_append P xs ys a.1 b)
@@ -99,6 +100,7 @@ program_comes gs [] all = tt
 program_comes gs (c ∷ cs) all =
     every_append (Uses gs) (written_one c) (written cs) (command_comes gs c (every_front (IsConfined gs) (flat_one c) (flat cs) all)) (program_comes gs cs (every_back (IsConfined gs) (flat_one c) (flat cs) all))
 
+-- programs whose lines are confined come to confined commands alone
 pub confined_lines : (gs : List Group) (programs : List (List Command)) → AreConfined gs (map flat programs) → AreConfinedPrograms gs programs
 confined_lines gs [] all = tt
 confined_lines gs (cs ∷ programs) all = (program_comes gs cs all.0, confined_lines gs programs all.1)

@@ -56,6 +56,7 @@ one_more_worker names n all =
     ∙ ap (λ (r : List ℕ). all ++ (before ++ 32 ∷ r)) (append-nil (f n))
     ∙ sym (append_assoc all before (32 ∷ f n))
 
+-- the text of two lists of lines is that of the first, and then that of the second
 pub text_of-append : (xs ys : List (List ℕ)) → text_of (xs ++ ys) ≡ text_of xs ++ text_of ys
 text_of-append xs ys = flat_map-append ended_line xs ys
 

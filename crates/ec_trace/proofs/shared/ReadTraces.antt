@@ -286,6 +286,7 @@ opening_back (line ∷ lines) t (next, taken, leads) =
     let f = first_back line next taken in
     subst (λ (x : List ℕ). AreOf (x ∷ lines) t) (sym f.0) (limiting_back lines t (subst (λ (s : Stage). Leads s lines (Ended t)) f.1 leads))
 
+-- bytes that are read as a heading and a history are the trace of these
 pub read_is_trace : ReadIsTrace
 unfolding trace_text
 read_is_trace bytes t e =
