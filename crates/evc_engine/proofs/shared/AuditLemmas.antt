@@ -64,6 +64,7 @@ pub line_at : {P : Type 0} (a b c : Option (List ℕ)) (x y z : Held) (f : P →
     → Puts a x b y (text_of (map f (take k ps))) → Puts b y c z (f p ++ 10 ∷ []) → Puts a x c z (text_of (map f (take (k + 1) ps)))
 line_at a b c x y z f ps k p is before now = subst (λ l. Puts a x c z (text_of (map f l))) (sym (take_next ps k p is)) (line_put a b c x y z f (take k ps) p before now)
 
+-- before a place of a list stand as many elements as its number says
 pub taken_length : {A : Type 0} (xs : List A) (k : ℕ) (x : A) → slice_get xs k ≡ Some x → length (take k xs) ≡ k
 taken_length [] k x is = cc
 taken_length (y ∷ xs) zero x is = refl

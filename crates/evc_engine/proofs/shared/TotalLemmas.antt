@@ -17,6 +17,7 @@ take_more [] k x h = cc
 take_more (y ∷ ys) zero x h = (let same : y ≡ x = cc in ap (λ z. z ∷ []) same)
 take_more (y ∷ ys) (suc k) x h = ap (λ t. y ∷ t) (take_more ys k x h)
 
+-- one element more of a list's beginning is the element at the next place
 pub take_next : {A : Type 0} (xs : List A) (k : ℕ) (x : A) → slice_get xs k ≡ Some x → take (k + 1) xs ≡ take k xs ++ x ∷ []
 take_next xs k x h = rw add-one (take_more xs k x h)
 
@@ -99,7 +100,7 @@ totals_put a b c x y z past words k before now =
     = ap text_of (one_more past words k) ∙ flat_map-append ended_line (totals_by past (take k words)) (totals_at past (slice_get words k)) in
     subst (Puts a x c z) (sym text) (puts_then a b c x y z _ _ before now))
 
--- all of them
+-- where each word has had its lines, all lines of totals are put
 pub totals_all : (a b : Option (List ℕ)) (x y : Held) (past : List Entry) (words : Named) (k : ℕ) (heading : Headed) → length words ≤ k → words ≡ heading.words
     → Puts a x b y (text_of (totals_by past (take k words))) → Puts a x b y (text_of (totals_lines heading past))
 totals_all a b x y past words k heading far all put =

@@ -26,7 +26,7 @@ pub accepted_turns : (t : Tables) (programs : List (List Command)) (turns : List
 accepted_turns t programs [] each = tt
 accepted_turns t programs (x ∷ turns) each = answered t (entries_of turns) x.worker x.act x.answer each.0.answer (accepted_turns t programs turns each.1)
 
--- a trace under a heading is read again as it
+-- the trace of an accepted history under a heading, within the bound, is read again as these two
 pub read_under : (h : Headed) (entries : List Entry) (trace : List ℕ) → IsAccepted h.setup (reverse entries) → IsTraceUnder h entries trace → length trace ≤ TRACE_MAX
     → outcome TRACE_MAX trace ≡ Ok (record { heading = h; entries = entries })
 read_under h entries trace accepted under short =
@@ -34,11 +34,13 @@ read_under h entries trace accepted under short =
     subst (λ (k : Headed). outcome TRACE_MAX trace ≡ Ok (record { heading = k; entries = entries })) under.declares
     (rw under.text (written_is_read o entries under.is (subst (λ (k : Headed). IsAccepted k.setup (reverse entries)) (sym under.declares) accepted) (rw under.text at short)))
 
+-- the trace of a schedule that was played, within the bound, is read as the history of its turns
 pub simulated_again : SimulatedIsReadAgain
 simulated_again p trace note played short =
     let past = entries_of played.turns in
     let accepted = accepted_turns p.heading.setup played.played.programs played.turns played.played.plays.each in
     read_under p.heading (reverse past) trace (subst (IsAccepted p.heading.setup) (sym (reverse-reverse past)) accepted) played.written short
 
+-- the trace of workers on threads, within the bound, is read as the history of their run
 pub ran_again : RanIsReadAgain
 ran_again p turns status trace note ran short = read_under p.heading ran.report.run.entries trace ran.accepted ran.written short
