@@ -41,7 +41,7 @@ width_some t e d lt = some_signaller t e d lt
 pub component_few : (t : Tables) (e w c : ℕ) → IsDeclared t → component_of t e w ≡ Some c → c < 16
 component_few t e w c d h = omega (arith, place_within w (signallers t e) 0 c h, width_few t e d)
 
--- the call under way that the world has kept
+-- a world keeps of the call under way what its history says
 pub kept_is : (s : State) (past : List Entry) (w : ℕ) → Stands s past → w < 16 → kept_call s w ≡ progress_of s.setup w past
 kept_is s past w st lt = ap (λ o. unwrap_or o None) (st.calls w lt)
 
@@ -74,7 +74,7 @@ read_is s past op moments st e c =
     ap (λ o. one_read op (width s.setup (event_or op)) (next_component s.setup (event_or op) moments) (value_of o + sum_read s.setup (event_or op) (next_component s.setup (event_or op) moments) moments))
     (st.counts (event_or op) (next_component s.setup (event_or op) moments) e c)
 
--- the act that began a call under way is a Read or an Await of a declared eventcount
+-- the act is a read or an await of a declared eventcount
 abbrev pub IsReading : Tables → Act → Type 0
 IsReading t (Read e) = e < length t.events
 IsReading t (Await e v) = e < length t.events
@@ -137,7 +137,7 @@ reading_step t past w (Ticket q) reply a r h = subst (λ p. IsReadingCall t (con
 reading_step t past w (Put x v) reply a r h = subst (λ p. IsReadingCall t (cond (is_pending p) (gone_on (Put x v) past (under_way w past)) None)) r tt
 reading_step t past w (Get x) reply a r h = subst (λ p. IsReadingCall t (cond (is_pending p) (gone_on (Get x) past (under_way w past)) None)) r tt
 
--- each call under way in an accepted history is a Read or an Await of a declared eventcount
+-- each call under way in an accepted history was begun by a read or an await of a declared eventcount
 pub call_reads : (t : Tables) (past : List Entry) (w : ℕ) → IsAccepted t past → IsReadingCall t (under_way w past)
 unfolding under_way
 call_reads t [] w acc = tt

@@ -21,7 +21,7 @@ use Rattle.ec_core.proofs.shared.Scans.{call_own, call_other}
 abbrev pub is_fitting : Rule → List Told → Act → Bool
 is_fitting r b op = not (r.concerns b op) || r.fits b op
 
--- the calls of the list that a worker is in after these calls, where it was in one with calls b
+-- the part of its list that a worker has behind it after these calls, where it had some before them
 abbrev pub list_after : Rule → List Told → List Told → List Told
 list_after r b [] = b
 list_after r b (c ∷ cs) = list_after r (extended r b c) cs

@@ -50,7 +50,7 @@ opened_is t (Ticket q) o h r = inl refl
 opened_is t (Put x v) o h r = inl refl
 opened_is t (Get x) o h r = inl refl
 
--- a test that no Go and no Read or Await passes says the same of an act and of the act that began its call
+-- what is the same for a go and all reads and awaits is the same for an act and the act that began its call
 pub same_test : {T : Type 0} (f : Act → T) (y : T) (t : Tables) (act op : Act) → (f Go ≡ y) → ((e : ℕ) → f (Read e) ≡ y) → ((e v : ℕ) → f (Await e v) ≡ y)
     → (act ≡ op) ⊎ (IsReading t op × (act ≡ Go)) → f act ≡ f op
 same_test f y t act op go read await (inl same) = ap f same
@@ -110,7 +110,7 @@ reply_read t past w (Ticket q) o e r = absurd r
 reply_read t past w (Put y v) o e r = absurd r
 reply_read t past w (Get y) o e r = absurd r
 
--- what the reply to an entry of a call that op began says
+-- what the reply to an entry says, by the act that began its call
 abbrev pub IsTold : Tables → List Entry → Act → Reply → Type 0
 IsTold t past (Advance e) reply = reply ≡ Done
 IsTold t past (Read e) reply = (reply ≡ Pending) ⊎ ((s : ℕ) × (s ≤ total e past) × (reply ≡ Number s))

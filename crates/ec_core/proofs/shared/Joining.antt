@@ -64,7 +64,7 @@ pub place_small : {X Y : Type 0} (f : Y → X) (o : Option Y) (xs : List X) (i j
 place_small f None xs i j h few le = tt
 place_small f (Some y) xs i j h few le = (let k : j < length xs = slice_get_within xs j (f y) (sym h) in omega arith)
 
--- what is left from place i on
+-- what is left from a place on is the element there, and what is left behind it
 pub drop_next : {X : Type 0} (xs : List X) (i : ℕ) (x : X) → slice_get xs i ≡ Some x → drop i xs ≡ x ∷ drop (i + 1) xs
 drop_next [] i x h = cc
 drop_next (y ∷ ys) zero x h = (let same : y ≡ x = cc in ap (λ z. z ∷ ys) same)

@@ -19,7 +19,7 @@ get_other (x ∷ xs) zero (suc j) y h = refl
 get_other (x ∷ xs) (suc i) zero y h = refl
 get_other (x ∷ xs) (suc i) (suc j) y h = get_other xs i j y (λ e. h (ap suc e))
 
--- what stands at j after a write at i
+-- what stands at a place of a list once one of its places is written
 pub get_set : {X : Type 0} (xs : List X) (i j : ℕ) (y : X) → i < length xs → slice_get (slice_set xs i y) j ≡ cond (i == j) (Some y) (slice_get xs j)
 get_set xs i j y h =
     elim (i == j) as (λ b. (i == j) ≡ b → slice_get (slice_set xs i y) j ≡ cond b (Some y) (slice_get xs j)) [
@@ -27,7 +27,7 @@ get_set xs i j y h =
       | false ↦ λ e. get_other xs i j y (eqb-false i j e)
     ] refl
 
--- what stands at j after a change at i
+-- what stands at a place of a list once the element at one of its places is changed
 pub get_changed : {X : Type 0} (f : X → X) (xs : List X) (i j : ℕ) → slice_get (changed_at f xs i) j ≡ cond (i == j) (option_map f (slice_get xs j)) (slice_get xs j)
 get_changed {X} f xs i j =
     elim (slice_get xs i) as (λ o. slice_get xs i ≡ o → slice_get (option_map_or (λ x. slice_set xs i (f x)) o xs) j ≡ cond (i == j) (option_map f (slice_get xs j)) (slice_get xs j)) [
@@ -56,7 +56,7 @@ inner f None c d =
     elim (c == d) as (λ b. none ≡ cond b none none) [ true ↦ refl | false ↦ refl ]
 inner f (Some row) c d = get_changed f row c d
 
--- the count at (p, q) after a change at (e, c)
+-- a count in a table once one of them is changed
 pub count_changed : (f : Counted → Counted) (counts : List (List Counted)) (e c p q : ℕ)
     → count_at (changed_at (λ row. changed_at f row c) counts e) p q
     ≡ cond ((e == p) && (c == q)) (option_map f (count_at counts p q)) (count_at counts p q)

@@ -78,7 +78,7 @@ set_is {X} xs i j y was now at here z same other =
       | false ↦ λ h. here ∙ ap Some (other h)
     ] refl
 
--- a table with one place set
+-- with what is kept of its worker brought up to an entry, a scan is that of the past with the entry
 scanned_after : (rules : ℕ → Rule) (keeps : List Told → Kept) (kept : List Kept) (begun : List (Option Act)) (x : Entry) (past : List Entry) (k : Kept) (o : Option Act)
     → IsScanned rules keeps (scanned kept begun) past → x.worker < 16
     → k ≡ keeps (block_after (rules x.worker) (block (rules x.worker) x.worker past) (opened x.act (under_way x.worker past)) x.reply)

@@ -121,7 +121,7 @@ place_there w i (suc c) (x ∷ ws) h at =
 pub at_place : {X : Type 0} (P : X → Type 0) (xs : List X) (i : ℕ) (x : X) → All P xs → slice_get xs i ≡ Some x → P x
 at_place P xs i x all at = subst P (get_or_from_slice_get xs i x x at) (all i x (slice_get_within xs i x at))
 
--- the lists of an eventcount
+-- a declared eventcount has sound signallers, at least one, and sound observers
 pub rights_at : (t : Tables) (e : ℕ) (r : Rights) → IsDeclared t → slice_get t.events e ≡ Some r → AreTwoLists t.workers r.signal r.observe
 rights_at t e r d at = at_place (λ (x : Rights). AreTwoLists t.workers x.signal x.observe) t.events e r d.rights at
 

@@ -42,7 +42,7 @@ is_below h (Sequencer q) = nat_lt q (length h.setup.takers)
 is_below h (Cells x n) = nat_le (x + n) (length h.setup.cells)
 is_below h (Group i) = nat_lt i (length h.groups)
 
--- from the ends of the tables on
+-- whether a target is behind the ends of the tables and groups of a heading
 abbrev pub is_beyond : Headed → Target → Bool
 is_beyond h (Worker w) = false
 is_beyond h (Event e) = nat_le (length h.setup.events) e

@@ -40,7 +40,7 @@ pass false f rest b e = e
 
 -- THE HEADINGS OF AN OUTLINE'S WORKERS
 
--- these are the heading's workers
+-- the workers of the heading have these names, and its other words stand for none
 pub record Heads (ws : List (List ℕ)) (h : Headed) : Type 0 where
   pub count : h.setup.workers ≡ length ws
   pub others : Named

@@ -30,7 +30,7 @@ no_worker (d ∷ es) w i h e =
     let go : P (bytes_eq w d.0) = elim (bytes_eq w d.0) as P [ true ↦ λ f. (let n : worker_of d.1 ≡ None = h.0 in cc) | false ↦ λ f. no_worker es w i h.1 f ] in
     go e
 
--- a worker stands behind the name: its place in the list
+-- the number, counted from that of the first name, is that of this name
 pub record IsAt (ws : List (List ℕ)) (n : ℕ) (w : List ℕ) (i : ℕ) : Type 0 where
   pub place : ℕ
   pub number : i ≡ n + place
@@ -95,7 +95,7 @@ pub known_below : (n : ℕ) (ids : List ℕ) → AreBelow n ids → list_any (λ
 known_below n [] h = refl
 known_below n (i ∷ ids) h = or_from _ _ (lt-leb n i h.0) (known_below n ids h.1)
 
--- the names of a heading: those of its workers, and then no worker's
+-- the words of a heading: the names of its workers, and then the others
 abbrev pub with_others : List (List ℕ) → Named → Named
 with_others ws es = numbered 0 ws ++ es
 

@@ -119,7 +119,7 @@ literal_lacks c (b ∷ w) off h = (ne_eqb b c (λ same. true≢false (sym h.0 �
 
 -- WHAT A DECLARATION IS CALLED
 
--- a name, or the sort's own word
+-- 1 to 16 bytes, each of which may stand in a name
 pub record IsCalled (name : List ℕ) : Type 0 where
   pub bytes : AllByRecursion (λ b. is_name_byte b ≡ true) name
   pub some : 1 ≤ length name

@@ -32,7 +32,7 @@ its_bytes w = (bytes_eq-Decides w w).1 refl
 turned : (v w : List ℕ) → bytes_eq v w ≡ false → bytes_eq w v ≡ false
 turned v w off = false_from_ne_true _ (λ e. true≢false (sym ((bytes_eq-Decides v w).1 (sym (same_bytes w v e))) ∙ off))
 
--- what holds of each word holds of one that is found, and of one that is given for a target
+-- what holds of each word of a table holds of one that is found
 pub found_word : (Q : List ℕ → Type 0) (words : Named) (w : List ℕ) (t : Target) → AllByRecursion (λ (e : List ℕ × Target). Q e.0) words → find_name w words ≡ Some t → Q w
 found_word Q [] w t all e = cc
 found_word Q (x ∷ xs) w t all e =

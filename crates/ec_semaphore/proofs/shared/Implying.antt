@@ -180,6 +180,6 @@ implied c lines t (x ∷ past) one apart dec acc f =
           ] refl;
     }
 
--- an accepted history that follows `both` follows its common semaphore, of initial value 1 and a line of its own
+-- an accepted history that follows `both` follows its common semaphore, of initial value 1 and not among the lines
 pub both_implies_use : (c : Semaphore) (lines : ℕ → Bool) (t : Tables) (past : List Entry) → c.initial ≡ 1 → lines c.line ≡ false → IsDeclared t → IsAccepted t past → Follow (both_rules c lines) past → Follow (use_rules c) past
 both_implies_use c lines t past one apart dec acc f = (implied c lines t past one apart dec acc f).follow

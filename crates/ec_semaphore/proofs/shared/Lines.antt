@@ -8,7 +8,7 @@ use Rattle.ec_core.proofs.shared.Places.{get_set}
 use Rattle.ec_semaphore.specs.Shapes.{Semaphore}
 use Rattle.ec_semaphore.specs.Both.{is_line}
 
--- the sequencer of the common semaphore is none of those of the semaphores that are handed in
+-- the sequencer of the common semaphore is not among the lines, whichever semaphores are handed in
 pub not_common : (c : Semaphore) (shapes : List Semaphore) → is_line c shapes c.line ≡ false
 not_common c shapes = ap (λ b. not b && list_any (λ (s : Semaphore). s.line == c.line) shapes) (eq-eqb c.line c.line refl)
 
@@ -34,11 +34,11 @@ get_false (true ∷ bs) h zero lt = cc
 get_false (false ∷ bs) h zero lt = refl
 get_false (b ∷ bs) h (suc q) lt = get_false bs (and_parts (not b) (list_all not bs) h).1 q (omega arith)
 
--- the table of no semaphores
+-- a table that is false throughout is that of no semaphores
 pub tabled_none : (bs : List Bool) (c : Semaphore) → list_all not bs ≡ true → (q : ℕ) → q < length bs → slice_get bs q ≡ Some (is_line c [] q)
 tabled_none bs c none q lt = get_false bs none q lt ∙ ap Some (sym (and_false (not (q == c.line))))
 
--- the table of one more
+-- with one more sequencer marked, unless it is the common one, a table is that of one more semaphore
 pub tabled_more : (bs : List Bool) (c s : Semaphore) (shapes : List Semaphore) → s.line < length bs → ((q : ℕ) → q < 32 → slice_get bs q ≡ Some (is_line c shapes q))
     → (q : ℕ) → q < 32 → slice_get (slice_set bs s.line (not (s.line == c.line))) q ≡ Some (is_line c (shapes ++ s ∷ []) q)
 tabled_more bs c s shapes room before q lt =

@@ -12,14 +12,14 @@ puts_failed now held bs failed = λ start all h.
     let h' : HoldsAs start now true held.bytes all = rw failed at h in
     rw failed (prefix_longer start now all bs h')
 
--- bytes that wait
+-- bytes that join those that wait are put
 pub puts_held : (now : Option (List ℕ)) (held : Held) (bs : List ℕ) → held.failed ≡ false → Puts now held now (with_bytes held bs) bs
 unfolding Holds
 puts_held now held bs good = λ start all h.
     let h' : HoldsAs start now false held.bytes all = rw good at h in
     rw good (h'.0, ap (λ (r : List ℕ). r ++ bs) h'.1 ∙ append_assoc h'.0 held.bytes bs, h'.2)
 
--- bytes that are written with those that waited
+-- bytes that the writer was given behind those that waited are put, whether it took all or failed
 wrote : {E : Type 0} (old new : Option (List ℕ)) (held : Held) (bs : List ℕ) (r : Result (Unit {0}) E) → held.failed ≡ false → OnOk r (Appends old new (held.bytes ++ bs)) → OnErr r (AppendsPrefix old new (held.bytes ++ bs))
     → Puts old held new (record { bytes = []; failed = is_err r }) bs
 unfolding Holds
@@ -30,7 +30,7 @@ wrote old new held bs (Err x) good ok err = λ start all h.
     let h' : HoldsAs start old false held.bytes all = rw good at h in
     subst (AppendsPrefix start new) (sym (ap (λ (r : List ℕ). r ++ bs) h'.1 ∙ append_assoc h'.0 held.bytes bs)) (prefix_after start old new h'.0 (held.bytes ++ bs) h'.2 err)
 
--- bytes that waited and are written
+-- where the writer was given what waited, whether it took all or failed, nothing more is put
 pub puts_flushed : {E : Type 0} (old new : Option (List ℕ)) (held : Held) (waiting : List ℕ) (failed : Bool) (r : Result (Unit {0}) E) → held.failed ≡ false → OnOk r (Appends old new held.bytes) → OnErr r (AppendsPrefix old new held.bytes)
     → waiting ≡ [] → failed ≡ is_err r → Puts old held new (record { bytes = waiting; failed = failed }) []
 puts_flushed old new held waiting failed r good ok err none same =
@@ -77,7 +77,7 @@ ends_failed start old now held held' all flushed failed puts =
     let h2 : Holds start now held' all = subst (Holds start now held') (append-nil all) h1 in
     ends_err start now held' all failed h2
 
--- bytes that were added to those that wait
+-- the same, where what waits in the end is given by its parts
 pub puts_taken : (now : Option (List ℕ)) (held : Held) (bs waiting : List ℕ) (failed : Bool) → held.failed ≡ false → failed ≡ false → waiting ≡ held.bytes ++ bs → Puts now held now (record { bytes = waiting; failed = failed }) bs
 puts_taken now held bs waiting failed good same is =
     let e : with_bytes held bs ≡ record { bytes = waiting; failed = failed } = cc in

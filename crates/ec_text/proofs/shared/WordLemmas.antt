@@ -32,7 +32,7 @@ words_none line none = slice_split_none (λ b. eqb b 32) line (All-from_get_or (
 
 pub ruleset cuts = (words_cut_slice, words_none)
 
--- what was counted of the first m bytes, up to their first space
+-- a count of the bytes before the first space, among the first ones, is at most the length of the line
 pub front_within : (line : List ℕ) (m n : ℕ) → n ≡ position_or_len (λ b. eqb b 32) (take m line) → n ≤ length line
 front_within line m n is = omega (arith, prefix_len-le-length (λ b. not (eqb b 32)) (take m line), length-take m line)
 

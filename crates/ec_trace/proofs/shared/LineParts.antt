@@ -41,7 +41,7 @@ line_parts names d all =
     ap (λ (r : List ℕ). all ++ (sort_word d.sort ++ r)) (spaced_parts x n (opener d.sort) a b)
     ∙ after all (sort_word d.sort) (spaced x) (spaced n) (32 ∷ opener d.sort) (spaced a) (spaced b)
 
--- words that are joined by spaces, and words with a space before each
+-- words joined by spaces are the first, and then the others with a space before each
 pub join_spaced : (w : List ℕ) (ws : List (List ℕ)) → join_with_byte 32 (w ∷ ws) ≡ w ++ spaced ws
 join_spaced w [] = sym (append-nil w)
 join_spaced w (v ∷ ws) = ap (λ (r : List ℕ). w ++ 32 ∷ r) (join_spaced v ws)
