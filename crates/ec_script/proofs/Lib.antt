@@ -36,3 +36,4 @@ pub mod HeadKinds
 pub mod OtherKinds
 pub mod KindsTold
 pub mod Endings
+pub mod Counting
