@@ -34,3 +34,4 @@ pub mod HeadKinds
 pub mod OtherKinds
 pub mod KindsTold
 pub mod Endings
+pub mod Counting

@@ -22,3 +22,4 @@ pub mod Spelled
 pub mod Placed
 pub mod Holding
 pub mod Endings
+pub mod Counted

@@ -2,6 +2,7 @@
 ghost use Rattle.std.specs.Prelude.{◌≡◌};
 ghost use Rattle.ec_script.specs.declared.parsing.TheConstants.{SCRIPT_MAX};
 ghost use Rattle.ec_script.specs.Confined.{ConfinedLinesAreConfinedCommands, PlansAreConfined};
+ghost use Rattle.ec_script.specs.Counted.{BlocksAreCounted};
 ghost use Rattle.ec_script.specs.Endings.{FaultlessLinesAreTaken, UnfinishedIsTold};
 ghost use Rattle.ec_script.specs.Faults.{HeadFaultsKeepTheirNumbers};
 ghost use Rattle.ec_script.specs.Given.{LinesSayOrders};
@@ -51,6 +52,12 @@ pub fn least_kind_is_told()
 /// And a line is taken exactly where none holds of it.
 pub fn faultless_lines_are_taken()
     ensures { FaultlessLinesAreTaken }
+{}
+
+/// What is said of the open block is what its lines come to: how many commands they are, how many
+/// repeats are open, and that the innermost has no command exactly where the last line begins it.
+pub fn blocks_are_counted()
+    ensures { BlocksAreCounted }
 {}
 
 /// A text is told as unfinished exactly where it is within the bound and ends too early: before the

@@ -1,0 +1,42 @@
+-- What the lines of the open block come to: how many commands they are, how many repeats are open, and whether the innermost has none.
+use Rattle.std.specs.Prelude.{◌≡◌, ◌↔◌, ℕ, ◌+◌, ◌<◌, true, List, [], ◌∷◌, ◌++◌, Some}
+use Rattle.ec_script.specs.declared.order.Order.{Order}
+use Rattle.ec_script.specs.declared.order.Order.TheVariants.{Do, Write, Begin, End}
+use Rattle.ec_script.specs.declared.script.Block.{Block}
+use Rattle.ec_script.specs.declared.stage.Stage.TheVariants.{Opening, Reading}
+use Rattle.ec_script.specs.Drafted.{Drafted}
+use Rattle.ec_script.specs.Grammar.{Leads}
+use Rattle.ec_script.specs.Layout.{commands_in}
+use Rattle.ec_script.specs.Scripted.{Scripted}
+
+-- how many lines begin a repeat, and how many end one
+abbrev pub begins_in : List Order → ℕ
+begins_in [] = 0
+begins_in (Do c ∷ os) = begins_in os
+begins_in (Write d vs ∷ os) = begins_in os
+begins_in (Begin n ∷ os) = begins_in os + 1
+begins_in (End ∷ os) = begins_in os
+
+abbrev pub ends_in : List Order → ℕ
+ends_in [] = 0
+ends_in (Do c ∷ os) = ends_in os
+ends_in (Write d vs ∷ os) = ends_in os
+ends_in (Begin n ∷ os) = ends_in os
+ends_in (End ∷ os) = ends_in os + 1
+
+-- the last line begins a repeat
+abbrev pub EndsInBegin : List Order → Type 0
+EndsInBegin os = (front : List Order) × (n : ℕ) × (os ≡ front ++ Begin n ∷ [])
+
+-- there are as many commands as the lines say, the repeats that begin are those that end and those that are open, and where one is open
+-- it has no command yet exactly where the last line begins it
+pub record IsCounted (d : Drafted) : Type 0 where
+  pub many : d.many ≡ commands_in d.orders
+  pub repeats : begins_in d.orders ≡ ends_in d.orders + d.depth
+  pub last : 0 < d.depth → (d.is_empty ≡ true) ↔ EndsInBegin d.orders
+
+-- LAW
+
+-- so it is of the open block of every script
+abbrev pub BlocksAreCounted : Type 0
+BlocksAreCounted = (before : List (List ℕ)) (s : Scripted) (b : Block) → Leads Opening before (Reading s) → s.block ≡ Some b → IsCounted b.draft
