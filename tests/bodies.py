@@ -16,6 +16,7 @@ or the end of that. Where several are named, each has to be refused.
 
 import os
 import re
+from concurrent.futures import ThreadPoolExecutor
 from dataclasses import dataclass, field
 
 
@@ -292,12 +293,14 @@ def judged_by(folder, body, log):
     return Judged(body, verdict, others)
 
 
-def tried(folder, log_of):
-    """Tries the wrong bodies of a crate, as many in one check as fit together, and judges each.
+def tried(folder, log_of, at_once=1):
+    """Tries the wrong bodies of a crate, as many in one check as fit together, so many checks at once, and judges each.
     `log_of(name, texts, ends)` checks the functions whose names have these ends, in the crate with these texts, and
     returns the log, which has that name."""
-    for number, together in enumerate(fitting(folder, bodies_of(folder)), 1):
-        yield from tried_together(folder, f"together_{number}", together, log_of)
+    groups = enumerate(fitting(folder, bodies_of(folder)), 1)
+    with ThreadPoolExecutor(at_once) as pool:
+        for found in pool.map(lambda it: list(tried_together(folder, f"together_{it[0]}", it[1], log_of)), groups):
+            yield from found
 
 
 def tried_together(folder, name, together, log_of):

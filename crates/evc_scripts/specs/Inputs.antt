@@ -9,14 +9,14 @@ abbrev pub looked_at : ℕ → List ℕ → List ℕ
 looked_at max bytes = take (max + 1) bytes
 
 -- of an input that had these bytes, and has those left, all was read, or more than a text of at most max bytes may have: by
--- less than a piece, which has 8192 bytes
+-- a piece at most, which has 8192 bytes
 pub record IsReadUp (max : ℕ) (bytes : List ℕ) (left : Option (List ℕ)) : Type 0 where
   pub given : List ℕ
   pub gave : Consumes (Some bytes) left given
   pub few : length given ≤ max + 8192
   pub enough : IsAtEnd left ⊎ (max < length given)
 
--- a read failed before that
+-- where a failed read is told: no more bytes were given than a text may have
 pub record IsCutOff (max : ℕ) (bytes : List ℕ) (left : Option (List ℕ)) : Type 0 where
   pub given : List ℕ
   pub gave : Consumes (Some bytes) left given

@@ -101,7 +101,7 @@ pub record RefusedAt (bytes : List ℕ) (n : ℕ) (kind : Kind) : Type 0 where
 
 -- how `sim` ended: the bytes are a script, its schedule was played, and the trace was written; or they are a script whose
 -- schedule names a worker that has ended, or no script, and nothing was written but a note; or a failed read or write is told, or want of
--- memory. It reads all that it looks at before it looks, and tells a failed read where it could not
+-- memory. It reads all that it looks at before it looks, and tells a failed read only before it has read more than a script may have
 abbrev pub Sims : List ℕ → Option (List ℕ) → Status → Outlets → Outlets → Type 0
 Sims bytes left Done old new = (p : Planned) × SaysPlan bytes p × PlanEnds p Done old new × IsReadUp SCRIPT_MAX bytes left
 Sims bytes left Refused old new =

@@ -23,7 +23,7 @@ pub fn ended_plans_are_not_played()
     ensures { EndedPlansAreNotPlayed }
 {}
 
-/// Nor has it a history, however that is said: entries that are a run of each program, in the order
+/// Nor has it a history: entries that are a run of each program, in the order
 /// of the schedule, with each place as its refusal or its entry says.
 pub fn ended_plans_have_no_history()
     ensures { EndedPlansHaveNoHistory }
@@ -78,8 +78,8 @@ pub fn lines_report_alike()
     ensures { LinesReportAlike }
 {}
 
-/// So what `run` wrote of a script depends on the script's lines alone: it may be told of all
-/// programs of these lines.
+/// So what may be told of a run of a script depends on the script's lines alone: what was told of
+/// one is a report of all programs of these lines.
 pub fn plans_report_alike()
     ensures { PlansReportAlike }
 {}

@@ -1,5 +1,5 @@
 //! What a task of the command line does.
-ghost use Rattle.std.specs.Prelude.{◌≡◌, IfErr, IfOk, IfSome};
+ghost use Rattle.std.specs.Prelude.{◌≡◌, IfErr, IfOk, IfSome, ℕ, ⊥};
 ghost use Rattle.evc_engine.specs.Checks.{Checks};
 ghost use Rattle.evc_engine.specs.Notes.{IsWrittenOut};
 ghost use Rattle.evc_task.specs.declared.choice.Task.TheVariants.{Run};
@@ -30,6 +30,7 @@ pub fn engine_without_threads<R: Read, W: Write, N: Write>(
         (record { out = W.contents out.new; notes = N.contents notes.new.writer; held = notes.new.table }))) }
     ensures written { IsWrittenOut notes.old.table → IsWrittenOut notes.new.table }
     ensures run { IfErr result (λ turns. task ≡ Run turns) }
+    ensures others { IfOk result (λ _. (turns : ℕ) → task ≡ Run turns → ⊥) }
     ensures kept { IfErr result (λ _. (reader.new ≡ reader.old) × (out.new ≡ out.old) × (notes.new ≡ notes.old)) }
 {
     match task {
