@@ -1,0 +1,15 @@
+# Completes the words of evc in bash.
+_evc() {
+    local word=${COMP_WORDS[COMP_CWORD]}
+    COMPREPLY=()
+    if [ "$COMP_CWORD" -eq 1 ]; then
+        COMPREPLY=($(compgen -W 'check audit sim run help --help' -- "$word"))
+    elif [ "${COMP_WORDS[1]}" = help ]; then
+        COMPREPLY=($(compgen -W 'check audit sim run' -- "$word"))
+    elif [ "${COMP_WORDS[1]}" = run ]; then
+        COMPREPLY=($(compgen -W '--turns --help' -- "$word"))
+    else
+        COMPREPLY=($(compgen -W '--help' -- "$word"))
+    fi
+}
+complete -F _evc -o default evc

@@ -1,0 +1,163 @@
+//! Records what a program does with its own eventcounts and sequencers, as a trace for `evc check`.
+//!
+//! Plain Rust, this one module, no dependency; docs/TRACING.md shows how it is used. Nothing of it is proved: what it
+//! has written is judged by `evc check`.
+//!
+//!     let record = Record::new(1_000_000, &["a", "b"], &["eventcount E signal a observe b"]);
+//!     // on the thread of worker a, around each atomic step of yours
+//!     record.step("a", "advance E", || {
+//!         count.fetch_add(1, SeqCst);
+//!         Reply::Done
+//!     });
+//!     record.write("my.trace")?;
+//!
+//! The first fault is kept. After it your steps go on, unrecorded, and the text stays without its last line, so that
+//! `evc check` calls it `unfinished`.
+#![allow(dead_code)]
+
+use std::fmt;
+use std::fs;
+use std::io::Write;
+use std::path::Path;
+use std::sync::{Mutex, MutexGuard};
+
+/// The most bytes that a trace may have.
+pub const TRACE_MAX: usize = 67_108_864;
+const LINE_MAX: usize = 8192;
+const END: &[u8] = b"end\n";
+
+/// What a step was told.
+#[derive(Clone, Copy, Debug, PartialEq, Eq)]
+pub enum Reply {
+    /// The step was an advance or a put.
+    Done,
+    /// The step did not end the read or await: a component is left, or the sum is below the threshold.
+    Pending,
+    /// The sum of a read or an await at its last step, a ticket, or the value of a get.
+    Number(u64),
+}
+
+impl fmt::Display for Reply {
+    fn fmt(&self, f: &mut fmt::Formatter<'_>) -> fmt::Result {
+        match self {
+            Reply::Done => f.write_str("done"),
+            Reply::Pending => f.write_str("pending"),
+            Reply::Number(number) => number.fmt(f),
+        }
+    }
+}
+
+/// Why a record is not whole.
+#[derive(Clone, Copy, Debug, PartialEq, Eq)]
+pub enum Fault {
+    /// A step of a worker that was not declared.
+    UnknownWorker,
+    /// A line is too long or has a line feed.
+    BadLine,
+    /// The trace would have more than 67108864 bytes.
+    TooLarge,
+    NoMemory,
+    /// The file could not be opened or written.
+    NotWritten,
+}
+
+impl fmt::Display for Fault {
+    fn fmt(&self, f: &mut fmt::Formatter<'_>) -> fmt::Result {
+        f.write_str(match self {
+            Fault::UnknownWorker => "unknown worker",
+            Fault::BadLine => "bad line",
+            Fault::TooLarge => "too large",
+            Fault::NoMemory => "no memory",
+            Fault::NotWritten => "not written",
+        })
+    }
+}
+
+impl std::error::Error for Fault {}
+
+struct Text {
+    bytes: Vec<u8>,
+    fault: Option<Fault>,
+}
+
+impl Text {
+    /// Puts a line, with its line feed, where the trace has room for it and for its last line.
+    fn line(&mut self, line: &str) {
+        if self.fault.is_some() {
+            return;
+        }
+        if line.len() > LINE_MAX || line.contains('\n') {
+            self.fault = Some(Fault::BadLine);
+        } else if self.bytes.len() + line.len() + 1 + END.len() > TRACE_MAX {
+            self.fault = Some(Fault::TooLarge);
+        } else if self.bytes.try_reserve(line.len() + 1).is_err() {
+            self.fault = Some(Fault::NoMemory);
+        } else {
+            self.bytes.extend_from_slice(line.as_bytes());
+            self.bytes.push(b'\n');
+        }
+    }
+}
+
+/// What was done so far. It is shared by the threads of all workers.
+pub struct Record {
+    workers: Vec<String>,
+    text: Mutex<Text>,
+}
+
+impl Record {
+    /// Begins a record: the limit of each component and each sequencer, from 1 to 4294967295; the workers; and the
+    /// objects, each a line of docs/FORMATS.md, as "sequencer T take a b".
+    pub fn new(limit: u64, workers: &[&str], objects: &[&str]) -> Self {
+        let mut text = Text { bytes: Vec::new(), fault: None };
+        text.line("evc-trace 1");
+        text.line(&format!("limit {limit}"));
+        text.line(&format!("workers {}", workers.join(" ")));
+        for object in objects {
+            text.line(object);
+        }
+        text.line("run");
+        Record { workers: workers.iter().map(|it| it.to_string()).collect(), text: Mutex::new(text) }
+    }
+
+    /// Does one atomic step of a worker, under the record's lock, and records it with its reply.
+    pub fn step(&self, worker: &str, act: &str, do_it: impl FnOnce() -> Reply) -> Reply {
+        let mut text = self.lock();
+        let reply = do_it();
+        if self.workers.iter().any(|it| it == worker) {
+            text.line(&format!("{worker} {act} = {reply}"));
+        } else {
+            text.fault.get_or_insert(Fault::UnknownWorker);
+        }
+        reply
+    }
+
+    /// Ends the record, and gives the bytes of the trace.
+    pub fn bytes(self) -> Result<Vec<u8>, Fault> {
+        let (bytes, fault) = self.ended();
+        fault.map_or(Ok(bytes), Err)
+    }
+
+    /// Ends the record, and writes the trace into a file: where there was a fault, the front up to it.
+    pub fn write(self, path: impl AsRef<Path>) -> Result<(), Fault> {
+        let (bytes, fault) = self.ended();
+        let written = fs::File::create(path).and_then(|mut file| file.write_all(&bytes));
+        match fault {
+            Some(fault) => Err(fault),
+            None => written.map_err(|_| Fault::NotWritten),
+        }
+    }
+
+    fn ended(self) -> (Vec<u8>, Option<Fault>) {
+        let mut text = self.text.into_inner().unwrap_or_else(|it| it.into_inner());
+        if text.fault.is_none() {
+            text.bytes.extend_from_slice(END); // (`line` has left room for it in the trace)
+        }
+        (text.bytes, text.fault)
+    }
+
+    // (where a step panicked, its line is missing: what follows is recorded, and judged by the checker)
+    fn lock(&self) -> MutexGuard<'_, Text> {
+        self.text.lock().unwrap_or_else(|it| it.into_inner())
+    }
+}
