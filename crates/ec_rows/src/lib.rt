@@ -13,6 +13,8 @@ mod database_tests;
 #[cfg(test)]
 mod drive;
 #[cfg(test)]
+mod example_tests;
+#[cfg(test)]
 mod histories;
 #[cfg(test)]
 mod ids;

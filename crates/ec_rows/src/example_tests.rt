@@ -1,0 +1,78 @@
+//! Whole examples of the kernel as a library: those that the README and the pages of the crates show.
+use ec_core::{Act, Refusal, Reply, Run, World};
+use ec_count::{Limit, Setup, SetupFault};
+use ec_order::{Verdict, order, verify};
+use std::alloc::Global;
+use std::test::Fail;
+
+/// The limit of the examples.
+fn hundred() -> Result<Limit, Fail> {
+    match Limit::new(100) {
+        Some(limit) => Ok(limit),
+        None => Err(Fail::new("no limit")),
+    }
+}
+
+/// Fails where an example comes to something else.
+fn is_so(is_right: bool) -> Result<(), Fail> {
+    if is_right {
+        Ok(())
+    } else {
+        Err(Fail::new("another answer"))
+    }
+}
+
+/// A press signals, and a watcher observes; a list that names a worker twice is refused.
+fn repeated_signaller_is_refused(limit: Limit) -> Result<bool, Fail> {
+    let mut setup = Setup::new(limit);
+    let press = setup.add_worker()?;
+    let watcher = setup.add_worker()?;
+    let sheets = setup.add_event(&[press], &[watcher])?;
+    let refused = setup.add_event(&[press, press], &[]);
+    let may_observe = setup.may_observe(sheets, watcher);
+    Ok(may_observe && refused == Err(SetupFault::Repeated))
+}
+
+#[test]
+fn a_setup_is_declared(_rt: HostRuntime) -> Result<(), Fail> {
+    is_so(repeated_signaller_is_refused(hundred()?)?)
+}
+
+/// A press that may not read is refused, and the total is what it was.
+fn refusal_keeps_the_total(limit: Limit) -> Result<bool, Fail> {
+    let mut setup = Setup::new(limit);
+    let press = setup.add_worker()?;
+    let sheets = setup.add_event(&[press], &[])?;
+    let mut world = World::open(setup);
+    let told = world.step(press, Act::Advance(sheets))?;
+    let refused = world.step(press, Act::Read(sheets));
+    let total = world.total(sheets);
+    Ok(told == Reply::Done && refused == Err(Refusal::NoRight) && total == Some(1))
+}
+
+#[test]
+fn a_world_takes_steps(_rt: HostRuntime) -> Result<(), Fail> {
+    is_so(refusal_keeps_the_total(hundred()?)?)
+}
+
+/// Two presses print a sheet each, while a watcher reads how many there are.
+fn watcher_is_told_one(alloc: Global, limit: Limit) -> Result<bool, Fail> {
+    let mut setup = Setup::new(limit);
+    let press1 = setup.add_worker()?;
+    let press2 = setup.add_worker()?;
+    let watcher = setup.add_worker()?;
+    let sheets = setup.add_event(&[press1, press2], &[watcher])?;
+    let mut run = Run::open(alloc, setup)?;
+    run.step(watcher, Act::Read(sheets))?;
+    run.step(press1, Act::Advance(sheets))?;
+    run.step(press2, Act::Advance(sheets))?;
+    let told = run.step(watcher, Act::Go)?;
+    let placed = order(alloc, &run)?;
+    let verdict = verify(alloc, &run, placed.as_slice())?;
+    Ok(told == Reply::Number(1) && placed.len() == 3 && verdict == Verdict::Good)
+}
+
+#[test]
+fn a_read_is_put_between_two_advances(rt: HostRuntime) -> Result<(), Fail> {
+    is_so(watcher_is_told_one(rt.alloc(), hundred()?)?)
+}
