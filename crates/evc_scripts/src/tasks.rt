@@ -1,5 +1,5 @@
 //! What a task of the command line does.
-ghost use Rattle.std.specs.Prelude.{◌≡◌, IfErr, IfOk, IfSome, ℕ, ⊥};
+ghost use Rattle.std.specs.Prelude.{◌≡◌, IfErr, IfOk, IfSome, ℕ};
 ghost use Rattle.evc_engine.specs.Checks.{Checks};
 ghost use Rattle.evc_engine.specs.Notes.{IsWrittenOut};
 ghost use Rattle.evc_task.specs.declared.choice.Task.TheVariants.{Run};
