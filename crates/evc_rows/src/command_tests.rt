@@ -1,7 +1,7 @@
 //! Each command by its task, over readers and writers that fail.
 use crate::commands::{
-    AUDIT_OF_A_BUFFER, CHECK_OF_AN_OVERTAKEN_READ, RUN_OF_TICKETS, SIM_OF_TICKETS, TURNS, Worked,
-    commanded_into,
+    AUDIT_OF_A_BUFFER, CHECK_OF_AN_OVERTAKEN_READ, RUN_OF_TICKETS, SIM_OF_A_TICKET_AND_AN_AWAIT,
+    SIM_OF_TICKETS, TURNS, Worked, commanded_into,
 };
 use crate::fakes::{Fickle, Pieces, Trouble};
 use evc_engine::{Notes, Status};
@@ -183,6 +183,11 @@ fn each_fault_of_an_audit(rt: HostRuntime) -> Result<(), Fail> {
 #[test]
 fn each_fault_of_a_sim(rt: HostRuntime) -> Result<(), Fail> {
     all_faults(&rt, rt.alloc(), &SIM_OF_TICKETS)
+}
+
+#[test]
+fn each_fault_of_a_sim_of_a_ticket_and_an_await(rt: HostRuntime) -> Result<(), Fail> {
+    all_faults(&rt, rt.alloc(), &SIM_OF_A_TICKET_AND_AN_AWAIT)
 }
 
 #[test]

@@ -50,6 +50,39 @@ end
 
 const TICKETS_NOTES: &str = "outcome a finished\noutcome b finished\n";
 
+/// A worker that advances twice, and one that waits for one more than its ticket.
+const TICKET_AND_AWAIT: &str = "evc-script 1
+limit 10
+workers a c
+eventcount E signal a observe c
+sequencer T take c
+worker a
+advance E
+advance E
+end
+worker c
+ticket T
+await E last+1
+read E
+end
+schedule c c a c a c
+";
+
+const TICKET_AND_AWAIT_TRACE: &str = "evc-trace 1
+limit 10
+workers a c
+eventcount E signal a observe c
+sequencer T take c
+run
+c ticket T = 0
+c await E 1 = pending
+a advance E = done
+c go = 1
+a advance E = done
+c read E = 2
+end
+";
+
 const BUFFER_AUDIT: &str = "evc-audit 1
 delivery B 0 a c 7
 delivery B 1 b d 8
@@ -136,6 +169,14 @@ pub(crate) static SIM_OF_TICKETS: Worked = Worked {
     text: TICKETS,
     right: Right::Text(TICKETS_TRACE),
     notes: TICKETS_NOTES,
+};
+
+/// The schedule of the script of a ticket and an await.
+pub(crate) static SIM_OF_A_TICKET_AND_AN_AWAIT: Worked = Worked {
+    task: Task::Sim,
+    text: TICKET_AND_AWAIT,
+    right: Right::Text(TICKET_AND_AWAIT_TRACE),
+    notes: "outcome a finished\noutcome c finished\n",
 };
 
 /// The workers of the script of tickets, on threads: their trace differs from run to run.

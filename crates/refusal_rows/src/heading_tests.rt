@@ -1,0 +1,281 @@
+//! Lines of headings: that of the workers, and one of each sort.
+use crate::way::{Answer, Call, Want, Way, tell, way_of, way_of_all};
+use ec_count::Limit;
+use ec_heading::{HeadFault, Heading};
+use std::alloc::Global;
+use std::test::Fail;
+
+/// How many workers, eventcounts, sequencers and cells there are.
+type Objects = (usize, usize, usize, usize);
+
+/// How many names, words, groups and declarations there are.
+type Entries = (usize, usize, usize, usize);
+
+/// What a heading has.
+type Sizes = (Objects, Entries);
+
+/// Lines that are there before, a line, a word that it brings in, and what the heading has before and after it.
+struct Row {
+    first: &'static [&'static str],
+    line: &'static str,
+    word: &'static str,
+    before: Sizes,
+    after: Sizes,
+}
+
+const WORKERS: &[&str] = &["workers a b"];
+
+/// What a heading has with two workers alone.
+const TWO_WORKERS: Sizes = ((2, 0, 0, 0), (2, 2, 0, 0));
+
+static OF_WORKERS: Row = Row {
+    first: &[],
+    line: "workers a b",
+    word: "b",
+    before: ((0, 0, 0, 0), (0, 0, 0, 0)),
+    after: TWO_WORKERS,
+};
+
+static OF_AN_EVENTCOUNT: Row = Row {
+    first: WORKERS,
+    line: "eventcount E signal a observe b",
+    word: "E",
+    before: TWO_WORKERS,
+    after: ((2, 1, 0, 0), (3, 3, 0, 1)),
+};
+
+static OF_A_SEQUENCER: Row = Row {
+    first: WORKERS,
+    line: "sequencer T take a",
+    word: "T",
+    before: TWO_WORKERS,
+    after: ((2, 0, 1, 0), (3, 3, 0, 1)),
+};
+
+static OF_CELLS: Row = Row {
+    first: WORKERS,
+    line: "cells X 3 write a read b",
+    word: "X",
+    before: TWO_WORKERS,
+    after: ((2, 0, 0, 3), (3, 3, 0, 1)),
+};
+
+static OF_A_BUFFER: Row = Row {
+    first: WORKERS,
+    line: "buffer B 2 produce a consume b",
+    word: "B.out",
+    before: TWO_WORKERS,
+    after: ((2, 2, 2, 2), (3, 7, 1, 1)),
+};
+
+static OF_A_DATABASE: Row = Row {
+    first: WORKERS,
+    line: "database D 2 write a read b",
+    word: "D.turn",
+    before: TWO_WORKERS,
+    after: ((2, 2, 1, 2), (3, 6, 1, 1)),
+};
+
+static OF_A_SEMAPHORE: Row = Row {
+    first: WORKERS,
+    line: "semaphore R 1 use a b",
+    word: "R.p",
+    before: TWO_WORKERS,
+    after: ((2, 1, 1, 0), (3, 5, 1, 1)),
+};
+
+static OF_BOTH: Row = Row {
+    first: WORKERS,
+    line: "both use a b",
+    word: "both.v",
+    before: TWO_WORKERS,
+    after: ((2, 1, 1, 0), (2, 5, 1, 1)),
+};
+
+/// What a heading has.
+fn sizes_of(heading: &Heading) -> Sizes {
+    let setup = heading.setup();
+    let objects = (
+        setup.workers(),
+        setup.events(),
+        setup.sequencers(),
+        setup.cells(),
+    );
+    let entries = (
+        heading.names().len(),
+        heading.words().len(),
+        heading.groups().len(),
+        heading.declarations().len(),
+    );
+    (objects, entries)
+}
+
+/// Whether a heading has this, and a word of the line or not.
+fn has(heading: &Heading, right: &Sizes, word: &str, is_there: bool) -> bool {
+    let is_found = heading.words().find(word.as_bytes()).is_some();
+    sizes_of(heading) == *right && is_found == is_there
+}
+
+/// A line that a heading is to take.
+#[derive(Drop)]
+struct Line {
+    heading: Heading,
+    row: &'static Row,
+}
+
+impl Call for Line {
+    fn make(&mut self) -> Answer {
+        let row = self.row;
+        match self.heading.line(row.line.as_bytes()) {
+            Ok(()) => Answer::of(has(&self.heading, &row.after, row.word, true)),
+            Err(HeadFault::Memory) => Answer::Wants(Want::Memory),
+            Err(_) => Answer::Wrong,
+        }
+    }
+
+    fn stands(&self) -> bool {
+        has(&self.heading, &self.row.before, self.row.word, false)
+    }
+}
+
+/// Takes lines, unless there is no memory.
+fn take(heading: &mut Heading, lines: &[&str]) -> Option<()> {
+    for line in lines {
+        heading.line(line.as_bytes()).ok()?;
+    }
+    Some(())
+}
+
+/// A heading that has taken these lines, unless there is no memory.
+fn headed(alloc: Global, lines: &[&str]) -> Option<Heading> {
+    let mut heading = Heading::new(alloc, Limit::new(10)?).ok()?;
+    take(&mut heading, lines)?;
+    Some(heading)
+}
+
+/// The way of a line.
+fn way_of_line(alloc: Global, row: &'static Row) -> Way {
+    match headed(alloc, row.first) {
+        Some(heading) => way_of(&mut Line { heading, row }),
+        None => Way::Unready,
+    }
+}
+
+#[test]
+fn a_line_of_workers(rt: HostRuntime) -> Result<(), Fail> {
+    tell(&rt, way_of_line(rt.alloc(), &OF_WORKERS))
+}
+
+#[test]
+fn a_line_of_an_eventcount(rt: HostRuntime) -> Result<(), Fail> {
+    tell(&rt, way_of_line(rt.alloc(), &OF_AN_EVENTCOUNT))
+}
+
+#[test]
+fn a_line_of_a_sequencer(rt: HostRuntime) -> Result<(), Fail> {
+    tell(&rt, way_of_line(rt.alloc(), &OF_A_SEQUENCER))
+}
+
+#[test]
+fn a_line_of_cells(rt: HostRuntime) -> Result<(), Fail> {
+    tell(&rt, way_of_line(rt.alloc(), &OF_CELLS))
+}
+
+#[test]
+fn a_line_of_a_buffer(rt: HostRuntime) -> Result<(), Fail> {
+    tell(&rt, way_of_line(rt.alloc(), &OF_A_BUFFER))
+}
+
+#[test]
+fn a_line_of_a_database(rt: HostRuntime) -> Result<(), Fail> {
+    tell(&rt, way_of_line(rt.alloc(), &OF_A_DATABASE))
+}
+
+#[test]
+fn a_line_of_a_semaphore(rt: HostRuntime) -> Result<(), Fail> {
+    tell(&rt, way_of_line(rt.alloc(), &OF_A_SEMAPHORE))
+}
+
+#[test]
+fn a_line_of_both(rt: HostRuntime) -> Result<(), Fail> {
+    tell(&rt, way_of_line(rt.alloc(), &OF_BOTH))
+}
+
+/// Lines of sixteen buffers. The words of one of them are more than there was room for, in the midst of them.
+static LINES: [&str; 16] = [
+    "buffer B0 1 produce a consume b",
+    "buffer B1 1 produce a consume b",
+    "buffer B2 1 produce a consume b",
+    "buffer B3 1 produce a consume b",
+    "buffer B4 1 produce a consume b",
+    "buffer B5 1 produce a consume b",
+    "buffer B6 1 produce a consume b",
+    "buffer B7 1 produce a consume b",
+    "buffer B8 1 produce a consume b",
+    "buffer B9 1 produce a consume b",
+    "buffer B10 1 produce a consume b",
+    "buffer B11 1 produce a consume b",
+    "buffer B12 1 produce a consume b",
+    "buffer B13 1 produce a consume b",
+    "buffer B14 1 produce a consume b",
+    "buffer B15 1 produce a consume b",
+];
+
+/// What a heading has with two workers and so many buffers.
+fn sizes_with(buffers: usize) -> Sizes {
+    let many = buffers.min(16);
+    (
+        (2, 2 * many, 2 * many, many),
+        (2 + many, 2 + 5 * many, many, many),
+    )
+}
+
+/// A heading that takes the lines of buffers, and how many it has taken.
+#[derive(Drop)]
+struct Buffers {
+    heading: Heading,
+    many: usize,
+}
+
+impl Buffers {
+    /// Whether the heading has the buffers that it has taken, and no more.
+    fn are_as_taken(&self) -> bool {
+        sizes_of(&self.heading) == sizes_with(self.many)
+    }
+
+    /// Looks at the heading behind a line that was taken.
+    fn taken(&mut self) -> Answer {
+        self.many = self.many.saturating_add(1);
+        Answer::of(self.are_as_taken())
+    }
+}
+
+impl Call for Buffers {
+    fn make(&mut self) -> Answer {
+        let Some(line) = LINES.get(self.many) else {
+            return Answer::Wrong;
+        };
+        match self.heading.line(line.as_bytes()) {
+            Ok(()) => self.taken(),
+            Err(HeadFault::Memory) => Answer::Wants(Want::Memory),
+            Err(_) => Answer::Wrong,
+        }
+    }
+
+    fn stands(&self) -> bool {
+        self.are_as_taken()
+    }
+}
+
+/// The way of the lines of all buffers.
+fn way_of_buffers(alloc: Global) -> Way {
+    match headed(alloc, WORKERS) {
+        Some(heading) => way_of_all(&mut Buffers { heading, many: 0 }, LINES.len()),
+        None => Way::Unready,
+    }
+}
+
+#[test]
+fn lines_of_sixteen_buffers(rt: HostRuntime) -> Result<(), Fail> {
+    tell(&rt, way_of_buffers(rt.alloc()))
+}

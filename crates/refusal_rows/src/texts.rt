@@ -1,0 +1,197 @@
+//! The texts of traces and of scripts.
+
+/// Two workers signal an eventcount, which two others observe. A read is overtaken by two advances, and another one is
+/// under way in the end.
+pub(crate) const OVERTAKEN_READ: &str = "evc-trace 1
+limit 10
+workers a b c d
+eventcount E signal a b observe c d
+run
+c read E = pending
+a advance E = done
+b advance E = done
+c go = 1
+d read E = pending
+end
+";
+
+/// Two producers, two consumers and a buffer of one cell.
+pub(crate) const BUFFER: &str = "evc-trace 1
+limit 10
+workers a b c d
+buffer B 1 produce a b consume c d
+run
+a ticket B.put = 0
+b ticket B.put = 1
+a await B.in 0 = pending
+a go = 0
+a await B.out 0 = pending
+a go = 0
+a put B[0] 7 = done
+a advance B.in = done
+b await B.in 1 = pending
+b go = 1
+b await B.out 1 = pending
+b go = pending
+c ticket B.take = 0
+c await B.out 0 = pending
+c go = 0
+c await B.in 1 = pending
+c go = 1
+c get B[0] = 7
+c advance B.out = done
+b go = pending
+b go = 1
+b put B[0] 8 = done
+b advance B.in = done
+d ticket B.take = 1
+d await B.out 1 = pending
+d go = 1
+d await B.in 2 = pending
+d go = 2
+d get B[0] = 8
+d advance B.out = done
+end
+";
+
+/// A snapshot of a database that is disturbed once.
+pub(crate) const DATABASE: &str = "evc-trace 1
+limit 10
+workers a c
+database D 2 write a read c
+run
+c read D.start = 0
+c await D.done 0 = 0
+c get D[0] = 0
+a advance D.start = done
+a ticket D.turn = 0
+a await D.done 0 = 0
+a put D[0] 5 = done
+a put D[1] 6 = done
+a advance D.done = done
+c get D[1] = 6
+c read D.start = 1
+c read D.start = 1
+c await D.done 1 = 1
+c get D[0] = 5
+c get D[1] = 6
+c read D.start = 1
+end
+";
+
+/// Two workers that take two semaphores at once, each in its own order.
+pub(crate) const SEMAPHORES: &str = "evc-trace 1
+limit 10
+workers a b
+semaphore R 1 use a b
+semaphore S 1 use a b
+both use a b
+run
+a ticket both.p = 0
+b ticket both.p = 1
+a await both.v 0 = pending
+a go = 0
+b await both.v 1 = pending
+b go = pending
+a ticket R.p = 0
+a ticket S.p = 0
+a advance both.v = done
+b go = pending
+b go = 1
+b ticket S.p = 1
+b ticket R.p = 1
+b advance both.v = done
+a await R.v 0 = pending
+a go = 0
+a await S.v 0 = pending
+a go = 0
+b await S.v 1 = pending
+b go = pending
+a advance R.v = done
+a advance S.v = done
+b go = pending
+b go = 1
+b await R.v 1 = pending
+b go = 1
+b advance S.v = done
+b advance R.v = done
+end
+";
+
+/// Two workers with a group of each sort.
+pub(crate) const GROUPS: &str = "evc-script 1
+limit 10
+workers a b
+buffer B 1 produce a consume b
+database D 2 write a read b
+semaphore R 1 use a b
+semaphore S 1 use a b
+both use a b
+worker a
+pboth R S
+v R
+v S
+repeat 1
+write D 5 6
+produce B 7
+end
+end
+worker b
+consume B
+snapshot D 1
+pboth S R
+v S
+v R
+end
+schedule b b b
+schedule a a a a a a a a a a a a a a a a a a a a a a a
+schedule b b b b b b b b b b b b b b b b b b b b
+";
+
+/// Four workers that meet often.
+pub(crate) const FOUR_WORKERS: &str = "evc-script 1
+limit 30
+workers a b c d
+eventcount E signal a b c d observe a b c d
+worker a
+repeat 30
+advance E
+end
+read E
+end
+worker b
+repeat 30
+advance E
+end
+read E
+end
+worker c
+repeat 30
+advance E
+end
+read E
+end
+worker d
+repeat 30
+advance E
+end
+read E
+end
+";
+
+/// A worker that advances twice, and one that waits for one more than its ticket.
+pub(crate) const TICKET_AND_AWAIT: &str = "evc-script 1
+limit 10
+workers a c
+eventcount E signal a observe c
+sequencer T take c
+worker a
+advance E
+advance E
+end
+worker c
+ticket T
+await E last+1
+read E
+end
+";
