@@ -7,5 +7,9 @@ pub mod Places
 pub mod Starting
 pub mod Logging
 pub mod Reporting
+pub mod Waking
+pub mod Working
+pub mod Promising
+pub mod Catching
 pub mod Telling
 pub mod Interleaving

@@ -1,5 +1,5 @@
 -- What workers tell, as a report.
-use Rattle.std.proofs.Common.{◌≡◌, ℕ, List, length, map, Option, Some, None, slice_get, refl, ap, sym, ◌∙◌, subst}
+use Rattle.std.proofs.Common.{◌≡◌, ℕ, List, length, Option, Some, None, Result, Ok, Err, IfOk, slice_get, refl, ap, sym, ◌∙◌, subst}
 use Rattle.std.proofs.lemmas.List.{length-map}
 use Rattle.std.specs.Global.{Vec}
 use Rattle.std.specs.Option.{option_map}
@@ -9,11 +9,18 @@ use Rattle.ec_core.specs.declared.act.Entry.{Entry}
 use Rattle.ec_core.specs.Recorded.{Recorded}
 use Rattle.ec_machine.specs.declared.command.Command.{Command}
 use Rattle.ec_machine.specs.declared.outcome.Outcome.{Outcome}
+use Rattle.ec_machine.specs.declared.outcome.Outcome.TheVariants as outcomes
 use Rattle.ec_machine.specs.Follows.{program_at}
+use Rattle.ec_machine.specs.Steps.{own}
 use Rattle.ec_runner.specs.declared.report.Report.{Report}
+use Rattle.ec_runner.specs.declared.run_fault.RunFault.{RunFault}
 use Rattle.ec_runner.specs.declared.told.Told.{Told}
-use Rattle.ec_runner.specs.RunReports.{IsTold, IsReportOf}
-use Rattle.ec_runner.specs.Walks.{AreTold}
+use Rattle.ec_runner.specs.declared.told.Asked.{Asked}
+use Rattle.ec_runner.specs.RunReports.{HasEnded, IsTold, IsReportOf}
+use Rattle.ec_runner.specs.Fits.{IsBorneOut, Fits, AllFit, IsOf, IsVerdict}
+use Rattle.ec_runner.specs.Promised.{AreToldOf}
+use Rattle.ec_runner.specs.Works.{IsAsked, EndsSo, IsToldOf}
+use Rattle.ec_runner.proofs.Promising.{told_at, told_many}
 
 abbrev log_of : Told → Vec Entry
 log_of t = t.log
@@ -21,26 +28,64 @@ log_of t = t.log
 abbrev outcome_in : Told → Outcome
 outcome_in t = t.outcome
 
-told_at : (run : Recorded) (w : ℕ) (cs : List Command) (turns : ℕ) (o : Option Told) (log : Vec Entry) (outcome : Outcome)
+entry_at : (run : Recorded) (w : ℕ) (cs : List Command) (turns : ℕ) (o : Option Told) (log : Vec Entry) (outcome : Outcome)
     → ((told : Told) → o ≡ Some told → IsTold run w cs turns told.log.items told.outcome)
     → option_map log_of o ≡ Some log → option_map outcome_in o ≡ Some outcome → IsTold run w cs turns log.items outcome
-told_at run w cs turns None log outcome h a b = cc
-told_at run w cs turns (Some told) log outcome h a b =
+entry_at run w cs turns None log outcome h a b = cc
+entry_at run w cs turns (Some told) log outcome h a b =
     let p : told.log ≡ log = cc in
     let q : told.outcome ≡ outcome = cc in
     subst (λ (l : Vec Entry). IsTold run w cs turns l.items outcome) p
     (subst (λ (o : Outcome). IsTold run w cs turns told.log.items o) q (h told refl))
 
-pub report_of : (t : Tables) (programs : List (List Command)) (turns : ℕ) (run : Recorded) (tolds : List Told) (r : Report) → AreTold t programs turns run tolds
-    → r.run ≡ run → r.logs.items ≡ map (λ (d : Told). d.log) tolds → r.outcomes.items ≡ map (λ (d : Told). d.outcome) tolds
-    → IsReportOf t programs turns r
-report_of t programs turns run tolds r h same logs outcomes = record {
-  setup = ap (λ (d : Recorded). d.setup) same ∙ h.setup;
-  logs = ap length logs ∙ length-map tolds log_of ∙ h.many;
-  outcomes = ap length outcomes ∙ length-map tolds outcome_in ∙ h.many;
-  told = λ w log outcome p q.
-      subst (λ (d : Recorded). IsTold d w (program_at programs w) turns log.items outcome) (sym same)
-      (told_at run w (program_at programs w) turns (slice_get tolds w) log outcome (λ told is. h.told w told is)
-      (sym (slice_get-map log_of tolds w) ∙ ap (λ xs. slice_get xs w) (sym logs) ∙ p)
-      (sym (slice_get-map outcome_in tolds w) ∙ ap (λ xs. slice_get xs w) (sym outcomes) ∙ q));
+-- how a worker ended by its program and log, where the run bears it out
+ended : (o : Outcome) (asked : Option Asked) (run : Recorded) (w : ℕ) (cs : List Command) (turns : ℕ) (log : List Entry) → own w run.entries ≡ log
+    → EndsSo o cs turns log → IsAsked o cs log asked → IsBorneOut o run w asked → HasEnded o run w cs turns log
+ended outcomes.Running asked run w cs turns log entries e a b = absurd e
+ended outcomes.Finished asked run w cs turns log entries e a b = e
+ended (outcomes.Refused r) None run w cs turns log entries e a b = absurd b
+ended (outcomes.Refused r) (Some k) run w cs turns log entries e a b = (
+  e,
+  record {
+    act = k.act;
+    due = a;
+    moment = k.moment;
+    within = b.done.within;
+    whole = b.done.whole ∙ entries;
+    refused = b.refused;
+  },
+)
+ended outcomes.ValueTooLarge asked run w cs turns log entries e a b = e
+ended outcomes.Stopped asked run w cs turns log entries e a b = (e, b)
+ended outcomes.OutOfTurns asked run w cs turns log entries e a b = e
+ended outcomes.Memory asked run w cs turns log entries e a b = (e, tt)
+
+told_is : (run : Recorded) (w : ℕ) (cs : List Command) (turns : ℕ) (t : Told) → IsToldOf cs turns t → Fits run w t → IsTold run w cs turns t.log.items t.outcome
+told_is run w cs turns t told fits = record {
+  entries = fits.entries;
+  follows = told.follows;
+  few = told.few;
+  ended = ended t.outcome t.asked run w cs turns t.log.items fits.entries told.ended told.asked fits.ended;
 }
+
+pub report_of : (t : Tables) (programs : List (List Command)) (turns : ℕ) (run : Recorded) (tolds : List Told) (r : Report) → length programs ≡ t.workers
+    → AreToldOf programs turns tolds → AllFit t run tolds → IsOf run tolds r → IsReportOf t programs turns r
+report_of t programs turns run tolds r many told fits is =
+    let each : length tolds ≡ t.workers = told_many programs turns tolds told ∙ many in
+    record {
+      setup = ap (λ (d : Recorded). d.setup) is.same ∙ fits.setup;
+      logs = ap length is.logs ∙ length-map tolds log_of ∙ each;
+      outcomes = ap length is.outcomes ∙ length-map tolds outcome_in ∙ each;
+      told = λ w log outcome p q.
+          subst (λ (d : Recorded). IsTold d w (program_at programs w) turns log.items outcome) (sym is.same)
+          (entry_at run w (program_at programs w) turns (slice_get tolds w) log outcome
+          (λ told_w at. told_is run w (program_at programs w) turns told_w (told_at programs turns tolds w told_w told at) (fits.each w told_w at))
+          (sym (slice_get-map log_of tolds w) ∙ ap (λ xs. slice_get xs w) (sym is.logs) ∙ p)
+          (sym (slice_get-map outcome_in tolds w) ∙ ap (λ xs. slice_get xs w) (sym is.outcomes) ∙ q));
+    }
+
+-- the verdict on what workers told of their programs, where it is a report
+pub verdict_report : (t : Tables) (programs : List (List Command)) (turns : ℕ) (run : Recorded) (tolds : List Told) (r : Result Report RunFault) → length programs ≡ t.workers
+    → AreToldOf programs turns tolds → IsVerdict r t run tolds → IfOk r (IsReportOf t programs turns)
+verdict_report t programs turns run tolds (Ok r) many told v = report_of t programs turns run tolds r many told v.0 v.1
+verdict_report t programs turns run tolds (Err fault) many told v = tt

@@ -1,29 +1,30 @@
 -- One step of the walk over a run and the logs of its workers.
-use Rattle.std.proofs.Common.{◌≡◌, ◌≢◌, ℕ, ◌+◌, ◌<◌, true, false, ◌==◌, inl, inr, List, [], ◌∷◌, ◌++◌, length, reverse, take, All, Option, Some, None, IfNone, cond, slice_get, slice_index, slice_set, get_or, refl, ap, sym, subst, ◌∙◌, arith}
+use Rattle.std.proofs.Common.{◌≡◌, ◌≢◌, ℕ, zero, suc, ◌+◌, ◌<◌, true, false, ◌==◌, nat_le, inl, inr, List, [], ◌∷◌, ◌++◌, length, reverse, take, Option, Some, None, MatchOption, cond, slice_get, slice_index, slice_set, get_or, length-take-le, refl, ap, sym, subst, ◌∙◌, arith}
 use Rattle.std.proofs.lemmas.Grind.{common_steps}
 use Rattle.std.proofs.lemmas.Bool.{cases_eq, eqb-true, eq-eqb}
 use Rattle.std.proofs.lemmas.List.{take_more}
 use Rattle.std.proofs.Math.Seq.{take-length}
-use Rattle.std.proofs.lemmas.List.Elements.{All-filter}
 use Rattle.std.proofs.lemmas.Option.{slice_get_within, get_or_from_slice_get, slice_get-get_or}
-use Rattle.ec_count.specs.Tables.{Tables, IsDeclared}
+use Rattle.std.proofs.lemmas.Bool.Decides.{nat_tests}
+use Rattle.ec_count.specs.Tables.{Tables}
 use Rattle.ec_core.specs.declared.act.Entry.{Entry}
 use Rattle.ec_core.specs.Acceptance.{IsAccepted}
-use Rattle.ec_core.specs.Procedures.{IsReply}
-use Rattle.ec_core.specs.Laws.{RepliesFitTheirActs}
+use Rattle.ec_core.specs.Counts.{past_at}
+use Rattle.ec_core.specs.Laws.{AcceptedMeansAnswered}
+use Rattle.ec_core.proofs.shared.Answering.{allowed}
 use Rattle.ec_machine.specs.Steps.{own}
 use Rattle.ec_machine.proofs.shared.OwnSteps.{own_append}
 use Rattle.ec_runner.specs.declared.told.Told.{Told}
-use Rattle.ec_runner.specs.Walks.{AreWalked, AreLogsOf}
+use Rattle.ec_runner.specs.Walks.{AreWalked, AreLogsOf, IsUnfinished, IsUnlike}
 
 pub append_none : (xs : List Entry) → xs ++ [] ≡ xs
 append_none [] = refl
 append_none (x ∷ xs) = ap (λ rest. x ∷ rest) (append_none xs)
 
--- what holds where there is none
-pub then_none : {X : Type 0} {P Q : Type 0} → (o : Option X) → (P → Q) → IfNone o P → IfNone o Q
-then_none None f h = f h
-then_none (Some x) f h = tt
+-- what holds in both cases
+pub then_match : {X : Type 0} {P P' : Type 0} {Q Q' : X → Type 0} → (o : Option X) → (P → P') → ((x : X) → Q x → Q' x) → MatchOption o P Q → MatchOption o P' Q'
+then_match None f g h = f h
+then_match (Some x) f g h = g x h
 
 pub own_more : (w : ℕ) (done : List Entry) (x : Entry) → (x.worker == w) ≡ true → own w (done ++ x ∷ []) ≡ own w done ++ x ∷ []
 own_more w done x is = own_append w done (x ∷ []) ∙ ap (λ b. own w done ++ cond b (x ∷ []) []) is
@@ -35,6 +36,9 @@ own_same w done x not = own_append w done (x ∷ []) ∙ ap (λ b. own w done ++
 pub take_next : (xs : List Entry) (k : ℕ) (x : Entry) → slice_get xs k ≡ Some x → take (k + 1) xs ≡ take k xs ++ x ∷ []
 take_next xs k x is =
     take_more xs k x (slice_get_within xs k x is) ∙ ap (λ y. take k xs ++ y ∷ []) (get_or_from_slice_get xs k x x is)
+
+pub index_is : (tolds : List Told) (w : ℕ) (told : Told) → told ≡ get_or tolds w told → w < length tolds → slice_get tolds w ≡ Some told
+index_is tolds w told is within = slice_get-get_or tolds w told within ∙ ap (λ t. Some t) (sym is)
 
 -- where the entry at a place is another worker's, a worker has no more entries after it
 pub none_there : (w : ℕ) (h : List Entry) (k : ℕ) (x : Entry) → slice_get h k ≡ Some x → (x.worker == w) ≡ false → own w (take (k + 1) h) ≡ own w (take k h)
@@ -97,8 +101,74 @@ pub all_walked : (tolds : List Told) (cursors : List ℕ) (done : List Entry) �
 all_walked tolds cursors done h ends w told is =
     h.walked w told is ∙ ap (λ n. take n told.log.items) (ends w told is) ∙ take-length told.log.items
 
--- the replies in a log fit their acts, since they are replies of the run
-pub own_replies : (t : Tables) (w : ℕ) (h : List Entry) → RepliesFitTheirActs → IsDeclared t → IsAccepted t (reverse h) → All (λ (x : Entry). IsReply x.act x.reply) (own w h)
-own_replies t w h fits declared accepted =
-    All-filter (λ (x : Entry). x.worker == w) (λ (x : Entry). IsReply x.act x.reply) h
-    (λ k d within. fits t h k (get_or h k d) declared accepted (slice_get-get_or h k d within))
+get_at : (ys zs : List Entry) (x : Entry) → slice_get (ys ++ x ∷ zs) (length ys) ≡ Some x
+get_at [] zs x = refl
+get_at (y ∷ ys) zs x = get_at ys zs x
+
+-- the entry that a walk comes to next
+pub entry_there : (h done rest others : List Entry) (x : Entry) → done ++ rest ≡ h → rest ≡ x ∷ others → slice_get h (length done) ≡ Some x
+entry_there h done rest others x is first =
+    ap (λ (xs : List Entry). slice_get xs (length done)) (sym is ∙ ap (λ r. done ++ r) first) ∙ get_at done others x
+
+below : (n w : ℕ) → nat_le n w ≡ false → w < n
+below n w h = grind (arith, nat_tests)
+
+-- is a declared worker's
+pub is_declared : AcceptedMeansAnswered → (t : Tables) (h : List Entry) (k : ℕ) (x : Entry) → IsAccepted t (reverse h) → slice_get h k ≡ Some x → x.worker < t.workers
+is_declared answered t h k x accepted is =
+    below t.workers x.worker (allowed t (past_at k h) x.worker x.act x.reply ((answered t h).0 accepted k x is)).0.declared
+
+own_there : (w : ℕ) (done rest : List Entry) (x : Entry) → (x.worker == w) ≡ true → slice_get (own w (done ++ x ∷ rest)) (length (own w done)) ≡ Some x
+own_there w done rest x mine =
+    ap (λ (xs : List Entry). slice_get xs (length (own w done))) (own_append w done (x ∷ rest) ∙ ap (λ b. own w done ++ cond b (x ∷ own w rest) (own w rest)) mine)
+    ∙ get_at (own w done) (own w rest) x
+
+-- a log in which another entry comes next is not its worker's
+pub unlike : (tolds : List Told) (cursors : List ℕ) (done rest : List Entry) (x : Entry) (told : Told) → AreWalked tolds cursors done
+    → slice_get tolds x.worker ≡ Some told → slice_get told.log.items (slice_index cursors x.worker) ≢ Some x → IsUnlike tolds (done ++ x ∷ rest) x.worker
+unlike tolds cursors done rest x told h is not =
+    let w = x.worker in
+    let at = slice_index cursors w in
+    let log = told.log.items in
+    let len : length (own w done) ≡ at = ap length (h.walked w told is) ∙ length-take-le at log (h.within w told is) in
+    record {
+      told = told;
+      at = is;
+      not = λ same. not
+          (ap (slice_get log) (sym len) ∙ ap (λ (xs : List Entry). slice_get xs (length (own w done))) (sym same)
+          ∙ own_there w done rest x (eq-eqb x.worker w refl));
+    }
+
+pub unlike_there : (tolds : List Told) (h done rest others : List Entry) (x : Entry) → done ++ rest ≡ h → rest ≡ x ∷ others
+    → ((more : List Entry) → IsUnlike tolds (done ++ x ∷ more) x.worker) → IsUnlike tolds h x.worker
+unlike_there tolds h done rest others x is first f = subst (λ (xs : List Entry). IsUnlike tolds xs x.worker) (ap (λ r. done ++ r) (sym first) ∙ is) (f others)
+
+-- nor is one that goes on beyond its cursor
+pub unfinished : (tolds : List Told) (cursors : List ℕ) (done : List Entry) (w : ℕ) → AreWalked tolds cursors done → IsUnfinished tolds cursors w → IsUnlike tolds done w
+unfinished tolds cursors done w h u =
+    let at = slice_index cursors w in
+    let log = u.told.log.items in
+    record {
+      told = u.told;
+      at = u.at;
+      not = λ same. u.not (sym (length-take-le at log (h.within w u.told u.at)) ∙ ap length (sym (h.walked w u.told u.at) ∙ same));
+    }
+
+-- a worker's entry stands among its own behind as many as it had made before
+pub own_at : (w : ℕ) (h : List Entry) (k : ℕ) (x : Entry) → slice_get h k ≡ Some x → (x.worker == w) ≡ true → slice_get (own w h) (length (own w (take k h))) ≡ Some x
+own_at w [] k x is mine = cc
+own_at w (y ∷ h) zero x is mine =
+    let same : x ≡ y = cc in
+    ap (λ b. slice_get (cond b (y ∷ own w h) (own w h)) 0) (ap (λ (z : Entry). z.worker == w) (sym same) ∙ mine) ∙ ap (λ (z : Entry). Some z) (sym same)
+own_at w (y ∷ h) (suc k) x is mine =
+    elim (y.worker == w) as (λ b. slice_get (cond b (y ∷ own w h) (own w h)) (length (cond b (y ∷ own w (take k h)) (own w (take k h)))) ≡ Some x) [
+      | true ↦ own_at w h k x is mine
+      | false ↦ own_at w h k x is mine
+    ]
+
+-- where the entry at a place is the worker's own, it had not made all its steps before
+pub more_there : (w : ℕ) (h : List Entry) (k : ℕ) (x : Entry) → slice_get h k ≡ Some x → (x.worker == w) ≡ true → own w (take k h) ≢ own w h
+more_there w h k x is mine = λ same.
+    (let within : length (own w (take k h)) < length (own w h) = slice_get_within (own w h) (length (own w (take k h))) x (own_at w h k x is mine) in
+    let long : length (own w (take k h)) ≡ length (own w h) = ap length same in
+    absurd (omega arith))

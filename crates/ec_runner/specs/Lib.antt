@@ -1,9 +1,13 @@
 pub mod Seated
 pub mod Lined
 pub mod Boarded
+pub mod Works
+pub mod Holds
+pub mod Promised
 pub mod BoardFaults
 pub mod RunReports
 pub mod Walks
+pub mod Fits
 pub mod Schedules
 pub mod Reported
 pub mod Machines

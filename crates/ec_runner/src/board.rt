@@ -10,7 +10,7 @@ ghost use Rattle.ec_runner.specs.Seated.{is_live, is_waiting, seat_of, woken};
 
 use crate::Seat;
 use crate::seats::Seats;
-use crate::wait::{Wait, awaited};
+use crate::wait::{Wait, unmet_await};
 use ec_core::{Act, Refusal, Reply, Run, StepFault, VALUE_MAX};
 use ec_count::{Setup, WorkerId};
 use std::alloc::{AllocError, Global};
@@ -63,10 +63,11 @@ impl Model for Board {
     ghost invariant = { λ b. AreWaiters (record { run = b.run; seats = b.seats; stuck = b.stuck }) };
 }
 
-ghost use Rattle.ec_runner.specs.Boarded.{AreWaiters, unmet, past_of, wait_of, with_seat, after_entry, is_stopped, has_left, answer_on};
+ghost use Rattle.ec_runner.specs.Boarded.{AreWaiters, wait_of, with_seat, after_entry, is_stopped, has_left, answer_on};
 
 impl Board {
     ghost use Rattle.ec_runner.specs.BoardFaults.{IsBoardFault};
+    ghost use Rattle.ec_runner.specs.Holds.{is_asleep};
 
     /// An empty run on these declarations, which are dropped where there is no memory. Every
     /// declared worker is live, and nobody waits.
@@ -187,6 +188,13 @@ impl Board {
         self.stuck
     }
 
+    /// Whether the worker waits, and somebody may still let it go.
+    pub(crate) fn is_asleep(&self, worker: WorkerId) -> bool
+        ensures { result ≡ is_asleep self.now worker }
+    {
+        self.is_waiting(worker) && !self.stuck
+    }
+
     fn has_left(&self, worker: WorkerId) -> bool
         ensures { result ≡ has_left self.now worker }
     {
@@ -199,22 +207,6 @@ impl Board {
         if !self.is_live(worker) {
             return None;
         }
-        self.run.known();
-        let wait = awaited(&self.run, worker);
-        unmet(&self.run, wait)
-    }
-}
-
-/// What a worker waits for, where the total has not come to the threshold since.
-fn unmet(run: &Run, wait: Option<Wait>) -> Option<Wait>
-    requires { (a : Wait) → wait ≡ Some a → a.event < length run.now.setup.events }
-    ensures { result ≡ unmet (past_of run.now) wait }
-{
-    let wait = wait?;
-    let total = run.world().total(wait.event)?;
-    if total < wait.threshold {
-        Some(wait)
-    } else {
-        None
+        unmet_await(&self.run, worker)
     }
 }

@@ -3,15 +3,16 @@
 
 mod board;
 mod caught;
+mod duty;
 mod ending;
 mod gate;
+mod holding;
 mod laws;
 mod line;
 mod logs;
 mod mismatch;
 mod playing;
 mod refused;
-mod replay;
 mod report;
 mod run_fault;
 mod schedule;

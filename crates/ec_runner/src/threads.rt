@@ -1,24 +1,34 @@
 //! A thread for each worker.
-ghost use Rattle.std.specs.Prelude.{◌≡◌, ◌+◌, ◌<◌, ◌≤◌, length, vec_len, vec_capacity, IfOk};
+ghost use Rattle.std.specs.Prelude.{◌≡◌, ℕ, ◌+◌, ◌<◌, ◌≤◌, true, false, List, [], length, Some, vec_len, vec_capacity};
+ghost use Rattle.ec_core.specs.declared.act.Entry.{Entry};
 ghost use Rattle.ec_core.specs.Procedures.{IsReply};
+ghost use Rattle.ec_machine.specs.declared.command.Command.{Command};
+ghost use Rattle.ec_machine.specs.Outcomes.{is_running, is_set};
+ghost use Rattle.ec_machine.specs.Standing.{act_of, kept_outcome};
+ghost use Rattle.ec_runner.specs.declared.told.Asked.{Asked};
+ghost use Rattle.ec_runner.specs.Holds.{FitsAct};
+ghost use Rattle.ec_runner.specs.Promised.{IsFor, AreFor};
+ghost use Rattle.ec_runner.specs.Works.{IsStop, Works, HasHad, IsAsked, IsToldOf};
 
-use crate::board::{Board, BoardFault, Parked};
+use crate::board::Board;
+use crate::duty::Duty;
 use crate::ending::worker_of;
 use crate::gate::Gate;
-use crate::told::Told;
-use ec_core::{Act, Entry, Refusal, Reply};
+use crate::holding::{Next, hold, leave};
+use crate::told::{Asked, Told};
+use ec_core::{Act, Entry, Reply};
 use ec_count::WorkerId;
 use ec_machine::{Machine, Outcome, Program};
 use std::alloc::{AllocError, Global};
 use std::sync::{Condvar, Mutex, MutexGuard, Wait};
 use std::thread;
-use std::thread::{JoinHandle, Scope, Threads};
+use std::thread::{PromisedHandle, Scope};
 
-/// What the threads share: the board under its lock, what those sleep on that wait, the gate, and
-/// how many steps a worker may ask for.
+/// What the threads share: the board under its lock, what each worker sleeps on, the gate, and how
+/// many steps a worker may ask for.
 pub(crate) struct Shared<'a, G> {
     pub board: &'a Mutex<Board>,
-    pub woken: &'a Condvar,
+    pub sleeps: &'a [Condvar; 16],
     pub gate: &'a G,
     pub turns: u64,
     pub alloc: Global,
@@ -31,36 +41,6 @@ impl<G> Clone for Shared<'_, G> {
 }
 
 impl<G> Copy for Shared<'_, G> {}
-
-/// Why a worker got no reply. A refusal comes with how many entries the run had.
-#[derive(Clone, Copy)]
-enum Halt {
-    Stopped,
-    Memory,
-    Refused(Refusal, usize),
-}
-
-/// Whether a step may let waiters go.
-fn may_wake(act: &Act) -> bool {
-    match act {
-        Act::Advance(_) => true,
-        _ => false,
-    }
-}
-
-/// Makes a worker that has something to wait for a waiter, and sleeps as long as it is one and
-/// somebody may still let it go.
-fn park<R: Wait>(rt: &R, woken: &Condvar, mut guard: MutexGuard<'_, Board>, worker: WorkerId) {
-    match guard.park(worker) {
-        Parked::Ready => {}
-        Parked::Stuck => woken.notify_all(),
-        Parked::Asleep => {
-            let _guard = woken.wait_while(rt, guard, |board| {
-                board.is_waiting(worker) && !board.is_stuck()
-            });
-        }
-    }
-}
 
 /// How often a worker that finds the lock held lets others run before it sleeps.
 const YIELDS: u32 = 30;
@@ -78,64 +58,124 @@ fn locked<'b, R: Wait>(rt: &R, board: &'b Mutex<Board>) -> MutexGuard<'b, Board>
     board.lock(rt)
 }
 
-/// One hold of the lock: one step and, where an await fell short and the worker may wait, the sleep.
-fn hold<R: Wait>(
+/// Wakes these workers.
+fn wake(sleeps: &[Condvar], woken: &[bool]) {
+    for (sleep, is_woken) in sleeps.iter().zip(woken) {
+        if *is_woken {
+            sleep.notify_one();
+        }
+    }
+}
+
+/// Wakes these workers, if any.
+fn wake_some(sleeps: &[Condvar], woken: &Option<[bool; 16]>) {
+    if let Some(woken) = woken {
+        wake(sleeps, woken);
+    }
+}
+
+/// One hold of the lock and, where the worker is to wait, the sleep. The others are woken once the
+/// lock is free; a worker that goes to sleep wakes nobody.
+fn hold_locked<R: Wait, G>(
     rt: &R,
-    board: &Mutex<Board>,
-    woken: &Condvar,
+    shared: Shared<'_, G>,
     worker: WorkerId,
     act: Act,
     may_park: bool,
-) -> Result<Reply, Halt>
-    ensures { IfOk result (IsReply act) }
+) -> Next
+    ensures { FitsAct result act }
 {
-    let mut guard = locked(rt, board);
-    let reply = match guard.step(worker, act) {
-        Ok(reply) => reply,
-        Err(BoardFault::Stopped) => return Err(Halt::Stopped),
-        Err(BoardFault::Memory) => return Err(Halt::Memory),
-        Err(BoardFault::Refused(refusal)) => {
-            return Err(Halt::Refused(refusal, guard.run().len()));
+    let sleeps = shared.sleeps;
+    let mut guard = locked(rt, shared.board);
+    let held = hold(&mut *guard, worker, act, may_park);
+    match held.next {
+        Next::Sleep(_) => {
+            let sleep = &sleeps[worker.get()];
+            let _guard = sleep.wait_while(rt, guard, |board| board.is_asleep(worker));
         }
-    };
-    if may_wake(&act) {
-        woken.notify_all();
+        Next::GoOn(_) | Next::Leave(_, _) => {
+            drop(guard);
+            wake_some(sleeps, &held.woken);
+        }
     }
-    if may_park && reply == Reply::Pending {
-        park(rt, woken, guard, worker);
-    }
-    Ok(reply)
+    held.next
 }
 
-/// The worker leaves the board, and those that wait for good are told.
-fn leave<R: Wait>(rt: &R, board: &Mutex<Board>, woken: &Condvar, worker: WorkerId) {
-    let mut guard = locked(rt, board);
-    guard.leave(worker);
-    woken.notify_all();
+/// The worker leaves the board.
+fn leave_locked<R: Wait, G>(rt: &R, shared: Shared<'_, G>, worker: WorkerId) {
+    let sleeps = shared.sleeps;
+    let mut guard = locked(rt, shared.board);
+    let woken = leave(&mut *guard, worker);
+    drop(guard);
+    wake(sleeps, &woken);
 }
 
-/// How a program ends where its worker gets no reply, and the moment that it was told.
-fn ended(halt: Halt) -> (Outcome, usize) {
-    match halt {
-        Halt::Stopped => (Outcome::Stopped, 0),
-        Halt::Memory => (Outcome::Memory, 0),
-        Halt::Refused(refusal, moment) => (Outcome::Refused(refusal), moment),
-    }
+/// Whether a step is due.
+fn is_running(machine: &Machine<'_>) -> bool
+    ensures { result ≡ is_running (kept_outcome machine.now) }
+{
+    machine.next().is_some()
 }
 
-/// Puts a step into the log.
-fn note(log: &mut Vec<Entry>, worker: WorkerId, act: &Act, reply: Reply)
-    requires { vec_len log.old < vec_capacity log.old }
+/// A step ends the program.
+fn stop(machine: &mut Machine<'_>, outcome: Outcome)
+    requires stop { IsStop outcome }
+    requires running { is_running (kept_outcome machine.old) ≡ true }
+    ensures outcome { kept_outcome machine.new ≡ outcome }
+    ensures works { (cs : List Command) (log : List Entry) → Works cs machine.old log → Works cs machine.new log }
+    ensures had { (log : List Entry) → HasHad (length log + 1) machine.new log }
+{
+    machine.refuse(outcome);
+}
+
+/// Takes the reply to a step, which is put into the log.
+fn take(machine: &mut Machine<'_>, log: &mut Vec<Entry>, worker: WorkerId, act: &Act, reply: Reply)
+    requires room { vec_len log.old < vec_capacity log.old }
+    requires due { act_of machine.old ≡ Some act.now }
+    requires kind { IsReply act.now reply }
+    ensures works { (cs : List Command) → Works cs machine.old log.old.items → Works cs machine.new log.new.items }
+    ensures unset { is_set (kept_outcome machine.new) ≡ false }
+    ensures len { vec_len log.new ≡ vec_len log.old + 1 }
 {
     log.push_reserved(Entry {
         worker,
         act: *act,
         reply,
     });
+    machine.take(reply);
 }
 
-/// One turn of a worker: the log grows, then comes the step that the program asks for. It answers
-/// how many entries the run had, where the step was refused.
+/// The step that the program asks for, for whose entry the log has room. It answers what was asked
+/// for, where there was no reply.
+fn make_step<R: Wait, G>(
+    rt: &R,
+    shared: Shared<'_, G>,
+    worker: WorkerId,
+    may_park: bool,
+    machine: &mut Machine<'_>,
+    log: &mut Vec<Entry>,
+) -> Option<Asked>
+    requires room { vec_len log.old < vec_capacity log.old }
+    requires running { is_running (kept_outcome machine.old) ≡ true }
+    ensures works { (cs : List Command) → Works cs machine.old log.old.items → Works cs machine.new log.new.items }
+    ensures had { HasHad (length log.old.items + 1) machine.new log.new.items }
+    ensures asked { (cs : List Command) → Works cs machine.old log.old.items → IsAsked (kept_outcome machine.new) cs log.new.items result }
+{
+    let act = machine.next()?;
+    match hold_locked(rt, shared, worker, act, may_park) {
+        Next::GoOn(reply) | Next::Sleep(reply) => {
+            take(machine, log, worker, &act, reply);
+            None
+        }
+        Next::Leave(outcome, moment) => {
+            stop(machine, outcome);
+            Some(Asked { act, moment })
+        }
+    }
+}
+
+/// One turn of a worker: the log grows, then comes the step that the program asks for. After the last
+/// turn the worker doesn't wait.
 fn take_turn<R: Wait, G: Gate>(
     rt: &R,
     shared: Shared<'_, G>,
@@ -143,92 +183,113 @@ fn take_turn<R: Wait, G: Gate>(
     steps: &mut u64,
     machine: &mut Machine<'_>,
     log: &mut Vec<Entry>,
-) -> usize
-    requires { steps.old < shared.turns }
-    ensures { steps.new ≤ steps.old + 1 }
+) -> Option<Asked>
+    requires turns { steps.old < shared.turns }
+    requires running { is_running (kept_outcome machine.old) ≡ true }
+    ensures steps { steps.new ≤ steps.old + 1 }
+    ensures works { (cs : List Command) → Works cs machine.old log.old.items → Works cs machine.new log.new.items }
+    ensures had { HasHad (length log.old.items + 1) machine.new log.new.items }
+    ensures asked { (cs : List Command) → Works cs machine.old log.old.items → IsAsked (kept_outcome machine.new) cs log.new.items result }
 {
-    let Some(act) = machine.next() else {
-        return 0;
-    };
     if log.reserve(1).is_err() {
-        machine.refuse(Outcome::Memory);
-        return 0;
+        stop(machine, Outcome::Memory);
+        return None;
     }
     shared.gate.before(worker, *steps);
     *steps += 1;
-    match hold(
-        rt,
-        shared.board,
-        shared.woken,
-        worker,
-        act,
-        *steps < shared.turns,
-    ) {
-        Ok(reply) => {
-            note(log, worker, &act, reply);
-            machine.take(reply);
-            0
-        }
-        Err(halt) => {
-            let (outcome, moment) = ended(halt);
-            machine.refuse(outcome);
-            moment
-        }
+    make_step(rt, shared, worker, *steps < shared.turns, machine, log)
+}
+
+/// What a worker tells once it has no more turns.
+fn told(log: Vec<Entry>, mut machine: Machine<'_>, asked: Option<Asked>) -> Told
+    ensures { (cs : List Command) (turns : ℕ) → Works cs machine.entry log.items → HasHad turns machine.entry log.items
+        → IsAsked (kept_outcome machine.entry) cs log.items asked → IsToldOf cs turns result }
+{
+    machine.refuse(Outcome::OutOfTurns);
+    Told {
+        log,
+        outcome: machine.outcome(),
+        asked,
     }
+}
+
+/// A worker at its program, up to the program's end.
+fn work_through<R: Wait, G: Gate>(
+    rt: &R,
+    shared: Shared<'_, G>,
+    worker: WorkerId,
+    program: &Program,
+) -> Told
+    ensures { IsToldOf program.now shared.entry.turns result }
+{
+    let mut machine = Machine::new(program);
+    let mut log = Vec::new(shared.alloc);
+    let mut steps = 0;
+    let mut asked = None;
+    for _ in 0..shared.turns {
+        if !is_running(&machine) {
+            break;
+        }
+        asked = take_turn(rt, shared, worker, &mut steps, &mut machine, &mut log);
+    }
+    shared.gate.before(worker, steps);
+    told(log, machine, asked)
 }
 
 /// A worker, in a thread of its own, up to its end.
 fn work<R: Wait, G: Gate>(rt: &R, shared: Shared<'_, G>, place: usize, program: &Program) -> Told
     requires { place < 16 }
+    ensures { IsToldOf program.now shared.entry.turns result }
 {
     let worker = worker_of(place);
-    let mut machine = Machine::new(program);
-    let mut log = Vec::new(shared.alloc);
-    let mut steps = 0;
-    let mut moment = 0;
-    for _ in 0..shared.turns {
-        if machine.outcome() != Outcome::Running {
-            break;
+    let told = work_through(rt, shared, worker, program);
+    leave_locked(rt, shared, worker);
+    told
+}
+
+/// Starts a thread for a program. None where it could not be started: its worker leaves.
+fn started<'s, E: 's, R: Wait + Sync, G: Gate + Sync>(
+    rt: &'s R,
+    scope: &Scope<'s, E>,
+    shared: Shared<'s, G>,
+    place: usize,
+    program: &'s Program,
+) -> Option<PromisedHandle<Told, Duty<'s>>>
+    requires { place < 16 }
+    ensures { IsFor result program.now shared.entry.turns }
+{
+    let worker = worker_of(place);
+    let turns = shared.turns;
+    let job = move || -> Told
+        requires { place < 16 }
+        ensures { IsToldOf program.entry.now shared.entry.turns result }
+    { work(rt, shared, place, program) };
+    match scope.spawn_with(Duty { program, turns }, job) {
+        Ok(handle) => Some(handle),
+        Err(_refused) => {
+            leave_locked(rt, shared, worker);
+            None
         }
-        moment = take_turn(rt, shared, worker, &mut steps, &mut machine, &mut log);
-    }
-    machine.refuse(Outcome::OutOfTurns);
-    shared.gate.before(worker, steps);
-    leave(rt, shared.board, shared.woken, worker);
-    Told {
-        log,
-        outcome: machine.outcome(),
-        moment,
     }
 }
 
-/// Starts a thread for each program. None stands for one that could not be started: its worker
-/// leaves.
+/// Starts a thread for each program.
 pub(crate) fn start_each<'s, E: 's, R: Wait + Sync, G: Gate + Sync>(
     rt: &'s R,
     scope: &Scope<'s, E>,
     shared: Shared<'s, G>,
     programs: &'s [Program],
-    room: Vec<Option<JoinHandle<Told>>>,
-) -> Vec<Option<JoinHandle<Told>>>
+    room: Vec<Option<PromisedHandle<Told, Duty<'s>>>>,
+) -> Vec<Option<PromisedHandle<Told, Duty<'s>>>>
     requires few { length programs.now ≤ 16 }
-    requires room { vec_len room + length programs.now ≤ vec_capacity room }
+    requires room { length programs.now ≤ vec_capacity room }
+    requires none { room.items ≡ [] }
+    ensures { AreFor result.items programs.now shared.entry.turns }
 {
     let mut handles = room;
-    for place in 0..programs.len() {
-        let worker = worker_of(place);
-        let program = &programs[place];
-        match scope.spawn(
-            move || -> Told
-                requires { place < 16 }
-            { work(rt, shared, place, program) },
-        ) {
-            Ok(handle) => handles.push_reserved(Some(handle)),
-            Err(_refused) => {
-                leave(rt, shared.board, shared.woken, worker);
-                handles.push_reserved(None);
-            }
-        }
+    for program in programs {
+        let handle = started(rt, scope, shared, handles.len(), program);
+        handles.push_reserved(handle);
     }
     handles
 }

@@ -1,12 +1,18 @@
 //! What a worker on a thread tells when it has ended.
-use ec_core::Entry;
+use ec_core::{Act, Entry};
 use ec_machine::Outcome;
 
-/// The log of a worker, how its program ended, and how many entries the run had when a step of it
-/// was refused.
+/// What a worker asked for and got no reply to, and how many entries the run had then.
+#[derive(Clone, Copy)]
+pub(crate) struct Asked {
+    pub act: Act,
+    pub moment: usize,
+}
+
+/// The log of a worker, how its program ended, and what it asked for last, where it got no reply.
 #[derive(Drop)]
 pub(crate) struct Told {
     pub log: Vec<Entry>,
     pub outcome: Outcome,
-    pub moment: usize,
+    pub asked: Option<Asked>,
 }

@@ -1,6 +1,7 @@
 //! What a worker waits for.
-ghost use Rattle.std.specs.Prelude.{◌≡◌};
-ghost use Rattle.ec_runner.specs.Boarded.{awaited, past_of};
+ghost use Rattle.std.specs.Prelude.{◌≡◌, ◌<◌, Some, length};
+ghost use Rattle.ec_runner.specs.declared.wait.Wait.{Wait};
+ghost use Rattle.ec_runner.specs.Boarded.{awaited, past_of, unmet};
 
 use ec_core::{Act, Run};
 use ec_count::{EventId, WorkerId};
@@ -13,7 +14,7 @@ pub(crate) struct Wait {
 }
 
 /// The await whose last round fell short, where the worker's latest entry ended it.
-pub(crate) fn awaited(run: &Run, worker: WorkerId) -> Option<Wait>
+fn awaited(run: &Run, worker: WorkerId) -> Option<Wait>
     ensures { result ≡ awaited run.now.setup worker (past_of run.now) }
 {
     let call = run.world().under_way(worker)?;
@@ -21,4 +22,28 @@ pub(crate) fn awaited(run: &Run, worker: WorkerId) -> Option<Wait>
         Act::Await(event, threshold) if call.index() == 0 => Some(Wait { event, threshold }),
         _ => None,
     }
+}
+
+/// The same where the total has not come to the threshold.
+fn unmet(run: &Run, wait: Option<Wait>) -> Option<Wait>
+    requires { (a : Wait) → wait ≡ Some a → a.event < length run.now.setup.events }
+    ensures { result ≡ unmet (past_of run.now) wait }
+{
+    let wait = wait?;
+    let total = run.world().total(wait.event)?;
+    if total < wait.threshold {
+        Some(wait)
+    } else {
+        None
+    }
+}
+
+/// The await of a worker whose last round fell short, where the worker's latest entry ended it and
+/// the total has not come to the threshold since.
+pub(crate) fn unmet_await(run: &Run, worker: WorkerId) -> Option<Wait>
+    ensures { result ≡ unmet (past_of run.now) (awaited run.now.setup worker (past_of run.now)) }
+{
+    run.known();
+    let wait = awaited(run, worker);
+    unmet(run, wait)
 }

@@ -1,11 +1,12 @@
 //! The run held against the logs of the workers.
-ghost use Rattle.std.specs.Prelude.{◌≡◌, ◌≤◌, ◌↔◌, ℕ, List, [], ◌∷◌, ◌++◌, length, slice_get, slice_index, Some, IsTrue, IfNone};
+ghost use Rattle.std.specs.Prelude.{◌≡◌, ◌≢◌, ◌<◌, ◌≤◌, ◌↔◌, ℕ, false, List, [], ◌∷◌, ◌++◌, length, slice_get, slice_index, Some, IsTrue, MatchOption};
 ghost use Rattle.ec_core.specs.declared.act.Entry.{Entry};
 ghost use Rattle.ec_runner.specs.declared.told.Told.{Told};
-ghost use Rattle.ec_runner.specs.Walks.{AreWalked, AreLogsOf};
+ghost use Rattle.ec_runner.specs.Walks.{AreWalked, AreLogsOf, IsUnfinished, IsUnlike};
 
+use crate::ending::worker_of;
 use crate::told::Told;
-use ec_core::{Entry, Run};
+use ec_core::{Entry, Run, accepted_means_answered};
 use ec_count::WorkerId;
 
 fn is_same(entry: &Entry, other: &Entry) -> bool
@@ -16,7 +17,8 @@ fn is_same(entry: &Entry, other: &Entry) -> bool
 
 /// Whether the entry stands in the log at this place.
 fn stands_at(log: &[Entry], at: usize, entry: &Entry) -> bool
-    ensures { IsTrue result → slice_get log.now at ≡ Some entry.now }
+    ensures value { IsTrue result ↔ (slice_get log.now at ≡ Some entry.now) }
+    ensures within { IsTrue result → at < length log.now }
 {
     match log.get(at) {
         Some(found) => is_same(found, entry),
@@ -26,13 +28,14 @@ fn stands_at(log: &[Entry], at: usize, entry: &Entry) -> bool
 
 /// Goes one further in the log of the entry's worker, if the entry is what comes next there.
 fn goes_on(cursors: &mut [usize; 16], tolds: &[Told], entry: &Entry) -> bool
-    ensures { (done : List Entry) → AreWalked tolds.now cursors.old done → IsTrue result → AreWalked tolds.now cursors.new (done ++ entry.now ∷ []) }
+    requires { entry.now.worker < length tolds.now }
+    ensures yes { (done : List Entry) → AreWalked tolds.now cursors.old done → IsTrue result → AreWalked tolds.now cursors.new (done ++ entry.now ∷ []) }
+    ensures no { (done rest : List Entry) → AreWalked tolds.now cursors.old done → result ≡ false
+        → IsUnlike tolds.now (done ++ entry.now ∷ rest) entry.now.worker }
 {
     let w = entry.worker.get();
     let at = cursors[w];
-    let Some(told) = tolds.get(w) else {
-        return false;
-    };
+    let told = &tolds[w];
     if !stands_at(told.log.as_slice(), at, entry) {
         return false;
     }
@@ -43,11 +46,13 @@ fn goes_on(cursors: &mut [usize; 16], tolds: &[Told], entry: &Entry) -> bool
 /// The first worker whose log goes on beyond its cursor.
 fn first_unfinished(cursors: &[usize; 16], tolds: &[Told]) -> Option<WorkerId>
     requires { length tolds.now ≤ 16 }
-    ensures { IfNone result ((w : ℕ) (told : Told) → slice_get tolds.now w ≡ Some told → slice_index cursors.now w ≡ length told.log.items) }
+    ensures { MatchOption result
+        ((w : ℕ) (told : Told) → slice_get tolds.now w ≡ Some told → slice_index cursors.now w ≡ length told.log.items)
+        (IsUnfinished tolds.now cursors.now) }
 {
     for w in 0..tolds.len() {
-        if cursors[w] != tolds[w].log.len() {
-            return Some(WorkerId::new(w).unwrap());
+        if cursors[w] != tolds[w].log.as_slice().len() {
+            return Some(worker_of(w));
         }
     }
     None
@@ -56,9 +61,12 @@ fn first_unfinished(cursors: &[usize; 16], tolds: &[Told]) -> Option<WorkerId>
 /// A worker whose entries in the run are not its log, found in one walk over the entries with a
 /// cursor for each worker.
 pub(crate) fn first_unlike(run: &Run, tolds: &[Told]) -> Option<WorkerId>
-    requires { length tolds.now ≤ 16 }
-    ensures { IfNone result (AreLogsOf tolds.now run.now.entries) }
+    requires few { length tolds.now ≤ 16 }
+    requires each { length tolds.now ≡ run.now.setup.workers }
+    ensures { MatchOption result (AreLogsOf tolds.now run.now.entries) (IsUnlike tolds.now run.now.entries) }
 {
+    run.known();
+    accepted_means_answered();
     let mut cursors = [0; 16];
     for entry in run.entries() {
         if !goes_on(&mut cursors, tolds, &entry) {

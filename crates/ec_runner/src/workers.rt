@@ -1,8 +1,11 @@
 //! Workers on threads of their own.
-ghost use Rattle.std.specs.Prelude.{◌≡◌, ◌+◌, ◌≤◌, map, length, vec_len, vec_capacity, IfOk};
+ghost use Rattle.std.specs.Prelude.{◌≡◌, ℕ, ◌≤◌, map, length, IfOk, MatchResult};
+ghost use Rattle.ec_runner.specs.Fits.{AllFit, IsVerdict};
+ghost use Rattle.ec_runner.specs.Promised.{IsJoined, IsOneMore, AreJoined, AreToldOf, IsWant};
 ghost use Rattle.ec_runner.specs.RunReports.{IsReportOf};
 
 use crate::board::Board;
+use crate::duty::Duty;
 use crate::gate::Gate;
 use crate::mismatch::mismatched;
 use crate::report::Report;
@@ -16,7 +19,7 @@ use ec_script::Plan;
 use std::alloc::{AllocError, Global};
 use std::sync::{Condvar, Mutex, Wait};
 use std::thread;
-use std::thread::{JoinHandle, Threads};
+use std::thread::{PromisedHandle, Scope, Threads};
 
 /// The report of a run and what its workers tell.
 fn made_report(alloc: Global, run: Run, tolds: Vec<Told>) -> Result<Report, AllocError>
@@ -37,11 +40,11 @@ fn made_report(alloc: Global, run: Run, tolds: Vec<Told>) -> Result<Report, Allo
     })
 }
 
-/// What one more worker tells, behind the others.
-fn with_told(
-    tolds: Result<Vec<Told>, RunFault>,
-    told: Option<Told>,
-) -> Result<Vec<Told>, RunFault> {
+/// What one more worker tells, behind the others. A thread that was not started comes before want of
+/// memory.
+fn with_told(tolds: Result<Vec<Told>, RunFault>, told: Option<Told>) -> Result<Vec<Told>, RunFault>
+    ensures { IsOneMore tolds told result }
+{
     let Some(told) = told else {
         return Err(RunFault::Spawn);
     };
@@ -52,18 +55,63 @@ fn with_told(
     }
 }
 
+/// What a thread tells, if it was started.
+fn joined<R: Threads>(rt: &R, handle: Option<PromisedHandle<Told, Duty<'_>>>) -> Option<Told>
+    ensures { IsJoined handle.entry result }
+{
+    match handle {
+        Some(handle) => Some(handle.join(rt)),
+        None => None,
+    }
+}
+
 /// Joins all threads, and gives what their workers tell, in order.
 fn join_each<R: Threads>(
     rt: &R,
     alloc: Global,
-    handles: Vec<Option<JoinHandle<Told>>>,
-) -> Result<Vec<Told>, RunFault> {
+    handles: Vec<Option<PromisedHandle<Told, Duty<'_>>>>,
+) -> Result<Vec<Told>, RunFault>
+    ensures { AreJoined handles.entry.items result }
+{
     let mut tolds = Ok(Vec::new(alloc));
     for handle in handles {
-        let told = handle.map(|h| h.join(rt));
+        let told = joined(rt, handle);
         tolds = with_told(tolds, told);
     }
     tolds
+}
+
+/// Starts a thread for each program, and joins them all.
+fn start_and_join<'s, E: 's, R: Threads + Wait + Sync, G: Gate + Sync>(
+    rt: &'s R,
+    scope: &Scope<'s, E>,
+    board: &'s Mutex<Board>,
+    sleeps: &'s [Condvar; 16],
+    programs: &'s [Program],
+    gate: &'s G,
+    turns: u64,
+    alloc: Global,
+) -> Result<Vec<Told>, RunFault>
+    requires { length programs.now ≤ 16 }
+    ensures { MatchResult result (λ v. AreToldOf programs.now turns v.items) IsWant }
+{
+    let Ok(room) = Vec::with_capacity(alloc, programs.len()) else {
+        return Err(RunFault::Memory);
+    };
+    let shared = Shared {
+        board,
+        sleeps,
+        gate,
+        turns,
+        alloc,
+    };
+    let handles = start_each(rt, scope, shared, programs, room);
+    join_each(rt, alloc, handles)
+}
+
+/// What each worker sleeps on.
+fn sleeps() -> [Condvar; 16] {
+    std::array::from_fn(|_| Condvar::new())
 }
 
 /// Runs each program in a thread of its own, all at once, on one board. The run is that of the board
@@ -77,34 +125,40 @@ fn ran<R: Threads + Wait + Sync, G: Gate + Sync>(
     turns: u64,
 ) -> Result<(Run, Vec<Told>), RunFault>
     requires { length programs.now ≤ 16 }
+    ensures { MatchResult result (λ r. AreToldOf programs.now turns r.1.items) IsWant }
 {
     let Ok(board) = Board::open(alloc, setup.copy()) else {
         return Err(RunFault::Memory);
     };
-    let Ok(room) = Vec::with_capacity(alloc, programs.len()) else {
-        return Err(RunFault::Memory);
-    };
     let board = Mutex::new(board);
-    let woken = Condvar::new();
-    let shared = Shared {
-        board: &board,
-        woken: &woken,
-        gate,
-        turns,
-        alloc,
-    };
+    let sleeps = sleeps();
+    let lock = &board;
+    let beds = &sleeps;
     let tolds = thread::scope(
         thread::scope_env(),
         rt,
         |scope| -> Result<Vec<Told>, RunFault>
-            requires few { length programs.now ≤ 16 }
-            requires room { vec_len room + length programs.now ≤ vec_capacity room }
-        {
-            let handles = start_each(rt, scope, shared, programs, room);
-            join_each(rt, alloc, handles)
-        },
+            requires { length programs.now ≤ 16 }
+            ensures { MatchResult result (λ v. AreToldOf programs.entry.now turns v.items) IsWant }
+        { start_and_join(rt, scope, lock, beds, programs, gate, turns, alloc) },
     )?;
     Ok((board.into_inner().into_run(), tolds))
+}
+
+/// What is told of a run: its report, where what the workers tell fits it, and else the mismatch.
+fn reported(alloc: Global, setup: &Setup, run: Run, tolds: Vec<Told>) -> Result<Report, RunFault>
+    requires few { length tolds.items ≤ 16 }
+    requires each { length tolds.items ≡ setup.now.workers }
+    ensures { IsVerdict result setup.now run tolds.items }
+{
+    match mismatched(setup, &run, tolds.as_slice()) {
+        Some(worker) => return Err(RunFault::Mismatch(worker)),
+        None => {}
+    }
+    match made_report(alloc, run, tolds) {
+        Ok(report) => Ok(report),
+        Err(_) => Err(RunFault::Memory),
+    }
 }
 
 /// Runs programs of the workers of these declarations, each in a thread of its own.
@@ -121,22 +175,15 @@ fn run_on<R: Threads + Wait + Sync, G: Gate + Sync>(
 {
     let _workers = setup.workers();
     let (run, tolds) = ran(rt, alloc, setup, programs, gate, turns)?;
-    match mismatched(setup, programs, turns, &run, tolds.as_slice()) {
-        Some(worker) => return Err(RunFault::Mismatch(worker)),
-        None => {}
-    }
-    match made_report(alloc, run, tolds) {
-        Ok(report) => Ok(report),
-        Err(_) => Err(RunFault::Memory),
-    }
+    reported(alloc, setup, run, tolds)
 }
 
 /// Runs the programs of a plan, each worker's in a thread of its own, all at once, on one board
 /// under one lock; the plan's schedule is not used. A turn is one step that a worker asks the board
 /// for, in one hold of the lock, and no worker has more than `turns`. Where a worker's await has
-/// fallen short it sleeps until the total may have come to its threshold, or until no live worker is
-/// left that doesn't wait. The gate is called before each hold. When all have ended, what they were
-/// told is held against the run and against their programs.
+/// fallen short it sleeps until the total has come to its threshold, or until no live worker is left
+/// that doesn't wait. The gate is called before each hold. When all have ended, what they were told
+/// is held against the run.
 pub fn run_workers<R: Threads + Wait + Sync, G: Gate + Sync>(
     rt: &R,
     alloc: Global,

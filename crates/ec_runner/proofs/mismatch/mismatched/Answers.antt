@@ -1,13 +1,29 @@
-use Rattle.std.proofs.Common.{sym, ◌∙◌}
-use Rattle.ec_runner.proofs.Walking.{then_none}
+use Rattle.std.proofs.Common.{inl, inr, ap, sym, ◌∙◌}
+use Rattle.ec_count.specs.Tables.{Tables}
+use Rattle.ec_runner.proofs.Walking.{then_match}
 use Rattle.ec_runner.proofs.mismatch.mismatched.Goals as goal
+
+pub first_unlike-requires-clause-each : goal.first_unlike-requires-clause-each
+first_unlike-requires-clause-each c = c.requires.each ∙ ap (λ (t : Tables). t.workers) (sym (c.are_same.ensures.0 c.if-not-are_same.false) ∙ c.setup.ensures)
+
+pub returns-then-not-are_same : goal.returns-then-not-are_same
+returns-then-not-are_same c = inl (
+  λ same. (let yes = c.are_same.ensures.1 (c.setup.ensures ∙ same) in let no = c.if-not-are_same.true in cc),
+  c.worker_of.ensures,
+)
+
+pub returns-in-Some : goal.returns-in-Some
+returns-in-Some c =
+    let u = c.in-Some.ensures in
+    inr (record { told = u.told; at = u.at; not = λ fits. u.not fits.entries })
 
 pub returns-in-None : goal.returns-in-None
 returns-in-None c =
-    then_none c.first_untold.result
+    let logs = c.in-None.ensures in
+    then_match c.first_not_borne_out.result
     (λ each. record {
       setup = sym c.setup.ensures ∙ c.are_same.ensures.0 c.if-not-are_same.false;
-      many = c.if-tolds-workers.false ∙ c.workers.ensures.value;
-      told = each;
+      each = λ w told is. record { entries = logs w told is; ended = each w told is };
     })
-    c.first_untold.ensures
+    (λ w u. inr (record { told = u.told; at = u.at; not = λ fits. u.not fits.ended }))
+    c.first_not_borne_out.ensures

@@ -1,14 +1,23 @@
-use Rattle.std.proofs.Common.{List, take, sym, ◌∙◌, subst}
+use Rattle.std.proofs.Common.{◌≡◌, List, Some, Ok, slice_get, take, sym, ◌∙◌, subst}
+use Rattle.ec_count.specs.Tables.{Tables}
 use Rattle.ec_core.specs.declared.act.Entry.{Entry}
+use Rattle.ec_core.specs.Acceptance.{answer_of}
+use Rattle.ec_core.specs.Counts.{past_at}
 use Rattle.ec_core.specs.Standing.{StandsFor}
 use Rattle.ec_runner.proofs.Walking.{take_next}
 use Rattle.ec_runner.proofs.refused.world_at.Goals as goal
 
 pub loop-i-preserved : goal.loop-i-preserved
 loop-i-preserved c =
-    let h = c.args.run.now.entries in
+    let run = c.args.run.now in
+    let h = run.entries in
+    let i = c.loop-i.i in
+    let x = c.in-Some.entry in
+    let there : slice_get h i ≡ Some x = sym c.in-Some.ensures in
+    let right : answer_of run.setup (past_at i h) x.worker x.act ≡ Ok x.reply = (c.accepted_means_answered.ensures run.setup h).0 c.known.ensures.accepted i x there in
     record {
-      stands = subst (λ (done : List Entry). StandsFor c.makes.new.world done) (sym (take_next h c.loop-i.i c.in_ok-entry.entry (sym c.in_ok-entry.ensures)))
-          (c.makes.ensures.stands (take c.loop-i.i h) c.loop-i.invariant.stands c.if-not-makes.false);
-      setup = c.makes.ensures.setup ∙ c.loop-i.invariant.setup;
+      stands = subst (λ (done : List Entry). StandsFor c.make.new.world done) (sym (take_next h i x there))
+          (c.make.ensures.stands (take i h) c.loop-i.invariant.stands
+          (subst (λ (t : Tables). answer_of t (past_at i h) x.worker x.act ≡ Ok x.reply) (sym c.loop-i.invariant.setup) right));
+      setup = c.make.ensures.setup ∙ c.loop-i.invariant.setup;
     }

@@ -1,22 +1,38 @@
-use Rattle.std.proofs.Common.{◌≡◌, ◌<◌, ℕ, ◌∷◌, ◌++◌, [], Some, slice_get, slice_set, slice_index, sym, ◌∙◌, ap, subst, ◌+◌}
-use Rattle.std.proofs.lemmas.Option.{slice_get-get_or}
+use Rattle.std.proofs.Common.{◌≡◌, ◌≢◌, ◌<◌, ℕ, ◌∷◌, ◌++◌, [], Some, length, slice_get, slice_set, slice_index, sym, ◌∙◌, ap, subst, ◌+◌}
 use Rattle.ec_runner.specs.Walks.{AreWalked}
-use Rattle.ec_runner.proofs.Walking.{walks}
+use Rattle.ec_runner.proofs.Walking.{index_is, walks, unlike}
 use Rattle.ec_runner.proofs.walk.goes_on.Goals as goal
 
-pub returns : goal.returns
-returns c = λ done walked yes.
-    (let told = c.in-Some.told.now in
+pub returns-then-not-stands_at-clause-no : goal.returns-then-not-stands_at-clause-no
+returns-then-not-stands_at-clause-no c = λ done rest walked no.
+    (let told = c.index-tolds-w.result in
     let tolds = c.args.tolds.now in
     let cursors = c.args.cursors.now in
     let x = c.args.entry.now in
     let w = c.get-w.result in
     let is : w ≡ x.worker = c.get-w.ensures.value in
-    let found = c.in-Some.ensures.lookup in
-    let there : slice_get tolds w ≡ Some told = slice_get-get_or tolds w told found.3.0 ∙ ap (λ t. Some t) (sym found.1) in
+    let within : w < length tolds = subst (λ (v : ℕ). v < length tolds) (sym is) c.requires in
+    let there : slice_get tolds x.worker ≡ Some told = ap (slice_get tolds) (sym is) ∙ index_is tolds w told c.index-tolds-w.is within in
+    let not : slice_get told.log.items (slice_index cursors x.worker) ≢ Some x =
+    λ e.
+    (let yes = c.stands_at.ensures.value.1
+    (ap (λ xs. slice_get xs (slice_index cursors w)) c.as_slice.ensures.value ∙ ap (λ v. slice_get told.log.items (slice_index cursors v)) is ∙ e) in
+    let false_is = c.if-not-stands_at.true in
+    cc) in
+    unlike tolds cursors done rest x told walked there not)
+
+pub returns-clause-yes : goal.returns-clause-yes
+returns-clause-yes c = λ done walked yes.
+    (let told = c.index-tolds-w.result in
+    let tolds = c.args.tolds.now in
+    let cursors = c.args.cursors.now in
+    let x = c.args.entry.now in
+    let w = c.get-w.result in
+    let is : w ≡ x.worker = c.get-w.ensures.value in
+    let within : w < length tolds = subst (λ (v : ℕ). v < length tolds) (sym is) c.requires in
     let next : slice_get told.log.items (slice_index cursors w) ≡ Some x =
-    ap (λ xs. slice_get xs (slice_index cursors w)) (sym c.as_slice.ensures.value) ∙ c.stands_at.ensures c.if-not-stands_at.false in
+    ap (λ xs. slice_get xs (slice_index cursors w)) (sym c.as_slice.ensures.value) ∙ c.stands_at.ensures.value.0 c.if-not-stands_at.false in
     subst (λ (v : ℕ). AreWalked tolds (slice_set cursors v (slice_index cursors v + 1)) (done ++ x ∷ [])) (sym is)
     (walks tolds cursors done x told walked (subst (λ (v : ℕ). v < 16) is c.get-w.ensures.small)
-    (ap (slice_get tolds) (sym is) ∙ there)
+    (ap (slice_get tolds) (sym is) ∙ index_is tolds w told c.index-tolds-w.is within)
     (ap (λ v. slice_get told.log.items (slice_index cursors v)) (sym is) ∙ next)))

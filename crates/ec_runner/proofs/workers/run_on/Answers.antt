@@ -1,13 +1,16 @@
-use Rattle.std.proofs.Common.{List, subst}
-use Rattle.ec_runner.specs.declared.told.Told.{Told}
-use Rattle.ec_runner.specs.Walks.{AreTold}
-use Rattle.ec_runner.proofs.Telling.{report_of}
+use Rattle.std.proofs.Common.{◌≡◌, length, ◌∙◌, arith}
+use Rattle.ec_runner.proofs.Promising.{told_many}
+use Rattle.ec_runner.proofs.Telling.{verdict_report}
 use Rattle.ec_runner.proofs.workers.run_on.Goals as goal
 
-pub returns-in-Ok : goal.returns-in-Ok
-returns-in-Ok g c =
-    let run = c.in_ok-run.run' in
-    let made = c.in-Ok.ensures in
-    report_of c.args.setup.now c.args.programs.now c.args.turns run c.in_ok-run.tolds.items c.in-Ok.report
-    (subst (λ (tolds : List Told). AreTold c.args.setup.now c.args.programs.now c.args.turns run tolds) c.as_slice.ensures.value c.in-None.ensures)
-    made.run made.logs made.outcomes
+pub reported-requires-clause-few : goal.reported-requires-clause-few
+reported-requires-clause-few g c =
+    let many : length c.in_ok-run.tolds.items ≡ length c.args.programs.now = told_many c.args.programs.now c.args.turns c.in_ok-run.tolds.items c.in_ok-run.ensures in
+    omega (arith, many, c.requires)
+
+pub reported-requires-clause-each : goal.reported-requires-clause-each
+reported-requires-clause-each g c = told_many c.args.programs.now c.args.turns c.in_ok-run.tolds.items c.in_ok-run.ensures ∙ c.requires
+
+pub returns : goal.returns
+returns g c =
+    verdict_report c.args.setup.now c.args.programs.now c.args.turns c.in_ok-run.run' c.in_ok-run.tolds.items c.reported.result c.requires c.in_ok-run.ensures c.reported.ensures

@@ -1,0 +1,168 @@
+-- Who is woken by a hold.
+use Rattle.std.proofs.Common.{◌≡◌, ◌≢◌, ℕ, zero, suc, ◌+◌, ◌<◌, Bool, true, false, ◌==◌, ◌&&◌, not, List, [], ◌∷◌, ◌++◌, length, map, reverse, Option, Some, None, unwrap_or, slice_get, slice_set, cond, refl, ap, sym, ◌∙◌, arith}
+use Rattle.std.proofs.lemmas.Bool.{eqb-true, eqb-false}
+use Rattle.std.proofs.lemmas.Bool.Decides.{nat_tests}
+use Rattle.ec_core.specs.declared.act.Act.{Act}
+use Rattle.ec_core.specs.declared.act.Act.TheVariants as acts
+use Rattle.ec_core.specs.declared.act.Entry.{Entry}
+use Rattle.ec_core.specs.declared.act.Reply.{Reply}
+use Rattle.ec_core.specs.Calls.{is_pending}
+use Rattle.ec_core.specs.Counts.{total}
+use Rattle.ec_core.proofs.shared.Places.{get_set}
+use Rattle.ec_runner.specs.declared.holding.Next.{Next}
+use Rattle.ec_runner.specs.declared.holding.Next.TheVariants as next
+use Rattle.ec_runner.specs.declared.seat.Seat.{Seat}
+use Rattle.ec_runner.specs.declared.seat.Seat.TheVariants.{Gone, Running, Waiting}
+use Rattle.ec_runner.specs.declared.wait.Wait.{Wait}
+use Rattle.ec_runner.specs.Seated.{is_waiting, kept, seat_of, woken}
+use Rattle.ec_runner.specs.Boarded.{Boarded, after_entry, wait_of}
+use Rattle.ec_runner.specs.Holds.{is_advance, is_asleep, is_woken, waiting_for, parked, after_hold, is_sleep, IsMade, IsNext}
+
+below : (n k : ℕ) → (n == k) ≡ false → k < n + 1 → k < n
+below n k e h = grind (arith, nat_tests)
+
+-- a table that is filled from the first place on
+pub set_below : {X : Type 0} (xs : List X) (f : ℕ → X) (n : ℕ) (y : X) → n < length xs → ((k : ℕ) → k < n → slice_get xs k ≡ Some (f k)) → y ≡ f n
+    → (k : ℕ) → k < n + 1 → slice_get (slice_set xs n y) k ≡ Some (f k)
+set_below xs f n y within h is k lt =
+    get_set xs n k y within
+    ∙ (elim (n == k) as (λ b. (n == k) ≡ b → cond b (Some y) (slice_get xs k) ≡ Some (f k)) [
+      | true ↦ λ e. ap (λ v. Some v) (is ∙ ap f (eqb-true n k e))
+      | false ↦ λ e. h k (below n k e lt)
+    ] refl)
+
+get_other : (xs : List Seat) (i j : ℕ) (y : Seat) → i ≢ j → slice_get (slice_set xs i y) j ≡ slice_get xs j
+get_other [] i j y h = refl
+get_other (x ∷ xs) zero zero y h = absurd (h refl)
+get_other (x ∷ xs) zero (suc j) y h = refl
+get_other (x ∷ xs) (suc i) zero y h = refl
+get_other (x ∷ xs) (suc i) (suc j) y h = get_other xs i j y (λ e. h (ap suc e))
+
+none_let_go : (act : Act) (past : List Entry) (seats : List Seat) → is_advance act ≡ false → woken act past seats ≡ seats
+none_let_go (acts.Advance e) past seats h = cc
+none_let_go (acts.Read e) past seats h = refl
+none_let_go (acts.Await e v) past seats h = refl
+none_let_go acts.Go past seats h = refl
+none_let_go (acts.Ticket q) past seats h = refl
+none_let_go (acts.Put x v) past seats h = refl
+none_let_go (acts.Get x) past seats h = refl
+
+wait_stays : (d : Boarded) (w v : ℕ) (o : Option Wait) → w ≢ v → slice_get (waiting_for d w o).seats v ≡ slice_get d.seats v
+wait_stays d w v None not = refl
+wait_stays d w v (Some a) not = get_other d.seats w v (Waiting a.event a.threshold) not
+
+hold_stays : (b : Boarded) (w v : ℕ) (act : Act) (may_park : Bool) (reply : Reply) → is_advance act ≡ false → w ≢ v
+    → slice_get (after_hold b w act may_park reply).seats v ≡ slice_get b.seats v
+hold_stays b w v act may_park reply quiet not =
+    let x : Entry = record { worker = w; act = act; reply = reply } in
+    let d : Boarded = after_entry b x in
+    let step : slice_get d.seats v ≡ slice_get b.seats v =
+    ap (λ (xs : List Seat). slice_get xs v) (none_let_go act (reverse (b.run.entries ++ x ∷ [])) (slice_set b.seats w Running) quiet) ∙ get_other b.seats w v Running not in
+    elim (may_park && is_pending reply) as (λ (t : Bool). slice_get (cond t (parked d w) d).seats v ≡ slice_get b.seats v) [
+      | true ↦ wait_stays d w v (wait_of d w) not ∙ step
+      | false ↦ step
+    ]
+
+made_stays : (b d : Boarded) (w v : ℕ) (act : Act) (may_park : Bool) (reply : Reply) → is_advance act ≡ false → w ≢ v → IsMade reply b w act may_park d
+    → slice_get d.seats v ≡ slice_get b.seats v
+made_stays b d w v act may_park reply quiet not made =
+    ap (λ (c : Boarded). slice_get c.seats v) made.board ∙ hold_stays b w v act may_park reply quiet not
+
+-- a hold without an advance changes nobody else's seat
+pub others_stay : (n : Next) (b d : Boarded) (w : ℕ) (act : Act) (may_park : Bool) → is_advance act ≡ false → IsNext n b w act may_park d
+    → (v : ℕ) → w ≢ v → slice_get d.seats v ≡ slice_get b.seats v
+others_stay (next.GoOn reply) b d w act may_park quiet h v not = made_stays b d w v act may_park reply quiet not h.0
+others_stay (next.Sleep reply) b d w act may_park quiet h v not = made_stays b d w v act may_park reply quiet not h.0
+others_stay (next.Leave outcome moment) b d w act may_park quiet h v not = ap (λ (c : Boarded). slice_get c.seats v) h.0
+
+-- who is woken where nobody else's seat is changed, by the flags before and after
+woken_by : (b d : Boarded) (w : ℕ) (s t : Bool) → b.stuck ≡ s → d.stuck ≡ t → ((v : ℕ) → w ≢ v → slice_get d.seats v ≡ slice_get b.seats v) → (v : ℕ)
+    → is_woken b w d v ≡ (not (v == w) && ((is_waiting (seat_of d.seats v) && not s) && not (is_waiting (seat_of d.seats v) && not t)))
+woken_by b d w s t was is same v =
+    let sits : Bool = is_waiting (seat_of d.seats v) in
+    elim (v == w) as (λ (e : Bool). (v == w) ≡ e → (not e && (is_asleep b v && not (is_asleep d v))) ≡ (not e && ((sits && not s) && not (sits && not t)))) [
+      | true ↦ λ e. refl
+      | false ↦ λ e.
+          (let seat : is_waiting (seat_of b.seats v) ≡ sits =
+          ap (λ (o : Option Seat). is_waiting (unwrap_or o Gone)) (sym (same v (λ k. eqb-false v w e (sym k)))) in
+          ap (λ (x : Bool). (x && not b.stuck) && not (sits && not d.stuck)) seat
+          ∙ ap (λ (x : Bool). (sits && not x) && not (sits && not d.stuck)) was
+          ∙ ap (λ (x : Bool). (sits && not s) && not (sits && not x)) is)
+    ] refl
+
+was_stuck : (x y z : Bool) → (x && ((y && not true) && z)) ≡ false
+was_stuck false y z = refl
+was_stuck true false z = refl
+was_stuck true true z = refl
+
+-- nobody is woken on a board that was stuck
+pub none_slept : (b d : Boarded) (w : ℕ) → b.stuck ≡ true → (v : ℕ) → is_woken b w d v ≡ false
+none_slept b d w was v =
+    ap (λ (s : Bool). not (v == w) && ((is_waiting (seat_of b.seats v) && not s) && not (is_asleep d v))) was
+    ∙ was_stuck (not (v == w)) (is_waiting (seat_of b.seats v)) (not (is_asleep d v))
+
+sleeps_on : (x y : Bool) → (x && ((y && not false) && not (y && not false))) ≡ false
+sleeps_on false y = refl
+sleeps_on true false = refl
+sleeps_on true true = refl
+
+-- nor where the board is not stuck yet
+pub none_released : (b d : Boarded) (w : ℕ) → b.stuck ≡ false → d.stuck ≡ false → ((v : ℕ) → w ≢ v → slice_get d.seats v ≡ slice_get b.seats v)
+    → (v : ℕ) → is_woken b w d v ≡ false
+none_released b d w was is same v =
+    woken_by b d w false false was is same v ∙ sleeps_on (not (v == w)) (is_waiting (seat_of d.seats v))
+
+sleeps_no_more : (x y : Bool) → (x && ((y && not false) && not (y && not true))) ≡ (x && y)
+sleeps_no_more false y = refl
+sleeps_no_more true false = refl
+sleeps_no_more true true = refl
+
+-- where it has come to be stuck, all who wait are
+pub all_released : (b d : Boarded) (w : ℕ) → b.stuck ≡ false → d.stuck ≡ true → ((v : ℕ) → w ≢ v → slice_get d.seats v ≡ slice_get b.seats v)
+    → (v : ℕ) → is_woken b w d v ≡ (not (v == w) && is_waiting (seat_of d.seats v))
+all_released b d w was is same v =
+    woken_by b d w false true was is same v ∙ sleeps_no_more (not (v == w)) (is_waiting (seat_of d.seats v))
+
+runs_on : (e sum : ℕ) (seats : List Seat) (w : ℕ) → is_waiting (seat_of (map (kept e sum) (slice_set seats w Running)) w) ≡ false
+runs_on e sum [] w = refl
+runs_on e sum (s ∷ seats) zero = refl
+runs_on e sum (s ∷ seats) (suc w) = runs_on e sum seats w
+
+not_asleep : (x y : Bool) → x ≡ false → (x && y) ≡ false
+not_asleep true y h = cc
+not_asleep false y h = refl
+
+awake : (b d : Boarded) (w e : ℕ) (may_park : Bool) (reply : Reply) → IsMade reply b w (acts.Advance e) may_park d → is_asleep d w ≡ false
+awake b d w e may_park reply made =
+    let x : Entry = record { worker = w; act = acts.Advance e; reply = reply } in
+    let entries : List Entry = b.run.entries ++ x ∷ [] in
+    let after : d ≡ after_entry b x =
+    made.board ∙ (elim may_park as (λ (t : Bool). cond (t && is_pending reply) (parked (after_entry b x) w) (after_entry b x) ≡ after_entry b x) [
+      | true ↦ ap (λ (r : Reply). cond (is_pending r) (parked (after_entry b x) w) (after_entry b x)) made.kind
+      | false ↦ refl
+    ]) in
+    not_asleep (is_waiting (seat_of d.seats w)) (not d.stuck)
+    (ap (λ (c : Boarded). is_waiting (seat_of c.seats w)) after ∙ runs_on e (total e (reverse entries)) b.seats w)
+
+-- who made an advance doesn't go to sleep
+pub advancer_awake : (n : Next) (b d : Boarded) (w : ℕ) (act : Act) (may_park : Bool) → is_advance act ≡ true → IsNext n b w act may_park d → is_sleep n ≡ false
+advancer_awake (next.GoOn reply) b d w act may_park a h = refl
+advancer_awake (next.Leave outcome moment) b d w act may_park a h = refl
+advancer_awake (next.Sleep reply) b d w (acts.Advance e) may_park a h = (let no = awake b d w e may_park reply h.0 in let yes = h.1 in cc)
+advancer_awake (next.Sleep reply) b d w (acts.Read e) may_park a h = cc
+advancer_awake (next.Sleep reply) b d w (acts.Await e v) may_park a h = cc
+advancer_awake (next.Sleep reply) b d w acts.Go may_park a h = cc
+advancer_awake (next.Sleep reply) b d w (acts.Ticket q) may_park a h = cc
+advancer_awake (next.Sleep reply) b d w (acts.Put x v) may_park a h = cc
+advancer_awake (next.Sleep reply) b d w (acts.Get x) may_park a h = cc
+
+free_below : (x s : Bool) → (x && not s) ≡ true → s ≡ false
+free_below false s h = cc
+free_below true false h = refl
+free_below true true h = cc
+
+-- where somebody sleeps the board isn't stuck
+pub asleep_free : (n : Next) (b d : Boarded) (w : ℕ) (act : Act) (may_park : Bool) → IsNext n b w act may_park d → is_sleep n ≡ true → d.stuck ≡ false
+asleep_free (next.GoOn reply) b d w act may_park h s = cc
+asleep_free (next.Leave outcome moment) b d w act may_park h s = cc
+asleep_free (next.Sleep reply) b d w act may_park h s = free_below (is_waiting (seat_of d.seats w)) d.stuck h.1

@@ -1,0 +1,13 @@
+use Rattle.std.proofs.Common.{◌≡◌, ◌≤◌}
+use Rattle.ec_machine.specs.Standing.{kept_outcome}
+use Rattle.ec_runner.specs.Works.{Works, HasHad, IsAsked}
+use Rattle.ec_runner.proofs.threads.work_through.Given as goal
+
+abbrev pub invariant-loop : goal.invariant-loop
+invariant-loop g l = record {
+  steps : l.steps ≤ l.counter;
+  end : l.end ≡ l.shared.turns;
+  works : Works l.program l.machine l.log.items;
+  had : HasHad l.counter l.machine l.log.items;
+  asked : IsAsked (kept_outcome l.machine) l.program l.log.items l.asked;
+}

@@ -1,0 +1,75 @@
+-- What a worker tells, held against the run.
+use Rattle.std.specs.Prelude.{◌≡◌, ◌≢◌, ℕ, ◌≤◌, ◌⊎◌, List, length, map, take, Option, Some, None, Result, Ok, Err, slice_get}
+use Rattle.ec_count.specs.Tables.{Tables}
+use Rattle.ec_core.specs.declared.act.Refusal.{Refusal}
+use Rattle.ec_core.specs.Recorded.{Recorded}
+use Rattle.ec_core.specs.Acceptance.{answer_of}
+use Rattle.ec_core.specs.Counts.{past_at}
+use Rattle.ec_machine.specs.declared.outcome.Outcome.{Outcome}
+use Rattle.ec_machine.specs.declared.outcome.Outcome.TheVariants as outcomes
+use Rattle.ec_machine.specs.Steps.{own}
+use Rattle.ec_runner.specs.declared.report.Report.{Report}
+use Rattle.ec_runner.specs.declared.run_fault.RunFault.{RunFault}
+use Rattle.ec_runner.specs.declared.run_fault.RunFault.TheVariants as faults
+use Rattle.ec_runner.specs.declared.told.Asked.{Asked}
+use Rattle.ec_runner.specs.declared.told.Told.{Told}
+use Rattle.ec_runner.specs.RunReports.{IsCaught}
+
+-- w had made all its steps by a moment of the run
+pub record IsDoneBy (run : Recorded) (moment w : ℕ) : Type 0 where
+  pub within : moment ≤ length run.entries
+  pub whole : own w (take moment run.entries) ≡ own w run.entries
+
+-- what w asked for was refused with r at its moment, by which all its steps were made
+pub record IsRefusedSo (run : Recorded) (w : ℕ) (r : Refusal) (a : Asked) : Type 0 where
+  pub done : IsDoneBy run a.moment w
+  pub refused : answer_of run.setup (past_at a.moment run.entries) w a.act ≡ Err r
+
+abbrev pub WasRefusedSo : Recorded → ℕ → Refusal → Option Asked → Type 0
+WasRefusedSo run w r None = ⊥
+WasRefusedSo run w r (Some a) = IsRefusedSo run w r a
+
+-- the run bears out why the program of w was cut off
+abbrev pub IsBorneOut : Outcome → Recorded → ℕ → Option Asked → Type 0
+IsBorneOut (outcomes.Refused r) run w asked = WasRefusedSo run w r asked
+IsBorneOut outcomes.Stopped run w asked = IsCaught run w
+IsBorneOut _ run w asked = Unit {0}
+
+-- WHAT w TELLS FITS THE RUN: its log is its entries there, and the run bears out how it ended
+pub record Fits (run : Recorded) (w : ℕ) (t : Told) : Type 0 where
+  pub entries : own w run.entries ≡ t.log.items
+  pub ended : IsBorneOut t.outcome run w t.asked
+
+-- the run is on these declarations, and what each worker tells fits it
+pub record AllFit (t : Tables) (run : Recorded) (tolds : List Told) : Type 0 where
+  pub setup : run.setup ≡ t
+  pub each : (w : ℕ) (told : Told) → slice_get tolds w ≡ Some told → Fits run w told
+
+-- what is told at a place does not fit
+pub record IsMisfit (run : Recorded) (tolds : List Told) (w : ℕ) : Type 0 where
+  pub told : Told
+  pub at : slice_get tolds w ≡ Some told
+  pub not : Fits run w told → ⊥
+
+-- how the worker of a place ended is not borne out
+pub record IsUnborne (run : Recorded) (tolds : List Told) (w : ℕ) : Type 0 where
+  pub told : Told
+  pub at : slice_get tolds w ≡ Some told
+  pub not : IsBorneOut told.outcome run w told.asked → ⊥
+
+-- A MISMATCH OF w: the run is on other declarations, and w is the first worker; or what w tells does not fit
+abbrev pub IsMismatch : Tables → Recorded → List Told → ℕ → Type 0
+IsMismatch t run tolds w = ((run.setup ≢ t) × (w ≡ 0)) ⊎ IsMisfit run tolds w
+
+-- the report is of this run and of what its workers tell
+pub record IsOf (run : Recorded) (tolds : List Told) (r : Report) : Type 0 where
+  pub same : r.run ≡ run
+  pub logs : r.logs.items ≡ map (λ (d : Told). d.log) tolds
+  pub outcomes : r.outcomes.items ≡ map (λ (d : Told). d.outcome) tolds
+
+-- THE VERDICT: a report or want of memory where all fits, and the mismatch where something doesn't
+abbrev pub IsVerdict : Result Report RunFault → Tables → Recorded → List Told → Type 0
+IsVerdict (Ok r) t run tolds = AllFit t run tolds × IsOf run tolds r
+IsVerdict (Err (faults.Mismatch w)) t run tolds = IsMismatch t run tolds w
+IsVerdict (Err faults.Memory) t run tolds = AllFit t run tolds
+IsVerdict (Err faults.Spawn) t run tolds = ⊥

@@ -1,0 +1,80 @@
+-- One hold of a board by a worker.
+use Rattle.std.specs.Prelude.{◌≡◌, ℕ, ◌<◌, Bool, true, false, ◌==◌, ◌&&◌, not, List, length, Option, Some, None, Ok, Err, IsOk, if◌then◌else◌, slice_get}
+use Rattle.ec_core.specs.declared.act.Act.{Act}
+use Rattle.ec_core.specs.declared.act.Act.TheVariants.{Advance}
+use Rattle.ec_core.specs.declared.act.Reply.{Reply}
+use Rattle.ec_core.specs.Calls.{is_pending}
+use Rattle.ec_core.specs.Procedures.{IsReply}
+use Rattle.ec_machine.specs.declared.outcome.Outcome.{Outcome}
+use Rattle.ec_machine.specs.declared.outcome.Outcome.TheVariants as outcomes
+use Rattle.ec_runner.specs.declared.seat.Seat.TheVariants.{Waiting}
+use Rattle.ec_runner.specs.declared.wait.Wait.{Wait}
+use Rattle.ec_runner.specs.declared.holding.Next.{Next}
+use Rattle.ec_runner.specs.declared.holding.Next.TheVariants as next
+use Rattle.ec_runner.specs.Seated.{is_waiting, seat_of}
+use Rattle.ec_runner.specs.Works.{IsStop}
+use Rattle.ec_runner.specs.Boarded.{Boarded, after_entry, with_seat, wait_of, is_stopped, answer_on}
+
+-- whether w is to sleep: it is a waiter, and somebody may still let it go
+abbrev pub is_asleep : Boarded → ℕ → Bool
+is_asleep b w = is_waiting (seat_of b.seats w) && not b.stuck
+
+-- whether v is to be woken by what w did to a board: its sleep ends there
+abbrev pub is_woken : Boarded → ℕ → Boarded → ℕ → Bool
+is_woken b w d v = not (v == w) && (is_asleep b v && not (is_asleep d v))
+
+-- just those are woken, and nobody where there is no table
+abbrev pub AreWoken : Option (List Bool) → Boarded → ℕ → Boarded → Type 0
+AreWoken None b w d = (v : ℕ) → v < 16 → is_woken b w d v ≡ false
+AreWoken (Some table) b w d = (v : ℕ) → v < 16 → slice_get table v ≡ Some (is_woken b w d v)
+
+-- the board where w waits for what it has to wait for
+abbrev pub waiting_for : Boarded → ℕ → Option Wait → Boarded
+waiting_for b w None = b
+waiting_for b w (Some a) = with_seat b w (Waiting a.event a.threshold)
+
+abbrev pub parked : Boarded → ℕ → Boarded
+parked b w = waiting_for b w (wait_of b w)
+
+abbrev pub is_advance : Act → Bool
+is_advance (Advance e) = true
+is_advance _ = false
+
+-- the board after a step of w that was answered: where the answer is Pending and w may wait, it parks
+abbrev pub after_hold : Boarded → ℕ → Act → Bool → Reply → Boarded
+after_hold b w act may_park reply =
+    let d = after_entry b (record { worker = w; act = act; reply = reply }) in
+    if may_park && is_pending reply then parked d w else d
+
+-- the step was made, and answered so
+pub record IsMade (reply : Reply) (b : Boarded) (w : ℕ) (act : Act) (may_park : Bool) (d : Boarded) : Type 0 where
+  pub free : is_stopped b w ≡ false
+  pub answer : answer_on b w act ≡ Ok reply
+  pub kind : IsReply act reply
+  pub board : d ≡ after_hold b w act may_park reply
+
+-- why w got no reply
+abbrev pub IsHalt : Outcome → Boarded → ℕ → Act → Type 0
+IsHalt outcomes.Stopped b w act = is_stopped b w ≡ true
+IsHalt (outcomes.Refused r) b w act = (is_stopped b w ≡ false) × (answer_on b w act ≡ Err r)
+IsHalt outcomes.Memory b w act = (is_stopped b w ≡ false) × IsOk (answer_on b w act)
+IsHalt _ b w act = ⊥
+
+-- ONE HOLD: what w does next, where it asked the board b for an act and the board is d after it. Where it got no reply, that
+-- comes with how many entries the run had
+abbrev pub IsNext : Next → Boarded → ℕ → Act → Bool → Boarded → Type 0
+IsNext (next.GoOn reply) b w act may_park d = IsMade reply b w act may_park d × (is_asleep d w ≡ false)
+IsNext (next.Sleep reply) b w act may_park d = IsMade reply b w act may_park d × (is_asleep d w ≡ true)
+IsNext (next.Leave outcome moment) b w act may_park d = (d ≡ b) × (moment ≡ length b.run.entries) × IsHalt outcome b w act
+
+-- what a worker that asked for an act knows of what it does next, whatever the board was
+abbrev pub FitsAct : Next → Act → Type 0
+FitsAct (next.GoOn reply) act = IsReply act reply
+FitsAct (next.Sleep reply) act = IsReply act reply
+FitsAct (next.Leave outcome moment) act = IsStop outcome
+
+-- whether it goes to sleep
+abbrev pub is_sleep : Next → Bool
+is_sleep (next.GoOn reply) = false
+is_sleep (next.Sleep reply) = true
+is_sleep (next.Leave outcome moment) = false

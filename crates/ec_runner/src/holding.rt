@@ -1,0 +1,185 @@
+//! One hold of the board by a worker.
+ghost use Rattle.std.specs.Prelude.{◌≡◌, ◌≢◌, ℕ, ◌<◌, ◌==◌, ◌&&◌, not, true, false, length, Some, None, slice_get};
+ghost use Rattle.ec_core.specs.Calls.{is_pending};
+ghost use Rattle.ec_runner.specs.declared.seat.Seat.TheVariants.{Gone};
+ghost use Rattle.ec_runner.specs.Seated.{is_live, is_waiting, seat_of};
+ghost use Rattle.ec_runner.specs.Boarded.{Boarded, with_seat};
+ghost use Rattle.ec_runner.specs.Holds.{is_advance, is_asleep, is_sleep, is_woken, parked, AreWoken, IsNext, FitsAct};
+
+use crate::board::{Board, BoardFault};
+use crate::ending::worker_of;
+use ec_core::{Act, Reply};
+use ec_count::WorkerId;
+use ec_machine::Outcome;
+
+/// What a worker does after it asked the board for a step: it goes on with the reply, or sleeps and
+/// then goes on with it, or leaves, where it got no reply. That comes with how many entries the run
+/// had.
+#[derive(Clone, Copy)]
+pub(crate) enum Next {
+    GoOn(Reply),
+    Sleep(Reply),
+    Leave(Outcome, usize),
+}
+
+/// What came of a hold: what its worker does next, and which others are to be woken, if any are.
+#[derive(Clone, Copy)]
+pub(crate) struct Held {
+    pub next: Next,
+    pub woken: Option<[bool; 16]>,
+}
+
+/// Whether each worker is to sleep.
+fn asleep(board: &Board) -> [bool; 16]
+    ensures long { length result ≡ 16 }
+    ensures each { (v : ℕ) → v < 16 → slice_get result v ≡ Some (is_asleep board.now v) }
+{
+    let mut table = [false; 16];
+    for v in 0..16 {
+        table[v] = board.is_asleep(worker_of(v));
+    }
+    table
+}
+
+/// Whether the worker of a place is another one, and slept before and is not to sleep any more.
+fn is_woken(before: &[bool], board: &Board, worker: WorkerId, place: usize) -> bool
+    requires { place < 16 }
+    ensures { (b : Boarded) → ((v : ℕ) → v < 16 → slice_get before.now v ≡ Some (is_asleep b v)) → result ≡ is_woken b worker board.now place }
+{
+    let Some(slept) = before.get(place) else {
+        return false;
+    };
+    place != worker.get() && *slept && !board.is_asleep(worker_of(place))
+}
+
+/// Which others slept before and are not to sleep any more.
+fn woken(before: &[bool], board: &Board, worker: WorkerId) -> [bool; 16]
+    ensures { (b : Boarded) → ((v : ℕ) → v < 16 → slice_get before.now v ≡ Some (is_asleep b v))
+        → (v : ℕ) → v < 16 → slice_get result v ≡ Some (is_woken b worker board.now v) }
+{
+    let mut table = [false; 16];
+    for v in 0..16 {
+        table[v] = is_woken(before, board, worker, v);
+    }
+    table
+}
+
+/// Which others wait.
+fn waiting(board: &Board, worker: WorkerId) -> [bool; 16]
+    ensures { (v : ℕ) → v < 16 → slice_get result v ≡ Some (not (v == worker) && is_waiting (seat_of board.now.seats v)) }
+{
+    let mut table = [false; 16];
+    for v in 0..16 {
+        table[v] = v != worker.get() && board.is_waiting(worker_of(v));
+    }
+    table
+}
+
+fn is_pending(reply: Reply) -> bool
+    ensures { result ≡ is_pending reply }
+{
+    match reply {
+        Reply::Pending => true,
+        _ => false,
+    }
+}
+
+/// The worker waits for what it has to wait for.
+fn park(board: &mut Board, worker: WorkerId)
+    requires { board.old.stuck ≡ false }
+    ensures { board.new ≡ parked board.old worker }
+{
+    board.park(worker);
+}
+
+/// The step, and the wait where it fell short.
+fn step(board: &mut Board, worker: WorkerId, act: Act, may_park: bool) -> Next
+    ensures next { IsNext result board.old worker act may_park board.new }
+    ensures kind { FitsAct result act }
+{
+    match board.step(worker, act) {
+        Ok(reply) => {
+            if may_park && is_pending(reply) {
+                park(board, worker);
+            }
+            if board.is_asleep(worker) {
+                Next::Sleep(reply)
+            } else {
+                Next::GoOn(reply)
+            }
+        }
+        Err(BoardFault::Stopped) => Next::Leave(Outcome::Stopped, board.run().len()),
+        Err(BoardFault::Memory) => Next::Leave(Outcome::Memory, board.run().len()),
+        Err(BoardFault::Refused(refusal)) => {
+            Next::Leave(Outcome::Refused(refusal), board.run().len())
+        }
+    }
+}
+
+/// Who is woken where the seats of the others are as before: nobody, or, where the board has come to
+/// be stuck, all others that wait.
+fn woken_if_stuck(was_stuck: bool, board: &Board, worker: WorkerId) -> Option<[bool; 16]>
+    ensures none { board.now.stuck ≡ false → result ≡ None }
+    ensures woken { (b : Boarded) → b.stuck ≡ was_stuck → ((v : ℕ) → worker ≢ v → slice_get board.now.seats v ≡ slice_get b.seats v)
+        → AreWoken result b worker board.now }
+{
+    if was_stuck {
+        return None;
+    }
+    if !board.is_stuck() {
+        return None;
+    }
+    Some(waiting(board, worker))
+}
+
+fn is_advance(act: &Act) -> bool
+    ensures { result ≡ is_advance act.now }
+{
+    match act {
+        Act::Advance(_) => true,
+        _ => false,
+    }
+}
+
+/// An advance, and whom it wakes. Its worker doesn't go to sleep.
+fn advance(board: &mut Board, worker: WorkerId, act: Act, may_park: bool) -> Held
+    requires { is_advance act ≡ true }
+    ensures awake { is_sleep result.next ≡ false }
+    ensures next { IsNext result.next board.old worker act may_park board.new }
+    ensures kind { FitsAct result.next act }
+    ensures woken { AreWoken result.woken board.old worker board.new }
+{
+    let before = asleep(board);
+    let next = step(board, worker, act, may_park);
+    let woken = Some(woken(&before, board, worker));
+    Held { next, woken }
+}
+
+/// One hold of the board: a step and, after an await that fell short, where the worker may wait, the
+/// wait. Only an advance, and a wait by which the board comes to be stuck, can wake others, and only
+/// then is it looked who sleeps. Where the worker goes to sleep nobody is woken.
+pub(crate) fn hold(board: &mut Board, worker: WorkerId, act: Act, may_park: bool) -> Held
+    ensures none { is_sleep result.next ≡ true → result.woken ≡ None }
+    ensures next { IsNext result.next board.old worker act may_park board.new }
+    ensures kind { FitsAct result.next act }
+    ensures woken { AreWoken result.woken board.old worker board.new }
+{
+    if is_advance(&act) {
+        return advance(board, worker, act, may_park);
+    }
+    let was_stuck = board.is_stuck();
+    let next = step(board, worker, act, may_park);
+    let woken = woken_if_stuck(was_stuck, board, worker);
+    Held { next, woken }
+}
+
+/// The worker leaves the board. It answers which others are to be woken.
+pub(crate) fn leave(board: &mut Board, worker: WorkerId) -> [bool; 16]
+    ensures gone { is_live (seat_of board.old.seats worker) ≡ true → board.new ≡ with_seat board.old worker Gone }
+    ensures same { is_live (seat_of board.old.seats worker) ≡ false → board.new ≡ board.old }
+    ensures woken { (v : ℕ) → v < 16 → slice_get result v ≡ Some (is_woken board.old worker board.new v) }
+{
+    let before = asleep(board);
+    board.leave(worker);
+    woken(&before, board, worker)
+}
