@@ -9,10 +9,10 @@ use std::test::Fail;
 use std::thread;
 
 /// How often a gate looks before it gives up.
-const LOOKS: u64 = 100_000_000;
+pub(crate) const LOOKS: u64 = 100_000_000;
 
 /// Whether a flag was raised, at the latest after so many looks.
-fn waited_for(flag: &AtomicBool) -> bool {
+pub(crate) fn waited_for(flag: &AtomicBool) -> bool {
     for _ in 0..LOOKS {
         if flag.load(Ordering::SeqCst) {
             return true;

@@ -22,4 +22,6 @@ mod run_tests;
 #[cfg(test)]
 mod schedule_tests;
 #[cfg(test)]
+mod sleep_tests;
+#[cfg(test)]
 mod threads;

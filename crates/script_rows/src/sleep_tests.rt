@@ -1,0 +1,233 @@
+//! Gates that see when a worker sleeps, wakes and leaves.
+use crate::gate_tests::{LOOKS, waited_for};
+use crate::threads::{Case, Sight, shows};
+use ec_count::WorkerId;
+use ec_machine::Outcome;
+use ec_runner::Gate;
+use std::sync::atomic::{AtomicBool, AtomicU64, Ordering};
+use std::test::Fail;
+use std::thread;
+
+/// How often a gate looks for what is not to come.
+const SHORT_LOOKS: u64 = 100_000;
+
+/// Whether a flag stays down for so many looks.
+fn stays_down(flag: &AtomicBool) -> bool {
+    for _ in 0..SHORT_LOOKS {
+        if flag.load(Ordering::SeqCst) {
+            return false;
+        }
+        thread::yield_now();
+    }
+    true
+}
+
+/// Holds the first worker at its leaving until the second has come to its await, and then for some
+/// time, in which the second is not to end: the first, which has not left, could still let it go.
+#[derive(Drop)]
+struct LateLeaver {
+    second_has_begun: AtomicBool,
+    second_has_ended: AtomicBool,
+    has_failed: AtomicBool,
+}
+
+impl Gate for LateLeaver {
+    fn before(&self, worker: WorkerId, step: u64) {
+        match (worker.get(), step) {
+            (1, 0) => self.second_has_begun.store(true, Ordering::SeqCst),
+            (1, _) => self.second_has_ended.store(true, Ordering::SeqCst),
+            (0, 1) => {
+                if !waited_for(&self.second_has_begun) || !stays_down(&self.second_has_ended) {
+                    self.has_failed.store(true, Ordering::SeqCst);
+                }
+            }
+            _ => {}
+        }
+    }
+}
+
+static NEVER_LET_GO: Case = Case {
+    heading: &[
+        "evc-script 1",
+        "limit 10",
+        "workers a b",
+        "eventcount E signal a observe b",
+    ],
+    blocks: &[
+        (&["a"], &["advance E", "end"]),
+        (&["b"], &["await E 2", "end"]),
+    ],
+    turns: 10_000,
+    sights: &[
+        Sight::Each(&[Outcome::Finished, Outcome::Stopped]),
+        Sight::Length(2),
+    ],
+};
+
+#[test]
+fn the_last_leave_wakes_who_sleeps(rt: HostRuntime) -> Result<(), Fail> {
+    let gate = LateLeaver {
+        second_has_begun: AtomicBool::new(false),
+        second_has_ended: AtomicBool::new(false),
+        has_failed: AtomicBool::new(false),
+    };
+    shows(&rt, rt.alloc(), &NEVER_LET_GO, &gate)?;
+    assert!(rt; !gate.has_failed.load(Ordering::SeqCst));
+    Ok(())
+}
+
+/// Holds the first worker before its advance until the second has come to its leaving.
+#[derive(Drop)]
+struct LateAdvance {
+    second_leaves: AtomicBool,
+    has_failed: AtomicBool,
+}
+
+impl Gate for LateAdvance {
+    fn before(&self, worker: WorkerId, step: u64) {
+        match (worker.get(), step) {
+            (1, 1) => self.second_leaves.store(true, Ordering::SeqCst),
+            (0, 0) => {
+                if !waited_for(&self.second_leaves) {
+                    self.has_failed.store(true, Ordering::SeqCst);
+                }
+            }
+            _ => {}
+        }
+    }
+}
+
+static LAST_TURN: Case = Case {
+    heading: &[
+        "evc-script 1",
+        "limit 10",
+        "workers a b",
+        "eventcount E signal a observe b",
+    ],
+    blocks: &[
+        (&["a"], &["advance E", "end"]),
+        (&["b"], &["await E 1", "end"]),
+    ],
+    turns: 1,
+    sights: &[
+        Sight::Each(&[Outcome::Finished, Outcome::OutOfTurns]),
+        Sight::Length(2),
+    ],
+};
+
+#[test]
+fn after_its_last_turn_a_worker_does_not_sleep(rt: HostRuntime) -> Result<(), Fail> {
+    let gate = LateAdvance {
+        second_leaves: AtomicBool::new(false),
+        has_failed: AtomicBool::new(false),
+    };
+    shows(&rt, rt.alloc(), &LAST_TURN, &gate)?;
+    assert!(rt; !gate.has_failed.load(Ordering::SeqCst));
+    Ok(())
+}
+
+/// Sees whether the steps that one worker is said to have asked for go 0, 1, 2 and so on.
+#[derive(Drop)]
+struct Counting {
+    next: AtomicU64,
+    has_failed: AtomicBool,
+}
+
+impl Gate for Counting {
+    fn before(&self, _worker: WorkerId, step: u64) {
+        if self.next.fetch_add(1, Ordering::SeqCst) != step {
+            self.has_failed.store(true, Ordering::SeqCst);
+        }
+    }
+}
+
+static FIVE_STEPS: Case = Case {
+    heading: &[
+        "evc-script 1",
+        "limit 10",
+        "workers a",
+        "eventcount E signal a observe a",
+    ],
+    blocks: &[(&["a"], &["repeat 4", "advance E", "end", "read E", "end"])],
+    turns: 10_000,
+    sights: &[Sight::All(1, Outcome::Finished), Sight::Length(5)],
+};
+
+#[test]
+fn a_gate_sees_each_step_by_its_number(rt: HostRuntime) -> Result<(), Fail> {
+    let gate = Counting {
+        next: AtomicU64::new(0),
+        has_failed: AtomicBool::new(false),
+    };
+    shows(&rt, rt.alloc(), &FIVE_STEPS, &gate)?;
+    assert!(rt; !gate.has_failed.load(Ordering::SeqCst));
+    assert_eq!(rt; gate.next.load(Ordering::SeqCst), 6);
+    Ok(())
+}
+
+/// Holds the signaller before its second and its third advance until the waiter of the one before has
+/// come to its leaving, while the other two still sleep.
+#[derive(Drop)]
+struct OneByOne {
+    begun: AtomicU64,
+    left: AtomicU64,
+    has_failed: AtomicBool,
+}
+
+impl OneByOne {
+    /// Looks until a number has come to a value.
+    fn hold_until(&self, number: &AtomicU64, value: u64) {
+        for _ in 0..LOOKS {
+            if number.load(Ordering::SeqCst) >= value {
+                return;
+            }
+            thread::yield_now();
+        }
+        self.has_failed.store(true, Ordering::SeqCst);
+    }
+}
+
+impl Gate for OneByOne {
+    fn before(&self, worker: WorkerId, step: u64) {
+        if worker.get() == 0 {
+            self.hold_until(&self.begun, 3);
+            self.hold_until(&self.left, step);
+            if self.left.load(Ordering::SeqCst) > step {
+                self.has_failed.store(true, Ordering::SeqCst);
+            }
+        } else if step == 0 {
+            self.begun.fetch_add(1, Ordering::SeqCst);
+        } else if step == 2 {
+            self.left.fetch_add(1, Ordering::SeqCst);
+        }
+    }
+}
+
+static THREE_WAIT: Case = Case {
+    heading: &[
+        "evc-script 1",
+        "limit 10",
+        "workers a b c d",
+        "eventcount E signal a observe b c d",
+    ],
+    blocks: &[
+        (&["a"], &["repeat 3", "advance E", "end", "end"]),
+        (&["b"], &["await E 1", "end"]),
+        (&["c"], &["await E 2", "end"]),
+        (&["d"], &["await E 3", "end"]),
+    ],
+    turns: 10_000,
+    sights: &[Sight::All(4, Outcome::Finished)],
+};
+
+#[test]
+fn each_advance_wakes_the_one_that_it_lets_go(rt: HostRuntime) -> Result<(), Fail> {
+    let gate = OneByOne {
+        begun: AtomicU64::new(0),
+        left: AtomicU64::new(0),
+        has_failed: AtomicBool::new(false),
+    };
+    shows(&rt, rt.alloc(), &THREE_WAIT, &gate)?;
+    assert!(rt; !gate.has_failed.load(Ordering::SeqCst));
+    Ok(())
+}
