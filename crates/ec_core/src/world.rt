@@ -203,7 +203,7 @@ impl World {
 
     fn next_sum(&self, call: &UnderWay) -> u64
         ensures value { result ≡ next_sum self.now call.now }
-        ensures fits { result ≤ (call.now.index + 1) * 2 ^ 32 }
+        ensures fits { result ≤ (call.now.index + 1) * 2 ^ 48 }
     {
         let count = count_in(&self.counts, event_or(call.op()), call.index());
         count.value() + call.sum()

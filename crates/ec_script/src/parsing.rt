@@ -6,7 +6,7 @@ ghost use Rattle.ec_script.specs.Reading.{step};
 
 use crate::fault::{Kind, ScriptFault, StageFault};
 use crate::plan::Plan;
-use crate::stage::Stage;
+use crate::stage::{Stage, version_of};
 use ec_text::cut_line;
 use std::alloc::Global;
 
@@ -38,10 +38,9 @@ fn first_line(text: &[u8]) -> &[u8]
 fn long_kind(text: &[u8]) -> Kind
     ensures { result ≡ long_kind (first_of (parts_of text.now)) }
 {
-    if first_line(text) == b"evc-script 1".as_slice() {
-        Kind::TooMany
-    } else {
-        Kind::BadHeader
+    match version_of(first_line(text)) {
+        Some(_) => Kind::TooMany,
+        None => Kind::BadHeader,
     }
 }
 
