@@ -150,12 +150,7 @@ fn add_workers(
 }
 
 /// A heading with these workers and no declarations.
-fn opened(
-    alloc: Global,
-    version: Version,
-    limit: Limit,
-    list: &[u8],
-) -> Result<Heading, NameFault>
+fn opened(alloc: Global, version: Version, limit: Limit, list: &[u8]) -> Result<Heading, NameFault>
     requires within { limit ≤ greatest_limit version }
     requires none { workers_fault (words_of list.now) ≡ None }
     ensures { IfOk result (λ heading. heading ≡ opened version limit (words_of list.now)) }
@@ -214,7 +209,6 @@ impl Heading {
     }
 
     /// Takes the line of the workers.
-    #[tactic(auto, using(crate::proofs::shared::Upgrades::heading_within))]
     fn take_workers(&mut self, line: &[u8]) -> Result<(), HeadFault>
         ensures { Steps result self.old self.new (opened_by self.old.version self.old.setup.limit (workers_in (words_of line.now))) }
     {
@@ -305,7 +299,6 @@ impl Heading {
     }
 
     /// The same declarations under version 2.
-    #[tactic(auto, using(crate::proofs::shared::Upgrades::upgraded_heading))]
     pub fn upgrade(self) -> Self
         ensures { result ≡ upgraded self }
     {

@@ -11,11 +11,7 @@ use std::alloc::Global;
 use std::io::{Read, Write};
 
 /// Writes a trace in version 2.
-fn write_upgraded<W: Write, N: Write>(
-    traced: Traced,
-    out: &mut W,
-    notes: &mut Notes<N>,
-) -> Status
+fn write_upgraded<W: Write, N: Write>(traced: Traced, out: &mut W, notes: &mut Notes<N>) -> Status
     ensures ends { Rewrites traced result
         (record { out = W.contents out.old; notes = N.contents notes.old.writer; held = notes.old.table })
         (record { out = W.contents out.new; notes = N.contents notes.new.writer; held = notes.new.table }) }
