@@ -70,11 +70,12 @@ range_back : (v : Version) (m n : ℕ) → as_limit v m ≡ Some n → (m ≡ n)
 range_back v m n e =
     let g = guarded (is_limit v m) (Some m) n e in
     let same : m ≡ n = cc in
-    (same, subst (λ (k : ℕ). (1 ≤ k) × (k ≤ greatest_limit v)) same (limit_parts v m g.0))
+    let p = subst (λ (k : ℕ). (1 ≤ k) × (k ≤ greatest_limit v)) same (limit_parts v m g.0) in
+    (same, p.0, p.1)
 
 digits_back : (v : Version) (o : Option ℕ) (n : ℕ) → option_and_then (as_limit v) o ≡ Some n → (o ≡ Some n) × (1 ≤ n) × (n ≤ greatest_limit v)
 digits_back v None n e = cc
-digits_back v (Some m) n e = (let r = range_back v m n e in (ap Some r.0, r.1))
+digits_back v (Some m) n e = (let r = range_back v m n e in (ap Some r.0, r.1, r.2))
 
 pub limit_back : (v : Version) (words : List (List ℕ)) (n : ℕ) → limit_in v words ≡ Some n → IsLimit v words n
 limit_back v [] n e = cc
@@ -96,7 +97,7 @@ limited_back v (Some n) s e = (n, refl, cc)
 -- `run` is no line of a heading
 not_heading : (h : Headed) → head_step h (codes "run") ≡ Err head_faults.BadLine
 unfolding head_step parts_in
-not_heading h = elim (eqb h.setup.workers 0) as (λ b. cond b (opened_by h.setup.limit None) (declared_or h None) ≡ Err head_faults.BadLine) [ true ↦ refl | false ↦ refl ]
+not_heading h = elim (eqb h.setup.workers 0) as (λ b. cond b (opened_by h.version h.setup.limit None) (declared_or h None) ≡ Err head_faults.BadLine) [ true ↦ refl | false ↦ refl ]
 
 not_run : (h next : Headed) (line : List ℕ) → head_step h line ≡ Ok next → bytes_eq line (codes "run") ≡ false
 not_run h next line e =
