@@ -157,4 +157,4 @@ head_grows h line t keeps is =
     let some : eqb h.setup.workers 0 ≡ false = ne_eqb _ _ (λ e. (let k : 1 ≤ h.setup.workers = keeps.some in omega (arith, k, e))) in
     let step = not_refused (is_no_line line) faults.BadLine (words_step h (words_of line)) t is in
     declared_step h (parts_in (words_of line)) t keeps
-    (ap (λ (b : Bool). cond b (opened_by h.setup.limit (workers_in (words_of line))) (declared_or h (parts_in (words_of line)))) (sym some) ∙ step)
+    (ap (λ (b : Bool). cond b (opened_by h.version h.setup.limit (workers_in (words_of line))) (declared_or h (parts_in (words_of line)))) (sym some) ∙ step)

@@ -138,7 +138,7 @@ first_early text n f = elim f.why [
 ]
 
 no_long : (text : List ℕ) (n : ℕ) → IsLongFault text n kinds.Unfinished → ⊥
-no_long text n f = elim f.why [ inl h ↦ (let e : kinds.Unfinished ≡ kinds.TooMany = h.1 in cc) | inr h ↦ (let e : kinds.Unfinished ≡ kinds.BadHeader = h.1 in cc) ]
+no_long text n f = elim f.why [ inl h ↦ (let e : kinds.Unfinished ≡ kinds.TooMany = h.2 in cc) | inr h ↦ (let e : kinds.Unfinished ≡ kinds.BadHeader = h.1 in cc) ]
 
 ends_early : (text : List ℕ) (n : ℕ) → IsFault text n kinds.Unfinished → (length text ≤ SCRIPT_MAX) × EndsEarly text n
 ends_early text n (inl (within, f)) = (within, first_early text n f)

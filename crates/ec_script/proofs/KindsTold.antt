@@ -414,7 +414,7 @@ others_least s (Some p) = phrase_told s (after s p) (phrase_fault (seen s) p (ob
 -- a heading with workers takes declarations alone
 behind_workers : (h : Headed) (line : List ℕ) → (h.setup.workers == 0) ≡ false → head_step h line ≡ cond (is_no_line line) (Err heads.BadLine) (declared_or h (headings.parts_in (words_of line)))
 unfolding head_step
-behind_workers h line some = ap (λ b. cond (is_no_line line) (Err heads.BadLine) (cond b (opened_by h.setup.limit (workers_in (words_of line))) (declared_or h (headings.parts_in (words_of line))))) some
+behind_workers h line some = ap (λ b. cond (is_no_line line) (Err heads.BadLine) (cond b (opened_by h.version h.setup.limit (workers_in (words_of line))) (declared_or h (headings.parts_in (words_of line))))) some
 
 reading_least : (s : Scripted) (line : List ℕ) → Keeps s → fault_in (script_step s line) ≡ least (form_tests (reading_form s line) (reading_tests s))
 unfolding script_step

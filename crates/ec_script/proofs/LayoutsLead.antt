@@ -356,7 +356,7 @@ outer_word w (Some v) e is =
 refused_words : (h next : Headed) (words ws : List (List ℕ)) → eqb h.setup.workers 0 ≡ false → parts_in words ≡ None → words_step h words ≡ Ok next → ⊥
 refused_words h next words ws some none is =
     let e : Err faults.BadLine ≡ Ok next =
-    sym (ap (λ b. cond b (opened_by h.setup.limit (workers_in words)) (declared_or h (parts_in words))) some ∙ ap (declared_or h) none) ∙ is in
+    sym (ap (λ b. cond b (opened_by h.version h.setup.limit (workers_in words)) (declared_or h (parts_in words))) some ∙ ap (declared_or h) none) ∙ is in
     cc
 
 no_sort : (w : List ℕ) (ws : List (List ℕ)) → (w ≡ codes "worker") ⊎ (w ≡ codes "schedule") → parts_in (w ∷ ws) ≡ None

@@ -6,33 +6,13 @@ ghost use Rattle.ec_script.specs.Reading.{Steps, limit_digits, limit_or, LimitIs
 ghost use Rattle.ec_script.specs.Outcome.{plan_in, shown_plan};
 ghost use Rattle.ec_text.specs.Words.{words_of};
 
+use crate::bound::Bound;
 use crate::fault::{Kind, StageFault, stage_fault};
 use crate::plan::Plan;
 use crate::script::Script;
-use ec_count::Limit;
-use ec_heading::{Heading, Version};
+use ec_heading::Version;
 use ec_text::{cut_word, is_number_form, number};
 use std::alloc::Global;
-use std::marker::Model;
-
-/// A version, and a limit that a text of it may have.
-#[derive(Clone, Copy, Debug, PartialEq, Eq)]
-pub(crate) struct Bound {
-    version: Version,
-    limit: Limit,
-}
-
-impl Model for Bound {
-    ghost use Rattle.std.specs.Prelude.{◌≤◌};
-    ghost use Rattle.ec_heading.specs.Versions.{greatest_limit};
-    ghost use Rattle.ec_script.specs.Headers.{Bounded};
-
-    ghost Value = { Bounded };
-
-    ghost view = { λ b. record { version = b.version; limit = b.limit } };
-
-    ghost invariant = { λ b. b.limit ≤ greatest_limit b.version };
-}
 
 /// What the lines so far have built.
 #[derive(Drop)]
@@ -88,8 +68,8 @@ fn limit_of(version: Version, line: &[u8]) -> Result<Bound, Kind>
     let Some(n) = number(digits) else {
         return Err(Kind::BadNumber);
     };
-    match version.limit(n) {
-        Some(limit) => Ok(Bound { version, limit }),
+    match Bound::new(version, n) {
+        Some(bound) => Ok(bound),
         None => Err(Kind::BadNumber),
     }
 }
@@ -132,7 +112,7 @@ impl Stage {
         requires { self.old ≡ Stage.Naming bound }
         ensures { Steps result (step self.old line.now) self.new }
     {
-        let Ok(mut heading) = Heading::new(alloc, bound.version, bound.limit) else {
+        let Ok(mut heading) = bound.heading(alloc) else {
             return Err(StageFault::Memory);
         };
         if let Err(fault) = heading.line(line) {
