@@ -15,13 +15,13 @@ use Rattle.ec_trace.specs.ReadingLaws.{UpgradesTo}
 use Rattle.ec_trace.proofs.shared.UpgradedTraces.{traces_are_upgraded}
 use Rattle.evc_engine.specs.declared.status.Status.{Status}
 use Rattle.evc_engine.specs.declared.status.Status.TheVariants.{Done, Refused, Usage, InputOutput, Memory, Stopped}
-use Rattle.evc_engine.specs.AuditTexts.{audit_text}
+use Rattle.evc_engine.specs.AuditTexts.{audit_text, groups_lines}
 use Rattle.evc_engine.specs.Texts.{check_text}
 use Rattle.evc_engine.specs.Checks.{Outlets, ReadsAs, text_for}
 use Rattle.evc_engine.specs.Upgrades.{Rewrites, IsUpgraded, Upgrades, TextsHaveNoVersion}
 
 pub texts_same : TextsHaveNoVersion
-unfolding check_text audit_text
+unfolding check_text audit_text groups_lines
 texts_same h v entries found = (refl, refl)
 
 -- the text of a trace in version 2
