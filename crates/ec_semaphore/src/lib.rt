@@ -15,7 +15,7 @@ mod shape;
 mod up;
 mod uses;
 
-pub use balancing::balance;
+pub use balancing::{BalanceAudit, balance};
 pub use down::Down;
 pub use down_both::DownBoth;
 pub use laws::{
