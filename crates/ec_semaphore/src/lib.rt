@@ -29,3 +29,4 @@ pub use pairing::pairs;
 pub use parts::Balance;
 pub use shape::{INITIAL_MAX, SemaphoreShape, declare_both, declare_semaphore};
 pub use up::Up;
+pub use uses::is_on;

@@ -4,5 +4,6 @@ pub mod Notes
 pub mod Checks
 pub mod AuditTexts
 pub mod Audits
+pub mod Walks
 pub mod AuditLaws
 pub mod NoteLaws

@@ -8,8 +8,10 @@ mod checking;
 mod laws;
 mod notes;
 mod status;
+mod table;
 mod text;
 mod totals;
+mod walked;
 
 pub use auditing::audit;
 pub use checking::check;
