@@ -5,4 +5,5 @@ pub mod Checks
 pub mod AuditTexts
 pub mod Audits
 pub mod AuditLaws
+pub mod Upgrades
 pub mod NoteLaws

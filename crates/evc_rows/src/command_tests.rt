@@ -1,7 +1,7 @@
 //! Each command by its task, over readers and writers that fail.
 use crate::commands::{
     AUDIT_OF_A_BUFFER, CHECK_OF_AN_OVERTAKEN_READ, RUN_OF_TICKETS, SIM_OF_A_TICKET_AND_AN_AWAIT,
-    SIM_OF_TICKETS, TURNS, Worked, commanded_into,
+    SIM_OF_TICKETS, TURNS, UPGRADE_OF_A_READ_UNDER_WAY, UPGRADE_OF_VERSION_TWO, Worked, commanded_into,
 };
 use crate::fakes::{Fickle, Pieces, Trouble};
 use evc_engine::{Notes, Status};
@@ -178,6 +178,12 @@ fn each_fault_of_a_check(rt: HostRuntime) -> Result<(), Fail> {
 #[test]
 fn each_fault_of_an_audit(rt: HostRuntime) -> Result<(), Fail> {
     all_faults(&rt, rt.alloc(), &AUDIT_OF_A_BUFFER)
+}
+
+#[test]
+fn each_fault_of_an_upgrade(rt: HostRuntime) -> Result<(), Fail> {
+    all_faults(&rt, rt.alloc(), &UPGRADE_OF_A_READ_UNDER_WAY)?;
+    all_faults(&rt, rt.alloc(), &UPGRADE_OF_VERSION_TWO)
 }
 
 #[test]

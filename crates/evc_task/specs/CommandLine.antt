@@ -18,7 +18,7 @@ bare_app = let new : App = new_app (codes "evc") in record new { top = record ne
 
 -- the commands that read traces
 abbrev pub trace_app : App
-trace_app = with_subcommand (with_subcommand bare_app (new_app (codes "check")).top) (new_app (codes "audit")).top
+trace_app = with_subcommand (with_subcommand (with_subcommand bare_app (new_app (codes "check")).top) (new_app (codes "audit")).top) (new_app (codes "upgrade")).top
 
 -- `evc` as clap knows it
 abbrev pub evc_app : App
@@ -37,6 +37,7 @@ IsOneOf (x ∷ xs) name = (name ≡ x) ⊎ IsOneOf xs name
 abbrev pub name_of : Task → Text
 name_of tasks.Check = codes "check"
 name_of tasks.Audit = codes "audit"
+name_of tasks.Upgrade = codes "upgrade"
 name_of tasks.Sim = codes "sim"
 name_of (tasks.Run turns) = codes "run"
 
@@ -70,6 +71,7 @@ status_by _ = 2
 pub record ReadsPlainLines : Type 0 where
   pub check : (program : Text) → (faults_in (program ∷ codes "check" ∷ []) ≡ []) × AskFor (program ∷ codes "check" ∷ []) tasks.Check
   pub audit : (program : Text) → (faults_in (program ∷ codes "audit" ∷ []) ≡ []) × AskFor (program ∷ codes "audit" ∷ []) tasks.Audit
+  pub upgrade : (program : Text) → (faults_in (program ∷ codes "upgrade" ∷ []) ≡ []) × AskFor (program ∷ codes "upgrade" ∷ []) tasks.Upgrade
   pub sim : (program : Text) → (faults_in (program ∷ codes "sim" ∷ []) ≡ []) × AskFor (program ∷ codes "sim" ∷ []) tasks.Sim
   pub run : (program : Text) → (faults_in (program ∷ codes "run" ∷ []) ≡ []) × AskFor (program ∷ codes "run" ∷ []) (tasks.Run 10000)
   pub help : (program : Text) → faults_in (program ∷ codes "--help" ∷ []) ≡ kinds.DisplayHelp ∷ []

@@ -35,6 +35,15 @@ fn audit_command<'a>(alloc: Global) -> Command<'a>
         .long_about(help::AUDIT_LONG_ABOUT)
 }
 
+fn upgrade_command<'a>(alloc: Global) -> Command<'a>
+    ensures app { app_of result ≡ new_app (codes "upgrade") }
+    ensures local { (fields_of result).has_globals ≡ false }
+{
+    Command::new(alloc, "upgrade")
+        .about(help::UPGRADE_ABOUT)
+        .long_about(help::UPGRADE_LONG_ABOUT)
+}
+
 fn sim_command<'a>(alloc: Global) -> Command<'a>
     ensures app { app_of result ≡ new_app (codes "sim") }
     ensures local { (fields_of result).has_globals ≡ false }
@@ -73,13 +82,15 @@ fn trace_command<'a>(alloc: Global) -> Result<Command<'a>, AllocError>
 {
     let check = check_command(alloc);
     let audit = audit_command(alloc);
+    let upgrade = upgrade_command(alloc);
     Command::new(alloc, "evc")
         .about(help::ABOUT)
         .long_about(help::LONG_ABOUT)
         .after_help(help::AFTER_HELP)
         .subcommand_required(true)
         .subcommand(check)?
-        .subcommand(audit)
+        .subcommand(audit)?
+        .subcommand(upgrade)
 }
 
 // And with those that read scripts.
@@ -118,6 +129,7 @@ fn task_named(name: &str, found: &ArgMatches<'_>) -> Option<Task>
     match name {
         "check" => Some(Task::Check),
         "audit" => Some(Task::Audit),
+        "upgrade" => Some(Task::Upgrade),
         "sim" => Some(Task::Sim),
         "run" => Some(Task::Run(turns_given(found))),
         _ => None,
