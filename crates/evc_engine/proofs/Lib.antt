@@ -5,3 +5,4 @@ pub mod OneText
 pub mod UpgradeLemmas
 pub mod NoteLemmas
 pub mod OneNote
+pub mod WalkLemmas

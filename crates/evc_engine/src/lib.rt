@@ -8,9 +8,11 @@ mod checking;
 mod laws;
 mod notes;
 mod status;
+mod table;
 mod text;
 mod totals;
 mod upgrading;
+mod walked;
 
 pub use auditing::audit;
 pub use checking::check;
