@@ -1,6 +1,7 @@
 //! Lines of headings: that of the workers, and one of each sort.
 use crate::way::{Answer, Call, Want, Way, tell, way_of, way_of_all};
-use ec_heading::{HeadFault, Heading, Version};
+use ec_count::Limit;
+use ec_heading::{HeadFault, Heading};
 use std::alloc::Global;
 use std::test::Fail;
 
@@ -147,8 +148,7 @@ fn take(heading: &mut Heading, lines: &[&str]) -> Option<()> {
 
 /// A heading that has taken these lines, unless there is no memory.
 fn headed(alloc: Global, lines: &[&str]) -> Option<Heading> {
-    let limit = Version::One.limit(10)?;
-    let mut heading = Heading::new(alloc, Version::One, limit).ok()?;
+    let mut heading = Heading::new(alloc, Limit::new(10)?).ok()?;
     take(&mut heading, lines)?;
     Some(heading)
 }

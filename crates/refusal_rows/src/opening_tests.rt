@@ -3,8 +3,8 @@ use crate::steps_tests::one_worker;
 use crate::texts::{DATABASE, GROUPS};
 use crate::way::{Answer, Call, Want, Way, tell, way_of};
 use ec_core::Run;
-use ec_count::{Names, Setup, Vocabulary};
-use ec_heading::{Heading, Version};
+use ec_count::{Limit, Names, Setup, Vocabulary};
+use ec_heading::Heading;
 use ec_runner::Board;
 use ec_script::{Plan, ScriptFault, parse};
 use ec_trace::{TraceFault, Traced, read_trace};
@@ -53,11 +53,8 @@ fn new_vocabulary(alloc: Global) -> Answer {
     }
 }
 
-fn new_heading(alloc: Global) -> Answer {
-    let Some(limit) = Version::One.limit(10) else {
-        return Answer::Wrong;
-    };
-    match Heading::new(alloc, Version::One, limit) {
+fn new_heading(alloc: Global, limit: Limit) -> Answer {
+    match Heading::new(alloc, limit) {
         Ok(heading) => Answer::of(heading.setup().workers() == 0 && heading.words().len() == 0),
         Err(_) => Answer::Wants(Want::Memory),
     }
@@ -100,6 +97,14 @@ fn opened(alloc: Global, new: New) -> Answer {
     }
 }
 
+/// What is made under a limit.
+fn limited(alloc: Global) -> Answer {
+    match Limit::new(10) {
+        Some(limit) => new_heading(alloc, limit),
+        None => Answer::Wrong,
+    }
+}
+
 /// Something new.
 #[derive(Clone, Copy)]
 struct Making {
@@ -114,7 +119,7 @@ impl Call for Making {
             New::Run | New::Board => opened(alloc, self.new),
             New::Names => new_names(alloc),
             New::Vocabulary => new_vocabulary(alloc),
-            New::Heading => new_heading(alloc),
+            New::Heading => limited(alloc),
             New::Trace => trace(alloc, DATABASE),
             New::Plan => plan(alloc, GROUPS),
         }
