@@ -2,7 +2,7 @@
 
 // What stands behind `evc ` in the answer to `evc --version`: the number, which bin/package reads
 // here, and the line of the toolchain that everything is proved and built with.
-pub(crate) const VERSION: &str = "0.1
+pub(crate) const VERSION: &str = "0.2
 proved and built with rattle-kit-13b";
 
 pub(crate) const ABOUT: &str =
