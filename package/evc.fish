@@ -7,4 +7,5 @@ complete -c evc -n __fish_use_subcommand -f -a run -d "run a script's workers on
 complete -c evc -n __fish_use_subcommand -f -a help -d 'tell more of a command'
 complete -c evc -n '__fish_seen_subcommand_from help' -f -a 'check audit upgrade sim run'
 complete -c evc -n '__fish_seen_subcommand_from run' -x -l turns -d 'how many steps each worker may make'
-complete -c evc -l help -d 'tell more'
+complete -c evc -s h -l help -d 'tell more'
+complete -c evc -n __fish_use_subcommand -s V -l version -d 'tell the version'

@@ -105,7 +105,7 @@ static inline void evc_line_(evc_record *r, struct evc_text *text, char *line, i
     evc_put_(r, text, line, (size_t)length + 1);
 }
 
-/* Begins a record. The limit is that of each component and each sequencer, from 1 to 4294967295. */
+/* Begins a record. The limit is that of each component and each sequencer, from 1 to 4294967295: the trace has version 1. */
 static inline void evc_open(evc_record *r, unsigned long long limit) {
     char digits[24];
     memset(r, 0, sizeof *r);

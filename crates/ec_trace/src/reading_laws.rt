@@ -81,9 +81,9 @@ pub fn written_is_read_again()
     ensures { WrittenIsReadAgain }
 {}
 
-/// A trace that is upgraded to version 2 is as long as it was, so within the bound, and is read as
-/// the same declarations and the same run. One of version 2 is upgraded to itself.
-#[tactic(auto, using(crate::proofs::shared::UpgradedTraces::traces_are_upgraded))]
+/// A trace that is upgraded to version 2 has another first line, and behind that the same bytes. So
+/// it is as long as it was, within the bound, and one of version 2 is upgraded to itself; and it is
+/// read as the same declarations and the same run.
 pub fn traces_are_upgraded()
     ensures { TracesAreUpgraded }
 {}

@@ -1,5 +1,5 @@
 -- What `upgrade` answered and wrote, for an input whose bytes are known.
-use Rattle.std.specs.Prelude.{◌≡◌, ◌⊎◌, ℕ, List, length, Option, codes}
+use Rattle.std.specs.Prelude.{◌≡◌, ◌⊎◌, ℕ, List, ◌++◌, length, Option, codes}
 use Rattle.std.specs.Io.KnownBytes.{Appends, Keeps}
 use Rattle.ec_text.specs.Puts.{AppendsPrefix}
 use Rattle.ec_core.specs.declared.act.Entry.{Entry}
@@ -7,7 +7,7 @@ use Rattle.ec_heading.specs.declared.version.Version.{Version}
 use Rattle.ec_heading.specs.declared.version.Version.TheVariants.{Two}
 use Rattle.ec_heading.specs.Headed.{Headed}
 use Rattle.ec_heading.specs.Outline.{Outline, IsOutline, headed}
-use Rattle.ec_heading.specs.Spelling.{trace_text}
+use Rattle.ec_heading.specs.Spelling.{trace_header, trace_text}
 use Rattle.ec_heading.specs.Upgraded.{upgraded_outline}
 use Rattle.ec_trace.specs.Recounted.{Recounted, trace_upgraded}
 use Rattle.ec_trace.specs.Outcome.{HasNoFault}
@@ -17,6 +17,7 @@ use Rattle.evc_engine.specs.declared.audited.Audited.{Audited}
 use Rattle.evc_engine.specs.declared.status.Status.{Status}
 use Rattle.evc_engine.specs.declared.status.Status.TheVariants.{Done, Refused, Usage, InputOutput, Memory, Stopped}
 use Rattle.evc_engine.specs.AuditTexts.{audit_text}
+use Rattle.evc_engine.specs.Audits.{AreAudited, IsNotFollowed, not_followed_note}
 use Rattle.evc_engine.specs.Texts.{check_text}
 use Rattle.evc_engine.specs.Checks.{Outlets, Notes, KeepsNotes, ReadsAs, RefusedFor, text_for}
 use Rattle.evc_engine.specs.Notes.{fault_note}
@@ -32,11 +33,14 @@ Rewrites t status old new = ⊥
 
 -- THE END OF THE COMMAND
 
--- the bytes are a trace, and the text is the trace of the same declarations and the same history in version 2: it is read as these, is as
--- long as the bytes, and is the bytes where they have version 2; and of both `check` writes the same
+-- the bytes are a trace, and the text is the trace of the same declarations and the same history in version 2: it is read as these, and
+-- behind its first line it is the bytes, so it is as long, and is the bytes where they have version 2; and of both `check` writes the same
 pub record IsUpgraded (bytes text : List ℕ) (t : Recounted) : Type 0 where
   pub from : ReadsAs bytes t
   pub to : ReadsAs text (trace_upgraded t)
+  pub behind : List ℕ
+  pub was : bytes ≡ trace_header t.heading.version ++ behind
+  pub is_now : text ≡ trace_header Two ++ behind
   pub as_long : length text ≡ length bytes
   pub as_it_was : t.heading.version ≡ Two → text ≡ bytes
   pub checked_alike : text_for (trace_upgraded t) ≡ text_for t
@@ -56,7 +60,14 @@ Upgrades bytes left Stopped old new = ⊥
 
 -- LAWS
 
--- what `check` and `audit` write does not depend on the version
+-- what `check` and `audit` write does not depend on the version: the text of a history, what the audits find in it, the text of that,
+-- and the first group that is not followed, with its note
+pub record HasNoVersion (h : Headed) (v : Version) (entries : List Entry) : Type 0 where
+  pub checked : check_text (record h { version = v }) entries ≡ check_text h entries
+  pub found : (found : List Audited) → AreAudited h entries found → AreAudited (record h { version = v }) entries found
+  pub told : (found : List Audited) → audit_text (record h { version = v }) found ≡ audit_text h found
+  pub broken : (i w k : ℕ) → IsNotFollowed h entries i w k → IsNotFollowed (record h { version = v }) entries i w k
+  pub noted : (i w k : ℕ) → not_followed_note (record h { version = v }) i w k ≡ not_followed_note h i w k
+
 abbrev pub TextsHaveNoVersion : Type 0
-TextsHaveNoVersion = (h : Headed) (v : Version) (entries : List Entry) (found : List Audited)
-    → (check_text (record h { version = v }) entries ≡ check_text h entries) × (audit_text (record h { version = v }) found ≡ audit_text h found)
+TextsHaveNoVersion = (h : Headed) (v : Version) (entries : List Entry) → HasNoVersion h v entries

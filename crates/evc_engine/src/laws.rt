@@ -36,7 +36,6 @@ pub fn checks_and_audits_refuse_alike()
 {}
 
 /// What `check` and `audit` write does not depend on the version of the trace.
-#[tactic(auto, using(crate::proofs::UpgradeLemmas::texts_same))]
 pub fn texts_have_no_version()
     ensures { TextsHaveNoVersion }
 {}

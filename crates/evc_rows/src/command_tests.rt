@@ -1,7 +1,8 @@
 //! Each command by its task, over readers and writers that fail.
 use crate::commands::{
     AUDIT_OF_A_BUFFER, CHECK_OF_AN_OVERTAKEN_READ, RUN_OF_TICKETS, SIM_OF_A_TICKET_AND_AN_AWAIT,
-    SIM_OF_TICKETS, TURNS, UPGRADE_OF_A_READ_UNDER_WAY, UPGRADE_OF_VERSION_TWO, Worked, commanded_into,
+    SIM_OF_TICKETS, TURNS, UPGRADE_OF_A_READ_UNDER_WAY, UPGRADE_OF_VERSION_TWO, Worked,
+    commanded_into,
 };
 use crate::fakes::{Fickle, Pieces, Trouble};
 use evc_engine::{Notes, Status};

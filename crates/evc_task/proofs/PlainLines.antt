@@ -12,6 +12,8 @@ plain_lines_are_read = record {
   sim = λ program. (refl, (refl, tt));
   run = λ program. (refl, (refl, refl));
   help = λ program. refl;
+  version = λ program. refl;
+  short_version = λ program. refl;
   none = λ program. refl;
   unknown = λ program. refl;
 }

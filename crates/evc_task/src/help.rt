@@ -1,4 +1,9 @@
-//! The texts of `evc --help` and `evc -h`, and of the help on each command.
+//! The texts of `evc --help` and `evc -h`, of the help on each command, and of `evc --version`.
+
+// What stands behind `evc ` in the answer to `evc --version`: the number, which bin/package reads
+// here, and the line of the toolchain that everything is proved and built with.
+pub(crate) const VERSION: &str = "0.2
+proved and built with rattle-kit-13b";
 
 pub(crate) const ABOUT: &str =
     "Checks recorded runs of eventcounts and sequencers, and makes runs from scripts";

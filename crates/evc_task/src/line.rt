@@ -4,7 +4,7 @@ ghost use Rattle.clap.specs.Words.{FailsBy, app_of, first_of, found_of, kind_of,
 ghost use Rattle.clap.specs.Words.{rows_of, rule_of, subcommand_of, subcommand_rows_of};
 ghost use Rattle.clap.specs.declared.builder.command.Command.TheViews.{out-Command as fields_of};
 ghost use Rattle.evc_task.specs.CommandLine.{IsOneOf, Names, ReadsPlainLines, ReadsTurns, command_names, evc_app};
-ghost use Rattle.evc_task.specs.CommandLine.{faults_in, name_of, status_by, texts_of, trace_app, turns_text};
+ghost use Rattle.evc_task.specs.CommandLine.{bare_app, faults_in, name_of, status_by, texts_of, trace_app, turns_text};
 ghost use Rattle.evc_task.specs.Turns.{HasTurnsInRange, HasTurnsOf, IsInRange, IsTurnsOf, PassTurns};
 ghost use Rattle.evc_task.specs.Turns.{run_app, turns_rule};
 
@@ -76,6 +76,18 @@ fn run_command<'a>(alloc: Global) -> Result<Command<'a>, AllocError>
         .arg(turns)
 }
 
+// The program without its commands.
+fn bare_command<'a>(alloc: Global) -> Command<'a>
+    ensures { app_of result ≡ bare_app }
+{
+    Command::new(alloc, "evc")
+        .about(help::ABOUT)
+        .long_about(help::LONG_ABOUT)
+        .after_help(help::AFTER_HELP)
+        .version(help::VERSION)
+        .subcommand_required(true)
+}
+
 // The program with the commands that read traces.
 fn trace_command<'a>(alloc: Global) -> Result<Command<'a>, AllocError>
     ensures { IfOk result (λ c. app_of c ≡ trace_app) }
@@ -83,11 +95,7 @@ fn trace_command<'a>(alloc: Global) -> Result<Command<'a>, AllocError>
     let check = check_command(alloc);
     let audit = audit_command(alloc);
     let upgrade = upgrade_command(alloc);
-    Command::new(alloc, "evc")
-        .about(help::ABOUT)
-        .long_about(help::LONG_ABOUT)
-        .after_help(help::AFTER_HELP)
-        .subcommand_required(true)
+    bare_command(alloc)
         .subcommand(check)?
         .subcommand(audit)?
         .subcommand(upgrade)
@@ -139,7 +147,7 @@ fn task_named(name: &str, found: &ArgMatches<'_>) -> Option<Task>
 /// Reads the command line, whose first word is the program's name.
 ///
 /// An `Err` that is no want of memory says what is wrong with the words, or is the text of the help
-/// that they ask for. `Error::print` writes it where it belongs.
+/// or the version that they ask for. `Error::print` writes it where it belongs.
 pub fn task(alloc: Global, words: &[String]) -> Result<Task, Error>
     ensures names { IfOk result (λ t. Names (texts_of words.now) t) }
     ensures turns { IfOk result (λ t. HasTurnsOf (turns_text (texts_of words.now)) t) }

@@ -1,5 +1,5 @@
 -- A trace that is upgraded is as long as it was, and is read as the same history under version 2.
-use Rattle.std.proofs.Common.{◌≡◌, ℕ, ◌+◌, ◌≤◌, List, [], ◌∷◌, ◌++◌, length, length-append, Ok, map, refl, sym, ap, subst, ◌∙◌, arith, codes, reverse}
+use Rattle.std.proofs.Common.{◌≡◌, ℕ, ◌+◌, ◌≤◌, List, [], ◌∷◌, ◌++◌, length, length-append, Ok, map, refl, sym, ap, subst, ◌∙◌, arith, append_assoc, codes, reverse}
 use Rattle.ec_core.specs.Acceptance.{IsAccepted}
 use Rattle.ec_core.specs.declared.act.Entry.{Entry}
 use Rattle.ec_heading.specs.declared.version.Version.{Version}
@@ -36,6 +36,18 @@ as_long o es =
     ap (λ (ls : List (List ℕ)). length (text_of ls)) (upgraded_lines o es)
     ∙ lines_long (trace_header Two) (trace_header o.version) (behind o es) (first_long Two ∙ sym (first_long o.version))
 
+-- the bytes behind the first line, from its LF on
+abbrev bytes_behind : Outline → List Entry → List ℕ
+bytes_behind o es = 10 ∷ text_of (behind o es)
+
+first_then : (o : Outline) (es : List Entry) → trace_text o es ≡ trace_header o.version ++ bytes_behind o es
+unfolding trace_text
+first_then o es = append_assoc (trace_header o.version) (10 ∷ []) (text_of (behind o es))
+
+upgraded_then : (o : Outline) (es : List Entry) → trace_text (upgraded_outline o) es ≡ trace_header Two ++ bytes_behind o es
+unfolding trace_text
+upgraded_then o es = ap text_of (upgraded_lines o es) ∙ append_assoc (trace_header Two) (10 ∷ []) (text_of (behind o es))
+
 -- an outline of version 2 is as it was
 same_outline : (o : Outline) → o.version ≡ Two → upgraded_outline o ≡ o
 same_outline o e = ap (λ (v : Version). (let p : Outline = record o { version = v } in p)) (sym e)
@@ -51,6 +63,9 @@ traces_are_upgraded bytes o es is =
     } in
     record {
       trace = trace;
+      behind = bytes_behind o es;
+      was = is.text ∙ first_then o es;
+      is_now = upgraded_then o es;
       as_long = long;
       told = trace_is_read (trace_text (upgraded_outline o) es) (upgraded_outline o) es trace ∙ ap (λ (h : Headed). Ok (record { heading = h; entries = es })) (upgraded_headed o);
       as_it_was = λ e. ap (λ (p : Outline). trace_text p es) (same_outline o e) ∙ sym is.text;

@@ -14,7 +14,7 @@ pub returns-in-Ok-clause-ends : goal.returns-in-Ok-clause-ends
 returns-in-Ok-clause-ends g c =
     let entries = ap (λ (r : Recorded). r.entries) c.run.ensures ∙ ap (λ (t : Recounted). t.entries) c.upgrade-traced.ensures in
     let heading = c.heading.ensures ∙ ap (λ (t : Recounted). t.heading) c.upgrade-traced.ensures in (
-      λ o is e. subst (λ (es : List Entry). Appends _ _ (trace_text (upgraded_outline o) es)) entries
+      λ o is e. subst (λ (es : List Entry). Appends (g.W.Write.contents c.args.out.now) (g.W.Write.contents c.write_trace.new.writer) (trace_text (upgraded_outline o) es)) entries
           (c.in-Ok.ensures.ok (upgraded_outline o) (upgraded_is o is) (headed_so o _ e ∙ sym heading)),
       (refl, refl),
     )
@@ -23,7 +23,7 @@ pub returns-clause-ends : goal.returns-clause-ends
 returns-clause-ends g c =
     let entries = ap (λ (r : Recorded). r.entries) c.run.ensures ∙ ap (λ (t : Recounted). t.entries) c.upgrade-traced.ensures in
     let heading = c.heading.ensures ∙ ap (λ (t : Recounted). t.heading) c.upgrade-traced.ensures in (
-      λ o is e. subst (λ (es : List Entry). AppendsPrefix _ _ (trace_text (upgraded_outline o) es)) entries
+      λ o is e. subst (λ (es : List Entry). AppendsPrefix (g.W.Write.contents c.args.out.now) (g.W.Write.contents c.write_trace.new.writer) (trace_text (upgraded_outline o) es)) entries
           (c.in-Err.ensures.err (upgraded_outline o) (upgraded_is o is) (headed_so o _ e ∙ sym heading)),
       (c.say.ensures.puts, c.say.ensures.written),
     )
