@@ -221,6 +221,21 @@ fn the_run_of_the_script_of_tickets_finishes(rt: HostRuntime) {
     assert!(rt; run_ends(&rt, rt.alloc(), RUN_OF_TICKETS.text, notes));
 }
 
+/// Whether a run that is cut short tells of a failed write alone, where the write of this number fails.
+fn cut_run_fails_at<H: Threads + Wait + Sync>(rt: &H, alloc: Global, k: usize) -> bool {
+    let mut reader = RUN_OF_TICKETS.text.as_bytes();
+    let mut out = Fickle::new(alloc, 5, Trouble::Fails, k);
+    let (status, notes) = commanded_into(rt, alloc, Task::Run(1), &mut reader, &mut out);
+    status == Status::InputOutput && notes.as_slice() == b"write fault\n".as_slice()
+}
+
+/// With an ample writer its status is 5: no worker has a turn for its second step.
+#[test]
+fn a_failed_write_comes_before_a_run_cut_short(rt: HostRuntime) {
+    assert!(rt; cut_run_fails_at(&rt, rt.alloc(), 0));
+    assert!(rt; cut_run_fails_at(&rt, rt.alloc(), 9));
+}
+
 #[test]
 fn a_run_is_left_to_threads(rt: HostRuntime) {
     let text = RUN_OF_TICKETS.text.as_bytes();
