@@ -78,7 +78,7 @@ static inline int evc_put_(evc_record *r, struct evc_text *text, const char *byt
         size_t room = text->room ? text->room * 2 : 65536;
         while (room - text->length < length)
             room *= 2;
-        char *grown = realloc(text->bytes, room);
+        char *grown = (char *)realloc(text->bytes, room);
         if (!grown) {
             evc_fail_(r, EVC_NO_MEMORY);
             return 0;
