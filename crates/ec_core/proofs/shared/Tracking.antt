@@ -1,5 +1,5 @@
 -- A walk keeps what it says it keeps, also where entries whose calls are not on a group are left out.
-use Rattle.std.proofs.Common.{◌≡◌, ℕ, zero, suc, ◌+◌, ◌<◌, ◌≤◌, Bool, true, false, not, ◌||◌, List, [], ◌∷◌, ◌++◌, Option, Some, None, refl, ap, sym, ◌∙◌, arith, subst, cond, ◌==◌, add-one, take, length, reverse, slice_get, slice_set}
+use Rattle.std.proofs.Common.{◌≡◌, ℕ, zero, suc, ◌+◌, ◌<◌, Bool, true, false, not, ◌||◌, List, [], ◌∷◌, ◌++◌, Option, Some, None, refl, ap, sym, ◌∙◌, subst, ◌==◌, add-one, take, length, reverse, slice_get, slice_set}
 use Rattle.std.specs.Option.{option_map}
 use Rattle.std.proofs.lemmas.Bool.{eqb-true}
 use Rattle.std.proofs.lemmas.List.{reverse-append, reverse-reverse, length-reverse}
@@ -17,7 +17,6 @@ use Rattle.ec_core.specs.JoinedLists.{SpeaksOf}
 use Rattle.ec_core.specs.Scanning.{Tracked, AreKept, AreBegun, IsFinding, IsTracked, open_after}
 use Rattle.ec_core.proofs.shared.Breaks.{break_at, follow_or_break}
 use Rattle.ec_core.proofs.shared.Following.{op_at, off_block, other_block}
-use Rattle.ec_core.proofs.shared.Joining.{last_get}
 use Rattle.ec_core.proofs.shared.Moments.{past_next}
 use Rattle.ec_core.proofs.shared.Scans.{op_of, lists_after, begun_after}
 

@@ -1,7 +1,6 @@
-use Rattle.std.proofs.Common.{List, ◌∷◌, Option, Some, subst, sym}
-use Rattle.ec_core.specs.declared.act.Entry.{Entry}
+use Rattle.std.proofs.Common.{Option, subst}
 use Rattle.ec_core.specs.declared.audit.AuditFault.{AuditFault}
-use Rattle.ec_core.specs.Following.{block, Follow}
+use Rattle.ec_core.specs.Following.{block}
 use Rattle.ec_core.specs.Scanning.{IsFinding}
 use Rattle.ec_core.proofs.shared.Tracking.{found_stays, found_break}
 use Rattle.ec_core.proofs.tracker.found.Goals as goal

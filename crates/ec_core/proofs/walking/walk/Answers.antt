@@ -1,4 +1,4 @@
-use Rattle.std.proofs.Common.{◌≡◌, List, [], ◌∷◌, ◌++◌, reverse, length, length-append, append_assoc, arith, ap, sym, subst, ◌∙◌}
+use Rattle.std.proofs.Common.{List, [], ◌∷◌, ◌++◌, reverse, length-append, append_assoc, arith, ap, sym, subst, ◌∙◌}
 use Rattle.ec_core.specs.declared.act.Entry.{Entry}
 use Rattle.ec_core.specs.Scanning.{AreBegun}
 use Rattle.ec_core.proofs.shared.Stepping.{past_after}

@@ -1,4 +1,4 @@
-use Rattle.std.proofs.Common.{Option, Some, None, refl, reverse, subst, sym}
+use Rattle.std.proofs.Common.{Option, refl, reverse, subst, sym}
 use Rattle.ec_core.specs.declared.audit.AuditFault.{AuditFault}
 use Rattle.ec_core.specs.Scanning.{IsFinding, Tracked, IsTracked}
 use Rattle.ec_core.proofs.shared.Tracking.{found_first, found_either}
