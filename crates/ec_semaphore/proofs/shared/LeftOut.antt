@@ -1,5 +1,5 @@
 -- The audit of a semaphore may leave out the entries whose calls are not on it.
-use Rattle.std.proofs.Common.{◌≡◌, ℕ, ◌+◌, ◌&&◌, Bool, false, not, List, ◌∷◌, Option, refl, ap, sym, ◌∙◌, arith, cond, ◌==◌}
+use Rattle.std.proofs.Common.{◌≡◌, ℕ, ◌+◌, ◌&&◌, false, not, List, ◌∷◌, Option, refl, ap, sym, ◌∙◌, arith, cond}
 use Rattle.ec_core.specs.declared.act.Act.{Act}
 use Rattle.ec_core.specs.declared.act.Act.TheVariants.{Advance, Read, Await, Go, Ticket, Put, Get}
 use Rattle.ec_core.specs.declared.act.Entry.{Entry}

@@ -1,5 +1,4 @@
-use Rattle.std.proofs.Common.{◌≡◌, ◌≤◌, ◌+◌, ◌<◌, ◌^◌, reverse, refl, ap, ◌∙◌, arith, subst}
-use Rattle.ec_core.specs.Counts.{total}
+use Rattle.std.proofs.Common.{◌≡◌, reverse, refl, ap, ◌∙◌, arith, subst}
 use Rattle.ec_core.specs.Following.{Follow}
 use Rattle.ec_semaphore.specs.Auditing.{Balancing}
 use Rattle.ec_semaphore.specs.Shapes.{Semaphore}

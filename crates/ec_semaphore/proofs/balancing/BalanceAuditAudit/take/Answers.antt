@@ -1,4 +1,4 @@
-use Rattle.std.proofs.Common.{◌≡◌, ◌&&◌, not, ap, sym, subst, ◌∙◌}
+use Rattle.std.proofs.Common.{◌&&◌, not, ap, sym, subst, ◌∙◌}
 use Rattle.ec_core.specs.Calls.{is_pending}
 use Rattle.ec_core.specs.Counts.{is_advance}
 use Rattle.ec_semaphore.specs.Shapes.{Semaphore}
