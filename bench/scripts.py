@@ -77,12 +77,40 @@ def write_script(path, kind):
     return text_of(trace)
 
 
-def write_advances(path, workers, times):
-    """Writes a script whose workers advance one eventcount, each so often, and nothing else."""
+def advances(everybody):
+    """Workers that advance one eventcount, and nothing else."""
+    return [f"eventcount E signal {everybody}"], ["advance E"]
+
+
+def queue(everybody):
+    """Workers that pass a turn round: each draws a ticket, awaits its turn, and hands the turn on."""
+    declared = [f"eventcount E signal {everybody} observe {everybody}", f"sequencer T take {everybody}"]
+    return declared, ["ticket T", "await E last", "advance E"]
+
+
+def semaphore(everybody):
+    """Workers of which one at a time is between its P and its V."""
+    return [f"semaphore S 1 use {everybody}"], ["p S", "v S"]
+
+
+# What workers on threads do: of each kind the declarations, and the commands that each worker repeats.
+THREADED = {"advances": advances, "queue": queue, "semaphore": semaphore}
+
+
+def write_threaded(path, kind, workers, times):
+    """Writes a script whose workers all do so often what their kind says, and nothing else. Gives the front of each trace that it
+    may come to, up to its entries, and the end of what `check` writes of it."""
     names = [f"w{it}" for it in range(workers)]
     everybody = " ".join(names)
-    script = ["evc-script 1", "limit 4294967295", f"workers {everybody}", f"eventcount E signal {everybody}"]
+    declared, commands = THREADED[kind](everybody)
+    heading = ["limit 4294967295", f"workers {everybody}", *declared]
+    script = ["evc-script 1", *heading]
     for name in names:
-        script += block(name, [f"repeat {times}", "advance E", "end"])
+        script += block(name, [f"repeat {times}", *commands, "end"])
     with open(path, "w", encoding="ascii", newline="\n") as file:
         file.write(text_of(script))
+    event, sequencer = ("S.v", "S.p") if kind == "semaphore" else ("E", "T")
+    totals = ["totals", f"eventcount {event} {workers * times}"]
+    if kind != "advances":
+        totals.append(f"sequencer {sequencer} {workers * times}")
+    return text_of(["evc-trace 1", *heading, "run"]), text_of([*totals, "end"])

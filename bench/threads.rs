@@ -1,11 +1,13 @@
-//! What `evc run` does with workers that advance one eventcount, in plain Rust under std's Mutex and Condvar, as a yardstick.
+//! What `evc run` does with workers that advance one eventcount or pass a turn round, in plain Rust under std's Mutex, with a
+//! Condvar of std's for each worker, as a yardstick.
 //!
-//! `threads WORKERS TIMES` gives each of so many workers a program that advances it so often, and runs each on a thread of its
-//! own. In one hold of the lock a worker makes the step that its program asks for, with all checks of a step (`world.rs`); the
-//! run keeps its entry, an advance lets the waiters go whose threshold the total has come to, and a worker whose await fell
-//! short sleeps. Each worker keeps a log. When all have ended the run is compared with the logs, a machine replays each log by
-//! its program, and each program has to have ended as its worker told. Then the trace is written, and on standard error how
-//! each worker has ended. What it leaves out are the commands on buffers, databases and semaphores, and the script's text.
+//! `threads KIND WORKERS TIMES` gives each of so many workers a program that does so often what its kind says (`Kind`), and runs
+//! each on a thread of its own. In one hold of the lock a worker makes the step that its program asks for, with all checks of a
+//! step (`world.rs`); the run keeps its entry, an advance lets the waiters go whose threshold the total has come to, and a worker
+//! whose await fell short sleeps. Woken are just those who were let go, once the lock is free. Each worker keeps a log. When all
+//! have ended the run is compared with the logs, and each worker has to have finished. Then the trace is written, and on standard
+//! error how each worker has ended. What it leaves out are the commands on buffers and databases, P on two semaphores, and the
+//! script's text.
 
 mod world;
 
@@ -13,21 +15,30 @@ use std::array;
 use std::collections::BTreeSet;
 use std::fs::File;
 use std::io::{self, BufWriter, Write};
+use std::mem;
 use std::os::fd::AsFd;
 use std::process::ExitCode;
 use std::slice;
-use std::sync::{Condvar, Mutex};
+use std::sync::{Condvar, Mutex, MutexGuard};
 use std::thread;
 use world::{Act, Entry, LIMIT, Members, Refusal, Reply, Rights, Run, Setup, Steps, VALUE_MAX};
 
 const TURNS: u64 = 1_000_000;
 
 /// A number that a command names: it, the last number told, or that and so many more.
-#[allow(dead_code)] // the programs here only advance
+#[allow(dead_code)] // the programs here use some of these
 enum Value {
     Number(u64),
     Last,
     LastPlus(u64),
+}
+
+/// A semaphore by its eventcount, its sequencer and its initial value.
+#[derive(Clone, Copy)]
+struct Semaphore {
+    event: u8,
+    sequencer: u8,
+    initial: u64,
 }
 
 #[allow(dead_code)]
@@ -38,6 +49,8 @@ enum Command {
     Ticket(u8),
     Put(u8, Value),
     Get(u8),
+    P(Semaphore),
+    V(Semaphore),
     Repeat(u64, Vec<Command>),
 }
 
@@ -69,10 +82,11 @@ impl<'a> Frame<'a> {
     }
 }
 
-/// What a worker asks for next, of its program.
+/// What a worker asks for next, of its program. A P whose ticket is due has its await still before it.
 struct Machine<'a> {
     frames: Vec<Frame<'a>>,
     due: Option<Act>,
+    begun: Option<Semaphore>,
     is_going: bool,
     last: u64,
     outcome: Outcome,
@@ -83,6 +97,7 @@ impl<'a> Machine<'a> {
         let mut machine = Machine {
             frames: vec![Frame::new(program, 0)],
             due: None,
+            begun: None,
             is_going: false,
             last: 0,
             outcome: Outcome::Running,
@@ -104,9 +119,19 @@ impl<'a> Machine<'a> {
         if let Reply::Number(number) = reply {
             self.last = number;
         }
-        if !self.is_going {
-            self.settle();
+        if self.is_going {
+            return;
         }
+        match self.begun.take() {
+            Some(semaphore) => self.due = Some(self.await_of(semaphore)),
+            None => self.settle(),
+        }
+    }
+
+    /// The await of a P whose ticket was drawn.
+    fn await_of(&self, semaphore: Semaphore) -> Act {
+        let threshold = (self.last + 1).saturating_sub(semaphore.initial);
+        Act::Await(semaphore.event, threshold)
     }
 
     fn refuse(&mut self, outcome: Outcome) {
@@ -151,6 +176,8 @@ impl<'a> Machine<'a> {
             Command::Ticket(sequencer) => Act::Ticket(sequencer),
             Command::Put(cell, ref value) => Act::Put(cell, self.value(value)?),
             Command::Get(cell) => Act::Get(cell),
+            Command::P(semaphore) => Act::Ticket(semaphore.sequencer),
+            Command::V(semaphore) => Act::Advance(semaphore.event),
             Command::Repeat(..) => unreachable!(),
         })
     }
@@ -159,10 +186,15 @@ impl<'a> Machine<'a> {
     fn settle(&mut self) {
         (self.due, self.outcome) = match self.command() {
             None => (None, Outcome::Finished),
-            Some(command) => match self.act_of(command) {
-                None => (None, Outcome::ValueTooLarge),
-                due => (due, Outcome::Running),
-            },
+            Some(command) => {
+                if let Command::P(semaphore) = command {
+                    self.begun = Some(*semaphore);
+                }
+                match self.act_of(command) {
+                    None => (None, Outcome::ValueTooLarge),
+                    due => (due, Outcome::Running),
+                }
+            }
         };
     }
 }
@@ -175,6 +207,7 @@ enum Seat {
     Waiting(u8, u64),
 }
 
+#[derive(PartialEq, Eq)]
 enum Parked {
     Stuck,
     Ready,
@@ -187,12 +220,14 @@ enum Halt {
     Refused(Refusal, usize),
 }
 
-/// The run so far, how each worker stands, and for each eventcount its waiters by threshold.
+/// The run so far, how each worker stands, and for each eventcount its waiters by threshold. Beside them stand those who were let
+/// go in this hold, a bit for each.
 struct Board {
     run: Run,
     seats: [Seat; 16],
     lines: [BTreeSet<(u64, u8)>; 32],
     is_stuck: bool,
+    let_go: u16,
 }
 
 impl Board {
@@ -205,6 +240,7 @@ impl Board {
             seats,
             lines,
             is_stuck: false,
+            let_go: 0,
         }
     }
 
@@ -226,6 +262,7 @@ impl Board {
                 break;
             }
             self.seat(worker, Seat::Running);
+            self.let_go |= 1 << worker;
         }
     }
 
@@ -267,7 +304,7 @@ impl Board {
             return Parked::Ready;
         }
         self.seat(worker, Seat::Waiting(event, threshold));
-        self.is_stuck = self.are_stuck();
+        self.look_if_stuck();
         if self.is_stuck {
             Parked::Stuck
         } else {
@@ -277,11 +314,24 @@ impl Board {
 
     fn leave(&mut self, worker: u8) {
         self.seat(worker, Seat::Gone);
-        self.is_stuck = self.is_stuck || self.are_stuck();
+        self.look_if_stuck();
     }
 
-    fn is_waiting(&self, worker: u8) -> bool {
-        matches!(self.seats[worker as usize], Seat::Waiting(..))
+    /// Where the board comes to be stuck, nobody waits any more for what does not come.
+    fn look_if_stuck(&mut self) {
+        if self.is_stuck || !self.are_stuck() {
+            return;
+        }
+        self.is_stuck = true;
+        for worker in 0..16 {
+            if matches!(self.seats[worker], Seat::Waiting(..)) {
+                self.let_go |= 1 << worker;
+            }
+        }
+    }
+
+    fn is_asleep(&self, worker: u8) -> bool {
+        !self.is_stuck && matches!(self.seats[worker as usize], Seat::Waiting(..))
     }
 }
 
@@ -292,42 +342,52 @@ struct Told {
     moment: usize,
 }
 
-/// One hold of the lock: one step and, where an await fell short and the worker may wait, the sleep.
-fn hold(
-    board: &Mutex<Board>,
-    woken: &Condvar,
-    worker: u8,
-    act: Act,
-    may_park: bool,
-) -> Result<Reply, Halt> {
-    let mut guard = board.lock().unwrap();
-    let reply = guard.step(worker, act)?;
-    if matches!(act, Act::Advance(_)) {
-        woken.notify_all();
-    }
-    if may_park && reply == Reply::Pending {
-        match guard.park(worker) {
-            Parked::Ready => {}
-            Parked::Stuck => woken.notify_all(),
-            Parked::Asleep => {
-                let _guard = woken
-                    .wait_while(guard, |board| board.is_waiting(worker) && !board.is_stuck)
-                    .unwrap();
-            }
+/// What the threads share: the board under its lock, and what each worker sleeps on.
+struct Shared {
+    board: Mutex<Board>,
+    sleeps: [Condvar; 16],
+}
+
+impl Shared {
+    /// Gives the lock back, and wakes those who were let go.
+    fn give_back(&self, mut guard: MutexGuard<'_, Board>) {
+        let mut let_go = mem::take(&mut guard.let_go);
+        drop(guard);
+        while let_go != 0 {
+            self.sleeps[let_go.trailing_zeros() as usize].notify_one();
+            let_go &= let_go - 1;
         }
     }
-    Ok(reply)
+
+    /// One hold of the lock: one step and, where an await fell short and the worker may wait, the sleep.
+    fn hold(&self, worker: u8, act: Act, may_park: bool) -> Result<Reply, Halt> {
+        let mut guard = self.board.lock().unwrap();
+        let reply = guard.step(worker, act)?;
+        if may_park && reply == Reply::Pending && guard.park(worker) == Parked::Asleep {
+            let sleep = &self.sleeps[worker as usize];
+            drop(sleep.wait_while(guard, |board| board.is_asleep(worker)));
+        } else {
+            self.give_back(guard);
+        }
+        Ok(reply)
+    }
+
+    fn leave(&self, worker: u8) {
+        let mut guard = self.board.lock().unwrap();
+        guard.leave(worker);
+        self.give_back(guard);
+    }
 }
 
 /// A worker, up to its end.
-fn work(board: &Mutex<Board>, woken: &Condvar, worker: u8, program: &[Command]) -> Told {
+fn work(shared: &Shared, worker: u8, program: &[Command]) -> Told {
     let mut machine = Machine::new(program);
     let mut log = Vec::new();
     let mut moment = 0;
     for turn in 1..=TURNS {
         let Some(act) = machine.next() else { break };
         log.reserve(1);
-        match hold(board, woken, worker, act, turn < TURNS) {
+        match shared.hold(worker, act, turn < TURNS) {
             Ok(reply) => {
                 log.push(Entry { worker, act, reply });
                 machine.take(reply);
@@ -340,8 +400,7 @@ fn work(board: &Mutex<Board>, woken: &Condvar, worker: u8, program: &[Command]) 
         }
     }
     machine.refuse(Outcome::OutOfTurns);
-    board.lock().unwrap().leave(worker);
-    woken.notify_all();
+    shared.leave(worker);
     Told {
         log,
         outcome: machine.outcome,
@@ -368,42 +427,29 @@ fn agree(run: &Run, tolds: &[Told]) -> bool {
         .all(|(told, cursor)| told.log.len() == cursor)
 }
 
-/// The program after the steps of a log, where they are a run of it.
-fn replayed<'a>(program: &'a [Command], log: &[Entry]) -> Option<Machine<'a>> {
-    let mut machine = Machine::new(program);
-    for entry in log {
-        if machine.next() != Some(entry.act) {
-            return None;
-        }
-        machine.take(entry.reply);
-    }
-    Some(machine)
-}
-
-/// Whether a worker's log is a run of its program, which has ended as it told. (In no run of these programs is a worker refused
-/// or stopped.)
-fn is_told(program: &[Command], told: &Told) -> bool {
-    let Some(machine) = replayed(program, &told.log) else {
-        return false;
-    };
+/// Whether a worker has finished. (In no run of these programs is a worker refused or stopped, so no moment is asked about.)
+fn is_told(told: &Told) -> bool {
     let steps = told.log.len() as u64;
-    steps <= TURNS
-        && match told.outcome {
-            Outcome::Finished | Outcome::ValueTooLarge => {
-                machine.outcome == told.outcome && told.moment == 0
-            }
-            Outcome::OutOfTurns => machine.outcome == Outcome::Running && steps == TURNS,
-            Outcome::Running | Outcome::Refused(_) | Outcome::Stopped => false,
-        }
+    told.outcome == Outcome::Finished && steps <= TURNS && told.moment == 0
 }
 
-fn write_act(out: &mut impl Write, act: Act) -> io::Result<()> {
+/// Writes a word and a name.
+fn write_words(out: &mut impl Write, word: &[u8], name: &str) -> io::Result<()> {
+    out.write_all(word)?;
+    out.write_all(name.as_bytes())
+}
+
+fn write_act(out: &mut impl Write, kind: Kind, act: Act) -> io::Result<()> {
+    let (event, sequencer) = kind.names();
     match act {
-        Act::Advance(_) => out.write_all(b"advance E"),
-        Act::Read(_) => out.write_all(b"read E"),
-        Act::Await(_, threshold) => write!(out, "await E {threshold}"),
+        Act::Advance(_) => write_words(out, b"advance ", event),
+        Act::Read(_) => write_words(out, b"read ", event),
+        Act::Await(_, threshold) => {
+            write_words(out, b"await ", event)?;
+            write!(out, " {threshold}")
+        }
         Act::Go => out.write_all(b"go"),
-        Act::Ticket(_) => out.write_all(b"ticket T"),
+        Act::Ticket(_) => write_words(out, b"ticket ", sequencer),
         Act::Put(cell, value) => write!(out, "put C[{cell}] {value}"),
         Act::Get(cell) => write!(out, "get C[{cell}]"),
     }
@@ -428,19 +474,18 @@ fn outcome_words(outcome: Outcome) -> String {
     }
 }
 
-fn write_trace(run: &Run, names: &[String]) -> io::Result<()> {
+fn write_trace(run: &Run, kind: Kind, names: &[String]) -> io::Result<()> {
     // (past std's own buffer, which would cut each piece at its last line)
     let mut out =
         BufWriter::with_capacity(8192, File::from(io::stdout().as_fd().try_clone_to_owned()?));
     let all = names.join(" ");
-    write!(
-        out,
-        "evc-trace 1\nlimit {LIMIT}\nworkers {all}\neventcount E signal {all}\nrun\n"
-    )?;
+    write!(out, "evc-trace 1\nlimit {LIMIT}\nworkers {all}\n")?;
+    out.write_all(kind.declarations(&all).as_bytes())?;
+    out.write_all(b"run\n")?;
     for entry in run.entries() {
         out.write_all(names[entry.worker as usize].as_bytes())?;
         out.write_all(b" ")?;
-        write_act(&mut out, entry.act)?;
+        write_act(&mut out, kind, entry.act)?;
         out.write_all(b" = ")?;
         write_reply(&mut out, entry.reply)?;
         out.write_all(b"\n")?;
@@ -449,60 +494,127 @@ fn write_trace(run: &Run, names: &[String]) -> io::Result<()> {
     out.flush()
 }
 
-/// One eventcount that all workers signal and nobody observes.
-fn setup(workers: usize) -> Setup {
-    let everybody: Vec<u8> = (0..workers as u8).collect();
-    Setup {
-        limit: LIMIT,
-        workers,
-        events: vec![Rights {
-            signal: Members::new(&everybody),
-            observe: Members::default(),
-        }],
-        takers: Vec::new(),
-        cells: Vec::new(),
+/// What each worker does again and again.
+#[derive(Clone, Copy)]
+enum Kind {
+    /// It advances an eventcount that nobody observes.
+    Advances,
+    /// It draws a ticket, awaits its turn, and advances.
+    Queue,
+    /// It does P and V on a semaphore of initial value 1.
+    Semaphore,
+}
+
+impl Kind {
+    fn of(word: &str) -> Option<Kind> {
+        match word {
+            "advances" => Some(Kind::Advances),
+            "queue" => Some(Kind::Queue),
+            "semaphore" => Some(Kind::Semaphore),
+            _ => None,
+        }
+    }
+
+    fn commands(self) -> Vec<Command> {
+        let semaphore = Semaphore {
+            event: 0,
+            sequencer: 0,
+            initial: 1,
+        };
+        match self {
+            Kind::Advances => vec![Command::Advance(0)],
+            Kind::Queue => vec![
+                Command::Ticket(0),
+                Command::Await(0, Value::Last),
+                Command::Advance(0),
+            ],
+            Kind::Semaphore => vec![Command::P(semaphore), Command::V(semaphore)],
+        }
+    }
+
+    /// What the eventcount and the sequencer are called.
+    fn names(self) -> (&'static str, &'static str) {
+        match self {
+            Kind::Advances | Kind::Queue => ("E", "T"),
+            Kind::Semaphore => ("S.v", "S.p"),
+        }
+    }
+
+    fn declarations(self, all: &str) -> String {
+        match self {
+            Kind::Advances => format!("eventcount E signal {all}\n"),
+            Kind::Queue => {
+                format!("eventcount E signal {all} observe {all}\nsequencer T take {all}\n")
+            }
+            Kind::Semaphore => format!("semaphore S 1 use {all}\n"),
+        }
+    }
+
+    /// One eventcount that all workers signal, and, but for the advances, that all observe beside a sequencer of all.
+    fn setup(self, workers: usize) -> Setup {
+        let everybody: Vec<u8> = (0..workers as u8).collect();
+        let (observe, takers) = match self {
+            Kind::Advances => (Members::default(), Vec::new()),
+            Kind::Queue | Kind::Semaphore => {
+                (Members::new(&everybody), vec![Members::new(&everybody)])
+            }
+        };
+        Setup {
+            limit: LIMIT,
+            workers,
+            events: vec![Rights {
+                signal: Members::new(&everybody),
+                observe,
+            }],
+            takers,
+            cells: Vec::new(),
+        }
     }
 }
 
+/// The kind, how many workers there are, and how often each does what it does.
+fn read_words() -> Option<(Kind, usize, u64)> {
+    let words: Vec<String> = std::env::args().skip(1).collect();
+    let [kind, workers, times] = &words[..] else {
+        return None;
+    };
+    Some((Kind::of(kind)?, workers.parse().ok()?, times.parse().ok()?))
+}
+
 fn main() -> ExitCode {
-    let words: Vec<usize> = std::env::args()
-        .skip(1)
-        .filter_map(|it| it.parse().ok())
-        .collect();
-    let [workers, times] = words[..] else {
+    let Some((kind, workers, times)) = read_words() else {
         return ExitCode::from(2);
     };
-    let setup = setup(workers);
-    let program = || vec![Command::Repeat(times as u64, vec![Command::Advance(0)])];
+    let setup = kind.setup(workers);
+    let program = || vec![Command::Repeat(times, kind.commands())];
     let programs: Vec<Vec<Command>> = (0..workers).map(|_| program()).collect();
 
-    let board = Mutex::new(Board::open(setup.clone()));
-    let woken = Condvar::new();
+    let shared = Shared {
+        board: Mutex::new(Board::open(setup.clone())),
+        sleeps: array::from_fn(|_| Condvar::new()),
+    };
     let tolds: Vec<Told> = thread::scope(|scope| {
-        let (board, woken) = (&board, &woken);
+        let shared = &shared;
         let handles: Vec<_> = (0..)
             .zip(&programs)
-            .map(|(worker, program)| scope.spawn(move || work(board, woken, worker, program)))
+            .map(|(worker, program)| scope.spawn(move || work(shared, worker, program)))
             .collect();
         handles
             .into_iter()
             .map(|handle| handle.join().unwrap())
             .collect()
     });
-    let run = board.into_inner().unwrap().run;
+    let run = shared.board.into_inner().unwrap().run;
 
     let is_right = run.world.setup == setup
         && tolds.len() == workers
         && agree(&run, &tolds)
-        && programs
-            .iter()
-            .zip(&tolds)
-            .all(|(program, told)| is_told(program, told));
+        && tolds.iter().all(is_told);
     if !is_right {
         return ExitCode::from(5);
     }
     let names: Vec<String> = (0..workers).map(|it| format!("w{it}")).collect();
-    if write_trace(&run, &names).is_err() {
+    if write_trace(&run, kind, &names).is_err() {
         return ExitCode::from(3);
     }
     for (name, told) in names.iter().zip(&tolds) {

@@ -1,5 +1,6 @@
 """Traces for the bench. A small simulator of the kernel makes each reply, so that every trace is a right one."""
 
+import itertools
 import random
 
 # The greatest limit of a component or a sequencer that a trace may declare.
@@ -12,9 +13,9 @@ LONGEST = 64
 class Kernel:
     """Counts, tickets and calls under way, and the lines that steps on them write."""
 
-    def __init__(self, workers, events, sequencers, group=None):
+    def __init__(self, workers, events, sequencers, groups=()):
         """`events` has for each eventcount its signallers and its observers, `sequencers` the takers of each.
-        Where they are the objects of one group, `group` is its line."""
+        Where they are the objects of groups, `groups` has their lines."""
         self.workers = workers
         self.events = events
         self.sequencers = sequencers
@@ -25,20 +26,21 @@ class Kernel:
             for place, worker in enumerate(signal)
         }
         self.issued = dict.fromkeys(sequencers, 0)
-        self.group = group
+        self.groups = list(groups)
         self.cells = {}
         self.told = {}
         self.ended = {}
         self.going = {}
         self.audited = []
+        self.downs = {}
         self.calls = {}
         self.finished = 0
 
     def heading(self):
         """The lines before the first entry."""
         lines = ["evc-trace 1", f"limit {LIMIT}", "workers " + " ".join(self.workers)]
-        if self.group:
-            return "".join(line + "\n" for line in lines + [self.group, "run"])
+        if self.groups:
+            return "".join(line + "\n" for line in [*lines, *self.groups, "run"])
         for event, (signal, observe) in self.events.items():
             lines.append(f"eventcount {event} signal {' '.join(signal)} observe {' '.join(observe)}")
         for sequencer, take in self.sequencers.items():
@@ -51,6 +53,14 @@ class Kernel:
         lines += [f"eventcount {event} {sum(counts)}" for event, counts in self.components.items()]
         lines += [f"sequencer {sequencer} {n}" for sequencer, n in self.issued.items()]
         return "".join(line + "\n" for line in lines + ["end"])
+
+    def audits(self):
+        """The lines of the groups in what `audit` writes."""
+        lines = [line for _, line in sorted(self.audited)]
+        for name, downs in self.downs.items():
+            ups = self.total(f"{name}.v")
+            lines.append(f"balance {name} {INITIAL} {downs} {ups} {INITIAL + ups - downs}")
+        return lines
 
     def total(self, event):
         return sum(self.components[event])
@@ -197,6 +207,16 @@ def reader(kernel, worker):
             kernel.audited.append((kernel.ended[worker], f"version D {version} {worker} {' '.join(map(str, values))}"))
 
 
+def user(kernel, worker):
+    while True:
+        for name in kernel.downs:
+            yield lambda: kernel.ticket(worker, f"{name}.p")
+            turn = kernel.told[worker]
+            yield lambda: kernel.wait(worker, f"{name}.v", max(0, turn + 1 - INITIAL))
+            kernel.downs[name] += 1
+            yield lambda: kernel.advance(worker, f"{name}.v")
+
+
 def entry_of(kernel, workers, worker):
     """The next entry of a worker, which goes on with what it is at."""
     return kernel.go(worker) if worker in kernel.calls else next(workers[worker])()
@@ -223,35 +243,60 @@ def snapshots(kernel, draw):
         yield entry_of(kernel, workers, draw([alice] * 3 + readers if writes else [alice] + readers * 20))
 
 
+def semaphores(kernel, draw):
+    workers = {it: user(kernel, it) for it in kernel.workers}
+    kernel.going = workers
+    while True:
+        yield entry_of(kernel, workers, draw(kernel.workers))
+
+
 def buffer_kernel():
     workers = ["alice", "bob", "carol", "dave"]
     makers, takers = workers[:2], workers[2:]
     events = {"B.in": (makers, workers), "B.out": (takers, workers)}
     group = f"buffer B {CELLS} produce {' '.join(makers)} consume {' '.join(takers)}"
-    return Kernel(workers, events, {"B.put": makers, "B.take": takers}, group)
+    return Kernel(workers, events, {"B.put": makers, "B.take": takers}, [group])
 
 
 def snapshots_kernel():
     workers = ["alice", "bob", "carol", "dave"]
     alice, *readers = workers
     events = {"D.start": ([alice], readers), "D.done": ([alice], workers)}
-    return Kernel(workers, events, {"D.turn": [alice]}, f"database D {CELLS} write {alice} read {' '.join(readers)}")
+    return Kernel(workers, events, {"D.turn": [alice]}, [f"database D {CELLS} write {alice} read {' '.join(readers)}"])
 
 
-# The kinds of traces for `audit`, in the same form as those below.
+def semaphores_kernel(many):
+    workers = ["alice", "bob", "carol", "dave"]
+    names = [f"S{number:02}" for number in range(many)]
+    kernel = Kernel(
+        workers,
+        {f"{name}.v": (workers, workers) for name in names},
+        {f"{name}.p": workers for name in names},
+        [f"semaphore {name} {INITIAL} use {' '.join(workers)}" for name in names],
+    )
+    kernel.downs = dict.fromkeys(names, 0)
+    return kernel
+
+
+# The initial value of each semaphore, and how many of them a trace of semaphores has.
+INITIAL = 3
+MANY = (1, 8, 32)
+
+# The traces of so many semaphores, and the kinds of traces for `audit`, in the same form as those below.
+SEMAPHORES = {f"{many} semaphores": (lambda many=many: semaphores_kernel(many), semaphores) for many in MANY}
 AUDITED = {"buffer": (buffer_kernel, buffer), "snapshots": (snapshots_kernel, snapshots)}
 
 # The kinds of traces: the kernel of each, and what its workers do.
 KINDS = {"ordinary": (ordinary_kernel, ordinary), "interleaved": (interleaved_kernel, interleaved)}
 
 
-def write_trace(path, kind, size):
-    """Writes a trace of at most `size` bytes, as many entries as fit, and gives the kernel at its end."""
-    make_kernel, entries = {**KINDS, **AUDITED}[kind]
+def write_trace(path, kind, size, most=None):
+    """Writes a trace of at most `size` bytes, as many entries as fit or `most`, and gives the kernel at its end."""
+    make_kernel, entries = {**KINDS, **AUDITED, **SEMAPHORES}[kind]
     kernel = make_kernel()
     with open(path, "w", encoding="ascii", newline="\n") as file:
         written = file.write(kernel.heading())
-        for line in entries(kernel, random.Random(1).choice):
+        for line in itertools.islice(entries(kernel, random.Random(1).choice), most):
             written += file.write(line)
             if written + LONGEST > size:
                 break

@@ -4,7 +4,7 @@ if exists('b:current_syntax')
     finish
 endif
 syntax case match
-syntax match evcHead /\%1l^evc-\(trace\|script\) 1$/
+syntax match evcHead /\%1l^evc-\(trace\|script\) [12]$/
 syntax keyword evcDeclare limit workers eventcount sequencer cells buffer database semaphore both
 syntax keyword evcRight signal observe take use
 syntax keyword evcPart run end worker schedule repeat

@@ -78,7 +78,7 @@ static inline int evc_put_(evc_record *r, struct evc_text *text, const char *byt
         size_t room = text->room ? text->room * 2 : 65536;
         while (room - text->length < length)
             room *= 2;
-        char *grown = realloc(text->bytes, room);
+        char *grown = (char *)realloc(text->bytes, room);
         if (!grown) {
             evc_fail_(r, EVC_NO_MEMORY);
             return 0;
@@ -105,7 +105,7 @@ static inline void evc_line_(evc_record *r, struct evc_text *text, char *line, i
     evc_put_(r, text, line, (size_t)length + 1);
 }
 
-/* Begins a record. The limit is that of each component and each sequencer, from 1 to 4294967295. */
+/* Begins a record. The limit is that of each component and each sequencer, from 1 to 4294967295: the trace has version 1. */
 static inline void evc_open(evc_record *r, unsigned long long limit) {
     char digits[24];
     memset(r, 0, sizeof *r);

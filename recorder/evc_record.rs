@@ -106,8 +106,8 @@ pub struct Record {
 }
 
 impl Record {
-    /// Begins a record: the limit of each component and each sequencer, from 1 to 4294967295; the workers; and the
-    /// objects, each a line of docs/FORMATS.md, as "sequencer T take a b".
+    /// Begins a record: the limit of each component and each sequencer, from 1 to 4294967295 (the trace has
+    /// version 1); the workers; and the objects, each a line of docs/FORMATS.md, as "sequencer T take a b".
     pub fn new(limit: u64, workers: &[&str], objects: &[&str]) -> Self {
         let mut text = Text { bytes: Vec::new(), fault: None };
         text.line("evc-trace 1");

@@ -10,7 +10,7 @@ pub(crate) struct Objects {
     pub(crate) sequencer: SeqId,
 }
 
-/// Declares them, at the greatest limit.
+/// Declares them, under the greatest limit of version 1.
 pub(crate) fn declared() -> Option<Objects> {
     let mut setup = Setup::new(Limit::new(4_294_967_295)?);
     let workers = [

@@ -12,15 +12,17 @@ fn limit_of(n: u64) -> Option<u64> {
     }
 }
 
-static LIMITS: [(u64, Option<u64>); 4] = [
+static LIMITS: [(u64, Option<u64>); 6] = [
     (0, None),
     (1, Some(1)),
     (4_294_967_295, Some(4_294_967_295)),
-    (4_294_967_296, None),
+    (4_294_967_296, Some(4_294_967_296)),
+    (281_474_976_710_655, Some(281_474_976_710_655)),
+    (281_474_976_710_656, None),
 ];
 
 #[test]
-fn limits_from_1_to_4294967295(rt: HostRuntime) {
+fn limits_from_1_to_281474976710655(rt: HostRuntime) {
     for (n, right) in &LIMITS {
         assert!(rt; limit_of(*n) == *right, "at {n}");
     }

@@ -148,7 +148,7 @@ all_apart h (d ∷ ds) keep =
     (tables_grow d.sort h.setup d.number d.first d.second) (group_new d.sort h.setup d.number d.first d.second) keep)
 
 pub heading_apart : (h : Headed) → IsHeading h → AreApart h.groups
-heading_apart h (inl is) = subst (λ (g : Headed). AreApart g.groups) (sym is) (none_apart h.setup).apart
+heading_apart h (inl (is, within)) = subst (λ (g : Headed). AreApart g.groups) (sym is) (none_apart h.setup).apart
 heading_apart h (inr has) =
     let o : Outline = has.outline in
-    subst (λ (g : Headed). AreApart g.groups) has.declares (all_apart (opened o.limit o.workers) o.declarations (none_apart (opened o.limit o.workers).setup)).apart
+    subst (λ (g : Headed). AreApart g.groups) has.declares (all_apart (opened o.version o.limit o.workers) o.declarations (none_apart (opened o.version o.limit o.workers).setup)).apart

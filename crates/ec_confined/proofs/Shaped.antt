@@ -49,8 +49,8 @@ all_shaped h (d ∷ ds) shaped may =
     may.1
 
 pub heading_shaped : (h : Headed) → IsHeading h → All IsShaped h.groups
-heading_shaped h (inl is) = subst (λ (g : Headed). All IsShaped g.groups) (sym is) (All-from_recursion IsShaped [] tt)
+heading_shaped h (inl (is, within)) = subst (λ (g : Headed). All IsShaped g.groups) (sym is) (All-from_recursion IsShaped [] tt)
 heading_shaped h (inr has) =
     let o : Outline = has.outline in
     subst (λ (g : Headed). All IsShaped g.groups) has.declares
-    (All-from_recursion IsShaped (headed o).groups (all_shaped (opened o.limit o.workers) o.declarations tt has.is.declarations))
+    (All-from_recursion IsShaped (headed o).groups (all_shaped (opened o.version o.limit o.workers) o.declarations tt has.is.declarations))

@@ -16,4 +16,5 @@ pub mod Scans
 pub mod FittingCalls
 pub mod JoinedLists
 pub mod Breaks
+pub mod Tracking
 pub mod WrittenLists

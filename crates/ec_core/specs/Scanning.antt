@@ -1,5 +1,5 @@
 -- What a scan over the entries of a run keeps of each worker.
-use Rattle.std.specs.Prelude.{◌≡◌, ℕ, ◌<◌, List, Option, Some, None, slice_get}
+use Rattle.std.specs.Prelude.{◌≡◌, ℕ, ◌<◌, List, Option, Some, None, slice_get, reverse}
 use Rattle.std.specs.Option.{option_map}
 use Rattle.ec_core.specs.declared.act.Act.{Act}
 use Rattle.ec_core.specs.declared.act.Act.TheVariants.{Go}
@@ -7,13 +7,23 @@ use Rattle.ec_core.specs.declared.act.Reply.{Reply}
 use Rattle.ec_core.specs.declared.act.Reply.TheVariants.{Done, Number, Pending}
 use Rattle.ec_core.specs.declared.act.Entry.{Entry}
 use Rattle.ec_core.specs.declared.protocol.Kept.{Kept}
+use Rattle.ec_core.specs.declared.audit.AuditFault.{AuditFault}
+use Rattle.ec_core.specs.Audits.{IsFirstBreak}
 use Rattle.ec_core.specs.Calls.{CallSoFar, under_way}
-use Rattle.ec_core.specs.Following.{Told, Rule, block}
+use Rattle.ec_core.specs.Following.{Told, Rule, block, Follow}
 
 -- a scan, as a contract sees it: by worker, what is kept of its list, and the act that began its call under way
 pub record Scanned : Type 0 where
   pub kept : List Kept
   pub begun : List (Option Act)
+
+-- by worker, what is kept of its list after a past
+abbrev pub AreKept : (ℕ → Rule) → (List Told → Kept) → List Kept → List Entry → Type 0
+AreKept rules keeps kept past = (w : ℕ) → w < 16 → slice_get kept w ≡ Some (keeps (block (rules w) w past))
+
+-- the acts that began the calls under way after a past, by worker
+abbrev pub AreBegun : List (Option Act) → List Entry → Type 0
+AreBegun begun past = (w : ℕ) → w < 16 → slice_get begun w ≡ Some (option_map (λ (c : CallSoFar). c.op) (under_way w past))
 
 -- the scan is that after a past
 pub record IsScanned (rules : ℕ → Rule) (keeps : List Told → Kept) (scan : Scanned) (past : List Entry) : Type 0 where
@@ -32,3 +42,20 @@ open_after Go Pending o = o
 open_after act Pending o = Some act
 open_after act Done o = None
 open_after act (Number n) o = None
+
+-- ONE WALK FOR MANY GROUPS
+
+-- what was found of a past: it follows, or this is the first entry that breaks the lists
+abbrev pub IsFinding : (ℕ → Rule) → Option AuditFault → List Entry → Type 0
+IsFinding rules None past = Follow rules past
+IsFinding rules (Some fault) past = IsFirstBreak rules (reverse past) fault
+
+-- what a walk keeps of a group: by worker, what is kept of its list; and what was found
+pub record Tracked : Type 0 where
+  pub kept : List Kept
+  pub fault : Option AuditFault
+
+-- it is that after a past
+pub record IsTracked (rules : ℕ → Rule) (keeps : List Told → Kept) (tracked : Tracked) (past : List Entry) : Type 0 where
+  pub lists : AreKept rules keeps tracked.kept past
+  pub finding : IsFinding rules tracked.fault past

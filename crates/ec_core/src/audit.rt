@@ -2,7 +2,7 @@
 use ec_count::WorkerId;
 use thiserror::Error;
 
-/// Why an audit of a run gives no list. After either the run is as before.
+/// Why an audit of a run gives no list. The audit only reads the run.
 #[derive(Clone, Copy, Debug, PartialEq, Eq, Error)]
 pub enum AuditFault {
     /// The workers' calls on the audited group break its call lists. `entry` is the least place

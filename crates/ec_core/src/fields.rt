@@ -50,7 +50,7 @@ pub(crate) fn is_too_large(act: &Act) -> bool
     }
 }
 
-/// The eventcount that an act names, or the first.
+/// The number of the eventcount that an act names, and 0 for an act that names none.
 pub(crate) fn event_or(op: Act) -> usize
     ensures value { result ≡ event_or op }
     ensures small { result < 32 }

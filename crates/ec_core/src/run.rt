@@ -121,7 +121,7 @@ impl Run {
         self.entries.allocator()
     }
 
-    /// Takes in an entry that the history asks for, or changes nothing for want of memory.
+    /// Takes in an entry whose reply is the one that the history so far gives to its act. For want of memory nothing changes.
     #[inline(always)]
     pub(crate) fn take_in(&mut self, entry: Entry) -> Result<(), AllocError>
         requires { answer_of self.old.setup (reverse self.old.entries) entry.worker entry.act ≡ Ok entry.reply }

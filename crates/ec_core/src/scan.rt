@@ -81,7 +81,7 @@ impl Scan {
 }
 
 /// The act that began the call that an act is part of.
-fn opened(act: &Act, begun: &Option<Act>) -> Act
+pub(crate) fn opened(act: &Act, begun: &Option<Act>) -> Act
     ensures { result ≡ opened_by act.now begun.now }
 {
     match act {
@@ -94,7 +94,7 @@ fn opened(act: &Act, begun: &Option<Act>) -> Act
 }
 
 /// The act that began the call under way after an entry.
-fn still_open(act: &Act, reply: Reply, begun: &Option<Act>) -> Option<Act>
+pub(crate) fn still_open(act: &Act, reply: Reply, begun: &Option<Act>) -> Option<Act>
     ensures { result ≡ open_after act.now reply begun.now }
 {
     match reply {

@@ -22,7 +22,7 @@ impl Model for UnderWay {
 
     ghost view = { λ u. record { op = u.op; index = u.index; sum = u.sum } };
 
-    ghost invariant = { λ u. (u.index < 16) × (u.sum ≤ u.index * 2 ^ 32) };
+    ghost invariant = { λ u. (u.index < 16) × (u.sum ≤ u.index * 2 ^ 48) };
 
     ghost inverse = { λ u. record { op = u.op; index = u.index; sum = u.sum } };
 }
@@ -57,15 +57,16 @@ impl UnderWay {
     /// The sum of the components that its round has read so far.
     pub fn sum(&self) -> u64
         ensures value { result ≡ self.now.sum }
-        ensures small { result ≤ self.now.index * 2 ^ 32 }
-        ensures below { result ≤ 15 * 2 ^ 32 }
+        ensures small { result ≤ self.now.index * 2 ^ 48 }
+        ensures below { result ≤ 15 * 2 ^ 48 }
     {
         let _index = self.index;
         self.sum
     }
 }
 
-/// The reply to one more read, whose component is the last where index + 1 is the width.
+/// The reply to the read of one more component: pending, or the sum's where this component is the last (its index + 1 is
+/// the width).
 pub(crate) fn one_read(op: Act, width: usize, index: usize, sum: u64) -> Reply
     requires { index < 16 }
     ensures { result ≡ one_read op width index sum }
@@ -83,7 +84,7 @@ pub(crate) fn one_read(op: Act, width: usize, index: usize, sum: u64) -> Reply
 pub(crate) fn after_read(op: Act, width: usize, index: usize, sum: u64) -> Option<UnderWay>
     requires width { width ≤ 16 }
     requires index { index < 16 }
-    requires sum { sum ≤ (index + 1) * 2 ^ 32 }
+    requires sum { sum ≤ (index + 1) * 2 ^ 48 }
     ensures { result ≡ after_read op width index sum }
 {
     if index + 1 < width {

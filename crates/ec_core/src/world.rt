@@ -203,7 +203,7 @@ impl World {
 
     fn next_sum(&self, call: &UnderWay) -> u64
         ensures value { result ≡ next_sum self.now call.now }
-        ensures fits { result ≤ (call.now.index + 1) * 2 ^ 32 }
+        ensures fits { result ≤ (call.now.index + 1) * 2 ^ 48 }
     {
         let count = count_in(&self.counts, event_or(call.op()), call.index());
         count.value() + call.sum()
@@ -276,7 +276,7 @@ impl World {
         }
     }
 
-    /// Takes in an entry that the history asks for.
+    /// Takes in an entry whose reply is the one that the history so far gives to its act.
     #[inline(always)]
     pub(crate) fn take_in(&mut self, entry: &Entry)
         ensures history { (h : List Entry) → StandsFor self.old h → answer_of self.old.setup (reverse h) entry.now.worker entry.now.act ≡ Ok entry.now.reply

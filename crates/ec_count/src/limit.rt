@@ -3,7 +3,7 @@ ghost use Rattle.std.specs.Prelude.{◌≡◌, ℕ, ◌^◌, ◌<◌, ◌≤◌,
 
 use std::marker::Model;
 
-/// How far each count may go, from 1 to 4294967295.
+/// How far each count may go, from 1 to 281474976710655.
 #[derive(Clone, Copy, Debug, PartialEq, Eq)]
 pub struct Limit {
     largest: u64,
@@ -14,28 +14,28 @@ impl Model for Limit {
 
     ghost view = { λ l. l.largest };
 
-    ghost invariant = { λ l. (1 ≤ l.largest) × (l.largest < 2 ^ 32) };
+    ghost invariant = { λ l. (1 ≤ l.largest) × (l.largest < 2 ^ 48) };
 
     ghost inverse = { λ n. record { largest = n } };
 }
 
 impl Limit {
-    /// The limit n; None where n is 0 or above 4294967295.
+    /// The limit n; None where n is 0 or above 281474976710655.
     pub fn new(n: u64) -> Option<Self>
-        ensures variant { IsSome result ↔ ((1 ≤ n) × (n < 2 ^ 32)) }
+        ensures variant { IsSome result ↔ ((1 ≤ n) × (n < 2 ^ 48)) }
         ensures value { IfSome result (λ l. l ≡ n) }
     {
-        if 1 <= n && n <= 4_294_967_295 {
+        if 1 <= n && n <= 281_474_976_710_655 {
             Some(Limit { largest: n })
         } else {
             None
         }
     }
 
-    /// Its number, from 1 to 4294967295.
+    /// Its number, from 1 to 281474976710655.
     pub fn get(self) -> u64
         ensures value { result ≡ self }
-        ensures range { (1 ≤ result) × (result < 2 ^ 32) }
+        ensures range { (1 ≤ result) × (result < 2 ^ 48) }
     {
         self.largest
     }

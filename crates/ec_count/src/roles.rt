@@ -27,9 +27,9 @@ pub fn joined(first: &[WorkerId], second: &[WorkerId]) -> ArrayVec<WorkerId, 32>
 }
 
 impl Setup {
-    /// Why a thing with these two roles can't be declared, if it can't: the first fault that
-    /// holds. It would pass the bound of a table where `full` says so, and has nothing to hold
-    /// where `none` says so.
+    /// Why an object with these two roles can't be declared: the first fault that holds, or None.
+    /// `full` says that its table has no room for one more, and `none` that it would hold
+    /// nothing.
     pub fn roles_fault(
         &self,
         full: bool,

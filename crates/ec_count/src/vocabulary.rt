@@ -176,7 +176,8 @@ impl Vocabulary {
     }
 }
 
-/// A mark of a word, which words mostly have for themselves: it is made of four bytes of the word, for speed.
+/// A mark of a word, made of four of its bytes. Two words mostly have different marks; a search compares marks first, for
+/// speed.
 fn mark(word: &[u8]) -> u8 {
     let n = word.len();
     if n < 2 {

@@ -60,10 +60,10 @@ small_all h (d ∷ ds) small may =
     may.1
 
 small_heading : (h : Headed) → IsHeading h → AreSmall h.words
-small_heading h (inl is) = subst (λ (g : Headed). AreSmall g.words) (sym is) tt
+small_heading h (inl (is, within)) = subst (λ (g : Headed). AreSmall g.words) (sym is) tt
 small_heading h (inr has) =
     let o = has.outline in
-    subst (λ (g : Headed). AreSmall g.words) has.declares (small_all (opened o.limit o.workers) o.declarations (small_workers 0 o.workers) has.is.declarations)
+    subst (λ (g : Headed). AreSmall g.words) has.declares (small_all (opened o.version o.limit o.workers) o.declarations (small_workers 0 o.workers) has.is.declarations)
 
 end_found : (t : Target) (first n : ℕ) → end_of t ≤ 256 → block_of t ≡ Some (first, n) → first + n ≤ 256
 end_found (Cells f m) first n small e =

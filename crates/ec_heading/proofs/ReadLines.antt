@@ -12,6 +12,7 @@ use Rattle.ec_text.proofs.shared.WordLemmas.{literal_word}
 use Rattle.ec_text.proofs.shared.NumberLemmas.{number_again, own}
 use Rattle.ec_text.proofs.shared.DecimalLemmas.{at_most_20}
 use Rattle.ec_heading.specs.Sorts.{sort_word, has_name, has_number, opener, other, needs_other, is_called, is_in_range}
+use Rattle.ec_heading.specs.declared.version.Version.{Version}
 use Rattle.ec_heading.specs.Headed.{Headed}
 use Rattle.ec_heading.specs.Outline.{Declaration, AreWorkers, IsDeclarable, opened, declared_by, declared_all, fits_form}
 use Rattle.ec_heading.specs.Spelling.{list_words, name_words, number_words, second_words, declaration_words, declaration_line}
@@ -40,16 +41,16 @@ literal_fit w word some = record { word = literal_word w word; some = some }
 are_named : (ws : List (List ℕ)) → AreWorkers ws → AreNamed ws
 are_named ws are = recursion_from_All (λ w. is_name w ≡ true) ws are.each
 
-workers_words : (limit : ℕ) (ws : List (List ℕ)) → AreWorkers ws → opened_by limit (workers_in (codes "workers" ∷ ws)) ≡ Ok (opened limit ws)
-workers_words limit [] are = absurd (omega (arith, are.some))
-workers_words limit (v ∷ vs) are = ap (λ (o : Option HeadFault). fault_or o (opened limit (v ∷ vs))) (no_workers_fault (v ∷ vs) are)
+workers_words : (version : Version) (limit : ℕ) (ws : List (List ℕ)) → AreWorkers ws → opened_by version limit (workers_in (codes "workers" ∷ ws)) ≡ Ok (opened version limit ws)
+workers_words version limit [] are = absurd (omega (arith, are.some))
+workers_words version limit (v ∷ vs) are = ap (λ (o : Option HeadFault). fault_or o (opened version limit (v ∷ vs))) (no_workers_fault (v ∷ vs) are)
 
 pub workers_read : SpelledWorkersAreRead
-workers_read limit ws are =
+workers_read version limit ws are =
     let n : AreNamed ws = are_named ws are in
     let short : letters (codes "workers" ∷ ws) ≤ 8192 = omega (arith, names_letters ws n, are.few) in
-    line_read (opened limit []) (codes "workers") ws (literal_fit (codes "workers") refl refl, names_fit ws n) short
-    ∙ workers_words limit ws are
+    line_read (opened version limit []) (codes "workers") ws (literal_fit (codes "workers") refl refl, names_fit ws n) short
+    ∙ workers_words version limit ws are
 
 -- THE PHRASE THAT A DECLARATION IS SPELLED BY
 
@@ -316,5 +317,5 @@ module _ (ws : List (List ℕ)) (are : AreWorkers ws) (h : Headed) (heads : Head
       ∙ declared ws are h heads d may
 
 pub declaration_read : SpelledDeclarationIsRead
-declaration_read limit ws before d are may =
-    line_declared ws are (declared_all (opened limit ws) before) (heads_all ws (opened limit ws) before (heads_opened limit ws)) d may
+declaration_read version limit ws before d are may =
+    line_declared ws are (declared_all (opened version limit ws) before) (heads_all ws (opened version limit ws) before (heads_opened version limit ws)) d may

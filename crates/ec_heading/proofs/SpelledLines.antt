@@ -6,6 +6,7 @@ use Rattle.ec_text.specs.Words.{words_of, number_of}
 use Rattle.ec_text.proofs.shared.WordLemmas.{split_join}
 use Rattle.ec_text.proofs.shared.NumberLemmas.{number_takes}
 use Rattle.ec_heading.specs.Sorts.{sort_word, has_number, opener, other, needs_other}
+use Rattle.ec_heading.specs.declared.version.Version.{Version}
 use Rattle.ec_heading.specs.Headed.{Headed}
 use Rattle.ec_heading.specs.Outline.{Declaration, AreWorkers, IsDeclarable, opened, declared_by, declared_all}
 use Rattle.ec_heading.specs.Spelling.{list_words, name_words, number_words, second_words, declaration_words}
@@ -39,23 +40,23 @@ not_refused (Some fault) h after e = cc
 
 -- THE WORKERS
 
-workers_taken : (limit : ℕ) (words : List (List ℕ)) (after : Headed) → opened_by limit (workers_in words) ≡ Ok after → (ws : List (List ℕ)) × AreWorkers ws × (words ≡ codes "workers" ∷ ws) × (after ≡ opened limit ws)
-workers_taken limit [] after e = (cc)
-workers_taken limit (w ∷ []) after e = (cc)
-workers_taken limit (w ∷ v ∷ vs) after e =
-    let Q : Type 0 = (ws : List (List ℕ)) × AreWorkers ws × (w ∷ v ∷ vs ≡ codes "workers" ∷ ws) × (after ≡ opened limit ws) in
-    let P : Bool → Type 0 = λ b. bytes_eq w (codes "workers") ≡ b → opened_by limit (cond b (Some (v ∷ vs)) None) ≡ Ok after → Q in
+workers_taken : (version : Version) (limit : ℕ) (words : List (List ℕ)) (after : Headed) → opened_by version limit (workers_in words) ≡ Ok after → (ws : List (List ℕ)) × AreWorkers ws × (words ≡ codes "workers" ∷ ws) × (after ≡ opened version limit ws)
+workers_taken version limit [] after e = (cc)
+workers_taken version limit (w ∷ []) after e = (cc)
+workers_taken version limit (w ∷ v ∷ vs) after e =
+    let Q : Type 0 = (ws : List (List ℕ)) × AreWorkers ws × (w ∷ v ∷ vs ≡ codes "workers" ∷ ws) × (after ≡ opened version limit ws) in
+    let P : Bool → Type 0 = λ b. bytes_eq w (codes "workers") ≡ b → opened_by version limit (cond b (Some (v ∷ vs)) None) ≡ Ok after → Q in
     let go : P (bytes_eq w (codes "workers")) = elim (bytes_eq w (codes "workers")) as P [
       | true ↦ λ q f.
-          let n = not_refused (workers_fault (v ∷ vs)) (opened limit (v ∷ vs)) after f in
+          let n = not_refused (workers_fault (v ∷ vs)) (opened version limit (v ∷ vs)) after f in
           (v ∷ vs, are_workers (v ∷ vs) (v, vs, refl) n.0, ap (λ (u : List ℕ). u ∷ v ∷ vs) (same_word w (codes "workers") q), n.1)
       | false ↦ λ q f. (cc)
     ] in
     go refl e
 
 pub workers_spelled : ReadWorkersAreSpelled
-workers_spelled limit line after e =
-    let t = workers_taken limit (words_of line) after (taken_by_words (opened limit []) line after e) in
+workers_spelled version limit line after e =
+    let t = workers_taken version limit (words_of line) after (taken_by_words (opened version limit []) line after e) in
     record { workers = t.0; are = t.1; spelled = sym (split_join line) ∙ ap (join_with_byte 32) t.2; opens = t.3 }
 
 -- A DECLARATION
@@ -117,5 +118,5 @@ module _ (ws : List (List ℕ)) (h : Headed) (heads : Heads ws h) where
       record { declaration = t.0; may = t.1; spelled = sym (split_join line) ∙ ap (join_with_byte 32) t.2; adds = t.3 }
 
 pub declaration_spelled : ReadDeclarationIsSpelled
-declaration_spelled limit ws before line after are e =
-    line_spelled ws (declared_all (opened limit ws) before) (heads_all ws (opened limit ws) before (heads_opened limit ws)) line after are.some e
+declaration_spelled version limit ws before line after are e =
+    line_spelled ws (declared_all (opened version limit ws) before) (heads_all ws (opened version limit ws) before (heads_opened version limit ws)) line after are.some e

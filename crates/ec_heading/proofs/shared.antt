@@ -16,3 +16,5 @@ pub mod Places
 pub mod OutlineGrows
 pub mod OutlineNames
 pub mod OutlineFound
+pub mod Upgrades
+pub mod VersionFacts

@@ -6,6 +6,7 @@ use Rattle.ec_heading.specs.Headed.{Headed}
 use Rattle.ec_heading.specs.Outline.{opened, declared_by}
 use Rattle.ec_heading.specs.Form.{Phrase, parts_in}
 use Rattle.ec_heading.specs.Kinds.{workers_fault, declaration_of, declaration_fault}
+use Rattle.ec_heading.specs.declared.version.Version.{Version}
 use Rattle.ec_heading.specs.declared.heading.HeadFault.{HeadFault}
 use Rattle.ec_heading.specs.declared.heading.HeadFault.TheVariants as faults
 
@@ -22,9 +23,9 @@ workers_in [] = None
 workers_in (w ∷ []) = None
 workers_in (w ∷ v ∷ vs) = if bytes_eq w (codes "workers") then Some (v ∷ vs) else None
 
-abbrev pub opened_by : ℕ → Option (List (List ℕ)) → Result Headed HeadFault
-opened_by limit None = Err faults.BadLine
-opened_by limit (Some ws) = fault_or (workers_fault ws) (opened limit ws)
+abbrev pub opened_by : Version → ℕ → Option (List (List ℕ)) → Result Headed HeadFault
+opened_by version limit None = Err faults.BadLine
+opened_by version limit (Some ws) = fault_or (workers_fault ws) (opened version limit ws)
 
 -- A DECLARATION
 
@@ -36,7 +37,7 @@ declared_or h (Some p) = fault_or (declaration_fault h.setup h.words p) (declare
 
 -- the line of the workers comes first, and then declarations alone
 abbrev pub words_step : Headed → List (List ℕ) → Result Headed HeadFault
-words_step h ws = if h.setup.workers == 0 then opened_by h.setup.limit (workers_in ws) else declared_or h (parts_in ws)
+words_step h ws = if h.setup.workers == 0 then opened_by h.version h.setup.limit (workers_in ws) else declared_or h (parts_in ws)
 
 -- whether a line is too long, or has an empty word
 abbrev pub is_no_line : List ℕ → Bool

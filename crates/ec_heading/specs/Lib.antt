@@ -1,10 +1,12 @@
 pub mod Sorts
 pub mod Objects
+pub mod Versions
 pub mod Headed
 pub mod Groups
 pub mod Rules
 pub mod Outline
 pub mod Outlined
+pub mod Upgraded
 pub mod Spelling
 pub mod Lists
 pub mod Form

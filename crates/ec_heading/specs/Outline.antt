@@ -1,5 +1,5 @@
--- The outline of a heading: its limit, its workers and its declarations, apart from how they are read or written.
-use Rattle.std.specs.Prelude.{◌≡◌, ◌≢◌, ℕ, ◌+◌, ◌≤◌, ◌<◌, ◌^◌, Bool, true, ◌==◌, nat_le, List, [], ◌∷◌, ◌++◌, length, Option, Some, None, if◌then◌else◌}
+-- The outline of a heading: its version, its limit, its workers and its declarations, apart from how they are read or written.
+use Rattle.std.specs.Prelude.{◌≡◌, ◌≢◌, ℕ, ◌+◌, ◌≤◌, Bool, true, ◌==◌, nat_le, List, [], ◌∷◌, ◌++◌, length, Option, Some, None, if◌then◌else◌}
 use Rattle.std.specs.List.{All, AllPairs, cons_option}
 use Rattle.ec_count.specs.Tables.{Tables, empty_tables, event_fault, list_fault, cells_fault, with_event, with_cells}
 use Rattle.ec_count.specs.Declares.{with_sequencer}
@@ -16,6 +16,8 @@ use Rattle.ec_heading.specs.declared.sort.Sort.TheVariants as sorts
 use Rattle.ec_heading.specs.Sorts.{has_name, other, is_called, is_in_range}
 use Rattle.ec_heading.specs.Objects.{Next, ids_after, objects_of, target_of, group_of, spelled_objects}
 use Rattle.ec_heading.specs.Headed.{Headed}
+use Rattle.ec_heading.specs.declared.version.Version.{Version}
+use Rattle.ec_heading.specs.Versions.{greatest_limit}
 
 -- a declaration: its sort, what it is called (its name, or its sort's own word where its form has none), its number (0 where
 -- its form has none), and the workers of its two lists
@@ -27,6 +29,7 @@ pub record Declaration : Type 0 where
   pub second : List ℕ
 
 pub record Outline : Type 0 where
+  pub version : Version
   pub limit : ℕ
   pub workers : List (List ℕ)
   pub declarations : List Declaration
@@ -64,6 +67,7 @@ next_of h = ids_after h.setup (length h.groups)
 -- the heading with one more declaration
 abbrev pub declared_by : Headed → Declaration → Headed
 declared_by h d = record {
+  version = h.version;
   setup = with_objects d.sort h.setup d.number d.first d.second;
   names = h.names ++ named_as d.sort d.name (target_of d.sort (next_of h) d.number);
   words = h.words ++ spelled_objects d.name (objects_of d.sort (next_of h) d.number);
@@ -77,8 +81,8 @@ numbered n [] = []
 numbered n (w ∷ ws) = (w, Worker n) ∷ numbered (n + 1) ws
 
 -- the heading without declarations
-abbrev pub opened : ℕ → List (List ℕ) → Headed
-opened limit workers = record { setup = record (empty_tables limit) { workers = length workers }; names = numbered 0 workers; words = numbered 0 workers; groups = []; declarations = [] }
+abbrev pub opened : Version → ℕ → List (List ℕ) → Headed
+opened version limit workers = record { version = version; setup = record (empty_tables limit) { workers = length workers }; names = numbered 0 workers; words = numbered 0 workers; groups = []; declarations = [] }
 
 -- the heading with these declarations in turn
 abbrev pub declared_all : Headed → List Declaration → Headed
@@ -87,7 +91,7 @@ declared_all h (d ∷ ds) = declared_all (declared_by h d) ds
 
 -- what an outline declares
 abbrev pub headed : Outline → Headed
-headed o = declared_all (opened o.limit o.workers) o.declarations
+headed o = declared_all (opened o.version o.limit o.workers) o.declarations
 
 -- WHICH DECLARATIONS MAY STAND
 
@@ -121,6 +125,6 @@ pub record AreWorkers (workers : List (List ℕ)) : Type 0 where
 -- an outline of a heading
 pub record IsOutline (o : Outline) : Type 0 where
   pub low : 1 ≤ o.limit
-  pub high : o.limit < 2 ^ 32
+  pub high : o.limit ≤ greatest_limit o.version
   pub workers : AreWorkers o.workers
-  pub declarations : AreDeclarable (opened o.limit o.workers) o.declarations
+  pub declarations : AreDeclarable (opened o.version o.limit o.workers) o.declarations

@@ -12,7 +12,7 @@ use Rattle.ec_heading.specs.declared.sort.Sort.TheVariants as sorts
 use Rattle.ec_heading.specs.Sorts.{sort_word, opener, other}
 use Rattle.ec_heading.specs.Headed.{Headed}
 use Rattle.ec_heading.specs.Outline.{Declaration, Outline}
-use Rattle.ec_heading.specs.Spelling.{Named, word_of, name_words, number_words, limit_line, workers_line, entry_line, text_of}
+use Rattle.ec_heading.specs.Spelling.{Named, word_of, name_words, number_words, limit_line, workers_line, trace_header, entry_line, text_of}
 
 -- the names of workers
 abbrev pub names_of : Named → List ℕ → List (List ℕ)
@@ -40,7 +40,7 @@ abbrev pub declarations_of : Headed → List Declaration
 declarations_of h = filter_map (declaration_of h) h.declarations
 
 abbrev pub outline_of : Headed → Outline
-outline_of h = record { limit = h.setup.limit; workers = worker_names h; declarations = declarations_of h }
+outline_of h = record { version = h.version; limit = h.setup.limit; workers = worker_names h; declarations = declarations_of h }
 
 -- THE LINES, BY THE NAMES OF THE HEADING
 
@@ -68,7 +68,7 @@ declared_text names (Some d) = declared_line names d ++ 10 ∷ []
 -- the lines before the entries
 abbrev pub opening_lines : Named → Headed → List (List ℕ)
 opening_lines names h =
-    codes "evc-trace 1" ∷ limit_line h.setup.limit ∷ workers_line (names_of names (range_with_len 0 h.setup.workers)) ∷ map (declared_line names) (declarations_of h)
+    trace_header h.version ∷ limit_line h.setup.limit ∷ workers_line (names_of names (range_with_len 0 h.setup.workers)) ∷ map (declared_line names) (declarations_of h)
     ++ codes "run" ∷ []
 
 unfoldable pub opening_text : Named → Headed → List ℕ

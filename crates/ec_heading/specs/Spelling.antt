@@ -11,6 +11,8 @@ use Rattle.ec_core.specs.declared.act.Reply.TheVariants.{Done, Number, Pending}
 use Rattle.ec_core.specs.declared.act.Entry.{Entry}
 use Rattle.ec_heading.specs.declared.sort.Sort.{Sort}
 use Rattle.ec_heading.specs.Sorts.{sort_word, has_name, has_number, opener, other}
+use Rattle.ec_heading.specs.declared.version.Version.{Version}
+use Rattle.ec_heading.specs.declared.version.Version.TheVariants.{One, Two}
 use Rattle.ec_heading.specs.Outline.{Declaration, Outline, headed}
 
 abbrev pub Named : Type 0
@@ -89,12 +91,17 @@ entry_line names e = join_with_byte 32 (entry_words names e)
 
 -- TRACES
 
+-- the first line of a trace
+abbrev pub trace_header : Version → List ℕ
+trace_header One = codes "evc-trace 1"
+trace_header Two = codes "evc-trace 2"
+
 abbrev pub heading_lines : Outline → List (List ℕ)
 heading_lines o = limit_line o.limit ∷ workers_line o.workers ∷ map (declaration_line o.workers) o.declarations
 
 abbrev pub trace_lines : Outline → List Entry → List (List ℕ)
 trace_lines o entries =
-    codes "evc-trace 1" ∷ heading_lines o ++ codes "run" ∷ map (entry_line (headed o).words) entries ++ codes "end" ∷ []
+    trace_header o.version ∷ heading_lines o ++ codes "run" ∷ map (entry_line (headed o).words) entries ++ codes "end" ∷ []
 
 -- each line with its LF
 abbrev pub ended_line : List ℕ → List ℕ

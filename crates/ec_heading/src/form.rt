@@ -52,7 +52,7 @@ fn stop_at(list: &[u8], stop: &[u8]) -> Option<usize>
     }
 }
 
-/// The lists before and behind the first such word, if both are well.
+/// The lists before and behind the first `stop` of a list, where both are well formed.
 fn split_lists<'a>(list: &'a [u8], stop: &[u8], needs: bool) -> Option<Lists<'a>>
     ensures { option_map shown_lists result ≡ well_or needs (split_words stop.now (words_of list.now)) }
 {
@@ -82,7 +82,7 @@ fn split_lists<'a>(list: &'a [u8], stop: &[u8], needs: bool) -> Option<Lists<'a>
     }
 }
 
-/// The two lists of a sort, if both are well.
+/// The two lists of names of a declaration of this sort, where both are well formed.
 fn lists_of<'a>(sort: Sort, list: &'a [u8]) -> Option<Lists<'a>>
     ensures { option_map shown_lists result ≡ well_or (needs_other sort) (both_lists (other sort) (words_of list.now)) }
 {

@@ -12,6 +12,8 @@ ghost use Rattle.ec_heading.specs.Objects.{AreNew, ids_after, objects_of, spelle
 ghost use Rattle.ec_heading.specs.Outlined.{IsHeading, HasOutline};
 ghost use Rattle.ec_heading.specs.Sorts.{is_in_range};
 ghost use Rattle.ec_heading.specs.Spelled.{event_in, sequencer_in, cell_in_word, cell_of};
+ghost use Rattle.ec_heading.specs.Versions.{greatest_limit};
+ghost use Rattle.ec_heading.specs.Upgraded.{upgraded};
 ghost use Rattle.ec_heading.specs.Outline.{opened, IsDeclarable, numbered, named_as, declared_by};
 
 use crate::form::{Parts, parts_of};
@@ -21,6 +23,7 @@ use crate::lists::{is_same, push_ids, worker_in};
 use crate::objects::{add_objects, spell_objects, target_of};
 use crate::sort::Sort;
 use crate::spelled::{block_of, closed_number, cut_at, event_of, sequencer_of};
+use crate::version::Version;
 use arrayvec::ArrayVec;
 use ec_count::{
     CellId, EventId, Limit, NameFault, Names, SeqId, Setup, Target, Vocabulary, WorkerId,
@@ -80,10 +83,11 @@ impl HeadFault {
     }
 }
 
-/// What a heading declares: the limit, the workers, and their objects, with their names and the
+/// What a heading declares: the version of its text, the limit, the workers, and their objects, with their names and the
 /// words by which lines spell them.
 #[derive(Drop)]
 pub struct Heading {
+    pub(crate) version: Version,
     pub(crate) setup: Setup,
     pub(crate) names: Names,
     pub(crate) words: Vocabulary,
@@ -98,9 +102,9 @@ impl Model for Heading {
 
     ghost use Rattle.ec_heading.specs.Outlined.{IsHeading};
 
-    ghost view = { λ h. record { setup = h.setup; names = h.names; words = h.words; groups = h.groups.items; declarations = h.declarations.items } };
+    ghost view = { λ h. record { version = h.version; setup = h.setup; names = h.names; words = h.words; groups = h.groups.items; declarations = h.declarations.items } };
 
-    ghost invariant = { λ h. IsHeading (record { setup = h.setup; names = h.names; words = h.words; groups = h.groups.items; declarations = h.declarations.items }) };
+    ghost invariant = { λ h. IsHeading (record { version = h.version; setup = h.setup; names = h.names; words = h.words; groups = h.groups.items; declarations = h.declarations.items }) };
 }
 
 /// The names that a line of workers lists, where it has that form.
@@ -146,9 +150,10 @@ fn add_workers(
 }
 
 /// A heading with these workers and no declarations.
-fn opened(alloc: Global, limit: Limit, list: &[u8]) -> Result<Heading, NameFault>
-    requires { workers_fault (words_of list.now) ≡ None }
-    ensures { IfOk result (λ heading. heading ≡ opened limit (words_of list.now)) }
+fn opened(alloc: Global, version: Version, limit: Limit, list: &[u8]) -> Result<Heading, NameFault>
+    requires within { limit ≤ greatest_limit version }
+    requires none { workers_fault (words_of list.now) ≡ None }
+    ensures { IfOk result (λ heading. heading ≡ opened version limit (words_of list.now)) }
 {
     let _limit = limit.get();
     let Ok(mut names) = Names::new(alloc) else {
@@ -160,6 +165,7 @@ fn opened(alloc: Global, limit: Limit, list: &[u8]) -> Result<Heading, NameFault
     let mut setup = Setup::new(limit);
     add_workers(&mut names, &mut words, &mut setup, list)?;
     Ok(Heading {
+        version,
         setup,
         names,
         words,
@@ -169,11 +175,14 @@ fn opened(alloc: Global, limit: Limit, list: &[u8]) -> Result<Heading, NameFault
 }
 
 impl Heading {
-    /// A heading with this limit and nothing declared.
-    pub fn new(alloc: Global, limit: Limit) -> Result<Self, AllocError>
-        ensures { IfOk result (λ heading. heading ≡ opened limit []) }
+    /// A heading with this limit and nothing declared. The version is that of the text, and a text of
+    /// it may have the limit, as `Version::limit` tells.
+    pub fn new(alloc: Global, version: Version, limit: Limit) -> Result<Self, AllocError>
+        requires { limit ≤ greatest_limit version }
+        ensures { IfOk result (λ heading. heading ≡ opened version limit []) }
     {
         Ok(Heading {
+            version,
             setup: Setup::new(limit),
             names: Names::new(alloc)?,
             words: Vocabulary::new(alloc)?,
@@ -201,7 +210,7 @@ impl Heading {
 
     /// Takes the line of the workers.
     fn take_workers(&mut self, line: &[u8]) -> Result<(), HeadFault>
-        ensures { Steps result self.old self.new (opened_by self.old.setup.limit (workers_in (words_of line.now))) }
+        ensures { Steps result self.old self.new (opened_by self.old.version self.old.setup.limit (workers_in (words_of line.now))) }
     {
         let Some(list) = worker_list(line) else {
             return Err(HeadFault::BadLine);
@@ -209,7 +218,8 @@ impl Heading {
         if let Some(fault) = workers_fault(list) {
             return Err(fault);
         }
-        let Ok(heading) = opened(*self.declarations.allocator(), self.setup.limit(), list) else {
+        let alloc = *self.declarations.allocator();
+        let Ok(heading) = opened(alloc, self.version, self.setup.limit(), list) else {
             return Err(HeadFault::Memory);
         };
         *self = heading;
@@ -279,6 +289,22 @@ impl Heading {
         push_group(&mut self.groups, group);
         push_target(&mut self.declarations, target);
         Ok(())
+    }
+
+    /// The version of its text.
+    pub fn version(&self) -> Version
+        ensures { result ≡ self.now.version }
+    {
+        self.version
+    }
+
+    /// The same declarations under version 2.
+    pub fn upgrade(self) -> Self
+        ensures { result ≡ upgraded self }
+    {
+        let mut heading = self;
+        heading.version = Version::Two;
+        heading
     }
 
     /// What is declared.

@@ -10,6 +10,7 @@ mod lists;
 mod objects;
 mod sort;
 mod spelled;
+mod version;
 
 pub use group::Group;
 pub use heading::{HeadFault, Heading};
@@ -18,3 +19,4 @@ pub use laws::{
     read_workers_are_spelled, spelled_declaration_is_read, spelled_workers_are_read,
 };
 pub use sort::Sort;
+pub use version::Version;

@@ -15,8 +15,8 @@ use ec_database::declare_database;
 use ec_semaphore::{declare_both, declare_semaphore};
 use std::alloc::AllocError;
 
-/// An object: what it is called behind the name of its declaration, nothing where the name alone
-/// spells it, and what it is.
+/// An object: what is written behind the name of its declaration (nothing where the name alone
+/// means it), and what it is.
 #[derive(Clone, Copy)]
 pub(crate) struct Object {
     pub(crate) word: &'static [u8],
@@ -65,7 +65,7 @@ fn cell(number: usize) -> CellId
     id
 }
 
-/// What the name of a declaration will stand for that comes next after these and so many groups.
+/// What the name of the next declaration will stand for, after this setup and n groups of its sort.
 pub(crate) fn target_of(setup: &Setup, groups: usize, sort: Sort, n: usize) -> Target
     requires room { is_full_for sort setup.now n ≡ false }
     requires some { is_in_range sort n ≡ true }

@@ -44,8 +44,8 @@ fn is_within(bound: usize, commands: &[Command]) -> bool
     true
 }
 
-/// How many more commands than these there may be, where there may be so many; None where these are
-/// too many.
+/// How many commands there may be beside these within a bound; None where these are more than the
+/// bound.
 #[cycle(count)]
 fn left_of(bound: usize, commands: &[Command]) -> Option<usize>
     ensures variant { IsSome result ↔ (count commands.now ≤ bound) }

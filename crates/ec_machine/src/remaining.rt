@@ -53,7 +53,8 @@ fn push_rest<'a>(
     }
 }
 
-/// The first command of those that a command stands for; what it stands for beyond that is added.
+/// The first plain command of those that a command stands for. Where the command is a repeat, frames for what remains of it
+/// are added.
 fn enter<'a>(frames: &mut ArrayVec<Frame<'a>, 5>, command: &'a Command) -> &'a Command
     requires fit { FramesFit 0 frames.old.items }
     requires sound { is_sound_one command.now ≡ true }

@@ -10,7 +10,7 @@ use crate::{Call, Placed};
 use ec_core::{Act, Run};
 use std::alloc::{AllocError, Global};
 
-/// Whether an entry with this act is a call by itself: a read or an await may go on, by goes.
+/// Whether an entry with this act is a whole call. A read or an await is none: it may go on by `go` entries.
 pub(crate) fn is_alone(act: Act) -> bool
     ensures { result ≡ is_alone act }
 {
@@ -20,8 +20,8 @@ pub(crate) fn is_alone(act: Act) -> bool
     }
 }
 
-/// The place behind the last whose point is not after a moment. It is looked for from the end, since reads and awaits
-/// come by their last entries: then no more are passed, all in all, than 15 times those that there are.
+/// The place behind the last reading whose point is not after a moment. It is looked for from the end, since reads and
+/// awaits come by their last entries: a reading is passed at most 15 times, once for each call then under way.
 fn place_for(readings: &[Placed], moment: usize) -> usize
     ensures { IsPlaceFor readings.now moment result }
 {

@@ -101,7 +101,7 @@ pub(crate) fn index(alloc: Global, run: &Run) -> Result<Vec<Vec<usize>>, AllocEr
     Ok(lists)
 }
 
-/// The moment after the r-th of the advances after which these are the moments, and moment 0 for r = 0.
+/// The moment after the r-th advance, by the list of the moments after each advance; moment 0 for r = 0.
 fn moment_of(moments: &[usize], r: u64) -> usize
     ensures { result ≡ moment_of moments.now r }
 {

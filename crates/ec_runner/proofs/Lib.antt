@@ -2,6 +2,7 @@ pub mod shared
 pub mod Lining
 pub mod Boarding
 pub mod Walking
+pub mod Asking
 pub mod Turning
 pub mod Places
 pub mod Starting

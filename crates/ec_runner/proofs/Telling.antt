@@ -1,9 +1,9 @@
 -- What workers tell, as a report.
-use Rattle.std.proofs.Common.{◌≡◌, ℕ, List, length, Option, Some, None, Result, Ok, Err, IfOk, slice_get, refl, ap, sym, ◌∙◌, subst}
+use Rattle.std.proofs.Common.{◌≡◌, ◌<◌, ◌≤◌, ℕ, List, length, Option, Some, None, Result, Ok, Err, IfOk, IfErr, MatchResult, inl, inr, slice_get, refl, ap, sym, ◌∙◌, subst}
 use Rattle.std.proofs.lemmas.List.{length-map}
 use Rattle.std.specs.Global.{Vec}
 use Rattle.std.specs.Option.{option_map}
-use Rattle.std.proofs.lemmas.Option.{slice_get-map}
+use Rattle.std.proofs.lemmas.Option.{slice_get-map, slice_get_within}
 use Rattle.ec_count.specs.Tables.{Tables}
 use Rattle.ec_core.specs.declared.act.Entry.{Entry}
 use Rattle.ec_core.specs.Recorded.{Recorded}
@@ -14,11 +14,12 @@ use Rattle.ec_machine.specs.Follows.{program_at}
 use Rattle.ec_machine.specs.Steps.{own}
 use Rattle.ec_runner.specs.declared.report.Report.{Report}
 use Rattle.ec_runner.specs.declared.run_fault.RunFault.{RunFault}
+use Rattle.ec_runner.specs.declared.run_fault.RunFault.TheVariants as faults
 use Rattle.ec_runner.specs.declared.told.Told.{Told}
 use Rattle.ec_runner.specs.declared.told.Asked.{Asked}
-use Rattle.ec_runner.specs.RunReports.{HasEnded, IsTold, IsReportOf}
-use Rattle.ec_runner.specs.Fits.{IsBorneOut, Fits, AllFit, IsOf, IsVerdict}
-use Rattle.ec_runner.specs.Promised.{AreToldOf}
+use Rattle.ec_runner.specs.RunReports.{HasEnded, IsTold, IsReportOf, NamesDeclared}
+use Rattle.ec_runner.specs.Fits.{IsBorneOut, Fits, AllFit, IsMisfit, IsOf, IsVerdict}
+use Rattle.ec_runner.specs.Promised.{AreToldOf, IsWant}
 use Rattle.ec_runner.specs.Works.{IsAsked, EndsSo, IsToldOf}
 use Rattle.ec_runner.proofs.Promising.{told_at, told_many}
 
@@ -89,3 +90,43 @@ pub verdict_report : (t : Tables) (programs : List (List Command)) (turns : ℕ)
     → AreToldOf programs turns tolds → IsVerdict r t run tolds → IfOk r (IsReportOf t programs turns)
 verdict_report t programs turns run tolds (Ok r) many told v = report_of t programs turns run tolds r many told v.0 v.1
 verdict_report t programs turns run tolds (Err fault) many told v = tt
+
+misfit_within : (run : Recorded) (tolds : List Told) (w : ℕ) → IsMisfit run tolds w → w < length tolds
+misfit_within run tolds w m = slice_get_within tolds w m.told m.at
+
+-- a verdict names a declared worker
+verdict_names : (t : Tables) (run : Recorded) (tolds : List Told) (r : Result Report RunFault) → length tolds ≡ t.workers → IsVerdict r t run tolds
+    → IfErr r (NamesDeclared t)
+verdict_names t run tolds (Ok r) many v = tt
+verdict_names t run tolds (Err (faults.Mismatch w)) many (inl other) = λ some. subst (λ (v : ℕ). v < t.workers) (sym other.1) some
+verdict_names t run tolds (Err (faults.Mismatch w)) many (inr misfit) = λ some. subst (λ (n : ℕ). w < n) many (misfit_within run tolds w misfit)
+verdict_names t run tolds (Err faults.Spawn) many v = tt
+verdict_names t run tolds (Err faults.Memory) many v = tt
+
+want_names : (t : Tables) (fault : RunFault) → IsWant fault → NamesDeclared t fault
+want_names t faults.Spawn is = tt
+want_names t faults.Memory is = tt
+want_names t (faults.Mismatch w) is = absurd is
+
+-- what threads told of their programs, and the answer to it
+pub answer_few : (programs : List (List Command)) (turns : ℕ) (ran : Result (Recorded × Vec Told) RunFault) → length programs ≤ 16
+    → MatchResult ran (λ r. AreToldOf programs turns r.1.items) IsWant → IfOk ran (λ r. length r.1.items ≤ 16)
+answer_few programs turns (Ok r) few told = subst (λ (n : ℕ). n ≤ 16) (sym (told_many programs turns r.1.items told)) few
+answer_few programs turns (Err fault) few told = tt
+
+pub answer_each : (t : Tables) (programs : List (List Command)) (turns : ℕ) (ran : Result (Recorded × Vec Told) RunFault) → length programs ≡ t.workers
+    → MatchResult ran (λ r. AreToldOf programs turns r.1.items) IsWant → IfOk ran (λ r. length r.1.items ≡ t.workers)
+answer_each t programs turns (Ok r) many told = told_many programs turns r.1.items told ∙ many
+answer_each t programs turns (Err fault) many told = tt
+
+pub answer_report : (t : Tables) (programs : List (List Command)) (turns : ℕ) (ran : Result (Recorded × Vec Told) RunFault) (result : Result Report RunFault) → length programs ≡ t.workers
+    → MatchResult ran (λ r. AreToldOf programs turns r.1.items) IsWant → MatchResult ran (λ r. IsVerdict result t r.0 r.1.items) (λ fault. result ≡ Err fault)
+    → IfOk result (IsReportOf t programs turns)
+answer_report t programs turns (Ok r) result many told v = verdict_report t programs turns r.0 r.1.items result many told v
+answer_report t programs turns (Err fault) result many told is = subst (λ (x : Result Report RunFault). IfOk x (IsReportOf t programs turns)) (sym is) tt
+
+pub answer_names : (t : Tables) (programs : List (List Command)) (turns : ℕ) (ran : Result (Recorded × Vec Told) RunFault) (result : Result Report RunFault)
+    → length programs ≡ t.workers → MatchResult ran (λ r. AreToldOf programs turns r.1.items) IsWant
+    → MatchResult ran (λ r. IsVerdict result t r.0 r.1.items) (λ fault. result ≡ Err fault) → IfErr result (NamesDeclared t)
+answer_names t programs turns (Ok r) result many told v = verdict_names t r.0 r.1.items result (told_many programs turns r.1.items told ∙ many) v
+answer_names t programs turns (Err fault) result many told is = subst (λ (x : Result Report RunFault). IfErr x (NamesDeclared t)) (sym is) (want_names t fault told)

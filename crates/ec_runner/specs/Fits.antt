@@ -35,6 +35,35 @@ IsBorneOut (outcomes.Refused r) run w asked = WasRefusedSo run w r asked
 IsBorneOut outcomes.Stopped run w asked = IsCaught run w
 IsBorneOut _ run w asked = Unit {0}
 
+-- it tells of a moment of the run
+abbrev pub IsWithin : Option Asked → Recorded → Type 0
+IsWithin None run = ⊥
+IsWithin (Some a) run = a.moment ≤ length run.entries
+
+-- the run bears out why the program of w was cut off, but for what it was refused at its moment
+abbrev pub MayBeBorneOut : Outcome → Recorded → ℕ → Option Asked → Type 0
+MayBeBorneOut (outcomes.Refused r) run w asked = IsWithin asked run
+MayBeBorneOut outcomes.Stopped run w asked = IsCaught run w
+MayBeBorneOut _ run w asked = Unit {0}
+
+-- what w was refused is right, if it tells of moment k
+abbrev pub IsRightThen : Option Asked → Recorded → ℕ → ℕ → Refusal → Type 0
+IsRightThen None run k w r = Unit {0}
+IsRightThen (Some a) run k w r = a.moment ≡ k → IsRefusedSo run w r a
+
+abbrev pub IsRightAt : Outcome → Option Asked → Recorded → ℕ → ℕ → Type 0
+IsRightAt (outcomes.Refused r) asked run k w = IsRightThen asked run k w r
+IsRightAt _ asked run k w = Unit {0}
+
+-- the moment that w tells of, 0 where it was not refused
+abbrev pub asked_at : Option Asked → ℕ
+asked_at None = 0
+asked_at (Some a) = a.moment
+
+abbrev pub moment_of : Outcome → Option Asked → ℕ
+moment_of (outcomes.Refused r) asked = asked_at asked
+moment_of _ asked = 0
+
 -- WHAT w TELLS FITS THE RUN: its log is its entries there, and the run bears out how it ended
 pub record Fits (run : Recorded) (w : ℕ) (t : Told) : Type 0 where
   pub entries : own w run.entries ≡ t.log.items

@@ -16,6 +16,8 @@ use Rattle.ec_machine.specs.Runs.{IsRunOf, next_act, outcome_of}
 use Rattle.ec_machine.specs.Steps.{own}
 use Rattle.ec_runner.specs.declared.wait.Wait.{Wait}
 use Rattle.ec_runner.specs.declared.report.Report.{Report}
+use Rattle.ec_runner.specs.declared.run_fault.RunFault.{RunFault}
+use Rattle.ec_runner.specs.declared.run_fault.RunFault.TheVariants as faults
 use Rattle.ec_runner.specs.Boarded.{past_of, awaited}
 
 -- the call of w that is under way at the end is an await that has just fallen short, and its threshold is above the total
@@ -61,3 +63,9 @@ pub record IsReportOf (t : Tables) (programs : List (List Command)) (turns : ℕ
   pub outcomes : length r.outcomes.items ≡ t.workers
   pub told : (w : ℕ) (log : Vec Entry) (outcome : Outcome) → slice_get r.logs.items w ≡ Some log → slice_get r.outcomes.items w ≡ Some outcome
       → IsTold r.run w (program_at programs w) turns log.items outcome
+
+-- a worker that is named in place of a report is a declared one, where any is declared
+abbrev pub NamesDeclared : Tables → RunFault → Type 0
+NamesDeclared t (faults.Mismatch w) = 0 < t.workers → w < t.workers
+NamesDeclared t faults.Spawn = Unit {0}
+NamesDeclared t faults.Memory = Unit {0}

@@ -1,34 +1,64 @@
 //! How workers ended, held against the run.
 ghost use Rattle.std.specs.Prelude.{◌≡◌, ◌↔◌, ◌<◌, ◌≤◌, ℕ, length, Some, slice_get, IsTrue, MatchOption};
 ghost use Rattle.ec_runner.specs.declared.told.Told.{Told};
-ghost use Rattle.ec_runner.specs.Fits.{IsBorneOut, WasRefusedSo, IsUnborne};
+ghost use Rattle.ec_runner.specs.Fits.{IsBorneOut, IsUnborne, IsWithin, MayBeBorneOut, asked_at, moment_of};
 
 use crate::caught::is_caught;
-use crate::refused::is_refused_so;
+use crate::refused::first_wrong;
 use crate::told::{Asked, Told};
-use ec_core::{Refusal, Run};
+use ec_core::Run;
 use ec_count::WorkerId;
 use ec_machine::Outcome;
 
-/// Whether the act that a worker asked for was refused so at the moment that it tells.
-fn was_refused(run: &Run, worker: WorkerId, refusal: Refusal, asked: Option<Asked>) -> bool
-    ensures { IsTrue result ↔ WasRefusedSo run.now worker refusal asked }
+/// Whether a worker tells of a moment of the run.
+fn is_within(run: &Run, asked: Option<Asked>) -> bool
+    ensures { IsTrue result ↔ IsWithin asked run.now }
 {
     match asked {
-        Some(asked) => is_refused_so(run, worker, refusal, &asked),
+        Some(asked) => asked.moment <= run.len(),
         None => false,
     }
 }
 
-/// Whether the run bears out how a worker ended.
-fn is_borne_out(run: &Run, worker: WorkerId, told: &Told) -> bool
-    ensures { IsTrue result ↔ IsBorneOut told.now.outcome run.now worker told.now.asked }
+/// Whether the run bears out how a worker ended, but for what it was refused at its moment.
+fn may_be_borne_out(run: &Run, worker: WorkerId, told: &Told) -> bool
+    ensures { IsTrue result ↔ MayBeBorneOut told.now.outcome run.now worker told.now.asked }
 {
     match told.outcome {
-        Outcome::Refused(refusal) => was_refused(run, worker, refusal, told.asked),
+        Outcome::Refused(_) => is_within(run, told.asked),
         Outcome::Stopped => is_caught(run, worker),
         _ => true,
     }
+}
+
+fn asked_at(asked: Option<Asked>) -> usize
+    ensures { result ≡ asked_at asked }
+{
+    match asked {
+        Some(asked) => asked.moment,
+        None => 0,
+    }
+}
+
+/// The moment that a worker tells of, 0 where it was not refused.
+fn moment_of(told: &Told) -> usize
+    ensures { result ≡ moment_of told.now.outcome told.now.asked }
+{
+    match told.outcome {
+        Outcome::Refused(_) => asked_at(told.asked),
+        _ => 0,
+    }
+}
+
+/// A moment after which no worker was refused.
+fn last_moment(tolds: &[Told]) -> usize
+    ensures { (w : ℕ) (told : Told) → slice_get tolds.now w ≡ Some told → moment_of told.outcome told.asked ≤ result }
+{
+    let mut last = 0;
+    for w in 0..tolds.len() {
+        last = moment_of(&tolds[w]).max(last);
+    }
+    last
 }
 
 /// The worker of a number.
@@ -39,18 +69,31 @@ pub(crate) fn worker_of(number: usize) -> WorkerId
     WorkerId::new(number).unwrap()
 }
 
-/// The first worker that ended otherwise than the run bears out.
+/// The first worker that ended otherwise than the run bears out, but for what was refused.
+fn first_unlikely(run: &Run, tolds: &[Told]) -> Option<WorkerId>
+    requires { length tolds.now ≤ 16 }
+    ensures { MatchOption result
+        ((w : ℕ) (told : Told) → slice_get tolds.now w ≡ Some told → MayBeBorneOut told.outcome run.now w told.asked)
+        (IsUnborne run.now tolds.now) }
+{
+    for w in 0..tolds.len() {
+        let worker = worker_of(w);
+        if !may_be_borne_out(run, worker, &tolds[w]) {
+            return Some(worker);
+        }
+    }
+    None
+}
+
+/// A worker that ended otherwise than the run bears out.
 pub(crate) fn first_not_borne_out(run: &Run, tolds: &[Told]) -> Option<WorkerId>
     requires { length tolds.now ≤ 16 }
     ensures { MatchOption result
         ((w : ℕ) (told : Told) → slice_get tolds.now w ≡ Some told → IsBorneOut told.outcome run.now w told.asked)
         (IsUnborne run.now tolds.now) }
 {
-    for w in 0..tolds.len() {
-        let worker = worker_of(w);
-        if !is_borne_out(run, worker, &tolds[w]) {
-            return Some(worker);
-        }
+    match first_unlikely(run, tolds) {
+        Some(worker) => Some(worker),
+        None => first_wrong(run, tolds, last_moment(tolds).min(run.len())),
     }
-    None
 }

@@ -1,15 +1,18 @@
 //! What a worker was refused, held against the run.
-ghost use Rattle.std.specs.Prelude.{◌≡◌, ◌≢◌, ◌≤◌, ◌<◌, ◌↔◌, ◌==◌, ◌+◌, ◌∷◌, ◌++◌, false, [], List, length, reverse, take, Ok, Err, IsTrue};
+ghost use Rattle.std.specs.Prelude.{◌≡◌, ◌≢◌, ℕ, ◌≤◌, ◌<◌, ◌↔◌, ◌==◌, ◌+◌, ◌∷◌, ◌++◌, false, [], List, length, reverse, take, slice_get, Some, Ok, Err, IsTrue, MatchOption};
 ghost use Rattle.ec_core.specs.declared.act.Entry.{Entry};
 ghost use Rattle.ec_core.specs.Acceptance.{answer_of};
 ghost use Rattle.ec_core.specs.Counts.{past_at};
 ghost use Rattle.ec_core.specs.Standing.{StandsFor};
 ghost use Rattle.ec_machine.specs.Steps.{own};
-ghost use Rattle.ec_runner.specs.Fits.{IsDoneBy, IsRefusedSo};
+ghost use Rattle.ec_runner.specs.declared.told.Told.{Told};
+ghost use Rattle.ec_runner.specs.Fits.{IsDoneBy, IsRefusedSo, IsRightThen, IsRightAt, IsUnborne};
 
-use crate::told::Asked;
+use crate::ending::worker_of;
+use crate::told::{Asked, Told};
 use ec_core::{Act, Entry, Refusal, Run, World, accepted_means_answered};
 use ec_count::WorkerId;
+use ec_machine::Outcome;
 
 fn is_same_refusal(refusal: Refusal, other: Refusal) -> bool
     ensures { IsTrue result ↔ (refusal ≡ other) }
@@ -26,30 +29,33 @@ fn make(world: &mut World, entry: &Entry)
     let _ = world.step(entry.worker, entry.act);
 }
 
-/// The state that a run had at a moment.
-fn world_at(run: &Run, moment: usize) -> World
-    requires { moment ≤ length run.now.entries }
-    ensures stands { StandsFor result (take moment run.now.entries) }
-    ensures setup { result.setup ≡ run.now.setup }
+/// Makes the step of the entry at a place of a run.
+fn go_on(world: &mut World, run: &Run, place: usize)
+    requires { place < length run.now.entries }
+    ensures stands { StandsFor world.old (take place run.now.entries) → world.old.setup ≡ run.now.setup → StandsFor world.new (take (place + 1) run.now.entries) }
+    ensures setup { world.new.setup ≡ world.old.setup }
 {
     run.known();
     accepted_means_answered();
-    let mut world = World::open(run.setup().copy());
-    for i in 0..moment {
-        let Some(entry) = run.entry(i) else {
-            return world;
-        };
-        make(&mut world, &entry);
-    }
-    world
+    let Some(entry) = run.entry(place) else {
+        return;
+    };
+    make(world, &entry);
 }
 
-/// Whether an act is refused so at a moment of a run.
-fn is_refused_at(run: &Run, moment: usize, worker: WorkerId, act: &Act, refusal: Refusal) -> bool
-    requires { moment ≤ length run.now.entries }
+/// Whether an act is refused so by a world that has come to a moment of a run.
+fn is_refused_by(
+    run: &Run,
+    world: &World,
+    moment: usize,
+    worker: WorkerId,
+    act: &Act,
+    refusal: Refusal,
+) -> bool
+    requires stands { StandsFor world.now (take moment run.now.entries) }
+    requires setup { world.now.setup ≡ run.now.setup }
     ensures { IsTrue result ↔ (answer_of run.now.setup (past_at moment run.now.entries) worker act.now ≡ Err refusal) }
 {
-    let world = world_at(run, moment);
     match world.answer(worker, act) {
         Ok(_) => false,
         Err(found) => is_same_refusal(found, refusal),
@@ -89,12 +95,96 @@ fn is_done_by(run: &Run, moment: usize, worker: WorkerId) -> bool
     true
 }
 
-/// Whether what a worker asked for was refused so at its moment, by which all its steps were made.
-pub(crate) fn is_refused_so(run: &Run, worker: WorkerId, refusal: Refusal, asked: &Asked) -> bool
+/// Whether what a worker asked for was refused so at its moment, to which the world has come, and by
+/// which all its steps were made.
+fn is_refused_so(
+    run: &Run,
+    world: &World,
+    worker: WorkerId,
+    refusal: Refusal,
+    asked: &Asked,
+) -> bool
+    requires stands { StandsFor world.now (take asked.now.moment run.now.entries) }
+    requires setup { world.now.setup ≡ run.now.setup }
     ensures { IsTrue result ↔ IsRefusedSo run.now worker refusal asked.now }
 {
     if !is_done_by(run, asked.moment, worker) {
         return false;
     }
-    is_refused_at(run, asked.moment, worker, &asked.act, refusal)
+    is_refused_by(run, world, asked.moment, worker, &asked.act, refusal)
+}
+
+/// Whether what a worker was refused is right, if it tells of the moment to which the world has come.
+fn is_right_then(
+    run: &Run,
+    world: &World,
+    moment: usize,
+    worker: WorkerId,
+    refusal: Refusal,
+    asked: Option<Asked>,
+) -> bool
+    requires stands { StandsFor world.now (take moment run.now.entries) }
+    requires setup { world.now.setup ≡ run.now.setup }
+    ensures { IsTrue result ↔ IsRightThen asked run.now moment worker refusal }
+{
+    match asked {
+        Some(asked) => {
+            if asked.moment != moment {
+                return true;
+            }
+            is_refused_so(run, world, worker, refusal, &asked)
+        }
+        None => true,
+    }
+}
+
+/// The same of a worker that may have ended otherwise.
+fn is_right_at(run: &Run, world: &World, moment: usize, worker: WorkerId, told: &Told) -> bool
+    requires stands { StandsFor world.now (take moment run.now.entries) }
+    requires setup { world.now.setup ≡ run.now.setup }
+    ensures { IsTrue result ↔ IsRightAt told.now.outcome told.now.asked run.now moment worker }
+{
+    match told.outcome {
+        Outcome::Refused(refusal) => {
+            is_right_then(run, world, moment, worker, refusal, told.asked)
+        }
+        _ => true,
+    }
+}
+
+/// The first worker whose refusal at this moment, to which the world has come, is not right.
+fn first_wrong_at(run: &Run, world: &World, moment: usize, tolds: &[Told]) -> Option<WorkerId>
+    requires few { length tolds.now ≤ 16 }
+    requires stands { StandsFor world.now (take moment run.now.entries) }
+    requires setup { world.now.setup ≡ run.now.setup }
+    ensures { MatchOption result
+        ((w : ℕ) (told : Told) → slice_get tolds.now w ≡ Some told → IsRightAt told.outcome told.asked run.now moment w)
+        (IsUnborne run.now tolds.now) }
+{
+    for w in 0..tolds.len() {
+        let worker = worker_of(w);
+        if !is_right_at(run, world, moment, worker, &tolds[w]) {
+            return Some(worker);
+        }
+    }
+    None
+}
+
+/// A worker whose refusal at a moment up to this one is not right, found in one walk over the entries
+/// with a world that makes their steps.
+pub(crate) fn first_wrong(run: &Run, tolds: &[Told], last: usize) -> Option<WorkerId>
+    requires few { length tolds.now ≤ 16 }
+    requires within { last ≤ length run.now.entries }
+    ensures { MatchOption result
+        ((k w : ℕ) (told : Told) → k ≤ last → slice_get tolds.now w ≡ Some told → IsRightAt told.outcome told.asked run.now k w)
+        (IsUnborne run.now tolds.now) }
+{
+    let mut world = World::open(run.setup().copy());
+    for k in 0..last {
+        match first_wrong_at(run, &world, k, tolds) {
+            Some(worker) => return Some(worker),
+            None => go_on(&mut world, run, k),
+        }
+    }
+    first_wrong_at(run, &world, last, tolds)
 }

@@ -1,8 +1,8 @@
 //! Workers on threads of their own.
-ghost use Rattle.std.specs.Prelude.{◌≡◌, ℕ, ◌≤◌, map, length, IfOk, MatchResult};
+ghost use Rattle.std.specs.Prelude.{◌≡◌, ℕ, ◌≤◌, map, length, Err, IfOk, IfErr, MatchResult};
 ghost use Rattle.ec_runner.specs.Fits.{AllFit, IsVerdict};
 ghost use Rattle.ec_runner.specs.Promised.{IsJoined, IsOneMore, AreJoined, AreToldOf, IsWant};
-ghost use Rattle.ec_runner.specs.RunReports.{IsReportOf};
+ghost use Rattle.ec_runner.specs.RunReports.{IsReportOf, NamesDeclared};
 
 use crate::board::Board;
 use crate::duty::Duty;
@@ -161,6 +161,21 @@ fn reported(alloc: Global, setup: &Setup, run: Run, tolds: Vec<Told>) -> Result<
     }
 }
 
+/// What is told of workers that have ended: why nothing is known of them, if so, and else what their
+/// run and what they tell come to.
+fn answered(
+    alloc: Global,
+    setup: &Setup,
+    ran: Result<(Run, Vec<Told>), RunFault>,
+) -> Result<Report, RunFault>
+    requires few { IfOk ran (λ r. length r.1.items ≤ 16) }
+    requires each { IfOk ran (λ r. length r.1.items ≡ setup.now.workers) }
+    ensures { MatchResult ran (λ r. IsVerdict result setup.now r.0 r.1.items) (λ fault. result ≡ Err fault) }
+{
+    let (run, tolds) = ran?;
+    reported(alloc, setup, run, tolds)
+}
+
 /// Runs programs of the workers of these declarations, each in a thread of its own.
 fn run_on<R: Threads + Wait + Sync, G: Gate + Sync>(
     rt: &R,
@@ -171,11 +186,12 @@ fn run_on<R: Threads + Wait + Sync, G: Gate + Sync>(
     turns: u64,
 ) -> Result<Report, RunFault>
     requires { length programs.now ≡ setup.now.workers }
-    ensures { IfOk result (IsReportOf setup.now programs.now turns) }
+    ensures report { IfOk result (IsReportOf setup.now programs.now turns) }
+    ensures named { IfErr result (NamesDeclared setup.now) }
 {
-    let _workers = setup.workers();
-    let (run, tolds) = ran(rt, alloc, setup, programs, gate, turns)?;
-    reported(alloc, setup, run, tolds)
+    setup.known();
+    let ended = ran(rt, alloc, setup, programs, gate, turns);
+    answered(alloc, setup, ended)
 }
 
 /// Runs the programs of a plan, each worker's in a thread of its own, all at once, on one board
@@ -183,7 +199,8 @@ fn run_on<R: Threads + Wait + Sync, G: Gate + Sync>(
 /// for, in one hold of the lock, and no worker has more than `turns`. Where a worker's await has
 /// fallen short it sleeps until the total has come to its threshold, or until no live worker is left
 /// that doesn't wait. The gate is called before each hold. When all have ended, what they were told
-/// is held against the run.
+/// is held against the run: a mismatch names a declared worker. A thread that could not be started
+/// comes before want of memory for what workers tell.
 pub fn run_workers<R: Threads + Wait + Sync, G: Gate + Sync>(
     rt: &R,
     alloc: Global,
@@ -192,7 +209,8 @@ pub fn run_workers<R: Threads + Wait + Sync, G: Gate + Sync>(
     turns: u64,
 ) -> Result<Report, RunFault>
     requires { length plan.now.programs.items ≡ plan.now.heading.setup.workers }
-    ensures { IfOk result (IsReportOf plan.now.heading.setup plan.now.programs.items turns) }
+    ensures report { IfOk result (IsReportOf plan.now.heading.setup plan.now.programs.items turns) }
+    ensures named { IfErr result (NamesDeclared plan.now.heading.setup) }
 {
     run_on(
         rt,

@@ -16,6 +16,10 @@ use Rattle.ec_machine.specs.declared.command.Command.TheViews.{out-Command}
 use Rattle.ec_machine.specs.declared.command.Command.TheOpen.{Command-F}
 use Rattle.ec_machine.specs.declared.command.Command.TheOpen as layer
 use Rattle.ec_machine.specs.Limits.{is_value}
+use Rattle.ec_script.specs.Headers.{script_header}
+use Rattle.ec_heading.specs.declared.version.Version.{Version}
+use Rattle.ec_heading.specs.declared.version.Version.TheVariants.{One, Two}
+use Rattle.ec_heading.proofs.shared.VersionFacts.{limit_low}
 use Rattle.ec_heading.specs.declared.group.Group.TheVariants as groups
 use Rattle.ec_heading.specs.declared.sort.Sort.{Sort}
 use Rattle.ec_heading.specs.Sorts.{sort_word, has_name, has_number, opener, other, is_called}
@@ -106,10 +110,10 @@ outline_workers o is = workers_clean o.workers (recursion_from_All (λ w. is_nam
 
 heading_clean : (o : Outline) → IsOutline o → AllByRecursion IsClean (heading_lines o)
 heading_clean o is =
-    let small : o.limit < 1000000000000000000 = omega (arith, is.high) in
+    let small : o.limit < 1000000000000000000 = omega (arith, limit_low o.version o.limit is.high) in
     let all : AllByRecursion IsClean o.workers = outline_workers o is in (
       clean_append (codes "limit ") (decimal o.limit) (literal_clean (codes "limit ") refl) (decimal_clean o.limit small),
-      (clean_join (codes "workers" ∷ o.workers) (literal_clean (codes "workers") refl, all), declarations_clean o.workers (opened o.limit o.workers) o.declarations all is.declarations),
+      (clean_join (codes "workers" ∷ o.workers) (literal_clean (codes "workers") refl, all), declarations_clean o.workers (opened o.version o.limit o.workers) o.declarations all is.declarations),
     )
 
 -- ORDERS
@@ -188,10 +192,14 @@ are_lines : (lines : List (List ℕ)) → AllByRecursion IsClean lines → AllBy
 are_lines [] all = tt
 are_lines (l ∷ lines) all = (All-from_recursion (λ b. eqb b 10 ≡ false) l all.0, are_lines lines all.1)
 
+header_clean : (v : Version) → IsClean (script_header v)
+header_clean One = literal_clean (codes "evc-script 1") refl
+header_clean Two = literal_clean (codes "evc-script 2") refl
+
 pub spelled_lines : (s : Spelled) → IsSpelled s → AllByRecursion IsLine (script_lines s.outline s.blocks s.rows)
 spelled_lines s is =
     are_lines (script_lines s.outline s.blocks s.rows) (
-      literal_clean (codes "evc-script 1") refl,
+      header_clean s.outline.version,
       each_append IsClean (heading_lines s.outline) (flat_map (spelled_block s.outline) s.blocks ++ map (schedule_line s.outline.workers) s.rows) (heading_clean s.outline is.heading)
           (each_append IsClean (flat_map (spelled_block s.outline) s.blocks) (map (schedule_line s.outline.workers) s.rows)
           (blocks_clean s.outline is.heading (found_in s.outline is.heading (owning s.outline)) s.blocks is.blocks)

@@ -43,10 +43,10 @@ all_start h (d ∷ ds) start =
     all_start (declared_by h d) ds (starts_more h.groups (cons_option (group_of d.sort h.setup d.number) []) start (new_starts d.sort h.setup d.number))
 
 heading_starts : (h : Headed) → IsHeading h → AllByRecursion StartsAtOne h.groups
-heading_starts h (inl is) = subst (λ (g : Headed). AllByRecursion StartsAtOne g.groups) (sym is) tt
+heading_starts h (inl (is, within)) = subst (λ (g : Headed). AllByRecursion StartsAtOne g.groups) (sym is) tt
 heading_starts h (inr has) =
     let o : Outline = has.outline in
-    subst (λ (g : Headed). AllByRecursion StartsAtOne g.groups) has.declares (all_start (opened o.limit o.workers) o.declarations tt)
+    subst (λ (g : Headed). AllByRecursion StartsAtOne g.groups) has.declares (all_start (opened o.version o.limit o.workers) o.declarations tt)
 
 both_starts : (gs : List Group) (s : Semaphore) → AllByRecursion StartsAtOne gs → both_of gs ≡ Some s → s.initial ≡ 1
 both_starts [] s start is = cc
@@ -65,10 +65,10 @@ all_apart h [] keep = keep
 all_apart h (d ∷ ds) keep = all_apart (declared_by h d) ds (declared_apart d.sort h.setup d.number d.first d.second h.groups keep)
 
 heading_apart : (h : Headed) → IsHeading h → AreApart h.groups
-heading_apart h (inl is) = subst (λ (g : Headed). AreApart g.groups) (sym is) (none_apart h.setup).apart
+heading_apart h (inl (is, within)) = subst (λ (g : Headed). AreApart g.groups) (sym is) (none_apart h.setup).apart
 heading_apart h (inr has) =
     let o : Outline = has.outline in
-    subst (λ (g : Headed). AreApart g.groups) has.declares (all_apart (opened o.limit o.workers) o.declarations (none_apart (opened o.limit o.workers).setup)).apart
+    subst (λ (g : Headed). AreApart g.groups) has.declares (all_apart (opened o.version o.limit o.workers) o.declarations (none_apart (opened o.version o.limit o.workers).setup)).apart
 
 later_there : (g k : Group) (gs : List Group) → Contains gs k → Contains (g ∷ gs) k
 later_there g k gs c = (suc c.0, omega (arith, c.1), c.2)

@@ -4,6 +4,9 @@ use Rattle.std.specs.Option.{IfSome}
 use Rattle.std.proofs.lemmas.Bool.{eqb-false}
 use Rattle.std.proofs.lemmas.Option.{same_Some}
 use Rattle.ec_text.specs.Words.{words_of, number_of}
+use Rattle.ec_heading.specs.Versions.{is_limit, version_of}
+use Rattle.ec_script.specs.Headers.{script_header, bounded}
+use Rattle.ec_heading.specs.declared.version.Version.{Version}
 use Rattle.ec_heading.specs.declared.heading.HeadFault.{HeadFault}
 use Rattle.ec_heading.specs.Headed.{Headed}
 use Rattle.ec_heading.specs.Heading.{head_step, is_no_line}
@@ -31,7 +34,7 @@ use Rattle.ec_script.specs.Kinds.{phrase_fault, or_nothing}
 use Rattle.ec_script.specs.Layout.{commands_in}
 use Rattle.ec_script.specs.Objects.{object_in}
 use Rattle.ec_script.specs.Orders.{size_in, event_order, cell_order, buffer_order, database_order, semaphore_order, command_in}
-use Rattle.ec_script.specs.Reading.{seen, began, ordered_in, commanded, ended_in, after_verb, after, fault_or, phrased, headed_on, is_declaring, opens_outer, script_step, in_range, limited, limit_digits, limit_or, limit_step, script_of, named_on, step}
+use Rattle.ec_script.specs.Reading.{seen, began, ordered_in, commanded, ended_in, after_verb, after, fault_or, phrased, headed_on, is_declaring, opens_outer, script_step, limiting, limited, limit_digits, limit_or, limit_step, script_of, named_on, step}
 use Rattle.ec_script.specs.Scripted.{Scripted}
 use Rattle.ec_script.specs.Verbs.{is_giving}
 use Rattle.ec_script.proofs.Passing.{read_back}
@@ -200,26 +203,26 @@ abbrev StageCounts : Stage → Type 0
 StageCounts (Reading s) = BlockCounts s.block
 StageCounts _ = Unit {0}
 
-opening_counts : (b : Bool) (t : Stage) → cond b (Ok Limiting) (Err kinds.BadHeader) ≡ Ok t → StageCounts t
-opening_counts true t is = (let e : Limiting ≡ t = cc in subst StageCounts e tt)
-opening_counts false t is = cc
+opening_counts : (o : Option Version) (t : Stage) → limiting o ≡ Ok t → StageCounts t
+opening_counts (Some v) t is = (let e : Limiting v ≡ t = cc in subst StageCounts e tt)
+opening_counts None t is = cc
 
-range_counts : (b : Bool) (n : ℕ) (t : Stage) → cond b (Ok (Naming n)) (Err kinds.BadNumber) ≡ Ok t → StageCounts t
-range_counts true n t is = (let e : Naming n ≡ t = cc in subst StageCounts e tt)
-range_counts false n t is = cc
+range_counts : (b : Bool) (v : Version) (n : ℕ) (t : Stage) → cond b (Ok (Naming (bounded v n))) (Err kinds.BadNumber) ≡ Ok t → StageCounts t
+range_counts true v n t is = (let e : Naming (bounded v n) ≡ t = cc in subst StageCounts e tt)
+range_counts false v n t is = cc
 
-limited_counts : (o : Option ℕ) (t : Stage) → limited o ≡ Ok t → StageCounts t
-limited_counts None t is = cc
-limited_counts (Some n) t is = range_counts (in_range n) n t is
+limited_counts : (v : Version) (o : Option ℕ) (t : Stage) → limited v o ≡ Ok t → StageCounts t
+limited_counts v None t is = cc
+limited_counts v (Some n) t is = range_counts (is_limit v n) v n t is
 
-limit_counts : (b : Bool) (o : Option (List ℕ)) (t : Stage) → cond b (Err kinds.BadLine) (limit_or o) ≡ Ok t → StageCounts t
-limit_counts true o t is = cc
-limit_counts false None t is = cc
-limit_counts false (Some digits) t is = limited_counts (number_of digits) t is
+limit_counts : (v : Version) (b : Bool) (o : Option (List ℕ)) (t : Stage) → cond b (Err kinds.BadLine) (limit_or v o) ≡ Ok t → StageCounts t
+limit_counts v true o t is = cc
+limit_counts v false None t is = cc
+limit_counts v false (Some digits) t is = limited_counts v (number_of digits) t is
 
-limit_line_counts : (line : List ℕ) (t : Stage) → limit_step line ≡ Ok t → StageCounts t
+limit_line_counts : (v : Version) (line : List ℕ) (t : Stage) → limit_step v line ≡ Ok t → StageCounts t
 unfolding limit_step
-limit_line_counts line t is = limit_counts (nat_lt 8192 (length line)) (limit_digits (words_of line)) t is
+limit_line_counts v line t is = limit_counts v (nat_lt 8192 (length line)) (limit_digits (words_of line)) t is
 
 named_counts : (r : Result Headed HeadFault) (t : Stage) → named_on r ≡ Ok t → StageCounts t
 named_counts (Ok h) t is = (let e : Reading (script_of h) ≡ t = cc in subst StageCounts e tt)
@@ -227,9 +230,9 @@ named_counts (Err f) t is = cc
 
 step_counts : (s t : Stage) (line : List ℕ) → StageCounts s → step s line ≡ Ok t → StageCounts t
 unfolding step
-step_counts Opening t line counts is = opening_counts (bytes_eq line (codes "evc-script 1")) t is
-step_counts Limiting t line counts is = limit_line_counts line t is
-step_counts (Naming n) t line counts is = named_counts (head_step (heading_opened n []) line) t is
+step_counts Opening t line counts is = opening_counts (version_of script_header line) t is
+step_counts (Limiting v) t line counts is = limit_line_counts v line t is
+step_counts (Naming b) t line counts is = named_counts (head_step (heading_opened b.version b.limit []) line) t is
 step_counts (Reading s) t line counts is =
     let r = read_back (script_step s line) t is in
     subst StageCounts (sym r.2) (line_counts s r.0 line counts r.1)

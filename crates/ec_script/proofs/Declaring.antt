@@ -7,6 +7,7 @@ use Rattle.ec_count.specs.Tables.{Tables}
 use Rattle.ec_count.specs.declared.target.Target.{Target}
 use Rattle.ec_count.specs.declared.target.Target.TheVariants.{Worker}
 use Rattle.ec_text.specs.Words.{words_of}
+use Rattle.ec_heading.specs.declared.version.Version.{Version}
 use Rattle.ec_heading.specs.declared.sort.Sort.{Sort}
 use Rattle.ec_heading.specs.declared.sort.Sort.TheVariants as sorts
 use Rattle.ec_heading.specs.declared.heading.HeadFault.{HeadFault}
@@ -91,11 +92,11 @@ workers_stay sorts.Database t n first second = refl
 workers_stay sorts.Semaphore t n first second = refl
 workers_stay sorts.Both t n first second = refl
 
-pub opened_keeps : (limit : ℕ) (ws : List (List ℕ)) → 1 ≤ length ws → HeadKeeps (opened limit ws)
-opened_keeps limit ws some = record {
+pub opened_keeps : (version : Version) (limit : ℕ) (ws : List (List ℕ)) → 1 ≤ length ws → HeadKeeps (opened version limit ws)
+opened_keeps version limit ws some = record {
   some = some;
   words = numbered_below ws 0 (length ws) (omega arith);
-  apart = none_apart (opened limit ws).setup;
+  apart = none_apart (opened version limit ws).setup;
 }
 
 pub declared_keeps : (h : Headed) (d : Declaration) → HeadKeeps h → HeadKeeps (declared_by h d)
@@ -118,9 +119,9 @@ not_refused : (b : Bool) (f : HeadFault) (r : Result Headed HeadFault) (t : Head
 not_refused true f r t is = cc
 not_refused false f r t is = is
 
-opened_step : (limit : ℕ) (o : Option (List (List ℕ))) (t : Headed) → ((ws : List (List ℕ)) → o ≡ Some ws → 1 ≤ length ws) → opened_by limit o ≡ Ok t → HeadKeeps t
-opened_step limit None t some is = cc
-opened_step limit (Some ws) t some is = subst HeadKeeps (passes (workers_fault ws) (opened limit ws) t is) (opened_keeps limit ws (some ws refl))
+opened_step : (version : Version) (limit : ℕ) (o : Option (List (List ℕ))) (t : Headed) → ((ws : List (List ℕ)) → o ≡ Some ws → 1 ≤ length ws) → opened_by version limit o ≡ Ok t → HeadKeeps t
+opened_step version limit None t some is = cc
+opened_step version limit (Some ws) t some is = subst HeadKeeps (passes (workers_fault ws) (opened version limit ws) t is) (opened_keeps version limit ws (some ws refl))
 
 some_if : (b : Bool) (v : List ℕ) (vs ws : List (List ℕ)) → cond b (Some (v ∷ vs)) None ≡ Some ws → 1 ≤ length ws
 some_if true v vs ws is = let e : v ∷ vs ≡ ws = cc in omega (arith, ap length e)
@@ -132,10 +133,10 @@ some_workers (w ∷ []) ws is = cc
 some_workers (w ∷ v ∷ vs) ws is = some_if (bytes_eq w (codes "workers")) v vs ws is
 
 -- the line of the workers
-pub first_keeps : (limit : ℕ) (line : List ℕ) (t : Headed) → head_step (opened limit []) line ≡ Ok t → HeadKeeps t
+pub first_keeps : (version : Version) (limit : ℕ) (line : List ℕ) (t : Headed) → head_step (opened version limit []) line ≡ Ok t → HeadKeeps t
 unfolding head_step
-first_keeps limit line t is =
-    opened_step limit (workers_in (words_of line)) t (some_workers (words_of line)) (not_refused (is_no_line line) faults.BadLine (words_step (opened limit []) (words_of line)) t is)
+first_keeps version limit line t is =
+    opened_step version limit (workers_in (words_of line)) t (some_workers (words_of line)) (not_refused (is_no_line line) faults.BadLine (words_step (opened version limit []) (words_of line)) t is)
 
 -- a heading that keeps, of as many workers
 pub record Grows (old new : Headed) : Type 0 where
@@ -156,4 +157,4 @@ head_grows h line t keeps is =
     let some : eqb h.setup.workers 0 ≡ false = ne_eqb _ _ (λ e. (let k : 1 ≤ h.setup.workers = keeps.some in omega (arith, k, e))) in
     let step = not_refused (is_no_line line) faults.BadLine (words_step h (words_of line)) t is in
     declared_step h (parts_in (words_of line)) t keeps
-    (ap (λ (b : Bool). cond b (opened_by h.setup.limit (workers_in (words_of line))) (declared_or h (parts_in (words_of line)))) (sym some) ∙ step)
+    (ap (λ (b : Bool). cond b (opened_by h.version h.setup.limit (workers_in (words_of line))) (declared_or h (parts_in (words_of line)))) (sym some) ∙ step)

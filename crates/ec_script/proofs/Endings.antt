@@ -1,6 +1,9 @@
 -- A text is told as unfinished exactly where it ends too early.
 use Rattle.std.proofs.Common.{◌≡◌, ◌≢◌, ◌⊎◌, inl, inr, ℕ, ◌+◌, ◌<◌, ◌≤◌, List, [], ◌∷◌, ◌++◌, length, Bool, true, false, cond, Option, Some, None, Result, Ok, Err, refl, sym, ap, ◌∙◌, subst, arith, append-nil, bytes_eq, codes, nat_lt}
 use Rattle.ec_text.specs.Words.{words_of, number_of}
+use Rattle.ec_heading.specs.Versions.{is_limit, version_of}
+use Rattle.ec_script.specs.Headers.{script_header, bounded}
+use Rattle.ec_heading.specs.declared.version.Version.{Version}
 use Rattle.ec_heading.specs.declared.heading.HeadFault.{HeadFault}
 use Rattle.ec_heading.specs.Headed.{Headed}
 use Rattle.ec_heading.specs.Heading.{head_step}
@@ -15,7 +18,7 @@ use Rattle.ec_script.specs.Endings.{IsFaultless, IsInside, EndsEarly, Unfinished
 use Rattle.ec_script.specs.Grammar.{text_of, Leads, IsCutOff, IsFirstFault, IsLongFault, IsFault}
 use Rattle.ec_script.specs.Holding.{HasKind}
 use Rattle.ec_script.specs.Outcome.{plan_or, plan_in}
-use Rattle.ec_script.specs.Reading.{limited, limit_digits, limit_or, limit_step, in_range, script_of, named_on, read_on, script_step, step}
+use Rattle.ec_script.specs.Reading.{limited, limit_digits, limit_or, limit_step, limiting, script_of, named_on, read_on, script_step, step}
 use Rattle.ec_script.specs.Scripted.{Scripted}
 use Rattle.ec_script.proofs.FaultsTold.{faults_are_told}
 use Rattle.ec_script.proofs.KindsTold.{least_is_told, faultless_taken}
@@ -25,33 +28,33 @@ use Rattle.ec_script.proofs.KindsTold.{least_is_told, faultless_taken}
 -- a stage behind so many lines
 abbrev IsBehind : Stage → ℕ → Type 0
 IsBehind Opening n = n ≡ 0
-IsBehind Limiting n = n ≡ 1
-IsBehind (Naming m) n = n ≡ 2
+IsBehind (Limiting v) n = n ≡ 1
+IsBehind (Naming b) n = n ≡ 2
 IsBehind (Reading s) n = 3 ≤ n
 
-opening_on : (b : Bool) (t : Stage) (n : ℕ) → n ≡ 0 → cond b (Ok Limiting) (Err kinds.BadHeader) ≡ Ok t → IsBehind t (n + 1)
-opening_on true t n at is = (let same : Limiting ≡ t = cc in subst (λ u. IsBehind u (n + 1)) same (omega (arith, at)))
-opening_on false t n at is = cc
+opening_on : (o : Option Version) (t : Stage) (n : ℕ) → n ≡ 0 → limiting o ≡ Ok t → IsBehind t (n + 1)
+opening_on (Some v) t n at is = (let same : Limiting v ≡ t = cc in subst (λ u. IsBehind u (n + 1)) same (omega (arith, at)))
+opening_on None t n at is = cc
 
-range_on : (b : Bool) (m : ℕ) (t : Stage) (n : ℕ) → n ≡ 1 → cond b (Ok (Naming m)) (Err kinds.BadNumber) ≡ Ok t → IsBehind t (n + 1)
-range_on true m t n at is = (let same : Naming m ≡ t = cc in subst (λ u. IsBehind u (n + 1)) same (omega (arith, at)))
-range_on false m t n at is = cc
+range_on : (b : Bool) (v : Version) (m : ℕ) (t : Stage) (n : ℕ) → n ≡ 1 → cond b (Ok (Naming (bounded v m))) (Err kinds.BadNumber) ≡ Ok t → IsBehind t (n + 1)
+range_on true v m t n at is = (let same : Naming (bounded v m) ≡ t = cc in subst (λ u. IsBehind u (n + 1)) same (omega (arith, at)))
+range_on false v m t n at is = cc
 
-limited_on : (o : Option ℕ) (t : Stage) (n : ℕ) → n ≡ 1 → limited o ≡ Ok t → IsBehind t (n + 1)
-limited_on None t n at is = cc
-limited_on (Some m) t n at is = range_on (in_range m) m t n at is
+limited_on : (v : Version) (o : Option ℕ) (t : Stage) (n : ℕ) → n ≡ 1 → limited v o ≡ Ok t → IsBehind t (n + 1)
+limited_on v None t n at is = cc
+limited_on v (Some m) t n at is = range_on (is_limit v m) v m t n at is
 
-limit_on : (o : Option (List ℕ)) (t : Stage) (n : ℕ) → n ≡ 1 → limit_or o ≡ Ok t → IsBehind t (n + 1)
-limit_on None t n at is = cc
-limit_on (Some digits) t n at is = limited_on (number_of digits) t n at is
+limit_on : (v : Version) (o : Option (List ℕ)) (t : Stage) (n : ℕ) → n ≡ 1 → limit_or v o ≡ Ok t → IsBehind t (n + 1)
+limit_on v None t n at is = cc
+limit_on v (Some digits) t n at is = limited_on v (number_of digits) t n at is
 
-long_on : (b : Bool) (o : Option (List ℕ)) (t : Stage) (n : ℕ) → n ≡ 1 → cond b (Err kinds.BadLine) (limit_or o) ≡ Ok t → IsBehind t (n + 1)
-long_on true o t n at is = cc
-long_on false o t n at is = limit_on o t n at is
+long_on : (v : Version) (b : Bool) (o : Option (List ℕ)) (t : Stage) (n : ℕ) → n ≡ 1 → cond b (Err kinds.BadLine) (limit_or v o) ≡ Ok t → IsBehind t (n + 1)
+long_on v true o t n at is = cc
+long_on v false o t n at is = limit_on v o t n at is
 
-limiting_on : (line : List ℕ) (t : Stage) (n : ℕ) → n ≡ 1 → limit_step line ≡ Ok t → IsBehind t (n + 1)
+limiting_on : (v : Version) (line : List ℕ) (t : Stage) (n : ℕ) → n ≡ 1 → limit_step v line ≡ Ok t → IsBehind t (n + 1)
 unfolding limit_step
-limiting_on line t n at is = long_on (nat_lt 8192 (length line)) (limit_digits (words_of line)) t n at is
+limiting_on v line t n at is = long_on v (nat_lt 8192 (length line)) (limit_digits (words_of line)) t n at is
 
 naming_on : (r : Result Headed HeadFault) (t : Stage) (n : ℕ) → n ≡ 2 → named_on r ≡ Ok t → IsBehind t (n + 1)
 naming_on (Ok h) t n at is = (let same : Reading (script_of h) ≡ t = cc in subst (λ u. IsBehind u (n + 1)) same (omega (arith, at)))
@@ -63,9 +66,9 @@ reading_on (Err k) t n at is = cc
 
 step_on : (s t : Stage) (line : List ℕ) (n : ℕ) → IsBehind s n → step s line ≡ Ok t → IsBehind t (n + 1)
 unfolding step
-step_on Opening t line n at is = opening_on (bytes_eq line (codes "evc-script 1")) t n at is
-step_on Limiting t line n at is = limiting_on line t n at is
-step_on (Naming m) t line n at is = naming_on (head_step (opened m []) line) t n at is
+step_on Opening t line n at is = opening_on (version_of script_header line) t n at is
+step_on (Limiting v) t line n at is = limiting_on v line t n at is
+step_on (Naming b) t line n at is = naming_on (head_step (opened b.version b.limit []) line) t n at is
 step_on (Reading s) t line n at is = reading_on (script_step s line) t n at is
 
 leads_on : (s : Stage) (lines : List (List ℕ)) (t : Stage) (n : ℕ) → IsBehind s n → Leads s lines t → IsBehind t (n + length lines)
@@ -88,8 +91,8 @@ no_plan_or s (Some b) some = refl
 
 early_of : (stage : Stage) (n : ℕ) → IsBehind stage n → plan_in stage ≡ None → (n < 3) ⊎ IsInside stage
 early_of Opening n at is = inl (omega (arith, at))
-early_of Limiting n at is = inl (omega (arith, at))
-early_of (Naming m) n at is = inl (omega (arith, at))
+early_of (Limiting v) n at is = inl (omega (arith, at))
+early_of (Naming b) n at is = inl (omega (arith, at))
 early_of (Reading s) n at is = inr (open_block s s.block is)
 
 of_early : (stage : Stage) (n : ℕ) → IsBehind stage n → (n < 3) ⊎ IsInside stage → plan_in stage ≡ None
@@ -101,8 +104,8 @@ of_early _ n at early = refl
 
 no_line_unfinished : (stage : Stage) (line : List ℕ) → HasKind stage line kinds.Unfinished → ⊥
 no_line_unfinished Opening line h = h
-no_line_unfinished Limiting line h = h.2
-no_line_unfinished (Naming n) line h = h.2
+no_line_unfinished (Limiting v) line h = h.2
+no_line_unfinished (Naming b) line h = h.2
 no_line_unfinished (Reading s) line (inl h) = h.2
 no_line_unfinished (Reading s) line (inr h) = h.2
 
@@ -135,7 +138,7 @@ first_early text n f = elim f.why [
 ]
 
 no_long : (text : List ℕ) (n : ℕ) → IsLongFault text n kinds.Unfinished → ⊥
-no_long text n f = elim f.why [ inl h ↦ (let e : kinds.Unfinished ≡ kinds.TooMany = h.1 in cc) | inr h ↦ (let e : kinds.Unfinished ≡ kinds.BadHeader = h.1 in cc) ]
+no_long text n f = elim f.why [ inl h ↦ (let e : kinds.Unfinished ≡ kinds.TooMany = h.2 in cc) | inr h ↦ (let e : kinds.Unfinished ≡ kinds.BadHeader = h.1 in cc) ]
 
 ends_early : (text : List ℕ) (n : ℕ) → IsFault text n kinds.Unfinished → (length text ≤ SCRIPT_MAX) × EndsEarly text n
 ends_early text n (inl (within, f)) = (within, first_early text n f)

@@ -1,5 +1,5 @@
 -- A fault is told of a text exactly where it is that of its first faulty line, or of line 1 where the text is too long.
-use Rattle.std.proofs.Common.{◌≡◌, ◌≢◌, ◌⊎◌, inl, inr, ℕ, ◌+◌, ◌<◌, ◌≤◌, List, [], ◌∷◌, ◌++◌, length, true, false, cond, Err, refl, sym, ap, ◌∙◌, subst, arith, append_assoc, append-nil, bytes_eq, codes}
+use Rattle.std.proofs.Common.{◌≡◌, ◌≢◌, ◌⊎◌, inl, inr, ℕ, ◌+◌, ◌<◌, ◌≤◌, List, [], ◌∷◌, ◌++◌, length, true, false, cond, Option, Some, None, Err, refl, sym, ap, ◌∙◌, subst, arith, append_assoc, append-nil, bytes_eq, codes}
 use Rattle.std.specs.List.{AllByRecursion}
 use Rattle.std.proofs.lemmas.Bool.{true≢false, false_from_ne_true, cases_lt}
 use Rattle.std.proofs.lemmas.Slice.Eq.{bytes_eq-Decides}
@@ -9,9 +9,14 @@ use Rattle.ec_script.specs.declared.parsing.TheConstants.{SCRIPT_MAX}
 use Rattle.ec_script.specs.declared.stage.Stage.{Stage}
 use Rattle.ec_script.specs.declared.stage.Stage.TheVariants.{Opening}
 use Rattle.ec_script.specs.Reading.{step}
-use Rattle.ec_script.specs.Outcome.{parts_of, finished, taken, ended, goes, outcome, first_of, long_kind}
+use Rattle.ec_script.specs.Outcome.{parts_of, finished, taken, ended, goes, outcome, first_of, long_by, long_kind}
 use Rattle.ec_script.specs.Grammar.{text_of, IsLine, Leads, IsRefused, IsCutOff, IsFirstFault, IsLongFault, IsFault, FaultsAreTold}
 use Rattle.ec_script.proofs.Lines.{HasFirst, has_first, parts_line, parts_rest, goes_line, goes_rest}
+use Rattle.ec_heading.specs.Versions.{version_of}
+use Rattle.ec_script.specs.Headers.{script_header}
+use Rattle.ec_heading.specs.declared.version.Version.{Version}
+use Rattle.ec_heading.specs.declared.version.Version.TheVariants.{One, Two}
+use Rattle.ec_heading.proofs.shared.VersionFacts.{version_back, version_none, version_none_from}
 use Rattle.ec_script.proofs.shared.Texts.{within_goes, long_goes, fault_is_first, long_is_line_1, whole, line_at, are_lines, behind_of}
 
 -- THE FIRST FAULTY LINE
@@ -67,9 +72,13 @@ first_is : (line behind : List ℕ) → IsLine line → ((more : List ℕ) × (b
 first_is line behind plain (inl (more, is)) = ap (λ (r : List ℕ). first_of (parts_of (line ++ r))) is ∙ ap first_of (parts_line line more plain)
 first_is line behind plain (inr none) = ap (λ (r : List ℕ). first_of (parts_of (line ++ r))) none ∙ ap (λ (r : List ℕ). first_of (parts_of r)) (append-nil line) ∙ ap first_of (parts_rest line plain)
 
-long_kind_is : (line : List ℕ) (kind : Kind) → ((line ≡ codes "evc-script 1") × (kind ≡ kinds.TooMany)) ⊎ ((line ≢ codes "evc-script 1") × (kind ≡ kinds.BadHeader)) → long_kind line ≡ kind
-long_kind_is line kind (inl (is, many)) = ap (λ b. cond b kinds.TooMany kinds.BadHeader) ((bytes_eq-Decides line (codes "evc-script 1")).1 is) ∙ sym many
-long_kind_is line kind (inr (other, bad)) = ap (λ b. cond b kinds.TooMany kinds.BadHeader) (false_from_ne_true _ (λ same. other ((bytes_eq-Decides line (codes "evc-script 1")).0 same))) ∙ sym bad
+header_told : (v : Version) → version_of script_header (script_header v) ≡ Some v
+header_told One = refl
+header_told Two = refl
+
+long_kind_is : (line : List ℕ) (kind : Kind) → ((v : Version) × (line ≡ script_header v) × (kind ≡ kinds.TooMany)) ⊎ (((v : Version) → line ≢ script_header v) × (kind ≡ kinds.BadHeader)) → long_kind line ≡ kind
+long_kind_is line kind (inl (v, is, many)) = ap long_by (ap (version_of script_header) is ∙ header_told v) ∙ sym many
+long_kind_is line kind (inr (other, bad)) = ap long_by (version_none_from script_header line other) ∙ sym bad
 
 long_is_told : (text : List ℕ) (n : ℕ) (kind : Kind) → SCRIPT_MAX < length text → IsLongFault text n kind → outcome text ≡ Err (n, kind)
 long_is_told text n kind long is =
@@ -81,11 +90,11 @@ behind_ends : (after : List (List ℕ)) → ((more : List ℕ) × (behind_of aft
 behind_ends [] = inr refl
 behind_ends (p ∷ ps) = inl (_, refl)
 
-why_long : (line : List ℕ) (kind : Kind) → kind ≡ long_kind line → ((line ≡ codes "evc-script 1") × (kind ≡ kinds.TooMany)) ⊎ ((line ≢ codes "evc-script 1") × (kind ≡ kinds.BadHeader))
+why_long : (line : List ℕ) (kind : Kind) → kind ≡ long_kind line → ((v : Version) × (line ≡ script_header v) × (kind ≡ kinds.TooMany)) ⊎ (((v : Version) → line ≢ script_header v) × (kind ≡ kinds.BadHeader))
 why_long line kind is =
-    (elim (bytes_eq line (codes "evc-script 1")) as (λ b. bytes_eq line (codes "evc-script 1") ≡ b → kind ≡ cond b kinds.TooMany kinds.BadHeader → ((line ≡ codes "evc-script 1") × (kind ≡ kinds.TooMany)) ⊎ ((line ≢ codes "evc-script 1") × (kind ≡ kinds.BadHeader))) [
-      | true ↦ λ q k. inl ((bytes_eq-Decides line (codes "evc-script 1")).0 q, k)
-      | false ↦ λ q k. inr ((λ same. true≢false (sym ((bytes_eq-Decides line (codes "evc-script 1")).1 same) ∙ q)), k)
+    (elim (version_of script_header line) as (λ o. version_of script_header line ≡ o → kind ≡ long_by o → ((v : Version) × (line ≡ script_header v) × (kind ≡ kinds.TooMany)) ⊎ (((v : Version) → line ≢ script_header v) × (kind ≡ kinds.BadHeader))) [
+      | Some v ↦ λ q k. inl (v, version_back script_header line v q, k)
+      | None ↦ λ q k. inr (version_none script_header line q, k)
     ]) refl is
 
 long_fault : (text : List ℕ) (n : ℕ) (kind : Kind) → SCRIPT_MAX < length text → outcome text ≡ Err (n, kind) → IsLongFault text n kind

@@ -52,7 +52,7 @@ keeps_all h [] keeps = keeps
 keeps_all h (d ∷ ds) keeps = keeps_all (declared_by h d) ds (declared_keeps h d keeps)
 
 pub outline_keeps : (o : Outline) → IsOutline o → HeadKeeps (headed o)
-outline_keeps o is = keeps_all (opened o.limit o.workers) o.declarations (opened_keeps o.limit o.workers is.workers.some)
+outline_keeps o is = keeps_all (opened o.version o.limit o.workers) o.declarations (opened_keeps o.version o.limit o.workers is.workers.some)
 
 -- VALUES
 

@@ -11,6 +11,9 @@ use Rattle.ec_count.specs.Names.{find_name}
 use Rattle.ec_count.specs.Reserved.{is_name}
 use Rattle.ec_count.specs.Tables.{Tables, first_that}
 use Rattle.ec_text.specs.Words.{number_of}
+use Rattle.ec_heading.specs.Versions.{is_limit}
+use Rattle.ec_heading.specs.declared.version.Version.{Version}
+use Rattle.ec_heading.proofs.shared.VersionFacts.{limit_low, limit_from, limit_parts}
 use Rattle.ec_heading.specs.declared.heading.HeadFault.TheVariants as heads
 use Rattle.ec_heading.specs.declared.sort.Sort.{Sort}
 use Rattle.ec_heading.specs.declared.sort.Sort.TheVariants as sorts
@@ -25,28 +28,27 @@ use Rattle.ec_script.specs.declared.fault.Kind.{Kind}
 use Rattle.ec_script.specs.declared.fault.Kind.TheVariants as kinds
 use Rattle.ec_script.specs.Faults.{kind_of_head}
 use Rattle.ec_script.specs.Holding.{LimitHas, WorkersHave, IsTaken, IsOver, PassesBounds, SharesWorker, DeclarationHas}
-use Rattle.ec_script.specs.Reading.{in_range}
 use Rattle.ec_script.proofs.Deciding.{never, decides_none, decides_some, decides_not, decides_itself, decides_any, decides_member, decides_repeat, decides_word_twice, decides_number}
 use Rattle.ec_script.proofs.Least.{least}
 
 -- THE LIMIT
 
-abbrev pub limit_tests : List ℕ → Kind → Bool
-limit_tests digits kinds.BadNumber = not (option_map_or in_range (number_of digits) false)
-limit_tests digits _ = false
+abbrev pub limit_tests : Version → List ℕ → Kind → Bool
+limit_tests v digits kinds.BadNumber = not (option_map_or (is_limit v) (number_of digits) false)
+limit_tests v digits _ = false
 
-limit_few : (n : ℕ) → in_range n ≡ true → n < 1000000000000000000
-limit_few n on = (let high : n < 4294967296 = ltb-true n 4294967296 (and_parts (nat_le 1 n) (nat_lt n 4294967296) on).1 in omega arith)
+limit_few : (v : Version) (n : ℕ) → is_limit v n ≡ true → n < 1000000000000000000
+limit_few v n on = omega (arith, limit_low v n (limit_parts v n on).1)
 
-limit_number : (digits : List ℕ) → Decides (not (option_map_or in_range (number_of digits) false)) (LimitHas digits kinds.BadNumber)
-limit_number digits =
-    Decides-like (not (option_map_or in_range (number_of digits) false)) (λ h n low high. h n (and_from _ _ (le-leb 1 n low) (lt-ltb n 4294967296 high)))
-    (λ h n on. (let p = and_parts (nat_le 1 n) (nat_lt n 4294967296) on in h n (leb-true 1 n p.0) (ltb-true n 4294967296 p.1)))
-    (decides_number in_range limit_few digits)
+limit_number : (v : Version) (digits : List ℕ) → Decides (not (option_map_or (is_limit v) (number_of digits) false)) (LimitHas v digits kinds.BadNumber)
+limit_number v digits =
+    Decides-like (not (option_map_or (is_limit v) (number_of digits) false)) (λ h n low high. h n (limit_from v n low high))
+    (λ h n on. (let p = limit_parts v n on in h n p.0 p.1))
+    (decides_number (is_limit v) (limit_few v) digits)
 
-pub limit_decided : (digits : List ℕ) (k : Kind) → Decides (limit_tests digits k) (LimitHas digits k)
-limit_decided digits kinds.BadNumber = limit_number digits
-limit_decided digits _ = never (λ t. t)
+pub limit_decided : (v : Version) (digits : List ℕ) (k : Kind) → Decides (limit_tests v digits k) (LimitHas v digits k)
+limit_decided v digits kinds.BadNumber = limit_number v digits
+limit_decided v digits _ = never (λ t. t)
 
 -- THE WORKERS
 

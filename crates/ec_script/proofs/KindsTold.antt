@@ -1,5 +1,5 @@
 -- A kind is told of a line exactly where it is the least that holds.
-use Rattle.std.proofs.Common.{◌≡◌, ◌≢◌, ◌⊎◌, inl, inr, ℕ, ◌<◌, ◌==◌, ◌&&◌, List, [], ◌∷◌, length, Bool, true, false, not, cond, Option, Some, None, Result, Ok, Err, option_map, is_some, refl, sym, ap, ◌∙◌, subst, arith, codes, bytes_eq, nat_lt}
+use Rattle.std.proofs.Common.{◌≡◌, ◌≢◌, ◌⊎◌, inl, inr, ℕ, ◌<◌, ◌==◌, ◌&&◌, List, [], ◌∷◌, length, Bool, true, false, not, cond, Option, Some, None, Result, Ok, Err, option_map, is_some, is_none, refl, sym, ap, ◌∙◌, subst, arith, codes, bytes_eq, nat_lt}
 use Rattle.std.specs.Bool.{Decides}
 use Rattle.std.specs.Prelude.{◌↔◌}
 use Rattle.std.specs.List.{AllByRecursion, list_any}
@@ -9,6 +9,10 @@ use Rattle.std.proofs.lemmas.Bool.Decides.{Decides-like, Decides-or, Decides-eqb
 use Rattle.std.proofs.lemmas.Option.{same_Some}
 use Rattle.std.proofs.lemmas.Slice.Eq.{bytes_eq-Decides}
 use Rattle.ec_text.specs.Words.{words_of, number_of, is_number_form}
+use Rattle.ec_heading.specs.Versions.{is_limit, version_of}
+use Rattle.ec_script.specs.Headers.{script_header, bounded, Bounded}
+use Rattle.ec_heading.specs.declared.version.Version.{Version}
+use Rattle.ec_heading.proofs.shared.VersionFacts.{version_none, version_none_from}
 use Rattle.ec_heading.specs.declared.heading.HeadFault.{HeadFault}
 use Rattle.ec_heading.specs.declared.heading.HeadFault.TheVariants as heads
 use Rattle.ec_heading.specs.declared.sort.Sort.{Sort}
@@ -40,7 +44,7 @@ use Rattle.ec_script.specs.Kinds.{is_allowed, phrase_fault}
 use Rattle.ec_script.specs.Objects.{object_in}
 use Rattle.ec_script.specs.Phrased.{Worded}
 use Rattle.ec_script.specs.Placed.{IsOfWords, IsLimitLine, IsWorkersLine, IsDeclaration, MayStand, IsOther}
-use Rattle.ec_script.specs.Reading.{nest_of, seen, after, fault_or, phrased, headed_on, is_declaring, opens_outer, script_step, in_range, limited, limit_digits, limit_or, limit_step, named_on, read_on, step}
+use Rattle.ec_script.specs.Reading.{nest_of, seen, after, fault_or, phrased, headed_on, is_declaring, opens_outer, script_step, limiting, limited, limit_digits, limit_or, limit_step, named_on, read_on, step}
 use Rattle.ec_script.specs.Scripted.{Scripted}
 use Rattle.ec_script.specs.Verbs.{is_outer}
 use Rattle.ec_script.proofs.Deciding.{never, decides_not}
@@ -139,19 +143,23 @@ words_so line is = or_from _ _ (le-ltb 8192 (length line) is.0) (word_each (word
 -- LINE 1
 
 abbrev opening_tests : List ℕ → Kind → Bool
-opening_tests line kinds.BadHeader = not (bytes_eq line (codes "evc-script 1"))
+opening_tests line kinds.BadHeader = is_none (version_of script_header line)
 opening_tests line _ = false
+
+none_there : (o : Option Version) → is_none o ≡ true → o ≡ None
+none_there None e = refl
+none_there (Some v) e = cc
 
 opening_decided : (line : List ℕ) (k : Kind) → Decides (opening_tests line k) (HasKind Opening line k)
 opening_decided line kinds.BadHeader = (
-  (λ e is. true≢false (sym ((bytes_eq-Decides line (codes "evc-script 1")).1 is) ∙ (decides_not (bytes_eq line (codes "evc-script 1"))).0 e)),
-  λ other. (decides_not (bytes_eq line (codes "evc-script 1"))).1 (false_from_ne_true _ (λ e. other ((bytes_eq-Decides line (codes "evc-script 1")).0 e))),
+  (λ e. version_none script_header line (none_there (version_of script_header line) e)),
+  λ other. ap is_none (version_none_from script_header line other),
 )
 opening_decided line _ = never (λ t. t)
 
 opening_least : (line : List ℕ) → fault_in (step Opening line) ≡ least (opening_tests line)
 unfolding step
-opening_least line = elim (bytes_eq line (codes "evc-script 1")) as (λ b. fault_in (cond b (Ok Limiting) (Err kinds.BadHeader)) ≡ cond (not b) (Some kinds.BadHeader) None) [ true ↦ refl | false ↦ refl ]
+opening_least line = elim (version_of script_header line) as (λ o. fault_in (limiting o) ≡ cond (is_none o) (Some kinds.BadHeader) None) [ None ↦ refl | Some v ↦ refl ]
 
 -- THE LIMIT
 
@@ -182,16 +190,16 @@ limit_reads line = record {
       ap (λ b. cond b None (limit_digits (words_of line))) (le-ltb 8192 (length line) is.0) ∙ ap limit_digits is.1 ∙ ap (λ b. cond b (Some digits) None) is.2;
 }
 
-limit_least : (line : List ℕ) → fault_in (limit_step line) ≡ least (form_tests (limit_form line) limit_tests)
+limit_least : (v : Version) (line : List ℕ) → fault_in (limit_step v line) ≡ least (form_tests (limit_form line) (limit_tests v))
 unfolding limit_step
-limit_least line =
-    elim (nat_lt 8192 (length line)) as (λ b. fault_in (cond b (Err kinds.BadLine) (limit_or (limit_digits (words_of line)))) ≡ least (form_tests (cond b None (limit_digits (words_of line))) limit_tests)) [
+limit_least v line =
+    elim (nat_lt 8192 (length line)) as (λ b. fault_in (cond b (Err kinds.BadLine) (limit_or v (limit_digits (words_of line)))) ≡ least (form_tests (cond b None (limit_digits (words_of line))) (limit_tests v))) [
       | true ↦ refl
-      | false ↦ elim (limit_digits (words_of line)) as (λ o. fault_in (limit_or o) ≡ least (form_tests o limit_tests)) [
+      | false ↦ elim (limit_digits (words_of line)) as (λ o. fault_in (limit_or v o) ≡ least (form_tests o (limit_tests v))) [
         | None ↦ refl
-        | Some digits ↦ elim (number_of digits) as (λ o. fault_in (limited o) ≡ cond (not (option_map_or in_range o false)) (Some kinds.BadNumber) None) [
+        | Some digits ↦ elim (number_of digits) as (λ o. fault_in (limited v o) ≡ cond (not (option_map_or (is_limit v) o false)) (Some kinds.BadNumber) None) [
           | None ↦ refl
-          | Some n ↦ elim (in_range n) as (λ b. fault_in (cond b (Ok (Naming n)) (Err kinds.BadNumber)) ≡ cond (not b) (Some kinds.BadNumber) None) [ true ↦ refl | false ↦ refl ]
+          | Some n ↦ elim (is_limit v n) as (λ b. fault_in (cond b (Ok (Naming (bounded v n))) (Err kinds.BadNumber)) ≡ cond (not b) (Some kinds.BadNumber) None) [ true ↦ refl | false ↦ refl ]
         ]
       ]
     ]
@@ -230,14 +238,14 @@ named_fault : (o : Option HeadFault) (h : Headed) → fault_in (named_on (headin
 named_fault None h = refl
 named_fault (Some f) h = refl
 
-naming_least : (n : ℕ) (line : List ℕ) → fault_in (step (Naming n) line) ≡ least (form_tests (workers_form line) workers_tests)
+naming_least : (b : Bounded) (line : List ℕ) → fault_in (step (Naming b) line) ≡ least (form_tests (workers_form line) workers_tests)
 unfolding step head_step
-naming_least n line =
-    elim (is_no_line line) as (λ b. fault_in (named_on (cond b (Err heads.BadLine) (words_step (opened n []) (words_of line)))) ≡ least (form_tests (cond b None (workers_in (words_of line))) workers_tests)) [
+naming_least b line =
+    elim (is_no_line line) as (λ c. fault_in (named_on (cond c (Err heads.BadLine) (words_step (opened b.version b.limit []) (words_of line)))) ≡ least (form_tests (cond c None (workers_in (words_of line))) workers_tests)) [
       | true ↦ refl
-      | false ↦ elim (workers_in (words_of line)) as (λ o. fault_in (named_on (opened_by n o)) ≡ least (form_tests o workers_tests)) [
+      | false ↦ elim (workers_in (words_of line)) as (λ o. fault_in (named_on (opened_by b.version b.limit o)) ≡ least (form_tests o workers_tests)) [
         | None ↦ refl
-        | Some names ↦ named_fault (workers_fault names) (opened n names) ∙ workers_least names
+        | Some names ↦ named_fault (workers_fault names) (opened b.version b.limit names) ∙ workers_least names
       ]
     ]
 
@@ -406,7 +414,7 @@ others_least s (Some p) = phrase_told s (after s p) (phrase_fault (seen s) p (ob
 -- a heading with workers takes declarations alone
 behind_workers : (h : Headed) (line : List ℕ) → (h.setup.workers == 0) ≡ false → head_step h line ≡ cond (is_no_line line) (Err heads.BadLine) (declared_or h (headings.parts_in (words_of line)))
 unfolding head_step
-behind_workers h line some = ap (λ b. cond (is_no_line line) (Err heads.BadLine) (cond b (opened_by h.setup.limit (workers_in (words_of line))) (declared_or h (headings.parts_in (words_of line))))) some
+behind_workers h line some = ap (λ b. cond (is_no_line line) (Err heads.BadLine) (cond b (opened_by h.version h.setup.limit (workers_in (words_of line))) (declared_or h (headings.parts_in (words_of line))))) some
 
 reading_least : (s : Scripted) (line : List ℕ) → Keeps s → fault_in (script_step s line) ≡ least (form_tests (reading_form s line) (reading_tests s))
 unfolding script_step
@@ -457,8 +465,8 @@ abbrev StageFits : Stage → Type 0
 StageFits (Reading s) = Keeps s × HasOutline s.heading
 StageFits _ = Unit {0}
 
-limit_kinds : (line : List ℕ) → Decided (IsLimitLine line) LimitHas limit_tests
-limit_kinds line = record { line = λ digits is. refl; each = λ digits k is. limit_decided digits k }
+limit_kinds : (v : Version) (line : List ℕ) → Decided (IsLimitLine line) (LimitHas v) (limit_tests v)
+limit_kinds v line = record { line = λ digits is. refl; each = λ digits k is. limit_decided v digits k }
 
 workers_kinds : (line : List ℕ) → Decided (IsWorkersLine line) WorkersHave workers_tests
 workers_kinds line = record { line = λ names is. refl; each = λ names k is. workers_decided names k }
@@ -466,14 +474,14 @@ workers_kinds line = record { line = λ names is. refl; each = λ names k is. wo
 tested_at : (stage : Stage) (line : List ℕ) → StageFits stage → Tested (step stage line) (HasKind stage line)
 unfolding step
 tested_at Opening line fits = record { tests = opening_tests line; is = opening_least line; decides = opening_decided line }
-tested_at Limiting line fits = record {
-  tests = form_tests (limit_form line) limit_tests;
-  is = limit_least line;
-  decides = formed (limit_form line) (IsLimitLine line) LimitHas limit_tests (limit_reads line) (limit_kinds line);
+tested_at (Limiting v) line fits = record {
+  tests = form_tests (limit_form line) (limit_tests v);
+  is = limit_least v line;
+  decides = formed (limit_form line) (IsLimitLine line) (LimitHas v) (limit_tests v) (limit_reads line) (limit_kinds v line);
 }
-tested_at (Naming n) line fits = record {
+tested_at (Naming b) line fits = record {
   tests = form_tests (workers_form line) workers_tests;
-  is = naming_least n line;
+  is = naming_least b line;
   decides = formed (workers_form line) (IsWorkersLine line) WorkersHave workers_tests (workers_reads line) (workers_kinds line);
 }
 tested_at (Reading s) line fits = record {
@@ -485,8 +493,8 @@ tested_at (Reading s) line fits = record {
 
 stage_fits : (before : List (List ℕ)) (stage : Stage) → Leads Opening before stage → StageFits stage
 stage_fits before Opening leads = tt
-stage_fits before Limiting leads = tt
-stage_fits before (Naming n) leads = tt
+stage_fits before (Limiting v) leads = tt
+stage_fits before (Naming b) leads = tt
 stage_fits before (Reading s) leads = (leads_keeps Opening before (Reading s) tt leads, lines_outlined before s leads)
 
 pub least_is_told : LeastKindIsTold

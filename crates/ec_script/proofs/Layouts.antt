@@ -8,6 +8,10 @@ use Rattle.std.proofs.lemmas.List.FromFn.{get_or-map-range_with_len, length-map-
 use Rattle.ec_count.specs.Members.{is_member, has_repeat}
 use Rattle.ec_text.specs.Words.{words_of, number_of, is_number_form}
 use Rattle.ec_text.proofs.shared.NumberLemmas.{number_takes}
+use Rattle.ec_heading.specs.Versions.{greatest_limit, is_limit, version_of}
+use Rattle.ec_script.specs.Headers.{script_header, bounded}
+use Rattle.ec_heading.specs.declared.version.Version.{Version}
+use Rattle.ec_heading.proofs.shared.VersionFacts.{limit_parts, version_back}
 use Rattle.ec_heading.specs.Headed.{Headed}
 use Rattle.ec_heading.specs.Outline.{Outline, IsOutline, opened, headed}
 use Rattle.ec_heading.specs.Heading.{head_step, is_no_line}
@@ -22,7 +26,7 @@ use Rattle.ec_script.specs.declared.stage.Stage.{Stage}
 use Rattle.ec_script.specs.declared.stage.Stage.TheVariants.{Opening, Limiting, Naming, Reading}
 use Rattle.ec_script.specs.Forms.{phrase_in}
 use Rattle.ec_script.specs.Scripted.{Scripted, Planned}
-use Rattle.ec_script.specs.Reading.{headed_on, phrased, opens_outer, script_step, in_range, limited, limit_digits, limit_or, limit_step, script_of, named_on, step}
+use Rattle.ec_script.specs.Reading.{headed_on, phrased, opens_outer, script_step, limiting, limited, limit_digits, limit_or, limit_step, script_of, named_on, step}
 use Rattle.ec_script.specs.Outcome.{plan_in}
 use Rattle.ec_script.specs.Grammar.{Leads, text_of}
 use Rattle.ec_script.specs.Layout.{Block, orders_of, workers_of, joined, layout_lines, program_of, ScriptsAreLaidOut}
@@ -69,59 +73,59 @@ programs_are bs n differ =
 
 -- THE FIRST LINES
 
-header_back : (line : List ℕ) (t : Stage) → step Opening line ≡ Ok t → (line ≡ codes "evc-script 1") × (t ≡ Limiting)
+limiting_back : (o : Option Version) (t : Stage) → limiting o ≡ Ok t → (v : Version) × (o ≡ Some v) × (t ≡ Limiting v)
+limiting_back None t is = cc
+limiting_back (Some v) t is = (v, refl, cc)
+
+header_back : (line : List ℕ) (t : Stage) → step Opening line ≡ Ok t → (v : Version) × (line ≡ script_header v) × (t ≡ Limiting v)
 unfolding step
-header_back line t is =
-    (elim (bytes_eq line (codes "evc-script 1")) as (λ b. bytes_eq line (codes "evc-script 1") ≡ b → cond b (Ok Limiting) (Err kinds.BadHeader) ≡ Ok t → (line ≡ codes "evc-script 1") × (t ≡ Limiting)) [
-      | true ↦ λ e h. ((bytes_eq-Decides line (codes "evc-script 1")).0 e, cc)
-      | false ↦ λ e h. cc
-    ]) refl is
+header_back line t is = (let l = limiting_back (version_of script_header line) t is in (l.0, version_back script_header line l.0 l.1, l.2))
 
 -- a line that says a limit
-record Limits (words : List (List ℕ)) (t : Stage) : Type 0 where
+record Limits (v : Version) (words : List (List ℕ)) (t : Stage) : Type 0 where
   limit : ℕ
   are : words ≡ codes "limit" ∷ decimal limit ∷ []
   low : 1 ≤ limit
-  high : limit < 2 ^ 32
-  leads : t ≡ Naming limit
+  high : limit ≤ greatest_limit v
+  leads : t ≡ Naming (bounded v limit)
 
-range_back : (w : List ℕ) (n : ℕ) (t : Stage) → number_of w ≡ Some n → cond (in_range n) (Ok (Naming n)) (Err kinds.BadNumber) ≡ Ok t → Limits (codes "limit" ∷ w ∷ []) t
-range_back w n t number is =
-    (elim (in_range n) as (λ b. in_range n ≡ b → cond b (Ok (Naming n)) (Err kinds.BadNumber) ≡ Ok t → Limits (codes "limit" ∷ w ∷ []) t) [
+range_back : (v : Version) (w : List ℕ) (n : ℕ) (t : Stage) → number_of w ≡ Some n → cond (is_limit v n) (Ok (Naming (bounded v n))) (Err kinds.BadNumber) ≡ Ok t → Limits v (codes "limit" ∷ w ∷ []) t
+range_back v w n t number is =
+    (elim (is_limit v n) as (λ b. is_limit v n ≡ b → cond b (Ok (Naming (bounded v n))) (Err kinds.BadNumber) ≡ Ok t → Limits v (codes "limit" ∷ w ∷ []) t) [
       | true ↦ λ e h.
-          (let p = and_parts (nat_le 1 n) (nat_lt n 4294967296) e in
+          (let p = limit_parts v n e in
           record {
             limit = n;
-            are = ap (λ (v : List ℕ). codes "limit" ∷ v ∷ []) (number_takes w n number).0;
-            low = leb-true _ _ p.0;
-            high = (let l : n < 4294967296 = ltb-true _ _ p.1 in omega arith);
+            are = ap (λ (x : List ℕ). codes "limit" ∷ x ∷ []) (number_takes w n number).0;
+            low = p.0;
+            high = p.1;
             leads = cc;
           })
       | false ↦ λ e h. cc
     ]) refl is
 
-number_back : (w : List ℕ) (o : Option ℕ) (t : Stage) → number_of w ≡ o → limited o ≡ Ok t → Limits (codes "limit" ∷ w ∷ []) t
-number_back w None t number is = cc
-number_back w (Some n) t number is = range_back w n t number is
+number_back : (v : Version) (w : List ℕ) (o : Option ℕ) (t : Stage) → number_of w ≡ o → limited v o ≡ Ok t → Limits v (codes "limit" ∷ w ∷ []) t
+number_back v w None t number is = cc
+number_back v w (Some n) t number is = range_back v w n t number is
 
-digits_back : (words : List (List ℕ)) (t : Stage) → limit_or (limit_digits words) ≡ Ok t → Limits words t
-digits_back [] t is = cc
-digits_back (w ∷ []) t is = cc
-digits_back (w ∷ n ∷ []) t is =
-    (elim (bytes_eq w (codes "limit") && is_number_form n) as (λ b. (bytes_eq w (codes "limit") && is_number_form n) ≡ b → limit_or (cond b (Some n) None) ≡ Ok t → Limits (w ∷ n ∷ []) t) [
+digits_back : (v : Version) (words : List (List ℕ)) (t : Stage) → limit_or v (limit_digits words) ≡ Ok t → Limits v words t
+digits_back v [] t is = cc
+digits_back v (w ∷ []) t is = cc
+digits_back v (w ∷ n ∷ []) t is =
+    (elim (bytes_eq w (codes "limit") && is_number_form n) as (λ b. (bytes_eq w (codes "limit") && is_number_form n) ≡ b → limit_or v (cond b (Some n) None) ≡ Ok t → Limits v (w ∷ n ∷ []) t) [
       | true ↦ λ e h.
           (let word : w ≡ codes "limit" = (bytes_eq-Decides w (codes "limit")).0 (and_parts (bytes_eq w (codes "limit")) (is_number_form n) e).0 in
-          subst (λ (v : List ℕ). Limits (v ∷ n ∷ []) t) (sym word) (number_back n (number_of n) t refl h))
+          subst (λ (x : List ℕ). Limits v (x ∷ n ∷ []) t) (sym word) (number_back v n (number_of n) t refl h))
       | false ↦ λ e h. cc
     ]) refl is
-digits_back (w ∷ n ∷ x ∷ words) t is = cc
+digits_back v (w ∷ n ∷ x ∷ words) t is = cc
 
-limit_back : (line : List ℕ) (t : Stage) → step Limiting line ≡ Ok t → Limits (words_of line) t
+limit_back : (v : Version) (line : List ℕ) (t : Stage) → step (Limiting v) line ≡ Ok t → Limits v (words_of line) t
 unfolding step limit_step
-limit_back line t is =
-    (elim (nat_lt 8192 (length line)) as (λ b. cond b (Err kinds.BadLine) (limit_or (limit_digits (words_of line))) ≡ Ok t → Limits (words_of line) t) [
+limit_back v line t is =
+    (elim (nat_lt 8192 (length line)) as (λ b. cond b (Err kinds.BadLine) (limit_or v (limit_digits (words_of line))) ≡ Ok t → Limits v (words_of line) t) [
       | true ↦ λ h. cc
-      | false ↦ λ h. digits_back (words_of line) t h
+      | false ↦ λ h. digits_back v (words_of line) t h
     ]) is
 
 named_back : (r : Result Headed HeadFault) (t : Stage) → named_on r ≡ Ok t → (h : Headed) × (r ≡ Ok h) × (t ≡ Reading (script_of h))
@@ -182,21 +186,23 @@ record Headings (lines : List (List ℕ)) (t : Stage) : Type 0 where
   outline : Outline
   rest : List (List ℕ)
   is : IsOutline outline
-  are : lines ≡ codes "evc-script 1" ∷ heading_lines outline ++ rest
+  are : lines ≡ script_header outline.version ∷ heading_lines outline ++ rest
   behind : AreBehind (script_of (headed outline)) rest
   leads : Leads (Reading (script_of (headed outline))) rest t
 
-heading_of : (limit line : List ℕ) (lines : List (List ℕ)) (n : ℕ) (t : Stage) (h : Headed) → limit ≡ limit_line n → 1 ≤ n → n < 2 ^ 32 → head_step (opened n []) line ≡ Ok h → Declares h lines t
-    → Headings (codes "evc-script 1" ∷ limit ∷ line ∷ lines) t
-heading_of limit line lines n t h is low high opens d =
-    let o : Outlines n (line ∷ d.front) d.end = leads_outline n line d.front d.end low high (h, opens, d.heads) in
+heading_of : (v : Version) (limit line : List ℕ) (lines : List (List ℕ)) (n : ℕ) (t : Stage) (h : Headed) → limit ≡ limit_line n → 1 ≤ n → n ≤ greatest_limit v → head_step (opened v n []) line ≡ Ok h → Declares h lines t
+    → Headings (script_header v ∷ limit ∷ line ∷ lines) t
+heading_of v limit line lines n t h is low high opens d =
+    let o : Outlines v n (line ∷ d.front) d.end = leads_outline v n line d.front d.end low high (h, opens, d.heads) in
     let all : line ∷ lines ≡ outline_lines o.outline ++ d.rest = ap (λ (ls : List (List ℕ)). line ∷ ls) d.are ∙ ap (λ (ls : List (List ℕ)). ls ++ d.rest) o.lines_are in
     let first : limit ≡ limit_line o.outline.limit = is ∙ ap limit_line (sym o.limit_is) in
     record {
       outline = o.outline;
       rest = d.rest;
       is = o.is;
-      are = ap₂ (λ (l : List ℕ) (ls : List (List ℕ)). codes "evc-script 1" ∷ l ∷ ls) first all;
+      are =
+          ap (λ (w : Version). script_header w ∷ limit ∷ line ∷ lines) (sym o.version_is)
+          ∙ ap₂ (λ (l : List ℕ) (ls : List (List ℕ)). script_header o.outline.version ∷ l ∷ ls) first all;
       behind = subst (λ (g : Headed). AreBehind (script_of g) d.rest) o.end_is d.behind;
       leads = subst (λ (g : Headed). Leads (Reading (script_of g)) d.rest t) o.end_is d.leads;
     }
@@ -204,35 +210,35 @@ heading_of limit line lines n t h is low high opens d =
 no_plan : (s t : Stage) (p : Planned) → plan_in s ≡ None → s ≡ t → plan_in t ≡ Some p → ⊥
 no_plan s t p none is plan = (let e : None ≡ Some p = sym none ∙ ap plan_in is ∙ plan in cc)
 
-named_leads : (n : ℕ) (limit : List ℕ) (lines : List (List ℕ)) (t : Stage) (p : Planned) → limit ≡ limit_line n → 1 ≤ n → n < 2 ^ 32 → Leads (Naming n) lines t → plan_in t ≡ Some p → Headings (codes "evc-script 1" ∷ limit ∷ lines) t
+named_leads : (v : Version) (n : ℕ) (limit : List ℕ) (lines : List (List ℕ)) (t : Stage) (p : Planned) → limit ≡ limit_line n → 1 ≤ n → n ≤ greatest_limit v → Leads (Naming (bounded v n)) lines t → plan_in t ≡ Some p → Headings (script_header v ∷ limit ∷ lines) t
 unfolding step
-named_leads n limit [] t p is low high leads plan = absurd (no_plan (Naming n) t p refl leads plan)
-named_leads n limit (line ∷ lines) t p is low high leads plan =
-    let r = named_back (head_step (opened n []) line) leads.0 leads.1 in
-    heading_of limit line lines n t r.0 is low high r.1 (declares r.0 lines t (first_keeps n line r.0 r.1) (subst (λ (u : Stage). Leads u lines t) r.2 leads.2))
+named_leads v n limit [] t p is low high leads plan = absurd (no_plan (Naming (bounded v n)) t p refl leads plan)
+named_leads v n limit (line ∷ lines) t p is low high leads plan =
+    let r = named_back (head_step (opened v n []) line) leads.0 leads.1 in
+    heading_of v limit line lines n t r.0 is low high r.1 (declares r.0 lines t (first_keeps v n line r.0 r.1) (subst (λ (u : Stage). Leads u lines t) r.2 leads.2))
 
-limit_leads : (lines : List (List ℕ)) (t : Stage) (p : Planned) → Leads Limiting lines t → plan_in t ≡ Some p → Headings (codes "evc-script 1" ∷ lines) t
-limit_leads [] t p leads plan = absurd (no_plan Limiting t p refl leads plan)
-limit_leads (line ∷ lines) t p leads plan =
-    let l : Limits (words_of line) leads.0 = limit_back line leads.0 leads.1 in
-    named_leads l.limit line lines t p (line_of line (codes "limit" ∷ decimal l.limit ∷ []) l.are) l.low l.high (subst (λ (u : Stage). Leads u lines t) l.leads leads.2) plan
+limit_leads : (v : Version) (lines : List (List ℕ)) (t : Stage) (p : Planned) → Leads (Limiting v) lines t → plan_in t ≡ Some p → Headings (script_header v ∷ lines) t
+limit_leads v [] t p leads plan = absurd (no_plan (Limiting v) t p refl leads plan)
+limit_leads v (line ∷ lines) t p leads plan =
+    let l : Limits v (words_of line) leads.0 = limit_back v line leads.0 leads.1 in
+    named_leads v l.limit line lines t p (line_of line (codes "limit" ∷ decimal l.limit ∷ []) l.are) l.low l.high (subst (λ (u : Stage). Leads u lines t) l.leads leads.2) plan
 
 headings : (lines : List (List ℕ)) (t : Stage) (p : Planned) → Leads Opening lines t → plan_in t ≡ Some p → Headings lines t
 headings [] t p leads plan = absurd (no_plan Opening t p refl leads plan)
 headings (line ∷ lines) t p leads plan =
     let q = header_back line leads.0 leads.1 in
-    subst (λ (l : List ℕ). Headings (l ∷ lines) t) (sym q.0) (limit_leads lines t p (subst (λ (u : Stage). Leads u lines t) q.1 leads.2) plan)
+    subst (λ (l : List ℕ). Headings (l ∷ lines) t) (sym q.1) (limit_leads q.0 lines t p (subst (λ (u : Stage). Leads u lines t) q.2 leads.2) plan)
 
 -- SCRIPTS
 
 pub laid_out : ScriptsAreLaidOut
 laid_out bytes p is =
     let g : Headings is.lines is.stage = headings is.lines is.stage p is.leads is.plan in
-    let heads : Heads g.outline.workers (headed g.outline) = heads_all g.outline.workers (opened g.outline.limit g.outline.workers) g.outline.declarations (heads_opened g.outline.limit g.outline.workers) in
+    let heads : Heads g.outline.workers (headed g.outline) = heads_all g.outline.workers (opened g.outline.version g.outline.limit g.outline.workers) g.outline.declarations (heads_opened g.outline.version g.outline.limit g.outline.workers) in
     let none : List Order = [] in
     let c : Closed (headed g.outline) g.outline.workers [] (replicate (headed g.outline).setup.workers none) [] g.rest p =
     rests (headed g.outline) g.outline.workers heads p is.stage g.rest [] (replicate (headed g.outline).setup.workers none) None [] (omega arith) g.behind g.leads is.plan in
-    let all : is.lines ≡ layout_lines (record { outline = g.outline; blocks = c.blocks; rows = c.rows }) = g.are ∙ ap (λ (ls : List (List ℕ)). codes "evc-script 1" ∷ heading_lines g.outline ++ ls) c.are in
+    let all : is.lines ≡ layout_lines (record { outline = g.outline; blocks = c.blocks; rows = c.rows }) = g.are ∙ ap (λ (ls : List (List ℕ)). script_header g.outline.version ∷ heading_lines g.outline ++ ls) c.are in
     let programs : set_all (replicate (headed g.outline).setup.workers none) c.blocks ≡ map (program_of c.blocks) (range_with_len 0 (length g.outline.workers)) =
     ap (λ n. set_all (replicate n none) c.blocks) heads.count ∙ programs_are c.blocks (length g.outline.workers) c.differ in
     record {

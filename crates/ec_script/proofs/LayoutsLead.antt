@@ -8,6 +8,11 @@ use Rattle.ec_text.specs.Words.{words_of, number_of, is_number_form, AreWords}
 use Rattle.ec_text.proofs.shared.WordLemmas.{words_join, literal_word}
 use Rattle.ec_text.proofs.shared.NumberLemmas.{number_again, number_is_form, number_word}
 use Rattle.ec_text.proofs.shared.DecimalLemmas.{at_most_20}
+use Rattle.ec_heading.specs.Versions.{greatest_limit, is_limit}
+use Rattle.ec_script.specs.Headers.{script_header, bounded}
+use Rattle.ec_heading.specs.declared.version.Version.{Version}
+use Rattle.ec_heading.specs.declared.version.Version.TheVariants.{One, Two}
+use Rattle.ec_heading.proofs.shared.VersionFacts.{limit_low, limit_from}
 use Rattle.ec_heading.specs.declared.group.Group.{Group}
 use Rattle.ec_heading.specs.Headed.{Headed}
 use Rattle.ec_heading.specs.Outline.{Outline, IsOutline, AreWorkers, opened, headed}
@@ -39,7 +44,7 @@ use Rattle.ec_script.specs.Kinds.{or_nothing, is_allowed, is_named_again, has_un
 use Rattle.ec_script.specs.Orders.{size_in, command_in}
 use Rattle.ec_script.specs.Drafted.{Drafted, nothing_drafted, with_order}
 use Rattle.ec_script.specs.Scripted.{Scripted, Planned}
-use Rattle.ec_script.specs.Reading.{nest_of, seen, after_verb, commanded, ordered_in, headed_on, phrased, opens_outer, script_step, limit_digits, limit_or, limited, in_range, limit_step, script_of, named_on, read_on, step}
+use Rattle.ec_script.specs.Reading.{nest_of, seen, after_verb, commanded, ordered_in, headed_on, phrased, opens_outer, script_step, limit_digits, limit_or, limited, limit_step, script_of, named_on, read_on, step}
 use Rattle.ec_script.specs.Grammar.{Leads, IsScript, IsLine}
 use Rattle.ec_script.specs.Layout.{order_by, Says, Block, IsBlock, texts_of, orders_of, AreNested, commands_in, worker_line, block_lines, schedule_line, IsRow, joined, workers_of, layout_lines, program_of, IsLaidOut}
 use Rattle.ec_script.proofs.Declaring.{HeadKeeps, Grows, first_keeps, head_grows}
@@ -351,7 +356,7 @@ outer_word w (Some v) e is =
 refused_words : (h next : Headed) (words ws : List (List ℕ)) → eqb h.setup.workers 0 ≡ false → parts_in words ≡ None → words_step h words ≡ Ok next → ⊥
 refused_words h next words ws some none is =
     let e : Err faults.BadLine ≡ Ok next =
-    sym (ap (λ b. cond b (opened_by h.setup.limit (workers_in words)) (declared_or h (parts_in words))) some ∙ ap (declared_or h) none) ∙ is in
+    sym (ap (λ b. cond b (opened_by h.version h.setup.limit (workers_in words)) (declared_or h (parts_in words))) some ∙ ap (declared_or h) none) ∙ is in
     cc
 
 no_sort : (w : List ℕ) (ws : List (List ℕ)) → (w ≡ codes "worker") ⊎ (w ≡ codes "schedule") → parts_in (w ∷ ws) ≡ None
@@ -391,40 +396,42 @@ declarations_lead h end (line ∷ lines) more t keeps heads leads =
       declarations_lead heads.0 end lines more t grows.keeps heads.2 leads,
     )
 
-header_leads : step Opening (codes "evc-script 1") ≡ Ok Limiting
+header_leads : (v : Version) → step Opening (script_header v) ≡ Ok (Limiting v)
 unfolding step
-header_leads = refl
+header_leads One = refl
+header_leads Two = refl
 
-limit_leads : (n : ℕ) → 1 ≤ n → n < 2 ^ 32 → step Limiting (limit_line n) ≡ Ok (Naming n)
+limit_leads : (v : Version) (n : ℕ) → 1 ≤ n → n ≤ greatest_limit v → step (Limiting v) (limit_line n) ≡ Ok (Naming (bounded v n))
 unfolding step limit_step
-limit_leads n low high =
+limit_leads v n low high =
+    let small : n < 2 ^ 48 = limit_low v n high in
     let words : words_of (limit_line n) ≡ codes "limit" ∷ decimal n ∷ [] = words_join (codes "limit") (decimal n ∷ []) (literal_word (codes "limit") refl, (number_word n (omega arith), tt)) in
     let number : number_of (decimal n) ≡ Some n = number_again n (omega arith) in
     let form : is_number_form (decimal n) ≡ true = (number_is_form (decimal n) n number).0 in
-    let range : in_range n ≡ true = and_from _ _ (le-leb 1 n low) (lt-ltb n 4294967296 (omega (arith, high))) in
+    let range : is_limit v n ≡ true = limit_from v n low high in
     let short : nat_lt 8192 (length (limit_line n)) ≡ false = le-ltb 8192 (length (limit_line n)) (omega (arith, at_most_20 n (omega arith), length-append (codes "limit ") (decimal n))) in
-    ap (λ b. cond b (Err kinds.BadLine) (limit_or (limit_digits (words_of (limit_line n))))) short
-    ∙ ap (λ ws. limit_or (limit_digits ws)) words
-    ∙ ap (λ b. limit_or (cond b (Some (decimal n)) None)) form
-    ∙ ap limited number
-    ∙ ap (λ b. cond b (Ok (Naming n)) (Err kinds.BadNumber)) range
+    ap (λ b. cond b (Err kinds.BadLine) (limit_or v (limit_digits (words_of (limit_line n))))) short
+    ∙ ap (λ ws. limit_or v (limit_digits ws)) words
+    ∙ ap (λ b. limit_or v (cond b (Some (decimal n)) None)) form
+    ∙ ap (limited v) number
+    ∙ ap (λ b. cond b (Ok (Naming (bounded v n))) (Err kinds.BadNumber)) range
 
-workers_lead : (n : ℕ) (line : List ℕ) (h : Headed) → head_step (opened n []) line ≡ Ok h → step (Naming n) line ≡ Ok (Reading (script_of h))
+workers_lead : (v : Version) (n : ℕ) (line : List ℕ) (h : Headed) → head_step (opened v n []) line ≡ Ok h → step (Naming (bounded v n)) line ≡ Ok (Reading (script_of h))
 unfolding step
-workers_lead n line h is = ap named_on is
+workers_lead v n line h is = ap named_on is
 
-heading_leads : (o : Outline) → IsOutline o → (more : List (List ℕ)) (t : Stage) → Leads (Reading (script_of (headed o))) more t → Leads Opening (codes "evc-script 1" ∷ heading_lines o ++ more) t
+heading_leads : (o : Outline) → IsOutline o → (more : List (List ℕ)) (t : Stage) → Leads (Reading (script_of (headed o))) more t → Leads Opening (script_header o.version ∷ heading_lines o ++ more) t
 heading_leads o is more t leads =
-    let heads : LinesLead (opened o.limit []) (outline_lines o) (headed o) = outline_leads o is in (
-      Limiting,
-      header_leads,
+    let heads : LinesLead (opened o.version o.limit []) (outline_lines o) (headed o) = outline_leads o is in (
+      Limiting o.version,
+      header_leads o.version,
       (
-        Naming o.limit,
-        limit_leads o.limit is.low is.high,
+        Naming (bounded o.version o.limit),
+        limit_leads o.version o.limit is.low is.high,
         (
           Reading (script_of heads.0),
-          workers_lead o.limit _ heads.0 heads.1,
-          declarations_lead heads.0 (headed o) _ more t (first_keeps o.limit _ heads.0 heads.1) heads.2 leads,
+          workers_lead o.version o.limit _ heads.0 heads.1,
+          declarations_lead heads.0 (headed o) _ more t (first_keeps o.version o.limit _ heads.0 heads.1) heads.2 leads,
         ),
       ),
     )
@@ -435,7 +442,7 @@ pub layout_leads : (bytes : List ℕ) (p : Planned) → (is : IsLaidOut bytes p)
 layout_leads bytes p is each =
     let none : List Order = [] in
     let heads : Heads is.layout.outline.workers (headed is.layout.outline) =
-    heads_all is.layout.outline.workers (opened is.layout.outline.limit is.layout.outline.workers) is.layout.outline.declarations (heads_opened is.layout.outline.limit is.layout.outline.workers) in
+    heads_all is.layout.outline.workers (opened is.layout.outline.version is.layout.outline.limit is.layout.outline.workers) is.layout.outline.declarations (heads_opened is.layout.outline.version is.layout.outline.limit is.layout.outline.workers) in
     let programs : set_all (replicate (headed is.layout.outline).setup.workers none) is.layout.blocks ≡ map (program_of is.layout.blocks) (range_with_len 0 (length is.layout.outline.workers)) =
     ap (λ n. set_all (replicate n none) is.layout.blocks) heads.count ∙ programs_are is.layout.blocks (length is.layout.outline.workers) is.is.differ in
     record {

@@ -2,6 +2,10 @@
 use Rattle.std.proofs.Common.{◌≡◌, inr, ℕ, ◌≤◌, ◌<◌, ◌^◌, ◌==◌, ◌&&◌, cond, Bool, true, false, not, List, [], ◌∷◌, Option, Some, None, Result, Ok, Err, nat_lt, nat_le, slice_set, refl, sym, ap, ◌∙◌, subst, bytes_eq, codes, leb-true, ltb-true}
 use Rattle.std.proofs.lemmas.Bool.{and_parts}
 use Rattle.ec_text.specs.Words.{words_of, number_of}
+use Rattle.ec_heading.specs.Versions.{greatest_limit, is_limit, version_of}
+use Rattle.ec_script.specs.Headers.{script_header, bounded}
+use Rattle.ec_heading.specs.declared.version.Version.{Version}
+use Rattle.ec_heading.proofs.shared.VersionFacts.{limit_parts}
 use Rattle.ec_heading.specs.Headed.{Headed}
 use Rattle.ec_heading.specs.Heading.{head_step, is_no_line}
 use Rattle.ec_heading.specs.Outline.{opened}
@@ -25,7 +29,7 @@ use Rattle.ec_script.specs.Objects.{object_in}
 use Rattle.ec_script.specs.Kinds.{phrase_fault, or_nothing}
 use Rattle.ec_script.specs.Orders.{command_in}
 use Rattle.ec_script.specs.Scripted.{Scripted}
-use Rattle.ec_script.specs.Reading.{seen, began, ordered_in, commanded, ended_in, after_verb, after, fault_or, phrased, headed_on, is_declaring, opens_outer, script_step, in_range, limited, limit_digits, limit_or, limit_step, script_of, named_on, read_on, step}
+use Rattle.ec_script.specs.Reading.{seen, began, ordered_in, commanded, ended_in, after_verb, after, fault_or, phrased, headed_on, is_declaring, opens_outer, script_step, limiting, limited, limit_digits, limit_or, limit_step, script_of, named_on, read_on, step}
 use Rattle.ec_script.specs.Grammar.{Leads}
 use Rattle.ec_script.specs.Pairs.{LinesLeadToHeadings}
 
@@ -93,32 +97,29 @@ line_outlined s t line has is =
 -- STAGES
 
 abbrev StageHeads : Stage → Type 0
-StageHeads (Naming n) = (1 ≤ n) × (n < 2 ^ 32)
+StageHeads (Naming b) = (1 ≤ b.limit) × (b.limit ≤ greatest_limit b.version)
 StageHeads (Reading s) = HasOutline s.heading
 StageHeads _ = Unit {0}
 
-opening_heads : (b : Bool) (t : Stage) → cond b (Ok Limiting) (Err kinds.BadHeader) ≡ Ok t → StageHeads t
-opening_heads true t is = let e : Limiting ≡ t = cc in subst StageHeads e tt
-opening_heads false t is = cc
+opening_heads : (o : Option Version) (t : Stage) → limiting o ≡ Ok t → StageHeads t
+opening_heads (Some v) t is = let e : Limiting v ≡ t = cc in subst StageHeads e tt
+opening_heads None t is = cc
 
-naming_heads : (b : Bool) (n : ℕ) (t : Stage) → (b ≡ true → (1 ≤ n) × (n < 2 ^ 32)) → cond b (Ok (Naming n)) (Err kinds.BadNumber) ≡ Ok t → StageHeads t
-naming_heads true n t range is = let e : Naming n ≡ t = cc in subst StageHeads e (range refl)
-naming_heads false n t range is = cc
+naming_heads : (b : Bool) (v : Version) (n : ℕ) (t : Stage) → (b ≡ true → (1 ≤ n) × (n ≤ greatest_limit v)) → cond b (Ok (Naming (bounded v n))) (Err kinds.BadNumber) ≡ Ok t → StageHeads t
+naming_heads true v n t range is = let e : Naming (bounded v n) ≡ t = cc in subst StageHeads e (range refl)
+naming_heads false v n t range is = cc
 
-ranged : (n : ℕ) → in_range n ≡ true → (1 ≤ n) × (n < 2 ^ 32)
-ranged n is = let p = and_parts (nat_le 1 n) (nat_lt n 4294967296) is in (leb-true 1 n p.0, ltb-true n 4294967296 p.1)
+limited_heads : (v : Version) (o : Option ℕ) (t : Stage) → limited v o ≡ Ok t → StageHeads t
+limited_heads v None t is = cc
+limited_heads v (Some n) t is = naming_heads (is_limit v n) v n t (limit_parts v n) is
 
-limited_heads : (o : Option ℕ) (t : Stage) → limited o ≡ Ok t → StageHeads t
-limited_heads None t is = cc
-limited_heads (Some n) t is = naming_heads (in_range n) n t (ranged n) is
+limit_heads : (v : Version) (o : Option (List ℕ)) (t : Stage) → limit_or v o ≡ Ok t → StageHeads t
+limit_heads v None t is = cc
+limit_heads v (Some digits) t is = limited_heads v (number_of digits) t is
 
-limit_heads : (o : Option (List ℕ)) (t : Stage) → limit_or o ≡ Ok t → StageHeads t
-limit_heads None t is = cc
-limit_heads (Some digits) t is = limited_heads (number_of digits) t is
-
-limit_line_heads : (line : List ℕ) (t : Stage) → limit_step line ≡ Ok t → StageHeads t
+limit_line_heads : (v : Version) (line : List ℕ) (t : Stage) → limit_step v line ≡ Ok t → StageHeads t
 unfolding limit_step
-limit_line_heads line t is = limit_heads (limit_digits (words_of line)) t (not_refused _ kinds.BadLine _ t is)
+limit_line_heads v line t is = limit_heads v (limit_digits (words_of line)) t (not_refused _ kinds.BadLine _ t is)
 
 named_heads : (r : Result Headed HeadFault) (t : Stage) → ((h : Headed) → r ≡ Ok h → HasOutline h) → named_on r ≡ Ok t → StageHeads t
 named_heads (Ok h) t has is = let e : Reading (script_of h) ≡ t = cc in subst StageHeads e (has h refl)
@@ -130,9 +131,9 @@ read_heads (Err k) t has is = cc
 
 step_heads : (s t : Stage) (line : List ℕ) → StageHeads s → step s line ≡ Ok t → StageHeads t
 unfolding step
-step_heads Opening t line heads is = opening_heads (bytes_eq line (codes "evc-script 1")) t is
-step_heads Limiting t line heads is = limit_line_heads line t is
-step_heads (Naming n) t line heads is = named_heads (head_step (opened n []) line) t (λ h e. named_outlined n line h heads.0 heads.1 e) is
+step_heads Opening t line heads is = opening_heads (version_of script_header line) t is
+step_heads (Limiting v) t line heads is = limit_line_heads v line t is
+step_heads (Naming b) t line heads is = named_heads (head_step (opened b.version b.limit []) line) t (λ h e. named_outlined b.version b.limit line h heads.0 heads.1 e) is
 step_heads (Reading s) t line heads is = read_heads (script_step s line) t (λ u e. line_outlined s u line heads e) is
 
 leads_heads : (s : Stage) (lines : List (List ℕ)) (t : Stage) → StageHeads s → Leads s lines t → StageHeads t

@@ -147,8 +147,8 @@ pub record IsFound (h : Headed) : Type 0 where
 pub found_in : (o : Outline) → IsOutline o → Owning (headed o) → IsFound (headed o)
 found_in o is own = record {
   is = sound o is;
-  bytes = bytes_all (opened o.limit o.workers) o.declarations (numbered_bytes 0 o.workers (recursion_from_All (λ w. is_name w ≡ true) o.workers is.workers.each)) is.declarations;
-  called = called_all (opened o.limit o.workers) o.declarations (sound (record { limit = o.limit; workers = o.workers; declarations = [] }) (record { low = is.low; high = is.high; workers = is.workers; declarations = tt })) is.declarations (λ i g at named. cc);
+  bytes = bytes_all (opened o.version o.limit o.workers) o.declarations (numbered_bytes 0 o.workers (recursion_from_All (λ w. is_name w ≡ true) o.workers is.workers.each)) is.declarations;
+  called = called_all (opened o.version o.limit o.workers) o.declarations (sound (record { version = o.version; limit = o.limit; workers = o.workers; declarations = [] }) (record { low = is.low; high = is.high; workers = is.workers; declarations = tt })) is.declarations (λ i g at named. cc);
   owning = own;
 }
 

@@ -8,6 +8,7 @@ use Rattle.ec_count.specs.declared.setup.Rights.{Rights}
 use Rattle.ec_count.specs.declared.target.Target.{Target}
 use Rattle.ec_count.specs.declared.target.Target.TheVariants as target
 use Rattle.ec_semaphore.specs.Shapes.{Semaphore, next_semaphore}
+use Rattle.ec_heading.specs.declared.version.Version.{Version}
 use Rattle.ec_heading.specs.declared.group.Group.{Group}
 use Rattle.ec_heading.specs.declared.group.Group.TheVariants as groups
 use Rattle.ec_heading.specs.declared.sort.Sort.{Sort}
@@ -140,8 +141,8 @@ no_group n (v ∷ ws) w i is =
       | false ↦ λ later. no_group (n + 1) ws w i later
     ] is
 
-opened_once : (limit : ℕ) (ws : List (List ℕ)) → AreNamedOnce (opened limit ws)
-opened_once limit ws = record {
+opened_once : (version : Version) (limit : ℕ) (ws : List (List ℕ)) → AreNamedOnce (opened version limit ws)
+opened_once version limit ws = record {
   within = λ w i is. absurd (no_group 0 ws w i is);
   below = λ w s p. absurd (no_group 0 ws w p.place p.named);
   one = λ w v s u p q same. absurd (no_group 0 ws w p.place p.named);
@@ -214,10 +215,10 @@ all_once h (d ∷ ds) once =
     (record { within = λ w i is. within_more h d w i once is; below = λ w s p. below_more h d w s once p; one = λ w v s u p q same. one_more h d w v s u once p q same })
 
 heading_once : (h : Headed) → IsHeading h → AreNamedOnce h
-heading_once h (inl is) = subst AreNamedOnce (sym is) (opened_once h.setup.limit [])
+heading_once h (inl (is, within)) = subst AreNamedOnce (sym is) (opened_once h.version h.setup.limit [])
 heading_once h (inr has) =
     let o : Outline = has.outline in
-    subst AreNamedOnce has.declares (all_once (opened o.limit o.workers) o.declarations (opened_once o.limit o.workers))
+    subst AreNamedOnce has.declares (all_once (opened o.version o.limit o.workers) o.declarations (opened_once o.version o.limit o.workers))
 
 -- words that name semaphores with one eventcount are one
 pub one_name : (h : Headed) (w v : List ℕ) (s u : Semaphore) → IsHeading h → semaphore_in h w ≡ Some s → semaphore_in h v ≡ Some u → s.count ≡ u.count → w ≡ v

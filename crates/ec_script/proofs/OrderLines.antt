@@ -20,6 +20,7 @@ use Rattle.ec_machine.specs.declared.command.Command.TheViews.{roll-Command, out
 use Rattle.ec_machine.specs.declared.command.Command.TheOpen.{Command-F}
 use Rattle.ec_machine.specs.declared.command.Command.TheOpen as layer
 use Rattle.ec_machine.specs.declared.command.Command.TheVariants as commands
+use Rattle.ec_script.specs.Headers.{script_header}
 use Rattle.ec_heading.specs.declared.group.Group.{Group}
 use Rattle.ec_heading.specs.declared.group.Group.TheVariants as groups
 use Rattle.ec_heading.specs.Headed.{Headed}
@@ -324,7 +325,7 @@ blocks_spelled o is (b ∷ blocks) all =
 
 pub layout_lines_are : (l : Layout) → IsLayout l → layout_lines l ≡ script_lines l.outline (ordered_blocks l.blocks) l.rows
 layout_lines_are l is =
-    ap (λ (ls : List (List ℕ)). codes "evc-script 1" ∷ heading_lines l.outline ++ (ls ++ map (schedule_line l.outline.workers) l.rows)) (blocks_spelled l.outline is.heading l.blocks is.blocks)
+    ap (λ (ls : List (List ℕ)). script_header l.outline.version ∷ heading_lines l.outline ++ (ls ++ map (schedule_line l.outline.workers) l.rows)) (blocks_spelled l.outline is.heading l.blocks is.blocks)
 
 pub layout_spelled : LayoutsAreSpelled
 layout_spelled l is = ap text_of (layout_lines_are l is)

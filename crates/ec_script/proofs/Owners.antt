@@ -8,6 +8,7 @@ use Rattle.ec_count.specs.Names.{find_name}
 use Rattle.ec_count.specs.Tables.{Tables}
 use Rattle.ec_count.specs.declared.target.Target.{Target}
 use Rattle.ec_count.specs.declared.target.Target.TheVariants as targets
+use Rattle.ec_heading.specs.declared.version.Version.{Version}
 use Rattle.ec_heading.specs.declared.group.Group.{Group}
 use Rattle.ec_heading.specs.declared.sort.Sort.{Sort}
 use Rattle.ec_heading.specs.declared.sort.Sort.TheVariants as sorts
@@ -126,8 +127,8 @@ pub record Owning (h : Headed) : Type 0 where
   single : AreSingle h.names
   groups : Owned h.setup h.groups
 
-owning_opened : (limit : ℕ) (ws : List (List ℕ)) → Owning (opened limit ws)
-owning_opened limit ws = record {
+owning_opened : (version : Version) (limit : ℕ) (ws : List (List ℕ)) → Owning (opened version limit ws)
+owning_opened version limit ws = record {
   first = workers_first 0 0 ws;
   single = workers_single 0 ws;
   groups = record { below = λ o i g at own. cc; one = λ o i j g k at also own too. cc };
@@ -161,7 +162,7 @@ owning_all h [] is = is
 owning_all h (d ∷ ds) is = owning_all (declared_by h d) ds (owning_more h d is)
 
 pub owning : (o : Outline) → Owning (headed o)
-owning o = owning_all (opened o.limit o.workers) o.declarations (owning_opened o.limit o.workers)
+owning o = owning_all (opened o.version o.limit o.workers) o.declarations (owning_opened o.version o.limit o.workers)
 
 -- THE NAME OF A GROUP
 

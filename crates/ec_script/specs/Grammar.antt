@@ -1,6 +1,8 @@
 -- The grammar of scripts: which bytes say which plan, and which line is the first at fault. It says nothing of how a text is read.
-use Rattle.std.specs.Prelude.{◌≡◌, ◌≢◌, ◌⊎◌, ◌↔◌, ℕ, ◌==◌, false, ◌+◌, ◌<◌, ◌≤◌, List, [], ◌∷◌, ◌++◌, length, Some, None, Ok, Err, codes}
+use Rattle.std.specs.Prelude.{◌≡◌, ◌≢◌, ◌⊎◌, ◌↔◌, ℕ, ◌==◌, false, ◌+◌, ◌<◌, ◌≤◌, List, [], ◌∷◌, ◌++◌, length, Some, None, Ok, Err}
 use Rattle.std.specs.List.{All, AllByRecursion, flat_map}
+use Rattle.ec_heading.specs.declared.version.Version.{Version}
+use Rattle.ec_script.specs.Headers.{script_header}
 use Rattle.ec_script.specs.declared.fault.Kind.{Kind}
 use Rattle.ec_script.specs.declared.fault.Kind.TheVariants as kinds
 use Rattle.ec_script.specs.declared.parsing.TheConstants.{SCRIPT_MAX}
@@ -89,7 +91,7 @@ pub record IsLongFault (text : List ℕ) (n : ℕ) (kind : Kind) : Type 0 where
   pub plain : IsLine line
   pub ends : ((more : List ℕ) × (behind ≡ 10 ∷ more)) ⊎ (behind ≡ [])
   pub number : n ≡ 1
-  pub why : ((line ≡ codes "evc-script 1") × (kind ≡ kinds.TooMany)) ⊎ ((line ≢ codes "evc-script 1") × (kind ≡ kinds.BadHeader))
+  pub why : ((v : Version) × (line ≡ script_header v) × (kind ≡ kinds.TooMany)) ⊎ (((v : Version) → line ≢ script_header v) × (kind ≡ kinds.BadHeader))
 
 -- the line and the kind for which a text is refused
 abbrev pub IsFault : List ℕ → ℕ → Kind → Type 0

@@ -1,5 +1,5 @@
 -- Which kinds of fault hold of a line in its place, each in its own words; and that the one that is told is the least that holds.
-use Rattle.std.specs.Prelude.{◌≡◌, ◌≢◌, ◌⊎◌, ◌↔◌, ℕ, ◌+◌, ◌<◌, ◌≤◌, ◌^◌, true, false, List, [], ◌∷◌, ◌++◌, length, Some, None, Err, decimal, codes}
+use Rattle.std.specs.Prelude.{◌≡◌, ◌≢◌, ◌⊎◌, ◌↔◌, ℕ, ◌+◌, ◌<◌, ◌≤◌, true, false, List, [], ◌∷◌, ◌++◌, length, Some, None, Err, decimal, codes}
 use Rattle.std.specs.List.{Any, Contains}
 use Rattle.ec_count.specs.Names.{find_name}
 use Rattle.ec_count.specs.Reserved.{is_name}
@@ -9,11 +9,14 @@ use Rattle.ec_machine.specs.declared.command.Value.{Value}
 use Rattle.ec_machine.specs.Limits.{is_value}
 use Rattle.ec_heading.specs.declared.group.Group.{Group}
 use Rattle.ec_heading.specs.Form as headings
+use Rattle.ec_heading.specs.declared.version.Version.{Version}
+use Rattle.ec_heading.specs.Versions.{greatest_limit}
 use Rattle.ec_heading.specs.Headed.{Headed}
 use Rattle.ec_heading.specs.Kinds.{second_list, declaration_of}
 use Rattle.ec_heading.specs.Lists.{worker_in, ids_in}
 use Rattle.ec_heading.specs.Outline.{declared_by}
 use Rattle.ec_heading.specs.Sorts.{has_number, is_called, is_in_range, keeps_apart}
+use Rattle.ec_script.specs.Headers.{script_header}
 use Rattle.ec_script.specs.declared.fault.Kind.{Kind}
 use Rattle.ec_script.specs.declared.fault.Kind.TheVariants as kinds
 use Rattle.ec_script.specs.declared.object.Object.{Object}
@@ -42,10 +45,10 @@ StandsTwice {A} xs = (x : A) × (front : List A) × (between : List A) × (rest 
 
 -- THE LIMIT
 
--- no number from 1 on below 2^32 is spelled by these digits
-abbrev pub LimitHas : List ℕ → Kind → Type 0
-LimitHas digits kinds.BadNumber = (n : ℕ) → 1 ≤ n → n < 2 ^ 32 → digits ≢ decimal n
-LimitHas digits _ = ⊥
+-- no number from 1 to the greatest limit of the version is spelled by these digits
+abbrev pub LimitHas : Version → List ℕ → Kind → Type 0
+LimitHas v digits kinds.BadNumber = (n : ℕ) → 1 ≤ n → n ≤ greatest_limit v → digits ≢ decimal n
+LimitHas v digits _ = ⊥
 
 -- THE WORKERS
 
@@ -152,12 +155,12 @@ OfEither s line kinds.BadLine = ((p : headings.Phrase) → IsDeclaration s line 
 OfEither s line kind =
     ((p : headings.Phrase) × IsDeclaration s line p × DeclarationHas s.heading p kind) ⊎ ((p : Phrase) × IsOther s line p × OtherHas s p kind)
 
--- the kind holds of the line in its place: line 1 is another than `evc-script 1`, or, of a later line, by its form
+-- the kind holds of the line in its place: line 1 is the first line of no version, or, of a later line, by its form
 abbrev pub HasKind : Stage → List ℕ → Kind → Type 0
-HasKind Opening line kinds.BadHeader = line ≢ codes "evc-script 1"
+HasKind Opening line kinds.BadHeader = (v : Version) → line ≢ script_header v
 HasKind Opening line _ = ⊥
-HasKind Limiting line kind = OfForm (IsLimitLine line) LimitHas kind
-HasKind (Naming n) line kind = OfForm (IsWorkersLine line) WorkersHave kind
+HasKind (Limiting v) line kind = OfForm (IsLimitLine line) (LimitHas v) kind
+HasKind (Naming b) line kind = OfForm (IsWorkersLine line) WorkersHave kind
 HasKind (Reading s) line kind = OfEither s line kind
 
 -- the least that holds, by their numbers

@@ -7,6 +7,7 @@ use Rattle.ec_heading.specs.Headed.{Headed}
 use Rattle.ec_heading.specs.Outline.{Outline, IsOutline, headed}
 use Rattle.ec_heading.specs.Heading.{is_no_line}
 use Rattle.ec_heading.specs.Spelling.{heading_lines, list_words}
+use Rattle.ec_script.specs.Headers.{script_header}
 use Rattle.ec_script.specs.declared.verb.Verb.{Verb}
 use Rattle.ec_script.specs.declared.verb.Verb.TheVariants as verbs
 use Rattle.ec_script.specs.declared.object.Object.{Object}
@@ -124,7 +125,7 @@ pub record IsLayout (l : Layout) : Type 0 where
 
 abbrev pub layout_lines : Layout → List (List ℕ)
 layout_lines l =
-    codes "evc-script 1" ∷ heading_lines l.outline
+    script_header l.outline.version ∷ heading_lines l.outline
     ++ (flat_map (block_lines l.outline.workers) l.blocks ++ map (schedule_line l.outline.workers) l.rows)
 
 -- the orders of a worker's block, none where it has no block

@@ -11,6 +11,7 @@ pub mod Kinds
 pub mod Pairs
 pub mod Scripted
 pub mod Rooms
+pub mod Headers
 pub mod Reading
 pub mod Outcome
 pub mod Grammar

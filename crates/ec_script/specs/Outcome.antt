@@ -1,6 +1,9 @@
 -- What a text comes to: a function of its bytes.
-use Rattle.std.specs.Prelude.{◌≡◌, ℕ, ◌+◌, ◌==◌, List, [], ◌∷◌, length, map, Option, Some, None, Result, Ok, Err, if◌then◌else◌, nat_lt, bytes_eq, codes}
+use Rattle.std.specs.Prelude.{◌≡◌, ℕ, ◌+◌, ◌==◌, List, [], ◌∷◌, length, map, Option, Some, None, Result, Ok, Err, if◌then◌else◌, nat_lt}
 use Rattle.std.specs.List.{slice_split}
+use Rattle.ec_heading.specs.declared.version.Version.{Version}
+use Rattle.ec_heading.specs.Versions.{version_of}
+use Rattle.ec_script.specs.Headers.{script_header}
 use Rattle.ec_script.specs.declared.fault.Kind.{Kind}
 use Rattle.ec_script.specs.declared.fault.Kind.TheVariants as kinds
 use Rattle.ec_script.specs.declared.fault.ScriptFault.{ScriptFault}
@@ -62,8 +65,12 @@ first_of [] = []
 first_of (line ∷ lines) = line
 
 -- of a text that is too long line 1 alone is looked at
+abbrev pub long_by : Option Version → Kind
+long_by None = kinds.BadHeader
+long_by (Some v) = kinds.TooMany
+
 abbrev pub long_kind : List ℕ → Kind
-long_kind line = if bytes_eq line (codes "evc-script 1") then kinds.TooMany else kinds.BadHeader
+long_kind line = long_by (version_of script_header line)
 
 -- what a text comes to
 unfoldable pub outcome : List ℕ → Parsed

@@ -1,12 +1,15 @@
 -- What the lines of a script build, line by line.
-use Rattle.std.specs.Prelude.{◌≡◌, ℕ, Bool, false, ◌&&◌, ◌==◌, not, nat_le, nat_lt, List, [], ◌∷◌, ◌++◌, length, replicate, slice_set, Option, Some, None, option_map, Result, Ok, Err, if◌then◌else◌, bytes_eq, codes}
+use Rattle.std.specs.Prelude.{◌≡◌, ℕ, Bool, false, ◌&&◌, ◌==◌, not, nat_lt, List, [], ◌∷◌, ◌++◌, length, replicate, slice_set, Option, Some, None, option_map, Result, Ok, Err, if◌then◌else◌, bytes_eq, codes}
 use Rattle.std.specs.Option.{option_map_or}
 use Rattle.ec_text.specs.Words.{words_of, number_of, is_number_form}
+use Rattle.ec_heading.specs.declared.version.Version.{Version}
+use Rattle.ec_heading.specs.Versions.{is_limit, version_of}
 use Rattle.ec_heading.specs.Headed.{Headed}
 use Rattle.ec_heading.specs.Outline.{opened}
 use Rattle.ec_heading.specs.Heading.{head_step, is_no_line}
 use Rattle.ec_heading.specs.Lists.{ids_in}
 use Rattle.ec_heading.specs.declared.heading.HeadFault.{HeadFault}
+use Rattle.ec_script.specs.Headers.{script_header, Bounded, bounded}
 use Rattle.ec_script.specs.declared.fault.Kind.{Kind}
 use Rattle.ec_script.specs.declared.fault.Kind.TheVariants as kinds
 use Rattle.ec_script.specs.declared.fault.StageFault.{StageFault}
@@ -106,29 +109,30 @@ script_step s line =
 
 -- THE FIRST LINES
 
-abbrev pub in_range : ℕ → Bool
-in_range n = nat_le 1 n && nat_lt n 4294967296
+abbrev pub limiting : Option Version → Result Stage Kind
+limiting None = Err kinds.BadHeader
+limiting (Some v) = Ok (Limiting v)
 
-abbrev pub limited : Option ℕ → Result Stage Kind
-limited None = Err kinds.BadNumber
-limited (Some n) = if in_range n then Ok (Naming n) else Err kinds.BadNumber
+abbrev pub limited : Version → Option ℕ → Result Stage Kind
+limited v None = Err kinds.BadNumber
+limited v (Some n) = if is_limit v n then Ok (Naming (bounded v n)) else Err kinds.BadNumber
 
 -- the digits behind the word `limit`, which are all that stands there
 abbrev pub limit_digits : List (List ℕ) → Option (List ℕ)
 limit_digits (w ∷ n ∷ []) = if bytes_eq w (codes "limit") && is_number_form n then Some n else None
 limit_digits _ = None
 
-abbrev pub limit_or : Option (List ℕ) → Result Stage Kind
-limit_or None = Err kinds.BadLine
-limit_or (Some n) = limited (number_of n)
+abbrev pub limit_or : Version → Option (List ℕ) → Result Stage Kind
+limit_or v None = Err kinds.BadLine
+limit_or v (Some n) = limited v (number_of n)
 
 -- the limit that was answered, or the kind
-abbrev pub LimitIs : Result ℕ Kind → Result Stage Kind → Type 0
-LimitIs (Ok n) stepped = stepped ≡ Ok (Naming n)
+abbrev pub LimitIs : Result Bounded Kind → Result Stage Kind → Type 0
+LimitIs (Ok b) stepped = stepped ≡ Ok (Naming b)
 LimitIs (Err kind) stepped = stepped ≡ Err kind
 
-unfoldable pub limit_step : List ℕ → Result Stage Kind
-limit_step line = if nat_lt 8192 (length line) then Err kinds.BadLine else limit_or (limit_digits (words_of line))
+unfoldable pub limit_step : Version → List ℕ → Result Stage Kind
+limit_step v line = if nat_lt 8192 (length line) then Err kinds.BadLine else limit_or v (limit_digits (words_of line))
 
 -- a script of this heading, before its blocks: each worker has the empty program
 abbrev pub script_of : Headed → Scripted
@@ -146,9 +150,9 @@ read_on (Err kind) = Err kind
 
 -- the stage after a line, or the least kind of fault of the line
 unfoldable pub step : Stage → List ℕ → Result Stage Kind
-step Opening line = if bytes_eq line (codes "evc-script 1") then Ok Limiting else Err kinds.BadHeader
-step Limiting line = limit_step line
-step (Naming n) line = named_on (head_step (opened n []) line)
+step Opening line = limiting (version_of script_header line)
+step (Limiting v) line = limit_step v line
+step (Naming b) line = named_on (head_step (opened b.version b.limit []) line)
 step (Reading s) line = read_on (script_step s line)
 
 -- what a call answered and left is what the step gives, unless memory ran out

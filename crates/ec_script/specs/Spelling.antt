@@ -14,6 +14,7 @@ use Rattle.ec_heading.specs.declared.group.Group.{Group}
 use Rattle.ec_heading.specs.Headed.{Headed}
 use Rattle.ec_heading.specs.Outline.{Outline, IsOutline, headed}
 use Rattle.ec_heading.specs.Spelling.{Named, word_of, cell_word, heading_lines}
+use Rattle.ec_script.specs.Headers.{script_header}
 use Rattle.ec_script.specs.declared.object.Object.{Object}
 use Rattle.ec_script.specs.declared.object.Object.TheVariants.{Event, Sequencer}
 use Rattle.ec_script.specs.declared.order.Order.{Order}
@@ -81,7 +82,7 @@ spelled_block o b = worker_line o.workers b.0 ∷ map (order_line (headed o)) b.
 
 -- the lines of a heading, of blocks, each by its worker and its orders, and of a schedule, each by its workers
 abbrev pub script_lines : Outline → List (ℕ × List Order) → List (List ℕ) → List (List ℕ)
-script_lines o blocks rows = codes "evc-script 1" ∷ heading_lines o ++ (flat_map (spelled_block o) blocks ++ map (schedule_line o.workers) rows)
+script_lines o blocks rows = script_header o.version ∷ heading_lines o ++ (flat_map (spelled_block o) blocks ++ map (schedule_line o.workers) rows)
 
 -- and their text
 abbrev pub script_text : Outline → List (ℕ × List Order) → List (List ℕ) → List ℕ

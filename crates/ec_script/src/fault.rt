@@ -8,8 +8,8 @@ use thiserror::Error;
 /// Why a line of a script is refused: the least of these that holds of it.
 #[derive(Clone, Copy, Debug, PartialEq, Eq, Error)]
 pub enum Kind {
-    /// Line 1 is not `evc-script 1`.
-    #[error("line 1 is not the header")]
+    /// Line 1 is neither `evc-script 1` nor `evc-script 2`.
+    #[error("line 1 is no header")]
     BadHeader,
     /// The line has more than 8192 bytes or none of the forms allowed in its place.
     #[error("bad line")]

@@ -282,7 +282,7 @@ pub(crate) fn or_nothing(object: Option<Object>) -> Object
     }
 }
 
-/// The least fault of a line of one of the forms, whose word for an object means this.
+/// The least fault of a line that has one of the forms; `meant` is what its word for an object means.
 pub(crate) fn phrase_fault(
     view: &View<'_>,
     parts: &Parts<'_>,

@@ -1,6 +1,7 @@
 //! Scripts: read exactly by their grammar.
 #![tactic(auto)]
 
+mod bound;
 mod command;
 mod draft;
 mod fault;

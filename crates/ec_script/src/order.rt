@@ -24,7 +24,7 @@ impl Model for Values {
 pub enum Order {
     /// A command that is no repeat and holds no list.
     Do(Command),
-    /// The command that writes these values into all cells of a database.
+    /// The command that writes these values into a database, one for each of its cells.
     Write(DatabaseShape, Values),
     /// A repeat begins, of so many times.
     Begin(u64),

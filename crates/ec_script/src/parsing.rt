@@ -6,7 +6,7 @@ ghost use Rattle.ec_script.specs.Reading.{step};
 
 use crate::fault::{Kind, ScriptFault, StageFault};
 use crate::plan::Plan;
-use crate::stage::Stage;
+use crate::stage::{Stage, version_of};
 use ec_text::cut_line;
 use std::alloc::Global;
 
@@ -38,14 +38,13 @@ fn first_line(text: &[u8]) -> &[u8]
 fn long_kind(text: &[u8]) -> Kind
     ensures { result ≡ long_kind (first_of (parts_of text.now)) }
 {
-    if first_line(text) == b"evc-script 1".as_slice() {
-        Kind::TooMany
-    } else {
-        Kind::BadHeader
+    match version_of(first_line(text)) {
+        Some(_) => Kind::TooMany,
+        None => Kind::BadHeader,
     }
 }
 
-/// What a text comes to that ends with the LF before line n.
+/// The result of a text that ends with the LF before line n.
 fn end_here(stage: Stage, line: u64) -> Result<Plan, ScriptFault>
     ensures { Tells (finished line (plan_in stage)) result }
 {
@@ -58,7 +57,7 @@ fn end_here(stage: Stage, line: u64) -> Result<Plan, ScriptFault>
     }
 }
 
-/// What a text comes to whose line n lacks its LF.
+/// The result of a text whose last line, of number n, lacks its LF.
 fn cut_off(alloc: Global, stage: Stage, line: u64, rest: &[u8]) -> Result<Plan, ScriptFault>
     ensures { Tells (taken line (step stage rest.now) (λ t. Err (line, Kind.Unfinished))) result }
 {
@@ -72,7 +71,7 @@ fn cut_off(alloc: Global, stage: Stage, line: u64, rest: &[u8]) -> Result<Plan, 
     }
 }
 
-/// What a text comes to that ends so in line n.
+/// The result of a text that ends with these bytes, of line n.
 fn finish(alloc: Global, stage: Stage, line: u64, rest: &[u8]) -> Result<Plan, ScriptFault>
     ensures { Tells (ended line stage rest.now) result }
 {
@@ -105,7 +104,7 @@ fn parse_lines(alloc: Global, text: &[u8]) -> Result<Plan, ScriptFault>
 /// Lines are counted from 1. A line is judged by those before it. A last line without its LF is
 /// judged like every line, and then the text is unfinished; so is one that ends before its line of
 /// workers or inside a block. Of a text of more than 1048576 bytes line 1 alone is looked at: too
-/// many where it is the header.
+/// many where it is the first line of a version.
 #[tactic(auto, unfolding(crate::specs::Outcome::outcome))]
 pub fn parse(alloc: Global, text: &[u8]) -> Result<Plan, ScriptFault>
     ensures tells { Tells (outcome text.now) result }

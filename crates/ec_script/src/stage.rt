@@ -1,14 +1,16 @@
 //! What the lines of a script so far have built, from its first line on.
 ghost use Rattle.std.specs.Prelude.{◌≡◌, option_map};
+ghost use Rattle.ec_heading.specs.Versions.{version_of};
+ghost use Rattle.ec_script.specs.Headers.{script_header};
 ghost use Rattle.ec_script.specs.Reading.{Steps, limit_digits, limit_or, LimitIs, step};
 ghost use Rattle.ec_script.specs.Outcome.{plan_in, shown_plan};
 ghost use Rattle.ec_text.specs.Words.{words_of};
 
+use crate::bound::Bound;
 use crate::fault::{Kind, StageFault, stage_fault};
 use crate::plan::Plan;
 use crate::script::Script;
-use ec_count::Limit;
-use ec_heading::Heading;
+use ec_heading::Version;
 use ec_text::{cut_word, is_number_form, number};
 use std::alloc::Global;
 
@@ -17,12 +19,25 @@ use std::alloc::Global;
 pub(crate) enum Stage {
     /// Nothing.
     Opening,
-    /// The first line came.
-    Limiting,
+    /// The first line came, of this version.
+    Limiting(Version),
     /// The limit came, and the workers are due.
-    Naming(Limit),
+    Naming(Bound),
     /// The workers came.
     Reading(Script),
+}
+
+/// The version whose first line this is.
+pub(crate) fn version_of(line: &[u8]) -> Option<Version>
+    ensures { result ≡ version_of script_header line.now }
+{
+    if line == b"evc-script 1".as_slice() {
+        return Some(Version::One);
+    }
+    if line == b"evc-script 2".as_slice() {
+        return Some(Version::Two);
+    }
+    None
 }
 
 /// The digits behind the word `limit`, which are all that stands there.
@@ -43,9 +58,9 @@ fn limit_digits(line: &[u8]) -> Option<&[u8]>
     }
 }
 
-/// The limit that a line gives.
-fn limit_of(line: &[u8]) -> Result<Limit, Kind>
-    ensures { LimitIs result (limit_or (limit_digits (words_of line.now))) }
+/// The limit that a line gives, one that the version may have.
+fn limit_of(version: Version, line: &[u8]) -> Result<Bound, Kind>
+    ensures { LimitIs result (limit_or version (limit_digits (words_of line.now))) }
 {
     let Some(digits) = limit_digits(line) else {
         return Err(Kind::BadLine);
@@ -53,8 +68,8 @@ fn limit_of(line: &[u8]) -> Result<Limit, Kind>
     let Some(n) = number(digits) else {
         return Err(Kind::BadNumber);
     };
-    match Limit::new(n) {
-        Some(limit) => Ok(limit),
+    match Bound::new(version, n) {
+        Some(bound) => Ok(bound),
         None => Err(Kind::BadNumber),
     }
 }
@@ -66,26 +81,25 @@ impl Stage {
         requires { self.old ≡ Stage.Opening }
         ensures { Steps result (step self.old line.now) self.new }
     {
-        if line == b"evc-script 1".as_slice() {
-            *self = Stage::Limiting;
-            Ok(())
-        } else {
-            Err(StageFault::Of(Kind::BadHeader))
-        }
+        let Some(version) = version_of(line) else {
+            return Err(StageFault::Of(Kind::BadHeader));
+        };
+        *self = Stage::Limiting(version);
+        Ok(())
     }
 
     /// Takes the line of the limit.
     #[tactic(auto, unfolding(crate::specs::Reading::step, crate::specs::Reading::limit_step))]
-    fn limit(&mut self, line: &[u8]) -> Result<(), StageFault>
-        requires { self.old ≡ Stage.Limiting }
+    fn limit(&mut self, version: Version, line: &[u8]) -> Result<(), StageFault>
+        requires { self.old ≡ Stage.Limiting version }
         ensures { Steps result (step self.old line.now) self.new }
     {
         if line.len() > 8192 {
             return Err(StageFault::Of(Kind::BadLine));
         }
-        match limit_of(line) {
-            Ok(limit) => {
-                *self = Stage::Naming(limit);
+        match limit_of(version, line) {
+            Ok(bound) => {
+                *self = Stage::Naming(bound);
                 Ok(())
             }
             Err(kind) => Err(StageFault::Of(kind)),
@@ -94,11 +108,11 @@ impl Stage {
 
     /// Takes the line of the workers.
     #[tactic(auto, unfolding(crate::specs::Reading::step))]
-    fn name(&mut self, alloc: Global, limit: Limit, line: &[u8]) -> Result<(), StageFault>
-        requires { self.old ≡ Stage.Naming limit }
+    fn name(&mut self, alloc: Global, bound: Bound, line: &[u8]) -> Result<(), StageFault>
+        requires { self.old ≡ Stage.Naming bound }
         ensures { Steps result (step self.old line.now) self.new }
     {
-        let Ok(mut heading) = Heading::new(alloc, limit) else {
+        let Ok(mut heading) = bound.heading(alloc) else {
             return Err(StageFault::Memory);
         };
         if let Err(fault) = heading.line(line) {
@@ -118,12 +132,15 @@ impl Stage {
     {
         match self {
             Stage::Reading(script) => script.line(line),
-            Stage::Naming(limit) => {
-                let limit = *limit;
-                self.name(alloc, limit, line)
+            Stage::Naming(bound) => {
+                let bound = *bound;
+                self.name(alloc, bound, line)
             }
             Stage::Opening => self.open(line),
-            Stage::Limiting => self.limit(line),
+            Stage::Limiting(version) => {
+                let version = *version;
+                self.limit(version, line)
+            }
         }
     }
 }
@@ -135,7 +152,7 @@ impl Stage {
     {
         match self {
             Stage::Reading(script) => script.plan(),
-            Stage::Opening | Stage::Limiting | Stage::Naming(_) => None,
+            Stage::Opening | Stage::Limiting(_) | Stage::Naming(_) => None,
         }
     }
 }

@@ -17,11 +17,11 @@ sum_within f m (suc n) h =
     let rest : sum_to f n ≤ n * m = sum_within f m n h in
     omega arith
 
--- there are at most 16 components, each below 2 ^ 32
-pub total_small : (t : Tables) (e : ℕ) (past : List Entry) → IsDeclared t → IsAccepted t past → total e past < 2 ^ 37
+-- there are at most 16 components, each below 2 ^ 48
+pub total_small : (t : Tables) (e : ℕ) (past : List Entry) → IsDeclared t → IsAccepted t past → total e past < 2 ^ 53
 total_small t e past dec acc =
-    let least : (c : ℕ) → component_total t e c past < 2 ^ 32 = λ c. (let k = component_within t e c past acc in let limit : t.limit < 2 ^ 32 = dec.limit.1 in omega arith) in
-    let sum : sum_to (λ c. component_total t e c past) (width t e) ≤ width t e * 2 ^ 32 = sum_within (λ c. component_total t e c past) (2 ^ 32) (width t e) least in
+    let least : (c : ℕ) → component_total t e c past < 2 ^ 48 = λ c. (let k = component_within t e c past acc in let limit : t.limit < 2 ^ 48 = dec.limit.1 in omega arith) in
+    let sum : sum_to (λ c. component_total t e c past) (width t e) ≤ width t e * 2 ^ 48 = sum_within (λ c. component_total t e c past) (2 ^ 48) (width t e) least in
     let few : length (signallers t e) ≤ 16 = few_signallers t e dec in
     let is : sum_to (λ c. component_total t e c past) (width t e) ≡ total e past = total_is t e past acc in
     omega arith

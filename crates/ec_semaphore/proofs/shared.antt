@@ -2,3 +2,4 @@
 pub mod Staying
 pub mod Implying
 pub mod Lines
+pub mod LeftOut

@@ -1,6 +1,7 @@
 pub mod Shapes
 pub mod Uses
 pub mod Balances
+pub mod Auditing
 pub mod Both
 pub mod Pairs
 pub mod Spent

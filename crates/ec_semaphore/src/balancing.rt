@@ -1,16 +1,17 @@
 //! The balance of a semaphore.
-ghost use Rattle.std.specs.Prelude.{◌≡◌, ◌↔◌, ℕ, ◌+◌, ◌^◌, ◌<◌, ◌≤◌, ◌&&◌, not, if◌then◌else◌, reverse, IsOk, IfOk, IfErr, pos, ◌≤ℤ◌};
+ghost use Rattle.std.specs.Prelude.{◌≡◌, ◌↔◌, ℕ, ◌+◌, ◌^◌, ◌<◌, ◌≤◌, ◌&&◌, not, if◌then◌else◌, List, [], reverse, IsOk, IfOk, IfErr, pos, ◌≤ℤ◌};
 ghost use Rattle.ec_core.specs.Audits.{IsFirstBreak};
 ghost use Rattle.ec_core.specs.Calls.{is_pending};
 ghost use Rattle.ec_core.specs.Counts.{past_at, is_advance};
 ghost use Rattle.ec_core.specs.Following.{Follow};
-ghost use Rattle.ec_semaphore.specs.declared.shape.TheConstants.{INITIAL_MAX};
+ghost use Rattle.ec_semaphore.specs.Auditing.{IsCounted};
 ghost use Rattle.ec_semaphore.specs.Balances.{is_await, balance_of, parts_of};
 ghost use Rattle.ec_semaphore.specs.Uses.{use_rules};
 
 use crate::uses::Uses;
 use crate::{Balance, SemaphoreShape};
-use ec_core::{Act, AuditFault, Reply, Run, Scan, followed};
+use ec_core::{Act, Audit, AuditFault, Entry, Reply, Run, Tracker, walk};
+use std::marker::Model;
 
 /// Whether an entry ends an await of the semaphore's eventcount, given the act that began its call.
 fn is_down(shape: &SemaphoreShape, op: &Act, reply: Reply) -> bool
@@ -32,31 +33,83 @@ fn is_up(shape: &SemaphoreShape, act: &Act) -> bool
     }
 }
 
-/// 1 where it holds, else 0.
-fn one_if(holds: bool) -> u64
-    ensures { result ≡ (if holds then 1 else 0) }
+/// One more where it holds. The greatest number stays as it is.
+fn counted(count: u64, holds: bool) -> u64
+    ensures { count + 1 < 2 ^ 64 → result ≡ count + (if holds then 1 else 0) }
 {
-    u64::from(holds)
+    if holds && count < u64::MAX {
+        count + 1
+    } else {
+        count
+    }
 }
 
-/// The parts of the balance after all entries of a run.
-fn parts(run: &Run, uses: &Uses) -> Balance
-    ensures parts { result ≡ parts_of uses.now.shape (reverse run.now.entries) }
-    ensures small { result.initial ≤ INITIAL_MAX }
-{
-    let shape = uses.shape();
-    let mut scan = Scan::new(uses);
-    let mut downs = 0;
-    let mut ups = 0;
-    for entry in run.entries() {
-        downs += one_if(is_down(&shape, &scan.op(&entry), entry.reply));
-        ups += one_if(is_up(&shape, &entry.act));
-        scan.take(uses, &entry);
+/// The audit of a semaphore in a walk over a run. An entry whose call is not on the semaphore may
+/// be left out.
+#[derive(Drop)]
+pub struct BalanceAudit {
+    uses: Uses,
+    tracker: Tracker,
+    downs: u64,
+    ups: u64,
+}
+
+impl Model for BalanceAudit {
+    ghost use Rattle.ec_semaphore.specs.Auditing.{Balancing};
+
+    ghost Value = { Balancing };
+
+    ghost view = { λ s. record { shape = s.uses.shape; tracked = s.tracker; downs = s.downs; ups = s.ups } };
+}
+
+impl Audit for BalanceAudit {
+    ghost use Rattle.ec_semaphore.specs.Auditing.{BalancesOn};
+
+    ghost stands = { BalancesOn };
+
+    fn take(&mut self, place: usize, op: &Act, entry: &Entry) {
+        let uses = self.uses;
+        let shape = uses.shape();
+        self.downs = counted(self.downs, is_down(&shape, op, entry.reply));
+        self.ups = counted(self.ups, is_up(&shape, &entry.act));
+        self.tracker.take(&uses, place, op, entry);
     }
-    Balance {
-        initial: shape.initial(),
-        downs,
-        ups,
+}
+
+impl BalanceAudit {
+    /// Before the first entry.
+    pub fn new(shape: SemaphoreShape) -> Self
+        ensures shape { result.shape ≡ shape }
+        ensures first { IsCounted result [] }
+    {
+        let uses = Uses::new(shape);
+        BalanceAudit {
+            uses,
+            tracker: Tracker::new(&uses),
+            downs: 0,
+            ups: 0,
+        }
+    }
+
+    /// The parts of the balance after all entries of a run whose workers follow the semaphore. Err is
+    /// NotFollowed, with the first entry that breaks the lists of calls.
+    pub fn balance(&self, run: &Run) -> Result<Balance, AuditFault>
+        requires { IsCounted self.now (reverse run.now.entries) }
+        ensures ok { IsOk result ↔ Follow (use_rules self.now.shape) (reverse run.now.entries) }
+        ensures parts { IfOk result (λ b. b ≡ parts_of self.now.shape (reverse run.now.entries)) }
+        ensures never_negative { IsOk result → (k : ℕ) → pos 0 ≤ℤ balance_of self.now.shape (past_at k run.now.entries) }
+        ensures few { IfOk result (λ b. b.downs ≤ b.initial + b.ups) }
+        ensures small { IfOk result (λ b. b.initial + b.ups < 2 ^ 64) }
+        ensures err { IfErr result (IsFirstBreak (use_rules self.now.shape) run.now.entries) }
+    {
+        run.known();
+        self.tracker.followed(&self.uses, run)?;
+        let shape = self.uses.shape();
+        Ok(Balance {
+            initial: shape.initial(),
+            downs: self.downs,
+            ups: self.ups,
+        })
     }
 }
 
@@ -72,10 +125,7 @@ pub fn balance(run: &Run, shape: &SemaphoreShape) -> Result<Balance, AuditFault>
     ensures small { IfOk result (λ b. b.initial + b.ups < 2 ^ 64) }
     ensures err { IfErr result (IsFirstBreak (use_rules shape.now) run.now.entries) }
 {
-    run.known();
-    let uses = Uses::new(*shape);
-    match followed(run, &uses) {
-        Ok(()) => Ok(parts(run, &uses)),
-        Err(fault) => Err(fault),
-    }
+    let mut audit = BalanceAudit::new(*shape);
+    walk(run, &mut audit);
+    audit.balance(run)
 }

@@ -15,7 +15,7 @@ mod shape;
 mod up;
 mod uses;
 
-pub use balancing::balance;
+pub use balancing::{BalanceAudit, balance};
 pub use down::Down;
 pub use down_both::DownBoth;
 pub use laws::{
@@ -29,3 +29,4 @@ pub use pairing::pairs;
 pub use parts::Balance;
 pub use shape::{INITIAL_MAX, SemaphoreShape, declare_both, declare_semaphore};
 pub use up::Up;
+pub use uses::is_on;

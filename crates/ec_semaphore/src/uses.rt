@@ -38,7 +38,7 @@ impl Uses {
 }
 
 /// Whether an act names the eventcount or the sequencer of a semaphore.
-pub(crate) fn is_on(shape: &SemaphoreShape, act: &Act) -> bool
+pub fn is_on(shape: &SemaphoreShape, act: &Act) -> bool
     ensures { result ≡ is_on shape.now act.now }
 {
     match act {

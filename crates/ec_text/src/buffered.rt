@@ -13,8 +13,8 @@ use std::marker::Model;
 /// At most 8192 bytes that wait for their writer, and whether a write has failed.
 ///
 /// After a write that failed or took no byte nothing more is written, so that what the writer has is a front of what was put.
-/// A caller makes a table, puts, and ends with `finish`: the clauses `puts` of the calls between add up by themselves, up to
-/// about five in one function.
+/// A caller makes a table, puts, and ends with `finish`. The prover adds up the clauses `puts` of the calls between by
+/// itself, up to about five in one function.
 #[derive(Drop)]
 pub struct Buffered {
     bytes: ArrayVec<u8, 8192>,

@@ -167,7 +167,7 @@ no_number n (WrongReply r) g (inr h) e = cc
 traced_fault : (s : Stage) (g : TraceFault) → traced_in s ≡ Err g → g ≡ faults.Unfinished
 traced_fault (Ended t) g e = cc
 traced_fault Opening g e = cc
-traced_fault Limiting g e = cc
+traced_fault (Limiting v) g e = cc
 traced_fault (Declaring h) g e = cc
 traced_fault (Running t) g e = cc
 

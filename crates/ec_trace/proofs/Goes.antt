@@ -84,7 +84,7 @@ goes_rest n s part none short =
 after_end : (s : Stage) (line : List ℕ) → is_ended s ≡ true → step s line ≡ Err line_fault.Bad
 unfolding step is_ended
 after_end Opening line ended = cc
-after_end Limiting line ended = cc
+after_end (Limiting v) line ended = cc
 after_end (Declaring h) line ended = cc
 after_end (Running t) line ended = cc
 after_end (Ended t) line ended = refl

@@ -130,7 +130,7 @@ joined (line ∷ next ∷ lines) rest =
 ended_stage : (s : Stage) (t : Recounted) → traced_in s ≡ Ok t → s ≡ Ended t
 ended_stage (Ended u) t e = (let is : u ≡ t = cc in ap Ended is)
 ended_stage Opening t e = cc
-ended_stage Limiting t e = cc
+ended_stage (Limiting v) t e = cc
 ended_stage (Declaring h) t e = cc
 ended_stage (Running u) t e = cc
 

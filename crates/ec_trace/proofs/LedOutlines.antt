@@ -1,9 +1,11 @@
 -- What the lines of a trace have declared, where `run` came, is what an outline declares.
-use Rattle.std.proofs.Common.{◌≡◌, ◌⊎◌, inl, inr, ℕ, ◌<◌, ◌≤◌, ◌^◌, List, [], ◌∷◌, cond, true, false, ◌&&◌, nat_lt, Ok, refl, sym, ap, subst, ◌∙◌, arith, codes, reverse}
+use Rattle.std.proofs.Common.{◌≡◌, ◌⊎◌, inl, inr, ℕ, ◌<◌, ◌≤◌, List, [], ◌∷◌, cond, true, false, ◌&&◌, nat_lt, Ok, refl, sym, ap, subst, ◌∙◌, arith, codes, reverse}
 use Rattle.std.specs.Prelude.{bytes_eq}
 use Rattle.std.proofs.lemmas.Bool.{and_parts, ltb-true}
 use Rattle.ec_core.specs.Acceptance.{answer_of}
 use Rattle.ec_text.specs.Words.{words_of}
+use Rattle.ec_heading.specs.declared.version.Version.{Version}
+use Rattle.ec_heading.specs.Versions.{greatest_limit}
 use Rattle.ec_heading.specs.Headed.{Headed}
 use Rattle.ec_heading.specs.Heading.{head_step}
 use Rattle.ec_heading.specs.Outline.{opened}
@@ -21,21 +23,21 @@ use Rattle.ec_trace.proofs.shared.ReadTraces.{limit_back, limited_back, declared
 
 -- the line of the workers is still to come, behind a limit, or an outline stands behind the heading
 abbrev IsBegun : Headed → Type 0
-IsBegun h = ((n : ℕ) × (1 ≤ n) × (n < 2 ^ 32) × (h ≡ opened n [])) ⊎ HasOutline h
+IsBegun h = ((v : Version) × (n : ℕ) × (1 ≤ n) × (n ≤ greatest_limit v) × (h ≡ opened v n [])) ⊎ HasOutline h
 
 abbrev StageHeads : Stage → Type 0
 StageHeads Opening = Unit {0}
-StageHeads Limiting = Unit {0}
+StageHeads (Limiting v) = Unit {0}
 StageHeads (Declaring h) = IsBegun h
 StageHeads (Running t) = HasOutline t.heading
 StageHeads (Ended t) = HasOutline t.heading
 
 line_outlined : (h next : Headed) (line : List ℕ) → IsBegun h → head_step h line ≡ Ok next → HasOutline next
-line_outlined h next line (inl n) is = named_outlined n.0 line next n.1 n.2 (ap (λ g. head_step g line) (sym n.3) ∙ is)
+line_outlined h next line (inl n) is = named_outlined n.0 n.1 line next n.2 n.3 (ap (λ g. head_step g line) (sym n.4) ∙ is)
 line_outlined h next line (inr has) is = declared_outlined h line next has is
 
 run_outlined : (h : Headed) → IsBegun h → 0 < h.setup.workers → HasOutline h
-run_outlined h (inl n) some = absurd (let none : h.setup.workers ≡ 0 = ap (λ (g : Headed). g.setup.workers) n.3 in omega arith)
+run_outlined h (inl n) some = absurd (let none : h.setup.workers ≡ 0 = ap (λ (g : Headed). g.setup.workers) n.4 in omega arith)
 run_outlined h (inr has) some = has
 
 entry_heading : (t u : Recounted) (line : List ℕ) → entry_step t line ≡ Ok u → u.heading ≡ t.heading
@@ -46,11 +48,11 @@ entry_heading t u line is =
 
 step_heads : (s t : Stage) (line : List ℕ) → StageHeads s → step s line ≡ Ok t → StageHeads t
 unfolding step limit_of
-step_heads Opening t line heads is = subst StageHeads (sym (first_back line t is).1) tt
-step_heads Limiting t line heads is =
-    let l = limited_back (limit_of line) t is in
-    let k = limit_back (words_of line) l.0 l.1 in
-    subst StageHeads (sym l.2) (inl (l.0, k.low, k.high, refl))
+step_heads Opening t line heads is = subst StageHeads (sym (first_back line t is).2) tt
+step_heads (Limiting v) t line heads is =
+    let l = limited_back v (limit_of v line) t is in
+    let k = limit_back v (words_of line) l.0 l.1 in
+    subst StageHeads (sym l.2) (inl (v, l.0, k.low, k.high, refl))
 step_heads (Declaring h) t line heads is =
     elim (bytes_eq line (codes "run") && nat_lt 0 h.setup.workers) as (λ b. (bytes_eq line (codes "run") && nat_lt 0 h.setup.workers) ≡ b → cond b (Ok (Running (record { heading = h; entries = [] }))) (declared (head_step h line)) ≡ Ok t → StageHeads t) [
       | true ↦ λ q g.

@@ -21,6 +21,7 @@ use Rattle.ec_count.specs.declared.target.Target.TheVariants.{Worker, Event, Seq
 use Rattle.ec_text.specs.Words.{words_of, number_of, IsWord}
 use Rattle.ec_text.proofs.shared.WordLemmas.{HasFirst, has_first, words_join, split_join, literal_word}
 use Rattle.ec_text.proofs.shared.NumberLemmas.{own, number_again, number_takes, guarded}
+use Rattle.ec_heading.specs.declared.version.Version.{Version}
 use Rattle.ec_heading.specs.Spelling.{word_of, cell_word, act_words, reply_word, entry_words, entry_line}
 use Rattle.ec_heading.specs.Lists.{worker_of, worker_in}
 use Rattle.ec_heading.specs.Spelled.{Named, event_of, sequencer_of, event_in, sequencer_in, cell_in_word}
@@ -33,8 +34,8 @@ pub too_many : (names : Named) (a b c d e f more : List ℕ) → entry_in names 
 unfolding entry_in
 too_many names a b c d e f more = let r : HasFirst more = has_first more in rw r.is refl
 
-pub third_word : (a b more : List ℕ) → limit_in (a ∷ b ∷ words_of more) ≡ None
-third_word a b more = let r : HasFirst more = has_first more in rw r.is refl
+pub third_word : (v : Version) (a b more : List ℕ) → limit_in v (a ∷ b ∷ words_of more) ≡ None
+third_word v a b more = let r : HasFirst more = has_first more in rw r.is refl
 
 -- WHAT MAY BE SPELLED
 

@@ -143,7 +143,7 @@ lines_are (l ∷ lines) p q = (line_is l p.0 q.0, lines_are lines p.1 q.1)
 pub heading_lines_are : (o : Outline) (h end : Headed) → IsOutline o → LinesLead h (outline_lines o) end → AllByRecursion IsLine (outline_lines o)
 heading_lines_are o h end is leads = lines_are (outline_lines o) (outline_clean o is) (lead_short h end (outline_lines o) leads)
 
-pub limit_line_is : (n : ℕ) → n < 2 ^ 32 → IsLine (limit_line n)
+pub limit_line_is : (n : ℕ) → n < 2 ^ 48 → IsLine (limit_line n)
 limit_line_is n low =
     line_is (limit_line n) (lacks_append (codes "limit ") (decimal n) (literal_lacks (codes "limit ") refl) (number_clean n (omega arith)))
     (omega (arith, length-append (codes "limit ") (decimal n), length-decimal-le 18 n (omega arith) (omega arith) (omega arith)))

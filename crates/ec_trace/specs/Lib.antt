@@ -22,3 +22,5 @@ pub use Rattle.ec_heading.specs.Recalled
 pub use Rattle.ec_heading.specs.Sorts
 pub use Rattle.ec_heading.specs.Spelled
 pub use Rattle.ec_heading.specs.Spelling
+pub use Rattle.ec_heading.specs.Upgraded
+pub use Rattle.ec_heading.specs.Versions

@@ -3,7 +3,9 @@ use Rattle.std.specs.Prelude.{◌≡◌, ◌≤◌, ℕ, List, [], ◌++◌, Ok,
 use Rattle.ec_core.specs.declared.act.Entry.{Entry}
 use Rattle.ec_core.specs.Acceptance.{IsAccepted}
 use Rattle.ec_heading.specs.Outline.{Outline, IsOutline, headed}
-use Rattle.ec_heading.specs.Spelling.{trace_text}
+use Rattle.ec_heading.specs.Spelling.{trace_header, trace_text}
+use Rattle.ec_heading.specs.Upgraded.{upgraded, upgraded_outline}
+use Rattle.ec_heading.specs.declared.version.Version.TheVariants.{Two}
 use Rattle.ec_trace.specs.Grammar.{IsTrace}
 use Rattle.ec_trace.specs.Recounted.{Recounted}
 use Rattle.ec_trace.specs.declared.fault.TraceFault.{TraceFault}
@@ -36,7 +38,7 @@ Refuses fault bytes = IsNoTrace bytes
 abbrev pub ReadIsTrace : Type 0
 ReadIsTrace = (bytes : List ℕ) (t : Recounted) → outcome TRACE_MAX bytes ≡ Ok t → IsTraceOf bytes t
 
--- no two pairs of a heading and a history share a trace
+-- no two triples of a version, a heading and a history share a trace
 abbrev pub TraceHasOneMeaning : Type 0
 TraceHasOneMeaning = (bytes : List ℕ) (o p : Outline) (es fs : List Entry) → IsTrace bytes o es → IsTrace bytes p fs → (o ≡ p) × (es ≡ fs)
 
@@ -49,3 +51,18 @@ NoTraceBeginsAnother = (bytes more : List ℕ) (o p : Outline) (es fs : List Ent
 abbrev pub WrittenIsReadAgain : Type 0
 WrittenIsReadAgain = (o : Outline) (entries : List Entry) → IsOutline o → IsAccepted (headed o).setup (reverse entries) → length (trace_text o entries) ≤ TRACE_MAX
     → outcome TRACE_MAX (trace_text o entries) ≡ Ok (record { heading = headed o; entries = entries })
+
+-- a text that is the trace of the same declarations and the same history under version 2: behind its first line it is these bytes, so it
+-- is as long, and is these bytes where they have version 2; and it is read so
+pub record UpgradesTo (bytes text : List ℕ) (o : Outline) (entries : List Entry) : Type 0 where
+  pub trace : IsTrace text (upgraded_outline o) entries
+  pub behind : List ℕ
+  pub was : bytes ≡ trace_header o.version ++ behind
+  pub is_now : text ≡ trace_header Two ++ behind
+  pub as_long : length text ≡ length bytes
+  pub told : outcome TRACE_MAX text ≡ Ok (record { heading = upgraded (headed o); entries = entries })
+  pub as_it_was : o.version ≡ Two → text ≡ bytes
+
+-- each trace has such a text, within the bound of a trace too
+abbrev pub TracesAreUpgraded : Type 0
+TracesAreUpgraded = (bytes : List ℕ) (o : Outline) (entries : List Entry) → IsTrace bytes o entries → UpgradesTo bytes (trace_text (upgraded_outline o) entries) o entries

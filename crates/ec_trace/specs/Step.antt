@@ -1,14 +1,17 @@
 -- What one line of a trace does to what the lines before it have built.
-use Rattle.std.specs.Prelude.{◌≡◌, ℕ, Bool, true, false, ◌==◌, ◌&&◌, nat_le, nat_lt, List, [], ◌∷◌, ◌++◌, Option, Some, None, option_and_then, Result, Ok, Err, if◌then◌else◌, bytes_eq, codes, reverse}
+use Rattle.std.specs.Prelude.{◌≡◌, ℕ, Bool, true, false, ◌==◌, ◌&&◌, nat_lt, List, [], ◌∷◌, ◌++◌, Option, Some, None, option_and_then, Result, Ok, Err, if◌then◌else◌, bytes_eq, codes, reverse}
 use Rattle.ec_core.specs.Acceptance.{answer_of}
 use Rattle.ec_core.specs.declared.act.Reply.{Reply}
 use Rattle.ec_core.specs.declared.act.Reply.TheVariants.{Done, Number, Pending}
 use Rattle.ec_core.specs.declared.act.Entry.{Entry}
 use Rattle.ec_core.specs.declared.act.Refusal.{Refusal}
 use Rattle.ec_text.specs.Words.{words_of, number_of}
+use Rattle.ec_heading.specs.declared.version.Version.{Version}
+use Rattle.ec_heading.specs.Versions.{as_limit, version_of}
 use Rattle.ec_heading.specs.Headed.{Headed}
 use Rattle.ec_heading.specs.Outline.{opened}
 use Rattle.ec_heading.specs.Heading.{head_step}
+use Rattle.ec_heading.specs.Spelling.{trace_header}
 use Rattle.ec_trace.specs.Entries.{entry_of}
 use Rattle.ec_trace.specs.Recounted.{Recounted}
 use Rattle.ec_heading.specs.declared.heading.HeadFault.{HeadFault}
@@ -19,22 +22,25 @@ use Rattle.ec_trace.specs.declared.fault.StageFault.TheVariants as faults
 use Rattle.ec_trace.specs.declared.stage.Stage.{Stage}
 use Rattle.ec_trace.specs.declared.stage.Stage.TheVariants.{Opening, Limiting, Declaring, Running, Ended}
 
+-- THE VERSION
+
+abbrev pub limiting : Option Version → Result Stage LineFault
+limiting None = Err Bad
+limiting (Some v) = Ok (Limiting v)
+
 -- THE LIMIT
 
-abbrev pub in_range : ℕ → Option ℕ
-in_range n = if nat_le 1 n && nat_lt n 4294967296 then Some n else None
+abbrev pub limit_in : Version → List (List ℕ) → Option ℕ
+limit_in v (w ∷ n ∷ []) = if bytes_eq w (codes "limit") then option_and_then (as_limit v) (number_of n) else None
+limit_in v _ = None
 
-abbrev pub limit_in : List (List ℕ) → Option ℕ
-limit_in (w ∷ n ∷ []) = if bytes_eq w (codes "limit") then option_and_then in_range (number_of n) else None
-limit_in _ = None
+-- the limit that a line gives, under a version
+unfoldable pub limit_of : Version → List ℕ → Option ℕ
+limit_of v line = limit_in v (words_of line)
 
--- the limit that a line gives
-unfoldable pub limit_of : List ℕ → Option ℕ
-limit_of line = limit_in (words_of line)
-
-abbrev pub limited : Option ℕ → Result Stage LineFault
-limited None = Err Bad
-limited (Some n) = Ok (Declaring (opened n []))
+abbrev pub limited : Version → Option ℕ → Result Stage LineFault
+limited v None = Err Bad
+limited v (Some n) = Ok (Declaring (opened v n []))
 
 -- A DECLARATION
 
@@ -71,8 +77,8 @@ ran_on (Err fault) = Err fault
 
 -- the stage after a line, or why the line is refused
 unfoldable pub step : Stage → List ℕ → Result Stage LineFault
-step Opening line = if bytes_eq line (codes "evc-trace 1") then Ok Limiting else Err Bad
-step Limiting line = limited (limit_of line)
+step Opening line = limiting (version_of trace_header line)
+step (Limiting v) line = limited v (limit_of v line)
 step (Declaring h) line =
     if bytes_eq line (codes "run") && nat_lt 0 h.setup.workers then Ok (Running (record { heading = h; entries = [] })) else declared (head_step h line)
 step (Running t) line = if bytes_eq line (codes "end") then Ok (Ended t) else ran_on (entry_step t line)

@@ -313,8 +313,8 @@ fn eight_from(front: &[u8], from: usize) -> u64
     ])
 }
 
-/// A mark of a front, which fronts mostly have for themselves. For speed it is made of eight bytes at each end and eight in
-/// the middle, and of a shorter one, as `a go =`, of its first two bytes.
+/// A mark of a front. Two fronts mostly have different marks. For speed it is made of eight bytes at each end and eight in
+/// the middle; of a shorter front, as `a go =`, it is made of the first two bytes.
 #[inline(always)]
 fn mark(front: &[u8]) -> usize {
     let [first, second, ..] = front else {

@@ -14,7 +14,7 @@ mod write;
 mod write_heading;
 
 pub use ec_heading::{
-    Group, HeadFault, Heading, Sort, lines_have_an_outline, outline_lines_lead,
+    Group, HeadFault, Heading, Sort, Version, lines_have_an_outline, outline_lines_lead,
     read_declaration_is_spelled, read_workers_are_spelled, spelled_declaration_is_read,
     spelled_workers_are_read,
 };
@@ -25,7 +25,7 @@ pub use reading_laws::{
     entries_are_spelled, failed_read_has_no_fault, fault_of_the_whole, faults_of_entries,
     first_fault_is_told, line_fault_is_the_first, lines_lead_to_outlines, no_trace_begins_another,
     other_lines_spell_none, read_is_trace, trace_has_one_meaning, trace_is_read,
-    traces_have_64_mebibytes_at_most, written_is_read_again,
+    traces_are_upgraded, traces_have_64_mebibytes_at_most, written_is_read_again,
 };
 pub use spell::Spellings;
 pub use traced::Traced;

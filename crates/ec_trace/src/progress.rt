@@ -149,7 +149,7 @@ impl Progress {
         Ok(())
     }
 
-    /// What a failed read is told as here: what came before it may be at fault.
+    /// What is told of a failed read at this place: the fault of what came before it, where that is already at fault.
     #[tactic(auto, using(crate::proofs::Stood::rest_first))]
     pub(crate) fn failed_read(&self) -> TraceFault
         ensures { FailsThere result self.now }

@@ -3,7 +3,7 @@ ghost use Rattle.std.specs.Prelude.{◌≡◌};
 ghost use Rattle.ec_trace.specs.declared.read.TheConstants.{TRACE_MAX};
 ghost use Rattle.ec_trace.specs.EntryLines.{EntriesAreSpelled, OtherLinesSpellNone, LinesLeadToOutlines, FaultsOfEntries};
 ghost use Rattle.ec_trace.specs.FirstFault.{LineFaultIsTheFirst, FirstFaultIsTold, FaultOfTheWhole, FailedReadHasNoFault};
-ghost use Rattle.ec_trace.specs.ReadingLaws.{TraceIsRead, ReadIsTrace, TraceHasOneMeaning, NoTraceBeginsAnother, WrittenIsReadAgain};
+ghost use Rattle.ec_trace.specs.ReadingLaws.{TraceIsRead, ReadIsTrace, TraceHasOneMeaning, NoTraceBeginsAnother, TracesAreUpgraded, WrittenIsReadAgain};
 
 /// A trace is read as its heading and its history.
 #[tactic(auto, using(crate::proofs::shared::ReadTraces::trace_is_read))]
@@ -17,7 +17,7 @@ pub fn read_is_trace()
     ensures { ReadIsTrace }
 {}
 
-/// No two pairs of a heading and a history share a trace.
+/// No two triples of a version, a heading and a history share a trace.
 #[tactic(auto, using(crate::proofs::shared::ReadTraces::trace_has_one_meaning))]
 pub fn trace_has_one_meaning()
     ensures { TraceHasOneMeaning }
@@ -79,6 +79,13 @@ pub fn faults_of_entries()
 #[tactic(auto, using(crate::proofs::shared::ReadTraces::written_is_read))]
 pub fn written_is_read_again()
     ensures { WrittenIsReadAgain }
+{}
+
+/// A trace that is upgraded to version 2 has another first line, and behind that the same bytes. So
+/// it is as long as it was, within the bound, and one of version 2 is upgraded to itself; and it is
+/// read as the same declarations and the same run.
+pub fn traces_are_upgraded()
+    ensures { TracesAreUpgraded }
 {}
 
 /// The most bytes that a trace may have, as a number.

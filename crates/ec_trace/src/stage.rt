@@ -1,12 +1,15 @@
 //! What the lines of a trace so far have built.
-ghost use Rattle.std.specs.Prelude.{◌≡◌, true, false, IfSome, Ok};
+ghost use Rattle.std.specs.Prelude.{◌≡◌, ◌≤◌, true, false, IfSome, Ok};
+ghost use Rattle.ec_heading.specs.Spelling.{trace_header};
+ghost use Rattle.ec_heading.specs.Versions.{greatest_limit, version_of};
 ghost use Rattle.ec_trace.specs.Step.{Steps, step, limit_of, is_ended, is_running, is_declaring, run_on, ended_on};
 ghost use Rattle.ec_trace.specs.Outcome.{traced_in};
 
 use crate::fault::{LineFault, StageFault, TraceFault};
 use crate::traced::Traced;
+use crate::write_heading::first_line;
 use ec_count::Limit;
-use ec_heading::{HeadFault, Heading};
+use ec_heading::{HeadFault, Heading, Version};
 use ec_text::{cut_word, number};
 use std::alloc::Global;
 use std::mem;
@@ -16,8 +19,8 @@ use std::mem;
 pub enum Stage {
     /// Nothing.
     Opening,
-    /// The first line came.
-    Limiting,
+    /// The first line came, of this version.
+    Limiting(Version),
     /// The limit came, and declarations may.
     Declaring(Heading),
     /// Entries may come.
@@ -26,10 +29,24 @@ pub enum Stage {
     Ended(Traced),
 }
 
-/// The limit that a line gives, if it gives one.
+/// The version whose first line this is.
+fn version_of(line: &[u8]) -> Option<Version>
+    ensures { result ≡ version_of trace_header line.now }
+{
+    if line == first_line(Version::One) {
+        return Some(Version::One);
+    }
+    if line == first_line(Version::Two) {
+        return Some(Version::Two);
+    }
+    None
+}
+
+/// The limit that a line gives, if it gives one that the version may have.
 #[tactic(auto, using(crate::proofs::ReadEntries::third_word), unfolding(crate::specs::Step::limit_of))]
-fn limit_of(line: &[u8]) -> Option<Limit>
-    ensures { result ≡ limit_of line.now }
+fn limit_of(version: Version, line: &[u8]) -> Option<Limit>
+    ensures value { result ≡ limit_of version line.now }
+    ensures within { IfSome result (λ limit. limit ≤ greatest_limit version) }
 {
     let (word, Some(rest)) = cut_word(line) else {
         return None;
@@ -40,7 +57,7 @@ fn limit_of(line: &[u8]) -> Option<Limit>
     if word != b"limit".as_slice() {
         return None;
     }
-    Limit::new(number(digits)?)
+    version.limit(number(digits)?)
 }
 
 /// The run that begins behind these declarations, where there is memory for it.
@@ -112,7 +129,10 @@ impl Stage {
     {
         match self {
             Stage::Opening => self.open(line),
-            Stage::Limiting => self.limit(alloc, line),
+            Stage::Limiting(version) => {
+                let version = *version;
+                self.limit(alloc, version, line)
+            }
             Stage::Declaring(_) => self.declare(alloc, line),
             Stage::Running(_) | Stage::Ended(_) => Err(StageFault::Line(LineFault::Bad)),
         }
@@ -124,26 +144,25 @@ impl Stage {
         requires { self.old ≡ Stage.Opening }
         ensures { Steps result (step self.old line.now) self.new }
     {
-        if line == b"evc-trace 1".as_slice() {
-            self.set(Stage::Limiting);
-            Ok(())
-        } else {
-            Err(StageFault::Line(LineFault::Bad))
-        }
+        let Some(version) = version_of(line) else {
+            return Err(StageFault::Line(LineFault::Bad));
+        };
+        self.set(Stage::Limiting(version));
+        Ok(())
     }
 
     /// Takes the line of the limit.
     #[cold]
     #[inline(never)]
     #[tactic(auto, unfolding(crate::specs::Step::step))]
-    fn limit(&mut self, alloc: Global, line: &[u8]) -> Result<(), StageFault>
-        requires { self.old ≡ Stage.Limiting }
+    fn limit(&mut self, alloc: Global, version: Version, line: &[u8]) -> Result<(), StageFault>
+        requires { self.old ≡ Stage.Limiting version }
         ensures { Steps result (step self.old line.now) self.new }
     {
-        let Some(limit) = limit_of(line) else {
+        let Some(limit) = limit_of(version, line) else {
             return Err(StageFault::Line(LineFault::Bad));
         };
-        let Ok(heading) = Heading::new(alloc, limit) else {
+        let Ok(heading) = Heading::new(alloc, version, limit) else {
             return Err(StageFault::Memory);
         };
         self.set(Stage::Declaring(heading));
@@ -200,7 +219,7 @@ impl Stage {
     {
         match self {
             Stage::Ended(traced) => Ok(traced),
-            Stage::Opening | Stage::Limiting | Stage::Declaring(_) | Stage::Running(_) => {
+            Stage::Opening | Stage::Limiting(_) | Stage::Declaring(_) | Stage::Running(_) => {
                 Err(TraceFault::Unfinished)
             }
         }

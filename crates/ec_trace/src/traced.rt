@@ -29,6 +29,7 @@ impl Model for Traced {
 }
 
 impl Traced {
+    ghost use Rattle.ec_trace.specs.Recounted.{trace_upgraded};
     ghost use Rattle.ec_trace.specs.Step.{Steps, entry_step};
 
     /// A heading, and no entry yet.
@@ -55,6 +56,22 @@ impl Traced {
         ensures { result.now ≡ record { setup = self.now.heading.setup; entries = self.now.entries } }
     {
         &self.run
+    }
+
+    /// The same trace under version 2.
+    pub fn upgrade(self) -> Traced
+        ensures { result ≡ trace_upgraded self }
+    {
+        let Traced {
+            run,
+            heading,
+            fronts,
+        } = self;
+        Traced {
+            run,
+            heading: heading.upgrade(),
+            fronts,
+        }
     }
 
     /// Takes the next entry, by its line.

@@ -2,13 +2,13 @@
 ghost use Rattle.std.specs.Prelude.{◌≡◌, ◌≤◌, ◌∷◌, ◌++◌, [], Some, None, map};
 ghost use Rattle.std.specs.List.{range_with_len};
 ghost use Rattle.ec_text.specs.Puts.{Puts};
-ghost use Rattle.ec_heading.specs.Spelling.{word_of, name_words, number_words, limit_line, workers_line, text_of};
+ghost use Rattle.ec_heading.specs.Spelling.{trace_header, word_of, name_words, number_words, limit_line, workers_line, text_of};
 ghost use Rattle.ec_heading.specs.Sorts.{sort_word, opener, other};
 ghost use Rattle.ec_heading.specs.Recalled.{names_of, worker_names, declared_group, declaration_of, declarations_of, declared_line, declared_text, opening_text, second_names, spaced};
 
 use crate::spell::Spellings;
 use ec_count::{Setup, Target, WorkerId};
-use ec_heading::{Group, Heading, Sort};
+use ec_heading::{Group, Heading, Sort, Version};
 use ec_text::{Buffered, put, put_byte, put_number};
 use std::io::Write;
 use std::marker::Model;
@@ -239,6 +239,23 @@ fn put_targets<W: Write>(
     }
 }
 
+/// The first line of a trace.
+pub(crate) fn first_line(version: Version) -> &'static [u8]
+    ensures { result.now ≡ trace_header version }
+{
+    match version {
+        Version::One => b"evc-trace 1".as_slice(),
+        Version::Two => b"evc-trace 2".as_slice(),
+    }
+}
+
+/// Puts the first line, without LF.
+fn put_first<W: Write>(writer: &mut W, buffered: &mut Buffered, version: Version)
+    ensures { Puts (W.contents writer.old) buffered.old (W.contents writer.new) buffered.new (trace_header version) }
+{
+    put(writer, buffered, first_line(version));
+}
+
 /// Puts the lines before the entries.
 #[tactic(auto, using(crate::proofs::shared::LineParts::opening_parts))]
 pub(crate) fn put_opening<W: Write>(
@@ -250,7 +267,8 @@ pub(crate) fn put_opening<W: Write>(
     ensures { Puts (W.contents writer.old) buffered.old (W.contents writer.new) buffered.new (opening_text spellings.now heading.now) }
 {
     let setup = heading.setup();
-    put(writer, buffered, b"evc-trace 1\nlimit ");
+    put_first(writer, buffered, heading.version());
+    put(writer, buffered, b"\nlimit ");
     put_number(writer, buffered, setup.limit().get());
     put(writer, buffered, b"\nworkers");
     put_workers(writer, buffered, spellings, setup.workers());

@@ -106,7 +106,7 @@ is_read bytes t reads =
     (record {
       declared = is_declared (headed o) (sound o is);
       accepted = reads.trace.trace.accepted;
-      shapes = all_shapes (opened o.limit o.workers) o.declarations tt is.declarations;
+      shapes = all_shapes (opened o.version o.limit o.workers) o.declarations tt is.declarations;
     })
 
 module _ (h : Headed) (entries : List Entry) (read : IsRead h entries) where

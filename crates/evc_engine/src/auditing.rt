@@ -1,5 +1,5 @@
 //! `audit`: a trace in; what the audits of its groups found out.
-ghost use Rattle.std.specs.Prelude.{◌≡◌, ◌↔◌, ℕ, ◌++◌, ◌∷◌, [], IsOk, IfSome, IfOk, IfErr, OnOk, reverse};
+ghost use Rattle.std.specs.Prelude.{◌≡◌, ◌↔◌, ℕ, ◌+◌, ◌^◌, ◌<◌, ◌≤◌, ◌++◌, ◌∷◌, [], IsOk, IfSome, IfOk, IfErr, OnOk, reverse};
 ghost use Rattle.ec_core.specs.Audits.{IsAuditFault, IsFirstBreak};
 ghost use Rattle.ec_core.specs.Following.{Follow};
 ghost use Rattle.ec_semaphore.specs.Balances.{parts_of};
@@ -7,6 +7,7 @@ ghost use Rattle.ec_semaphore.specs.Uses.{use_rules};
 ghost use Rattle.ec_semaphore.specs.Both.{is_line, both_rules};
 ghost use Rattle.ec_heading.specs.Groups.{FitsGroup};
 ghost use Rattle.evc_engine.specs.AuditTexts.{now_of};
+ghost use Rattle.evc_engine.specs.Walks.{CountsFor, StandsFor};
 ghost use Rattle.evc_engine.specs.Notes.{IsWrittenOut};
 ghost use Rattle.ec_heading.specs.Rules.{semaphores_of, group_rules};
 ghost use Rattle.evc_engine.specs.Audits.{IsPairsOf, IsAudited, AreAudited, IsStop, stop_status, stop_note, AuditEnds, Audits};
@@ -17,10 +18,11 @@ use crate::audited::Audited;
 use crate::checking::status_of;
 use crate::notes::Notes;
 use crate::status::Status;
+use crate::walked::{Auditing, audits_of};
 use ec_buffer::deliveries;
 use ec_core::{AuditFault, Run};
 use ec_database::versions;
-use ec_semaphore::{Balance, SemaphoreShape, balance, pairs};
+use ec_semaphore::{Balance, SemaphoreShape, pairs};
 use ec_trace::{Group, Heading, Traced, read_trace};
 use std::alloc::{AllocError, Global};
 use std::io::{Read, Write};
@@ -59,14 +61,34 @@ fn semaphores_of(alloc: Global, groups: &[Group]) -> Result<Vec<SemaphoreShape>,
     Ok(list)
 }
 
+/// The parts of a semaphore's balance, from its audit in the walk over the whole run.
+fn balance_of(run: &Run, shape: &SemaphoreShape, auditing: &Auditing) -> Result<Balance, AuditFault>
+    requires { CountsFor shape.now auditing.now (reverse run.now.entries) }
+    ensures ok { IsOk result ↔ Follow (use_rules shape.now) (reverse run.now.entries) }
+    ensures parts { IfOk result (λ b. b ≡ parts_of shape.now (reverse run.now.entries)) }
+    ensures few { IfOk result (λ b. b.downs ≤ b.initial + b.ups) }
+    ensures small { IfOk result (λ b. b.initial + b.ups < 2 ^ 64) }
+    ensures err { IfErr result (IsFirstBreak (use_rules shape.now) run.now.entries) }
+{
+    match auditing {
+        Auditing::Balance(audit) => audit.balance(run),
+        Auditing::Alone => unreachable!(),
+    }
+}
+
 /// The balance of a semaphore, by its parts and as a number.
-fn balance_now(run: &Run, shape: &SemaphoreShape) -> Result<(Balance, u64), AuditFault>
+fn balance_now(
+    run: &Run,
+    shape: &SemaphoreShape,
+    auditing: &Auditing,
+) -> Result<(Balance, u64), AuditFault>
+    requires { CountsFor shape.now auditing.now (reverse run.now.entries) }
     ensures ok { IsOk result ↔ Follow (use_rules shape.now) (reverse run.now.entries) }
     ensures parts { IfOk result (λ b. b.0 ≡ parts_of shape.now (reverse run.now.entries)) }
     ensures now { IfOk result (λ b. b.1 ≡ now_of b.0) }
     ensures err { IfErr result (IsFirstBreak (use_rules shape.now) run.now.entries) }
 {
-    match balance(run, shape) {
+    match balance_of(run, shape, auditing) {
         Ok(parts) => Ok((parts, parts.initial + parts.ups - parts.downs)),
         Err(fault) => Err(fault),
     }
@@ -77,16 +99,18 @@ fn audit_both(
     alloc: Global,
     run: &Run,
     shape: &SemaphoreShape,
+    auditing: &Auditing,
     semaphores: &[SemaphoreShape],
 ) -> Result<Audited, AuditFault>
-    requires { shape.now.initial ≡ 1 }
+    requires one { shape.now.initial ≡ 1 }
+    requires counts { CountsFor shape.now auditing.now (reverse run.now.entries) }
     ensures followed { IsOk result → Follow (both_rules shape.now (is_line shape.now semaphores.now)) (reverse run.now.entries) }
     ensures found { IfOk result (IsPairsOf run.now.entries shape.now semaphores.now) }
     ensures err { IfErr result (IsAuditFault (both_rules shape.now (is_line shape.now semaphores.now)) run.now.entries) }
 {
     run.known();
     let list = pairs(alloc, run, shape, semaphores)?;
-    let Ok((parts, now)) = balance_now(run, shape) else {
+    let Ok((parts, now)) = balance_now(run, shape, auditing) else {
         unreachable!();
     };
     Ok(Audited::Pairs(parts, now, list))
@@ -98,9 +122,11 @@ fn audit_group(
     traced: &Traced,
     semaphores: &[SemaphoreShape],
     group: &Group,
+    auditing: &Auditing,
 ) -> Result<Audited, AuditFault>
     requires fits { FitsGroup traced.now.heading.setup group.now }
     requires all { semaphores.now ≡ semaphores_of traced.now.heading.groups }
+    requires stands { StandsFor group.now auditing.now (reverse traced.now.entries) }
     ensures ok { IfOk result (λ a. IsAudited traced.now.heading traced.now.entries group.now a) }
     ensures err { IfErr result (IsAuditFault (group_rules traced.now.heading.setup traced.now.heading.groups group.now) traced.now.entries) }
 {
@@ -109,10 +135,10 @@ fn audit_group(
         Group::Buffer(shape) => Ok(Audited::Deliveries(deliveries(alloc, run, shape)?)),
         Group::Database(shape) => Ok(Audited::Versions(versions(alloc, run, shape)?)),
         Group::Semaphore(shape) => {
-            let (parts, now) = balance_now(run, shape)?;
+            let (parts, now) = balance_now(run, shape, auditing)?;
             Ok(Audited::Balances(parts, now))
         }
-        Group::Both(shape) => audit_both(alloc, run, shape, semaphores),
+        Group::Both(shape) => audit_both(alloc, run, shape, auditing, semaphores),
     }
 }
 
@@ -135,9 +161,13 @@ fn audit_groups(alloc: Global, traced: &Traced) -> Result<Vec<Audited>, Stop>
     let Ok(semaphores) = semaphores_of(alloc, groups) else {
         return Err(Stop { group: 0, fault });
     };
+    let Ok(audits) = audits_of(alloc, traced.run(), groups) else {
+        return Err(Stop { group: 0, fault });
+    };
     let mut found = Vec::new(alloc);
     for group in 0..groups.len() {
-        let audited = match audit_group(alloc, traced, semaphores.as_slice(), &groups[group]) {
+        let list = semaphores.as_slice();
+        let audited = match audit_group(alloc, traced, list, &groups[group], &audits[group]) {
             Ok(audited) => audited,
             Err(fault) => return Err(Stop { group, fault }),
         };

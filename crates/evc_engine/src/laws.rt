@@ -1,6 +1,7 @@
 //! What the contracts of the commands mean: each function says a law and does nothing.
 ghost use Rattle.evc_engine.specs.AuditLaws.{AuditsHaveOneText, TextOrBreak};
 ghost use Rattle.evc_engine.specs.NoteLaws.{NotesLeaveTheTable, RefusalsAreAlike, RefusedAuditsHaveOneNote, RefusedChecksHaveOneNote};
+ghost use Rattle.evc_engine.specs.Upgrades.{TextsHaveNoVersion};
 
 /// What `audit` writes where it is done is determined by the bytes that it read: there is one text.
 pub fn audits_have_one_text()
@@ -32,4 +33,9 @@ pub fn refused_audits_have_one_note()
 /// Where `check` ends with status 1 on bytes, and `audit` too, they write the same note.
 pub fn checks_and_audits_refuse_alike()
     ensures { RefusalsAreAlike }
+{}
+
+/// What `check` and `audit` write does not depend on the version of the trace.
+pub fn texts_have_no_version()
+    ensures { TextsHaveNoVersion }
 {}

@@ -8,14 +8,19 @@ mod checking;
 mod laws;
 mod notes;
 mod status;
+mod table;
 mod text;
 mod totals;
+mod upgrading;
+mod walked;
 
 pub use auditing::audit;
 pub use checking::check;
 pub use laws::{
     audits_end_one_way, audits_have_one_text, checks_and_audits_refuse_alike,
     notes_leave_the_table, refused_audits_have_one_note, refused_checks_have_one_note,
+    texts_have_no_version,
 };
 pub use notes::{Notes, put_line, put_refused};
 pub use status::Status;
+pub use upgrading::upgrade;

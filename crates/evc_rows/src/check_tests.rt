@@ -130,7 +130,7 @@ fn a_line_of_8193_bytes_is_bad(rt: HostRuntime) -> Result<(), Fail> {
     Ok(())
 }
 
-static LIMITS: [Row; 3] = [
+static LIMITS: [Row; 6] = [
     (
         "evc-trace 1\nlimit 0\nworkers a\nrun\nend\n",
         Ending::Refused("line 2: bad line\n"),
@@ -142,6 +142,18 @@ static LIMITS: [Row; 3] = [
     (
         "evc-trace 1\nlimit 4294967295\nworkers a\nrun\nend\n",
         Ending::Done("evc-order 1\ntotals\nend\n"),
+    ),
+    (
+        "evc-trace 2\nlimit 4294967296\nworkers a\nrun\nend\n",
+        Ending::Done("evc-order 1\ntotals\nend\n"),
+    ),
+    (
+        "evc-trace 2\nlimit 281474976710655\nworkers a\nrun\nend\n",
+        Ending::Done("evc-order 1\ntotals\nend\n"),
+    ),
+    (
+        "evc-trace 2\nlimit 281474976710656\nworkers a\nrun\nend\n",
+        Ending::Refused("line 2: bad line\n"),
     ),
 ];
 

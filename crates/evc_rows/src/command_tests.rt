@@ -1,7 +1,8 @@
 //! Each command by its task, over readers and writers that fail.
 use crate::commands::{
     AUDIT_OF_A_BUFFER, CHECK_OF_AN_OVERTAKEN_READ, RUN_OF_TICKETS, SIM_OF_A_TICKET_AND_AN_AWAIT,
-    SIM_OF_TICKETS, TURNS, Worked, commanded_into,
+    SIM_OF_TICKETS, TURNS, UPGRADE_OF_A_READ_UNDER_WAY, UPGRADE_OF_VERSION_TWO, Worked,
+    commanded_into,
 };
 use crate::fakes::{Fickle, Pieces, Trouble};
 use evc_engine::{Notes, Status};
@@ -181,6 +182,12 @@ fn each_fault_of_an_audit(rt: HostRuntime) -> Result<(), Fail> {
 }
 
 #[test]
+fn each_fault_of_an_upgrade(rt: HostRuntime) -> Result<(), Fail> {
+    all_faults(&rt, rt.alloc(), &UPGRADE_OF_A_READ_UNDER_WAY)?;
+    all_faults(&rt, rt.alloc(), &UPGRADE_OF_VERSION_TWO)
+}
+
+#[test]
 fn each_fault_of_a_sim(rt: HostRuntime) -> Result<(), Fail> {
     all_faults(&rt, rt.alloc(), &SIM_OF_TICKETS)
 }
@@ -212,6 +219,21 @@ fn run_ends<H: Threads + Wait + Sync>(rt: &H, alloc: Global, text: &str, right: 
 fn the_run_of_the_script_of_tickets_finishes(rt: HostRuntime) {
     let notes = b"outcome a finished\noutcome b finished\n".as_slice();
     assert!(rt; run_ends(&rt, rt.alloc(), RUN_OF_TICKETS.text, notes));
+}
+
+/// Whether a run that is cut short tells of a failed write alone, where the write of this number fails.
+fn cut_run_fails_at<H: Threads + Wait + Sync>(rt: &H, alloc: Global, k: usize) -> bool {
+    let mut reader = RUN_OF_TICKETS.text.as_bytes();
+    let mut out = Fickle::new(alloc, 5, Trouble::Fails, k);
+    let (status, notes) = commanded_into(rt, alloc, Task::Run(1), &mut reader, &mut out);
+    status == Status::InputOutput && notes.as_slice() == b"write fault\n".as_slice()
+}
+
+/// With an ample writer its status is 5: no worker has a turn for its second step.
+#[test]
+fn a_failed_write_comes_before_a_run_cut_short(rt: HostRuntime) {
+    assert!(rt; cut_run_fails_at(&rt, rt.alloc(), 0));
+    assert!(rt; cut_run_fails_at(&rt, rt.alloc(), 9));
 }
 
 #[test]

@@ -1,7 +1,7 @@
 //! The commands by their tasks: worked texts, and what each command answers on its own.
 use crate::group_texts::BUFFER;
 use crate::outcome::{Ending, checked_into, ends};
-use crate::texts::{OVERTAKEN_READ, OVERTAKEN_READ_ORDER};
+use crate::texts::{OVERTAKEN_READ, OVERTAKEN_READ_ORDER, UNDER_WAY, UNDER_WAY_IN_TWO};
 use evc_engine::{Notes, Status};
 use evc_scripts::engine;
 use evc_task::Task;
@@ -160,6 +160,22 @@ pub(crate) static AUDIT_OF_A_BUFFER: Worked = Worked {
     task: Task::Audit,
     text: BUFFER,
     right: Right::Text(BUFFER_AUDIT),
+    notes: "",
+};
+
+/// A trace with a read under way, in version 2.
+pub(crate) static UPGRADE_OF_A_READ_UNDER_WAY: Worked = Worked {
+    task: Task::Upgrade,
+    text: UNDER_WAY,
+    right: Right::Text(UNDER_WAY_IN_TWO),
+    notes: "",
+};
+
+/// A trace of version 2 comes out as it was.
+pub(crate) static UPGRADE_OF_VERSION_TWO: Worked = Worked {
+    task: Task::Upgrade,
+    text: UNDER_WAY_IN_TWO,
+    right: Right::Text(UNDER_WAY_IN_TWO),
     notes: "",
 };
 

@@ -1,8 +1,8 @@
 //! Headings, line by line.
 use crate::headings::Row::{Many, Refuse, See, Take};
-use crate::headings::{Row, Sight, shows};
+use crate::headings::{Row, Sight, empty_heading, shows, takes_all};
 use crate::things::Thing;
-use ec_trace::HeadFault;
+use ec_trace::{HeadFault, Version};
 use std::test::Fail;
 
 static ORDER: [Row; 8] = [
@@ -184,5 +184,41 @@ fn faults_of_lines_tell_their_numbers(rt: HostRuntime) -> Result<(), Fail> {
             return Err(Fail::new(format_args!("another number than that of {fault}")));
         }
     }
+    Ok(())
+}
+
+static LIMITS_OF_VERSIONS: [(Version, u64, bool); 7] = [
+    (Version::One, 0, false),
+    (Version::One, 1, true),
+    (Version::One, 4_294_967_295, true),
+    (Version::One, 4_294_967_296, false),
+    (Version::Two, 0, false),
+    (Version::Two, 281_474_976_710_655, true),
+    (Version::Two, 281_474_976_710_656, false),
+];
+
+/// The limit that a version may have, as a number.
+fn limit_in(version: Version, n: u64) -> Option<u64> {
+    Some(version.limit(n)?.get())
+}
+
+#[test]
+fn each_version_has_its_limits(rt: HostRuntime) {
+    assert!(rt; Version::One.greatest_limit() == 4_294_967_295);
+    assert!(rt; Version::Two.greatest_limit() == 281_474_976_710_655);
+    for (version, n, may) in &LIMITS_OF_VERSIONS {
+        let right = if *may { Some(*n) } else { None };
+        assert!(rt; limit_in(*version, *n) == right, "at {n}");
+    }
+}
+
+#[test]
+fn a_heading_is_upgraded(rt: HostRuntime) -> Result<(), Fail> {
+    let mut heading = empty_heading(rt.alloc(), 10).ok_or("no heading")?;
+    takes_all(&mut heading, &["workers a b", "eventcount E signal a"])?;
+    assert!(rt; heading.version() == Version::One);
+    let upgraded = heading.upgrade();
+    assert!(rt; upgraded.version() == Version::Two);
+    assert!(rt; upgraded.setup().workers() == 2 && upgraded.declarations().len() == 1);
     Ok(())
 }

@@ -1,8 +1,7 @@
 //! Headings as tables: lines with the answers that are right, and what is seen of the heading between them.
 use crate::ids::{cell, event, worker};
 use crate::things::{Thing, is_found, target};
-use ec_count::Limit;
-use ec_trace::{Group, HeadFault, Heading};
+use ec_trace::{Group, HeadFault, Heading, Version};
 use std::alloc::Global;
 use std::test::Fail;
 
@@ -201,10 +200,10 @@ fn is_right(alloc: Global, heading: &mut Heading, row: &Row) -> Result<bool, Fai
     }
 }
 
-/// A heading with this limit that has taken no line.
+/// A heading of version 1 with this limit that has taken no line.
 pub(crate) fn empty_heading(alloc: Global, limit: u64) -> Option<Heading> {
-    let limit = Limit::new(limit)?;
-    Heading::new(alloc, limit).ok()
+    let limit = Version::One.limit(limit)?;
+    Heading::new(alloc, Version::One, limit).ok()
 }
 
 /// The lines are accepted, one after another.

@@ -2,11 +2,14 @@
 use crate::outcome::{Ending, Frame, Row, all_end, all_end_alike, all_end_within};
 use std::test::Fail;
 
-static BEGINNINGS: [Row; 11] = [
+static BEGINNINGS: [Row; 14] = [
     ("", Ending::Refused("unfinished\n")),
     ("evc-trace 2", Ending::Refused("unfinished\n")),
     ("\n", Ending::Refused("line 1: bad line\n")),
-    ("evc-trace 2\n", Ending::Refused("line 1: bad line\n")),
+    ("evc-trace 2\n", Ending::Refused("unfinished\n")),
+    ("evc-trace 3\n", Ending::Refused("line 1: bad line\n")),
+    ("evc-trace 02\n", Ending::Refused("line 1: bad line\n")),
+    ("evc-trace 2 \n", Ending::Refused("line 1: bad line\n")),
     ("evc-trace 1\r\n", Ending::Refused("line 1: bad line\n")),
     ("evc-script 1\n", Ending::Refused("line 1: bad line\n")),
     (

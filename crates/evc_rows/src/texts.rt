@@ -59,6 +59,30 @@ eventcount E 2
 end
 ";
 
+/// The same, with the read still under way.
+pub(crate) const UNDER_WAY: &str = "evc-trace 1
+limit 10
+workers a b c d
+eventcount E signal a b observe c d
+run
+c read E = pending
+a advance E = done
+b advance E = done
+end
+";
+
+/// And in version 2.
+pub(crate) const UNDER_WAY_IN_TWO: &str = "evc-trace 2
+limit 10
+workers a b c d
+eventcount E signal a b observe c d
+run
+c read E = pending
+a advance E = done
+b advance E = done
+end
+";
+
 /// Two reads have the same answer, and the same moment.
 pub(crate) const TWO_READS: &str = "evc-trace 1
 limit 10

@@ -7,7 +7,7 @@ ghost use Rattle.evc_scripts.specs.Tasks.{Does};
 
 use crate::running::run;
 use crate::simulating::sim;
-use evc_engine::{Notes, Status, audit, check};
+use evc_engine::{Notes, Status, audit, check, upgrade};
 use evc_task::Task;
 use std::alloc::Global;
 use std::io::{Read, Write};
@@ -36,6 +36,7 @@ pub fn engine_without_threads<R: Read, W: Write, N: Write>(
     match task {
         Task::Check => Ok(check(alloc, reader, out, notes)),
         Task::Audit => Ok(audit(alloc, reader, out, notes)),
+        Task::Upgrade => Ok(upgrade(alloc, reader, out, notes)),
         Task::Sim => Ok(sim(alloc, reader, out, notes)),
         Task::Run(turns) => Err(turns),
     }

@@ -25,7 +25,7 @@ line program text = program ∷ codes "run" ∷ codes "--turns" ∷ text ∷ []
 
 -- `run` as clap has built it
 abbrev run_ready : Shape
-run_ready = slice_index_or ready.subs 3 ready.top
+run_ready = slice_index_or ready.subs 4 ready.top
 
 abbrev run_rules : List Rule
 run_rules = run_ready.rules

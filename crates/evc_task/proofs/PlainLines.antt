@@ -8,9 +8,12 @@ unfolding clap_on_literals
 plain_lines_are_read = record {
   check = λ program. (refl, (refl, tt));
   audit = λ program. (refl, (refl, tt));
+  upgrade = λ program. (refl, (refl, tt));
   sim = λ program. (refl, (refl, tt));
   run = λ program. (refl, (refl, refl));
   help = λ program. refl;
+  version = λ program. refl;
+  short_version = λ program. refl;
   none = λ program. refl;
   unknown = λ program. refl;
 }

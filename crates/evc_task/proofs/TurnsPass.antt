@@ -268,13 +268,16 @@ is_not name other is = true≢false (sym (ap (λ n. bytes_eq n (codes "run")) is
 
 each_has_rules : Each HasRules ready.subs
 each_has_rules =
-    let of_run : HasRules (slice_index_or ready.subs 3 ready.top) = λ is. (inl refl, (inr refl, tt)) in (
+    let of_run : HasRules (slice_index_or ready.subs 4 ready.top) = λ is. (inl refl, (inr refl, tt)) in (
       λ is. absurd (is_not (codes "check") refl is),
       (
         λ is. absurd (is_not (codes "audit") refl is),
         (
-          λ is. absurd (is_not (codes "sim") refl is),
-          (of_run, (λ is. absurd (is_not (codes "help") refl is), tt)),
+          λ is. absurd (is_not (codes "upgrade") refl is),
+          (
+            λ is. absurd (is_not (codes "sim") refl is),
+            (of_run, (λ is. absurd (is_not (codes "help") refl is), tt)),
+          ),
         ),
       ),
     )

@@ -12,13 +12,13 @@ use Rattle.evc_task.specs.Turns.{HasTurnsOf, IsInRange, Writes, run_app}
 abbrev pub texts_of : List (String Global) → List Text
 texts_of = map (λ word. word.bytes.items)
 
--- `evc` as clap knows it, without its commands: one of them has to be given
+-- `evc` as clap knows it, without its commands: one of them has to be given, and it tells its version
 abbrev pub bare_app : App
-bare_app = let new : App = new_app (codes "evc") in record new { top = record new.top { subcommand_required = true } }
+bare_app = let new : App = new_app (codes "evc") in record new { top = record new.top { subcommand_required = true; has_version = true } }
 
 -- the commands that read traces
 abbrev pub trace_app : App
-trace_app = with_subcommand (with_subcommand bare_app (new_app (codes "check")).top) (new_app (codes "audit")).top
+trace_app = with_subcommand (with_subcommand (with_subcommand bare_app (new_app (codes "check")).top) (new_app (codes "audit")).top) (new_app (codes "upgrade")).top
 
 -- `evc` as clap knows it
 abbrev pub evc_app : App
@@ -37,6 +37,7 @@ IsOneOf (x ∷ xs) name = (name ≡ x) ⊎ IsOneOf xs name
 abbrev pub name_of : Task → Text
 name_of tasks.Check = codes "check"
 name_of tasks.Audit = codes "audit"
+name_of tasks.Upgrade = codes "upgrade"
 name_of tasks.Sim = codes "sim"
 name_of (tasks.Run turns) = codes "run"
 
@@ -57,7 +58,7 @@ AskFor words t = Names words t × HasTurnsOf (turns_text words) t
 abbrev pub faults_in : List Text → Kinds
 faults_in words = fault_of evc_app words
 
--- the exit status for a kind of error: 0 where help was asked for, 4 where memory ran out, and 2
+-- the exit status for a kind of error: 0 where help or the version was asked for, 4 where memory ran out, and 2
 -- where the words are wrong
 abbrev pub status_by : ErrorKind → ℕ
 status_by kinds.DisplayHelp = 0
@@ -66,13 +67,16 @@ status_by kinds.OutOfMemory = 4
 status_by _ = 2
 
 -- the plainest command lines, under any name of the program: each command is right and asks for its task, `run` for
--- 10000 turns; `--help` asks for help; and no word and an unknown word are wrong
+-- 10000 turns; `--help` asks for help, and `--version` and `-V` for the version; and no word and an unknown word are wrong
 pub record ReadsPlainLines : Type 0 where
   pub check : (program : Text) → (faults_in (program ∷ codes "check" ∷ []) ≡ []) × AskFor (program ∷ codes "check" ∷ []) tasks.Check
   pub audit : (program : Text) → (faults_in (program ∷ codes "audit" ∷ []) ≡ []) × AskFor (program ∷ codes "audit" ∷ []) tasks.Audit
+  pub upgrade : (program : Text) → (faults_in (program ∷ codes "upgrade" ∷ []) ≡ []) × AskFor (program ∷ codes "upgrade" ∷ []) tasks.Upgrade
   pub sim : (program : Text) → (faults_in (program ∷ codes "sim" ∷ []) ≡ []) × AskFor (program ∷ codes "sim" ∷ []) tasks.Sim
   pub run : (program : Text) → (faults_in (program ∷ codes "run" ∷ []) ≡ []) × AskFor (program ∷ codes "run" ∷ []) (tasks.Run 10000)
   pub help : (program : Text) → faults_in (program ∷ codes "--help" ∷ []) ≡ kinds.DisplayHelp ∷ []
+  pub version : (program : Text) → faults_in (program ∷ codes "--version" ∷ []) ≡ kinds.DisplayVersion ∷ []
+  pub short_version : (program : Text) → faults_in (program ∷ codes "-V" ∷ []) ≡ kinds.DisplayVersion ∷ []
   pub none : (program : Text) → faults_in (program ∷ []) ≡ kinds.MissingSubcommand ∷ []
   pub unknown : (program : Text) → faults_in (program ∷ codes "frobnicate" ∷ []) ≡ kinds.UnknownArgument ∷ kinds.InvalidSubcommand ∷ []
 

@@ -7,6 +7,8 @@ pub enum Task {
     Check,
     /// `audit`: read a trace, and write what its buffers, databases and semaphores did.
     Audit,
+    /// `upgrade`: read a trace, and write it in version 2.
+    Upgrade,
     /// `sim`: read a script, and write the trace of what its workers do by its schedule.
     Sim,
     /// `run`: read a script, run its workers on threads, each for at most so many turns, and write

@@ -1,4 +1,9 @@
-//! The texts of `evc --help` and `evc -h`, and of the help on each command.
+//! The texts of `evc --help` and `evc -h`, of the help on each command, and of `evc --version`.
+
+// What stands behind `evc ` in the answer to `evc --version`: the number, which bin/package reads
+// here, and the line of the toolchain that everything is proved and built with.
+pub(crate) const VERSION: &str = "0.2
+proved and built with rattle-kit-13b";
 
 pub(crate) const ABOUT: &str =
     "Checks recorded runs of eventcounts and sequencers, and makes runs from scripts";
@@ -8,7 +13,8 @@ pub(crate) const LONG_ABOUT: &str =
 
 A trace is a text that records one run: it declares the workers, eventcounts and
 sequencers, alone or as parts of buffers, databases and semaphores, and then has a
-line for each step that a worker made, with its reply. `check` and `audit` read one.
+line for each step that a worker made, with its reply. `check`, `audit` and
+`upgrade` read one.
 
 A script declares the same, and then has a block of commands for each worker. `sim`
 and `run` read one, and write a trace that `check` and `audit` read.";
@@ -51,6 +57,17 @@ each semaphore its balance, and for `both` its balance and the pairs of tickets 
 were drawn under it. Where a worker's calls on one of them are not those of its role,
 nothing is written but a note on standard error, which says of which group, which
 worker, and at which entry (counted from 0). docs/FORMATS.md has the rules.";
+
+pub(crate) const UPGRADE_ABOUT: &str = "Reads a trace, and writes it in version 2 of the format";
+
+pub(crate) const UPGRADE_LONG_ABOUT: &str =
+    "Reads a trace, and writes it in version 2 of the format.
+
+The trace is read from standard input, as by `check`. The trace of the same
+declarations and the same steps in version 2 goes to standard output; its first line
+is `evc-trace 2`. A trace of version 2 comes out as it was. Where a line is not right,
+nothing is written but a note on standard error, as by `check`. docs/FORMATS.md has
+both versions.";
 
 pub(crate) const SIM_ABOUT: &str =
     "Reads a script, and writes the trace of what its workers do by its schedule";

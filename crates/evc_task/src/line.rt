@@ -4,7 +4,7 @@ ghost use Rattle.clap.specs.Words.{FailsBy, app_of, first_of, found_of, kind_of,
 ghost use Rattle.clap.specs.Words.{rows_of, rule_of, subcommand_of, subcommand_rows_of};
 ghost use Rattle.clap.specs.declared.builder.command.Command.TheViews.{out-Command as fields_of};
 ghost use Rattle.evc_task.specs.CommandLine.{IsOneOf, Names, ReadsPlainLines, ReadsTurns, command_names, evc_app};
-ghost use Rattle.evc_task.specs.CommandLine.{faults_in, name_of, status_by, texts_of, trace_app, turns_text};
+ghost use Rattle.evc_task.specs.CommandLine.{bare_app, faults_in, name_of, status_by, texts_of, trace_app, turns_text};
 ghost use Rattle.evc_task.specs.Turns.{HasTurnsInRange, HasTurnsOf, IsInRange, IsTurnsOf, PassTurns};
 ghost use Rattle.evc_task.specs.Turns.{run_app, turns_rule};
 
@@ -33,6 +33,15 @@ fn audit_command<'a>(alloc: Global) -> Command<'a>
     Command::new(alloc, "audit")
         .about(help::AUDIT_ABOUT)
         .long_about(help::AUDIT_LONG_ABOUT)
+}
+
+fn upgrade_command<'a>(alloc: Global) -> Command<'a>
+    ensures app { app_of result ≡ new_app (codes "upgrade") }
+    ensures local { (fields_of result).has_globals ≡ false }
+{
+    Command::new(alloc, "upgrade")
+        .about(help::UPGRADE_ABOUT)
+        .long_about(help::UPGRADE_LONG_ABOUT)
 }
 
 fn sim_command<'a>(alloc: Global) -> Command<'a>
@@ -67,19 +76,29 @@ fn run_command<'a>(alloc: Global) -> Result<Command<'a>, AllocError>
         .arg(turns)
 }
 
+// The program without its commands.
+fn bare_command<'a>(alloc: Global) -> Command<'a>
+    ensures { app_of result ≡ bare_app }
+{
+    Command::new(alloc, "evc")
+        .about(help::ABOUT)
+        .long_about(help::LONG_ABOUT)
+        .after_help(help::AFTER_HELP)
+        .version(help::VERSION)
+        .subcommand_required(true)
+}
+
 // The program with the commands that read traces.
 fn trace_command<'a>(alloc: Global) -> Result<Command<'a>, AllocError>
     ensures { IfOk result (λ c. app_of c ≡ trace_app) }
 {
     let check = check_command(alloc);
     let audit = audit_command(alloc);
-    Command::new(alloc, "evc")
-        .about(help::ABOUT)
-        .long_about(help::LONG_ABOUT)
-        .after_help(help::AFTER_HELP)
-        .subcommand_required(true)
+    let upgrade = upgrade_command(alloc);
+    bare_command(alloc)
         .subcommand(check)?
-        .subcommand(audit)
+        .subcommand(audit)?
+        .subcommand(upgrade)
 }
 
 // And with those that read scripts.
@@ -118,6 +137,7 @@ fn task_named(name: &str, found: &ArgMatches<'_>) -> Option<Task>
     match name {
         "check" => Some(Task::Check),
         "audit" => Some(Task::Audit),
+        "upgrade" => Some(Task::Upgrade),
         "sim" => Some(Task::Sim),
         "run" => Some(Task::Run(turns_given(found))),
         _ => None,
@@ -127,7 +147,7 @@ fn task_named(name: &str, found: &ArgMatches<'_>) -> Option<Task>
 /// Reads the command line, whose first word is the program's name.
 ///
 /// An `Err` that is no want of memory says what is wrong with the words, or is the text of the help
-/// that they ask for. `Error::print` writes it where it belongs.
+/// or the version that they ask for. `Error::print` writes it where it belongs.
 pub fn task(alloc: Global, words: &[String]) -> Result<Task, Error>
     ensures names { IfOk result (λ t. Names (texts_of words.now) t) }
     ensures turns { IfOk result (λ t. HasTurnsOf (turns_text (texts_of words.now)) t) }

@@ -19,8 +19,12 @@ fn the_plainest_command_lines(rt: HostRuntime) -> Result<(), Fail> {
     let alloc = rt.alloc();
     assert!(rt; answer(alloc, &["evc", "check"])? == (Some(Task::Check), 0));
     assert!(rt; answer(alloc, &["evc", "audit"])? == (Some(Task::Audit), 0));
+    assert!(rt; answer(alloc, &["evc", "upgrade"])? == (Some(Task::Upgrade), 0));
     assert!(rt; answer(alloc, &["evc", "sim"])? == (Some(Task::Sim), 0));
     assert!(rt; answer(alloc, &["evc", "--help"])? == (None, 0));
+    assert!(rt; answer(alloc, &["evc", "--version"])? == (None, 0));
+    assert!(rt; answer(alloc, &["evc", "-V"])? == (None, 0));
+    assert!(rt; answer(alloc, &["evc", "check", "--version"])? == (None, 2));
     assert!(rt; answer(alloc, &["evc"])? == (None, 2));
     assert!(rt; answer(alloc, &["evc", "frobnicate"])? == (None, 2));
     Ok(())

@@ -1,7 +1,6 @@
 //! Lines of headings: that of the workers, and one of each sort.
 use crate::way::{Answer, Call, Want, Way, tell, way_of, way_of_all};
-use ec_count::Limit;
-use ec_heading::{HeadFault, Heading};
+use ec_heading::{HeadFault, Heading, Version};
 use std::alloc::Global;
 use std::test::Fail;
 
@@ -148,7 +147,8 @@ fn take(heading: &mut Heading, lines: &[&str]) -> Option<()> {
 
 /// A heading that has taken these lines, unless there is no memory.
 fn headed(alloc: Global, lines: &[&str]) -> Option<Heading> {
-    let mut heading = Heading::new(alloc, Limit::new(10)?).ok()?;
+    let limit = Version::One.limit(10)?;
+    let mut heading = Heading::new(alloc, Version::One, limit).ok()?;
     take(&mut heading, lines)?;
     Some(heading)
 }
@@ -278,4 +278,28 @@ fn way_of_buffers(alloc: Global) -> Way {
 #[test]
 fn lines_of_sixteen_buffers(rt: HostRuntime) -> Result<(), Fail> {
     tell(&rt, way_of_buffers(rt.alloc()))
+}
+
+/// Whether a heading of all buffers is of version 2 once it is upgraded, and else as it was.
+fn is_upgraded(heading: Heading) -> bool {
+    let heading = heading.upgrade();
+    heading.version() == Version::Two && sizes_of(&heading) == sizes_with(LINES.len())
+}
+
+/// The way of the lines of all buffers, behind which the heading is upgraded.
+fn way_of_upgraded_buffers(alloc: Global) -> Way {
+    let Some(heading) = headed(alloc, WORKERS) else {
+        return Way::Unready;
+    };
+    let mut call = Buffers { heading, many: 0 };
+    match way_of_all(&mut call, LINES.len()) {
+        Way::Wrong(why) => Way::Wrong(why),
+        _ if !is_upgraded(call.heading) => Way::Wrong("it is not upgraded"),
+        way => way,
+    }
+}
+
+#[test]
+fn lines_of_sixteen_buffers_that_are_upgraded(rt: HostRuntime) -> Result<(), Fail> {
+    tell(&rt, way_of_upgraded_buffers(rt.alloc()))
 }

@@ -1,10 +1,10 @@
 //! Calls that make something new: where memory is refused they say so, and there is nothing else.
 use crate::steps_tests::one_worker;
-use crate::texts::{DATABASE, GROUPS};
+use crate::texts::{DATABASE, GROUPS, SCRIPT_OF_TWO, TRACE_OF_TWO};
 use crate::way::{Answer, Call, Want, Way, tell, way_of};
 use ec_core::Run;
-use ec_count::{Limit, Names, Setup, Vocabulary};
-use ec_heading::Heading;
+use ec_count::{Names, Setup, Vocabulary};
+use ec_heading::{Heading, Version};
 use ec_runner::Board;
 use ec_script::{Plan, ScriptFault, parse};
 use ec_trace::{TraceFault, Traced, read_trace};
@@ -18,11 +18,18 @@ enum New {
     Board,
     Names,
     Vocabulary,
-    Heading,
+    /// That of a text of this version.
+    Heading(Version),
     /// What a text of a trace says.
     Trace,
+    /// What one of version 2 says.
+    TraceOfTwo,
+    /// What the first of them says, upgraded.
+    Upgraded,
     /// What a text of a script says.
     Plan,
+    /// What one of version 2 says.
+    PlanOfTwo,
 }
 
 fn open_run(alloc: Global, setup: Setup) -> Answer {
@@ -53,34 +60,64 @@ fn new_vocabulary(alloc: Global) -> Answer {
     }
 }
 
-fn new_heading(alloc: Global, limit: Limit) -> Answer {
-    match Heading::new(alloc, limit) {
-        Ok(heading) => Answer::of(heading.setup().workers() == 0 && heading.words().len() == 0),
+/// Whether a heading of this version has its greatest limit, and nothing is declared.
+fn is_new(heading: &Heading, version: Version) -> bool {
+    heading.version() == version
+        && heading.setup().limit().get() == version.greatest_limit()
+        && heading.setup().workers() == 0
+        && heading.words().len() == 0
+}
+
+fn new_heading(alloc: Global, version: Version) -> Answer {
+    let Some(limit) = version.limit(version.greatest_limit()) else {
+        return Answer::Wrong;
+    };
+    match Heading::new(alloc, version, limit) {
+        Ok(heading) => Answer::of(is_new(&heading, version)),
         Err(_) => Answer::Wants(Want::Memory),
     }
 }
 
-/// Whether the trace of a database was read.
-fn is_read(traced: &Traced) -> bool {
-    traced.run().len() == 16 && traced.heading().groups().len() == 1
+/// Whether a trace has this version, so many entries, and one group.
+fn has(traced: &Traced, version: Version, entries: usize) -> bool {
+    let heading = traced.heading();
+    heading.version() == version && traced.run().len() == entries && heading.groups().len() == 1
 }
 
-fn trace(alloc: Global, text: &str) -> Answer {
+/// Reads a trace of so many entries.
+fn trace(alloc: Global, text: &str, version: Version, entries: usize) -> Answer {
     match read_trace(alloc, &mut text.as_bytes()) {
-        Ok(traced) => Answer::of(is_read(&traced)),
+        Ok(traced) => Answer::of(has(&traced, version, entries)),
         Err(TraceFault::Memory) => Answer::Wants(Want::Memory),
         Err(_) => Answer::Wrong,
     }
 }
 
-/// Whether the script of all groups was parsed.
-fn is_parsed(plan: &Plan) -> bool {
-    plan.programs.len() == 2 && plan.schedule.len() == 46 && plan.heading.groups().len() == 5
+/// Reads the trace of a database, and upgrades it.
+fn upgraded(alloc: Global) -> Answer {
+    match read_trace(alloc, &mut DATABASE.as_bytes()) {
+        Ok(traced) => Answer::of(has(&traced.upgrade(), Version::Two, 16)),
+        Err(TraceFault::Memory) => Answer::Wants(Want::Memory),
+        Err(_) => Answer::Wrong,
+    }
 }
 
-fn plan(alloc: Global, text: &str) -> Answer {
+/// How many programs, places of the schedule, and groups a script has.
+type Sizes = (usize, usize, usize);
+
+/// Whether a plan has this version and these.
+fn is_parsed(plan: &Plan, version: Version, right: Sizes) -> bool {
+    let found = (
+        plan.programs.len(),
+        plan.schedule.len(),
+        plan.heading.groups().len(),
+    );
+    plan.heading.version() == version && found == right
+}
+
+fn plan(alloc: Global, text: &str, version: Version, right: Sizes) -> Answer {
     match parse(alloc, text.as_bytes()) {
-        Ok(plan) => Answer::of(is_parsed(&plan)),
+        Ok(plan) => Answer::of(is_parsed(&plan, version, right)),
         Err(ScriptFault::Memory) => Answer::Wants(Want::Memory),
         Err(_) => Answer::Wrong,
     }
@@ -94,14 +131,6 @@ fn opened(alloc: Global, new: New) -> Answer {
     match new {
         New::Board => open_board(alloc, setup),
         _ => open_run(alloc, setup),
-    }
-}
-
-/// What is made under a limit.
-fn limited(alloc: Global) -> Answer {
-    match Limit::new(10) {
-        Some(limit) => new_heading(alloc, limit),
-        None => Answer::Wrong,
     }
 }
 
@@ -119,9 +148,12 @@ impl Call for Making {
             New::Run | New::Board => opened(alloc, self.new),
             New::Names => new_names(alloc),
             New::Vocabulary => new_vocabulary(alloc),
-            New::Heading => limited(alloc),
-            New::Trace => trace(alloc, DATABASE),
-            New::Plan => plan(alloc, GROUPS),
+            New::Heading(version) => new_heading(alloc, version),
+            New::Trace => trace(alloc, DATABASE, Version::One, 16),
+            New::TraceOfTwo => trace(alloc, TRACE_OF_TWO, Version::Two, 2),
+            New::Upgraded => upgraded(alloc),
+            New::Plan => plan(alloc, GROUPS, Version::One, (2, 46, 5)),
+            New::PlanOfTwo => plan(alloc, SCRIPT_OF_TWO, Version::Two, (2, 3, 1)),
         }
     }
 
@@ -157,7 +189,12 @@ fn no_words_yet(rt: HostRuntime) -> Result<(), Fail> {
 
 #[test]
 fn a_heading(rt: HostRuntime) -> Result<(), Fail> {
-    tell(&rt, way_of_new(rt.alloc(), New::Heading))
+    tell(&rt, way_of_new(rt.alloc(), New::Heading(Version::One)))
+}
+
+#[test]
+fn a_heading_of_version_two(rt: HostRuntime) -> Result<(), Fail> {
+    tell(&rt, way_of_new(rt.alloc(), New::Heading(Version::Two)))
 }
 
 #[test]
@@ -166,6 +203,21 @@ fn a_trace(rt: HostRuntime) -> Result<(), Fail> {
 }
 
 #[test]
+fn a_trace_of_version_two(rt: HostRuntime) -> Result<(), Fail> {
+    tell(&rt, way_of_new(rt.alloc(), New::TraceOfTwo))
+}
+
+#[test]
+fn a_trace_that_is_upgraded(rt: HostRuntime) -> Result<(), Fail> {
+    tell(&rt, way_of_new(rt.alloc(), New::Upgraded))
+}
+
+#[test]
 fn a_plan(rt: HostRuntime) -> Result<(), Fail> {
     tell(&rt, way_of_new(rt.alloc(), New::Plan))
+}
+
+#[test]
+fn a_plan_of_version_two(rt: HostRuntime) -> Result<(), Fail> {
+    tell(&rt, way_of_new(rt.alloc(), New::PlanOfTwo))
 }

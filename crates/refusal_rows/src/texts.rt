@@ -79,6 +79,17 @@ c read D.start = 1
 end
 ";
 
+/// A trace of version 2, with its greatest limit.
+pub(crate) const TRACE_OF_TWO: &str = "evc-trace 2
+limit 281474976710655
+workers a c
+database D 2 write a read c
+run
+c read D.start = 0
+a advance D.start = done
+end
+";
+
 /// Two workers that take two semaphores at once, each in its own order.
 pub(crate) const SEMAPHORES: &str = "evc-trace 1
 limit 10
@@ -146,6 +157,22 @@ end
 schedule b b b
 schedule a a a a a a a a a a a a a a a a a a a a a a a
 schedule b b b b b b b b b b b b b b b b b b b b
+";
+
+/// A script of version 2, with its greatest limit.
+pub(crate) const SCRIPT_OF_TWO: &str = "evc-script 2
+limit 281474976710655
+workers a b
+eventcount E signal a observe b
+semaphore R 1 use a b
+worker a
+advance E
+v R
+end
+worker b
+await E 1
+end
+schedule a b b
 ";
 
 /// Four workers that meet often.

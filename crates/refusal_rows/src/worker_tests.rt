@@ -1,12 +1,15 @@
 //! Workers on threads.
 use crate::texts::{FOUR_WORKERS, TICKET_AND_AWAIT};
 use crate::way::{Answer, Want, Way, refused, tell};
+use ec_count::WorkerId;
 use ec_machine::Outcome;
-use ec_runner::{OpenGate, RunFault, run_workers};
+use ec_runner::{Gate, OpenGate, RunFault, run_workers};
 use ec_script::{Plan, parse};
 use std::alloc::Global;
 use std::sync::Wait;
+use std::sync::atomic::{AtomicU64, Ordering};
 use std::test::Fail;
+use std::thread;
 use std::thread::Threads;
 
 /// How many turns a worker has.
@@ -68,6 +71,15 @@ fn answer_of(outcomes: &[Outcome], row: &Row) -> Answer {
     Answer::Wrong
 }
 
+/// What it says that there is no report.
+fn answer_of_fault(fault: RunFault) -> Answer {
+    match fault {
+        RunFault::Memory => Answer::Wants(Want::Memory),
+        RunFault::Spawn => Answer::Wants(Want::Thread),
+        RunFault::Mismatch(_) => Answer::Wrong,
+    }
+}
+
 /// Runs workers, each in a thread of its own.
 fn run<R: Threads + Wait + Sync>(rt: &R, alloc: Global, plan: &Plan, row: &Row) -> Answer {
     if plan.programs.len() != plan.heading.setup().workers() {
@@ -75,9 +87,7 @@ fn run<R: Threads + Wait + Sync>(rt: &R, alloc: Global, plan: &Plan, row: &Row) 
     }
     match run_workers(rt, alloc, plan, &OpenGate, TURNS) {
         Ok(report) => answer_of(report.outcomes.as_slice(), row),
-        Err(RunFault::Memory) => Answer::Wants(Want::Memory),
-        Err(RunFault::Spawn) => Answer::Wants(Want::Thread),
-        Err(RunFault::Mismatch(_)) => Answer::Wrong,
+        Err(fault) => answer_of_fault(fault),
     }
 }
 
@@ -106,4 +116,134 @@ fn workers_that_meet_often(rt: HostRuntime) -> Result<(), Fail> {
 #[test]
 fn a_worker_that_waits_for_another(rt: HostRuntime) -> Result<(), Fail> {
     tell(&rt, way_of_workers(&rt, rt.alloc(), &WAITING))
+}
+
+/// Two that await an advance of the first, and one that has nothing to do with them.
+const TWO_WAIT: &str = "evc-script 1
+limit 10
+workers a b c d
+eventcount E signal a observe b c
+cells X 1 write d
+worker a
+advance E
+end
+worker b
+await E 1
+end
+worker c
+await E 1
+end
+worker d
+repeat 9
+put X[0] 1
+end
+end
+";
+
+/// How often a gate looks before it goes on: where a worker was refused memory, what it looks for may never come.
+const LOOKS: u64 = 100_000;
+
+/// Holds the fourth before its second step until the second and the third have come to their awaits, and the first before its
+/// advance until the fourth has made all its steps. So what the fourth is refused from then on is refused while two wait.
+#[derive(Drop)]
+struct WhileTwoWait {
+    come: AtomicU64,
+    made: AtomicU64,
+}
+
+/// Looks until a number has come to a value, and no more often than that.
+fn look_for(number: &AtomicU64, value: u64) {
+    for _ in 0..LOOKS {
+        if number.load(Ordering::SeqCst) >= value {
+            return;
+        }
+        thread::yield_now();
+    }
+}
+
+impl Gate for WhileTwoWait {
+    fn before(&self, worker: WorkerId, step: u64) {
+        match (worker.get(), step) {
+            (0, 0) => look_for(&self.made, 9),
+            (1, 0) | (2, 0) => {
+                self.come.fetch_add(1, Ordering::SeqCst);
+            }
+            (3, 1) => look_for(&self.come, 2),
+            (3, _) => self.made.store(step, Ordering::SeqCst),
+            _ => {}
+        }
+    }
+}
+
+/// How the four end where one has no memory: the others finish, but for those that the first would have let go.
+static WITHOUT_ONE: [[Outcome; 4]; 4] = [
+    [
+        Outcome::Memory,
+        Outcome::Stopped,
+        Outcome::Stopped,
+        Outcome::Finished,
+    ],
+    [
+        Outcome::Finished,
+        Outcome::Memory,
+        Outcome::Finished,
+        Outcome::Finished,
+    ],
+    [
+        Outcome::Finished,
+        Outcome::Finished,
+        Outcome::Memory,
+        Outcome::Finished,
+    ],
+    [
+        Outcome::Finished,
+        Outcome::Finished,
+        Outcome::Finished,
+        Outcome::Memory,
+    ],
+];
+
+/// What the outcomes of the four say.
+fn answer_of_four(outcomes: &[Outcome]) -> Answer {
+    if outcomes.len() == 4 && count(outcomes, Outcome::Finished) == 4 {
+        return Answer::Right;
+    }
+    for right in &WITHOUT_ONE {
+        if outcomes == right.as_slice() {
+            return Answer::Wants(Want::OneWorker);
+        }
+    }
+    Answer::Wrong
+}
+
+/// Runs the four.
+fn run_four<R: Threads + Wait + Sync>(rt: &R, alloc: Global, plan: &Plan) -> Answer {
+    if plan.programs.len() != plan.heading.setup().workers() {
+        return Answer::Wrong;
+    }
+    let gate = WhileTwoWait {
+        come: AtomicU64::new(0),
+        made: AtomicU64::new(0),
+    };
+    match run_workers(rt, alloc, plan, &gate, TURNS) {
+        Ok(report) => answer_of_four(report.outcomes.as_slice()),
+        Err(fault) => answer_of_fault(fault),
+    }
+}
+
+/// The way of the four.
+fn way_of_four<R: Threads + Wait + Sync>(rt: &R, alloc: Global) -> Way {
+    let Ok(plan) = parse(alloc, TWO_WAIT.as_bytes()) else {
+        return Way::Unready;
+    };
+    match run_four(rt, alloc, &plan) {
+        Answer::Right => Way::Served,
+        Answer::Wants(want) => refused(want, true, run_four(rt, alloc, &plan)),
+        Answer::Wrong => Way::Wrong("another answer"),
+    }
+}
+
+#[test]
+fn a_worker_beside_two_that_wait(rt: HostRuntime) -> Result<(), Fail> {
+    tell(&rt, way_of_four(&rt, rt.alloc()))
 }

@@ -4,12 +4,15 @@ use ec_script::SCRIPT_MAX;
 use std::alloc::Global;
 use std::test::Fail;
 
-static FIRST_LINES: [(&[Part], Fault); 6] = [
+static FIRST_LINES: [(&[Part], Fault); 9] = [
     (&[], (1, 12)),
     (&[("evc-sc", 1)], (1, 1)),
     (&[("evc-script 1", 1)], (1, 12)),
     (&[("evc-script 1\n", 1)], (2, 12)),
-    (&[("evc-script 2\n", 1)], (1, 1)),
+    (&[("evc-script 2\n", 1)], (2, 12)),
+    (&[("evc-script 3\n", 1)], (1, 1)),
+    (&[("evc-script 02\n", 1)], (1, 1)),
+    (&[("evc-script 2 \n", 1)], (1, 1)),
     (&[("\n", 1)], (1, 1)),
 ];
 
@@ -61,9 +64,10 @@ fn a_rest_is_judged_like_every_line(rt: HostRuntime) -> Result<(), Fail> {
     have_faults_in(rt.alloc(), &[&["evc-script 1", "limit 10"]], &RESTS)
 }
 
-static LONG: [(&[Part], Fault); 3] = [
+static LONG: [(&[Part], Fault); 4] = [
     (&[("evc-script 1\n", 1), ("x", SCRIPT_MAX - 13)], (2, 2)),
     (&[("evc-script 1\n", 1), ("x", SCRIPT_MAX - 12)], (1, 7)),
+    (&[("evc-script 2\n", 1), ("x", SCRIPT_MAX - 12)], (1, 7)),
     (&[("x", SCRIPT_MAX + 1)], (1, 1)),
 ];
 

@@ -55,11 +55,27 @@ impl Gate for Between {
     }
 }
 
-/// Holds each worker before its first step until all have come.
+/// Holds each of so many workers before its first step until all have come.
 #[derive(Drop)]
-struct AllAtOnce {
+pub(crate) struct AllAtOnce {
+    workers: u64,
     come: AtomicU64,
     has_failed: AtomicBool,
+}
+
+impl AllAtOnce {
+    pub(crate) fn new(workers: u64) -> Self {
+        AllAtOnce {
+            workers,
+            come: AtomicU64::new(0),
+            has_failed: AtomicBool::new(false),
+        }
+    }
+
+    /// Whether all had come whenever one was let go.
+    pub(crate) fn has_held(&self) -> bool {
+        !self.has_failed.load(Ordering::SeqCst)
+    }
 }
 
 impl Gate for AllAtOnce {
@@ -69,7 +85,7 @@ impl Gate for AllAtOnce {
         }
         self.come.fetch_add(1, Ordering::SeqCst);
         for _ in 0..LOOKS {
-            if self.come.load(Ordering::SeqCst) >= 16 {
+            if self.come.load(Ordering::SeqCst) >= self.workers {
                 return;
             }
             thread::yield_now();
@@ -132,11 +148,8 @@ static SIXTEEN: Case = Case {
 
 #[test]
 fn sixteen_workers_at_once(rt: HostRuntime) -> Result<(), Fail> {
-    let gate = AllAtOnce {
-        come: AtomicU64::new(0),
-        has_failed: AtomicBool::new(false),
-    };
+    let gate = AllAtOnce::new(16);
     shows(&rt, rt.alloc(), &SIXTEEN, &gate)?;
-    assert!(rt; !gate.has_failed.load(Ordering::SeqCst));
+    assert!(rt; gate.has_held());
     Ok(())
 }

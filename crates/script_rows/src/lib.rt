@@ -4,6 +4,8 @@
 #![tactic(auto)]
 
 #[cfg(test)]
+mod counts_tests;
+#[cfg(test)]
 mod drive;
 #[cfg(test)]
 mod ending_tests;

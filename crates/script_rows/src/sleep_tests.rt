@@ -76,22 +76,32 @@ fn the_last_leave_wakes_who_sleeps(rt: HostRuntime) -> Result<(), Fail> {
     Ok(())
 }
 
-/// Holds the first worker before its advance until the second has come to its leaving.
+/// Holds the second worker before its ticket until the first has come to its advance, and the first before that until the
+/// second has come to its leaving. So a gate that were called after a hold would let the advance come before the await.
 #[derive(Drop)]
 struct LateAdvance {
+    first_has_come: AtomicBool,
     second_leaves: AtomicBool,
     has_failed: AtomicBool,
+}
+
+impl LateAdvance {
+    fn hold_until(&self, flag: &AtomicBool) {
+        if !waited_for(flag) {
+            self.has_failed.store(true, Ordering::SeqCst);
+        }
+    }
 }
 
 impl Gate for LateAdvance {
     fn before(&self, worker: WorkerId, step: u64) {
         match (worker.get(), step) {
-            (1, 1) => self.second_leaves.store(true, Ordering::SeqCst),
             (0, 0) => {
-                if !waited_for(&self.second_leaves) {
-                    self.has_failed.store(true, Ordering::SeqCst);
-                }
+                self.first_has_come.store(true, Ordering::SeqCst);
+                self.hold_until(&self.second_leaves);
             }
+            (1, 0) => self.hold_until(&self.first_has_come),
+            (1, 2) => self.second_leaves.store(true, Ordering::SeqCst),
             _ => {}
         }
     }
@@ -103,21 +113,23 @@ static LAST_TURN: Case = Case {
         "limit 10",
         "workers a b",
         "eventcount E signal a observe b",
+        "sequencer T take b",
     ],
     blocks: &[
         (&["a"], &["advance E", "end"]),
-        (&["b"], &["await E 1", "end"]),
+        (&["b"], &["ticket T", "await E 1", "end"]),
     ],
-    turns: 1,
+    turns: 2,
     sights: &[
         Sight::Each(&[Outcome::Finished, Outcome::OutOfTurns]),
-        Sight::Length(2),
+        Sight::Length(3),
     ],
 };
 
 #[test]
 fn after_its_last_turn_a_worker_does_not_sleep(rt: HostRuntime) -> Result<(), Fail> {
     let gate = LateAdvance {
+        first_has_come: AtomicBool::new(false),
         second_leaves: AtomicBool::new(false),
         has_failed: AtomicBool::new(false),
     };
@@ -165,12 +177,13 @@ fn a_gate_sees_each_step_by_its_number(rt: HostRuntime) -> Result<(), Fail> {
     Ok(())
 }
 
-/// Holds the signaller before its second and its third advance until the waiter of the one before has
-/// come to its leaving, while the other two still sleep.
+/// Holds the signaller before its second and its third advance, and at its leaving, until the waiter of
+/// the advance before has been let go, while those of later ones still wait. A waiter has been let go when
+/// it is called before its second step, or at its leaving, where its await found the advance made.
 #[derive(Drop)]
 struct OneByOne {
     begun: AtomicU64,
-    left: AtomicU64,
+    let_go: AtomicU64,
     has_failed: AtomicBool,
 }
 
@@ -191,14 +204,14 @@ impl Gate for OneByOne {
     fn before(&self, worker: WorkerId, step: u64) {
         if worker.get() == 0 {
             self.hold_until(&self.begun, 3);
-            self.hold_until(&self.left, step);
-            if self.left.load(Ordering::SeqCst) > step {
+            self.hold_until(&self.let_go, step);
+            if self.let_go.load(Ordering::SeqCst) > step {
                 self.has_failed.store(true, Ordering::SeqCst);
             }
         } else if step == 0 {
             self.begun.fetch_add(1, Ordering::SeqCst);
-        } else if step == 2 {
-            self.left.fetch_add(1, Ordering::SeqCst);
+        } else if step == 1 {
+            self.let_go.fetch_add(1, Ordering::SeqCst);
         }
     }
 }
@@ -224,7 +237,7 @@ static THREE_WAIT: Case = Case {
 fn each_advance_wakes_the_one_that_it_lets_go(rt: HostRuntime) -> Result<(), Fail> {
     let gate = OneByOne {
         begun: AtomicU64::new(0),
-        left: AtomicU64::new(0),
+        let_go: AtomicU64::new(0),
         has_failed: AtomicBool::new(false),
     };
     shows(&rt, rt.alloc(), &THREE_WAIT, &gate)?;

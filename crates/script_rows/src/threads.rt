@@ -4,9 +4,13 @@ use ec_machine::Outcome;
 use ec_runner::{Gate, OpenGate, Report, RunFault, run_workers};
 use ec_script::{Plan, parse};
 use std::alloc::Global;
+use std::process::Abort;
 use std::sync::Wait;
+use std::sync::atomic::{AtomicBool, Ordering};
 use std::test::Fail;
+use std::thread;
 use std::thread::Threads;
+use std::time::{Clock, Duration};
 
 /// Names of workers, and the lines of the block of each of them.
 pub(crate) type Block = (&'static [&'static str], &'static [&'static str]);
@@ -40,7 +44,7 @@ pub(crate) enum Sight {
 }
 
 /// Adds lines to a text, each with its LF.
-fn add_lines(text: &mut Vec<u8>, lines: &[&str]) -> Result<(), Fail> {
+pub(crate) fn add_lines(text: &mut Vec<u8>, lines: &[&str]) -> Result<(), Fail> {
     for line in lines {
         text.extend_from_slice(line.as_bytes())?;
         text.push(b'\n')?;
@@ -49,7 +53,7 @@ fn add_lines(text: &mut Vec<u8>, lines: &[&str]) -> Result<(), Fail> {
 }
 
 /// Adds the block of each of these workers.
-fn add_blocks(text: &mut Vec<u8>, block: &Block) -> Result<(), Fail> {
+pub(crate) fn add_blocks(text: &mut Vec<u8>, block: &Block) -> Result<(), Fail> {
     let (names, commands) = *block;
     for name in names {
         text.extend_from_slice(b"worker ".as_slice())?;
@@ -70,7 +74,7 @@ fn text_of(alloc: Global, case: &Case) -> Result<Vec<u8>, Fail> {
 }
 
 /// The plan of a text.
-fn plan_of(alloc: Global, text: &[u8]) -> Result<Plan, Fail> {
+pub(crate) fn plan_of(alloc: Global, text: &[u8]) -> Result<Plan, Fail> {
     match parse(alloc, text) {
         Ok(plan) => Ok(plan),
         Err(_) => Err(Fail::new("no plan")),
@@ -87,7 +91,7 @@ fn why(fault: &RunFault) -> &'static str {
 }
 
 /// What the run of a plan reports.
-fn run_plan<R: Threads + Wait + Sync, G: Gate + Sync>(
+fn report_of<R: Threads + Wait + Sync, G: Gate + Sync>(
     rt: &R,
     alloc: Global,
     plan: &Plan,
@@ -103,8 +107,43 @@ fn run_plan<R: Threads + Wait + Sync, G: Gate + Sync>(
     }
 }
 
+/// How long a run may take, in looks of a hundredth of a second.
+const LOOKS: u64 = 3000;
+
+/// Looks whether a run has ended, and ends the test where it takes too long: a worker that sleeps for ever would hold it up
+/// for ever.
+fn watch<R: Clock + Abort>(rt: &R, has_ended: &AtomicBool) {
+    for _ in 0..LOOKS {
+        if has_ended.load(Ordering::SeqCst) {
+            return;
+        }
+        thread::sleep(rt, Duration::from_millis(10));
+    }
+    panic!(rt; "the run did not end");
+}
+
+/// What the run of a plan reports, while another thread looks that it ends.
+pub(crate) fn run_plan<R: Threads + Wait + Clock + Abort + Sync, G: Gate + Sync>(
+    rt: &R,
+    alloc: Global,
+    plan: &Plan,
+    gate: &G,
+    turns: u64,
+) -> Result<Report, Fail> {
+    let has_ended = AtomicBool::new(false);
+    let flag = &has_ended;
+    thread::scope(thread::scope_env(), rt, |scope| {
+        if scope.spawn(move || watch(rt, flag)).is_err() {
+            return Err(Fail::new("no thread that looks"));
+        }
+        let report = report_of(rt, alloc, plan, gate, turns);
+        flag.store(true, Ordering::SeqCst);
+        report
+    })
+}
+
 /// What the run of a script reports.
-pub(crate) fn run_case<R: Threads + Wait + Sync, G: Gate + Sync>(
+pub(crate) fn run_case<R: Threads + Wait + Clock + Abort + Sync, G: Gate + Sync>(
     rt: &R,
     alloc: Global,
     case: &Case,
@@ -194,7 +233,7 @@ pub(crate) fn sees(report: &Report, sights: &[Sight]) -> Result<(), Fail> {
 }
 
 /// What is to be seen of the report of a script is seen.
-pub(crate) fn shows<R: Threads + Wait + Sync, G: Gate + Sync>(
+pub(crate) fn shows<R: Threads + Wait + Clock + Abort + Sync, G: Gate + Sync>(
     rt: &R,
     alloc: Global,
     case: &Case,
@@ -205,7 +244,7 @@ pub(crate) fn shows<R: Threads + Wait + Sync, G: Gate + Sync>(
 }
 
 /// The same of so many runs that nothing holds up.
-pub(crate) fn shows_often<R: Threads + Wait + Sync>(
+pub(crate) fn shows_often<R: Threads + Wait + Clock + Abort + Sync>(
     rt: &R,
     alloc: Global,
     case: &Case,

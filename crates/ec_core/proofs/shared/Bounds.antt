@@ -91,16 +91,16 @@ unfolding cell_value
 cell_within t x [] acc = omega arith
 cell_within t x (y ∷ past) acc = put_within x (cell_value x past) y.act (allowed t past y.worker y.act y.reply acc.0).0.small (cell_within t x past acc.1)
 
--- the sum of some components is at most 2 ^ 32 for each of them
-pub sum_within : (t : Tables) (e i : ℕ) (moments : List (List Entry)) (late : List Entry) → t.limit < 2 ^ 32 → IsAccepted t late → EachIsPastOf moments late
-    → sum_read t e i moments ≤ i * 2 ^ 32
+-- the sum of some components is at most 2 ^ 48 for each of them
+pub sum_within : (t : Tables) (e i : ℕ) (moments : List (List Entry)) (late : List Entry) → t.limit < 2 ^ 48 → IsAccepted t late → EachIsPastOf moments late
+    → sum_read t e i moments ≤ i * 2 ^ 48
 unfolding sum_read
 sum_within t e zero moments late low acc h = omega arith
 sum_within t e (suc i) [] late low acc h = omega arith
 sum_within t e (suc i) (p ∷ moments) late low acc h =
     let here : component_total t e i p ≤ component_total t e i late = comp_later t e i p late h.0 in
     let within : component_total t e i late ≤ t.limit = component_within t e i late acc in
-    let rest : sum_read t e i moments ≤ i * 2 ^ 32 = sum_within t e i moments late low acc h.1 in
+    let rest : sum_read t e i moments ≤ i * 2 ^ 48 = sum_within t e i moments late low acc h.1 in
     omega arith
 
 number_if : (b : Bool) (n : ℕ) → n ≤ VALUE_MAX → TellsAtMost VALUE_MAX (cond b (Number n) Pending)
@@ -120,11 +120,11 @@ small_if : (b : Bool) (reply : Reply) → TellsAtMost VALUE_MAX reply → TellsA
 small_if true reply h = h
 small_if false reply h = tt
 
--- sixteen components of less than 2 ^ 32 each
-small_sum : (s n : ℕ) → s ≤ n * 2 ^ 32 → n ≤ 16 → s ≤ VALUE_MAX
+-- sixteen components of less than 2 ^ 48 each
+small_sum : (s n : ℕ) → s ≤ n * 2 ^ 48 → n ≤ 16 → s ≤ VALUE_MAX
 small_sum s n h few = omega arith
 
-read_small : (t : Tables) (op : Act) (past : List Entry) (moments : List (List Entry)) → IsDeclared t → t.limit < 2 ^ 32 → IsAccepted t past
+read_small : (t : Tables) (op : Act) (past : List Entry) (moments : List (List Entry)) → IsDeclared t → t.limit < 2 ^ 48 → IsAccepted t past
     → event_or op < length t.events → EachIsPastOf moments past → TellsAtMost VALUE_MAX (read_reply t op past moments)
 unfolding read_reply
 read_small t op past moments d low acc known h =
@@ -134,19 +134,19 @@ read_small t op past moments d low acc known h =
     let few : width t e ≤ 16 = width_few t e d in
     let below : c < width t e = mod_below (length moments) (width t e) some in
     let itself : IsPastOf past past = record { since = []; is = refl } in
-    let sum : sum_read t e (suc c) (past ∷ moments) ≤ suc c * 2 ^ 32 = sum_within t e (suc c) (past ∷ moments) past low acc (itself, h) in
+    let sum : sum_read t e (suc c) (past ∷ moments) ≤ suc c * 2 ^ 48 = sum_within t e (suc c) (past ∷ moments) past low acc (itself, h) in
     small_if (nat_le (width t e) (c + 1)) (round_reply op (sum_read t e (suc c) (past ∷ moments)))
     (round_small op (sum_read t e (suc c) (past ∷ moments)) (small_sum (sum_read t e (suc c) (past ∷ moments)) (suc c) sum (omega arith)))
 
-go_small : (t : Tables) (past : List Entry) (o : Option CallSoFar) → IsDeclared t → t.limit < 2 ^ 32 → IsAccepted t past → IsReadingCall t o → IsCallBefore o past
+go_small : (t : Tables) (past : List Entry) (o : Option CallSoFar) → IsDeclared t → t.limit < 2 ^ 48 → IsAccepted t past → IsReadingCall t o → IsCallBefore o past
     → TellsAtMost VALUE_MAX (go_reply t past o)
 go_small t past None d low acc reading before = tt
 go_small t past (Some call) d low acc reading before = read_small t call.op past call.moments d low acc (reading_event t call.op reading) before
 
-small_number : (n limit : ℕ) → n ≤ limit → limit < 2 ^ 32 → n ≤ VALUE_MAX
+small_number : (n limit : ℕ) → n ≤ limit → limit < 2 ^ 48 → n ≤ VALUE_MAX
 small_number n limit le low = omega arith
 
-reply_small : (t : Tables) (past : List Entry) (w : ℕ) (act : Act) → IsDeclared t → t.limit < 2 ^ 32 → IsAccepted t past
+reply_small : (t : Tables) (past : List Entry) (w : ℕ) (act : Act) → IsDeclared t → t.limit < 2 ^ 48 → IsAccepted t past
     → names_unknown_object t act ≡ false → TellsAtMost VALUE_MAX (reply_of t past w act)
 reply_small t past w (Advance e) d low acc known = tt
 reply_small t past w (Read e) d low acc known = read_small t (Read e) past [] d low acc (leb-false (length t.events) e known) tt

@@ -10,7 +10,7 @@ use Rattle.ec_core.specs.declared.act.Entry.{Entry}
 use Rattle.ec_core.specs.declared.protocol.Kept.{Kept}
 use Rattle.ec_core.specs.Calls.{CallSoFar, under_way, gone_on, is_pending}
 use Rattle.ec_core.specs.Following.{Told, Rule, opened, block_after, block}
-use Rattle.ec_core.specs.Scanning.{Scanned, IsScanned, opened_by, open_after}
+use Rattle.ec_core.specs.Scanning.{Scanned, IsScanned, AreKept, AreBegun, opened_by, open_after}
 use Rattle.std.proofs.lemmas.Option.{slice_get_within}
 use Rattle.ec_core.proofs.shared.Places.{get_set}
 use Rattle.ec_core.proofs.shared.Following.{other_block, own_block}
@@ -78,6 +78,26 @@ set_is {X} xs i j y was now at here z same other =
       | false ↦ λ h. here ∙ ap Some (other h)
     ] refl
 
+-- what is kept of the lists, with that of its worker brought up to an entry
+pub lists_after : (rules : ℕ → Rule) (keeps : List Told → Kept) (kept : List Kept) (x : Entry) (past : List Entry) (k : Kept)
+    → AreKept rules keeps kept past → x.worker < 16
+    → k ≡ keeps (block_after (rules x.worker) (block (rules x.worker) x.worker past) (opened x.act (under_way x.worker past)) x.reply)
+    → AreKept rules keeps (slice_set kept x.worker k) (x ∷ past)
+lists_after rules keeps kept x past k s lt ek =
+    λ w small. set_is kept x.worker w _ (keeps (block (rules w) w past)) (keeps (block (rules w) w (x ∷ past))) (s x.worker lt) (s w small) k
+    (λ h. (let P : ℕ → Type 0 = λ v. k ≡ keeps (block (rules v) v (x ∷ past)) in subst P (eqb-true x.worker w h) (ek ∙ ap keeps (sym (own_block (rules x.worker) x past)))))
+    (λ h. ap keeps (sym (other_block (rules w) w x past h)))
+
+-- the acts that began the calls under way, with that of its worker brought up to an entry
+pub begun_after : (begun : List (Option Act)) (x : Entry) (past : List Entry) (o : Option Act)
+    → AreBegun begun past → x.worker < 16 → o ≡ open_after x.act x.reply (option_map op_of (under_way x.worker past))
+    → AreBegun (slice_set begun x.worker o) (x ∷ past)
+begun_after begun x past o s lt eo =
+    λ w small. set_is begun x.worker w _ (option_map op_of (under_way w past)) (option_map op_of (under_way w (x ∷ past))) (s x.worker lt) (s w small) o
+    (λ h. (let P : ℕ → Type 0 = λ v. o ≡ option_map op_of (under_way v (x ∷ past)) in
+    subst P (eqb-true x.worker w h) (eo ∙ after_same x.act x.reply past (under_way x.worker past) ∙ ap (option_map op_of) (sym (call_own x past)))))
+    (λ h. ap (option_map op_of) (sym (call_other w x past h)))
+
 -- with what is kept of its worker brought up to an entry, a scan is that of the past with the entry
 scanned_after : (rules : ℕ → Rule) (keeps : List Told → Kept) (kept : List Kept) (begun : List (Option Act)) (x : Entry) (past : List Entry) (k : Kept) (o : Option Act)
     → IsScanned rules keeps (scanned kept begun) past → x.worker < 16
@@ -85,13 +105,8 @@ scanned_after : (rules : ℕ → Rule) (keeps : List Told → Kept) (kept : List
     → o ≡ open_after x.act x.reply (option_map op_of (under_way x.worker past))
     → IsScanned rules keeps (scanned (slice_set kept x.worker k) (slice_set begun x.worker o)) (x ∷ past)
 scanned_after rules keeps kept begun x past k o s lt ek eo = record {
-  lists = λ w small. set_is kept x.worker w _ (keeps (block (rules w) w past)) (keeps (block (rules w) w (x ∷ past))) (s.lists x.worker lt) (s.lists w small) k
-      (λ h. (let P : ℕ → Type 0 = λ v. k ≡ keeps (block (rules v) v (x ∷ past)) in subst P (eqb-true x.worker w h) (ek ∙ ap keeps (sym (own_block (rules x.worker) x past)))))
-      (λ h. ap keeps (sym (other_block (rules w) w x past h)));
-  calls = λ w small. set_is begun x.worker w _ (option_map op_of (under_way w past)) (option_map op_of (under_way w (x ∷ past))) (s.calls x.worker lt) (s.calls w small) o
-      (λ h. (let P : ℕ → Type 0 = λ v. o ≡ option_map op_of (under_way v (x ∷ past)) in
-      subst P (eqb-true x.worker w h) (eo ∙ after_same x.act x.reply past (under_way x.worker past) ∙ ap (option_map op_of) (sym (call_own x past)))))
-      (λ h. ap (option_map op_of) (sym (call_other w x past h)));
+  lists = lists_after rules keeps kept x past k s.lists lt ek;
+  calls = begun_after begun x past o s.calls lt eo;
 }
 
 -- the same in the words of the code

@@ -12,6 +12,7 @@ use Rattle.ec_semaphore.specs.declared.shape.TheConstants.{INITIAL_MAX}
 use Rattle.ec_text.specs.Words.{number_of}
 use Rattle.ec_heading.specs.Sorts.{has_number, other, keeps_apart, needs_other, is_called, is_in_range}
 use Rattle.ec_heading.specs.Objects.{Next, objects_of, spelled_objects}
+use Rattle.ec_heading.specs.declared.version.Version.{Version}
 use Rattle.ec_heading.specs.Headed.{Headed}
 use Rattle.ec_heading.specs.Outline.{Declaration, IsDeclarable, opened, numbered, next_of, declared_by, declared_all, objects_fault, with_objects, fits_form}
 use Rattle.ec_heading.specs.Form.{Phrase}
@@ -48,8 +49,8 @@ pub record Heads (ws : List (List ℕ)) (h : Headed) : Type 0 where
   pub none : HasNoWorker others
 
 -- the workers of a heading without declarations are those that it was opened with
-pub heads_opened : (limit : ℕ) (ws : List (List ℕ)) → Heads ws (opened limit ws)
-heads_opened limit ws = record { count = refl; others = []; words = sym (append-nil (numbered 0 ws)); none = tt }
+pub heads_opened : (version : Version) (limit : ℕ) (ws : List (List ℕ)) → Heads ws (opened version limit ws)
+heads_opened version limit ws = record { count = refl; others = []; words = sym (append-nil (numbered 0 ws)); none = tt }
 
 keeps_workers : (s : Sort) (t : Tables) (n : ℕ) (first second : List ℕ) → (with_objects s t n first second).workers ≡ t.workers
 keeps_workers sorts.EventCount t n first second = refl

@@ -1,5 +1,7 @@
 -- The lines of a heading are those of its outline.
-use Rattle.std.proofs.Common.{◌≡◌, ℕ, ◌≤◌, ◌<◌, ◌^◌, List, [], ◌∷◌, ◌++◌, Ok, map, refl, sym, ap, ap₂, subst, ◌∙◌}
+use Rattle.std.proofs.Common.{◌≡◌, ℕ, ◌≤◌, List, [], ◌∷◌, ◌++◌, Ok, map, refl, sym, ap, ap₂, subst, ◌∙◌}
+use Rattle.ec_heading.specs.declared.version.Version.{Version}
+use Rattle.ec_heading.specs.Versions.{greatest_limit}
 use Rattle.ec_heading.specs.Headed.{Headed}
 use Rattle.ec_heading.specs.Outline.{Declaration, Outline, AreWorkers, AreDeclarable, opened, declared_by, declared_all}
 use Rattle.ec_heading.specs.Outlined.{HasOutline}
@@ -18,7 +20,7 @@ declarations_lead ws h (d ∷ ds) are heads may =
 -- the lines of an outline, each in its turn, lead from its limit alone to what it declares
 pub outline_leads : OutlineLinesLead
 outline_leads o is =
-    (opened o.limit o.workers, workers_read o.limit o.workers is.workers, declarations_lead o.workers (opened o.limit o.workers) o.declarations is.workers (heads_opened o.limit o.workers) is.declarations)
+    (opened o.version o.limit o.workers, workers_read o.version o.limit o.workers is.workers, declarations_lead o.workers (opened o.version o.limit o.workers) o.declarations is.workers (heads_opened o.version o.limit o.workers) is.declarations)
 
 -- these declarations have these lines
 record Declared (ws : List (List ℕ)) (h : Headed) (lines : List (List ℕ)) (end : Headed) : Type 0 where
@@ -44,13 +46,14 @@ lead_declarations ws h (line ∷ lines) end are heads (next, taken, leads) =
 
 -- lines that lead on from a limit alone are those of an outline, and lead to what it declares
 pub leads_outline : LinesHaveAnOutline
-leads_outline limit line lines end low high (next, taken, leads) =
-    let w : NamesWorkers limit line next = workers_spelled limit line next taken in
-    let rest : Declared w.workers (opened limit w.workers) lines end =
-    lead_declarations w.workers (opened limit w.workers) lines end w.are (heads_opened limit w.workers) (subst (λ (g : Headed). LinesLead g lines end) w.opens leads) in
+leads_outline version limit line lines end low high (next, taken, leads) =
+    let w : NamesWorkers version limit line next = workers_spelled version limit line next taken in
+    let rest : Declared w.workers (opened version limit w.workers) lines end =
+    lead_declarations w.workers (opened version limit w.workers) lines end w.are (heads_opened version limit w.workers) (subst (λ (g : Headed). LinesLead g lines end) w.opens leads) in
     record {
-      outline = record { limit = limit; workers = w.workers; declarations = rest.declarations };
+      outline = record { version = version; limit = limit; workers = w.workers; declarations = rest.declarations };
       is = record { low = low; high = high; workers = w.are; declarations = rest.may };
+      version_is = refl;
       limit_is = refl;
       lines_are = ap₂ (λ (l : List ℕ) (ls : List (List ℕ)). l ∷ ls) w.spelled rest.lines_are;
       end_is = rest.end_is;
@@ -63,18 +66,18 @@ lead_on : (h : Headed) (lines : List (List ℕ)) (t : Headed) (line : List ℕ) 
 lead_on h [] t line u leads is = (u, subst (λ (g : Headed). head_step g line ≡ Ok u) (sym leads) is, refl)
 lead_on h (l ∷ lines) t line u leads is = (leads.0, leads.1, lead_on leads.0 lines t line u leads.2 is)
 
-outlined : (limit : ℕ) (line : List ℕ) (lines : List (List ℕ)) (h : Headed) → 1 ≤ limit → limit < 2 ^ 32 → LinesLead (opened limit []) (line ∷ lines) h → HasOutline h
-outlined limit line lines h low high leads =
-    let o : Outlines limit (line ∷ lines) h = leads_outline limit line lines h low high leads in
+outlined : (version : Version) (limit : ℕ) (line : List ℕ) (lines : List (List ℕ)) (h : Headed) → 1 ≤ limit → limit ≤ greatest_limit version → LinesLead (opened version limit []) (line ∷ lines) h → HasOutline h
+outlined version limit line lines h low high leads =
+    let o : Outlines version limit (line ∷ lines) h = leads_outline version limit line lines h low high leads in
     record { outline = o.outline; is = o.is; declares = sym o.end_is }
 
 -- a heading after the first line behind a limit in range is what an outline declares
-pub named_outlined : (limit : ℕ) (line : List ℕ) (h : Headed) → 1 ≤ limit → limit < 2 ^ 32 → head_step (opened limit []) line ≡ Ok h → HasOutline h
-named_outlined limit line h low high is = outlined limit line [] h low high (h, is, refl)
+pub named_outlined : (version : Version) (limit : ℕ) (line : List ℕ) (h : Headed) → 1 ≤ limit → limit ≤ greatest_limit version → head_step (opened version limit []) line ≡ Ok h → HasOutline h
+named_outlined version limit line h low high is = outlined version limit line [] h low high (h, is, refl)
 
 -- where a heading is what an outline declares, so it is after one more line
 pub declared_outlined : (h : Headed) (line : List ℕ) (t : Headed) → HasOutline h → head_step h line ≡ Ok t → HasOutline t
 declared_outlined h line t has is =
     let o : Outline = has.outline in
-    let leads = lead_on (opened o.limit []) (outline_lines o) h line t (subst (λ (g : Headed). LinesLead (opened o.limit []) (outline_lines o) g) has.declares (outline_leads o has.is)) is in
-    outlined o.limit (workers_line o.workers) _ t has.is.low has.is.high leads
+    let leads = lead_on (opened o.version o.limit []) (outline_lines o) h line t (subst (λ (g : Headed). LinesLead (opened o.version o.limit []) (outline_lines o) g) has.declares (outline_leads o has.is)) is in
+    outlined o.version o.limit (workers_line o.workers) _ t has.is.low has.is.high leads

@@ -17,6 +17,7 @@ use Rattle.ec_database.specs.Shapes.{next_database}
 use Rattle.ec_semaphore.specs.Shapes.{next_semaphore}
 use Rattle.ec_heading.specs.declared.group.Group as shape
 use Rattle.ec_heading.specs.declared.group.Group.TheVariants as shapes
+use Rattle.ec_heading.specs.declared.version.Version.{Version}
 use Rattle.ec_heading.specs.Headed.{Headed}
 use Rattle.ec_heading.specs.Outline.{Declaration, Outline, IsOutline, IsDeclarable, AreDeclarable, with_objects, next_of, declared_by, declared_all, opened, headed, fits_form}
 use Rattle.ec_heading.specs.Spelling.{word_of, list_words}
@@ -122,20 +123,24 @@ all_found h (d ∷ ds) l old may e =
 
 -- the declarations of an outline are read off the heading that it declares
 pub declarations_found : (o : Outline) → IsOutline o → declarations_of (headed o) ≡ o.declarations
-declarations_found o is = all_found (opened o.limit o.workers) o.declarations (headed o) (workers_old (next_of (opened o.limit o.workers)) 0 o.workers) is.declarations refl
+declarations_found o is = all_found (opened o.version o.limit o.workers) o.declarations (headed o) (workers_old (next_of (opened o.version o.limit o.workers)) 0 o.workers) is.declarations refl
 
 -- in what an outline declares each worker is named as the outline names the one at its place
 pub name_of_worker : (o : Outline) (i : ℕ) → word_of (headed o).words (Worker i) ≡ slice_index_or o.workers i []
 name_of_worker o i =
-    let later = all_later (opened o.limit o.workers) o.declarations in
+    let later = all_later (opened o.version o.limit o.workers) o.declarations in
     worker_found o.workers (headed o).words later.words.0 i later.words.1 later.words.2
+
+-- the version of what an outline declares is that of the outline
+pub version_found : (o : Outline) → (headed o).version ≡ o.version
+version_found o = (all_later (opened o.version o.limit o.workers) o.declarations).version
 
 -- the limit of what an outline declares is that of the outline
 pub limit_found : (o : Outline) → (headed o).setup.limit ≡ o.limit
-limit_found o = (all_later (opened o.limit o.workers) o.declarations).tables.limit
+limit_found o = (all_later (opened o.version o.limit o.workers) o.declarations).tables.limit
 
 pub workers_number : (o : Outline) → (headed o).setup.workers ≡ length o.workers
-workers_number o = (all_later (opened o.limit o.workers) o.declarations).tables.workers
+workers_number o = (all_later (opened o.version o.limit o.workers) o.declarations).tables.workers
 
 -- the names of the workers are read off the heading that an outline declares
 pub worker_names_found : (o : Outline) → worker_names (headed o) ≡ o.workers
@@ -144,13 +149,14 @@ worker_names_found o =
     ∙ ap (λ (n : ℕ). list_words o.workers (range_with_len 0 n)) (workers_number o)
     ∙ all_workers o.workers
 
-abbrev made : ℕ → List (List ℕ) → List Declaration → Outline
-made limit workers declarations = record { limit = limit; workers = workers; declarations = declarations }
+abbrev made : Version → ℕ → List (List ℕ) → List Declaration → Outline
+made version limit workers declarations = record { version = version; limit = limit; workers = workers; declarations = declarations }
 
 -- an outline is read off the heading that it declares
 pub outline_found : (o : Outline) → IsOutline o → outline_of (headed o) ≡ o
 outline_found o is =
+    let version = version_found o in
     let limit = limit_found o in
     let workers = worker_names_found o in
     let declarations = declarations_found o is in
-    (let q : made (headed o).setup.limit (worker_names (headed o)) (declarations_of (headed o)) ≡ made o.limit o.workers o.declarations = cc in q)
+    (let q : made (headed o).version (headed o).setup.limit (worker_names (headed o)) (declarations_of (headed o)) ≡ made o.version o.limit o.workers o.declarations = cc in q)

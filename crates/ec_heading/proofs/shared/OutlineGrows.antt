@@ -32,6 +32,7 @@ pub record TablesGrow (t u : Tables) : Type 0 where
   pub cells : length t.cells ≤ length u.cells
 
 pub record IsLater (h l : Headed) : Type 0 where
+  pub version : l.version ≡ h.version
   pub tables : TablesGrow h.setup l.setup
   pub names : Grows h.names l.names
   pub words : (more : Named) × (l.words ≡ h.words ++ more) × NamesNoWorker more
@@ -153,6 +154,7 @@ name_of-append_none target (x ∷ xs) ys h =
 
 pub one_later : (h : Headed) (d : Declaration) → IsLater h (declared_by h d)
 one_later h d = record {
+  version = refl;
   tables = objects_grow d.sort h.setup d.number d.first d.second;
   names = (_, refl);
   words = (spelled_objects d.name (objects_of d.sort (next_of h) d.number), refl, no_worker d.sort (next_of h) d.number d.name);
@@ -161,6 +163,7 @@ one_later h d = record {
 
 pub later_more : (h k l : Headed) → IsLater h k → IsLater k l → IsLater h l
 later_more h k l g i = record {
+  version = i.version ∙ g.version;
   tables = grow_then h.setup k.setup l.setup g.tables i.tables;
   names = grows_more h.names k.names l.names g.names i.names;
   words = (
@@ -172,5 +175,5 @@ later_more h k l g i = record {
 }
 
 pub all_later : (h : Headed) (ds : List Declaration) → IsLater h (declared_all h ds)
-all_later h [] = record { tables = grow_same h.setup; names = same_list h.names; words = ([], sym (append-nil h.words), λ k. refl); groups = same_list h.groups }
+all_later h [] = record { version = refl; tables = grow_same h.setup; names = same_list h.names; words = ([], sym (append-nil h.words), λ k. refl); groups = same_list h.groups }
 all_later h (d ∷ ds) = later_more h (declared_by h d) (declared_all (declared_by h d) ds) (one_later h d) (all_later (declared_by h d) ds)

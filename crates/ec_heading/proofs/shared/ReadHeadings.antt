@@ -11,7 +11,9 @@ use Rattle.ec_count.specs.declared.target.Target.{Target}
 use Rattle.ec_count.specs.declared.target.Target.TheVariants.{Worker, Event, Sequencer}
 use Rattle.ec_count.proofs.shared.Named.{AreNames-push, none_left}
 use Rattle.ec_count.proofs.shared.Declared.{rights_of, takers_of, access_of}
+use Rattle.ec_heading.specs.declared.version.Version.{Version}
 use Rattle.ec_heading.specs.Headed.{Headed}
+use Rattle.ec_heading.proofs.shared.VersionFacts.{limit_low}
 use Rattle.ec_heading.specs.Objects.{objects_of, target_of, group_of, spelled_objects}
 use Rattle.ec_heading.specs.Outline.{Declaration, Outline, IsOutline, IsDeclarable, AreDeclarable, AreWorkers, opened, numbered, next_of, named_as, declared_by, declared_all, headed}
 use Rattle.ec_heading.specs.Sorts.{has_name}
@@ -157,16 +159,16 @@ pub record IsSound (h : Headed) : Type 0 where
   pub sequencers : (q : ℕ) → q < length h.setup.takers → HasName h.words (Sequencer q)
   pub cells : (x : ℕ) → x < length h.setup.cells → is_celled x h.words ≡ true
   pub kept : Kept h.setup
-  pub limit : (1 ≤ h.setup.limit) × (h.setup.limit < 2 ^ 32)
+  pub limit : (1 ≤ h.setup.limit) × (h.setup.limit < 2 ^ 48)
   pub bounds : Bounds h.setup
 
-sound_opened : (limit : ℕ) (ws : List (List ℕ)) → 1 ≤ limit → limit < 2 ^ 32 → AreWorkers ws → IsSound (opened limit ws)
-sound_opened limit ws low high h = record {
+sound_opened : (version : Version) (limit : ℕ) (ws : List (List ℕ)) → 1 ≤ limit → limit < 2 ^ 48 → AreWorkers ws → IsSound (opened version limit ws)
+sound_opened version limit ws low high h = record {
   names = workers_are_names ws h;
   known = itself_found (numbered 0 ws);
   words = workers_are_words ws h;
   apart = workers_apart 0 ws;
-  below = workers_below (opened limit ws) 0 ws (omega arith);
+  below = workers_below (opened version limit ws) 0 ws (omega arith);
   workers = λ w lt. worker_named 0 w ws (omega arith) (omega arith);
   events = λ e lt. absurd (omega arith);
   sequencers = λ q lt. absurd (omega arith);
@@ -260,7 +262,7 @@ sound_more h d is may =
       sequencers = λ q lt. object_named h d (Sequencer q) (either_way (is.sequencers q) (all.sequencers q lt));
       cells = λ x lt. cell_named h d x (either_way (is.cells x) (all.cells x lt));
       kept = kept_more d.sort h.setup d.number d.first d.second room is.kept;
-      limit = subst (λ n. (1 ≤ n) × (n < 2 ^ 32)) (sym grow.limit) is.limit;
+      limit = subst (λ n. (1 ≤ n) × (n < 2 ^ 48)) (sym grow.limit) is.limit;
       bounds = bounds_more d.sort h.setup d.number d.first d.second room is.bounds;
     }
 
@@ -271,7 +273,7 @@ sound_all h (d ∷ ds) is may = sound_all (declared_by h d) ds (sound_more h d i
 
 -- the heading that an outline declares is so
 pub sound : (o : Outline) → IsOutline o → IsSound (headed o)
-sound o is = sound_all (opened o.limit o.workers) o.declarations (sound_opened o.limit o.workers is.low is.high is.workers) is.declarations
+sound o is = sound_all (opened o.version o.limit o.workers) o.declarations (sound_opened o.version o.limit o.workers is.low (limit_low o.version o.limit is.high) is.workers) is.declarations
 
 -- in a sound heading the tables keep the rules of declarations
 pub is_declared : (h : Headed) → IsSound h → IsDeclared h.setup

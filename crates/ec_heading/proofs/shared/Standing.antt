@@ -1,5 +1,5 @@
 -- An outline stands behind a heading, after each line.
-use Rattle.std.proofs.Common.{◌≡◌, ◌≢◌, ℕ, ◌+◌, ◌<◌, ◌≤◌, ◌^◌, List, [], ◌∷◌, ◌++◌, length, Some, None, refl, sym, ap, subst, ◌∙◌, arith, inl, inr, zero-add}
+use Rattle.std.proofs.Common.{◌≡◌, ◌≢◌, ℕ, ◌+◌, ◌≤◌, List, [], ◌∷◌, ◌++◌, length, Some, None, refl, sym, ap, subst, ◌∙◌, arith, inl, inr, zero-add}
 use Rattle.std.specs.List.{All, AllByRecursion, cons_option}
 use Rattle.std.proofs.lemmas.List.Elements.{All-from_recursion}
 use Rattle.ec_buffer.proofs.shared.Staying.{buffers_stay}
@@ -10,6 +10,8 @@ use Rattle.ec_count.specs.Tables.{Tables, empty_tables}
 use Rattle.ec_count.specs.declared.target.Target.{Target}
 use Rattle.ec_text.specs.Words.{words_of}
 use Rattle.ec_text.proofs.shared.WordLemmas.{has_first}
+use Rattle.ec_heading.specs.declared.version.Version.{Version}
+use Rattle.ec_heading.specs.Versions.{greatest_limit}
 use Rattle.ec_heading.specs.Headed.{Headed}
 use Rattle.ec_heading.specs.declared.group.Group.{Group}
 use Rattle.ec_heading.specs.declared.group.Group.TheVariants as shapes
@@ -37,12 +39,12 @@ use Rattle.ec_heading.proofs.WorkersLine.{are_workers}
 pub list_has_words : (list : List ℕ) → HasWords (words_of list)
 list_has_words list = let f = has_first list in (f.first, f.others, f.is)
 
-pub opens : (limit : ℕ) (list : List ℕ) (setup : Tables) (names words : List (List ℕ × Target)) (groups : List Group) (declarations : List Target) → 1 ≤ limit → limit < 2 ^ 32
+pub opens : (version : Version) (limit : ℕ) (list : List ℕ) (setup : Tables) (names words : List (List ℕ × Target)) (groups : List Group) (declarations : List Target) → 1 ≤ limit → limit ≤ greatest_limit version
     → workers_fault (words_of list) ≡ None
     → setup ≡ record (empty_tables limit) { workers = 0 + length (words_of list) } → names ≡ [] ++ numbered 0 (words_of list) → words ≡ [] ++ numbered 0 (words_of list) → groups ≡ [] → declarations ≡ []
-    → IsHeading (record { setup = setup; names = names; words = words; groups = groups; declarations = declarations })
-opens limit list setup names words groups declarations low high none setup_is names_is words_is groups_is declarations_is = inr (record {
-  outline = record { limit = limit; workers = words_of list; declarations = [] };
+    → IsHeading (record { version = version; setup = setup; names = names; words = words; groups = groups; declarations = declarations })
+opens version limit list setup names words groups declarations low high none setup_is names_is words_is groups_is declarations_is = inr (record {
+  outline = record { version = version; limit = limit; workers = words_of list; declarations = [] };
   is = record { low = low; high = high; workers = are_workers (words_of list) (list_has_words list) none; declarations = tt };
   declares =
       let s : record (empty_tables limit) { workers = length (words_of list) } ≡ setup = ap (λ n. record (empty_tables limit) { workers = n }) (sym (zero-add (length (words_of list)))) ∙ sym setup_is in
@@ -63,22 +65,22 @@ pub outline_more : (h : Headed) (d : Declaration) → HasOutline h → IsDeclara
 outline_more h d has may =
     let o : Outline = has.outline in
     record {
-      outline = record { limit = o.limit; workers = o.workers; declarations = o.declarations ++ d ∷ [] };
+      outline = record { version = o.version; limit = o.limit; workers = o.workers; declarations = o.declarations ++ d ∷ [] };
       is = record {
         low = has.is.low;
         high = has.is.high;
         workers = has.is.workers;
-        declarations = declarable_more (opened o.limit o.workers) o.declarations d has.is.declarations (subst (λ (g : Headed). IsDeclarable g d) (sym has.declares) may);
+        declarations = declarable_more (opened o.version o.limit o.workers) o.declarations d has.is.declarations (subst (λ (g : Headed). IsDeclarable g d) (sym has.declares) may);
       };
-      declares = all_more (opened o.limit o.workers) o.declarations d ∙ ap (λ (g : Headed). declared_by g d) has.declares;
+      declares = all_more (opened o.version o.limit o.workers) o.declarations d ∙ ap (λ (g : Headed). declared_by g d) has.declares;
     }
 
 pub outline_heads : (h : Headed) (has : HasOutline h) → Heads has.outline.workers h
-outline_heads h has = subst (Heads has.outline.workers) has.declares (heads_all has.outline.workers (opened has.outline.limit has.outline.workers) has.outline.declarations (heads_opened has.outline.limit has.outline.workers))
+outline_heads h has = subst (Heads has.outline.workers) has.declares (heads_all has.outline.workers (opened has.outline.version has.outline.limit has.outline.workers) has.outline.declarations (heads_opened has.outline.version has.outline.limit has.outline.workers))
 
 -- a heading that declares a worker is what an outline declares
 pub has_outline : (h : Headed) → IsHeading h → h.setup.workers ≢ 0 → HasOutline h
-has_outline h (inl is) some = absurd (some (ap (λ (g : Headed). g.setup.workers) is))
+has_outline h (inl (is, within)) some = absurd (some (ap (λ (g : Headed). g.setup.workers) is))
 has_outline h (inr has) some = has
 
 pub has_outline_from : (h : Headed) → IsHeading h → 1 ≤ h.setup.workers → HasOutline h
@@ -89,22 +91,23 @@ line_declares h line p is some parts none =
     may_declare (has_outline h is some).outline.workers h (words_of line) p (outline_heads h (has_outline h is some)) (parts_spelled (words_of line) p (sym parts)) none
 
 -- the heading after a declaration, as its parts
-pub declares : (h : Headed) (d : Declaration) (setup : Tables) (names words : List (List ℕ × Target)) (groups : List Group) (declarations : List Target) → IsHeading h → h.setup.workers ≢ 0 → IsDeclarable h d
+pub declares : (h : Headed) (d : Declaration) (version : Version) (setup : Tables) (names words : List (List ℕ × Target)) (groups : List Group) (declarations : List Target) → IsHeading h → h.setup.workers ≢ 0 → IsDeclarable h d
+    → version ≡ h.version
     → setup ≡ with_objects d.sort h.setup d.number d.first d.second
     → names ≡ h.names ++ named_as d.sort d.name (target_of d.sort (next_of h) d.number)
     → words ≡ h.words ++ spelled_objects d.name (objects_of d.sort (next_of h) d.number)
     → groups ≡ h.groups ++ cons_option (group_of d.sort h.setup d.number) []
     → declarations ≡ h.declarations ++ target_of d.sort (next_of h) d.number ∷ []
-    → IsHeading (record { setup = setup; names = names; words = words; groups = groups; declarations = declarations })
-declares h d setup names words groups declarations is some may setup_is names_is words_is groups_is declarations_is =
-    let e : declared_by h d ≡ record { setup = setup; names = names; words = words; groups = groups; declarations = declarations } = cc in
+    → IsHeading (record { version = version; setup = setup; names = names; words = words; groups = groups; declarations = declarations })
+declares h d version setup names words groups declarations is some may version_is setup_is names_is words_is groups_is declarations_is =
+    let e : declared_by h d ≡ record { version = version; setup = setup; names = names; words = words; groups = groups; declarations = declarations } = cc in
     subst IsHeading e (inr (outline_more h d (has_outline h is some) may))
 
 -- WHAT IS TRUE OF A HEADING
 
 -- the words of a heading, with those of its workers alone
 pub heading_words : (h : Headed) → IsHeading h → AreWords h.words
-heading_words h (inl is) = subst (λ (g : Headed). AreWords g.words) (sym is) (record { each = tt; distinct = tt; stems = tt })
+heading_words h (inl (is, within)) = subst (λ (g : Headed). AreWords g.words) (sym is) (record { each = tt; distinct = tt; stems = tt })
 heading_words h (inr has) = subst (λ (g : Headed). AreWords g.words) has.declares (sound has.outline has.is).words
 
 -- the words of a declaration that may stand are new
@@ -142,8 +145,8 @@ groups_fit h (d ∷ ds) fit may =
 
 -- the objects of each group of a heading are declared there, with the rights of the group
 pub heading_fits : (h : Headed) → IsHeading h → All (FitsGroup h.setup) h.groups
-heading_fits h (inl is) = subst (λ (g : Headed). All (FitsGroup g.setup) g.groups) (sym is) (All-from_recursion (FitsGroup (opened h.setup.limit []).setup) [] tt)
+heading_fits h (inl (is, within)) = subst (λ (g : Headed). All (FitsGroup g.setup) g.groups) (sym is) (All-from_recursion (FitsGroup (opened h.version h.setup.limit []).setup) [] tt)
 heading_fits h (inr has) =
     let o : Outline = has.outline in
     subst (λ (g : Headed). All (FitsGroup g.setup) g.groups) has.declares
-    (All-from_recursion (FitsGroup (headed o).setup) (headed o).groups (groups_fit (opened o.limit o.workers) o.declarations tt has.is.declarations))
+    (All-from_recursion (FitsGroup (headed o).setup) (headed o).groups (groups_fit (opened o.version o.limit o.workers) o.declarations tt has.is.declarations))

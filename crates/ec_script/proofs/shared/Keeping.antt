@@ -7,6 +7,9 @@ use Rattle.std.proofs.lemmas.Bool.{and_parts}
 use Rattle.std.proofs.lemmas.List.{length-replicate}
 use Rattle.std.proofs.lemmas.List.Elements.{All-from_recursion, recursion_from_All, All-set}
 use Rattle.ec_text.specs.Words.{words_of, number_of}
+use Rattle.ec_heading.specs.Versions.{is_limit, version_of}
+use Rattle.ec_script.specs.Headers.{script_header, bounded}
+use Rattle.ec_heading.specs.declared.version.Version.{Version}
 use Rattle.ec_heading.specs.declared.group.Group.{Group}
 use Rattle.ec_heading.specs.declared.heading.HeadFault.{HeadFault}
 use Rattle.ec_heading.specs.Headed.{Headed}
@@ -33,7 +36,7 @@ use Rattle.ec_script.specs.Drafted.{Drafted, with_order}
 use Rattle.ec_script.specs.Kinds.{phrase_fault, or_nothing, has_two_roles}
 use Rattle.ec_script.specs.Orders.{size_in, command_in}
 use Rattle.ec_script.specs.Scripted.{Scripted, Planned}
-use Rattle.ec_script.specs.Reading.{seen, began, ordered_in, commanded, ended_in, after_verb, after, fault_or, phrased, headed_on, is_declaring, opens_outer, script_step, in_range, limited, limit_digits, limit_or, limit_step, script_of, named_on, read_on, step}
+use Rattle.ec_script.specs.Reading.{seen, began, ordered_in, commanded, ended_in, after_verb, after, fault_or, phrased, headed_on, is_declaring, opens_outer, script_step, limiting, limited, limit_digits, limit_or, limit_step, script_of, named_on, read_on, step}
 use Rattle.ec_script.specs.Outcome.{plan_or, plan_in, outcome, Tells, shown_plan}
 use Rattle.ec_script.specs.Grammar.{Leads, IsScript}
 use Rattle.ec_script.specs.Confined.{IsConfined, AreConfined, IsPlan, AreConfinedPrograms}
@@ -217,25 +220,25 @@ abbrev pub StageKeeps : Stage → Type 0
 StageKeeps (Reading s) = Keeps s
 StageKeeps _ = Unit {0}
 
-opening_keeps : (b : Bool) (t : Stage) → cond b (Ok Limiting) (Err kinds.BadHeader) ≡ Ok t → StageKeeps t
-opening_keeps true t is = let e : Limiting ≡ t = cc in subst StageKeeps e tt
-opening_keeps false t is = cc
+opening_keeps : (o : Option Version) (t : Stage) → limiting o ≡ Ok t → StageKeeps t
+opening_keeps (Some v) t is = let e : Limiting v ≡ t = cc in subst StageKeeps e tt
+opening_keeps None t is = cc
 
-naming_keeps : (b : Bool) (n : ℕ) (t : Stage) → cond b (Ok (Naming n)) (Err kinds.BadNumber) ≡ Ok t → StageKeeps t
-naming_keeps true n t is = let e : Naming n ≡ t = cc in subst StageKeeps e tt
-naming_keeps false n t is = cc
+naming_keeps : (b : Bool) (v : Version) (n : ℕ) (t : Stage) → cond b (Ok (Naming (bounded v n))) (Err kinds.BadNumber) ≡ Ok t → StageKeeps t
+naming_keeps true v n t is = let e : Naming (bounded v n) ≡ t = cc in subst StageKeeps e tt
+naming_keeps false v n t is = cc
 
-limited_keeps : (o : Option ℕ) (t : Stage) → limited o ≡ Ok t → StageKeeps t
-limited_keeps None t is = cc
-limited_keeps (Some n) t is = naming_keeps (in_range n) n t is
+limited_keeps : (v : Version) (o : Option ℕ) (t : Stage) → limited v o ≡ Ok t → StageKeeps t
+limited_keeps v None t is = cc
+limited_keeps v (Some n) t is = naming_keeps (is_limit v n) v n t is
 
-limit_keeps : (o : Option (List ℕ)) (t : Stage) → limit_or o ≡ Ok t → StageKeeps t
-limit_keeps None t is = cc
-limit_keeps (Some digits) t is = limited_keeps (number_of digits) t is
+limit_keeps : (v : Version) (o : Option (List ℕ)) (t : Stage) → limit_or v o ≡ Ok t → StageKeeps t
+limit_keeps v None t is = cc
+limit_keeps v (Some digits) t is = limited_keeps v (number_of digits) t is
 
-limit_line_keeps : (line : List ℕ) (t : Stage) → limit_step line ≡ Ok t → StageKeeps t
+limit_line_keeps : (v : Version) (line : List ℕ) (t : Stage) → limit_step v line ≡ Ok t → StageKeeps t
 unfolding limit_step
-limit_line_keeps line t is = limit_keeps (limit_digits (words_of line)) t (not_refused (nat_lt 8192 (length line)) kinds.BadLine _ t is)
+limit_line_keeps v line t is = limit_keeps v (limit_digits (words_of line)) t (not_refused (nat_lt 8192 (length line)) kinds.BadLine _ t is)
 
 named_keeps : (r : Result Headed HeadFault) (t : Stage) → ((h : Headed) → r ≡ Ok h → HeadKeeps h) → named_on r ≡ Ok t → StageKeeps t
 named_keeps (Ok h) t keeps is = let e : Reading (script_of h) ≡ t = cc in subst StageKeeps e (script_keeps h (keeps h refl))
@@ -247,9 +250,9 @@ read_keeps (Err k) t keeps is = cc
 
 step_keeps : (s t : Stage) (line : List ℕ) → StageKeeps s → step s line ≡ Ok t → StageKeeps t
 unfolding step
-step_keeps Opening t line keeps is = opening_keeps (bytes_eq line (codes "evc-script 1")) t is
-step_keeps Limiting t line keeps is = limit_line_keeps line t is
-step_keeps (Naming n) t line keeps is = named_keeps (head_step (opened n []) line) t (λ h e. first_keeps n line h e) is
+step_keeps Opening t line keeps is = opening_keeps (version_of script_header line) t is
+step_keeps (Limiting v) t line keeps is = limit_line_keeps v line t is
+step_keeps (Naming b) t line keeps is = named_keeps (head_step (opened b.version b.limit []) line) t (λ h e. first_keeps b.version b.limit line h e) is
 step_keeps (Reading s) t line keeps is = read_keeps (script_step s line) t (λ u e. line_keeps s u line keeps e) is
 
 pub leads_keeps : (s : Stage) (lines : List (List ℕ)) (t : Stage) → StageKeeps s → Leads s lines t → StageKeeps t

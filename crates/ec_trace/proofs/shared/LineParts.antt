@@ -12,7 +12,7 @@ use Rattle.ec_heading.specs.Headed.{Headed}
 use Rattle.ec_count.specs.declared.target.Target.{Target}
 use Rattle.ec_count.specs.declared.target.Target.TheVariants.{Worker}
 use Rattle.ec_core.specs.declared.act.Entry.{Entry}
-use Rattle.ec_heading.specs.Spelling.{entry_line, Named, name_words, number_words, word_of, text_of, ended_line, limit_line, workers_line}
+use Rattle.ec_heading.specs.Spelling.{entry_line, Named, name_words, number_words, word_of, text_of, ended_line, limit_line, workers_line, trace_header}
 use Rattle.ec_heading.specs.Recalled.{spaced, names_of, second_names, declared_line, declared_text, declaration_of, declarations_of, opening_text, entry_text}
 
 pub spaced-append : (xs ys : List (List ℕ)) → spaced (xs ++ ys) ≡ spaced xs ++ spaced ys
@@ -77,19 +77,19 @@ one_more_target names h ts t all =
     ∙ sym (append_assoc all before (declared_text names (f t)))
 
 opened : (all lf a b n c ws ds e : List ℕ)
-    → all ++ ((a ++ lf) ++ (((b ++ n) ++ lf) ++ (((c ++ ws) ++ lf) ++ (ds ++ e)))) ≡ ((((((all ++ (a ++ (lf ++ b))) ++ n) ++ (lf ++ c)) ++ ws) ++ lf) ++ ds) ++ e
+    → all ++ ((a ++ lf) ++ (((b ++ n) ++ lf) ++ (((c ++ ws) ++ lf) ++ (ds ++ e)))) ≡ (((((((all ++ a) ++ (lf ++ b)) ++ n) ++ (lf ++ c)) ++ ws) ++ lf) ++ ds) ++ e
 opened all lf a b n c ws ds e = simp append_assoc
 
 pub opening_parts : (names : Named) (h : Headed) (all : List ℕ)
-    → all ++ opening_text names h ≡ ((((((all ++ codes "evc-trace 1\nlimit ") ++ decimal h.setup.limit) ++ codes "\nworkers") ++ spaced (names_of names (range_with_len 0 h.setup.workers))) ++ 10 ∷ []) ++ text_of (map (declared_line names) (declarations_of h))) ++ codes "run\n"
+    → all ++ opening_text names h ≡ (((((((all ++ trace_header h.version) ++ codes "\nlimit ") ++ decimal h.setup.limit) ++ codes "\nworkers") ++ spaced (names_of names (range_with_len 0 h.setup.workers))) ++ 10 ∷ []) ++ text_of (map (declared_line names) (declarations_of h))) ++ codes "run\n"
 unfolding opening_text
 opening_parts names h all =
     let ws = names_of names (range_with_len 0 h.setup.workers) in
     let lines = map (declared_line names) (declarations_of h) in
-    let front = codes "evc-trace 1" ++ 10 ∷ [] in
+    let front = trace_header h.version ++ 10 ∷ [] in
     ap (λ (r : List ℕ). all ++ (front ++ ((limit_line h.setup.limit ++ 10 ∷ []) ++ ((workers_line ws ++ 10 ∷ []) ++ r)))) (text_of-append lines (codes "run" ∷ []))
     ∙ ap (λ (r : List ℕ). all ++ (front ++ ((limit_line h.setup.limit ++ 10 ∷ []) ++ ((r ++ 10 ∷ []) ++ (text_of lines ++ codes "run\n"))))) (join_spaced (codes "workers") ws)
-    ∙ opened all (10 ∷ []) (codes "evc-trace 1") (codes "limit ") (decimal h.setup.limit) (codes "workers") (spaced ws) (text_of lines) (codes "run\n")
+    ∙ opened all (10 ∷ []) (trace_header h.version) (codes "limit ") (decimal h.setup.limit) (codes "workers") (spaced ws) (text_of lines) (codes "run\n")
 
 ended : (a b c : List ℕ) → a ++ (b ++ (c ++ [])) ≡ (a ++ b) ++ c
 ended a b c = simp (append_assoc, append-nil)

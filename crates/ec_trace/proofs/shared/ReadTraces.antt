@@ -10,6 +10,10 @@ use Rattle.ec_core.specs.declared.act.Entry.{Entry}
 use Rattle.ec_text.specs.Words.{words_of, number_of}
 use Rattle.ec_text.proofs.shared.WordLemmas.{words_join, split_join, literal_word}
 use Rattle.ec_text.proofs.shared.NumberLemmas.{number_again, number_takes, guarded}
+use Rattle.ec_heading.specs.declared.version.Version.{Version}
+use Rattle.ec_heading.specs.declared.version.Version.TheVariants.{One, Two}
+use Rattle.ec_heading.specs.Versions.{greatest_limit}
+use Rattle.ec_heading.specs.Versions.{is_limit, as_limit, version_of}
 use Rattle.ec_heading.specs.Headed.{Headed}
 use Rattle.ec_heading.specs.Outline.{Outline, IsOutline, opened, headed}
 use Rattle.ec_heading.specs.Form.{parts_in}
@@ -25,9 +29,10 @@ use Rattle.ec_trace.specs.declared.fault.TraceFault.{TraceFault}
 use Rattle.ec_trace.specs.declared.fault.TraceFault.TheVariants.{Read, Memory}
 use Rattle.ec_trace.specs.Recounted.{Recounted}
 use Rattle.ec_trace.specs.Outcome.{outcome, Tells}
-use Rattle.ec_heading.specs.Spelling.{limit_line, entry_line, trace_lines, trace_text, text_of}
+use Rattle.ec_heading.specs.Spelling.{limit_line, trace_header, entry_line, trace_lines, trace_text, text_of}
 use Rattle.ec_trace.specs.Grammar.{IsTrace}
-use Rattle.ec_trace.specs.Step.{step, limit_of, limit_in, in_range, limited, declared}
+use Rattle.ec_heading.proofs.shared.VersionFacts.{limit_low, limit_from, limit_parts, version_back}
+use Rattle.ec_trace.specs.Step.{step, limit_of, limit_in, limiting, limited, declared}
 use Rattle.ec_trace.specs.ReadingLaws.{TraceIsRead, IsTraceOf, IsNoTrace, Refuses, ReadIsTrace, TraceHasOneMeaning, NoTraceBeginsAnother}
 use Rattle.ec_trace.specs.declared.read.TheConstants.{TRACE_MAX}
 use Rattle.ec_heading.proofs.shared.Declarable.{Heads, heads_opened, heads_all}
@@ -44,55 +49,55 @@ use Rattle.ec_trace.proofs.ReadRuns.{entries_lead, entries_are_lines, end_leads,
 
 -- THE LINE OF THE LIMIT
 
-limit_again : (n : ℕ) → 1 ≤ n → n < 2 ^ 32 → limit_of (limit_line n) ≡ Some n
+limit_again : (v : Version) (n : ℕ) → 1 ≤ n → n ≤ greatest_limit v → limit_of v (limit_line n) ≡ Some n
 unfolding limit_of
-limit_again n low high =
+limit_again v n low high =
+    let small : n < 2 ^ 48 = limit_low v n high in
     let words : words_of (limit_line n) ≡ codes "limit" ∷ decimal n ∷ [] = words_join (codes "limit") (decimal n ∷ []) (literal_word (codes "limit") refl, (number_word n (omega arith), tt)) in
-    let range : (nat_le 1 n && nat_lt n 4294967296) ≡ true = and_from _ _ (le-leb _ _ low) (lt-ltb _ _ high) in
-    ap limit_in words ∙ ap (option_and_then in_range) (number_again n (omega arith)) ∙ rw range refl
+    ap (limit_in v) words ∙ ap (option_and_then (as_limit v)) (number_again n (omega arith)) ∙ ap (λ b. cond b (Some n) None) (limit_from v n low high)
 
-limit_leads : (n : ℕ) → 1 ≤ n → n < 2 ^ 32 → step Limiting (limit_line n) ≡ Ok (Declaring (opened n []))
+limit_leads : (v : Version) (n : ℕ) → 1 ≤ n → n ≤ greatest_limit v → step (Limiting v) (limit_line n) ≡ Ok (Declaring (opened v n []))
 unfolding step
-limit_leads n low high = ap limited (limit_again n low high)
+limit_leads v n low high = ap (limited v) (limit_again v n low high)
 
--- such words say a limit
-pub record IsLimit (words : List (List ℕ)) (n : ℕ) : Type 0 where
+-- such words say a limit that the version may have
+pub record IsLimit (v : Version) (words : List (List ℕ)) (n : ℕ) : Type 0 where
   pub are : words ≡ codes "limit" ∷ decimal n ∷ []
   pub low : 1 ≤ n
-  pub high : n < 2 ^ 32
+  pub high : n ≤ greatest_limit v
 
-range_back : (m n : ℕ) → in_range m ≡ Some n → (m ≡ n) × (1 ≤ n) × (n < 2 ^ 32)
-range_back m n e =
-    let g = guarded (nat_le 1 m && nat_lt m 4294967296) (Some m) n e in
-    let p = and_parts (nat_le 1 m) (nat_lt m 4294967296) g.0 in
+range_back : (v : Version) (m n : ℕ) → as_limit v m ≡ Some n → (m ≡ n) × (1 ≤ n) × (n ≤ greatest_limit v)
+range_back v m n e =
+    let g = guarded (is_limit v m) (Some m) n e in
     let same : m ≡ n = cc in
-    (same, (let l : 1 ≤ m = leb-true _ _ p.0 in omega arith), (let l : m < 4294967296 = ltb-true _ _ p.1 in omega arith))
+    let p = subst (λ (k : ℕ). (1 ≤ k) × (k ≤ greatest_limit v)) same (limit_parts v m g.0) in
+    (same, p.0, p.1)
 
-digits_back : (o : Option ℕ) (n : ℕ) → option_and_then in_range o ≡ Some n → (o ≡ Some n) × (1 ≤ n) × (n < 2 ^ 32)
-digits_back None n e = cc
-digits_back (Some m) n e = (let r = range_back m n e in (ap Some r.0, r.1, r.2))
+digits_back : (v : Version) (o : Option ℕ) (n : ℕ) → option_and_then (as_limit v) o ≡ Some n → (o ≡ Some n) × (1 ≤ n) × (n ≤ greatest_limit v)
+digits_back v None n e = cc
+digits_back v (Some m) n e = (let r = range_back v m n e in (ap Some r.0, r.1, r.2))
 
-pub limit_back : (words : List (List ℕ)) (n : ℕ) → limit_in words ≡ Some n → IsLimit words n
-limit_back [] n e = cc
-limit_back (w ∷ []) n e = cc
-limit_back (w ∷ d ∷ []) n e =
-    let g = guarded (bytes_eq w (codes "limit")) (option_and_then in_range (number_of d)) n e in
-    let r = digits_back (number_of d) n g.1 in
+pub limit_back : (v : Version) (words : List (List ℕ)) (n : ℕ) → limit_in v words ≡ Some n → IsLimit v words n
+limit_back v [] n e = cc
+limit_back v (w ∷ []) n e = cc
+limit_back v (w ∷ d ∷ []) n e =
+    let g = guarded (bytes_eq w (codes "limit")) (option_and_then (as_limit v) (number_of d)) n e in
+    let r = digits_back v (number_of d) n g.1 in
     let word : w ≡ codes "limit" = (bytes_eq-Decides w (codes "limit")).0 g.0 in
     let digits : d ≡ decimal n = (number_takes d n r.0).0 in
     record { are = ap₂ (λ (x : List ℕ) (y : List ℕ). x ∷ y ∷ []) word digits; low = r.1; high = r.2 }
-limit_back (w ∷ d ∷ x ∷ words) n e = cc
+limit_back v (w ∷ d ∷ x ∷ words) n e = cc
 
-pub limited_back : (o : Option ℕ) (s : Stage) → limited o ≡ Ok s → (n : ℕ) × (o ≡ Some n) × (s ≡ Declaring (opened n []))
-limited_back None s e = cc
-limited_back (Some n) s e = (n, refl, cc)
+pub limited_back : (v : Version) (o : Option ℕ) (s : Stage) → limited v o ≡ Ok s → (n : ℕ) × (o ≡ Some n) × (s ≡ Declaring (opened v n []))
+limited_back v None s e = cc
+limited_back v (Some n) s e = (n, refl, cc)
 
 -- THE LINES OF THE HEADING
 
 -- `run` is no line of a heading
 not_heading : (h : Headed) → head_step h (codes "run") ≡ Err head_faults.BadLine
 unfolding head_step parts_in
-not_heading h = elim (eqb h.setup.workers 0) as (λ b. cond b (opened_by h.setup.limit None) (declared_or h None) ≡ Err head_faults.BadLine) [ true ↦ refl | false ↦ refl ]
+not_heading h = elim (eqb h.setup.workers 0) as (λ b. cond b (opened_by h.version h.setup.limit None) (declared_or h None) ≡ Err head_faults.BadLine) [ true ↦ refl | false ↦ refl ]
 
 not_run : (h next : Headed) (line : List ℕ) → head_step h line ≡ Ok next → bytes_eq line (codes "run") ≡ false
 not_run h next line e =
@@ -160,13 +165,14 @@ heading_back h (line ∷ lines) t (next, taken, leads) =
 
 -- WHAT IS SPELLED IS READ
 
-first_line_leads : step Opening (codes "evc-trace 1") ≡ Ok Limiting
+first_line_leads : (v : Version) → step Opening (trace_header v) ≡ Ok (Limiting v)
 unfolding step
-first_line_leads = refl
+first_line_leads One = refl
+first_line_leads Two = refl
 
 has_workers : (o : Outline) → IsOutline o → 0 < (headed o).setup.workers
 has_workers o is =
-    let h : Heads o.workers (headed o) = heads_all o.workers (opened o.limit o.workers) o.declarations (heads_opened o.limit o.workers) in
+    let h : Heads o.workers (headed o) = heads_all o.workers (opened o.version o.limit o.workers) o.declarations (heads_opened o.version o.limit o.workers) in
     omega (arith, h.count, is.workers.some)
 
 abbrev recount : Outline → List Entry → Recounted
@@ -176,29 +182,33 @@ recount o es = record { heading = headed o; entries = es }
 abbrev behind : Outline → List Entry → List (List ℕ)
 behind o es = (outline_lines o ++ codes "run" ∷ map (entry_line (headed o).words) es) ++ codes "end" ∷ []
 
-behind_leads : (o : Outline) (es : List Entry) → IsOutline o → IsAccepted (headed o).setup (reverse es) → Leads (Declaring (opened o.limit [])) (behind o es) (Ended (recount o es))
+behind_leads : (o : Outline) (es : List Entry) → IsOutline o → IsAccepted (headed o).setup (reverse es) → Leads (Declaring (opened o.version o.limit [])) (behind o es) (Ended (recount o es))
 behind_leads o es is acc =
-    leads_append (Declaring (opened o.limit [])) (Running (recount o es)) (Ended (recount o es)) (outline_lines o ++ codes "run" ∷ map (entry_line (headed o).words) es) (codes "end" ∷ [])
-    (leads_append (Declaring (opened o.limit [])) (Declaring (headed o)) (Running (recount o es)) (outline_lines o) (codes "run" ∷ map (entry_line (headed o).words) es)
-    (heading_leads (opened o.limit []) (headed o) (outline_lines o) (outline_leads o is))
+    leads_append (Declaring (opened o.version o.limit [])) (Running (recount o es)) (Ended (recount o es)) (outline_lines o ++ codes "run" ∷ map (entry_line (headed o).words) es) (codes "end" ∷ [])
+    (leads_append (Declaring (opened o.version o.limit [])) (Declaring (headed o)) (Running (recount o es)) (outline_lines o) (codes "run" ∷ map (entry_line (headed o).words) es)
+    (heading_leads (opened o.version o.limit []) (headed o) (outline_lines o) (outline_leads o is))
     (Running (recount o []), run_leads (headed o) (has_workers o is), entries_lead (headed o) [] es (sound o is) acc))
     (end_leads (recount o es))
 
 all_lead : (o : Outline) (es : List Entry) → IsOutline o → IsAccepted (headed o).setup (reverse es) → Leads Opening (trace_lines o es) (Ended (recount o es))
 all_lead o es is acc =
-    (Limiting, first_line_leads, (Declaring (opened o.limit []), limit_leads o.limit is.low is.high, behind_leads o es is acc))
+    (Limiting o.version, first_line_leads o.version, (Declaring (opened o.version o.limit []), limit_leads o.version o.limit is.low is.high, behind_leads o es is acc))
 
 literal_is : (line : List ℕ) → list_all (λ b. not (eqb b 10)) line ≡ true → leb (length line) 8192 ≡ true → IsLine line
 literal_is line clean short = line_is line (literal_lacks line clean) (leb-true _ _ short)
 
+first_line_is : (v : Version) → IsLine (trace_header v)
+first_line_is One = literal_is (codes "evc-trace 1") refl refl
+first_line_is Two = literal_is (codes "evc-trace 2") refl refl
+
 all_lines : (o : Outline) (es : List Entry) → IsOutline o → IsAccepted (headed o).setup (reverse es) → AllByRecursion IsLine (trace_lines o es)
 all_lines o es is acc = (
-  literal_is (codes "evc-trace 1") refl refl,
+  first_line_is o.version,
   (
-    limit_line_is o.limit is.high,
+    limit_line_is o.limit (limit_low o.version o.limit is.high),
     each_append IsLine (outline_lines o ++ codes "run" ∷ map (entry_line (headed o).words) es) (codes "end" ∷ [])
         (each_append IsLine (outline_lines o) (codes "run" ∷ map (entry_line (headed o).words) es)
-        (heading_lines_are o (opened o.limit []) (headed o) is (outline_leads o is))
+        (heading_lines_are o (opened o.version o.limit []) (headed o) is (outline_leads o is))
         (literal_is (codes "run") refl refl, entries_are_lines (headed o) [] es (sound o is) acc))
         (literal_is (codes "end") refl refl, tt),
   ),
@@ -231,12 +241,12 @@ record AreOf (lines : List (List ℕ)) (t : Recounted) : Type 0 where
   lines_are : lines ≡ trace_lines outline t.entries
 
 -- the heading of such lines has an outline
-head_outline : (n : ℕ) (head : List (List ℕ)) (end : Headed) → 1 ≤ n → n < 2 ^ 32 → 0 < end.setup.workers → LinesLead (opened n []) head end → Outlines n head end
-head_outline n [] end low high some leads = absurd (let e : (opened n []).setup.workers ≡ end.setup.workers = ap (λ (h : Headed). h.setup.workers) leads in omega arith)
-head_outline n (line ∷ lines) end low high some leads = leads_outline n line lines end low high leads
+head_outline : (v : Version) (n : ℕ) (head : List (List ℕ)) (end : Headed) → 1 ≤ n → n ≤ greatest_limit v → 0 < end.setup.workers → LinesLead (opened v n []) head end → Outlines v n head end
+head_outline v n [] end low high some leads = absurd (let e : (opened v n []).setup.workers ≡ end.setup.workers = ap (λ (h : Headed). h.setup.workers) leads in omega arith)
+head_outline v n (line ∷ lines) end low high some leads = leads_outline v n line lines end low high leads
 
-put_together : (n : ℕ) (head rest : List (List ℕ)) (end : Headed) (t : Recounted) → Outlines n head end → IsRunOf end [] rest t → AreOf (codes "evc-trace 1" ∷ limit_line n ∷ (head ++ codes "run" ∷ rest)) t
-put_together n head rest end t o r =
+put_together : (v : Version) (n : ℕ) (head rest : List (List ℕ)) (end : Headed) (t : Recounted) → Outlines v n head end → IsRunOf end [] rest t → AreOf (trace_header v ∷ limit_line n ∷ (head ++ codes "run" ∷ rest)) t
+put_together v n head rest end t o r =
     let heading : t.heading ≡ end = ap (λ (u : Recounted). u.heading) r.ends in
     let entries : t.entries ≡ r.entries = ap (λ (u : Recounted). u.entries) r.ends in
     let names : map (entry_line end.words) r.entries ≡ map (entry_line (headed o.outline).words) t.entries =
@@ -250,41 +260,43 @@ put_together n head rest end t o r =
       is = o.is;
       declares = sym o.end_is ∙ sym heading;
       accepted = subst (λ (es : List Entry). IsAccepted (headed o.outline).setup (reverse es)) (sym entries) (subst (λ (h : Headed). IsAccepted h.setup (reverse r.entries)) o.end_is r.accepted);
-      lines_are = ap₂ (λ (m : ℕ) (ls : List (List ℕ)). codes "evc-trace 1" ∷ limit_line m ∷ ls) (sym o.limit_is) body;
+      lines_are =
+          ap (λ (w : Version). trace_header w ∷ limit_line n ∷ (head ++ codes "run" ∷ rest)) (sym o.version_is)
+          ∙ ap₂ (λ (m : ℕ) (ls : List (List ℕ)). trace_header o.outline.version ∷ limit_line m ∷ ls) (sym o.limit_is) body;
     }
 
 -- behind the limit
-declaring_back : (n : ℕ) (lines : List (List ℕ)) (t : Recounted) → 1 ≤ n → n < 2 ^ 32 → Leads (Declaring (opened n [])) lines (Ended t) → AreOf (codes "evc-trace 1" ∷ limit_line n ∷ lines) t
-declaring_back n lines t low high leads =
-    let h = heading_back (opened n []) lines t leads in
-    let o = head_outline n h.head h.end low high h.some h.heads in
+declaring_back : (v : Version) (n : ℕ) (lines : List (List ℕ)) (t : Recounted) → 1 ≤ n → n ≤ greatest_limit v → Leads (Declaring (opened v n [])) lines (Ended t) → AreOf (trace_header v ∷ limit_line n ∷ lines) t
+declaring_back v n lines t low high leads =
+    let h = heading_back (opened v n []) lines t leads in
+    let o = head_outline v n h.head h.end low high h.some h.heads in
     let s : IsSound h.end = subst IsSound (sym o.end_is) (sound o.outline o.is) in
     let r = run_back h.end [] h.rest t s tt h.runs in
-    subst (λ (ls : List (List ℕ)). AreOf (codes "evc-trace 1" ∷ limit_line n ∷ ls) t) (sym h.lines_are) (put_together n h.head h.rest h.end t o r)
+    subst (λ (ls : List (List ℕ)). AreOf (trace_header v ∷ limit_line n ∷ ls) t) (sym h.lines_are) (put_together v n h.head h.rest h.end t o r)
 
 -- behind the first line
-limiting_back : (lines : List (List ℕ)) (t : Recounted) → Leads Limiting lines (Ended t) → AreOf (codes "evc-trace 1" ∷ lines) t
+behind_first : (v : Version) (lines : List (List ℕ)) (t : Recounted) → Leads (Limiting v) lines (Ended t) → AreOf (trace_header v ∷ lines) t
 unfolding step limit_of
-limiting_back [] t leads = cc
-limiting_back (line ∷ lines) t (next, taken, leads) =
-    let l = limited_back (limit_of line) next taken in
-    let k = limit_back (words_of line) l.0 l.1 in
+behind_first v [] t leads = cc
+behind_first v (line ∷ lines) t (next, taken, leads) =
+    let l = limited_back v (limit_of v line) next taken in
+    let k = limit_back v (words_of line) l.0 l.1 in
     let is : line ≡ limit_line l.0 = sym (split_join line) ∙ ap (join_with_byte 32) k.are in
-    subst (λ (x : List ℕ). AreOf (codes "evc-trace 1" ∷ x ∷ lines) t) (sym is) (declaring_back l.0 lines t k.low k.high (subst (λ (s : Stage). Leads s lines (Ended t)) l.2 leads))
+    subst (λ (x : List ℕ). AreOf (trace_header v ∷ x ∷ lines) t) (sym is) (declaring_back v l.0 lines t k.low k.high (subst (λ (s : Stage). Leads s lines (Ended t)) l.2 leads))
 
-pub first_back : (line : List ℕ) (next : Stage) → step Opening line ≡ Ok next → (line ≡ codes "evc-trace 1") × (next ≡ Limiting)
+limiting_back : (o : Option Version) (s : Stage) → limiting o ≡ Ok s → (v : Version) × (o ≡ Some v) × (s ≡ Limiting v)
+limiting_back None s e = cc
+limiting_back (Some v) s e = (v, refl, cc)
+
+pub first_back : (line : List ℕ) (next : Stage) → step Opening line ≡ Ok next → (v : Version) × (line ≡ trace_header v) × (next ≡ Limiting v)
 unfolding step
-first_back line next e =
-    elim (bytes_eq line (codes "evc-trace 1")) as (λ b. bytes_eq line (codes "evc-trace 1") ≡ b → cond b (Ok Limiting) (Err Bad) ≡ Ok next → (line ≡ codes "evc-trace 1") × (next ≡ Limiting)) [
-      | true ↦ λ q g. ((bytes_eq-Decides line (codes "evc-trace 1")).0 q, ok_is Limiting next g)
-      | false ↦ λ q g. (cc)
-    ] refl e
+first_back line next e = (let l = limiting_back (version_of trace_header line) next e in (l.0, version_back trace_header line l.0 l.1, l.2))
 
 opening_back : (lines : List (List ℕ)) (t : Recounted) → Leads Opening lines (Ended t) → AreOf lines t
 opening_back [] t leads = cc
 opening_back (line ∷ lines) t (next, taken, leads) =
     let f = first_back line next taken in
-    subst (λ (x : List ℕ). AreOf (x ∷ lines) t) (sym f.0) (limiting_back lines t (subst (λ (s : Stage). Leads s lines (Ended t)) f.1 leads))
+    subst (λ (x : List ℕ). AreOf (x ∷ lines) t) (sym f.1) (behind_first f.0 lines t (subst (λ (s : Stage). Leads s lines (Ended t)) f.2 leads))
 
 -- bytes that are read as a heading and a history are the trace of these
 pub read_is_trace : ReadIsTrace

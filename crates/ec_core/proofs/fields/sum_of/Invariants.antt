@@ -7,5 +7,5 @@ use Rattle.ec_core.proofs.fields.sum_of.Given as goal
 abbrev pub invariant-loop-component : goal.invariant-loop-component
 invariant-loop-component l = record {
   sum : l.sum ≡ sum_to (λ c. value_of (count_at l.counts l.event c)) l.component;
-  small : l.sum ≤ l.component * 2 ^ 32;
+  small : l.sum ≤ l.component * 2 ^ 48;
 }

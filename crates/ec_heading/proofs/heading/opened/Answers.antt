@@ -9,7 +9,7 @@ use Rattle.ec_heading.proofs.heading.opened.Goals as goal
 pub invariant_of-result : goal.invariant_of-result
 invariant_of-result c =
     let e = c.in_ok-add_workers.ensures in
-    opens c.args.limit c.args.list.now c.add_workers.new.setup c.add_workers.new.names c.add_workers.new.words c.new-3.result.items c.new-4.result.items (omega arith) (omega arith) c.requires
+    opens c.args.version c.args.limit c.args.list.now c.add_workers.new.setup c.add_workers.new.names c.add_workers.new.words c.new-3.result.items c.new-4.result.items (omega arith) c.requires.within c.requires.none
     (e.setup ∙ ap (λ (t : Tables). record t { workers = t.workers + length (words_of c.args.list.now) }) c.new-setup.ensures)
     (e.names ∙ ap₂ (λ (names : List (List ℕ × Target)) (t : Tables). names ++ numbered t.workers (words_of c.args.list.now)) c.in-Ok.ensures c.new-setup.ensures)
     (e.words ∙ ap₂ (λ (words : List (List ℕ × Target)) (t : Tables). words ++ numbered t.workers (words_of c.args.list.now)) c.in-Ok-new.ensures c.new-setup.ensures)

@@ -1,16 +1,16 @@
-use Rattle.std.proofs.Common.{◌≡◌, length, ◌∙◌, arith}
-use Rattle.ec_runner.proofs.Promising.{told_many}
-use Rattle.ec_runner.proofs.Telling.{verdict_report}
+use Rattle.std.proofs.Common.{arith}
+use Rattle.ec_runner.proofs.Telling.{answer_few, answer_each, answer_report, answer_names}
 use Rattle.ec_runner.proofs.workers.run_on.Goals as goal
 
-pub reported-requires-clause-few : goal.reported-requires-clause-few
-reported-requires-clause-few g c =
-    let many : length c.in_ok-run.tolds.items ≡ length c.args.programs.now = told_many c.args.programs.now c.args.turns c.in_ok-run.tolds.items c.in_ok-run.ensures in
-    omega (arith, many, c.requires)
+pub answered-requires-clause-few : goal.answered-requires-clause-few
+answered-requires-clause-few g c = answer_few c.args.programs.now c.args.turns c.ran-ended.result (omega (arith, c.requires, c.known.ensures.few_workers)) c.ran-ended.ensures
 
-pub reported-requires-clause-each : goal.reported-requires-clause-each
-reported-requires-clause-each g c = told_many c.args.programs.now c.args.turns c.in_ok-run.tolds.items c.in_ok-run.ensures ∙ c.requires
+pub answered-requires-clause-each : goal.answered-requires-clause-each
+answered-requires-clause-each g c = answer_each c.args.setup.now c.args.programs.now c.args.turns c.ran-ended.result c.requires c.ran-ended.ensures
 
-pub returns : goal.returns
-returns g c =
-    verdict_report c.args.setup.now c.args.programs.now c.args.turns c.in_ok-run.run' c.in_ok-run.tolds.items c.reported.result c.requires c.in_ok-run.ensures c.reported.ensures
+pub returns-clause-report : goal.returns-clause-report
+returns-clause-report g c = answer_report c.args.setup.now c.args.programs.now c.args.turns c.ran-ended.result c.answered.result c.requires c.ran-ended.ensures c.answered.ensures
+
+pub returns-clause-named : goal.returns-clause-named
+returns-clause-named g c =
+    answer_names c.args.setup.now c.args.programs.now c.args.turns c.ran-ended.result c.answered.result c.requires c.ran-ended.ensures c.answered.ensures

@@ -3,6 +3,8 @@ use Rattle.std.specs.List.{range_with_len}
 use Rattle.ec_count.specs.Tables.{Tables}
 use Rattle.ec_text.specs.Puts.{Puts}
 use Rattle.ec_text.proofs.shared.PutLemmas.{puts_then}
+use Rattle.ec_heading.specs.declared.version.Version.{Version}
+use Rattle.ec_heading.specs.Spelling.{trace_header}
 use Rattle.ec_heading.specs.Recalled.{spaced, names_of}
 use Rattle.ec_trace.proofs.shared.LineParts.{opening_parts}
 use Rattle.ec_trace.proofs.write_heading.put_opening.Goals as goal
@@ -18,7 +20,10 @@ returns g c =
     (puts_then _ _ _ _ _ _ _ _
     (puts_then _ _ _ _ _ _ _ _
     (puts_then _ _ _ _ _ _ _ _
-    (puts_then _ _ _ _ _ _ _ _ c.put.ensures.puts
+    (puts_then _ _ _ _ _ _ _ _
+    (puts_then _ _ _ _ _ _ _ _
+    (subst (λ (v : Version). Puts (g.W.Write.contents c.args.writer.now) c.args.buffered.now (g.W.Write.contents c.put_first.new.writer) c.put_first.new.buffered (trace_header v)) c.version.ensures c.put_first.ensures)
+    c.put.ensures.puts)
     (subst (λ (n : ℕ). Puts (g.W.Write.contents c.put.new.writer) c.put.new.buffered (g.W.Write.contents c.put_number.new.writer) c.put_number.new.buffered (decimal n)) limit c.put_number.ensures.puts))
     c.put-2.ensures.puts)
     (subst (λ (n : ℕ). Puts (g.W.Write.contents c.put-2.new.writer) c.put-2.new.buffered (g.W.Write.contents c.put_workers.new.writer) c.put_workers.new.buffered (spaced (names_of c.args.spellings.now (range_with_len 0 n)))) workers c.put_workers.ensures))

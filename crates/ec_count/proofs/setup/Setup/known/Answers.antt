@@ -11,7 +11,7 @@ returns c =
     let inside = c.self.inside in
     subst IsDeclared c.self.view_is (record {
       few = subst (λ (xs : List Rights). length xs ≤ 32) c.as_slice-events.ensures.value c.as_slice-events.ensures.fits;
-      limit = subst (λ n. (1 ≤ n) × (n < 2 ^ 32)) c.get-limit.ensures.value c.get-limit.ensures.range;
+      limit = subst (λ n. (1 ≤ n) × (n < 2 ^ 48)) c.get-limit.ensures.value c.get-limit.ensures.range;
       few_workers = kept.few_workers;
       few_sequencers = subst (λ (xs : List (List ℕ)). length xs ≤ 32) c.as_slice-takers.ensures.value c.as_slice-takers.ensures.fits;
       few_cells = subst (λ (xs : List Access). length xs ≤ 256) c.as_slice-cells.ensures.value c.as_slice-cells.ensures.fits;

@@ -21,6 +21,6 @@ spell_declaration-requires-clause-new c =
 
 pub invariant_of-self-2 : goal.invariant_of-self-2
 invariant_of-self-2 c =
-    declares c.args.self.now (declaration_of c.args.self.now.words (shown c.args.parts.now)) c.add_objects-group.new.setup c.spell_declaration.new.names c.spell_declaration.new.words c.push_group.new.groups.items c.push_target.new.declarations.items
+    declares c.args.self.now (declaration_of c.args.self.now.words (shown c.args.parts.now)) c.self.inside.version c.add_objects-group.new.setup c.spell_declaration.new.names c.spell_declaration.new.words c.push_group.new.groups.items c.push_target.new.declarations.items
     (subst IsHeading c.self.view_is c.self.invariant) c.requires.some c.requires.may
-    (grind (arith, common_steps)) (grind (arith, common_steps)) (grind (arith, common_steps)) (grind (arith, common_steps)) (grind (arith, common_steps))
+    (grind (arith, common_steps)) (grind (arith, common_steps)) (grind (arith, common_steps)) (grind (arith, common_steps)) (grind (arith, common_steps)) (grind (arith, common_steps))

@@ -1,0 +1,155 @@
+-- A walk keeps what it says it keeps, also where entries whose calls are not on a group are left out.
+use Rattle.std.proofs.Common.{◌≡◌, ℕ, zero, suc, ◌+◌, ◌<◌, Bool, true, false, not, ◌||◌, List, [], ◌∷◌, ◌++◌, Option, Some, None, refl, ap, sym, ◌∙◌, subst, ◌==◌, add-one, take, length, reverse, slice_get, slice_set}
+use Rattle.std.specs.Option.{option_map}
+use Rattle.std.proofs.lemmas.Bool.{eqb-true}
+use Rattle.std.proofs.lemmas.List.{reverse-append, reverse-reverse, length-reverse}
+use Rattle.ec_core.specs.declared.act.Act.{Act}
+use Rattle.ec_core.specs.declared.act.Act.TheVariants.{Advance, Read, Await, Go, Ticket, Put, Get}
+use Rattle.ec_core.specs.declared.act.Entry.{Entry}
+use Rattle.ec_core.specs.declared.audit.AuditFault.{AuditFault}
+use Rattle.ec_core.specs.declared.audit.AuditFault.TheVariants.{NotFollowed, Memory}
+use Rattle.ec_core.specs.declared.protocol.Kept.{Kept}
+use Rattle.ec_core.specs.Audits.{IsFirstBreak}
+use Rattle.ec_core.specs.Calls.{CallSoFar, under_way}
+use Rattle.ec_core.specs.Counts.{past_at}
+use Rattle.ec_core.specs.Following.{Told, Rule, opened, block_after, block, is_right, Follow, BreaksAt}
+use Rattle.ec_core.specs.JoinedLists.{SpeaksOf}
+use Rattle.ec_core.specs.Scanning.{Tracked, AreKept, AreBegun, IsFinding, IsTracked, open_after}
+use Rattle.ec_core.proofs.shared.Breaks.{break_at, follow_or_break}
+use Rattle.ec_core.proofs.shared.Following.{op_at, off_block, other_block}
+use Rattle.ec_core.proofs.shared.Moments.{past_next}
+use Rattle.ec_core.proofs.shared.Scans.{op_of, lists_after, begun_after}
+
+-- THE CALLS UNDER WAY
+
+pub begun_first : (begun : List (Option Act)) → ((w : ℕ) → w < 16 → slice_get begun w ≡ Some None) → AreBegun begun []
+unfolding under_way
+begun_first begun b = λ w lt. b w lt
+
+-- one more entry, in the words of the code
+pub begun_take : (begun : List (Option Act)) (x : Entry) (past : List Entry) (i : ℕ) (o b : Option Act)
+    → AreBegun begun past → i ≡ x.worker → i < 16 → b ≡ option_map op_of (under_way x.worker past) → o ≡ open_after x.act x.reply b
+    → AreBegun (slice_set begun i o) (x ∷ past)
+begun_take begun x past i o b s at lt is next =
+    let Small : ℕ → Type 0 = λ n. n < 16 in
+    let Q : ℕ → Type 0 = λ n. AreBegun (slice_set begun n o) (x ∷ past) in
+    subst Q (sym at) (begun_after begun x past o s (subst Small at lt) (next ∙ ap (open_after x.act x.reply) is))
+
+-- WHAT WAS FOUND
+
+newest_last : (x : Entry) (past : List Entry) → reverse past ++ x ∷ [] ≡ reverse (x ∷ past)
+newest_last x past = sym (reverse-append (x ∷ []) past)
+
+get_early : (h : List Entry) (y x : Entry) (k : ℕ) → slice_get h k ≡ Some x → slice_get (h ++ y ∷ []) k ≡ Some x
+get_early [] y x k at = cc
+get_early (z ∷ h) y x zero at = at
+get_early (z ∷ h) y x (suc k) at = get_early h y x k at
+
+early : (h : List Entry) (y x : Entry) (k : ℕ) → slice_get h k ≡ Some x → take k (h ++ y ∷ []) ≡ take k h
+early [] y x k at = cc
+early (z ∷ h) y x zero at = refl
+early (z ∷ h) y x (suc k) at = ap (λ l. z ∷ l) (early h y x k at)
+
+take_early : (h : List Entry) (y x : Entry) (k : ℕ) → slice_get h k ≡ Some x → past_at k (h ++ y ∷ []) ≡ past_at k h
+take_early h y x k at = ap reverse (early h y x k at)
+
+after_early : (h : List Entry) (y x : Entry) (k : ℕ) → slice_get h k ≡ Some x → past_at (k + 1) (h ++ y ∷ []) ≡ past_at (k + 1) h
+after_early h y x k at =
+    ap (λ n. past_at n (h ++ y ∷ [])) (add-one k) ∙ past_next (h ++ y ∷ []) k x (get_early h y x k at) ∙ ap (λ p. x ∷ p) (take_early h y x k at)
+    ∙ sym (ap (λ n. past_at n h) (add-one k) ∙ past_next h k x at)
+
+-- a first break stays the first, whatever comes after it
+break_stays : (rules : ℕ → Rule) (h : List Entry) (y : Entry) (w k : ℕ) → BreaksAt rules h w k → BreaksAt rules (h ++ y ∷ []) w k
+break_stays rules h y w k b = record {
+  entry = b.entry;
+  is = get_early h y b.entry k b.is;
+  by = b.by;
+  before = subst (Follow rules) (sym (take_early h y b.entry k b.is)) b.before;
+  breaks = λ f. b.breaks (subst (Follow rules) (after_early h y b.entry k b.is) f);
+}
+
+pub found_stays : (rules : ℕ → Rule) (fault : AuditFault) (x : Entry) (past : List Entry) → IsFinding rules (Some fault) past → IsFinding rules (Some fault) (x ∷ past)
+found_stays rules (NotFollowed w k) x past b = subst (λ h. BreaksAt rules h w k) (newest_last x past) (break_stays rules (reverse past) x w k b)
+found_stays rules Memory x past b = b
+
+-- an entry that is not right is the first break of a past that followed
+pub found_break : (rules : ℕ → Rule) (x : Entry) (past : List Entry) (place : ℕ) (right : Bool) → place ≡ length past → Follow rules past
+    → right ≡ is_right (rules x.worker) (block (rules x.worker) x.worker past) x.act → right ≡ false → IsFinding rules (Some (NotFollowed x.worker place)) (x ∷ past)
+found_break rules x past place right at f is wrong =
+    let P : List Entry → Type 0 = λ p. Follow rules p in
+    let R : List Entry → Type 0 = λ p. is_right (rules x.worker) (block (rules x.worker) x.worker p) x.act ≡ false in
+    let back : past ≡ reverse (reverse past) = sym (reverse-reverse past) in
+    break_at rules (reverse (x ∷ past)) (reverse past) [] x place (newest_last x past) (at ∙ sym (length-reverse past)) (subst P back f) (subst R back (sym is ∙ wrong))
+
+-- what was found after all entries of a history
+pub found_first : (rules : ℕ → Rule) (fault : AuditFault) (h : List Entry) → IsFinding rules (Some fault) (reverse h) → IsFirstBreak rules h fault
+found_first rules fault h b = subst (λ l. IsFirstBreak rules l fault) (reverse-reverse h) b
+
+pub found_either : (rules : ℕ → Rule) (fault : AuditFault) (h : List Entry) → IsFinding rules (Some fault) (reverse h) → Follow rules (reverse h) → ⊥
+found_either rules (NotFollowed w k) h b f = follow_or_break rules h w k (found_first rules (NotFollowed w k) h b) f
+found_either rules Memory h b f = b
+
+-- A WHOLE TRACKER
+
+abbrev pub tracked : List Kept → Option AuditFault → Tracked
+tracked kept fault = record { kept = kept; fault = fault }
+
+pub tracked_first : (rules : ℕ → Rule) (keeps : List Told → Kept) (kept : List Kept) (start : Kept) → start ≡ keeps []
+    → ((w : ℕ) → w < 16 → slice_get kept w ≡ Some start) → IsTracked rules keeps (tracked kept None) []
+unfolding block
+tracked_first rules keeps kept start e k = record { lists = λ w lt. k w lt ∙ ap Some e; finding = tt }
+
+-- one more entry, in the words of the code
+pub tracked_take : (rules : ℕ → Rule) (keeps : List Told → Kept) (kept : List Kept) (fault found : Option AuditFault) (x : Entry) (past : List Entry) (i : ℕ) (was k : Kept) (op : Act)
+    → IsTracked rules keeps (tracked kept fault) past → i ≡ x.worker → i < 16
+    → was ≡ keeps (block (rules x.worker) x.worker past) → op ≡ op_at x past
+    → ((calls : List Told) → was ≡ keeps calls → k ≡ keeps (block_after (rules x.worker) calls op x.reply))
+    → IsFinding rules found (x ∷ past)
+    → IsTracked rules keeps (tracked (slice_set kept i k) found) (x ∷ past)
+tracked_take rules keeps kept fault found x past i was k op s at lt was_is op_is list finding =
+    let Small : ℕ → Type 0 = λ n. n < 16 in
+    let Q : ℕ → Type 0 = λ n. AreKept rules keeps (slice_set kept n k) (x ∷ past) in
+    record {
+      lists = subst Q (sym at)
+          (lists_after rules keeps kept x past k s.lists (subst Small at lt)
+          (list (block (rules x.worker) x.worker past) was_is ∙ ap (λ a. keeps (block_after (rules x.worker) (block (rules x.worker) x.worker past) a x.reply)) op_is));
+      finding = finding;
+    }
+
+-- ENTRIES THAT MAY BE LEFT OUT
+
+not_true : (b c : Bool) → b ≡ false → not b || c ≡ true
+not_true false c h = refl
+not_true true c h = cc
+
+right_off : (r : Rule) (calls : List Told) (act : Act) (o : Option CallSoFar) → r.concerns calls (opened act o) ≡ false → is_right r calls act ≡ true
+right_off r calls Go o h = refl
+right_off r calls (Advance e) o h = not_true (r.concerns calls (Advance e)) (r.fits calls (Advance e)) h
+right_off r calls (Read e) o h = not_true (r.concerns calls (Read e)) (r.fits calls (Read e)) h
+right_off r calls (Await e v) o h = not_true (r.concerns calls (Await e v)) (r.fits calls (Await e v)) h
+right_off r calls (Ticket q) o h = not_true (r.concerns calls (Ticket q)) (r.fits calls (Ticket q)) h
+right_off r calls (Put y v) o h = not_true (r.concerns calls (Put y v)) (r.fits calls (Put y v)) h
+right_off r calls (Get y) o h = not_true (r.concerns calls (Get y)) (r.fits calls (Get y)) h
+
+found_off : (rules : ℕ → Rule) (fault : Option AuditFault) (x : Entry) (past : List Entry)
+    → is_right (rules x.worker) (block (rules x.worker) x.worker past) x.act ≡ true → IsFinding rules fault past → IsFinding rules fault (x ∷ past)
+found_off rules None x past right f = (right, f)
+found_off rules (Some fault) x past right b = found_stays rules fault x past b
+
+block_off : (rules : ℕ → Rule) (x : Entry) (past : List Entry) (w : ℕ) → (rules x.worker).concerns (block (rules x.worker) x.worker past) (op_at x past) ≡ false
+    → block (rules w) w (x ∷ past) ≡ block (rules w) w past
+block_off rules x past w off =
+    elim (x.worker == w) as (λ b. (x.worker == w) ≡ b → block (rules w) w (x ∷ past) ≡ block (rules w) w past) [
+      | true ↦ λ h. (let P : ℕ → Type 0 = λ v. block (rules v) v (x ∷ past) ≡ block (rules v) v past in subst P (eqb-true x.worker w h) (off_block (rules x.worker) x past off))
+      | false ↦ λ h. other_block (rules w) w x past h
+    ] refl
+
+-- where the rules speak of the calls on a group, an entry whose call is not on it changes nothing
+pub tracked_off : (rules : ℕ → Rule) (keeps : List Told → Kept) (is_on : Act → Bool) (z : Tracked) (x : Entry) (past : List Entry)
+    → ((w : ℕ) → SpeaksOf (rules w) is_on) → is_on (op_at x past) ≡ false → IsTracked rules keeps z past → IsTracked rules keeps z (x ∷ past)
+tracked_off rules keeps is_on z x past speaks off s =
+    let apart : (rules x.worker).concerns (block (rules x.worker) x.worker past) (op_at x past) ≡ false = speaks x.worker (block (rules x.worker) x.worker past) (op_at x past) ∙ off in
+    record {
+      lists = λ w lt. s.lists w lt ∙ ap (λ b. Some (keeps b)) (sym (block_off rules x past w apart));
+      finding = found_off rules z.fault x past (right_off (rules x.worker) (block (rules x.worker) x.worker past) x.act (under_way x.worker past) apart) s.finding;
+    }

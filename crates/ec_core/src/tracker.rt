@@ -1,0 +1,103 @@
+//! What a walk over a run keeps of a group.
+ghost use Rattle.std.specs.Prelude.{◌≡◌, ◌↔◌, ℕ, List, [], ◌∷◌, length, reverse, IsOk, IfErr};
+ghost use Rattle.ec_core.specs.declared.act.Entry.{Entry};
+ghost use Rattle.ec_core.specs.declared.protocol.Kept.{Kept};
+ghost use Rattle.ec_core.specs.Audits.{IsFirstBreak};
+ghost use Rattle.ec_core.specs.Calls.{under_way};
+ghost use Rattle.ec_core.specs.Following.{Told, Rule, opened, block, Follow};
+ghost use Rattle.ec_core.specs.Scanning.{IsFinding, IsTracked};
+
+use crate::fields::all_alike;
+use crate::{Act, AuditFault, Entry, Kept, Protocol, Run};
+use ec_count::WorkerId;
+use std::marker::Model;
+
+/// How far each worker has come in the lists of calls on a group, and the first entry that breaks
+/// them. An entry whose call is not on the group changes neither, so it may be left out.
+#[derive(Drop)]
+pub struct Tracker {
+    kept: [Kept; 16],
+    fault: Option<AuditFault>,
+}
+
+impl Model for Tracker {
+    ghost use Rattle.ec_core.specs.Scanning.{Tracked};
+
+    ghost Value = { Tracked };
+
+    ghost view = { λ s. record { kept = s.kept; fault = s.fault } };
+}
+
+impl Tracker {
+    /// Before the first entry.
+    pub fn new<P: Protocol>(protocol: &P) -> Self
+        ensures { IsTracked (P.rules protocol.now) (P.keeps protocol.now) result [] }
+    {
+        Tracker {
+            kept: all_alike(protocol.start()),
+            fault: None,
+        }
+    }
+
+    /// What is kept of the list that the worker is in.
+    pub fn kept(&self, worker: WorkerId) -> Kept
+        ensures { (rules : ℕ → Rule) (keeps : List Told → Kept) (past : List Entry) → IsTracked rules keeps self.now past
+            → result ≡ keeps (block (rules worker) worker past) }
+    {
+        self.kept[worker.get()]
+    }
+
+    /// Whether the workers follow these lists, after all entries of a run. Err is NotFollowed with
+    /// the first entry that breaks them.
+    pub fn followed<P: Protocol>(&self, protocol: &P, run: &Run) -> Result<(), AuditFault>
+        requires { IsTracked (P.rules protocol.now) (P.keeps protocol.now) self.now (reverse run.now.entries) }
+        ensures ok { IsOk result ↔ Follow (P.rules protocol.now) (reverse run.now.entries) }
+        ensures err { IfErr result (IsFirstBreak (P.rules protocol.now) run.now.entries) }
+    {
+        let _ = run;
+        let _ = protocol;
+        match self.fault {
+            None => Ok(()),
+            Some(fault) => Err(fault),
+        }
+    }
+
+    /// Takes an entry in, given its place in the run and the act that began its call.
+    pub fn take<P: Protocol>(&mut self, protocol: &P, place: usize, op: &Act, entry: &Entry)
+        ensures { (past : List Entry) → place ≡ length past → op.now ≡ opened entry.now.act (under_way entry.now.worker past)
+            → IsTracked (P.rules protocol.now) (P.keeps protocol.now) self.old past
+            → IsTracked (P.rules protocol.now) (P.keeps protocol.now) self.new (entry.now ∷ past) }
+    {
+        let kept = self.kept(entry.worker);
+        let worker = entry.worker.get();
+        self.fault = found(protocol, self.fault, &kept, place, entry);
+        self.kept[worker] = protocol.after(entry.worker, &kept, op, entry.reply);
+    }
+}
+
+/// What was found, with one more entry.
+fn found<P: Protocol>(
+    protocol: &P,
+    before: Option<AuditFault>,
+    kept: &Kept,
+    place: usize,
+    entry: &Entry,
+) -> Option<AuditFault>
+    ensures { (past : List Entry) → place ≡ length past
+        → kept.now ≡ P.keeps protocol.now (block (P.rules protocol.now entry.now.worker) entry.now.worker past)
+        → IsFinding (P.rules protocol.now) before past → IsFinding (P.rules protocol.now) result (entry.now ∷ past) }
+{
+    match before {
+        Some(fault) => Some(fault),
+        None => {
+            if protocol.is_right(entry.worker, kept, &entry.act) {
+                None
+            } else {
+                Some(AuditFault::NotFollowed {
+                    worker: entry.worker,
+                    entry: place,
+                })
+            }
+        }
+    }
+}

@@ -1,0 +1,35 @@
+//! One walk over the entries of a run, for one audit or for many.
+ghost use Rattle.std.specs.Prelude.{◌≡◌, ◌+◌, ◌<◌, ◌^◌, List, [], ◌∷◌, length, reverse};
+ghost use Rattle.ec_core.specs.declared.act.Entry.{Entry};
+ghost use Rattle.ec_core.specs.Calls.{under_way};
+ghost use Rattle.ec_core.specs.Following.{opened};
+
+use crate::begun::Begun;
+use crate::{Act, Entry, Run};
+
+/// What is gathered in a walk over the entries of a run.
+pub trait Audit {
+    // What stands after a past, given what was there before the walk.
+    ghost stands: { Self → Self → List Entry → Type 0 };
+
+    /// Takes the next entry in, given its place in the run and the act that began its call.
+    fn take(&mut self, place: usize, op: &Act, entry: &Entry)
+        requires { place + 1 < 2 ^ 64 }
+        ensures { (start : Self) (past : List Entry) → place ≡ length past → op.now ≡ opened entry.now.act (under_way entry.now.worker past)
+            → stands start self.old past → stands start self.new (entry.now ∷ past) };
+}
+
+/// Hands each entry of a run to an audit, in order.
+pub fn walk<A: Audit>(run: &Run, audit: &mut A)
+    requires { A.stands audit.old audit.old [] }
+    ensures { A.stands audit.old audit.new (reverse run.now.entries) }
+{
+    let mut begun = Begun::new();
+    let mut place = 0;
+    for entry in run.entries() {
+        let op = begun.op(&entry);
+        audit.take(place, &op, &entry);
+        begun.take(&entry);
+        place += 1;
+    }
+}

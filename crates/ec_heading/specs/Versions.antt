@@ -1,0 +1,19 @@
+-- The versions of texts: which limits each may have, and by which first line it is told.
+use Rattle.std.specs.Prelude.{ℕ, Bool, ◌&&◌, nat_le, List, Option, Some, None, if◌then◌else◌, bytes_eq}
+use Rattle.ec_heading.specs.declared.version.Version.{Version}
+use Rattle.ec_heading.specs.declared.version.Version.TheVariants.{One, Two}
+
+abbrev pub greatest_limit : Version → ℕ
+greatest_limit One = 4294967295
+greatest_limit Two = 281474976710655
+
+-- whether a text of this version may have the limit n
+abbrev pub is_limit : Version → ℕ → Bool
+is_limit v n = nat_le 1 n && nat_le n (greatest_limit v)
+
+abbrev pub as_limit : Version → ℕ → Option ℕ
+as_limit v n = if is_limit v n then Some n else None
+
+-- the version that a line tells, where these are the first lines of the versions
+abbrev pub version_of : (Version → List ℕ) → List ℕ → Option Version
+version_of header line = if bytes_eq line (header One) then Some One else if bytes_eq line (header Two) then Some Two else None

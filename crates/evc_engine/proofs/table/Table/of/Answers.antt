@@ -1,0 +1,42 @@
+use Rattle.std.proofs.Common.{◌≡◌, ℕ, ◌<◌, Some, refl, sym, subst, arith, slice_get}
+use Rattle.ec_core.specs.declared.act.Act.{Act}
+use Rattle.ec_core.specs.declared.act.Act.TheVariants.{Advance, Read, Await, Ticket}
+use Rattle.evc_engine.specs.Walks.{Covers}
+use Rattle.evc_engine.proofs.WalkLemmas.{covers_at, on_advance, on_await}
+use Rattle.evc_engine.proofs.table.Table.of.Goals as goal
+
+pub returns-in-Advance : goal.returns-in-Advance
+returns-in-Advance c = λ groups t.
+    (let e = c.in-Advance.event in
+    let spans = c.args.self.now.events in
+    let less : e < 32 = omega (arith, c.get.ensures.value, c.get.ensures.small) in
+    subst (λ (a : Act). Covers groups a c.at.result) (sym c.in-Advance.is)
+    (covers_at groups (Advance e) (Read e) spans e c.at.result (t.events e less)
+    (subst (λ (n : ℕ). slice_get spans n ≡ Some c.at.result) c.get.ensures.value c.at.ensures) (on_advance e)))
+
+pub returns-in-Read : goal.returns-in-Read
+returns-in-Read c = λ groups t.
+    (let e = c.in-Read.event in
+    let spans = c.args.self.now.events in
+    let less : e < 32 = omega (arith, c.get-in-Read.ensures.value, c.get-in-Read.ensures.small) in
+    subst (λ (a : Act). Covers groups a c.at-in-Read.result) (sym c.in-Read.is)
+    (covers_at groups (Read e) (Read e) spans e c.at-in-Read.result (t.events e less)
+    (subst (λ (n : ℕ). slice_get spans n ≡ Some c.at-in-Read.result) c.get-in-Read.ensures.value c.at-in-Read.ensures) (λ g. refl)))
+
+pub returns-in-Await : goal.returns-in-Await
+returns-in-Await c = λ groups t.
+    (let e = c.in-Await.event in
+    let spans = c.args.self.now.events in
+    let less : e < 32 = omega (arith, c.get-in-Await.ensures.value, c.get-in-Await.ensures.small) in
+    subst (λ (a : Act). Covers groups a c.at-in-Await.result) (sym c.in-Await.is)
+    (covers_at groups (Await e c.in-Await.field-1) (Read e) spans e c.at-in-Await.result (t.events e less)
+    (subst (λ (n : ℕ). slice_get spans n ≡ Some c.at-in-Await.result) c.get-in-Await.ensures.value c.at-in-Await.ensures) (on_await e c.in-Await.field-1)))
+
+pub returns-in-Ticket : goal.returns-in-Ticket
+returns-in-Ticket c = λ groups t.
+    (let q = c.in-Ticket.sequencer in
+    let spans = c.args.self.now.sequencers in
+    let less : q < 32 = omega (arith, c.get-in-Ticket.ensures.value, c.get-in-Ticket.ensures.small) in
+    subst (λ (a : Act). Covers groups a c.at-in-Ticket.result) (sym c.in-Ticket.is)
+    (covers_at groups (Ticket q) (Ticket q) spans q c.at-in-Ticket.result (t.sequencers q less)
+    (subst (λ (n : ℕ). slice_get spans n ≡ Some c.at-in-Ticket.result) c.get-in-Ticket.ensures.value c.at-in-Ticket.ensures) (λ g. refl)))

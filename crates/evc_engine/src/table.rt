@@ -1,0 +1,161 @@
+//! Which groups an act may be on, found by the object that it names.
+ghost use Rattle.std.specs.Prelude.{◌≡◌, ℕ, ◌+◌, ◌<◌, ◌≤◌, ◌^◌, List, length, Some, slice_get};
+ghost use Rattle.ec_core.specs.declared.act.Act.TheVariants.{Read, Ticket};
+ghost use Rattle.ec_heading.specs.declared.group.Group.{Group};
+ghost use Rattle.evc_engine.specs.Walks.{is_on, CoversFirst, Covers, CoversAt, IsTable};
+
+use ec_core::Act;
+use ec_count::{EventId, SeqId};
+use ec_trace::Group;
+
+/// Groups whose numbers follow one another: from `first` on, before `end`.
+#[derive(Clone, Copy, Debug)]
+pub(crate) struct Span {
+    pub(crate) first: usize,
+    pub(crate) end: usize,
+}
+
+/// No group.
+const NOWHERE: Span = Span {
+    first: usize::MAX,
+    end: 0,
+};
+
+/// The groups that each eventcount and each sequencer may be of, by its number. In a heading that
+/// is one group at most, since its groups share no object; cells are of no group in the walk.
+#[derive(Drop)]
+pub(crate) struct Table {
+    events: [Span; 32],
+    sequencers: [Span; 32],
+}
+
+/// Whether an act names an object of a group whose audit is made in the walk.
+fn is_on(group: &Group, act: &Act) -> bool
+    ensures { result ≡ is_on group.now act.now }
+{
+    match group {
+        Group::Buffer(_) => false,
+        Group::Database(_) => false,
+        Group::Semaphore(shape) => ec_semaphore::is_on(shape, act),
+        Group::Both(shape) => ec_semaphore::is_on(shape, act),
+    }
+}
+
+/// With the group of a number, which is behind all of these.
+fn reaching(span: Span, number: usize) -> Span
+    requires { number + 1 < 2 ^ 64 }
+    ensures first { result.first ≤ span.first }
+    ensures here { result.first ≤ number }
+    ensures end { result.end ≡ number + 1 }
+{
+    let first = if span.first < number {
+        span.first
+    } else {
+        number
+    };
+    Span {
+        first,
+        end: number + 1,
+    }
+}
+
+/// With one more group, if an act is on it.
+fn with_group(groups: &[Group], act: &Act, span: Span, number: usize) -> Span
+    requires { number < length groups.now }
+    ensures { CoversFirst groups.now act.now span number → CoversFirst groups.now act.now result (number + 1) }
+{
+    if is_on(&groups[number], act) {
+        reaching(span, number)
+    } else {
+        span
+    }
+}
+
+/// The groups that an act is on, and those between them.
+fn span_of(groups: &[Group], act: &Act) -> Span
+    ensures { Covers groups.now act.now result }
+{
+    let mut span = NOWHERE;
+    for number in 0..groups.len() {
+        span = with_group(groups, act, span, number);
+    }
+    span
+}
+
+/// The groups that an eventcount may be of.
+fn event_span(groups: &[Group], number: usize) -> Span
+    requires { number < 32 }
+    ensures { Covers groups.now (Read number) result }
+{
+    match EventId::new(number) {
+        Some(event) => span_of(groups, &Act::Read(event)),
+        None => NOWHERE,
+    }
+}
+
+/// The groups that each eventcount may be of.
+fn events_of(groups: &[Group]) -> [Span; 32]
+    ensures { (e : ℕ) → e < 32 → CoversAt groups.now (Read e) result e }
+{
+    let mut spans = [NOWHERE; 32];
+    for number in 0..32 {
+        spans[number] = event_span(groups, number);
+    }
+    spans
+}
+
+/// The groups that a sequencer may be of.
+fn sequencer_span(groups: &[Group], number: usize) -> Span
+    requires { number < 32 }
+    ensures { Covers groups.now (Ticket number) result }
+{
+    match SeqId::new(number) {
+        Some(sequencer) => span_of(groups, &Act::Ticket(sequencer)),
+        None => NOWHERE,
+    }
+}
+
+/// The groups that each sequencer may be of.
+fn sequencers_of(groups: &[Group]) -> [Span; 32]
+    ensures { (q : ℕ) → q < 32 → CoversAt groups.now (Ticket q) result q }
+{
+    let mut spans = [NOWHERE; 32];
+    for number in 0..32 {
+        spans[number] = sequencer_span(groups, number);
+    }
+    spans
+}
+
+/// What a table has at a place.
+fn at(spans: &[Span; 32], number: usize) -> Span
+    requires { number < 32 }
+    ensures { slice_get spans.now number ≡ Some result }
+{
+    spans[number]
+}
+
+impl Table {
+    pub(crate) fn new(groups: &[Group]) -> Self
+        ensures { IsTable groups.now result }
+    {
+        Table {
+            events: events_of(groups),
+            sequencers: sequencers_of(groups),
+        }
+    }
+
+    /// The groups that an act is on are among these.
+    pub(crate) fn of(&self, act: &Act) -> Span
+        ensures { (groups : List Group) → IsTable groups self.now → Covers groups act.now result }
+    {
+        match act {
+            Act::Advance(event) => at(&self.events, event.get()),
+            Act::Read(event) => at(&self.events, event.get()),
+            Act::Await(event, _) => at(&self.events, event.get()),
+            Act::Go => NOWHERE,
+            Act::Ticket(sequencer) => at(&self.sequencers, sequencer.get()),
+            Act::Put(_, _) => NOWHERE,
+            Act::Get(_) => NOWHERE,
+        }
+    }
+}

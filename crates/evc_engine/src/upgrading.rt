@@ -1,0 +1,53 @@
+//! `upgrade`: a trace in; the same trace in version 2 out.
+ghost use Rattle.std.specs.Prelude.{◌≡◌, IfSome};
+ghost use Rattle.evc_engine.specs.Notes.{IsWrittenOut};
+ghost use Rattle.evc_engine.specs.Upgrades.{Rewrites, Upgrades};
+
+use crate::checking::status_of;
+use crate::notes::Notes;
+use crate::status::Status;
+use ec_trace::{Traced, read_trace, write_trace};
+use std::alloc::Global;
+use std::io::{Read, Write};
+
+/// Writes a trace in version 2.
+fn write_upgraded<W: Write, N: Write>(traced: Traced, out: &mut W, notes: &mut Notes<N>) -> Status
+    ensures ends { Rewrites traced result
+        (record { out = W.contents out.old; notes = N.contents notes.old.writer; held = notes.old.table })
+        (record { out = W.contents out.new; notes = N.contents notes.new.writer; held = notes.new.table }) }
+    ensures written { IsWrittenOut notes.old.table → IsWrittenOut notes.new.table }
+{
+    let traced = traced.upgrade();
+    match write_trace(traced.run(), traced.heading(), out) {
+        Ok(()) => Status::Done,
+        Err(_) => {
+            notes.say(b"write fault\n");
+            Status::InputOutput
+        }
+    }
+}
+
+/// Reads a trace, and writes the one of the same declarations and the same history in version 2;
+/// notes say what is wrong. A trace of version 2 comes out as it was.
+///
+/// Nothing is written to `out` before the trace was read to its end.
+#[tactic(auto, using(crate::proofs::UpgradeLemmas::upgraded_so))]
+pub fn upgrade<R: Read, W: Write, N: Write>(
+    alloc: Global,
+    reader: &mut R,
+    out: &mut W,
+    notes: &mut Notes<N>,
+) -> Status
+    ensures ends { IfSome (R.remaining reader.old) (λ bytes. Upgrades bytes (R.remaining reader.new) result
+        (record { out = W.contents out.old; notes = N.contents notes.old.writer; held = notes.old.table })
+        (record { out = W.contents out.new; notes = N.contents notes.new.writer; held = notes.new.table })) }
+    ensures written { IsWrittenOut notes.old.table → IsWrittenOut notes.new.table }
+{
+    match read_trace(alloc, reader) {
+        Ok(traced) => write_upgraded(traced, out, notes),
+        Err(fault) => {
+            notes.fault(&fault);
+            status_of(&fault)
+        }
+    }
+}
