@@ -14,10 +14,11 @@ helper whose own contract says nothing of it, or what reads a table; FUNCTION is
 or the end of that. Where several are named, each has to be refused.
 """
 
+import glob
 import os
 import re
 from concurrent.futures import ThreadPoolExecutor
-from dataclasses import dataclass, field
+from dataclasses import dataclass, field, replace
 
 
 @dataclass
@@ -32,6 +33,8 @@ class Body:
     pairs: list = field(default_factory=list)
     # The functions that have to be refused, where these are not the changed ones.
     refused_in: list = field(default_factory=list)
+    # 0 where it is put into the function that it changes, else the number of the twin that it is put into.
+    twin: int = 0
 
 
 class BadBody(Exception):
@@ -84,6 +87,8 @@ def read(folder, file):
 
 def applied(folder, body, texts):
     """Returns these texts with the body put into them, or None where a text of it doesn't stand there exactly once."""
+    if body.twin:
+        return with_twin(folder, body, texts)
     texts = dict(texts)
     for file, old, new in body.pairs:
         text = texts[file] if file in texts else read(folder, file)
@@ -106,7 +111,8 @@ def faults(folder, body):
 def faults_of_files(folder):
     """Returns the files of a crate whose bodies can't be tried together, each with its reason."""
     for name in names_of_files(folder):
-        if len(fitting(folder, bodies_in(folder, name))) > 1:
+        together = [it for group in fitting(folder, bodies_in(folder, name)) for it in group]
+        if any(it.twin for it in together) or all_applied(folder, together) is None:
             yield name, "two bodies of it change one function: they belong into two files"
 
 
@@ -121,6 +127,8 @@ class Function:
     name: str
     first: int
     last: int
+    # Whether it stands in a trait, or in what a type has of one.
+    is_of_trait: bool = False
 
 
 ITEM = re.compile(
@@ -142,24 +150,25 @@ def block_name(head):
 
 def functions_of(file, text):
     """Returns the functions of a source file, each from its head to the line before the next item's head."""
-    found, block, block_indent = [], "", -1
+    found, block, block_indent, is_of_trait = [], "", -1, False
     module = os.path.splitext(os.path.basename(file))[0]
     lines = text.split("\n")
     for number, line in enumerate(lines, 1):
         indent = len(line) - len(line.lstrip())
         if block and line.strip() == "}" and indent == block_indent:
-            block, block_indent = "", -1
+            block, block_indent, is_of_trait = "", -1, False
         head = ITEM.match(line)
         if not head:
             continue
         if head["impl"] is not None or head["trait"] is not None:
             block = head["trait"] or block_name(head["impl"])
             block_indent = indent
+            is_of_trait = head["trait"] is not None or " for " in head["impl"]
         elif head["fn"]:
             end = next(
                 (at for at in range(number, len(lines) + 1) if lines[at - 1].rstrip() == " " * indent + "}"), len(lines)
             )
-            found.append(Function(file, f"{block or module}::{head['fn']}", number, end))
+            found.append(Function(file, f"{block or module}::{head['fn']}", number, end, is_of_trait))
     return found
 
 
@@ -174,6 +183,8 @@ def function_at(file, text, old):
 def targets(folder, body):
     """Returns the ends of the names of the functions that have to be refused: each of those that the body names,
     or one of those that it changes."""
+    if body.twin:
+        return [name_of_twin(only_function(folder, body).name, body.twin)]
     if body.refused_in:
         return sorted(set(body.refused_in))
     found = {function_at(file, read(folder, file), old) for file, old, _ in body.pairs}
@@ -197,44 +208,149 @@ def readers(folder, constant):
                     yield it.name
 
 
+def reads_by(folder, body):
+    """Returns the functions that read a constant which the body changes."""
+    outside = [old for file, old, _ in body.pairs if not function_at(file, read(folder, file), old)]
+    constants = [found[1] for it in outside if (found := re.match(r"\s*const (\w+)", it))]
+    return {name for it in constants for name in readers(folder, it)}
+
+
 def taken_by(folder, body):
     """Returns what a body has for itself in a check with others: the functions that it changes, those that have to
     be refused, those that read a constant which it changes, and a text outside functions."""
-    taken = set(targets(folder, body))
+    taken = {*targets(folder, body), *reads_by(folder, body)}
     for file, old, _ in body.pairs:
         inside = function_at(file, read(folder, file), old)
         taken.add(inside.name if inside else old)
-        constant = None if inside else re.match(r"\s*const (\w+)", old)
-        taken.update(readers(folder, constant[1]) if constant else ())
     return taken
 
 
 def all_applied(folder, together):
-    """Returns the texts with all of these bodies put into them, or None where one no longer fits."""
+    """Returns the texts with all of these bodies put into them, or None where one no longer fits. Twins come last, since
+    what they are made from is the text of the repository."""
     texts = {}
-    for body in together:
+    for body in sorted(together, key=lambda it: it.twin):
         texts = applied(folder, body, texts)
         if texts is None:
             return None
     return texts
 
 
+# Twins: a second body of one function goes into a copy of that function, under a name of its own and with its proof files
+
+
+def name_of_twin(name, number):
+    return f"{name}_twin{number}"
+
+
+def only_function(folder, body):
+    """Returns the one function that a body changes, and that is to be refused, or None where it isn't so."""
+    found = {function_at(file, read(folder, file), old) for file, old, _ in body.pairs}
+    only = found.pop() if len(found) == 1 else None
+    return only if only and body.refused_in in ([], [only.name]) else None
+
+
+def can_have_twin(folder, body):
+    """Returns whether the function that a body changes can stand twice in its file: it is of no trait, and is proved by
+    itself, and not together with those that call it again."""
+    only = only_function(folder, body)
+    if only is None or only.is_of_trait:
+        return False
+    inside, word = place_of(only)
+    return not os.path.isdir(os.path.join(folder, "proofs", inside, f"+{word}"))
+
+
+def place_of(function):
+    """Returns the folder below proofs/ that a function's own stands in, and its name."""
+    block, word = function.name.split("::")
+    module = os.path.splitext(os.path.relpath(function.file, "src"))[0]
+    return module if block == os.path.basename(module) else os.path.join(module, block), word
+
+
+def lines_of(folder, function):
+    """Returns the lines of a function, with its attributes."""
+    lines = read(folder, function.file).split("\n")
+    first = function.first
+    while lines[first - 2].lstrip().startswith("#["):
+        first -= 1
+    return lines[first - 1 : function.last]
+
+
+def with_twin(folder, body, texts):
+    """Returns these texts with a twin of the function that the body changes behind it, in which it is changed."""
+    only = only_function(folder, body)
+    word = only.name.split("::")[-1]
+    twin = "\n".join(lines_of(folder, only))
+    for _, old, new in body.pairs:
+        twin = twin.replace(old, new)
+    twin = re.sub(rf"\bfn {word}\b", f"fn {name_of_twin(word, body.twin)}", twin, count=1)
+    text = texts[only.file] if only.file in texts else read(folder, only.file)
+    last = next(it.last for it in functions_of(only.file, text) if it.name == only.name)
+    lines = text.split("\n")
+    lines[last:last] = ["", *twin.split("\n")]
+    return {**texts, only.file: "\n".join(lines), **proof_of_twin(folder, only, body.twin)}
+
+
+def proof_of_twin(folder, function, number):
+    """Returns the proof files of a function as those of its twin."""
+    inside, word = place_of(function)
+    place, names = os.path.join("proofs", inside, word), ".".join(["proofs", *inside.split(os.sep), word])
+    found = {}
+    for file in sorted(glob.glob(os.path.join(folder, place, "*.antt"))):
+        text = read(folder, os.path.relpath(file, folder))
+        there = os.path.join(name_of_twin(place, number), os.path.basename(file))
+        found[there] = text.replace(f"{names}.", f"{name_of_twin(names, number)}.")
+    return found
+
+
+@dataclass
+class Group:
+    """Bodies that are put into one copy of their crate."""
+
+    together: list = field(default_factory=list)
+    # What they have for themselves.
+    taken: set = field(default_factory=set)
+    # The functions that have twins, and those that read a constant which a body changes.
+    with_twins: set = field(default_factory=set)
+    readers: set = field(default_factory=set)
+    is_closed: bool = False
+
+    def took(self, folder, body):
+        """Takes in the body, or a twin of its function with it, and returns whether it could."""
+        mine, reads = taken_by(folder, body), reads_by(folder, body)
+        if self.is_closed:
+            return False
+        if not mine & self.taken and not reads & self.with_twins:
+            return self.added(folder, body, mine, reads)
+        only = only_function(folder, body)
+        if not can_have_twin(folder, body) or only.name in self.readers:
+            return False
+        twin = replace(body, twin=len(self.together))
+        self.with_twins.add(only.name)
+        return self.added(folder, twin, set(targets(folder, twin)), set())
+
+    def added(self, folder, body, mine, reads):
+        if self.together and all_applied(folder, [*self.together, body]) is None:
+            return False
+        self.together.append(body)
+        self.taken |= mine
+        self.readers |= reads
+        return True
+
+
 def fitting(folder, bodies):
     """Cuts the bodies into groups, each of which can be put into one copy of the crate: no two of a group change or
-    judge one function, or change a text of the other, and none of several changes a type."""
+    judge one function, or change a text of the other, and none of several changes a type. Where two change one function,
+    the second goes into a twin of it."""
     groups = []
     for body in bodies:
         if applied(folder, body, {}) is None:
             raise BadBody(f"{body.crate}/{body.name}: a text of it does not stand in its file exactly once")
-        mine, is_alone = taken_by(folder, body), stands_alone(folder, body)
-        for together, taken in groups if not is_alone else ():
-            if taken is not None and not mine & taken and all_applied(folder, [*together, body]) is not None:
-                together.append(body)
-                taken |= mine
-                break
-        else:
-            groups.append(([body], None if is_alone else mine))
-    return [together for together, _ in groups]
+        is_alone = stands_alone(folder, body)
+        if is_alone or not any(it.took(folder, body) for it in groups):
+            groups.append(Group(is_closed=is_alone))
+            groups[-1].added(folder, body, taken_by(folder, body), reads_by(folder, body))
+    return [it.together for it in groups]
 
 
 # What a check said
@@ -304,21 +420,45 @@ def tried(folder, log_of, at_once=1):
 
 
 def tried_together(folder, name, together, log_of):
-    """Tries bodies that fit together, and then alone each of which that check says nothing of its own. Where it has no
-    verdict at all, as of a text that can't be read, each half of them is tried."""
+    """Tries bodies that fit together, and then alone each of which that check says nothing of its own. Where it says nothing
+    at all, as of a text that can't be read, each half of them is tried."""
     log = log_of(name, all_applied(folder, together), ends_of(folder, together))
-    if len(together) > 1 and not re.search(r"(?m)^only=", log):
+    if len(together) > 1 and not proves_unchanged(folder, together, log):
         half = len(together) // 2
         yield from tried_together(folder, f"{name}a", together[:half], log_of)
         yield from tried_together(folder, f"{name}b", together[half:], log_of)
         return
     for body in together:
-        found = judged_by(folder, body, log)
+        found = judged_in(folder, together, body, log)
         if not found.is_refused() and len(together) > 1:
-            found = judged_by(folder, body, log_of(body.name, applied(folder, body, {}), targets(folder, body)))
+            alone = replace(body, twin=0)
+            found = judged_in(folder, [alone], alone, log_of(body.name, applied(folder, alone, {}), ends_of(folder, [alone])))
         yield found
 
 
-def ends_of(folder, some):
-    """Returns the ends of the names of all functions that these bodies are judged by."""
-    return sorted({end for body in some for end in targets(folder, body)})
+def judged_in(folder, together, body, log):
+    """Judges a body by the log of a check of the crate with all of these. Where that check doesn't prove what none of them
+    changes, it says nothing of any."""
+    found = judged_by(folder, body, log)
+    return found if proves_unchanged(folder, together, log) else replace(found, verdict=UNREAD)
+
+
+def proves_unchanged(folder, together, log):
+    return verdict_on([unchanged(folder, together)], log) == PROVED
+
+
+def unchanged(folder, together):
+    """Returns the end of the name of a function that none of these bodies has to do with: each check is asked for it too,
+    and has to prove it."""
+    taken = {name for body in together for name in taken_by(folder, replace(body, twin=0))}
+    for file in sorted(glob.glob(os.path.join(folder, "src", "**", "*.rt"), recursive=True)):
+        short = os.path.relpath(file, folder)
+        for it in functions_of(short, read(folder, short)):
+            if not it.is_of_trait and it.name not in taken:
+                return it.name
+    raise BadBody(f"{os.path.basename(folder)}: no function is left that none of its wrong bodies has to do with")
+
+
+def ends_of(folder, together):
+    """Returns the ends of the names of all functions that a check with these bodies is asked for."""
+    return sorted({unchanged(folder, together), *(end for body in together for end in targets(folder, body))})

@@ -5,6 +5,7 @@ import importlib.util
 import json
 import os
 import shutil
+import subprocess
 import sys
 import tempfile
 
@@ -22,13 +23,23 @@ def load():
 
 
 def check_functions(rt, crate, texts, ends, kept):
-    """Checks the functions whose names have these ends, in a crate with these texts. It goes over a copy of the kept
-    work, so that the next check finds that as it was: each check keeps what it read in the place of what was there."""
+    """Checks the functions whose names have these ends, in a crate with these texts, and returns what the check says. It goes
+    over a copy of the kept work, so that the next check finds that as it was: each check keeps what it read in the place of
+    what was there."""
     flags = ["--jobs", "1", *(word for end in ends for word in ("--only", end))]
-    with tempfile.TemporaryDirectory(prefix="rt-kept-") as room:
+    with tempfile.TemporaryDirectory(prefix="rt-kept-") as room, tempfile.TemporaryDirectory(prefix="rt-edit-") as folder:
         if os.path.isdir(kept):
             shutil.copytree(kept, room, dirs_exist_ok=True, copy_function=linked)
-        return rt.checked(crate, texts, flags, room)
+        for part in rt.rtlib.PARTS:
+            if os.path.isdir(f"{crate.folder}/{part}"):
+                shutil.copytree(f"{crate.folder}/{part}", f"{folder}/{part}")
+        for path, text in texts.items():
+            os.makedirs(os.path.dirname(f"{folder}/{path}"), exist_ok=True)
+            with open(f"{folder}/{path}", "w", encoding="utf-8") as file:
+                file.write(text)
+        words = [rt.rtlib.RATTLE, "check", *crate.words(flags, keeps=False), "--incremental", room]
+        how = {"cwd": folder, "stdin": subprocess.DEVNULL, "stdout": subprocess.PIPE, "stderr": subprocess.STDOUT}
+        return subprocess.run([*rt.rtlib.guarded(), *words], errors="replace", **how).stdout
 
 
 def linked(old, new):
