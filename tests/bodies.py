@@ -88,7 +88,7 @@ def read(folder, file):
 def applied(folder, body, texts):
     """Returns these texts with the body put into them, or None where a text of it doesn't stand there exactly once."""
     if body.twin:
-        return with_twin(folder, body, texts)
+        return with_twin(folder, only_function(folder, body), body.twin, body.pairs, texts)
     texts = dict(texts)
     for file, old, new in body.pairs:
         text = texts[file] if file in texts else read(folder, file)
@@ -166,7 +166,8 @@ def functions_of(file, text):
             is_of_trait = head["trait"] is not None or " for " in head["impl"]
         elif head["fn"]:
             end = next(
-                (at for at in range(number, len(lines) + 1) if lines[at - 1].rstrip() == " " * indent + "}"), len(lines)
+                (at for at in range(number, len(lines) + 1) if lines[at - 1].rstrip() in (" " * indent + "}", " " * indent + "{}")),
+                len(lines),
             )
             found.append(Function(file, f"{block or module}::{head['fn']}", number, end, is_of_trait))
     return found
@@ -233,10 +234,21 @@ def all_applied(folder, together):
         texts = applied(folder, body, texts)
         if texts is None:
             return None
+    for function in twinned(folder, together):
+        texts = with_twin(folder, function, UNCHANGED, [], texts)
     return texts
 
 
-# Twins: a second body of one function goes into a copy of that function, under a name of its own and with its proof files
+# Twins: a second body of one function goes into a copy of that function, under a name of its own and with its proof files.
+# Beside it stands a copy that is as the function was, and has to be proved: so it is the body that is refused.
+
+UNCHANGED = 0
+
+
+def twinned(folder, together):
+    """Returns the functions that have twins."""
+    found = {only_function(folder, it) for it in together if it.twin}
+    return sorted(found, key=lambda it: (it.file, it.name))
 
 
 def name_of_twin(name, number):
@@ -252,19 +264,9 @@ def only_function(folder, body):
 
 def can_have_twin(folder, body):
     """Returns whether the function that a body changes can stand twice in its file: it is of no trait, and is proved by
-    itself, and not together with those that call it again."""
+    itself, and not together with others that call it again."""
     only = only_function(folder, body)
-    if only is None or only.is_of_trait:
-        return False
-    inside, word = place_of(only)
-    return not os.path.isdir(os.path.join(folder, "proofs", inside, f"+{word}"))
-
-
-def place_of(function):
-    """Returns the folder below proofs/ that a function's own stands in, and its name."""
-    block, word = function.name.split("::")
-    module = os.path.splitext(os.path.relpath(function.file, "src"))[0]
-    return module if block == os.path.basename(module) else os.path.join(module, block), word
+    return only is not None and not only.is_of_trait and not any("#[cycle(" in it for it in lines_of(folder, only))
 
 
 def lines_of(folder, function):
@@ -276,24 +278,25 @@ def lines_of(folder, function):
     return lines[first - 1 : function.last]
 
 
-def with_twin(folder, body, texts):
-    """Returns these texts with a twin of the function that the body changes behind it, in which it is changed."""
-    only = only_function(folder, body)
-    word = only.name.split("::")[-1]
-    twin = "\n".join(lines_of(folder, only))
-    for _, old, new in body.pairs:
+def with_twin(folder, function, number, pairs, texts):
+    """Returns these texts with a twin of a function behind it, in which these pairs of texts are changed."""
+    word = function.name.split("::")[-1]
+    twin = "\n".join(lines_of(folder, function))
+    for _, old, new in pairs:
         twin = twin.replace(old, new)
-    twin = re.sub(rf"\bfn {word}\b", f"fn {name_of_twin(word, body.twin)}", twin, count=1)
-    text = texts[only.file] if only.file in texts else read(folder, only.file)
-    last = next(it.last for it in functions_of(only.file, text) if it.name == only.name)
+    twin = re.sub(rf"\bfn {word}\b", f"fn {name_of_twin(word, number)}", twin, count=1)
+    text = texts[function.file] if function.file in texts else read(folder, function.file)
+    last = next(it.last for it in functions_of(function.file, text) if it.name == function.name)
     lines = text.split("\n")
     lines[last:last] = ["", *twin.split("\n")]
-    return {**texts, only.file: "\n".join(lines), **proof_of_twin(folder, only, body.twin)}
+    return {**texts, function.file: "\n".join(lines), **proof_of_twin(folder, function, number)}
 
 
 def proof_of_twin(folder, function, number):
     """Returns the proof files of a function as those of its twin."""
-    inside, word = place_of(function)
+    block, word = function.name.split("::")
+    module = os.path.splitext(os.path.relpath(function.file, "src"))[0]
+    inside = module if block == os.path.basename(module) else os.path.join(module, block)
     place, names = os.path.join("proofs", inside, word), ".".join(["proofs", *inside.split(os.sep), word])
     found = {}
     for file in sorted(glob.glob(os.path.join(folder, place, "*.antt"))):
@@ -415,25 +418,39 @@ def tried(folder, log_of, at_once=1):
     returns the log, which has that name."""
     groups = enumerate(fitting(folder, bodies_of(folder)), 1)
     with ThreadPoolExecutor(at_once) as pool:
-        for found in pool.map(lambda it: list(tried_together(folder, f"together_{it[0]}", it[1], log_of)), groups):
+        for found in pool.map(lambda it: list(tried_group(folder, f"together_{it[0]}", it[1], log_of)), groups):
             yield from found
 
 
-def tried_together(folder, name, together, log_of):
-    """Tries bodies that fit together, and then alone each of which that check says nothing of its own. Where it says nothing
-    at all, as of a text that can't be read, each half of them is tried."""
+def tried_group(folder, name, together, log_of):
+    """Tries bodies that fit together. Those of which that says nothing of their own, since their functions call others that
+    are changed, are tried once more in twins, with all functions beside them as they were; and what is left then, alone."""
+    left = {it.name: it for it in together}
+    for found in judged_together(folder, name, together, log_of):
+        if found.is_refused() or len(together) == 1:
+            del left[found.body.name]
+            yield found
+    twins = [replace(it, twin=at) for at, it in enumerate(left.values(), 1) if can_have_twin(folder, it)]
+    for found in judged_together(folder, f"{name}_twins", twins, log_of) if len(twins) > 1 else ():
+        if found.is_refused():
+            del left[found.body.name]
+            yield found
+    for body in left.values():
+        yield from judged_together(folder, body.name, [body], log_of)
+
+
+def judged_together(folder, name, together, log_of):
+    """Judges bodies by one check of the crate with all of them. Where it says nothing at all, as of a text that can't be read,
+    each half of them is checked."""
+    if len(together) == 1:
+        together = [replace(together[0], twin=0)]
     log = log_of(name, all_applied(folder, together), ends_of(folder, together))
     if len(together) > 1 and not proves_unchanged(folder, together, log):
         half = len(together) // 2
-        yield from tried_together(folder, f"{name}a", together[:half], log_of)
-        yield from tried_together(folder, f"{name}b", together[half:], log_of)
-        return
-    for body in together:
-        found = judged_in(folder, together, body, log)
-        if not found.is_refused() and len(together) > 1:
-            alone = replace(body, twin=0)
-            found = judged_in(folder, [alone], alone, log_of(body.name, applied(folder, alone, {}), ends_of(folder, [alone])))
-        yield found
+        yield from judged_together(folder, f"{name}a", together[:half], log_of)
+        yield from judged_together(folder, f"{name}b", together[half:], log_of)
+    else:
+        yield from (judged_in(folder, together, it, log) for it in together)
 
 
 def judged_in(folder, together, body, log):
@@ -444,21 +461,34 @@ def judged_in(folder, together, body, log):
 
 
 def proves_unchanged(folder, together, log):
-    return verdict_on([unchanged(folder, together)], log) == PROVED
+    return all(verdict_on([it], log) == PROVED for it in unchanged(folder, together))
 
 
 def unchanged(folder, together):
-    """Returns the end of the name of a function that none of these bodies has to do with: each check is asked for it too,
-    and has to prove it."""
+    """Returns the ends of the names of functions that none of these bodies changes. Each check is asked for them too, and
+    has to prove them: one that none has to do with, and of each function with twins the one that is as it was."""
+    twins = [name_of_twin(it.name, UNCHANGED) for it in twinned(folder, together)]
+    return [bystander(folder, together), *twins]
+
+
+def bystander(folder, together):
+    """Returns the end of the name of a function that none of these bodies has to do with: no law, whose proof may be long,
+    and where there is one, of a file that uses no other of the crate, so that a type which a body changes is not its either."""
     taken = {name for body in together for name in taken_by(folder, replace(body, twin=0))}
+    changed = {file for body in together for file, _, _ in body.pairs}
+    found = []
     for file in sorted(glob.glob(os.path.join(folder, "src", "**", "*.rt"), recursive=True)):
         short = os.path.relpath(file, folder)
-        for it in functions_of(short, read(folder, short)):
-            if not it.is_of_trait and it.name not in taken:
-                return it.name
-    raise BadBody(f"{os.path.basename(folder)}: no function is left that none of its wrong bodies has to do with")
+        text = read(folder, short)
+        if "#[test]" not in text:
+            stands_on = 2 * (short in changed) + bool(re.search(r"\b(crate|super)::", text))
+            found += [(stands_on, it) for it in functions_of(short, text) if not it.is_of_trait and it.name not in taken]
+    found = [(stands_on, it.name) for stands_on, it in found if lines_of(folder, it)[-1].strip() != "{}"]
+    if not found:
+        raise BadBody(f"{os.path.basename(folder)}: each function has to do with one of the bodies {together[0].name} ..")
+    return min(found, key=lambda it: it[0])[1]
 
 
 def ends_of(folder, together):
     """Returns the ends of the names of all functions that a check with these bodies is asked for."""
-    return sorted({unchanged(folder, together), *(end for body in together for end in targets(folder, body))})
+    return sorted({*unchanged(folder, together), *(end for body in together for end in targets(folder, body))})
