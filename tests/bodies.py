@@ -461,14 +461,16 @@ def judged_in(folder, together, body, log):
 
 
 def proves_unchanged(folder, together, log):
-    return all(verdict_on([it], log) == PROVED for it in unchanged(folder, together))
+    """Returns whether the check with these bodies proves what none of them changes: a function that none has to do with, and
+    of each function with twins the one that is as it was, which may still call what is changed."""
+    twins = [name_of_twin(it.name, UNCHANGED) for it in twinned(folder, together)]
+    is_sound = verdict_on([bystander(folder, together)], log) == PROVED
+    return is_sound and all(verdict_on([it], log) in (PROVED, OTHER) for it in twins)
 
 
 def unchanged(folder, together):
-    """Returns the ends of the names of functions that none of these bodies changes. Each check is asked for them too, and
-    has to prove them: one that none has to do with, and of each function with twins the one that is as it was."""
-    twins = [name_of_twin(it.name, UNCHANGED) for it in twinned(folder, together)]
-    return [bystander(folder, together), *twins]
+    """Returns the ends of the names of functions that none of these bodies changes, which each check is asked for too."""
+    return [bystander(folder, together), *(name_of_twin(it.name, UNCHANGED) for it in twinned(folder, together))]
 
 
 def bystander(folder, together):
