@@ -1,6 +1,7 @@
 //! Two to fifteen workers, all at once.
+use crate::drive::add;
 use crate::gate_tests::AllAtOnce;
-use crate::threads::{Sight, add_lines, plan_of, run_plan, sees};
+use crate::threads::{Sight, run_text, sees};
 use ec_core::{Act, Entry, Reply};
 use ec_machine::Outcome;
 use ec_runner::Report;
@@ -17,42 +18,46 @@ static NAMES: [&str; 15] = [
 
 /// Adds a word with a list of names behind it.
 fn add_list(text: &mut Vec<u8>, word: &str, names: &[&str]) -> Result<(), Fail> {
-    text.extend_from_slice(word.as_bytes())?;
+    add(text, &[word])?;
     for name in names {
-        text.push(b' ')?;
-        text.extend_from_slice(name.as_bytes())?;
+        add(text, &[" ", *name])?;
     }
     Ok(())
 }
 
+/// What stands before each of the lists of names in the heading.
+static LISTS: [&str; 4] = [
+    "evc-script 1\nlimit 15\nworkers",
+    "\neventcount E signal",
+    " observe",
+    "\nsequencer T take",
+];
+
 /// Adds the heading of these workers, who all use one eventcount and one sequencer.
 fn add_heading(text: &mut Vec<u8>, names: &[&str]) -> Result<(), Fail> {
-    add_lines(text, &["evc-script 1", "limit 15"])?;
-    add_list(text, "workers", names)?;
-    add_list(text, "\neventcount E signal", names)?;
-    add_list(text, " observe", names)?;
-    add_list(text, "\nsequencer T take", names)?;
-    text.push(b'\n')?;
-    Ok(())
+    for word in &LISTS {
+        add_list(text, word, names)?;
+    }
+    add(text, &["\n"])
 }
 
-/// Adds the block of a worker that awaits the turn of its ticket, hands the turn on, and then awaits that all have had theirs.
-fn add_block(text: &mut Vec<u8>, name: &str, all_had: &str) -> Result<(), Fail> {
-    add_list(text, "worker", &[name])?;
-    add_lines(
-        text,
-        &["", "ticket T", "await E last", "advance E", all_had, "end"],
-    )
+/// What a worker does first: it awaits the turn of its ticket, and hands the turn on.
+const ITS_TURN: &str = "\nticket T\nawait E last\nadvance E\n";
+
+/// Adds the script of these workers, who then await that all have had their turns.
+fn add_script(text: &mut Vec<u8>, names: &[&str], all_had: &str) -> Result<(), Fail> {
+    add_heading(text, names)?;
+    for name in names {
+        add(text, &["worker ", *name, ITS_TURN, all_had])?;
+    }
+    Ok(())
 }
 
 /// The script of these workers.
 fn script(alloc: Global, names: &[&str]) -> Result<Vec<u8>, Fail> {
-    let all_had = format!(in alloc; "await E {}", names.len())?;
+    let all_had = format!(in alloc; "await E {}\nend\n", names.len())?;
     let mut text = Vec::new(alloc);
-    add_heading(&mut text, names)?;
-    for name in names {
-        add_block(&mut text, name, all_had.as_str())?;
-    }
+    add_script(&mut text, names, all_had.as_str())?;
     Ok(text)
 }
 
@@ -111,8 +116,7 @@ fn serves<R: Threads + Wait + Clock + Abort + Sync>(
     let gate = AllAtOnce::new(workers as u64);
     let names = &NAMES[..workers.min(15)];
     let text = script(alloc, names)?;
-    let plan = plan_of(alloc, text.as_slice())?;
-    let report = run_plan(rt, alloc, &plan, &gate, 10_000)?;
+    let report = run_text(rt, alloc, text.as_slice(), &gate, 10_000)?;
     let all = workers as u64;
     sees(
         &report,

@@ -1,24 +1,24 @@
 //! Texts that end early, and those that are too long.
-use crate::drive::{Fault, Part, TICKETS, fault_of, have_faults_in, text_of};
+use crate::drive::{LongRow, Row, TICKETS, fault_of, have_faults, have_long_faults, text_of};
 use ec_script::SCRIPT_MAX;
 use std::alloc::Global;
 use std::test::Fail;
 
-static FIRST_LINES: [(&[Part], Fault); 9] = [
-    (&[], (1, 12)),
-    (&[("evc-sc", 1)], (1, 1)),
-    (&[("evc-script 1", 1)], (1, 12)),
-    (&[("evc-script 1\n", 1)], (2, 12)),
-    (&[("evc-script 2\n", 1)], (2, 12)),
-    (&[("evc-script 3\n", 1)], (1, 1)),
-    (&[("evc-script 02\n", 1)], (1, 1)),
-    (&[("evc-script 2 \n", 1)], (1, 1)),
-    (&[("\n", 1)], (1, 1)),
+static FIRST_LINES: [Row; 9] = [
+    ("", (1, 12)),
+    ("evc-sc", (1, 1)),
+    ("evc-script 1", (1, 12)),
+    ("evc-script 1\n", (2, 12)),
+    ("evc-script 2\n", (2, 12)),
+    ("evc-script 3\n", (1, 1)),
+    ("evc-script 02\n", (1, 1)),
+    ("evc-script 2 \n", (1, 1)),
+    ("\n", (1, 1)),
 ];
 
 #[test]
 fn texts_that_end_in_their_first_line(rt: HostRuntime) -> Result<(), Fail> {
-    have_faults_in(rt.alloc(), &[], &FIRST_LINES)
+    have_faults(rt.alloc(), "", &FIRST_LINES)
 }
 
 /// How many LF there are.
@@ -52,19 +52,19 @@ fn a_script_cut_after_each_byte(rt: HostRuntime) -> Result<(), Fail> {
     Ok(())
 }
 
-static RESTS: [(&[Part], Fault); 3] = [
-    (&[("workers a", 1)], (3, 12)),
-    (&[("workers a a", 1)], (3, 4)),
-    (&[("workers", 1)], (3, 2)),
+static RESTS: [Row; 3] = [
+    ("workers a", (3, 12)),
+    ("workers a a", (3, 4)),
+    ("workers", (3, 2)),
 ];
 
 /// The rest behind the last LF is judged like every line before it is said to lack its LF.
 #[test]
 fn a_rest_is_judged_like_every_line(rt: HostRuntime) -> Result<(), Fail> {
-    have_faults_in(rt.alloc(), &[&["evc-script 1", "limit 10"]], &RESTS)
+    have_faults(rt.alloc(), "evc-script 1\nlimit 10\n", &RESTS)
 }
 
-static LONG: [(&[Part], Fault); 4] = [
+static LONG: [LongRow; 4] = [
     (&[("evc-script 1\n", 1), ("x", SCRIPT_MAX - 13)], (2, 2)),
     (&[("evc-script 1\n", 1), ("x", SCRIPT_MAX - 12)], (1, 7)),
     (&[("evc-script 2\n", 1), ("x", SCRIPT_MAX - 12)], (1, 7)),
@@ -74,5 +74,5 @@ static LONG: [(&[Part], Fault); 4] = [
 /// Of a text above the bound line 1 alone is looked at.
 #[test]
 fn texts_above_the_bound(rt: HostRuntime) -> Result<(), Fail> {
-    have_faults_in(rt.alloc(), &[], &LONG)
+    have_long_faults(rt.alloc(), &LONG)
 }

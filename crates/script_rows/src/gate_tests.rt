@@ -1,5 +1,5 @@
 //! Gates that only threads of their own, and holds of single steps, get through.
-use crate::threads::{Case, Sight, shows};
+use crate::threads::{Case, Sight, shows_held};
 use ec_core::Reply;
 use ec_count::WorkerId;
 use ec_machine::Outcome;
@@ -9,7 +9,7 @@ use std::test::Fail;
 use std::thread;
 
 /// How often a gate looks before it gives up.
-pub(crate) const LOOKS: u64 = 100_000_000;
+const LOOKS: u64 = 100_000_000;
 
 /// Whether a flag was raised, at the latest after so many looks.
 pub(crate) fn waited_for(flag: &AtomicBool) -> bool {
@@ -22,6 +22,24 @@ pub(crate) fn waited_for(flag: &AtomicBool) -> bool {
     false
 }
 
+/// Holds a worker until a flag is raised.
+pub(crate) fn hold_until(flag: &AtomicBool, has_failed: &AtomicBool) {
+    if !waited_for(flag) {
+        has_failed.store(true, Ordering::SeqCst);
+    }
+}
+
+/// Holds a worker until a number has come to a value.
+pub(crate) fn hold_for(number: &AtomicU64, value: u64, has_failed: &AtomicBool) {
+    for _ in 0..LOOKS {
+        if number.load(Ordering::SeqCst) >= value {
+            return;
+        }
+        thread::yield_now();
+    }
+    has_failed.store(true, Ordering::SeqCst);
+}
+
 /// Holds the second worker before its first step until the third has come to its second, and that
 /// one until the second worker's step is made.
 #[derive(Drop)]
@@ -31,26 +49,18 @@ struct Between {
     has_failed: AtomicBool,
 }
 
-impl Between {
-    fn hold_until(&self, flag: &AtomicBool) {
-        if !waited_for(flag) {
-            self.has_failed.store(true, Ordering::SeqCst);
-        }
-    }
-}
-
 impl Gate for Between {
     fn before(&self, worker: WorkerId, step: u64) {
         let place = worker.get();
         if place == 1 && step == 0 {
-            self.hold_until(&self.third_has_begun);
+            hold_until(&self.third_has_begun, &self.has_failed);
         }
         if place == 1 && step == 1 {
             self.second_has_ended.store(true, Ordering::SeqCst);
         }
         if place == 2 && step == 1 {
             self.third_has_begun.store(true, Ordering::SeqCst);
-            self.hold_until(&self.second_has_ended);
+            hold_until(&self.second_has_ended, &self.has_failed);
         }
     }
 }
@@ -80,31 +90,20 @@ impl AllAtOnce {
 
 impl Gate for AllAtOnce {
     fn before(&self, _worker: WorkerId, step: u64) {
-        if step != 0 {
-            return;
+        if step == 0 {
+            self.come.fetch_add(1, Ordering::SeqCst);
+            hold_for(&self.come, self.workers, &self.has_failed);
         }
-        self.come.fetch_add(1, Ordering::SeqCst);
-        for _ in 0..LOOKS {
-            if self.come.load(Ordering::SeqCst) >= self.workers {
-                return;
-            }
-            thread::yield_now();
-        }
-        self.has_failed.store(true, Ordering::SeqCst);
     }
 }
 
 static READ_OVERTAKEN: Case = Case {
-    heading: &[
-        "evc-script 1",
-        "limit 10",
-        "workers a b c",
-        "eventcount E signal a b observe c",
-    ],
-    blocks: &[
-        (&["b"], &["advance E", "end"]),
-        (&["c"], &["read E", "end"]),
-    ],
+    heading: "evc-script 1
+limit 10
+workers a b c
+eventcount E signal a b observe c
+",
+    blocks: &[(&["b"], "advance E\nend\n"), (&["c"], "read E\nend\n")],
     turns: 10_000,
     sights: &[
         Sight::Length(3),
@@ -122,25 +121,22 @@ fn an_advance_between_two_steps_of_a_read(rt: HostRuntime) -> Result<(), Fail> {
         second_has_ended: AtomicBool::new(false),
         has_failed: AtomicBool::new(false),
     };
-    shows(&rt, rt.alloc(), &READ_OVERTAKEN, &gate)?;
-    assert!(rt; !gate.has_failed.load(Ordering::SeqCst));
-    Ok(())
+    shows_held(&rt, rt.alloc(), &READ_OVERTAKEN, &gate, &gate.has_failed)
 }
 
 /// Sixteen workers that each advance E once.
 static SIXTEEN: Case = Case {
-    heading: &[
-        "evc-script 1",
-        "limit 10",
-        "workers w0 w1 w2 w3 w4 w5 w6 w7 w8 w9 w10 w11 w12 w13 w14 w15",
-        "eventcount E signal w0 w1 w2 w3 w4 w5 w6 w7 w8 w9 w10 w11 w12 w13 w14 w15",
-    ],
+    heading: "evc-script 1
+limit 10
+workers w0 w1 w2 w3 w4 w5 w6 w7 w8 w9 w10 w11 w12 w13 w14 w15
+eventcount E signal w0 w1 w2 w3 w4 w5 w6 w7 w8 w9 w10 w11 w12 w13 w14 w15
+",
     blocks: &[(
         &[
             "w0", "w1", "w2", "w3", "w4", "w5", "w6", "w7", "w8", "w9", "w10", "w11", "w12", "w13",
             "w14", "w15",
         ],
-        &["advance E", "end"],
+        "advance E\nend\n",
     )],
     turns: 10_000,
     sights: &[Sight::Length(16), Sight::All(16, Outcome::Finished)],
@@ -149,7 +145,5 @@ static SIXTEEN: Case = Case {
 #[test]
 fn sixteen_workers_at_once(rt: HostRuntime) -> Result<(), Fail> {
     let gate = AllAtOnce::new(16);
-    shows(&rt, rt.alloc(), &SIXTEEN, &gate)?;
-    assert!(rt; gate.has_held());
-    Ok(())
+    shows_held(&rt, rt.alloc(), &SIXTEEN, &gate, &gate.has_failed)
 }

@@ -9,17 +9,16 @@ const FIRST: [&str; 8] = ["w0", "w1", "w2", "w3", "w4", "w5", "w6", "w7"];
 
 const SECOND: [&str; 8] = ["w8", "w9", "w10", "w11", "w12", "w13", "w14", "w15"];
 
-const ADVANCES: [&str; 5] = ["repeat 500", "advance E", "end", "read E", "end"];
+const ADVANCES: &str = "repeat 500\nadvance E\nend\nread E\nend\n";
 
 /// Sixteen workers that each advance an eventcount 500 times and read it.
 static EIGHT_THOUSAND: Case = Case {
-    heading: &[
-        "evc-script 1",
-        "limit 500",
-        "workers w0 w1 w2 w3 w4 w5 w6 w7 w8 w9 w10 w11 w12 w13 w14 w15",
-        "eventcount E signal w0 w1 w2 w3 w4 w5 w6 w7 w8 w9 w10 w11 w12 w13 w14 w15 observe w0 w1 w2 w3 w4 w5 w6 w7 w8 w9 w10 w11 w12 w13 w14 w15",
-    ],
-    blocks: &[(&FIRST, &ADVANCES), (&SECOND, &ADVANCES)],
+    heading: "evc-script 1
+limit 500
+workers w0 w1 w2 w3 w4 w5 w6 w7 w8 w9 w10 w11 w12 w13 w14 w15
+eventcount E signal w0 w1 w2 w3 w4 w5 w6 w7 w8 w9 w10 w11 w12 w13 w14 w15 observe w0 w1 w2 w3 w4 w5 w6 w7 w8 w9 w10 w11 w12 w13 w14 w15
+",
+    blocks: &[(&FIRST, ADVANCES), (&SECOND, ADVANCES)],
     turns: 10_000,
     sights: &[
         Sight::All(16, Outcome::Finished),
@@ -35,15 +34,14 @@ fn eight_thousand_advances(rt: HostRuntime) -> Result<(), Fail> {
 
 /// Eight producers and eight consumers of 100 items each.
 static EIGHT_HUNDRED: Case = Case {
-    heading: &[
-        "evc-script 1",
-        "limit 1000",
-        "workers w0 w1 w2 w3 w4 w5 w6 w7 w8 w9 w10 w11 w12 w13 w14 w15",
-        "buffer B 4 produce w0 w1 w2 w3 w4 w5 w6 w7 consume w8 w9 w10 w11 w12 w13 w14 w15",
-    ],
+    heading: "evc-script 1
+limit 1000
+workers w0 w1 w2 w3 w4 w5 w6 w7 w8 w9 w10 w11 w12 w13 w14 w15
+buffer B 4 produce w0 w1 w2 w3 w4 w5 w6 w7 consume w8 w9 w10 w11 w12 w13 w14 w15
+",
     blocks: &[
-        (&FIRST, &["repeat 100", "produce B 7", "end", "end"]),
-        (&SECOND, &["repeat 100", "consume B", "end", "end"]),
+        (&FIRST, "repeat 100\nproduce B 7\nend\nend\n"),
+        (&SECOND, "repeat 100\nconsume B\nend\nend\n"),
     ],
     turns: 10_000,
     sights: &[Sight::All(16, Outcome::Finished)],

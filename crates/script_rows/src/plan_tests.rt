@@ -43,46 +43,44 @@ fn the_plan_of_the_script_of_tickets(rt: HostRuntime) -> Result<(), Fail> {
     Ok(())
 }
 
-static EACH_COMMAND: [&[&str]; 3] = [
-    &[
-        "evc-script 1",
-        "limit 4294967295",
-        "workers a b c",
-        "eventcount E signal a observe a",
-        "sequencer T take a",
-        "cells X 1 write a read a",
-        "buffer B 1 produce a consume b",
-        "database D 2 write a read b",
-        "semaphore R 0 use a",
-        "semaphore S 1000000 use a",
-        "both use a",
-    ],
-    &[
-        "worker b",
-        "consume B",
-        "snapshot D 1000",
-        "end",
-        "worker a",
-        "advance E",
-        "read E",
-        "await E last+1",
-        "ticket T",
-        "put X[0] last",
-        "get X[0]",
-        "repeat 2",
-        "produce B 999999999999999999",
-        "repeat 3",
-        "write D last 0",
-        "end",
-        "end",
-        "p R",
-        "v R",
-        "pboth R S",
-        "end",
-        "worker c",
-        "end",
-    ],
-    &["schedule a", "schedule b a"],
+static EACH_COMMAND: [&str; 1] = [
+    "evc-script 1
+limit 4294967295
+workers a b c
+eventcount E signal a observe a
+sequencer T take a
+cells X 1 write a read a
+buffer B 1 produce a consume b
+database D 2 write a read b
+semaphore R 0 use a
+semaphore S 1000000 use a
+both use a
+worker b
+consume B
+snapshot D 1000
+end
+worker a
+advance E
+read E
+await E last+1
+ticket T
+put X[0] last
+get X[0]
+repeat 2
+produce B 999999999999999999
+repeat 3
+write D last 0
+end
+end
+p R
+v R
+pboth R S
+end
+worker c
+end
+schedule a
+schedule b a
+",
 ];
 
 static OF_EACH_COMMAND: Sight = (3, 3, 5, &[0, 1, 0]);

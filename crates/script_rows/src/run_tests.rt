@@ -5,22 +5,21 @@ use ec_machine::Outcome;
 use std::test::Fail;
 
 /// The heading of the script of tickets.
-const TICKETS: [&str; 5] = [
-    "evc-script 1",
-    "limit 10",
-    "workers a c",
-    "eventcount E signal a observe c",
-    "sequencer T take c",
-];
+const TICKETS: &str = "evc-script 1
+limit 10
+workers a c
+eventcount E signal a observe c
+sequencer T take c
+";
 
 /// A worker that advances twice, and one that waits for one more than its ticket.
 const TICKETS_OF_C: [Block; 2] = [
-    (&["a"], &["advance E", "advance E", "end"]),
-    (&["c"], &["ticket T", "await E last+1", "read E", "end"]),
+    (&["a"], "advance E\nadvance E\nend\n"),
+    (&["c"], "ticket T\nawait E last+1\nread E\nend\n"),
 ];
 
 static FINISHES: Case = Case {
-    heading: &TICKETS,
+    heading: TICKETS,
     blocks: &TICKETS_OF_C,
     turns: 10_000,
     sights: &[
@@ -36,7 +35,7 @@ fn the_script_of_tickets_finishes(rt: HostRuntime) -> Result<(), Fail> {
 }
 
 static ONE_TURN: Case = Case {
-    heading: &TICKETS,
+    heading: TICKETS,
     blocks: &TICKETS_OF_C,
     turns: 1,
     sights: &[Sight::All(2, Outcome::OutOfTurns), Sight::Length(2)],
@@ -48,16 +47,15 @@ fn one_turn_each(rt: HostRuntime) -> Result<(), Fail> {
 }
 
 static EACH_WAITS: Case = Case {
-    heading: &[
-        "evc-script 1",
-        "limit 10",
-        "workers a b",
-        "eventcount E signal a observe b",
-        "eventcount F signal b observe a",
-    ],
+    heading: "evc-script 1
+limit 10
+workers a b
+eventcount E signal a observe b
+eventcount F signal b observe a
+",
     blocks: &[
-        (&["a"], &["await F 1", "advance E", "end"]),
-        (&["b"], &["await E 1", "advance F", "end"]),
+        (&["a"], "await F 1\nadvance E\nend\n"),
+        (&["b"], "await E 1\nadvance F\nend\n"),
     ],
     turns: 10_000,
     sights: &[Sight::All(2, Outcome::Stopped), Sight::Length(2)],
@@ -69,13 +67,12 @@ fn two_that_wait_for_each_other(rt: HostRuntime) -> Result<(), Fail> {
 }
 
 static ONE_WAITS: Case = Case {
-    heading: &[
-        "evc-script 1",
-        "limit 10",
-        "workers a b",
-        "eventcount E signal a observe b",
-    ],
-    blocks: &[(&["b"], &["await E 1", "end"])],
+    heading: "evc-script 1
+limit 10
+workers a b
+eventcount E signal a observe b
+",
+    blocks: &[(&["b"], "await E 1\nend\n")],
     turns: 10_000,
     sights: &[
         Sight::Each(&[Outcome::Finished, Outcome::Stopped]),
@@ -89,15 +86,14 @@ fn one_that_nobody_lets_go(rt: HostRuntime) -> Result<(), Fail> {
 }
 
 static BOTH_AT_THE_LIMIT: Case = Case {
-    heading: &[
-        "evc-script 1",
-        "limit 1",
-        "workers a c",
-        "buffer B 2 produce a consume c",
-    ],
+    heading: "evc-script 1
+limit 1
+workers a c
+buffer B 2 produce a consume c
+",
     blocks: &[
-        (&["a"], &["produce B 7", "produce B 7", "end"]),
-        (&["c"], &["consume B", "consume B", "end"]),
+        (&["a"], "produce B 7\nproduce B 7\nend\n"),
+        (&["c"], "consume B\nconsume B\nend\n"),
     ],
     turns: 10_000,
     sights: &[Sight::All(2, Outcome::Refused(Refusal::AtLimit))],
@@ -109,20 +105,14 @@ fn both_are_refused_at_the_limit(rt: HostRuntime) -> Result<(), Fail> {
 }
 
 static TOO_LARGE: Case = Case {
-    heading: &[
-        "evc-script 1",
-        "limit 10",
-        "workers a",
-        "cells X 1 write a read a",
-    ],
+    heading: "evc-script 1
+limit 10
+workers a
+cells X 1 write a read a
+",
     blocks: &[(
         &["a"],
-        &[
-            "put X[0] 999999999999999999",
-            "get X[0]",
-            "put X[0] last+1",
-            "end",
-        ],
+        "put X[0] 999999999999999999\nget X[0]\nput X[0] last+1\nend\n",
     )],
     turns: 10_000,
     sights: &[Sight::All(1, Outcome::ValueTooLarge), Sight::Length(2)],

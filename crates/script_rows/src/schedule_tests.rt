@@ -167,7 +167,7 @@ const OF_TICKETS: [Step; 6] = [
 ];
 
 static SCHEDULE_OF_TICKETS: [Row; 1] = [(
-    &[&A_ADVANCES, &C_WAITS, &["schedule c c a c a c"]],
+    &[A_ADVANCES, C_WAITS, "schedule c c a c a c\n"],
     Outcomes::Played(&OF_TICKETS, &[Finished, Finished]),
 )];
 
@@ -177,7 +177,7 @@ fn the_schedule_of_tickets(rt: HostRuntime) -> Result<(), Fail> {
 }
 
 static PAST_AN_END: [Row; 1] = [(
-    &[&A_ADVANCES, &C_WAITS, &["schedule a a a"]],
+    &[A_ADVANCES, C_WAITS, "schedule a a a\n"],
     Outcomes::Ended(2, 0),
 )];
 
@@ -186,7 +186,7 @@ fn a_place_of_a_worker_that_has_ended(rt: HostRuntime) -> Result<(), Fail> {
     show(rt.alloc(), &PAST_AN_END)
 }
 
-static NO_SCHEDULE: [Row; 1] = [(&[&A_ADVANCES], Outcomes::Played(&[], &[Running, Finished]))];
+static NO_SCHEDULE: [Row; 1] = [(&[A_ADVANCES], Outcomes::Played(&[], &[Running, Finished]))];
 
 #[test]
 fn no_schedule_plays_nothing(rt: HostRuntime) -> Result<(), Fail> {
@@ -194,21 +194,20 @@ fn no_schedule_plays_nothing(rt: HostRuntime) -> Result<(), Fail> {
 }
 
 /// A database, its writer a, and the first line of the block of c, which takes a snapshot.
-const DISTURBED: [&str; 8] = [
-    "evc-script 1",
-    "limit 10",
-    "workers a c",
-    "database D 2 write a read c",
-    "worker a",
-    "write D 5 6",
-    "end",
-    "worker c",
-];
+const DISTURBED: &str = "evc-script 1
+limit 10
+workers a c
+database D 2 write a read c
+worker a
+write D 5 6
+end
+worker c
+";
 
 /// The schedule of the disturbed snapshot, whose first 11 names end its first try.
-const ELEVEN: &str = "schedule c c c a a a a a a c c";
+const ELEVEN: &str = "schedule c c c a a a a a a c c\n";
 
-const SIXTEEN: &str = "schedule c c c a a a a a a c c c c c c c";
+const SIXTEEN: &str = "schedule c c c a a a a a a c c c c c c c\n";
 
 /// The steps of the writer and of the first try.
 const FIRST_TRY: [Step; 11] = [
@@ -246,7 +245,7 @@ const TWO_TRIES: [Step; 16] = [
 ];
 
 static TAKEN_AGAIN: [Row; 1] = [(
-    &[&DISTURBED, &["snapshot D 2", "end", SIXTEEN]],
+    &[DISTURBED, "snapshot D 2\nend\n", SIXTEEN],
     Outcomes::Played(&TWO_TRIES, &[Finished, Finished]),
 )];
 
@@ -256,7 +255,7 @@ fn a_snapshot_that_is_taken_again(rt: HostRuntime) -> Result<(), Fail> {
 }
 
 static ONE_TRY: [Row; 1] = [(
-    &[&DISTURBED, &["snapshot D 1", "end", ELEVEN]],
+    &[DISTURBED, "snapshot D 1\nend\n", ELEVEN],
     Outcomes::Played(&FIRST_TRY, &[Finished, Finished]),
 )];
 
@@ -266,7 +265,7 @@ fn a_snapshot_of_one_try(rt: HostRuntime) -> Result<(), Fail> {
 }
 
 static PAST_ONE_TRY: [Row; 1] = [(
-    &[&DISTURBED, &["snapshot D 1", "end", SIXTEEN]],
+    &[DISTURBED, "snapshot D 1\nend\n", SIXTEEN],
     Outcomes::Ended(11, 1),
 )];
 
@@ -276,16 +275,15 @@ fn a_snapshot_of_one_try_ends(rt: HostRuntime) -> Result<(), Fail> {
 }
 
 /// The greatest value is put, and then one more.
-const GREATEST: [&str; 8] = [
-    "evc-script 1",
-    "limit 10",
-    "workers a",
-    "cells X 1 write a read a",
-    "worker a",
-    "put X[0] 999999999999999999",
-    "get X[0]",
-    "put X[0] last+1",
-];
+const GREATEST: &str = "evc-script 1
+limit 10
+workers a
+cells X 1 write a read a
+worker a
+put X[0] 999999999999999999
+get X[0]
+put X[0] last+1
+";
 
 const GREATEST_VALUE: [Step; 2] = [
     (0, Put(0, 999_999_999_999_999_999), Done),
@@ -294,13 +292,10 @@ const GREATEST_VALUE: [Step; 2] = [
 
 static ONE_MORE: [Row; 2] = [
     (
-        &[&GREATEST, &["end", "schedule a a"]],
+        &[GREATEST, "end\nschedule a a\n"],
         Outcomes::Played(&GREATEST_VALUE, &[ValueTooLarge]),
     ),
-    (
-        &[&GREATEST, &["end", "schedule a a a"]],
-        Outcomes::Ended(2, 0),
-    ),
+    (&[GREATEST, "end\nschedule a a a\n"], Outcomes::Ended(2, 0)),
 ];
 
 #[test]
@@ -309,22 +304,21 @@ fn one_more_than_the_greatest_value(rt: HostRuntime) -> Result<(), Fail> {
 }
 
 /// The script of tickets with limit 1, without its schedule.
-const LIMIT_1: [&str; 14] = [
-    "evc-script 1",
-    "limit 1",
-    "workers a c",
-    "eventcount E signal a observe c",
-    "sequencer T take c",
-    "worker a",
-    "advance E",
-    "advance E",
-    "end",
-    "worker c",
-    "ticket T",
-    "await E last+1",
-    "read E",
-    "end",
-];
+const LIMIT_1: &str = "evc-script 1
+limit 1
+workers a c
+eventcount E signal a observe c
+sequencer T take c
+worker a
+advance E
+advance E
+end
+worker c
+ticket T
+await E last+1
+read E
+end
+";
 
 const REFUSED: Outcome = Outcome::Refused(Refusal::AtLimit);
 
@@ -332,11 +326,11 @@ const ONE_ADVANCE: [Step; 2] = [(0, Advance(0), Done), (1, Ticket(0), Number(0))
 
 static AT_THE_LIMIT: [Row; 2] = [
     (
-        &[&LIMIT_1, &["schedule a a c"]],
+        &[LIMIT_1, "schedule a a c\n"],
         Outcomes::Played(&ONE_ADVANCE, &[REFUSED, Running]),
     ),
     (
-        &[&LIMIT_1, &["schedule a a c", "schedule a"]],
+        &[LIMIT_1, "schedule a a c\nschedule a\n"],
         Outcomes::Ended(3, 0),
     ),
 ];

@@ -1,6 +1,6 @@
 //! Gates that see when a worker sleeps, wakes and leaves.
-use crate::gate_tests::{LOOKS, waited_for};
-use crate::threads::{Case, Sight, shows};
+use crate::gate_tests::{hold_for, hold_until, waited_for};
+use crate::threads::{Case, Sight, shows_held};
 use ec_count::WorkerId;
 use ec_machine::Outcome;
 use ec_runner::Gate;
@@ -47,16 +47,12 @@ impl Gate for LateLeaver {
 }
 
 static NEVER_LET_GO: Case = Case {
-    heading: &[
-        "evc-script 1",
-        "limit 10",
-        "workers a b",
-        "eventcount E signal a observe b",
-    ],
-    blocks: &[
-        (&["a"], &["advance E", "end"]),
-        (&["b"], &["await E 2", "end"]),
-    ],
+    heading: "evc-script 1
+limit 10
+workers a b
+eventcount E signal a observe b
+",
+    blocks: &[(&["a"], "advance E\nend\n"), (&["b"], "await E 2\nend\n")],
     turns: 10_000,
     sights: &[
         Sight::Each(&[Outcome::Finished, Outcome::Stopped]),
@@ -71,9 +67,7 @@ fn the_last_leave_wakes_who_sleeps(rt: HostRuntime) -> Result<(), Fail> {
         second_has_ended: AtomicBool::new(false),
         has_failed: AtomicBool::new(false),
     };
-    shows(&rt, rt.alloc(), &NEVER_LET_GO, &gate)?;
-    assert!(rt; !gate.has_failed.load(Ordering::SeqCst));
-    Ok(())
+    shows_held(&rt, rt.alloc(), &NEVER_LET_GO, &gate, &gate.has_failed)
 }
 
 /// Holds the second worker before its ticket until the first has come to its advance, and the first before that until the
@@ -85,22 +79,14 @@ struct LateAdvance {
     has_failed: AtomicBool,
 }
 
-impl LateAdvance {
-    fn hold_until(&self, flag: &AtomicBool) {
-        if !waited_for(flag) {
-            self.has_failed.store(true, Ordering::SeqCst);
-        }
-    }
-}
-
 impl Gate for LateAdvance {
     fn before(&self, worker: WorkerId, step: u64) {
         match (worker.get(), step) {
             (0, 0) => {
                 self.first_has_come.store(true, Ordering::SeqCst);
-                self.hold_until(&self.second_leaves);
+                hold_until(&self.second_leaves, &self.has_failed);
             }
-            (1, 0) => self.hold_until(&self.first_has_come),
+            (1, 0) => hold_until(&self.first_has_come, &self.has_failed),
             (1, 2) => self.second_leaves.store(true, Ordering::SeqCst),
             _ => {}
         }
@@ -108,16 +94,15 @@ impl Gate for LateAdvance {
 }
 
 static LAST_TURN: Case = Case {
-    heading: &[
-        "evc-script 1",
-        "limit 10",
-        "workers a b",
-        "eventcount E signal a observe b",
-        "sequencer T take b",
-    ],
+    heading: "evc-script 1
+limit 10
+workers a b
+eventcount E signal a observe b
+sequencer T take b
+",
     blocks: &[
-        (&["a"], &["advance E", "end"]),
-        (&["b"], &["ticket T", "await E 1", "end"]),
+        (&["a"], "advance E\nend\n"),
+        (&["b"], "ticket T\nawait E 1\nend\n"),
     ],
     turns: 2,
     sights: &[
@@ -133,9 +118,7 @@ fn after_its_last_turn_a_worker_does_not_sleep(rt: HostRuntime) -> Result<(), Fa
         second_leaves: AtomicBool::new(false),
         has_failed: AtomicBool::new(false),
     };
-    shows(&rt, rt.alloc(), &LAST_TURN, &gate)?;
-    assert!(rt; !gate.has_failed.load(Ordering::SeqCst));
-    Ok(())
+    shows_held(&rt, rt.alloc(), &LAST_TURN, &gate, &gate.has_failed)
 }
 
 /// Sees whether the steps that one worker is said to have asked for go 0, 1, 2 and so on.
@@ -154,13 +137,12 @@ impl Gate for Counting {
 }
 
 static FIVE_STEPS: Case = Case {
-    heading: &[
-        "evc-script 1",
-        "limit 10",
-        "workers a",
-        "eventcount E signal a observe a",
-    ],
-    blocks: &[(&["a"], &["repeat 4", "advance E", "end", "read E", "end"])],
+    heading: "evc-script 1
+limit 10
+workers a
+eventcount E signal a observe a
+",
+    blocks: &[(&["a"], "repeat 4\nadvance E\nend\nread E\nend\n")],
     turns: 10_000,
     sights: &[Sight::All(1, Outcome::Finished), Sight::Length(5)],
 };
@@ -171,8 +153,7 @@ fn a_gate_sees_each_step_by_its_number(rt: HostRuntime) -> Result<(), Fail> {
         next: AtomicU64::new(0),
         has_failed: AtomicBool::new(false),
     };
-    shows(&rt, rt.alloc(), &FIVE_STEPS, &gate)?;
-    assert!(rt; !gate.has_failed.load(Ordering::SeqCst));
+    shows_held(&rt, rt.alloc(), &FIVE_STEPS, &gate, &gate.has_failed)?;
     assert_eq!(rt; gate.next.load(Ordering::SeqCst), 6);
     Ok(())
 }
@@ -187,24 +168,11 @@ struct OneByOne {
     has_failed: AtomicBool,
 }
 
-impl OneByOne {
-    /// Looks until a number has come to a value.
-    fn hold_until(&self, number: &AtomicU64, value: u64) {
-        for _ in 0..LOOKS {
-            if number.load(Ordering::SeqCst) >= value {
-                return;
-            }
-            thread::yield_now();
-        }
-        self.has_failed.store(true, Ordering::SeqCst);
-    }
-}
-
 impl Gate for OneByOne {
     fn before(&self, worker: WorkerId, step: u64) {
         if worker.get() == 0 {
-            self.hold_until(&self.begun, 3);
-            self.hold_until(&self.let_go, step);
+            hold_for(&self.begun, 3, &self.has_failed);
+            hold_for(&self.let_go, step, &self.has_failed);
             if self.let_go.load(Ordering::SeqCst) > step {
                 self.has_failed.store(true, Ordering::SeqCst);
             }
@@ -217,17 +185,16 @@ impl Gate for OneByOne {
 }
 
 static THREE_WAIT: Case = Case {
-    heading: &[
-        "evc-script 1",
-        "limit 10",
-        "workers a b c d",
-        "eventcount E signal a observe b c d",
-    ],
+    heading: "evc-script 1
+limit 10
+workers a b c d
+eventcount E signal a observe b c d
+",
     blocks: &[
-        (&["a"], &["repeat 3", "advance E", "end", "end"]),
-        (&["b"], &["await E 1", "end"]),
-        (&["c"], &["await E 2", "end"]),
-        (&["d"], &["await E 3", "end"]),
+        (&["a"], "repeat 3\nadvance E\nend\nend\n"),
+        (&["b"], "await E 1\nend\n"),
+        (&["c"], "await E 2\nend\n"),
+        (&["d"], "await E 3\nend\n"),
     ],
     turns: 10_000,
     sights: &[Sight::All(4, Outcome::Finished)],
@@ -240,7 +207,5 @@ fn each_advance_wakes_the_one_that_it_lets_go(rt: HostRuntime) -> Result<(), Fai
         let_go: AtomicU64::new(0),
         has_failed: AtomicBool::new(false),
     };
-    shows(&rt, rt.alloc(), &THREE_WAIT, &gate)?;
-    assert!(rt; !gate.has_failed.load(Ordering::SeqCst));
-    Ok(())
+    shows_held(&rt, rt.alloc(), &THREE_WAIT, &gate, &gate.has_failed)
 }

@@ -1,8 +1,9 @@
 //! Scripts that workers run on threads, as tables: their lines, and what is seen of the report.
+use crate::drive::{add, plan_of, text_of};
 use ec_core::{Entry, Reply};
 use ec_machine::Outcome;
 use ec_runner::{Gate, OpenGate, Report, RunFault, run_workers};
-use ec_script::{Plan, parse};
+use ec_script::Plan;
 use std::alloc::Global;
 use std::process::Abort;
 use std::sync::Wait;
@@ -12,13 +13,13 @@ use std::thread;
 use std::thread::Threads;
 use std::time::{Clock, Duration};
 
-/// Names of workers, and the lines of the block of each of them.
-pub(crate) type Block = (&'static [&'static str], &'static [&'static str]);
+/// Names of workers, and the commands of the block of each of them.
+pub(crate) type Block = (&'static [&'static str], &'static str);
 
-/// A script by its lines, how many turns a worker has, and what is seen of the report.
+/// A script by its heading and its blocks, how many turns a worker has, and what is seen of the report.
 #[derive(Clone, Copy)]
 pub(crate) struct Case {
-    pub(crate) heading: &'static [&'static str],
+    pub(crate) heading: &'static str,
     pub(crate) blocks: &'static [Block],
     pub(crate) turns: u64,
     pub(crate) sights: &'static [Sight],
@@ -43,42 +44,22 @@ pub(crate) enum Sight {
     LastNumbers(u64, u64),
 }
 
-/// Adds lines to a text, each with its LF.
-pub(crate) fn add_lines(text: &mut Vec<u8>, lines: &[&str]) -> Result<(), Fail> {
-    for line in lines {
-        text.extend_from_slice(line.as_bytes())?;
-        text.push(b'\n')?;
-    }
-    Ok(())
-}
-
 /// Adds the block of each of these workers.
-pub(crate) fn add_blocks(text: &mut Vec<u8>, block: &Block) -> Result<(), Fail> {
+fn add_blocks(text: &mut Vec<u8>, block: &Block) -> Result<(), Fail> {
     let (names, commands) = *block;
     for name in names {
-        text.extend_from_slice(b"worker ".as_slice())?;
-        add_lines(text, &[*name])?;
-        add_lines(text, commands)?;
+        add(text, &["worker ", *name, "\n", commands])?;
     }
     Ok(())
 }
 
 /// The text of a script.
-fn text_of(alloc: Global, case: &Case) -> Result<Vec<u8>, Fail> {
-    let mut text = Vec::new(alloc);
-    add_lines(&mut text, case.heading)?;
+fn script_of(alloc: Global, case: &Case) -> Result<Vec<u8>, Fail> {
+    let mut text = text_of(alloc, &[case.heading])?;
     for block in case.blocks {
         add_blocks(&mut text, block)?;
     }
     Ok(text)
-}
-
-/// The plan of a text.
-pub(crate) fn plan_of(alloc: Global, text: &[u8]) -> Result<Plan, Fail> {
-    match parse(alloc, text) {
-        Ok(plan) => Ok(plan),
-        Err(_) => Err(Fail::new("no plan")),
-    }
 }
 
 /// Why a run was not reported.
@@ -123,7 +104,7 @@ fn watch<R: Clock + Abort>(rt: &R, has_ended: &AtomicBool) {
 }
 
 /// What the run of a plan reports, while another thread looks that it ends.
-pub(crate) fn run_plan<R: Threads + Wait + Clock + Abort + Sync, G: Gate + Sync>(
+fn run_plan<R: Threads + Wait + Clock + Abort + Sync, G: Gate + Sync>(
     rt: &R,
     alloc: Global,
     plan: &Plan,
@@ -142,6 +123,18 @@ pub(crate) fn run_plan<R: Threads + Wait + Clock + Abort + Sync, G: Gate + Sync>
     })
 }
 
+/// What the run of the script of a text reports.
+pub(crate) fn run_text<R: Threads + Wait + Clock + Abort + Sync, G: Gate + Sync>(
+    rt: &R,
+    alloc: Global,
+    text: &[u8],
+    gate: &G,
+    turns: u64,
+) -> Result<Report, Fail> {
+    let plan = plan_of(alloc, text)?;
+    run_plan(rt, alloc, &plan, gate, turns)
+}
+
 /// What the run of a script reports.
 pub(crate) fn run_case<R: Threads + Wait + Clock + Abort + Sync, G: Gate + Sync>(
     rt: &R,
@@ -149,9 +142,8 @@ pub(crate) fn run_case<R: Threads + Wait + Clock + Abort + Sync, G: Gate + Sync>
     case: &Case,
     gate: &G,
 ) -> Result<Report, Fail> {
-    let text = text_of(alloc, case)?;
-    let plan = plan_of(alloc, text.as_slice())?;
-    run_plan(rt, alloc, &plan, gate, case.turns)
+    let text = script_of(alloc, case)?;
+    run_text(rt, alloc, text.as_slice(), gate, case.turns)
 }
 
 /// Whether there are so many workers, and all have ended so.
@@ -233,7 +225,7 @@ pub(crate) fn sees(report: &Report, sights: &[Sight]) -> Result<(), Fail> {
 }
 
 /// What is to be seen of the report of a script is seen.
-pub(crate) fn shows<R: Threads + Wait + Clock + Abort + Sync, G: Gate + Sync>(
+fn shows<R: Threads + Wait + Clock + Abort + Sync, G: Gate + Sync>(
     rt: &R,
     alloc: Global,
     case: &Case,
@@ -241,6 +233,21 @@ pub(crate) fn shows<R: Threads + Wait + Clock + Abort + Sync, G: Gate + Sync>(
 ) -> Result<(), Fail> {
     let report = run_case(rt, alloc, case, gate)?;
     sees(&report, case.sights)
+}
+
+/// The same of a run that a gate holds up, which is not to have failed then.
+pub(crate) fn shows_held<R: Threads + Wait + Clock + Abort + Sync, G: Gate + Sync>(
+    rt: &R,
+    alloc: Global,
+    case: &Case,
+    gate: &G,
+    has_failed: &AtomicBool,
+) -> Result<(), Fail> {
+    shows(rt, alloc, case, gate)?;
+    if has_failed.load(Ordering::SeqCst) {
+        return Err(Fail::new("the gate has failed"));
+    }
+    Ok(())
 }
 
 /// The same of so many runs that nothing holds up.
