@@ -280,22 +280,28 @@ fn lines_of_sixteen_buffers(rt: HostRuntime) -> Result<(), Fail> {
     tell(&rt, way_of_buffers(rt.alloc()))
 }
 
-/// Whether a heading of all buffers is of version 2 once it is upgraded, and else as it was.
-fn is_upgraded(heading: Heading) -> bool {
-    let heading = heading.upgrade();
-    heading.version() == Version::Two && sizes_of(&heading) == sizes_with(LINES.len())
+/// Whether a heading of all buffers is of version 2.
+fn is_of_two(heading: &Heading) -> bool {
+    heading.version() == Version::Two && sizes_of(heading) == sizes_with(LINES.len())
 }
 
-/// The way of the lines of all buffers, behind which the heading is upgraded.
-fn way_of_upgraded_buffers(alloc: Global) -> Way {
-    let Some(heading) = headed(alloc, WORKERS) else {
-        return Way::Unready;
-    };
+/// The way of the lines of all buffers, behind which the heading is upgraded, and else as it was.
+fn way_to_upgrade(heading: Heading) -> Way {
     let mut call = Buffers { heading, many: 0 };
-    match way_of_all(&mut call, LINES.len()) {
+    let way = way_of_all(&mut call, LINES.len());
+    let is_upgraded = is_of_two(&call.heading.upgrade());
+    match way {
         Way::Wrong(why) => Way::Wrong(why),
-        _ if !is_upgraded(call.heading) => Way::Wrong("it is not upgraded"),
+        _ if !is_upgraded => Way::Wrong("it is not upgraded"),
         way => way,
+    }
+}
+
+/// The same of a heading with two workers.
+fn way_of_upgraded_buffers(alloc: Global) -> Way {
+    match headed(alloc, WORKERS) {
+        Some(heading) => way_to_upgrade(heading),
+        None => Way::Unready,
     }
 }
 

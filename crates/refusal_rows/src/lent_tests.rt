@@ -9,7 +9,7 @@ use ec_heading::Group;
 use ec_order::{Placed, Verdict, calls, in_order, order, verify};
 use ec_semaphore::{Pair, SemaphoreShape, pairs};
 use ec_trace::{Traced, read_trace};
-use std::alloc::{AllocError, Global};
+use std::alloc::Global;
 use std::test::Fail;
 
 /// A call that looks at a run, with what is right.
@@ -34,50 +34,45 @@ enum Look {
     Pairs(&'static [(u64, u64)]),
 }
 
-/// Whether these are the last entries of calls.
-fn are_calls(found: &[ec_order::Call], right: &[usize]) -> bool {
-    for (call, last) in found.iter().zip(right) {
-        if call.last != *last {
-            return false;
-        }
-    }
-    found.len() == right.len()
+/// One of what a call found, of which this is to be right.
+trait Found<T> {
+    fn is(&self, right: &T) -> bool;
 }
 
-/// Whether these are the points of an order.
-fn are_points(found: &[Placed], right: &[usize]) -> bool {
-    for (placed, point) in found.iter().zip(right) {
-        if placed.point != *point {
-            return false;
-        }
+impl Found<usize> for ec_order::Call {
+    fn is(&self, right: &usize) -> bool {
+        self.last == *right
     }
-    found.len() == right.len()
 }
 
-/// Whether these are the items of deliveries.
-fn are_items(found: &[Delivery], right: &[u64]) -> bool {
-    for (delivery, item) in found.iter().zip(right) {
-        if delivery.item != *item {
-            return false;
-        }
+impl Found<usize> for Placed {
+    fn is(&self, right: &usize) -> bool {
+        self.point == *right
     }
-    found.len() == right.len()
 }
 
-/// Whether these are versions.
-fn are_versions(found: &[Accepted], right: &[u64]) -> bool {
-    for (accepted, version) in found.iter().zip(right) {
-        if accepted.version != *version {
-            return false;
-        }
+impl Found<u64> for Delivery {
+    fn is(&self, right: &u64) -> bool {
+        self.item == *right
     }
-    found.len() == right.len()
 }
 
-/// Whether these are the tickets of pairs.
-fn are_tickets(found: &[Pair], right: &[(u64, u64)]) -> bool {
-    for (pair, (first, second)) in found.iter().zip(right) {
-        if pair.first_ticket != *first || pair.second_ticket != *second {
+impl Found<u64> for Accepted {
+    fn is(&self, right: &u64) -> bool {
+        self.version == *right
+    }
+}
+
+impl Found<(u64, u64)> for Pair {
+    fn is(&self, right: &(u64, u64)) -> bool {
+        self.first_ticket == right.0 && self.second_ticket == right.1
+    }
+}
+
+/// Whether this was found, one behind another, and no more.
+fn are<T, F: Found<T>>(found: &[F], right: &[T]) -> bool {
+    for (one, right) in found.iter().zip(right) {
+        if !one.is(right) {
             return false;
         }
     }
@@ -86,14 +81,14 @@ fn are_tickets(found: &[Pair], right: &[(u64, u64)]) -> bool {
 
 fn look_at_calls(alloc: Global, run: &Run, right: &[usize]) -> Answer {
     match calls(alloc, run) {
-        Ok(found) => Answer::of(are_calls(found.as_slice(), right)),
+        Ok(found) => Answer::of(are(found.as_slice(), right)),
         Err(_) => Answer::Wants(Want::Memory),
     }
 }
 
 fn look_at_order(alloc: Global, run: &Run, right: &[usize]) -> Answer {
     match order(alloc, run) {
-        Ok(found) => Answer::of(are_points(found.as_slice(), right)),
+        Ok(found) => Answer::of(are(found.as_slice(), right)),
         Err(_) => Answer::Wants(Want::Memory),
     }
 }
@@ -166,7 +161,7 @@ fn audit_buffer(alloc: Global, run: &Run, groups: &[Group], right: &[u64]) -> An
         return Answer::Wrong;
     };
     match deliveries(alloc, run, shape) {
-        Ok(found) => Answer::of(are_items(found.as_slice(), right)),
+        Ok(found) => Answer::of(are(found.as_slice(), right)),
         Err(fault) => answer_of(&fault),
     }
 }
@@ -176,7 +171,7 @@ fn audit_database(alloc: Global, run: &Run, groups: &[Group], right: &[u64]) -> 
         return Answer::Wrong;
     };
     match versions(alloc, run, shape) {
-        Ok(found) => Answer::of(are_versions(found.as_slice(), right)),
+        Ok(found) => Answer::of(are(found.as_slice(), right)),
         Err(fault) => answer_of(&fault),
     }
 }
@@ -203,7 +198,7 @@ fn audit_semaphores(alloc: Global, run: &Run, groups: &[Group], right: &[(u64, u
         return Answer::Wrong;
     };
     match pairs(alloc, run, &common, &[first, second]) {
-        Ok(found) => Answer::of(are_tickets(found.as_slice(), right)),
+        Ok(found) => Answer::of(are(found.as_slice(), right)),
         Err(fault) => answer_of(&fault),
     }
 }
@@ -260,18 +255,18 @@ impl Call for Lent {
     }
 }
 
-/// The order that is to be judged, where it is.
-fn order_for(alloc: Global, run: &Run, look: Look) -> Result<Vec<Placed>, AllocError> {
+/// The order that is to be judged, where it is, unless there is no memory.
+fn order_for(alloc: Global, run: &Run, look: Look) -> Option<Vec<Placed>> {
     match look {
-        Look::Verify => order(alloc, run).map_err(|_| AllocError),
-        _ => Ok(Vec::new(alloc)),
+        Look::Verify => order(alloc, run).ok(),
+        _ => Some(Vec::new(alloc)),
     }
 }
 
 /// A trace that is to be looked at, unless there is no memory.
 fn lent_by(alloc: Global, row: &'static Row) -> Option<Lent> {
     let traced = read_trace(alloc, &mut row.trace.text.as_bytes()).ok()?;
-    let placed = order_for(alloc, traced.run(), row.look).ok()?;
+    let placed = order_for(alloc, traced.run(), row.look)?;
     Some(Lent {
         alloc,
         traced,

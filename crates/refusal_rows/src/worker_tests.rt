@@ -15,25 +15,25 @@ use std::thread::Threads;
 /// How many turns a worker has.
 const TURNS: u64 = 10_000;
 
-/// A script of some workers, and how those end that have memory where another has none.
+/// A script of some workers, and whether those that have memory where another has none may be stopped, or all finish.
 struct Row {
     text: &'static str,
     workers: usize,
-    others: &'static [Outcome],
+    may_stop: bool,
 }
 
 /// Nobody waits for anybody.
 static MEETING: Row = Row {
     text: FOUR_WORKERS,
     workers: 4,
-    others: &[Outcome::Finished],
+    may_stop: false,
 };
 
 /// The one that awaits the other's advance is stopped where that never comes.
 static WAITING: Row = Row {
     text: TICKET_AND_AWAIT,
     workers: 2,
-    others: &[Outcome::Finished, Outcome::Stopped],
+    may_stop: true,
 };
 
 /// How many of the outcomes are this one.
@@ -47,14 +47,14 @@ fn count(outcomes: &[Outcome], outcome: Outcome) -> usize {
     n
 }
 
-/// Whether each outcome is want of memory, or one of these.
-fn are_among(outcomes: &[Outcome], others: &[Outcome]) -> bool {
-    for outcome in outcomes {
-        if *outcome != Outcome::Memory && !others.contains(outcome) {
-            return false;
-        }
+/// How many of the outcomes are right beside want of memory.
+fn count_others(outcomes: &[Outcome], row: &Row) -> usize {
+    let finished = count(outcomes, Outcome::Finished);
+    if row.may_stop {
+        finished.saturating_add(count(outcomes, Outcome::Stopped))
+    } else {
+        finished
     }
-    true
 }
 
 /// What outcomes say.
@@ -65,7 +65,8 @@ fn answer_of(outcomes: &[Outcome], row: &Row) -> Answer {
     if count(outcomes, Outcome::Finished) == row.workers {
         return Answer::Right;
     }
-    if count(outcomes, Outcome::Memory) == 1 && are_among(outcomes, row.others) {
+    let without_memory = count(outcomes, Outcome::Memory);
+    if without_memory == 1 && count_others(outcomes, row).saturating_add(1) == row.workers {
         return Answer::Wants(Want::OneWorker);
     }
     Answer::Wrong
