@@ -232,15 +232,20 @@ fn run_four<R: Threads + Wait + Sync>(rt: &R, alloc: Global, plan: &Plan) -> Ans
     }
 }
 
+/// The way of the four by their plan.
+fn way_of_run_of_four<R: Threads + Wait + Sync>(rt: &R, alloc: Global, plan: &Plan) -> Way {
+    match run_four(rt, alloc, plan) {
+        Answer::Right => Way::Served,
+        Answer::Wants(want) => refused(want, true, run_four(rt, alloc, plan)),
+        Answer::Wrong => Way::Wrong("another answer"),
+    }
+}
+
 /// The way of the four.
 fn way_of_four<R: Threads + Wait + Sync>(rt: &R, alloc: Global) -> Way {
-    let Ok(plan) = parse(alloc, TWO_WAIT.as_bytes()) else {
-        return Way::Unready;
-    };
-    match run_four(rt, alloc, &plan) {
-        Answer::Right => Way::Served,
-        Answer::Wants(want) => refused(want, true, run_four(rt, alloc, &plan)),
-        Answer::Wrong => Way::Wrong("another answer"),
+    match parse(alloc, TWO_WAIT.as_bytes()) {
+        Ok(plan) => way_of_run_of_four(rt, alloc, &plan),
+        Err(_) => Way::Unready,
     }
 }
 
