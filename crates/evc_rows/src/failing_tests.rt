@@ -1,10 +1,10 @@
 //! Readers and writers that fail under `check`, at the places that a table of all commands has not.
 use crate::broken_texts::IDLE;
 use crate::fakes::{Fickle, Pieces, Trouble};
-use crate::outcome::{Ending, audit_ends, checked_into, ends};
+use crate::outcome::{Ending, Frame, audit_ends, checked_into, ends, framed};
 use crate::texts::THREE_ADVANCES;
 use evc_engine::{Notes, Status, check};
-use std::alloc::{AllocError, Global};
+use std::alloc::Global;
 use std::test::Fail;
 
 const READ_FAULT: Ending = Ending::Failed("read fault\n");
@@ -39,12 +39,11 @@ static BEHIND: [(&str, Ending); 5] = [
     ("x\ny", Ending::Refused("line 11: bad line\n")),
 ];
 
-/// The bytes of a whole trace of ten lines, and more behind them.
-fn followed(alloc: Global, behind: &str) -> Result<Vec<u8>, AllocError> {
-    let mut bytes = Vec::from_slice(alloc, THREE_ADVANCES.as_bytes())?;
-    bytes.extend_from_slice(behind.as_bytes())?;
-    Ok(bytes)
-}
+/// The frame of what stands behind a whole trace of ten lines.
+static WHOLE: Frame = Frame {
+    head: THREE_ADVANCES,
+    tail: "",
+};
 
 /// Whether both commands end so on bytes that come so many at a time, where the read behind them fails.
 fn both_end_behind(alloc: Global, bytes: &[u8], most: usize, right: Ending) -> bool {
@@ -55,7 +54,7 @@ fn both_end_behind(alloc: Global, bytes: &[u8], most: usize, right: Ending) -> b
 
 /// Both commands end so, however many bytes come at a time.
 fn end_behind(alloc: Global, behind: &str, right: Ending) -> Result<(), Fail> {
-    let bytes = followed(alloc, behind)?;
+    let bytes = framed(alloc, &WHOLE, behind)?;
     for most in &READS {
         if !both_end_behind(alloc, bytes.as_slice(), *most, right) {
             return Err(Fail::new(format_args!("behind {behind}, by {most} bytes")));

@@ -1,8 +1,8 @@
 //! Headings, line by line.
 use crate::headings::Row::{Many, Refuse, See, Take};
-use crate::headings::{Row, Sight, empty_heading, shows, takes_all};
+use crate::headings::{Row, Sight, answers, empty_heading, shows};
 use crate::things::Thing;
-use ec_trace::{HeadFault, Version};
+use ec_trace::{HeadFault, Heading, Version};
 use std::test::Fail;
 
 static ORDER: [Row; 8] = [
@@ -212,13 +212,32 @@ fn each_version_has_its_limits(rt: HostRuntime) {
     }
 }
 
-#[test]
-fn a_heading_is_upgraded(rt: HostRuntime) -> Result<(), Fail> {
-    let mut heading = empty_heading(rt.alloc(), 10).ok_or("no heading")?;
-    takes_all(&mut heading, &["workers a b", "eventcount E signal a"])?;
-    assert!(rt; heading.version() == Version::One);
+/// Whether a heading takes its workers and an eventcount, and is of version 1.
+fn takes_in_one(heading: &mut Heading) -> bool {
+    answers(heading, "workers a b", Ok(()))
+        && answers(heading, "eventcount E signal a", Ok(()))
+        && heading.version() == Version::One
+}
+
+/// Whether a heading is of version 2, with two workers and one declaration.
+fn is_of_two(heading: &Heading) -> bool {
+    heading.version() == Version::Two
+        && heading.setup().workers() == 2
+        && heading.declarations().len() == 1
+}
+
+/// Whether a new heading of version 1 becomes that one.
+fn is_upgraded(mut heading: Heading) -> bool {
+    let is_of_one = takes_in_one(&mut heading);
     let upgraded = heading.upgrade();
-    assert!(rt; upgraded.version() == Version::Two);
-    assert!(rt; upgraded.setup().workers() == 2 && upgraded.declarations().len() == 1);
-    Ok(())
+    is_of_one && is_of_two(&upgraded)
+}
+
+#[test]
+fn a_heading_is_upgraded(rt: HostRuntime) {
+    let is_right = match empty_heading(rt.alloc(), 10) {
+        Some(heading) => is_upgraded(heading),
+        None => false,
+    };
+    assert!(rt; is_right);
 }

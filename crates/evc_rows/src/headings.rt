@@ -173,6 +173,11 @@ fn is_seen(heading: &Heading, sight: &Sight) -> bool {
     }
 }
 
+/// Whether a line has this answer.
+pub(crate) fn answers(heading: &mut Heading, line: &str, right: Result<(), HeadFault>) -> bool {
+    heading.line(line.as_bytes()) == right
+}
+
 /// Whether the numbered lines are accepted.
 fn takes_many(
     alloc: Global,
@@ -183,7 +188,7 @@ fn takes_many(
 ) -> Result<bool, Fail> {
     for number in 0..n {
         let line = format!(in alloc; "{front}{number}{back}")?;
-        if heading.line(line.as_bytes()) != Ok(()) {
+        if !answers(heading, line.as_str(), Ok(())) {
             return Ok(false);
         }
     }
@@ -193,8 +198,8 @@ fn takes_many(
 /// Whether a row is right.
 fn is_right(alloc: Global, heading: &mut Heading, row: &Row) -> Result<bool, Fail> {
     match *row {
-        Row::Take(line) => Ok(heading.line(line.as_bytes()) == Ok(())),
-        Row::Refuse(line, fault) => Ok(heading.line(line.as_bytes()) == Err(fault)),
+        Row::Take(line) => Ok(answers(heading, line, Ok(()))),
+        Row::Refuse(line, fault) => Ok(answers(heading, line, Err(fault))),
         Row::Many(n, front, back) => takes_many(alloc, heading, n, front, back),
         Row::See(sight) => Ok(is_seen(heading, &sight)),
     }

@@ -1,5 +1,6 @@
-//! Tests of texts, through the crates that read and write them: worked traces, hostile input, and readers and writers
-//! that fail. Most are tables of texts or lines with the answers that are right, which one function goes through.
+//! Tests of texts, through the crates that read and write them: worked traces, hostile input, readers and writers that
+//! fail, and the command line. Most are tables of texts or lines with the answers that are right, which one function
+//! goes through.
 #![tactic(auto)]
 
 #[cfg(test)]
@@ -38,6 +39,8 @@ mod note_tests;
 mod outcome;
 #[cfg(test)]
 mod piping_tests;
+#[cfg(test)]
+mod task_tests;
 #[cfg(test)]
 mod texts;
 #[cfg(test)]

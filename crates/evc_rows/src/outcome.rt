@@ -98,7 +98,7 @@ fn add_framed(text: &mut Vec<u8>, frame: &Frame, line: &str) -> Result<(), Alloc
 }
 
 /// The text of a line in its frame.
-fn framed(alloc: Global, frame: &Frame, line: &str) -> Result<Vec<u8>, AllocError> {
+pub(crate) fn framed(alloc: Global, frame: &Frame, line: &str) -> Result<Vec<u8>, AllocError> {
     let mut text = Vec::new(alloc);
     add_framed(&mut text, frame, line)?;
     Ok(text)

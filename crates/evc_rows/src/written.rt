@@ -1,6 +1,8 @@
 //! Traces that are read and written again.
+use ec_text::WriteFault;
 use ec_trace::{Traced, read_trace, write_trace};
 use std::alloc::Global;
+use std::io::Write;
 use std::test::Fail;
 
 /// The trace of a text.
@@ -11,10 +13,15 @@ pub(crate) fn read(alloc: Global, text: &str) -> Result<Traced, Fail> {
     }
 }
 
+/// Writes a trace again.
+pub(crate) fn write_again<W: Write>(traced: &Traced, out: &mut W) -> Result<(), WriteFault> {
+    write_trace(traced.run(), traced.heading(), out)
+}
+
 /// Whether a text is that of a trace.
 fn is_text_of(alloc: Global, traced: &Traced, text: &str) -> bool {
     let mut out = Vec::new(alloc);
-    let result = write_trace(traced.run(), traced.heading(), &mut out);
+    let result = write_again(traced, &mut out);
     result.is_ok() && out.as_slice() == text.as_bytes()
 }
 
