@@ -8,6 +8,3 @@ mod line;
 pub use choice::Task;
 pub use clap::Error;
 pub use line::{plain_lines, status_of, task, turns_lines};
-
-#[cfg(test)]
-mod tests;
