@@ -1,7 +1,5 @@
 //! Ids by their numbers. A number past the table gives the table's last id.
 use ec_count::{CellId, EventId, SeqId, WorkerId};
-use std::alloc::Global;
-use std::test::Fail;
 
 /// The worker of a number.
 pub(crate) fn worker(n: usize) -> WorkerId {
@@ -23,11 +21,20 @@ pub(crate) fn cell(n: usize) -> CellId {
     CellId::new(n.min(255)).unwrap()
 }
 
-/// The workers of these numbers.
-pub(crate) fn list(alloc: Global, numbers: &[usize]) -> Result<Vec<WorkerId>, Fail> {
-    let mut workers = Vec::new(alloc);
-    for n in numbers {
-        workers.push(worker(*n))?;
+/// Room for a list of workers, one more than there may be.
+pub(crate) type Room = [WorkerId; 17];
+
+/// Room for a list, in which nothing is written yet.
+pub(crate) fn room() -> Room {
+    [worker(0); 17]
+}
+
+/// The workers of these numbers, of which there are at most seventeen, written into a room.
+pub(crate) fn listed<'a>(room: &'a mut Room, numbers: &[usize]) -> &'a [WorkerId] {
+    for (place, id) in room.iter_mut().enumerate() {
+        if let Some(n) = numbers.get(place) {
+            *id = worker(*n);
+        }
     }
-    Ok(workers)
+    &room[..numbers.len().min(17)]
 }

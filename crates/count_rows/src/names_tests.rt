@@ -15,6 +15,8 @@ enum Row {
     /// The first name of a thing.
     Named(Thing, Option<&'static str>),
     Length(usize),
+    /// The names w0, w1 and so on, so many, are added, each for a target of its own.
+    Numbered(usize),
 }
 
 /// Whether the first name of a thing is this one.
@@ -26,25 +28,40 @@ fn is_named(names: &Names, thing: Thing, name: Option<&str>) -> bool {
     }
 }
 
+/// Whether the name of a number is added.
+fn is_numbered(alloc: Global, names: &mut Names, n: usize) -> bool {
+    match format!(in alloc; "w{n}") {
+        Ok(name) => names.add(name.as_str(), Target::Group(n)).is_ok(),
+        Err(_) => false,
+    }
+}
+
+/// Whether so many numbered names are added.
+fn are_numbered(alloc: Global, names: &mut Names, many: usize) -> bool {
+    for n in 0..many {
+        if !is_numbered(alloc, names, n) {
+            return false;
+        }
+    }
+    true
+}
+
 /// Whether a call gets its answer.
-fn is_right(names: &mut Names, row: &Row) -> bool {
+fn is_right(alloc: Global, names: &mut Names, row: &Row) -> bool {
     match *row {
         Row::Add(name, thing) => names.add(name, target(thing)).is_ok(),
         Row::Refuse(name, thing, fault) => names.add(name, target(thing)) == Err(fault),
         Row::Find(name, thing) => is_found(names.find(name), thing),
         Row::Named(thing, name) => is_named(names, thing, name),
         Row::Length(n) => names.len() == n,
+        Row::Numbered(many) => are_numbered(alloc, names, many),
     }
 }
 
-fn no_names(alloc: Global) -> Result<Names, Fail> {
-    Ok(Names::new(alloc)?)
-}
-
 /// The calls of a table get their answers.
-fn go_on(names: &mut Names, rows: &[Row]) -> Result<(), Fail> {
+fn go_on(alloc: Global, names: &mut Names, rows: &[Row]) -> Result<(), Fail> {
     for (place, row) in rows.iter().enumerate() {
-        if !is_right(names, row) {
+        if !is_right(alloc, names, row) {
             return Err(Fail::new(format_args!("another answer at row {place}")));
         }
     }
@@ -53,8 +70,8 @@ fn go_on(names: &mut Names, rows: &[Row]) -> Result<(), Fail> {
 
 /// The calls of a table, made one after another on no names at first, get their answers.
 fn shows(alloc: Global, rows: &[Row]) -> Result<(), Fail> {
-    let mut names = no_names(alloc)?;
-    go_on(&mut names, rows)
+    let mut names = Names::new(alloc)?;
+    go_on(alloc, &mut names, rows)
 }
 
 static FINDS: [Row; 7] = [
@@ -103,32 +120,18 @@ fn the_first_name_of_a_target(rt: HostRuntime) -> Result<(), Fail> {
     shows(rt.alloc(), &FIRST)
 }
 
-/// The words are no names, and no name is added by them.
-fn are_bad(alloc: Global, words: &[&str]) -> Result<(), Fail> {
-    let mut names = no_names(alloc)?;
-    for word in words {
-        if names.add(word, target(Thing::Worker(0))) != Err(NameFault::BadName) {
-            return Err(Fail::new(format_args!("at {word}")));
-        }
-    }
-    if names.len() == 0 {
-        Ok(())
-    } else {
-        Err(Fail::new("a name was added"))
-    }
-}
-
-static NO_NAMES: [&str; 10] = [
-    "",
-    "1a",
-    "_a",
-    "a-b",
-    "a b",
-    "\u{e4}",
-    "a\u{e4}",
-    "B.in",
-    "X[0]",
-    "a2345678901234567",
+static NO_NAMES: [Row; 11] = [
+    Row::Refuse("", Thing::Worker(0), NameFault::BadName),
+    Row::Refuse("1a", Thing::Worker(0), NameFault::BadName),
+    Row::Refuse("_a", Thing::Worker(0), NameFault::BadName),
+    Row::Refuse("a-b", Thing::Worker(0), NameFault::BadName),
+    Row::Refuse("a b", Thing::Worker(0), NameFault::BadName),
+    Row::Refuse("\u{e4}", Thing::Worker(0), NameFault::BadName),
+    Row::Refuse("a\u{e4}", Thing::Worker(0), NameFault::BadName),
+    Row::Refuse("B.in", Thing::Worker(0), NameFault::BadName),
+    Row::Refuse("X[0]", Thing::Worker(0), NameFault::BadName),
+    Row::Refuse("a2345678901234567", Thing::Worker(0), NameFault::BadName),
+    Row::Length(0),
 ];
 
 static LONGEST: [Row; 2] = [
@@ -138,47 +141,48 @@ static LONGEST: [Row; 2] = [
 
 #[test]
 fn words_that_are_no_names(rt: HostRuntime) -> Result<(), Fail> {
-    are_bad(rt.alloc(), &NO_NAMES)?;
+    shows(rt.alloc(), &NO_NAMES)?;
     shows(rt.alloc(), &LONGEST)
 }
 
-static RESERVED: [&str; 36] = [
-    "advance",
-    "await",
-    "both",
-    "buffer",
-    "cells",
-    "consume",
-    "database",
-    "done",
-    "end",
-    "eventcount",
-    "get",
-    "go",
-    "hand",
-    "last",
-    "limit",
-    "observe",
-    "p",
-    "pboth",
-    "pending",
-    "produce",
-    "put",
-    "read",
-    "repeat",
-    "run",
-    "schedule",
-    "semaphore",
-    "sequencer",
-    "signal",
-    "snapshot",
-    "take",
-    "ticket",
-    "use",
-    "v",
-    "worker",
-    "workers",
-    "write",
+static RESERVED: [Row; 37] = [
+    Row::Refuse("advance", Thing::Worker(0), NameFault::BadName),
+    Row::Refuse("await", Thing::Worker(0), NameFault::BadName),
+    Row::Refuse("both", Thing::Worker(0), NameFault::BadName),
+    Row::Refuse("buffer", Thing::Worker(0), NameFault::BadName),
+    Row::Refuse("cells", Thing::Worker(0), NameFault::BadName),
+    Row::Refuse("consume", Thing::Worker(0), NameFault::BadName),
+    Row::Refuse("database", Thing::Worker(0), NameFault::BadName),
+    Row::Refuse("done", Thing::Worker(0), NameFault::BadName),
+    Row::Refuse("end", Thing::Worker(0), NameFault::BadName),
+    Row::Refuse("eventcount", Thing::Worker(0), NameFault::BadName),
+    Row::Refuse("get", Thing::Worker(0), NameFault::BadName),
+    Row::Refuse("go", Thing::Worker(0), NameFault::BadName),
+    Row::Refuse("hand", Thing::Worker(0), NameFault::BadName),
+    Row::Refuse("last", Thing::Worker(0), NameFault::BadName),
+    Row::Refuse("limit", Thing::Worker(0), NameFault::BadName),
+    Row::Refuse("observe", Thing::Worker(0), NameFault::BadName),
+    Row::Refuse("p", Thing::Worker(0), NameFault::BadName),
+    Row::Refuse("pboth", Thing::Worker(0), NameFault::BadName),
+    Row::Refuse("pending", Thing::Worker(0), NameFault::BadName),
+    Row::Refuse("produce", Thing::Worker(0), NameFault::BadName),
+    Row::Refuse("put", Thing::Worker(0), NameFault::BadName),
+    Row::Refuse("read", Thing::Worker(0), NameFault::BadName),
+    Row::Refuse("repeat", Thing::Worker(0), NameFault::BadName),
+    Row::Refuse("run", Thing::Worker(0), NameFault::BadName),
+    Row::Refuse("schedule", Thing::Worker(0), NameFault::BadName),
+    Row::Refuse("semaphore", Thing::Worker(0), NameFault::BadName),
+    Row::Refuse("sequencer", Thing::Worker(0), NameFault::BadName),
+    Row::Refuse("signal", Thing::Worker(0), NameFault::BadName),
+    Row::Refuse("snapshot", Thing::Worker(0), NameFault::BadName),
+    Row::Refuse("take", Thing::Worker(0), NameFault::BadName),
+    Row::Refuse("ticket", Thing::Worker(0), NameFault::BadName),
+    Row::Refuse("use", Thing::Worker(0), NameFault::BadName),
+    Row::Refuse("v", Thing::Worker(0), NameFault::BadName),
+    Row::Refuse("worker", Thing::Worker(0), NameFault::BadName),
+    Row::Refuse("workers", Thing::Worker(0), NameFault::BadName),
+    Row::Refuse("write", Thing::Worker(0), NameFault::BadName),
+    Row::Length(0),
 ];
 
 static ALMOST_RESERVED: [Row; 3] = [
@@ -189,7 +193,7 @@ static ALMOST_RESERVED: [Row; 3] = [
 
 #[test]
 fn reserved_words_are_no_names(rt: HostRuntime) -> Result<(), Fail> {
-    are_bad(rt.alloc(), &RESERVED)?;
+    shows(rt.alloc(), &RESERVED)?;
     shows(rt.alloc(), &ALMOST_RESERVED)
 }
 
@@ -205,19 +209,8 @@ fn a_name_is_taken_once(rt: HostRuntime) -> Result<(), Fail> {
     shows(rt.alloc(), &TAKEN)
 }
 
-/// The names w0, w1 and so on, so many, each of a target of its own.
-fn numbered(alloc: Global, many: usize) -> Result<Names, Fail> {
-    let mut names = no_names(alloc)?;
-    for n in 0..many {
-        let name = format!(in alloc; "w{n}")?;
-        if names.add(name.as_str(), Target::Group(n)).is_err() {
-            return Err(Fail::new(format_args!("no new name {n}")));
-        }
-    }
-    Ok(names)
-}
-
-static LAST_OF_MANY: [Row; 4] = [
+static LAST_OF_MANY: [Row; 5] = [
+    Row::Numbered(2_100_000),
     Row::Length(2_100_000),
     Row::Find("w2099999", Some(Thing::Group(2_099_999))),
     Row::Named(Thing::Group(2_099_999), Some("w2099999")),
@@ -226,6 +219,5 @@ static LAST_OF_MANY: [Row; 4] = [
 
 #[test]
 fn more_than_two_million_names(rt: HostRuntime) -> Result<(), Fail> {
-    let mut names = numbered(rt.alloc(), 2_100_000)?;
-    go_on(&mut names, &LAST_OF_MANY)
+    shows(rt.alloc(), &LAST_OF_MANY)
 }

@@ -1,7 +1,6 @@
 //! Limits, declarations and their faults.
-use crate::ids::{cell, event, list, sequencer, worker};
+use crate::ids::{cell, event, listed, room, sequencer, worker};
 use ec_count::{CellId, Count, EventId, Limit, SeqId, Setup, SetupFault, WorkerId};
-use std::alloc::Global;
 use std::test::Fail;
 
 /// The number that a limit of a number tells.
@@ -28,11 +27,6 @@ fn limits_from_1_to_281474976710655(rt: HostRuntime) {
     }
 }
 
-/// A count of 0 under a limit.
-fn zero(limit: u64) -> Result<Count, Fail> {
-    Ok(Count::zero(Limit::new(limit).ok_or("no limit")?))
-}
-
 /// What an advance says, the value after it, and whether that is the limit.
 fn advanced(count: &mut Count) -> (bool, u64, bool) {
     let is_made = count.advance().is_ok();
@@ -42,13 +36,12 @@ fn advanced(count: &mut Count) -> (bool, u64, bool) {
 static ADVANCES: [(bool, u64, bool); 3] = [(true, 1, false), (true, 2, true), (false, 2, true)];
 
 #[test]
-fn a_count_up_to_its_limit(rt: HostRuntime) -> Result<(), Fail> {
-    let mut count = zero(2)?;
+fn a_count_up_to_its_limit(rt: HostRuntime) {
+    let mut count = Count::zero(Limit::new(2).unwrap());
     assert!(rt; count.value() == 0 && !count.is_full());
     for right in &ADVANCES {
         assert!(rt; advanced(&mut count) == *right);
     }
-    Ok(())
 }
 
 fn worker_number(n: usize) -> Option<usize> {
@@ -105,205 +98,47 @@ enum Line {
 /// A declaration, and its answer: the number of what was declared first, or the fault.
 type Row = (Line, Result<usize, SetupFault>);
 
-fn add_worker(setup: &mut Setup) -> Result<usize, SetupFault> {
-    let id = setup.add_worker()?;
-    Ok(id.get())
-}
-
-fn add_event(
-    setup: &mut Setup,
-    signal: &[WorkerId],
-    observe: &[WorkerId],
-) -> Result<usize, SetupFault> {
-    let id = setup.add_event(signal, observe)?;
-    Ok(id.get())
-}
-
-fn add_sequencer(setup: &mut Setup, take: &[WorkerId]) -> Result<usize, SetupFault> {
-    let id = setup.add_sequencer(take)?;
-    Ok(id.get())
-}
-
-fn add_cells(
-    setup: &mut Setup,
-    n: usize,
-    write: &[WorkerId],
-    read: &[WorkerId],
-) -> Result<usize, SetupFault> {
-    let id = setup.add_cells(n, write, read)?;
-    Ok(id.get())
-}
-
 /// What a declaration is answered.
-fn answer(
-    alloc: Global,
-    setup: &mut Setup,
-    line: &Line,
-) -> Result<Result<usize, SetupFault>, Fail> {
-    let (numbers, others): (&[usize], &[usize]) = match *line {
-        Line::Worker => (&[], &[]),
-        Line::Event(signal, observe) => (signal, observe),
-        Line::Sequencer(take) => (take, &[]),
-        Line::Cells(_, write, read) => (write, read),
-    };
-    let first = list(alloc, numbers)?;
-    let second = list(alloc, others)?;
-    Ok(match *line {
-        Line::Worker => add_worker(setup),
-        Line::Event(_, _) => add_event(setup, first.as_slice(), second.as_slice()),
-        Line::Sequencer(_) => add_sequencer(setup, first.as_slice()),
-        Line::Cells(n, _, _) => add_cells(setup, n, first.as_slice(), second.as_slice()),
-    })
+fn answer(setup: &mut Setup, line: &Line) -> Result<usize, SetupFault> {
+    let (mut one, mut other) = (room(), room());
+    match *line {
+        Line::Worker => setup.add_worker().map(|id| id.get()),
+        Line::Event(signal, observe) => setup
+            .add_event(listed(&mut one, signal), listed(&mut other, observe))
+            .map(|id| id.get()),
+        Line::Sequencer(take) => setup
+            .add_sequencer(listed(&mut one, take))
+            .map(|id| id.get()),
+        Line::Cells(n, write, read) => setup
+            .add_cells(n, listed(&mut one, write), listed(&mut other, read))
+            .map(|id| id.get()),
+    }
 }
 
 /// The declarations of a table, made one after another, get their answers.
-fn made(alloc: Global, setup: &mut Setup, rows: &[Row]) -> Result<(), Fail> {
+fn made(setup: &mut Setup, rows: &[Row]) -> Result<(), Fail> {
     for (place, (line, right)) in rows.iter().enumerate() {
-        if answer(alloc, setup, line)? != *right {
+        if answer(setup, line) != *right {
             return Err(Fail::new(format_args!("another answer at row {place}")));
         }
     }
     Ok(())
 }
 
-/// Declarations of so many workers, under limit 10.
-fn workers(n: usize) -> Result<Setup, Fail> {
-    let mut setup = Setup::new(Limit::new(10).ok_or("no limit")?);
-    for _ in 0..n {
-        add_worker(&mut setup)?;
+/// The declarations of a table, made after so many workers, get their answers.
+fn made_after(setup: &mut Setup, workers: usize, rows: &[Row]) -> Result<(), Fail> {
+    for n in 0..workers {
+        made(setup, &[(Line::Worker, Ok(n))])?;
     }
-    Ok(setup)
+    made(setup, rows)
 }
 
-/// The declarations of a table, made after so many workers.
-fn declared(alloc: Global, n: usize, rows: &[Row]) -> Result<Setup, Fail> {
-    let mut setup = workers(n)?;
-    made(alloc, &mut setup, rows)?;
-    Ok(setup)
+/// No declarations, under limit 10.
+fn no_declarations() -> Setup {
+    Setup::new(Limit::new(10).unwrap())
 }
 
-/// How many eventcounts, sequencers and cells there are.
-fn sizes(setup: &Setup) -> (usize, usize, usize) {
-    (setup.events(), setup.sequencers(), setup.cells())
-}
-
-static SEVENTEENTH: [Row; 2] = [
-    (Line::Worker, Ok(15)),
-    (Line::Worker, Err(SetupFault::TooMany)),
-];
-
-#[test]
-fn a_seventeenth_worker_is_too_many(rt: HostRuntime) -> Result<(), Fail> {
-    let setup = declared(rt.alloc(), 15, &SEVENTEENTH)?;
-    assert!(rt; setup.workers() == 16);
-    Ok(())
-}
-
-static EVENT_FAULTS: [Row; 7] = [
-    (Line::Event(&[], &[]), Err(SetupFault::Empty)),
-    (Line::Event(&[0, 0], &[]), Err(SetupFault::Repeated)),
-    (Line::Event(&[], &[0, 0]), Err(SetupFault::Repeated)),
-    (Line::Event(&[0], &[1]), Err(SetupFault::UnknownWorker)),
-    (Line::Event(&[1, 1], &[]), Err(SetupFault::UnknownWorker)),
-    (Line::Event(&[1; 17], &[]), Err(SetupFault::TooMany)),
-    (Line::Event(&[], &[1; 17]), Err(SetupFault::TooMany)),
-];
-
-#[test]
-fn each_fault_of_an_eventcount(rt: HostRuntime) -> Result<(), Fail> {
-    let setup = declared(rt.alloc(), 1, &EVENT_FAULTS)?;
-    assert!(rt; sizes(&setup) == (0, 0, 0));
-    Ok(())
-}
-
-static SEQUENCER_FAULTS: [Row; 4] = [
-    (Line::Sequencer(&[]), Err(SetupFault::Empty)),
-    (Line::Sequencer(&[0, 0]), Err(SetupFault::Repeated)),
-    (Line::Sequencer(&[1, 1]), Err(SetupFault::UnknownWorker)),
-    (Line::Sequencer(&[1; 17]), Err(SetupFault::TooMany)),
-];
-
-#[test]
-fn each_fault_of_a_sequencer(rt: HostRuntime) -> Result<(), Fail> {
-    let setup = declared(rt.alloc(), 1, &SEQUENCER_FAULTS)?;
-    assert!(rt; sizes(&setup) == (0, 0, 0));
-    Ok(())
-}
-
-static CELL_FAULTS: [Row; 7] = [
-    (Line::Cells(0, &[0], &[]), Err(SetupFault::Empty)),
-    (Line::Cells(1, &[], &[0]), Err(SetupFault::Empty)),
-    (Line::Cells(0, &[0, 0], &[]), Err(SetupFault::Repeated)),
-    (Line::Cells(1, &[0], &[0, 0]), Err(SetupFault::Repeated)),
-    (Line::Cells(1, &[1, 1], &[]), Err(SetupFault::UnknownWorker)),
-    (Line::Cells(1, &[], &[1; 17]), Err(SetupFault::TooMany)),
-    (Line::Cells(257, &[1], &[]), Err(SetupFault::TooMany)),
-];
-
-#[test]
-fn each_fault_of_cells(rt: HostRuntime) -> Result<(), Fail> {
-    let setup = declared(rt.alloc(), 1, &CELL_FAULTS)?;
-    assert!(rt; sizes(&setup) == (0, 0, 0));
-    Ok(())
-}
-
-/// One worker, with as many eventcounts and sequencers as the tables hold.
-fn full_tables(alloc: Global) -> Result<Setup, Fail> {
-    let mut setup = workers(1)?;
-    for n in 0..32 {
-        let rows = [
-            (Line::Event(&[0], &[]), Ok(n)),
-            (Line::Sequencer(&[0]), Ok(n)),
-        ];
-        made(alloc, &mut setup, &rows)?;
-    }
-    Ok(setup)
-}
-
-static FULL: [Row; 5] = [
-    (Line::Event(&[0], &[]), Err(SetupFault::TooMany)),
-    (Line::Sequencer(&[0]), Err(SetupFault::TooMany)),
-    (Line::Cells(255, &[0], &[]), Ok(0)),
-    (Line::Cells(2, &[0], &[]), Err(SetupFault::TooMany)),
-    (Line::Cells(1, &[0], &[]), Ok(255)),
-];
-
-#[test]
-fn tables_are_filled_to_their_bounds(rt: HostRuntime) -> Result<(), Fail> {
-    let mut setup = full_tables(rt.alloc())?;
-    made(rt.alloc(), &mut setup, &FULL)
-}
-
-static ONE_EVENT: [Row; 1] = [(Line::Event(&[0], &[1]), Ok(0))];
-
-static TWO_REFUSED: [Row; 2] = [
-    (Line::Event(&[0, 0], &[]), Err(SetupFault::Repeated)),
-    (Line::Cells(0, &[0], &[]), Err(SetupFault::Empty)),
-];
-
-static ANOTHER_EVENT: [Row; 1] = [(Line::Event(&[0], &[1]), Ok(1))];
-
-/// The same declarations once more.
-fn copy_of(setup: &Setup) -> Setup {
-    setup.copy()
-}
-
-fn is_equal(setup: &Setup, other: &Setup) -> bool {
-    setup == other
-}
-
-#[test]
-fn a_refused_declaration_changes_nothing(rt: HostRuntime) -> Result<(), Fail> {
-    let mut setup = declared(rt.alloc(), 2, &ONE_EVENT)?;
-    let before = copy_of(&setup);
-    made(rt.alloc(), &mut setup, &TWO_REFUSED)?;
-    assert!(rt; is_equal(&setup, &before));
-    made(rt.alloc(), &mut setup, &ANOTHER_EVENT)?;
-    assert!(rt; !is_equal(&setup, &before));
-    Ok(())
-}
-
-/// What workers may do with objects, all by number.
+/// What workers may do with objects, all by number, and how many of all there are.
 #[derive(Clone, Copy)]
 enum Right {
     /// How many components an eventcount has.
@@ -317,15 +152,20 @@ enum Right {
     Writes(usize, usize, bool),
     Reads(usize, usize, bool),
     Silent(usize, bool),
+    /// How many workers there are.
+    Workers(usize),
+    /// How many eventcounts, sequencers and cells there are.
+    Sizes(usize, usize, usize),
 }
 
 /// Whether the signaller of a component is this worker.
 fn is_signaller(setup: &Setup, e: usize, component: usize, right: Option<usize>) -> bool {
-    match (setup.signaller(event(e), component), right) {
-        (Some(found), Some(right)) => found == worker(right),
-        (None, None) => true,
-        _ => false,
-    }
+    setup.signaller(event(e), component) == right.map(worker)
+}
+
+/// Whether there are so many eventcounts, sequencers and cells.
+fn has_sizes(setup: &Setup, events: usize, sequencers: usize, cells: usize) -> bool {
+    setup.events() == events && setup.sequencers() == sequencers && setup.cells() == cells
 }
 
 /// Whether the declarations say so.
@@ -339,6 +179,8 @@ fn is_so(setup: &Setup, right: &Right) -> bool {
         Right::Writes(x, w, yes) => setup.may_write(cell(x), worker(w)) == yes,
         Right::Reads(x, w, yes) => setup.may_read(cell(x), worker(w)) == yes,
         Right::Silent(w, yes) => setup.is_silent(worker(w)) == yes,
+        Right::Workers(n) => setup.workers() == n,
+        Right::Sizes(events, sequencers, cells) => has_sizes(setup, events, sequencers, cells),
     }
 }
 
@@ -350,6 +192,124 @@ fn are_so(setup: &Setup, rights: &[Right]) -> Result<(), Fail> {
         }
     }
     Ok(())
+}
+
+/// The declarations of a table, made after so many workers, get their answers, and all say then what they should.
+fn shows(workers: usize, rows: &[Row], rights: &[Right]) -> Result<(), Fail> {
+    let mut setup = no_declarations();
+    made_after(&mut setup, workers, rows)?;
+    are_so(&setup, rights)
+}
+
+static SEVENTEENTH: [Row; 2] = [
+    (Line::Worker, Ok(15)),
+    (Line::Worker, Err(SetupFault::TooMany)),
+];
+
+static SIXTEEN: [Right; 1] = [Right::Workers(16)];
+
+#[test]
+fn a_seventeenth_worker_is_too_many() -> Result<(), Fail> {
+    shows(15, &SEVENTEENTH, &SIXTEEN)
+}
+
+static NO_OBJECTS: [Right; 1] = [Right::Sizes(0, 0, 0)];
+
+static EVENT_FAULTS: [Row; 7] = [
+    (Line::Event(&[], &[]), Err(SetupFault::Empty)),
+    (Line::Event(&[0, 0], &[]), Err(SetupFault::Repeated)),
+    (Line::Event(&[], &[0, 0]), Err(SetupFault::Repeated)),
+    (Line::Event(&[0], &[1]), Err(SetupFault::UnknownWorker)),
+    (Line::Event(&[1, 1], &[]), Err(SetupFault::UnknownWorker)),
+    (Line::Event(&[1; 17], &[]), Err(SetupFault::TooMany)),
+    (Line::Event(&[], &[1; 17]), Err(SetupFault::TooMany)),
+];
+
+#[test]
+fn each_fault_of_an_eventcount() -> Result<(), Fail> {
+    shows(1, &EVENT_FAULTS, &NO_OBJECTS)
+}
+
+static SEQUENCER_FAULTS: [Row; 4] = [
+    (Line::Sequencer(&[]), Err(SetupFault::Empty)),
+    (Line::Sequencer(&[0, 0]), Err(SetupFault::Repeated)),
+    (Line::Sequencer(&[1, 1]), Err(SetupFault::UnknownWorker)),
+    (Line::Sequencer(&[1; 17]), Err(SetupFault::TooMany)),
+];
+
+#[test]
+fn each_fault_of_a_sequencer() -> Result<(), Fail> {
+    shows(1, &SEQUENCER_FAULTS, &NO_OBJECTS)
+}
+
+static CELL_FAULTS: [Row; 7] = [
+    (Line::Cells(0, &[0], &[]), Err(SetupFault::Empty)),
+    (Line::Cells(1, &[], &[0]), Err(SetupFault::Empty)),
+    (Line::Cells(0, &[0, 0], &[]), Err(SetupFault::Repeated)),
+    (Line::Cells(1, &[0], &[0, 0]), Err(SetupFault::Repeated)),
+    (Line::Cells(1, &[1, 1], &[]), Err(SetupFault::UnknownWorker)),
+    (Line::Cells(1, &[], &[1; 17]), Err(SetupFault::TooMany)),
+    (Line::Cells(257, &[1], &[]), Err(SetupFault::TooMany)),
+];
+
+#[test]
+fn each_fault_of_cells() -> Result<(), Fail> {
+    shows(1, &CELL_FAULTS, &NO_OBJECTS)
+}
+
+static FULL: [Row; 5] = [
+    (Line::Event(&[0], &[]), Err(SetupFault::TooMany)),
+    (Line::Sequencer(&[0]), Err(SetupFault::TooMany)),
+    (Line::Cells(255, &[0], &[]), Ok(0)),
+    (Line::Cells(2, &[0], &[]), Err(SetupFault::TooMany)),
+    (Line::Cells(1, &[0], &[]), Ok(255)),
+];
+
+/// One worker, with as many eventcounts and sequencers as the tables hold, gets the answers of full tables.
+fn fills(setup: &mut Setup) -> Result<(), Fail> {
+    made_after(setup, 1, &[])?;
+    for n in 0..32 {
+        let rows = [
+            (Line::Event(&[0], &[]), Ok(n)),
+            (Line::Sequencer(&[0]), Ok(n)),
+        ];
+        made(setup, &rows)?;
+    }
+    made(setup, &FULL)
+}
+
+#[test]
+fn tables_are_filled_to_their_bounds() -> Result<(), Fail> {
+    fills(&mut no_declarations())
+}
+
+static ONE_EVENT: [Row; 1] = [(Line::Event(&[0], &[1]), Ok(0))];
+
+static TWO_REFUSED: [Row; 2] = [
+    (Line::Event(&[0, 0], &[]), Err(SetupFault::Repeated)),
+    (Line::Cells(0, &[0], &[]), Err(SetupFault::Empty)),
+];
+
+static ANOTHER_EVENT: [Row; 1] = [(Line::Event(&[0], &[1]), Ok(1))];
+
+/// Refused declarations change nothing, and an accepted one does.
+fn changes_once(setup: &mut Setup, before: &Setup) -> Result<(), Fail> {
+    made(setup, &TWO_REFUSED)?;
+    let is_unchanged = *setup == *before;
+    made(setup, &ANOTHER_EVENT)?;
+    if is_unchanged && *setup != *before {
+        Ok(())
+    } else {
+        Err(Fail::new("other declarations"))
+    }
+}
+
+#[test]
+fn a_refused_declaration_changes_nothing() -> Result<(), Fail> {
+    let mut setup = no_declarations();
+    made_after(&mut setup, 2, &ONE_EVENT)?;
+    let before = setup.copy();
+    changes_once(&mut setup, &before)
 }
 
 static TWO_WORKERS: [Row; 3] = [
@@ -375,9 +335,8 @@ static THEIR_RIGHTS: [Right; 13] = [
 ];
 
 #[test]
-fn the_rights_of_two_workers(rt: HostRuntime) -> Result<(), Fail> {
-    let setup = declared(rt.alloc(), 2, &TWO_WORKERS)?;
-    are_so(&setup, &THEIR_RIGHTS)
+fn the_rights_of_two_workers() -> Result<(), Fail> {
+    shows(2, &TWO_WORKERS, &THEIR_RIGHTS)
 }
 
 static FIVE_WORKERS: [Row; 3] = [
@@ -396,7 +355,6 @@ static WHO_IS_SILENT: [Right; 6] = [
 ];
 
 #[test]
-fn who_only_observes_is_silent(rt: HostRuntime) -> Result<(), Fail> {
-    let setup = declared(rt.alloc(), 5, &FIVE_WORKERS)?;
-    are_so(&setup, &WHO_IS_SILENT)
+fn who_only_observes_is_silent() -> Result<(), Fail> {
+    shows(5, &FIVE_WORKERS, &WHO_IS_SILENT)
 }

@@ -15,10 +15,8 @@ enum Row {
     /// The words from a place on are dropped.
     Truncate(usize),
     Length(usize),
-}
-
-fn no_words(alloc: Global) -> Result<Vocabulary, Fail> {
-    Ok(Vocabulary::new(alloc)?)
+    /// The words w0, w1 and so on, so many, are added, each for a target of its own.
+    Numbered(usize),
 }
 
 /// Adds a word that is not there yet, and says whether that went well.
@@ -45,8 +43,26 @@ fn stands_at(words: &Vocabulary, place: usize, right: Option<(&str, Thing)>) -> 
     }
 }
 
+/// Whether the word of a number is added.
+fn is_numbered(alloc: Global, words: &mut Vocabulary, n: usize) -> bool {
+    match format!(in alloc; "w{n}") {
+        Ok(word) => add(words, word.as_bytes(), Thing::Group(n)),
+        Err(_) => false,
+    }
+}
+
+/// Whether so many numbered words are added.
+fn are_numbered(alloc: Global, words: &mut Vocabulary, many: usize) -> bool {
+    for n in 0..many {
+        if !is_numbered(alloc, words, n) {
+            return false;
+        }
+    }
+    true
+}
+
 /// Whether a call gets its answer.
-fn is_right(words: &mut Vocabulary, row: &Row) -> bool {
+fn is_right(alloc: Global, words: &mut Vocabulary, row: &Row) -> bool {
     match *row {
         Row::Add(word, thing) => add(words, word.as_bytes(), thing),
         Row::Find(word, thing) => finds(words, word.as_bytes(), thing),
@@ -56,13 +72,14 @@ fn is_right(words: &mut Vocabulary, row: &Row) -> bool {
             true
         }
         Row::Length(n) => words.len() == n,
+        Row::Numbered(many) => are_numbered(alloc, words, many),
     }
 }
 
 /// The calls of a table get their answers.
-fn go_on(words: &mut Vocabulary, rows: &[Row]) -> Result<(), Fail> {
+fn go_on(alloc: Global, words: &mut Vocabulary, rows: &[Row]) -> Result<(), Fail> {
     for (place, row) in rows.iter().enumerate() {
-        if !is_right(words, row) {
+        if !is_right(alloc, words, row) {
             return Err(Fail::new(format_args!("another answer at row {place}")));
         }
     }
@@ -71,8 +88,8 @@ fn go_on(words: &mut Vocabulary, rows: &[Row]) -> Result<(), Fail> {
 
 /// The calls of a table, made one after another on no words at first, get their answers.
 fn shows(alloc: Global, rows: &[Row]) -> Result<(), Fail> {
-    let mut words = no_words(alloc)?;
-    go_on(&mut words, rows)
+    let mut words = Vocabulary::new(alloc)?;
+    go_on(alloc, &mut words, rows)
 }
 
 static FINDS: [Row; 20] = [
@@ -116,56 +133,43 @@ fn words_stand_at_their_places(rt: HostRuntime) -> Result<(), Fail> {
     shows(rt.alloc(), &PLACES)
 }
 
-/// Words of no byte, one, and so on up to the longest, each of the letter x.
-fn all_lengths(alloc: Global) -> Result<Vocabulary, Fail> {
-    let mut words = no_words(alloc)?;
-    let mut word = Vec::new(alloc);
+/// The longest word that is looked for. Its beginnings are words of all lengths.
+static LONG: [u8; 299] = [b'x'; 299];
+
+/// Whether words of no byte, one, and so on up to the longest that there may be are added.
+fn all_lengths(words: &mut Vocabulary) -> bool {
     for n in 0..=WORD_MAX {
-        if !add(&mut words, word.as_slice(), Thing::Group(n)) {
-            return Err(Fail::new(format_args!("no new word of {n} bytes")));
+        if !add(words, &LONG[..n], Thing::Group(n)) {
+            return false;
         }
-        word.push(b'x')?;
     }
-    Ok(words)
+    true
 }
 
-/// Whether a word of so many bytes is found, where there is one.
-fn is_found_up_to_the_longest(words: &Vocabulary, word: &[u8]) -> bool {
-    let n = word.len();
-    if n > WORD_MAX {
-        finds(words, word, None)
-    } else {
-        finds(words, word, Some(Thing::Group(n)))
+/// Whether words of all lengths are found up to the longest that there may be, and no others.
+fn are_found_up_to_the_longest(words: &Vocabulary) -> bool {
+    for n in 0..=LONG.len() {
+        let right = if n > WORD_MAX {
+            None
+        } else {
+            Some(Thing::Group(n))
+        };
+        if !finds(words, &LONG[..n], right) {
+            return false;
+        }
     }
+    true
 }
 
 #[test]
 fn words_of_24_bytes_and_more(rt: HostRuntime) -> Result<(), Fail> {
-    let words = all_lengths(rt.alloc())?;
-    let mut word = Vec::new(rt.alloc());
-    for n in 0..300 {
-        assert!(rt;
-            is_found_up_to_the_longest(&words, word.as_slice()),
-            "at {n}"
-        );
-        word.push(b'x')?;
-    }
+    let mut words = Vocabulary::new(rt.alloc())?;
+    assert!(rt; all_lengths(&mut words) && are_found_up_to_the_longest(&words));
     Ok(())
 }
 
-/// The words w0, w1 and so on, so many.
-fn numbered(alloc: Global, many: usize) -> Result<Vocabulary, Fail> {
-    let mut words = no_words(alloc)?;
-    for n in 0..many {
-        let word = format!(in alloc; "w{n}")?;
-        if !add(&mut words, word.as_bytes(), Thing::Group(n)) {
-            return Err(Fail::new(format_args!("no new word {n}")));
-        }
-    }
-    Ok(words)
-}
-
-static DROPPED: [Row; 10] = [
+static DROPPED: [Row; 11] = [
+    Row::Numbered(500),
     Row::Truncate(500),
     Row::Find("w499", Some(Thing::Group(499))),
     Row::Truncate(250),
@@ -180,11 +184,11 @@ static DROPPED: [Row; 10] = [
 
 #[test]
 fn words_that_are_dropped_may_be_added_again(rt: HostRuntime) -> Result<(), Fail> {
-    let mut words = numbered(rt.alloc(), 500)?;
-    go_on(&mut words, &DROPPED)
+    shows(rt.alloc(), &DROPPED)
 }
 
-static LAST_OF_MANY: [Row; 3] = [
+static LAST_OF_MANY: [Row; 4] = [
+    Row::Numbered(2_100_000),
     Row::Length(2_100_000),
     Row::At(2_099_999, Some(("w2099999", Thing::Group(2_099_999)))),
     Row::Find("w2099999", Some(Thing::Group(2_099_999))),
@@ -192,6 +196,5 @@ static LAST_OF_MANY: [Row; 3] = [
 
 #[test]
 fn more_than_two_million_words(rt: HostRuntime) -> Result<(), Fail> {
-    let mut words = numbered(rt.alloc(), 2_100_000)?;
-    go_on(&mut words, &LAST_OF_MANY)
+    shows(rt.alloc(), &LAST_OF_MANY)
 }
