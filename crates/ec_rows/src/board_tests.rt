@@ -1,6 +1,6 @@
 //! A board, by calls: who waits, who is let go, and when all are stuck.
 use crate::drive::Ask::{Advance, Await, Go};
-use crate::drive::{Ask, Line, World, act_of, declared};
+use crate::drive::{Ask, Line, World, act_of, declared, right};
 use crate::ids::worker;
 use ec_core::Reply;
 use ec_runner::{Board, BoardFault, Parked};
@@ -9,7 +9,7 @@ use std::test::Fail;
 
 /// A call, and the answer that is right.
 #[derive(Clone, Copy)]
-enum Row {
+pub(crate) enum Row {
     Step(usize, Ask, Result<Reply, BoardFault>),
     Park(usize, Parked),
     Leave(usize),
@@ -37,7 +37,7 @@ fn leave(board: &mut Board, n: usize) -> bool {
 }
 
 /// Whether a call gets its answer.
-fn is_right(board: &mut Board, row: &Row) -> bool {
+pub(crate) fn is_right(board: &mut Board, row: &Row) -> bool {
     match *row {
         Row::Step(n, ask, answer) => board.step(worker(n), act_of(ask)) == answer,
         Row::Park(n, answer) => board.park(worker(n)) == answer,
@@ -52,9 +52,7 @@ fn is_right(board: &mut Board, row: &Row) -> bool {
 /// Makes the calls of a table, which get their answers.
 fn go_through(board: &mut Board, rows: &[Row]) -> Result<(), Fail> {
     for (place, row) in rows.iter().enumerate() {
-        if !is_right(board, row) {
-            return Err(Fail::new(format_args!("another answer at row {place}")));
-        }
+        right(place, is_right(board, row))?;
     }
     Ok(())
 }
@@ -78,14 +76,6 @@ static FOUR_PARKS: [Row; 7] = [
     Row::Park(0, Parked::Ready),
 ];
 
-/// A board after that.
-fn parked(alloc: Global) -> Result<Board, Fail> {
-    let setup = declared(&ONE_AND_THREE)?;
-    let mut board = Board::open(alloc, setup)?;
-    go_through(&mut board, &FOUR_PARKS)?;
-    Ok(board)
-}
-
 static LET_GO: [Row; 8] = [
     Row::Waiting([false, true, true, true]),
     Row::Step(0, Advance(0), Ok(Reply::Done)),
@@ -97,10 +87,17 @@ static LET_GO: [Row; 8] = [
     Row::Length(6),
 ];
 
+/// The calls of a table, made on a board after the parks, get their answers, and its run has so many entries in the end.
+fn shows(alloc: Global, rows: &[Row], entries: usize) -> Result<(), Fail> {
+    let mut board = Board::open(alloc, declared(&ONE_AND_THREE)?)?;
+    go_through(&mut board, &FOUR_PARKS)?;
+    go_through(&mut board, rows)?;
+    right(rows.len(), board.into_run().len() == entries)
+}
+
 #[test]
 fn waiters_are_let_go_at_their_thresholds(rt: HostRuntime) -> Result<(), Fail> {
-    let mut board = parked(rt.alloc())?;
-    go_through(&mut board, &LET_GO)
+    shows(rt.alloc(), &LET_GO, 6)
 }
 
 static STUCK: [Row; 7] = [
@@ -113,15 +110,7 @@ static STUCK: [Row; 7] = [
     Row::Park(1, Parked::Stuck),
 ];
 
-/// How many entries the run of a board has in the end.
-fn length_in_the_end(board: Board) -> usize {
-    board.into_run().len()
-}
-
 #[test]
 fn a_board_is_stuck_once_all_who_are_live_wait(rt: HostRuntime) -> Result<(), Fail> {
-    let mut board = parked(rt.alloc())?;
-    go_through(&mut board, &STUCK)?;
-    assert!(rt; length_in_the_end(board) == 3);
-    Ok(())
+    shows(rt.alloc(), &STUCK, 3)
 }

@@ -13,7 +13,7 @@ use std::alloc::Global;
 use std::test::Fail;
 
 /// Declares a buffer of so many cells for these producers and consumers.
-fn declare(
+pub(crate) fn declare(
     setup: &mut Setup,
     n: usize,
     produce: &[usize],
@@ -64,7 +64,7 @@ enum Turn {
 }
 
 /// A delivery: its number, who put the item, who got it, and the item.
-type Found = (u64, usize, usize, u64);
+pub(crate) type Found = (u64, usize, usize, u64);
 
 /// What is done with a run on a buffer, or asked of it, and what is right.
 #[derive(Clone, Copy)]
@@ -100,7 +100,7 @@ fn is_moved(
 }
 
 /// Whether a delivery is that of a row.
-fn is_delivery(found: &Delivery, row: &Found) -> bool {
+pub(crate) fn is_delivery(found: &Delivery, row: &Found) -> bool {
     let (number, producer, consumer, item) = *row;
     found.number == number
         && found.producer == worker(producer)
@@ -317,7 +317,7 @@ fn each_fault_of_a_buffer() -> Result<(), Fail> {
 fn sixteen() -> ([WorkerId; 1], [WorkerId; 15]) {
     let mut others = [worker(1); 15];
     for (place, other) in others.iter_mut().enumerate() {
-        *other = WorkerId::new(place + 1).unwrap_or(worker(1));
+        *other = worker(place + 1);
     }
     ([worker(0)], others)
 }

@@ -18,7 +18,7 @@ use std::alloc::Global;
 use std::test::Fail;
 
 /// Declares a database of so many cells for these writers and readers.
-fn declare(
+pub(crate) fn declare(
     setup: &mut Setup,
     n: usize,
     write: &[usize],
@@ -93,7 +93,7 @@ fn end_of(snapshot: &Snapshot) -> End {
 }
 
 /// An accepting try of the reader's: its version, and the values.
-type Found = (u64, &'static [u64]);
+pub(crate) type Found = (u64, &'static [u64]);
 
 /// What is done with a run on a database, or asked of it, and what is right.
 #[derive(Clone, Copy)]
@@ -117,7 +117,7 @@ enum Row {
 }
 
 /// Whether an accepting try is one of the reader's, of this version with these values.
-fn is_version(found: &Accepted, row: &Found) -> bool {
+pub(crate) fn is_version(found: &Accepted, row: &Found) -> bool {
     let (version, values) = *row;
     found.worker == worker(1) && found.version == version && found.values.as_slice() == values
 }

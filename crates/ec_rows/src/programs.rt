@@ -1,10 +1,12 @@
 //! Programs as tables: what two workers have, and what is written of their programs.
+use crate::database_tests;
 use crate::drive::{Line, TWO_WORKERS, World, declared};
-use crate::ids::{cell, event, sequencer, worker};
+use crate::ids::{cell, event, sequencer};
+use crate::semaphores::{Shapes, shapes_in};
 use ec_count::{Setup, SetupFault};
-use ec_database::{DatabaseShape, declare_database};
+use ec_database::DatabaseShape;
 use ec_machine::{Command, Program, Value};
-use ec_semaphore::{SemaphoreShape, declare_both, declare_semaphore};
+use ec_semaphore::SemaphoreShape;
 use std::alloc::Global;
 use std::mem;
 use std::test::Fail;
@@ -31,32 +33,29 @@ pub(crate) enum Ground {
     Semaphores(u64),
 }
 
-/// The database or the semaphores that programs name.
+/// The database and the semaphores that programs may name.
 #[derive(Clone, Copy)]
-pub(crate) enum Objects {
-    None,
-    Database(DatabaseShape),
-    Semaphores([SemaphoreShape; 3]),
-}
-
-/// Declares two semaphores and the common one of both for the first two workers.
-fn three_semaphores(setup: &mut Setup, initial: u64) -> Result<[SemaphoreShape; 3], SetupFault> {
-    let users = [worker(0), worker(1)];
-    let one = declare_semaphore(setup, initial, &users)?;
-    let other = declare_semaphore(setup, 1, &users)?;
-    let common = declare_both(setup, &users)?;
-    Ok([one, other, common])
+pub(crate) struct Objects {
+    database: Option<DatabaseShape>,
+    semaphores: Option<Shapes>,
 }
 
 /// Declares what there is beside the workers.
 fn add_objects(setup: &mut Setup, ground: Ground) -> Result<Objects, SetupFault> {
-    Ok(match ground {
-        Ground::Counted => Objects::None,
+    let mut objects = Objects {
+        database: None,
+        semaphores: None,
+    };
+    match ground {
+        Ground::Counted => {}
         Ground::Database => {
-            Objects::Database(declare_database(setup, 2, &[worker(0)], &[worker(1)])?)
+            objects.database = Some(database_tests::declare(setup, 2, &[0], &[1])?);
         }
-        Ground::Semaphores(initial) => Objects::Semaphores(three_semaphores(setup, initial)?),
-    })
+        Ground::Semaphores(initial) => {
+            objects.semaphores = Some(shapes_in(setup, initial, &[0, 1])?);
+        }
+    }
+    Ok(objects)
 }
 
 /// The declarations of two workers.
@@ -96,16 +95,11 @@ pub(crate) type Text = &'static [Order];
 
 /// The semaphore of a number.
 fn semaphore(objects: &Objects, n: usize) -> Option<SemaphoreShape> {
-    match objects {
-        Objects::Semaphores(shapes) => shapes.get(n).copied(),
-        _ => None,
-    }
-}
-
-/// The database that there is.
-fn database(objects: &Objects) -> Option<DatabaseShape> {
-    match objects {
-        Objects::Database(shape) => Some(*shape),
+    let shapes = objects.semaphores?;
+    match n {
+        0 => Some(shapes.r),
+        1 => Some(shapes.s),
+        2 => Some(shapes.both),
         _ => None,
     }
 }
@@ -121,7 +115,7 @@ fn down_both(objects: &Objects, common: usize, one: usize, other: usize) -> Opti
 
 /// The command that writes these values into all cells, where there is memory for it.
 fn write_all(alloc: Global, objects: &Objects, values: &[Value]) -> Option<Command> {
-    let shape = database(objects)?;
+    let shape = objects.database?;
     match values.to_vec(alloc) {
         Ok(values) => Some(Command::WriteAll(shape, values)),
         Err(_) => None,
@@ -138,7 +132,7 @@ fn command(alloc: Global, objects: &Objects, order: &Order) -> Option<Command> {
         Order::Put(x, value) => Some(Command::Put(cell(x), value)),
         Order::Get(x) => Some(Command::Get(cell(x))),
         Order::WriteAll(values) => write_all(alloc, objects, values),
-        Order::Snapshot(tries) => Some(Command::Snapshot(database(objects)?, tries)),
+        Order::Snapshot(tries) => Some(Command::Snapshot(objects.database?, tries)),
         Order::Down(n) => Some(Command::Down(semaphore(objects, n)?)),
         Order::Up(n) => Some(Command::Up(semaphore(objects, n)?)),
         Order::DownBoth(common, one, other) => down_both(objects, common, one, other),

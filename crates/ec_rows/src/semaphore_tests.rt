@@ -4,8 +4,8 @@ use crate::drive::Told::{Done, Number, Pending};
 use crate::drive::{Step, TWO_WORKERS, declared, go_on, run_on};
 use crate::ids::worker;
 use crate::semaphores::{
-    Found, Row, Shapes, Turn, Which, declare, has_balance, is_found, is_moved, procedures_of,
-    shows, two_users,
+    Found, Row, Shapes, Turn, Which, declare, down_both, has_balance, is_found, is_moved,
+    procedures_of, shows, two_users,
 };
 use ec_core::{Run, StepFault};
 use ec_semaphore::{Balance, DownBoth, SemaphoreShape};
@@ -185,15 +185,6 @@ fn an_empty_semaphore_waits_for_the_first_v(rt: HostRuntime) -> Result<(), Fail>
     Ok(())
 }
 
-/// A P on R and S, and one on S and R.
-fn two_on_both(shapes: &Shapes) -> Result<(DownBoth, DownBoth), Fail> {
-    let (both, r, s) = (shapes.both, shapes.r, shapes.s);
-    if both.initial() != 1 || both == r || both == s || r == s {
-        return Err(Fail::new("shapes that are alike"));
-    }
-    Ok((DownBoth::new(both, r, s), DownBoth::new(both, s, r)))
-}
-
 /// A P on R and S by one worker and one on S and R by the other, as far as they go by so many steps in turn; whether
 /// each has ended.
 fn in_turn(
@@ -218,29 +209,27 @@ static ONE_HAS_BOTH: [Row; 3] = [
 ];
 
 /// Whether the first has ended and the second waits, by so many steps in turn, and the run shows that.
-fn is_waited_for(
-    alloc: Global,
-    run: &mut Run,
-    shapes: &Shapes,
-    steps: usize,
-) -> Result<bool, Fail> {
-    let (mut one, mut other) = two_on_both(shapes)?;
+fn is_waited_for(alloc: Global, run: &mut Run, shapes: &Shapes, steps: usize) -> bool {
+    let (both, r, s) = (shapes.both, shapes.r, shapes.s);
+    let (Some(mut one), Some(mut other)) = (down_both(both, r, s), down_both(both, s, r)) else {
+        return false;
+    };
     if in_turn(run, &mut one, &mut other, steps) != Ok((true, false)) {
-        return Ok(false);
+        return false;
     }
     for row in &ONE_HAS_BOTH {
         if !is_found(alloc, run, shapes, row) {
-            return Ok(false);
+            return false;
         }
     }
-    Ok(true)
+    true
 }
 
 /// Whether the two procedures, by so many steps in turn, come to where one has ended and the other waits.
 fn come_to_wait(alloc: Global, steps: usize) -> Result<bool, Fail> {
     let (setup, shapes) = two_users()?;
     let mut run = run_on(alloc, setup)?;
-    is_waited_for(alloc, &mut run, &shapes, steps)
+    Ok(is_waited_for(alloc, &mut run, &shapes, steps))
 }
 
 #[test]

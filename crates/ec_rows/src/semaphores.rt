@@ -4,7 +4,8 @@ use crate::ids::{listed, room, sequencer, worker};
 use ec_core::{AuditFault, Run};
 use ec_count::{Setup, SetupFault};
 use ec_semaphore::{
-    Balance, Down, Pair, SemaphoreShape, Up, balance, declare_both, declare_semaphore, pairs,
+    Balance, Down, DownBoth, Pair, SemaphoreShape, Up, balance, declare_both, declare_semaphore,
+    pairs,
 };
 use std::alloc::Global;
 use std::test::Fail;
@@ -19,7 +20,7 @@ pub(crate) fn declare(
     declare_semaphore(setup, initial, listed(&mut users_room, users))
 }
 
-/// Two semaphores R and S with initial value 1, and the common one of both, for the same users.
+/// Two semaphores R and S, and the common one of both, for the same users.
 #[derive(Clone, Copy)]
 pub(crate) struct Shapes {
     pub(crate) r: SemaphoreShape,
@@ -27,18 +28,23 @@ pub(crate) struct Shapes {
     pub(crate) both: SemaphoreShape,
 }
 
-/// R, S and both, for the first two workers.
-fn shapes_in(setup: &mut Setup) -> Result<Shapes, SetupFault> {
-    let r = declare(setup, 1, &[0, 1])?;
-    let s = declare(setup, 1, &[0, 1])?;
-    let both = declare_both(setup, &[worker(0), worker(1)])?;
+/// Declares R, S and both for these users: R with this initial value, the others with 1.
+pub(crate) fn shapes_in(
+    setup: &mut Setup,
+    initial: u64,
+    users: &[usize],
+) -> Result<Shapes, SetupFault> {
+    let mut users_room = room();
+    let r = declare(setup, initial, users)?;
+    let s = declare(setup, 1, users)?;
+    let both = declare_both(setup, listed(&mut users_room, users))?;
     Ok(Shapes { r, s, both })
 }
 
 /// Two workers that use R, S and both.
 pub(crate) fn two_users() -> Result<(Setup, Shapes), Fail> {
     let mut setup = declared(&TWO_WORKERS)?;
-    let shapes = shapes_in(&mut setup)?;
+    let shapes = shapes_in(&mut setup, 1, &[0, 1])?;
     Ok((setup, shapes))
 }
 
@@ -57,6 +63,18 @@ fn shape_of(shapes: &Shapes, which: Which) -> SemaphoreShape {
         Which::S => shapes.s,
         Which::Both => shapes.both,
     }
+}
+
+/// A P on two semaphores at once, where all three are different.
+pub(crate) fn down_both(
+    both: SemaphoreShape,
+    one: SemaphoreShape,
+    other: SemaphoreShape,
+) -> Option<DownBoth> {
+    if both.initial() != 1 || both == one || both == other || one == other {
+        return None;
+    }
+    Some(DownBoth::new(both, one, other))
 }
 
 /// Two P and a V of R.

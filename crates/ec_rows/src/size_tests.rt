@@ -1,21 +1,21 @@
 //! Runs of more than two million entries: whoever needs memory for so many has it.
+use crate::buffer_tests::is_delivery;
+use crate::database_tests::is_version;
 use crate::drive::Ask::{Advance, Read, Ticket};
 use crate::drive::Told::Number;
-use crate::drive::{
-    Line, Sight, Step, World, act_of, are_right, declared, go_on, right, run_on, sees,
-};
+use crate::drive::{Line, Sight, Step, World, are_right, declared, go_on, right, run_on, sees};
 use crate::ids::worker;
 use crate::order_tests::{self, are_shown};
+use crate::semaphores::{Shapes, down_both, shapes_in};
 use crate::steps_tests::shows_without_the_third;
-use ec_buffer::{BufferShape, Consume, Delivery, Produce, declare_buffer, deliveries};
+use crate::{board_tests, buffer_tests, database_tests};
+use ec_buffer::{BufferShape, Consume, Produce, deliveries};
 use ec_core::{Procedure, Reply, Run};
 use ec_count::{Setup, SetupFault};
-use ec_database::{Accepted, DatabaseShape, Snapshot, declare_database, versions};
+use ec_database::{DatabaseShape, Snapshot, versions};
 use ec_order::{in_order, order};
 use ec_runner::Board;
-use ec_semaphore::{
-    Balance, DownBoth, Pair, SemaphoreShape, Up, balance, declare_both, declare_semaphore, pairs,
-};
+use ec_semaphore::{Balance, Pair, SemaphoreShape, Up, balance, pairs};
 use std::alloc::Global;
 use std::test::Fail;
 
@@ -34,25 +34,18 @@ static THREE_WORKERS: World = World {
 struct Groups {
     buffer: BufferShape,
     database: DatabaseShape,
-    r: SemaphoreShape,
-    s: SemaphoreShape,
-    both: SemaphoreShape,
+    shapes: Shapes,
 }
 
 /// Declares them.
 fn groups_in(setup: &mut Setup) -> Result<Groups, SetupFault> {
-    let (one, other) = ([worker(0)], [worker(1)]);
-    let buffer = declare_buffer(setup, 2, &one, &other)?;
-    let database = declare_database(setup, 1, &one, &other)?;
-    let r = declare_semaphore(setup, 1, &one)?;
-    let s = declare_semaphore(setup, 1, &one)?;
-    let both = declare_both(setup, &one)?;
+    let buffer = buffer_tests::declare(setup, 2, &[0], &[1])?;
+    let database = database_tests::declare(setup, 1, &[0], &[1])?;
+    let shapes = shapes_in(setup, 1, &[0])?;
     Ok(Groups {
         buffer,
         database,
-        r,
-        s,
-        both,
+        shapes,
     })
 }
 
@@ -73,27 +66,20 @@ fn is_taken(run: &mut Run, database: DatabaseShape) -> bool {
     makes(run, 1, &mut snapshot)
 }
 
-/// A P on R and S at once.
-fn down_both(groups: &Groups) -> Option<DownBoth> {
-    let (both, r, s) = (groups.both, groups.r, groups.s);
-    if both.initial() != 1 || both == r || both == s || r == s {
-        return None;
-    }
-    Some(DownBoth::new(both, r, s))
-}
-
 /// Whether R and S are taken at once, and given back.
-fn are_taken(run: &mut Run, groups: &Groups) -> bool {
-    let Some(mut down) = down_both(groups) else {
+fn are_taken(run: &mut Run, shapes: &Shapes) -> bool {
+    let Some(mut down) = down_both(shapes.both, shapes.r, shapes.s) else {
         return false;
     };
-    let (mut r, mut s) = (Up::new(groups.r), Up::new(groups.s));
+    let (mut r, mut s) = (Up::new(shapes.r), Up::new(shapes.s));
     makes(run, 0, &mut down) && makes(run, 0, &mut r) && makes(run, 0, &mut s)
 }
 
 /// Whether a round goes well.
 fn is_gone_round(run: &mut Run, groups: &Groups) -> bool {
-    is_delivered(run, groups.buffer) && is_taken(run, groups.database) && are_taken(run, groups)
+    is_delivered(run, groups.buffer)
+        && is_taken(run, groups.database)
+        && are_taken(run, &groups.shapes)
 }
 
 static A_READ: [Step; 1] = [(2, Read(0), Number(0))];
@@ -171,39 +157,26 @@ fn the_calls_of_a_long_run_are_ordered_and_judged(rt: HostRuntime) -> Result<(),
     Ok(())
 }
 
-/// Whether a delivery is that of a round.
-fn is_delivery(found: &Delivery, round: usize) -> bool {
-    found.number == round as u64
-        && found.producer == worker(0)
-        && found.consumer == worker(1)
-        && found.item == 7
-}
-
 /// Whether each round has its delivery.
 fn has_deliveries(alloc: Global, run: &Run, buffer: &BufferShape) -> bool {
     let Ok(found) = deliveries(alloc, run, buffer) else {
         return false;
     };
     for (round, delivery) in found.as_slice().iter().enumerate() {
-        if !is_delivery(delivery, round) {
+        if !is_delivery(delivery, &(round as u64, 0, 1, 7)) {
             return false;
         }
     }
     found.len() == ROUNDS
 }
 
-/// Whether an accepting try is the second worker's, of what stands at first.
-fn is_version(found: &Accepted) -> bool {
-    found.worker == worker(1) && found.version == 0 && found.values.as_slice() == [0].as_slice()
-}
-
-/// Whether each round has its version.
+/// Whether each round has its version, which is what stands at first.
 fn has_versions(alloc: Global, run: &Run, database: &DatabaseShape) -> bool {
     let Ok(found) = versions(alloc, run, database) else {
         return false;
     };
     for accepted in found.as_slice() {
-        if !is_version(accepted) {
+        if !is_version(accepted, &(0, &[0])) {
             return false;
         }
     }
@@ -211,25 +184,25 @@ fn has_versions(alloc: Global, run: &Run, database: &DatabaseShape) -> bool {
 }
 
 /// Whether a pair is that of a round.
-fn is_pair(found: &Pair, groups: &Groups, round: usize) -> bool {
+fn is_pair(found: &Pair, shapes: &Shapes, round: usize) -> bool {
     let ticket = round as u64;
     *found
         == Pair {
             worker: worker(0),
-            first: groups.r.line(),
+            first: shapes.r.line(),
             first_ticket: ticket,
-            second: groups.s.line(),
+            second: shapes.s.line(),
             second_ticket: ticket,
         }
 }
 
 /// Whether each round has its pair.
-fn has_pairs(alloc: Global, run: &Run, groups: &Groups) -> bool {
-    let Ok(found) = pairs(alloc, run, &groups.both, &[groups.r, groups.s]) else {
+fn has_pairs(alloc: Global, run: &Run, shapes: &Shapes) -> bool {
+    let Ok(found) = pairs(alloc, run, &shapes.both, &[shapes.r, shapes.s]) else {
         return false;
     };
     for (round, pair) in found.as_slice().iter().enumerate() {
-        if !is_pair(pair, groups, round) {
+        if !is_pair(pair, shapes, round) {
             return false;
         }
     }
@@ -251,15 +224,18 @@ fn a_long_run_is_audited(rt: HostRuntime) -> Result<(), Fail> {
     let (run, groups) = long_run(rt.alloc())?;
     assert!(rt; has_deliveries(rt.alloc(), &run, &groups.buffer));
     assert!(rt; has_versions(rt.alloc(), &run, &groups.database));
-    assert!(rt; has_pairs(rt.alloc(), &run, &groups));
-    assert!(rt; is_balanced(&run, &groups.r) && is_balanced(&run, &groups.both));
+    let shapes = &groups.shapes;
+    assert!(rt; has_pairs(rt.alloc(), &run, shapes));
+    assert!(rt; is_balanced(&run, &shapes.r) && is_balanced(&run, &shapes.both));
     Ok(())
 }
+
+static AN_ADVANCE: board_tests::Row = board_tests::Row::Step(0, Advance(0), Ok(Reply::Done));
 
 /// Whether the first worker makes so many advances on a board.
 fn all_advance(board: &mut Board, many: usize) -> bool {
     for _ in 0..many {
-        if board.step(worker(0), act_of(Advance(0))) != Ok(Reply::Done) {
+        if !board_tests::is_right(board, &AN_ADVANCE) {
             return false;
         }
     }
