@@ -474,18 +474,21 @@ def unchanged(folder, together):
 
 
 def bystander(folder, together):
-    """Returns the end of the name of a function that none of these bodies has to do with: no law, whose proof may be long,
-    and where there is one, of a file that uses no other of the crate, so that a type which a body changes is not its either."""
+    """Returns the end of the name of a function that none of these bodies has to do with: no law, whose proof may be long, and
+    none that calls what they change. Where there is one, it is of a file that uses no other of the crate, so that a type which
+    a body changes is not its either."""
     taken = {name for body in together for name in taken_by(folder, replace(body, twin=0))}
+    calls = re.compile(rf"\b({'|'.join(re.escape(it.split('::')[-1].strip()) for it in taken)})\(")
     changed = {file for body in together for file, _, _ in body.pairs}
     found = []
     for file in sorted(glob.glob(os.path.join(folder, "src", "**", "*.rt"), recursive=True)):
         short = os.path.relpath(file, folder)
         text = read(folder, short)
-        if "#[test]" not in text:
-            stands_on = 2 * (short in changed) + bool(re.search(r"\b(crate|super)::", text))
-            found += [(stands_on, it) for it in functions_of(short, text) if not it.is_of_trait and it.name not in taken]
-    found = [(stands_on, it.name) for stands_on, it in found if lines_of(folder, it)[-1].strip() != "{}"]
+        stands_on = 2 * (short in changed) + bool(re.search(r"\b(crate|super)::", text))
+        for it in functions_of(short, text) if "#[test]" not in text else ():
+            lines = lines_of(folder, it)
+            if not it.is_of_trait and it.name not in taken and lines[-1].strip() != "{}" and not calls.search("\n".join(lines)):
+                found.append((stands_on, it.name))
     if not found:
         raise BadBody(f"{os.path.basename(folder)}: each function has to do with one of the bodies {together[0].name} ..")
     return min(found, key=lambda it: it[0])[1]
