@@ -475,23 +475,41 @@ def unchanged(folder, together):
 
 def bystander(folder, together):
     """Returns the end of the name of a function that none of these bodies has to do with: no law, whose proof may be long, and
-    none that calls what they change. Where there is one, it is of a file that uses no other of the crate, so that a type which
-    a body changes is not its either."""
+    none that calls what they change, by others either. Where there is one, it is of a file that uses no other of the crate, so
+    that a type which a body changes is not its either."""
     taken = {name for body in together for name in taken_by(folder, replace(body, twin=0))}
-    calls = re.compile(rf"\b({'|'.join(re.escape(it.split('::')[-1].strip()) for it in taken)})\(")
     changed = {file for body in together for file, _, _ in body.pairs}
+    texts = texts_of_functions(folder)
+    touched = callers(texts, {it.split("::")[-1].strip() for it in taken})
+    found = [
+        (2 * (it.file in changed) + bool(re.search(r"\b(crate|super)::", read(folder, it.file))), it.name)
+        for it, text in texts
+        if not it.is_of_trait and it.name.split("::")[-1] not in touched and not text.endswith("{}")
+    ]
+    if not found:
+        raise BadBody(f"{os.path.basename(folder)}: each function has to do with one of the bodies {together[0].name} ..")
+    return min(found, key=lambda it: it[0])[1]
+
+
+def texts_of_functions(folder):
+    """Returns the functions of a crate, but for its tests, each with its text."""
     found = []
     for file in sorted(glob.glob(os.path.join(folder, "src", "**", "*.rt"), recursive=True)):
         short = os.path.relpath(file, folder)
         text = read(folder, short)
-        stands_on = 2 * (short in changed) + bool(re.search(r"\b(crate|super)::", text))
-        for it in functions_of(short, text) if "#[test]" not in text else ():
-            lines = lines_of(folder, it)
-            if not it.is_of_trait and it.name not in taken and lines[-1].strip() != "{}" and not calls.search("\n".join(lines)):
-                found.append((stands_on, it.name))
-    if not found:
-        raise BadBody(f"{os.path.basename(folder)}: each function has to do with one of the bodies {together[0].name} ..")
-    return min(found, key=lambda it: it[0])[1]
+        if "#[test]" not in text:
+            found += [(it, "\n".join(lines_of(folder, it))) for it in functions_of(short, text)]
+    return found
+
+
+def callers(texts, names):
+    """Returns these names of functions, and those of all functions that call them, by others too."""
+    found, more = set(), set(names)
+    while more:
+        found |= more
+        calls = re.compile(rf"\b({'|'.join(map(re.escape, sorted(found)))})\(")
+        more = {it.name.split("::")[-1] for it, text in texts if calls.search(text.partition("(")[2])} - found
+    return found
 
 
 def ends_of(folder, together):

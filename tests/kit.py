@@ -22,11 +22,11 @@ def load():
     return module
 
 
-def check_functions(rt, crate, texts, ends, kept, jobs=1):
+def check_functions(rt, crate, texts, ends, kept):
     """Checks the functions whose names have these ends, in a crate with these texts, and returns what the check says. It goes
     over a copy of the kept work, so that the next check finds that as it was: each check keeps what it read in the place of
     what was there."""
-    flags = ["--jobs", str(jobs), *(word for end in ends for word in ("--only", end))]
+    flags = ["--jobs", "1", *(word for end in ends for word in ("--only", end))]
     with tempfile.TemporaryDirectory(prefix="rt-kept-") as room, tempfile.TemporaryDirectory(prefix="rt-edit-") as folder:
         if os.path.isdir(kept):
             shutil.copytree(kept, room, dirs_exist_ok=True, copy_function=linked)
