@@ -1,12 +1,12 @@
 -- What workers were refused, asked of one walk over the run.
-use Rattle.std.proofs.Common.{◌≡◌, ◌<◌, ◌≤◌, ◌+◌, ℕ, List, length, Option, Some, None, slice_get, inl, inr, refl, sym, subst, arith}
+use Rattle.std.proofs.Common.{◌≡◌, ◌<◌, ◌≤◌, ℕ, List, length, Option, Some, None, slice_get, inl, inr, refl, sym, subst, arith}
 use Rattle.std.proofs.lemmas.Bool.{cases_eq}
 use Rattle.ec_core.specs.Recorded.{Recorded}
 use Rattle.ec_machine.specs.declared.outcome.Outcome.{Outcome}
 use Rattle.ec_machine.specs.declared.outcome.Outcome.TheVariants as outcomes
 use Rattle.ec_runner.specs.declared.told.Asked.{Asked}
 use Rattle.ec_runner.specs.declared.told.Told.{Told}
-use Rattle.ec_runner.specs.Fits.{IsBorneOut, IsWithin, MayBeBorneOut, IsRightAt, asked_at, moment_of}
+use Rattle.ec_runner.specs.Fits.{IsBorneOut, MayBeBorneOut, IsRightAt, moment_of}
 
 pub then_likely : (o : Outcome) (asked : Option Asked) (run : Recorded) (w : ℕ) → IsBorneOut o run w asked → MayBeBorneOut o run w asked
 then_likely outcomes.Running asked run w b = tt

@@ -1,10 +1,10 @@
 -- Lines of waiters: one more at its place, one less, and what the seats then say.
-use Rattle.std.proofs.Common.{◌≡◌, ◌≢◌, ℕ, zero, suc, ◌+◌, ◌<◌, ◌≤◌, Bool, true, false, ◌==◌, ◌&&◌, not, nat_le, nat_lt, ◌⊎◌, inl, inr, List, [], ◌∷◌, length, Option, Some, None, slice_get, slice_set, cond, drop, map, is_some, refl, ap, sym, ◌∙◌, subst, arith}
+use Rattle.std.proofs.Common.{◌≡◌, ◌≢◌, ℕ, zero, suc, ◌+◌, ◌<◌, ◌≤◌, Bool, true, false, ◌==◌, ◌&&◌, not, ◌||◌, nat_le, nat_lt, ◌⊎◌, inl, inr, List, [], ◌∷◌, length, Option, Some, None, slice_get, slice_set, cond, drop, map, is_some, refl, ap, sym, ◌∙◌, subst, arith}
 use Rattle.std.proofs.lemmas.Bool.{eqb-true, eqb-false, eq-eqb, leb-true, leb-false, le-leb, and_parts, and_from}
 use Rattle.std.proofs.lemmas.Bool.Decides.{nat_tests}
 use Rattle.std.proofs.lemmas.Option.{slice_get_within}
 use Rattle.std.specs.Option.{option_map_or}
-use Rattle.std.specs.List.{insert}
+use Rattle.std.specs.List.{insert, list_any}
 use Rattle.ec_core.specs.Fields.{changed_at}
 use Rattle.std.proofs.Math.ListN.{length-set}
 use Rattle.ec_core.proofs.shared.Places.{get_set}
@@ -527,3 +527,34 @@ opened n seats lines ws es h k = record {
       let is : s ≡ cond (nat_lt w n) Running Gone = (let there = h w (omega arith) in cc) in
       ap is_waiting is ∙ opened_seat (nat_lt w n))));
 }
+
+-- WHETHER ANYBODY WAITS
+
+none_waits : (e : ℕ) (seats : List Seat) → ((w v : ℕ) → slice_get seats w ≡ Some (Waiting e v) → ⊥) → list_any (waits_on e) seats ≡ false
+none_waits e [] none = refl
+none_waits e (Gone ∷ seats) none = none_waits e seats (λ w v at. none (suc w) v at)
+none_waits e (Running ∷ seats) none = none_waits e seats (λ w v at. none (suc w) v at)
+none_waits e (Waiting f u ∷ seats) none =
+    elim (f == e) as (λ (b : Bool). (f == e) ≡ b → (b || list_any (waits_on e) seats) ≡ false) [
+      | true ↦ λ h. (let same : f ≡ e = eqb-true f e h in absurd (none 0 u (ap (λ k. Some (Waiting k u)) same)))
+      | false ↦ λ h. none_waits e seats (λ w v at. none (suc w) v at)
+    ] refl
+
+or_right : (b c : Bool) → c ≡ true → (b || c) ≡ true
+or_right true c h = refl
+or_right false c h = h
+
+one_waits : (e : ℕ) (seats : List Seat) (w v : ℕ) → slice_get seats w ≡ Some (Waiting e v) → list_any (waits_on e) seats ≡ true
+one_waits e [] w v at = cc
+one_waits e (s ∷ seats) zero v at =
+    (let same : s ≡ Waiting e v = cc in
+    ap (λ t. waits_on e t || list_any (waits_on e) seats) same ∙ ap (λ b. b || list_any (waits_on e) seats) (eq-eqb e e refl))
+one_waits e (s ∷ seats) (suc w) v at = or_right (waits_on e s) (list_any (waits_on e) seats) (one_waits e seats w v at)
+
+holds_one : (n : ℕ) → 0 < n → not (n == 0) ≡ true
+holds_one n h = grind (arith, nat_tests)
+
+-- somebody waits where the line isn't empty
+pub line_tells : (e : ℕ) (seats : List Seat) (line : List Waiter) → IsLine e seats line → not (length line == 0) ≡ list_any (waits_on e) seats
+line_tells e seats [] is = sym (none_waits e seats (λ w v at. is.all w v at))
+line_tells e seats (x ∷ line) is = holds_one (length (x ∷ line)) (omega arith) ∙ sym (one_waits e seats x.worker x.threshold is.wait.0)

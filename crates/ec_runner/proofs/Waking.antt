@@ -1,7 +1,8 @@
 -- Who is woken by a hold.
-use Rattle.std.proofs.Common.{◌≡◌, ◌≢◌, ℕ, zero, suc, ◌+◌, ◌<◌, Bool, true, false, ◌==◌, ◌&&◌, not, List, [], ◌∷◌, ◌++◌, length, map, reverse, Option, Some, None, unwrap_or, slice_get, slice_set, cond, refl, ap, sym, ◌∙◌, arith}
+use Rattle.std.proofs.Common.{◌≡◌, ◌≢◌, ℕ, zero, suc, ◌+◌, ◌<◌, Bool, true, false, ◌==◌, ◌&&◌, ◌||◌, not, nat_le, List, [], ◌∷◌, ◌++◌, length, map, reverse, Option, Some, None, unwrap_or, slice_get, slice_set, cond, refl, ap, sym, ◌∙◌, arith}
 use Rattle.std.proofs.lemmas.Bool.{eqb-true, eqb-false}
 use Rattle.std.proofs.lemmas.Bool.Decides.{nat_tests}
+use Rattle.std.specs.List.{list_any}
 use Rattle.ec_core.specs.declared.act.Act.{Act}
 use Rattle.ec_core.specs.declared.act.Act.TheVariants as acts
 use Rattle.ec_core.specs.declared.act.Entry.{Entry}
@@ -15,8 +16,9 @@ use Rattle.ec_runner.specs.declared.seat.Seat.{Seat}
 use Rattle.ec_runner.specs.declared.seat.Seat.TheVariants.{Gone, Running, Waiting}
 use Rattle.ec_runner.specs.declared.wait.Wait.{Wait}
 use Rattle.ec_runner.specs.Seated.{is_waiting, kept, seat_of, woken}
+use Rattle.ec_runner.specs.Lined.{waits_on}
 use Rattle.ec_runner.specs.Boarded.{Boarded, after_entry, wait_of}
-use Rattle.ec_runner.specs.Holds.{is_advance, is_asleep, is_woken, waiting_for, parked, after_hold, is_sleep, IsMade, IsNext}
+use Rattle.ec_runner.specs.Holds.{is_asleep, is_awaited, is_woken, waiting_for, parked, after_hold, is_sleep, IsMade, IsNext}
 
 below : (n k : ℕ) → (n == k) ≡ false → k < n + 1 → k < n
 below n k e h = grind (arith, nat_tests)
@@ -38,38 +40,60 @@ get_other (x ∷ xs) zero (suc j) y h = refl
 get_other (x ∷ xs) (suc i) zero y h = refl
 get_other (x ∷ xs) (suc i) (suc j) y h = get_other xs i j y (λ e. h (ap suc e))
 
-none_let_go : (act : Act) (past : List Entry) (seats : List Seat) → is_advance act ≡ false → woken act past seats ≡ seats
-none_let_go (acts.Advance e) past seats h = cc
-none_let_go (acts.Read e) past seats h = refl
-none_let_go (acts.Await e v) past seats h = refl
-none_let_go acts.Go past seats h = refl
-none_let_go (acts.Ticket q) past seats h = refl
-none_let_go (acts.Put x v) past seats h = refl
-none_let_go (acts.Get x) past seats h = refl
+or_parts : (b c : Bool) → (b || c) ≡ false → (b ≡ false) × (c ≡ false)
+or_parts true c h = cc
+or_parts false c h = (refl, h)
+
+kept_one : (e sum : ℕ) (s : Seat) → waits_on e s ≡ false → kept e sum s ≡ s
+kept_one e sum Gone h = refl
+kept_one e sum Running h = refl
+kept_one e sum (Waiting f v) h = ap (λ (b : Bool). cond (b && nat_le v sum) Running (Waiting f v)) h
+
+kept_all : (e sum : ℕ) (seats : List Seat) → list_any (waits_on e) seats ≡ false → map (kept e sum) seats ≡ seats
+kept_all e sum [] h = refl
+kept_all e sum (s ∷ seats) h =
+    (let p = or_parts (waits_on e s) (list_any (waits_on e) seats) h in
+    ap (λ (t : Seat). t ∷ map (kept e sum) seats) (kept_one e sum s p.0) ∙ ap (λ (ts : List Seat). s ∷ ts) (kept_all e sum seats p.1))
+
+none_waits_still : (e : ℕ) (seats : List Seat) (w : ℕ) → list_any (waits_on e) seats ≡ false → list_any (waits_on e) (slice_set seats w Running) ≡ false
+none_waits_still e [] w h = refl
+none_waits_still e (s ∷ seats) zero h = (or_parts (waits_on e s) (list_any (waits_on e) seats) h).1
+none_waits_still e (s ∷ seats) (suc w) h =
+    (let p = or_parts (waits_on e s) (list_any (waits_on e) seats) h in
+    ap (λ (b : Bool). b || list_any (waits_on e) (slice_set seats w Running)) p.0 ∙ none_waits_still e seats w p.1)
+
+none_let_go : (act : Act) (past : List Entry) (seats : List Seat) (w : ℕ) → is_awaited act seats ≡ false → woken act past (slice_set seats w Running) ≡ slice_set seats w Running
+none_let_go (acts.Advance e) past seats w h = kept_all e (total e past) (slice_set seats w Running) (none_waits_still e seats w h)
+none_let_go (acts.Read e) past seats w h = refl
+none_let_go (acts.Await e v) past seats w h = refl
+none_let_go acts.Go past seats w h = refl
+none_let_go (acts.Ticket q) past seats w h = refl
+none_let_go (acts.Put x v) past seats w h = refl
+none_let_go (acts.Get x) past seats w h = refl
 
 wait_stays : (d : Boarded) (w v : ℕ) (o : Option Wait) → w ≢ v → slice_get (waiting_for d w o).seats v ≡ slice_get d.seats v
 wait_stays d w v None not = refl
 wait_stays d w v (Some a) not = get_other d.seats w v (Waiting a.event a.threshold) not
 
-hold_stays : (b : Boarded) (w v : ℕ) (act : Act) (may_park : Bool) (reply : Reply) → is_advance act ≡ false → w ≢ v
+hold_stays : (b : Boarded) (w v : ℕ) (act : Act) (may_park : Bool) (reply : Reply) → is_awaited act b.seats ≡ false → w ≢ v
     → slice_get (after_hold b w act may_park reply).seats v ≡ slice_get b.seats v
 hold_stays b w v act may_park reply quiet not =
     let x : Entry = record { worker = w; act = act; reply = reply } in
     let d : Boarded = after_entry b x in
     let step : slice_get d.seats v ≡ slice_get b.seats v =
-    ap (λ (xs : List Seat). slice_get xs v) (none_let_go act (reverse (b.run.entries ++ x ∷ [])) (slice_set b.seats w Running) quiet) ∙ get_other b.seats w v Running not in
+    ap (λ (xs : List Seat). slice_get xs v) (none_let_go act (reverse (b.run.entries ++ x ∷ [])) b.seats w quiet) ∙ get_other b.seats w v Running not in
     elim (may_park && is_pending reply) as (λ (t : Bool). slice_get (cond t (parked d w) d).seats v ≡ slice_get b.seats v) [
       | true ↦ wait_stays d w v (wait_of d w) not ∙ step
       | false ↦ step
     ]
 
-made_stays : (b d : Boarded) (w v : ℕ) (act : Act) (may_park : Bool) (reply : Reply) → is_advance act ≡ false → w ≢ v → IsMade reply b w act may_park d
+made_stays : (b d : Boarded) (w v : ℕ) (act : Act) (may_park : Bool) (reply : Reply) → is_awaited act b.seats ≡ false → w ≢ v → IsMade reply b w act may_park d
     → slice_get d.seats v ≡ slice_get b.seats v
 made_stays b d w v act may_park reply quiet not made =
     ap (λ (c : Boarded). slice_get c.seats v) made.board ∙ hold_stays b w v act may_park reply quiet not
 
--- a hold without an advance changes nobody else's seat
-pub others_stay : (n : Next) (b d : Boarded) (w : ℕ) (act : Act) (may_park : Bool) → is_advance act ≡ false → IsNext n b w act may_park d
+-- a hold without an advance of what somebody waits for changes nobody else's seat
+pub others_stay : (n : Next) (b d : Boarded) (w : ℕ) (act : Act) (may_park : Bool) → is_awaited act b.seats ≡ false → IsNext n b w act may_park d
     → (v : ℕ) → w ≢ v → slice_get d.seats v ≡ slice_get b.seats v
 others_stay (next.GoOn reply) b d w act may_park quiet h v not = made_stays b d w v act may_park reply quiet not h.0
 others_stay (next.Sleep reply) b d w act may_park quiet h v not = made_stays b d w v act may_park reply quiet not h.0
@@ -145,7 +169,7 @@ awake b d w e may_park reply made =
     (ap (λ (c : Boarded). is_waiting (seat_of c.seats w)) after ∙ runs_on e (total e (reverse entries)) b.seats w)
 
 -- who made an advance doesn't go to sleep
-pub advancer_awake : (n : Next) (b d : Boarded) (w : ℕ) (act : Act) (may_park : Bool) → is_advance act ≡ true → IsNext n b w act may_park d → is_sleep n ≡ false
+pub advancer_awake : (n : Next) (b d : Boarded) (w : ℕ) (act : Act) (may_park : Bool) → is_awaited act b.seats ≡ true → IsNext n b w act may_park d → is_sleep n ≡ false
 advancer_awake (next.GoOn reply) b d w act may_park a h = refl
 advancer_awake (next.Leave outcome moment) b d w act may_park a h = refl
 advancer_awake (next.Sleep reply) b d w (acts.Advance e) may_park a h = (let no = awake b d w e may_park reply h.0 in let yes = h.1 in cc)

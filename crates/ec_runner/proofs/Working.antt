@@ -10,7 +10,7 @@ use Rattle.ec_machine.specs.Outcomes.{is_set, is_running, refused}
 use Rattle.ec_machine.specs.Runs.{outcome_of}
 use Rattle.ec_machine.specs.Standing.{StandsFor, kept_outcome}
 use Rattle.ec_runner.specs.declared.told.Asked.{Asked}
-use Rattle.ec_runner.specs.Works.{IsStop, Works, HasHad, IsDue, IsAsked, EndsSo, is_out_of_turns}
+use Rattle.ec_runner.specs.Works.{IsStop, Works, HasHad, IsAsked, EndsSo, is_out_of_turns}
 
 is_it : (o : Outcome) → is_running o ≡ true → o ≡ outcomes.Running
 is_it outcomes.Running h = refl

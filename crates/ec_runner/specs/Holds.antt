@@ -1,5 +1,6 @@
 -- One hold of a board by a worker.
 use Rattle.std.specs.Prelude.{◌≡◌, ℕ, ◌<◌, Bool, true, false, ◌==◌, ◌&&◌, not, List, length, Option, Some, None, Ok, Err, IsOk, if◌then◌else◌, slice_get}
+use Rattle.std.specs.List.{list_any}
 use Rattle.ec_core.specs.declared.act.Act.{Act}
 use Rattle.ec_core.specs.declared.act.Act.TheVariants.{Advance}
 use Rattle.ec_core.specs.declared.act.Reply.{Reply}
@@ -7,11 +8,13 @@ use Rattle.ec_core.specs.Calls.{is_pending}
 use Rattle.ec_core.specs.Procedures.{IsReply}
 use Rattle.ec_machine.specs.declared.outcome.Outcome.{Outcome}
 use Rattle.ec_machine.specs.declared.outcome.Outcome.TheVariants as outcomes
+use Rattle.ec_runner.specs.declared.seat.Seat.{Seat}
 use Rattle.ec_runner.specs.declared.seat.Seat.TheVariants.{Waiting}
 use Rattle.ec_runner.specs.declared.wait.Wait.{Wait}
 use Rattle.ec_runner.specs.declared.holding.Next.{Next}
 use Rattle.ec_runner.specs.declared.holding.Next.TheVariants as next
 use Rattle.ec_runner.specs.Seated.{is_waiting, seat_of}
+use Rattle.ec_runner.specs.Lined.{waits_on}
 use Rattle.ec_runner.specs.Works.{IsStop}
 use Rattle.ec_runner.specs.Boarded.{Boarded, after_entry, with_seat, wait_of, is_stopped, answer_on}
 
@@ -36,9 +39,10 @@ waiting_for b w (Some a) = with_seat b w (Waiting a.event a.threshold)
 abbrev pub parked : Boarded → ℕ → Boarded
 parked b w = waiting_for b w (wait_of b w)
 
-abbrev pub is_advance : Act → Bool
-is_advance (Advance e) = true
-is_advance _ = false
+-- whether somebody waits for what an act advances
+abbrev pub is_awaited : Act → List Seat → Bool
+is_awaited (Advance e) seats = list_any (waits_on e) seats
+is_awaited _ seats = false
 
 -- the board after a step of w that was answered: where the answer is Pending and w may wait, it parks
 abbrev pub after_hold : Boarded → ℕ → Act → Bool → Reply → Boarded

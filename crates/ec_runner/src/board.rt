@@ -67,7 +67,7 @@ ghost use Rattle.ec_runner.specs.Boarded.{AreWaiters, wait_of, with_seat, after_
 
 impl Board {
     ghost use Rattle.ec_runner.specs.BoardFaults.{IsBoardFault};
-    ghost use Rattle.ec_runner.specs.Holds.{is_asleep};
+    ghost use Rattle.ec_runner.specs.Holds.{is_asleep, is_awaited};
 
     /// An empty run on these declarations, which are dropped where there is no memory. Every
     /// declared worker is live, and nobody waits.
@@ -193,6 +193,16 @@ impl Board {
         ensures { result ≡ is_asleep self.now worker }
     {
         self.is_waiting(worker) && !self.stuck
+    }
+
+    /// Whether somebody waits for what an act advances.
+    pub(crate) fn is_awaited(&self, act: &Act) -> bool
+        ensures { result ≡ is_awaited act.now self.now.seats }
+    {
+        match act {
+            Act::Advance(event) => self.seats.has_waiters(*event),
+            _ => false,
+        }
     }
 
     fn has_left(&self, worker: WorkerId) -> bool

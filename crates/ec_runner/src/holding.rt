@@ -4,7 +4,7 @@ ghost use Rattle.ec_core.specs.Calls.{is_pending};
 ghost use Rattle.ec_runner.specs.declared.seat.Seat.TheVariants.{Gone};
 ghost use Rattle.ec_runner.specs.Seated.{is_live, is_waiting, seat_of};
 ghost use Rattle.ec_runner.specs.Boarded.{Boarded, with_seat};
-ghost use Rattle.ec_runner.specs.Holds.{is_advance, is_asleep, is_sleep, is_woken, parked, AreWoken, IsNext, FitsAct};
+ghost use Rattle.ec_runner.specs.Holds.{is_asleep, is_awaited, is_sleep, is_woken, parked, AreWoken, IsNext, FitsAct};
 
 use crate::board::{Board, BoardFault};
 use crate::ending::worker_of;
@@ -132,18 +132,9 @@ fn woken_if_stuck(was_stuck: bool, board: &Board, worker: WorkerId) -> Option<[b
     Some(waiting(board, worker))
 }
 
-fn is_advance(act: &Act) -> bool
-    ensures { result ≡ is_advance act.now }
-{
-    match act {
-        Act::Advance(_) => true,
-        _ => false,
-    }
-}
-
-/// An advance, and whom it wakes. Its worker doesn't go to sleep.
+/// An advance of what somebody waits for, and whom it wakes. Its worker doesn't go to sleep.
 fn advance(board: &mut Board, worker: WorkerId, act: Act, may_park: bool) -> Held
-    requires { is_advance act ≡ true }
+    requires { is_awaited act board.old.seats ≡ true }
     ensures awake { is_sleep result.next ≡ false }
     ensures next { IsNext result.next board.old worker act may_park board.new }
     ensures kind { FitsAct result.next act }
@@ -156,15 +147,16 @@ fn advance(board: &mut Board, worker: WorkerId, act: Act, may_park: bool) -> Hel
 }
 
 /// One hold of the board: a step and, after an await that fell short, where the worker may wait, the
-/// wait. Only an advance, and a wait by which the board comes to be stuck, can wake others, and only
-/// then is it looked who sleeps. Where the worker goes to sleep nobody is woken.
+/// wait. Only an advance of what somebody waits for, and a wait by which the board comes to be stuck,
+/// can wake others, and only then is it looked who sleeps. Where the worker goes to sleep nobody is
+/// woken.
 pub(crate) fn hold(board: &mut Board, worker: WorkerId, act: Act, may_park: bool) -> Held
     ensures none { is_sleep result.next ≡ true → result.woken ≡ None }
     ensures next { IsNext result.next board.old worker act may_park board.new }
     ensures kind { FitsAct result.next act }
     ensures woken { AreWoken result.woken board.old worker board.new }
 {
-    if is_advance(&act) {
+    if board.is_awaited(&act) {
         return advance(board, worker, act, may_park);
     }
     let was_stuck = board.is_stuck();

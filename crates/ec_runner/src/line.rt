@@ -1,5 +1,5 @@
 //! The waiters of one eventcount.
-ghost use Rattle.std.specs.Prelude.{◌≡◌, ◌<◌, ◌≤◌, [], length, drop, is_some, if◌then◌else◌, Some, IfSome};
+ghost use Rattle.std.specs.Prelude.{◌≡◌, ◌==◌, ◌<◌, ◌≤◌, [], length, drop, is_some, if◌then◌else◌, Some, IfSome};
 ghost use Rattle.ec_runner.specs.Lined.{comes_before, place_in, placed, without, first_reached};
 
 use arrayvec::ArrayVec;
@@ -55,6 +55,13 @@ impl Line {
         Line {
             waiters: ArrayVec::new(),
         }
+    }
+
+    /// Whether nobody waits.
+    pub fn is_empty(&self) -> bool
+        ensures { result ≡ (length self.now == 0) }
+    {
+        self.waiters.is_empty()
     }
 
     /// Puts a waiter at its place.

@@ -6,8 +6,7 @@ use thiserror::Error;
 #[derive(Clone, Copy, Debug, PartialEq, Eq, Error)]
 pub enum RunFault {
     /// The run is on other declarations than the plan's, and this is the first worker; or this
-    /// worker's entries in the run are not its log; or its log and outcome are not those of its
-    /// program.
+    /// worker's entries in the run are not its log; or the run does not bear out how it ended.
     #[error("the run is not what the workers were told")]
     Mismatch(WorkerId),
     /// The starting of a thread was refused. Its worker left, and the others ran to their ends.

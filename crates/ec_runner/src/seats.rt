@@ -4,7 +4,7 @@ ghost use Rattle.std.specs.List.{list_any};
 ghost use Rattle.ec_runner.specs.declared.seat.Seat.TheVariants.{Gone, Running, Waiting};
 ghost use Rattle.ec_runner.specs.Seated.{is_live, is_running, is_waiting, is_stuck_in, every_live_waits, kept};
 ghost use Rattle.ec_runner.specs.Seated.{woken};
-ghost use Rattle.ec_runner.specs.Lined.{LetsOneGo, dropped_out, placed, first_reached};
+ghost use Rattle.ec_runner.specs.Lined.{LetsOneGo, dropped_out, placed, first_reached, waits_on};
 ghost use Rattle.ec_core.specs.Fields.{changed_at};
 ghost use Rattle.ec_runner.specs.declared.line.Waiter.{Waiter};
 ghost use Rattle.ec_runner.specs.Boarded.{past_of};
@@ -54,6 +54,14 @@ impl Seats {
         ensures { slice_get self.now worker ≡ Some result }
     {
         self.table[worker.get()]
+    }
+
+    /// Whether anybody waits for an eventcount.
+    pub fn has_waiters(&self, event: EventId) -> bool
+        ensures { result ≡ list_any (waits_on event) self.now }
+    {
+        let line = &self.lines[event.get()];
+        !line.is_empty()
     }
 
     /// Gives a worker a seat on which it doesn't wait, and takes it off the line that it stands in.

@@ -10,4 +10,4 @@ returns-clause-none c = λ sleeps.
 pub returns-clause-woken : goal.returns-clause-woken
 returns-clause-woken c =
     c.woken_if_stuck-woken.ensures.woken c.args.board.now (sym c.is_stuck-was_stuck.ensures)
-    (others_stay c.step-next.result c.args.board.now c.step-next.new.board c.args.worker c.args.act c.args.may_park (sym c.is_advance.ensures ∙ c.if-is_advance.false) c.step-next.ensures.next)
+    (others_stay c.step-next.result c.args.board.now c.step-next.new.board c.args.worker c.args.act c.args.may_park (sym c.is_awaited.ensures ∙ c.if-is_awaited.false) c.step-next.ensures.next)

@@ -1,4 +1,4 @@
-use Rattle.std.proofs.Common.{◌∙◌, ◌<◌, arith}
+use Rattle.std.proofs.Common.{◌∙◌, arith}
 use Rattle.ec_runner.proofs.Asking.{right_more}
 use Rattle.ec_runner.proofs.Walking.{then_match}
 use Rattle.ec_runner.proofs.refused.first_wrong.Goals as goal
