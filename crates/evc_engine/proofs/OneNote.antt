@@ -1,5 +1,5 @@
 -- What is refused with status 1 has one note.
-use Rattle.std.proofs.Common.{◌≡◌, ℕ, ◌<◌, ◌+◌, ◌⊎◌, inl, inr, List, Option, Some, Result, Err, sym, ap, ◌∙◌, subst, slice_get, reverse}
+use Rattle.std.proofs.Common.{◌≡◌, ℕ, ◌<◌, ◌⊎◌, inl, inr, List, Some, Result, Err, sym, ap, ◌∙◌, subst, slice_get}
 use Rattle.std.specs.Io.KnownBytes.{Keeps}
 use Rattle.std.proofs.lemmas.Bool.{cases_order}
 use Rattle.ec_core.specs.declared.act.Entry.{Entry}

@@ -1,14 +1,12 @@
 -- One input has one audit text.
-use Rattle.std.proofs.Common.{◌≡◌, ℕ, zero, suc, ◌+◌, ◌<◌, ◌≤◌, Bool, false, List, [], ◌∷◌, ◌++◌, length, map, reverse, Some, None, refl, sym, ap, ◌∙◌, subst, arith, slice_get}
-use Rattle.std.specs.Prelude.{⊤, ◌==◌, ◌||◌, nat_lt, Ok, codes, Result}
+use Rattle.std.proofs.Common.{◌≡◌, ℕ, zero, suc, ◌+◌, ◌<◌, ◌≤◌, false, List, [], ◌∷◌, ◌++◌, length, map, reverse, Some, None, refl, sym, ap, ◌∙◌, subst, arith, slice_get}
+use Rattle.std.specs.Prelude.{◌==◌, ◌||◌, nat_lt, Ok, codes}
 use Rattle.std.proofs.lemmas.Option.{slice_get_within}
 use Rattle.std.specs.List.{AllByRecursion, cons_option}
 use Rattle.std.proofs.lemmas.Simd.{map-map}
 use Rattle.ec_count.specs.Tables.{Tables}
 use Rattle.ec_core.specs.declared.act.Entry.{Entry}
 use Rattle.ec_core.specs.Acceptance.{IsAccepted}
-use Rattle.ec_buffer.specs.declared.delivery.Delivery.{Delivery}
-use Rattle.ec_buffer.specs.Items.{AreDeliveries}
 use Rattle.ec_buffer.specs.Shapes.{Buffer, IsShape, next_buffer, buffer_fault, lacks_room}
 use Rattle.ec_buffer.proofs.shared.OneList as deliveries
 use Rattle.ec_count.specs.Tables.{IsDeclared}
@@ -16,22 +14,17 @@ use Rattle.ec_count.proofs.shared.Disjoint.{roles_of}
 use Rattle.std.proofs.lemmas.Bool.{or_parts, ne_eqb, ltb-false}
 use Rattle.ec_core.proofs.shared.Breaks.{follow_or_break}
 use Rattle.ec_database.specs.Shapes.{Database}
-use Rattle.ec_database.specs.Tries.{AcceptedTry, ListsTries}
 use Rattle.ec_database.specs.declared.audit.Accepted.{Accepted}
 use Rattle.ec_database.specs.Auditing.{shown}
 use Rattle.ec_database.proofs.shared.OneList as tries
 use Rattle.ec_order.proofs.shared.Matching.{at_index}
 use Rattle.ec_semaphore.specs.Shapes.{Semaphore}
-use Rattle.ec_semaphore.specs.Balances.{parts_of}
-use Rattle.ec_semaphore.specs.Pairs.{pairs_of}
 use Rattle.ec_semaphore.specs.declared.parts.Balance.{Balance}
 use Rattle.ec_heading.specs.Objects.{group_of}
-use Rattle.ec_heading.specs.Outline.{Declaration, Outline, IsOutline, IsDeclarable, AreDeclarable, opened, declared_by, declared_all, headed, with_objects, objects_fault}
+use Rattle.ec_heading.specs.Outline.{Declaration, Outline, IsOutline, AreDeclarable, opened, declared_by, declared_all, headed, objects_fault}
 use Rattle.ec_heading.specs.declared.sort.Sort.{Sort}
 use Rattle.ec_heading.specs.declared.sort.Sort.TheVariants as sorts
 use Rattle.ec_heading.specs.Spelling.{text_of}
-use Rattle.ec_trace.specs.Outcome.{outcome}
-use Rattle.ec_trace.specs.declared.fault.TraceFault.{TraceFault}
 use Rattle.ec_heading.proofs.shared.Each.{each_append}
 use Rattle.ec_heading.proofs.shared.ReadHeadings.{sound, is_declared}
 use Rattle.ec_heading.specs.Headed.{Headed}
@@ -42,8 +35,8 @@ use Rattle.evc_engine.specs.declared.audited.Audited.{Audited}
 use Rattle.evc_engine.specs.declared.audited.Audited.TheVariants as audits
 use Rattle.evc_engine.specs.AuditTexts.{now_of, group_word, delivery_line, version_line, balance_line, pair_line, semaphore_word, audited_lines, groups_lines, audit_text}
 use Rattle.evc_engine.specs.AuditLaws.{AuditsHaveOneText, TextOrBreak}
-use Rattle.ec_heading.specs.Rules.{semaphores_of, group_rules}
-use Rattle.evc_engine.specs.Audits.{IsPairsOf, IsFound, IsAudited, AreAudited, IsNotFollowed}
+use Rattle.ec_heading.specs.Rules.{group_rules}
+use Rattle.evc_engine.specs.Audits.{IsAudited, AreAudited}
 use Rattle.evc_engine.specs.Checks.{ReadsAs}
 
 -- SHAPES

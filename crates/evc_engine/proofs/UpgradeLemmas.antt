@@ -1,7 +1,5 @@
 -- What is written in version 2.
 use Rattle.std.proofs.Common.{◌≡◌, inl, ℕ, List, ◌++◌, Option, Ok, refl, sym, ap, ◌∙◌}
-use Rattle.std.specs.Io.KnownBytes.{Appends}
-use Rattle.ec_text.specs.Puts.{AppendsPrefix}
 use Rattle.ec_core.specs.declared.act.Entry.{Entry}
 use Rattle.ec_heading.specs.declared.version.Version.{Version}
 use Rattle.ec_heading.specs.declared.version.Version.TheVariants.{Two}
@@ -11,7 +9,7 @@ use Rattle.ec_heading.specs.Spelling.{trace_header, trace_text}
 use Rattle.ec_heading.specs.Upgraded.{upgraded, upgraded_outline}
 use Rattle.ec_heading.proofs.shared.OutlineFound.{version_found}
 use Rattle.ec_heading.proofs.shared.Upgrades.{upgraded_headed}
-use Rattle.ec_trace.specs.Recounted.{Recounted, trace_upgraded}
+use Rattle.ec_trace.specs.Recounted.{Recounted}
 use Rattle.ec_trace.specs.ReadingLaws.{UpgradesTo}
 use Rattle.ec_trace.proofs.shared.UpgradedTraces.{traces_are_upgraded}
 use Rattle.evc_engine.specs.declared.status.Status.{Status}
@@ -23,7 +21,7 @@ use Rattle.evc_engine.specs.declared.audited.Audited.TheVariants as audits
 use Rattle.evc_engine.specs.AuditTexts.{audit_text, groups_lines}
 use Rattle.evc_engine.specs.Audits.{IsFound}
 use Rattle.evc_engine.specs.Texts.{check_text}
-use Rattle.evc_engine.specs.Checks.{Outlets, ReadsAs, text_for}
+use Rattle.evc_engine.specs.Checks.{Outlets, ReadsAs}
 use Rattle.evc_engine.specs.Upgrades.{Rewrites, IsUpgraded, Upgrades, TextsHaveNoVersion}
 
 -- what the audit of a group finds does not depend on the version

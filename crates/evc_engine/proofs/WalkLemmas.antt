@@ -1,7 +1,9 @@
 -- Each entry is handed to the audit of the group that its call is on, and the others stand as they are.
-use Rattle.std.proofs.Common.{◌≡◌, ◌≢◌, ℕ, ◌+◌, ◌<◌, ◌≤◌, true, false, List, [], ◌∷◌, ◌++◌, length, Some, refl, ap, sym, ◌∙◌, subst, arith, true≢false, cond, ◌==◌, ◌⊎◌, inl, inr, slice_get, slice_set, below_more, length-append}
+use Rattle.std.proofs.Common.{◌≡◌, ◌≢◌, ℕ, ◌+◌, ◌<◌, ◌≤◌, true, false, List, [], ◌∷◌, ◌++◌, length, Some, refl, ap, sym, ◌∙◌, subst, arith, true≢false, cond, ◌==◌, ◌⊎◌, inl, inr, slice_get, slice_set, get_or, below_more, length-append}
+use Rattle.std.specs.List.{list_all}
 use Rattle.std.proofs.lemmas.Bool.{eqb-true, eqb-false, eq-eqb}
-use Rattle.std.proofs.lemmas.Option.{slice_get_within}
+use Rattle.std.proofs.lemmas.List.Sums.{AllPass-from_list_all}
+use Rattle.std.proofs.lemmas.Option.{slice_get_within, slice_get-get_or}
 use Rattle.ec_count.proofs.shared.Keeping.{still_there}
 use Rattle.ec_core.specs.declared.act.Act.{Act}
 use Rattle.ec_core.specs.declared.act.Act.TheVariants.{Advance, Read, Await}
@@ -21,7 +23,7 @@ use Rattle.ec_heading.specs.declared.group.Group.TheVariants as groups
 use Rattle.evc_engine.specs.declared.table.Span.{Span}
 use Rattle.evc_engine.specs.declared.walked.Auditing.{Auditing}
 use Rattle.evc_engine.specs.declared.walked.Auditing.TheVariants as audits
-use Rattle.evc_engine.specs.Walks.{is_on, CoversFirst, Covers, CoversAt, CountsFor, StandsFor, Hands, HandsTo, HandsAmong, EachStands}
+use Rattle.evc_engine.specs.Walks.{is_on, CoversFirst, Covers, CoversAt, is_alone, CountsFor, StandsFor, Hands, HandsTo, HandsAmong, EachStands}
 
 -- THE TABLE
 
@@ -201,6 +203,34 @@ one_longer list more a n is long = ap length is ∙ length-append list (a ∷ []
 
 pub stands_all : (gs : List Group) (list : List Auditing) (past : List Entry) (n : ℕ) → length gs ≤ n → StandsFirst gs list past n → EachStands gs list past
 stands_all gs list past n all each = λ i g at. (let less : i < length gs = slice_get_within gs i g at in each i (omega arith) g at)
+
+-- WITHOUT A WALK
+
+alone_at : (list : List Auditing) (i : ℕ) (a : Auditing) → list_all is_alone list ≡ true → slice_get list i ≡ Some a → is_alone a ≡ true
+alone_at list i a all at =
+    (let less : i < length list = slice_get_within list i a at in
+    let got : slice_get list i ≡ Some (get_or list i a) = slice_get-get_or list i a less in
+    let same : get_or list i a ≡ a = cc in
+    sym (ap is_alone same) ∙ AllPass-from_list_all is_alone list all i a less)
+
+alone_counts : (s : Semaphore) (a : Auditing) (past : List Entry) → is_alone a ≡ true → CountsFor s a [] → CountsFor s a past
+alone_counts s (audits.Balance a) past alone stands = absurd (true≢false (sym alone))
+alone_counts s audits.Alone past alone stands = absurd stands
+
+alone_stands : (g : Group) (a : Auditing) (past : List Entry) → is_alone a ≡ true → StandsFor g a [] → StandsFor g a past
+alone_stands (groups.Semaphore s) a past alone stands = alone_counts s a past alone stands
+alone_stands (groups.Both s) a past alone stands = alone_counts s a past alone stands
+alone_stands (groups.Buffer b) a past alone stands = tt
+alone_stands (groups.Database d) a past alone stands = tt
+
+-- audits that are made in walks of their own stand after any past as before the first entry
+pub each_alone : (gs : List Group) (list : List Auditing) (past : List Entry) → list_all is_alone list ≡ true → EachStands gs list [] → EachStands gs list past
+each_alone gs list past all each = λ i g at.
+    (let was = each i g at in (
+      was.0,
+      was.1,
+      alone_stands g was.0 past (alone_at list i was.0 all was.1) was.2,
+    ))
 
 -- AFTER THE WALK
 

@@ -40,6 +40,11 @@ pub record IsTable (gs : List Group) (table : Table) : Type 0 where
   pub events : (e : ℕ) → e < 32 → CoversAt gs (Read e) table.events e
   pub sequencers : (q : ℕ) → q < 32 → CoversAt gs (Ticket q) table.sequencers q
 
+-- whether the audit is made in walks of its own
+abbrev pub is_alone : Auditing → Bool
+is_alone (audits.Balance a) = false
+is_alone audits.Alone = true
+
 -- the audit is that of the semaphore, after a past
 abbrev pub CountsFor : Semaphore → Auditing → List Entry → Type 0
 CountsFor s (audits.Balance a) past = (a.shape ≡ s) × IsCounted a past

@@ -1,6 +1,7 @@
 //! The audits of all groups, in one walk over the entries.
 ghost use Rattle.std.specs.Prelude.{◌≡◌, ◌+◌, ◌<◌, ◌^◌, [], reverse, IfOk};
-ghost use Rattle.evc_engine.specs.Walks.{StandsFor, Hands, HandsTo, HandsAmong, EachStands, IsWalked};
+ghost use Rattle.std.specs.List.{list_all};
+ghost use Rattle.evc_engine.specs.Walks.{is_alone, StandsFor, Hands, HandsTo, HandsAmong, EachStands, IsWalked};
 
 use crate::table::{Span, Table};
 use ec_core::{Act, Audit, Entry, Run, walk};
@@ -28,6 +29,13 @@ impl Auditing {
             Group::Semaphore(shape) => Auditing::Balance(BalanceAudit::new(*shape)),
             Group::Both(shape) => Auditing::Balance(BalanceAudit::new(*shape)),
         }
+    }
+
+    /// Whether it is made in walks of its own.
+    fn is_alone(&self) -> bool
+        ensures { result ≡ is_alone self.now }
+    {
+        matches!(self, Auditing::Alone)
     }
 
     /// Takes an entry in, given its place in the run and the act that began its call.
@@ -61,6 +69,13 @@ fn opened(alloc: Global, groups: &[Group]) -> Result<Vec<Auditing>, AllocError>
     Ok(audits)
 }
 
+/// Whether no audit is made in the walk.
+fn are_alone(audits: &[Auditing]) -> bool
+    ensures { result ≡ list_all is_alone audits.now }
+{
+    audits.iter().all(|audit| audit.is_alone())
+}
+
 /// Hands an entry to the audit with a number, if there is one.
 fn hand_to(audits: &mut [Auditing], number: usize, place: usize, op: &Act, entry: &Entry)
     requires { place + 1 < 2 ^ 64 }
@@ -82,16 +97,18 @@ fn hand(audits: &mut [Auditing], span: Span, place: usize, op: &Act, entry: &Ent
 }
 
 impl<'a> Walked<'a> {
-    /// Before the first entry.
-    fn new(alloc: Global, groups: &'a [Group]) -> Result<Self, AllocError>
-        ensures groups { IfOk result (λ walked. walked.groups.now ≡ groups.now) }
-        ensures first { IfOk result (λ walked. IsWalked walked []) }
+    /// Before the first entry, with the groups' audits.
+    fn new(groups: &'a [Group], audits: Vec<Auditing>) -> Self
+        requires { EachStands groups.now audits.items [] }
+        ensures groups { result.groups.now ≡ groups.now }
+        ensures first { IsWalked result [] }
     {
-        Ok(Walked {
+        let table = Table::new(groups);
+        Walked {
             groups,
-            table: Table::new(groups),
-            audits: opened(alloc, groups)?,
-        })
+            table,
+            audits,
+        }
     }
 }
 
@@ -106,7 +123,7 @@ impl<'a> Audit for Walked<'a> {
     }
 }
 
-/// The audits of groups after all entries of a run, in one walk over them.
+/// The audits of groups after all entries of a run, in one walk over them, where one is made in it.
 pub(crate) fn audits_of(
     alloc: Global,
     run: &Run,
@@ -114,7 +131,11 @@ pub(crate) fn audits_of(
 ) -> Result<Vec<Auditing>, AllocError>
     ensures { IfOk result (λ audits. EachStands groups.now audits.items (reverse run.now.entries)) }
 {
-    let mut walked = Walked::new(alloc, groups)?;
+    let audits = opened(alloc, groups)?;
+    if are_alone(&audits) {
+        return Ok(audits);
+    }
+    let mut walked = Walked::new(groups, audits);
     walk(run, &mut walked);
     Ok(walked.audits)
 }
