@@ -22,7 +22,7 @@ and `run` read one, and write a trace that `check` and `audit` read.";
 pub(crate) const AFTER_HELP: &str = "Exit status:
   0  done
   1  the trace, the script or its schedule was refused, or the workers of a trace break
-     the rules of a group
+     the rules of a buffer, a database or a semaphore
   2  the command line was wrong
   3  a read or a write failed, or a thread could not be started
   4  memory ran out
@@ -80,8 +80,8 @@ does, has a block of commands for each worker, and then lines that say whose tur
 is. The trace of these turns goes to standard output. Notes on standard error say how
 each worker's program ended, as `outcome a finished` or `outcome a running`. Where the
 script or its schedule is refused, nothing is written but a note, which says which
-line it is and what kind of fault it has, or which turn belongs to a worker whose
-program has ended. docs/FORMATS.md has the format.";
+line it is and what kind of fault it has, or which turn of the schedule is that of a
+worker whose program has ended. docs/FORMATS.md has the format.";
 
 pub(crate) const RUN_ABOUT: &str =
     "Runs a script's workers on threads, and writes the trace of what they did";
@@ -92,10 +92,10 @@ pub(crate) const RUN_LONG_ABOUT: &str =
 The script is read from standard input, as by `sim`; its lines that say whose turn it
 is are not used. Each worker runs on a thread of its own, and sleeps while an await of
 its own falls short. The trace goes to standard output. Notes on standard error say how
-each worker's program ended, as `outcome a finished`: it is stopped where all who are
-left wait, and out of turns where it has made as many steps as `--turns` gives it. Where
-the script is refused, nothing is written but a note, which says which line it is and
-what kind of fault it has. docs/FORMATS.md has the format.";
+each worker's program ended, as `outcome a finished`. A worker is stopped where each
+that has not ended waits, and is out of turns after as many steps as `--turns` says.
+Where the script is refused, nothing is written but a note, which says which line it is
+and what kind of fault it has. docs/FORMATS.md has the format.";
 
 pub(crate) const TURNS: &str =
-    "How many steps each worker may make, from 1 to 1000000; 10000 where it is left out";
+    "How many steps each worker may make, from 1 to 1000000; 10000 if not given";
