@@ -1,0 +1,4 @@
+mod Stepping
+mod Counting
+mod Filtering
+mod Shown

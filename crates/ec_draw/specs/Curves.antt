@@ -1,0 +1,59 @@
+-- The curves: of each eventcount its total, and of each sequencer its tickets, at each moment that is shown. The moment of
+-- column j is moment from + j, at which so many of the history's entries have happened.
+use Rattle.std.specs.Prelude.{ℕ, ◌+◌, ◌-◌, zero, suc, Bool, List, [], ◌∷◌, ◌++◌, length}
+use Rattle.ec_count.specs.Tables.{Tables}
+use Rattle.ec_core.specs.declared.act.Act.{Act}
+use Rattle.ec_core.specs.declared.act.Entry.{Entry}
+use Rattle.ec_core.specs.Counts.{past_at, total, issued, is_advance, is_ticket}
+use Rattle.ec_draw.specs.declared.window.Window.{Window}
+use Rattle.ec_draw.specs.declared.curve.Counted.{Counted}
+use Rattle.ec_draw.specs.declared.curve.Curve.{Curve}
+use Rattle.ec_draw.specs.declared.curve.Counted.TheVariants.{Event, Sequencer}
+
+-- the total of an eventcount, or the tickets of a sequencer, after a past
+abbrev pub count_of : Counted → List Entry → ℕ
+count_of (Event e) past = total e past
+count_of (Sequencer q) past = issued q past
+
+-- whether an act raises it
+abbrev pub raises : Counted → Act → Bool
+raises (Event e) act = is_advance e act
+raises (Sequencer q) act = is_ticket q act
+
+-- the count at moment k of a history
+abbrev pub count_at : Counted → List Entry → ℕ → ℕ
+count_at object h k = count_of object (past_at k h)
+
+-- the counts at n moments, from moment k on
+unfoldable pub counts_from : Counted → List Entry → ℕ → ℕ → List ℕ
+counts_from object h k zero = []
+counts_from object h k (suc n) = counts_from object h k n ++ count_at object h (k + n) ∷ []
+
+-- the counts at the moments that are shown: those before each entry that is shown, and the one after the last
+abbrev pub heights : Counted → Window → List Entry → List ℕ
+heights object w h = counts_from object h w.from (w.to - w.from + 1)
+
+-- a curve, as a contract sees it
+pub record Line : Type 0 where
+  pub object : Counted
+  pub heights : List ℕ
+
+abbrev pub shown : Curve → Line
+shown c = record { object = c.object; heights = c.heights.items }
+
+abbrev pub line_of : Window → List Entry → Counted → Line
+line_of w h object = record { object = object; heights = heights object w h }
+
+-- the curves of the first n eventcounts
+unfoldable pub event_lines : Window → List Entry → ℕ → List Line
+event_lines w h zero = []
+event_lines w h (suc n) = event_lines w h n ++ line_of w h (Event n) ∷ []
+
+-- and of the first n sequencers
+unfoldable pub sequencer_lines : Window → List Entry → ℕ → List Line
+sequencer_lines w h zero = []
+sequencer_lines w h (suc n) = sequencer_lines w h n ++ line_of w h (Sequencer n) ∷ []
+
+-- the curves of all that is declared: the eventcounts, and then the sequencers
+abbrev pub lines : Tables → Window → List Entry → List Line
+lines t w h = event_lines w h (length t.events) ++ sequencer_lines w h (length t.takers)

@@ -1,0 +1,35 @@
+-- The dots: one for each entry that is shown, with the component that it read or raised.
+use Rattle.std.specs.Prelude.{ℕ, List, [], ◌∷◌, ◌++◌, length, Option, Some, None, if◌then◌else◌}
+use Rattle.ec_count.specs.Tables.{Tables}
+use Rattle.ec_core.specs.declared.act.Act.{Act}
+use Rattle.ec_core.specs.declared.act.Act.TheVariants.{Advance, Read, Await, Go}
+use Rattle.ec_core.specs.declared.act.Entry.{Entry}
+use Rattle.ec_core.specs.Calls.{CallSoFar, under_way}
+use Rattle.ec_core.specs.Counts.{component_at}
+use Rattle.ec_core.specs.Rounds.{event_or, next_component}
+use Rattle.ec_draw.specs.declared.window.Window.{Window}
+use Rattle.ec_draw.specs.declared.dot.Dot.{Dot}
+use Rattle.ec_draw.specs.Windows.{shows}
+
+-- the component that a go of a call reads
+abbrev pub gone_component : Tables → Option CallSoFar → Option ℕ
+gone_component t None = None
+gone_component t (Some call) = Some (next_component t (event_or call.op) call.moments)
+
+-- the component that an act of w reads or raises at the end of a past: an advance raises w's own, a read and an await begin
+-- with component 0, and a go reads the one that comes next; the others have none
+abbrev pub component_in : Tables → ℕ → List Entry → Act → Option ℕ
+component_in t w past (Advance e) = component_at t e past w
+component_in t w past (Read e) = Some 0
+component_in t w past (Await e v) = Some 0
+component_in t w past Go = gone_component t (under_way w past)
+component_in t w past act = None
+
+-- the dot of an entry at the end of a past; the entry's position is the length of its past
+abbrev pub dot_of : Tables → List Entry → Entry → Dot
+dot_of t past x = record { worker = x.worker; position = length past; component = component_in t x.worker past x.act }
+
+-- the dots of a past: of each entry that is shown, in order
+unfoldable pub dots_of : Tables → Window → List Entry → List Dot
+dots_of t w [] = []
+dots_of t w (x ∷ past) = dots_of t w past ++ (if shows w (length past) then dot_of t past x ∷ [] else [])

@@ -1,0 +1,64 @@
+//! The dots of entries.
+ghost use Rattle.std.specs.Prelude.{◌≡◌, IfOk, List, length, reverse};
+ghost use Rattle.ec_core.specs.declared.act.Entry.{Entry};
+ghost use Rattle.ec_core.specs.Standing.{StandsFor};
+ghost use Rattle.ec_draw.specs.Dots.{component_in, dot_of, dots_of};
+
+use crate::Window;
+use ec_core::{Act, Entry, Run, World};
+use ec_count::WorkerId;
+use std::alloc::{AllocError, Global};
+
+/// An entry: whose it is, where it stands, and the component that it read or raised, if it did.
+#[derive(Clone, Copy, Debug, PartialEq, Eq)]
+pub struct Dot {
+    pub worker: WorkerId,
+    pub position: usize,
+    pub component: Option<usize>,
+}
+
+/// The component that an act reads or raises in a world.
+fn component_in(world: &World, worker: WorkerId, act: Act) -> Option<usize>
+    ensures { (h : List Entry) → StandsFor world.now h
+        → result ≡ component_in world.now.setup worker (reverse h) act }
+{
+    match act {
+        Act::Advance(event) => world.setup().component_of(event, worker),
+        Act::Read(_) | Act::Await(_, _) => Some(0),
+        Act::Go => match world.under_way(worker) {
+            Some(call) => Some(call.index()),
+            None => None,
+        },
+        Act::Ticket(_) | Act::Put(_, _) | Act::Get(_) => None,
+    }
+}
+
+/// The dot of an entry that comes next in a world.
+fn dot_of(world: &World, position: usize, entry: &Entry) -> Dot
+    ensures { (h : List Entry) → StandsFor world.now h → position ≡ length (reverse h)
+        → result ≡ dot_of world.now.setup (reverse h) entry.now }
+{
+    Dot {
+        worker: entry.worker,
+        position,
+        component: component_in(world, entry.worker, entry.act),
+    }
+}
+
+/// The dots of the entries of a run that are shown, in order.
+pub fn dots(alloc: Global, run: &Run, window: Window) -> Result<Vec<Dot>, AllocError>
+    ensures { IfOk result (λ ds. ds.items ≡ dots_of run.now.setup window (reverse run.now.entries)) }
+{
+    run.known();
+    let mut world = World::open(run.setup().copy());
+    let mut dots = Vec::new(alloc);
+    for position in 0..run.len() {
+        if let Some(entry) = run.entry(position) {
+            if window.shows(position) {
+                dots.push(dot_of(&world, position, &entry))?;
+            }
+            let _reply = world.step(entry.worker, entry.act);
+        }
+    }
+    Ok(dots)
+}

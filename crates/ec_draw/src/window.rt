@@ -1,0 +1,45 @@
+//! Which entries a picture shows.
+ghost use Rattle.std.specs.Prelude.{◌≡◌, ◌≤◌};
+ghost use Rattle.ec_draw.specs.Windows.{column, columns, meets, shows};
+
+/// A picture has at most so many columns.
+pub const COLUMNS_MAX: usize = 400;
+
+/// The entries that a picture shows, by their positions: from `from` on, and before `to`.
+#[derive(Clone, Copy, Debug, PartialEq, Eq)]
+pub struct Window {
+    pub from: usize,
+    pub to: usize,
+}
+
+impl Window {
+    /// Whether the entry at a position is shown.
+    pub fn shows(self, position: usize) -> bool
+        ensures { result ≡ shows self position }
+    {
+        self.from <= position && position < self.to
+    }
+
+    /// Whether a call with these first and last entries is shown.
+    pub fn meets(self, first: usize, last: usize) -> bool
+        ensures { result ≡ meets self first last }
+    {
+        first < self.to && self.from <= last
+    }
+
+    /// How many columns are shown.
+    pub fn columns(self) -> usize
+        ensures value { result ≡ columns self }
+        ensures few { result ≤ 400 }
+    {
+        self.to.saturating_sub(self.from).min(COLUMNS_MAX)
+    }
+
+    /// The column of a moment. Moments before and behind the window stand at its edges.
+    pub fn column(self, moment: usize) -> usize
+        ensures value { result ≡ column self moment }
+        ensures few { result ≤ 400 }
+    {
+        moment.saturating_sub(self.from).min(self.columns())
+    }
+}

@@ -1,0 +1,59 @@
+-- What the program answered and wrote, for an input whose bytes are known and a window that was asked for.
+use Rattle.std.specs.Prelude.{◌≡◌, ◌⊎◌, ℕ, ◌-◌, min, Bool, true, false, nat_lt, List, length, Option, codes}
+use Rattle.std.specs.Io.KnownBytes.{Appends, Keeps}
+use Rattle.ec_text.specs.Puts.{AppendsPrefix}
+use Rattle.ec_trace.specs.Recounted.{Recounted}
+use Rattle.ec_trace.specs.Outcome.{HasNoFault}
+use Rattle.ec_trace.specs.declared.fault.TraceFault.{TraceFault}
+use Rattle.ec_trace.specs.declared.read.TheConstants.{TRACE_MAX}
+use Rattle.ec_draw.specs.declared.window.Window.{Window}
+use Rattle.ec_draw.specs.declared.window.TheConstants.{COLUMNS_MAX}
+use Rattle.ec_draw.specs.Pictures.{shapes}
+use Rattle.evc_engine.specs.declared.status.Status.{Status}
+use Rattle.evc_engine.specs.declared.status.Status.TheVariants.{Done, Refused, Usage, InputOutput, Memory, Stopped}
+use Rattle.evc_engine.specs.Notes.{fault_note}
+use Rattle.evc_engine.specs.Checks.{Outlets, Notes, KeepsNotes, ReadsAs, RefusedFor}
+use Rattle.evc_draw.specs.Svg.{svg}
+
+-- the part of a window that a history of n entries has
+abbrev pub window_on : Window → ℕ → Window
+window_on w n = record { from = min w.from n; to = min w.to n }
+
+-- whether a window has too many entries for a picture
+abbrev pub is_wide : Window → Bool
+is_wide w = nat_lt COLUMNS_MAX (w.to - w.from)
+
+-- the window on a trace
+abbrev pub window_of : Window → Recounted → Window
+window_of w t = window_on w (length t.entries)
+
+-- the picture of a trace: the bytes of the shapes of its history
+abbrev pub picture_for : Window → Recounted → List ℕ
+picture_for w t = svg t.heading.words t.heading.setup.workers (shapes t.heading.setup (window_of w t) t.entries)
+
+abbrev pub wide_note : List ℕ
+wide_note = codes "more than 400 entries: choose some by --from N --to M\n"
+
+-- how the writing of the picture of a trace ended
+abbrev pub Drawn : Window → Recounted → Status → Outlets → Outlets → Type 0
+Drawn w t Done old new = (is_wide (window_of w t) ≡ false) × Appends old.out new.out (picture_for w t) × KeepsNotes old new
+Drawn w t Refused old new = (is_wide (window_of w t) ≡ true) × Keeps old.out new.out × Notes old new wide_note
+Drawn w t InputOutput old new = AppendsPrefix old.out new.out (picture_for w t) × Notes old new (codes "write fault\n")
+Drawn w t Memory old new = Keeps old.out new.out × Notes old new (codes "no memory\n")
+Drawn w t Usage old new = ⊥
+Drawn w t Stopped old new = ⊥
+
+-- how the program ended: the bytes are a trace, and its picture was written, or it has too many entries and that is said; or
+-- they are none, and nothing was written but the note of the first fault; or a failed read is told, and what the reader had
+-- given until then has no fault; or a failed write or want of memory is told
+abbrev pub Draws : Window → List ℕ → Option (List ℕ) → Status → Outlets → Outlets → Type 0
+Draws w bytes left Done old new = (t : Recounted) × ReadsAs bytes t × Drawn w t Done old new
+Draws w bytes left Refused old new =
+    ((t : Recounted) × ReadsAs bytes t × Drawn w t Refused old new)
+    ⊎ ((fault : TraceFault) × RefusedFor bytes fault × Keeps old.out new.out × Notes old new (fault_note fault))
+Draws w bytes left InputOutput old new =
+    ((t : Recounted) × ReadsAs bytes t × Drawn w t InputOutput old new)
+    ⊎ (HasNoFault TRACE_MAX bytes left × Keeps old.out new.out × Notes old new (codes "read fault\n"))
+Draws w bytes left Memory old new = Keeps old.out new.out × Notes old new (codes "no memory\n")
+Draws w bytes left Usage old new = ⊥
+Draws w bytes left Stopped old new = ⊥

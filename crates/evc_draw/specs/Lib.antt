@@ -1,0 +1,4 @@
+pub mod Places
+pub mod Elements
+pub mod Svg
+pub mod Draws

@@ -1,0 +1,257 @@
+//! The bars of calls, their labels and their marks.
+ghost use Rattle.std.specs.Prelude.{◌≡◌, ◌≤◌, codes};
+ghost use Rattle.ec_heading.specs.Spelling.{cell_word};
+ghost use Rattle.evc_draw.specs.Elements.{name_text};
+ghost use Rattle.std.specs.List.{flat_map};
+ghost use Rattle.ec_text.specs.Puts.{Puts};
+ghost use Rattle.evc_draw.specs.Svg.{act_text, call_bar, call_element, call_front, point_words, call_title, entries_words, kind_word, label, object_label, reply_text, round_line, value_words};
+
+use crate::elements::{Place, end_text, put_line, put_object_text, put_rect, start_text};
+use crate::places::{edge, end_of, row};
+use ec_core::{Act, Entry, Reply};
+use ec_count::CellId;
+use ec_draw::Window;
+use ec_order::{Call, Placed};
+use ec_text::{Buffered, put, put_number};
+use ec_trace::{Spellings, put_cell, put_entry};
+use std::io::Write;
+
+/// Puts the word of an act.
+pub(crate) fn put_kind<W: Write>(out: &mut W, table: &mut Buffered, act: &Act)
+    ensures { Puts (W.contents out.old) table.old (W.contents out.new) table.new (kind_word act.now) }
+{
+    match *act {
+        Act::Advance(_) => put(out, table, b"advance"),
+        Act::Read(_) => put(out, table, b"read"),
+        Act::Await(_, _) => put(out, table, b"await"),
+        Act::Go => put(out, table, b"go"),
+        Act::Ticket(_) => put(out, table, b"ticket"),
+        Act::Put(_, _) => put(out, table, b"put"),
+        Act::Get(_) => put(out, table, b"get"),
+    }
+}
+
+/// Puts the threshold of an await, or the value of a put.
+fn put_value<W: Write>(out: &mut W, table: &mut Buffered, act: &Act)
+    ensures { Puts (W.contents out.old) table.old (W.contents out.new) table.new (value_words act.now) }
+{
+    match *act {
+        Act::Await(_, value) | Act::Put(_, value) => {
+            put(out, table, b" ");
+            put_number(out, table, value);
+        }
+        Act::Advance(_) | Act::Read(_) | Act::Go | Act::Ticket(_) | Act::Get(_) => {}
+    }
+}
+
+/// Puts what was asked for.
+#[tactic(auto, unfolding(crate::specs::Svg::act_text))]
+fn put_act_text<W: Write>(out: &mut W, table: &mut Buffered, at: Place, act: &Act)
+    ensures { Puts (W.contents out.old) table.old (W.contents out.new) table.new (act_text at.x at.y act.now) }
+{
+    start_text(out, table, b"act", at);
+    put_kind(out, table, act);
+    put_value(out, table, act);
+    end_text(out, table);
+}
+
+/// Puts the name of a cell as a text.
+#[tactic(auto, unfolding(crate::specs::Elements::name_text))]
+fn put_cell_text<W: Write>(
+    out: &mut W,
+    table: &mut Buffered,
+    spellings: &Spellings<'_>,
+    at: Place,
+    cell: CellId,
+)
+    ensures { Puts (W.contents out.old) table.old (W.contents out.new) table.new (name_text (codes "cell") at.x at.y (cell_word spellings.now cell)) }
+{
+    start_text(out, table, b"cell", at);
+    put_cell(out, table, spellings, cell);
+    end_text(out, table);
+}
+
+/// Puts the object that was asked for.
+fn put_object_label<W: Write>(
+    out: &mut W,
+    table: &mut Buffered,
+    spellings: &Spellings<'_>,
+    at: Place,
+    act: &Act,
+)
+    ensures { Puts (W.contents out.old) table.old (W.contents out.new) table.new (object_label spellings.now at.x at.y act.now) }
+{
+    match *act {
+        Act::Advance(event) | Act::Read(event) | Act::Await(event, _) => {
+            put_object_text(out, table, at, spellings.event(event));
+        }
+        Act::Go => {}
+        Act::Ticket(sequencer) => {
+            put_object_text(out, table, at, spellings.sequencer(sequencer));
+        }
+        Act::Put(cell, _) | Act::Get(cell) => {
+            put_cell_text(out, table, spellings, at, cell);
+        }
+    }
+}
+
+/// Puts the two lines above a bar.
+#[tactic(auto, unfolding(crate::specs::Svg::label))]
+pub(crate) fn put_label<W: Write>(
+    out: &mut W,
+    table: &mut Buffered,
+    spellings: &Spellings<'_>,
+    at: Place,
+    act: &Act,
+)
+    requires { at.y ≤ 2000 }
+    ensures { Puts (W.contents out.old) table.old (W.contents out.new) table.new (label spellings.now at.x at.y act.now) }
+{
+    let (x, y) = (at.x, at.y);
+    put_act_text(out, table, Place { x, y: y + 14 }, act);
+    put_object_label(out, table, spellings, Place { x, y: y + 26 }, act);
+}
+
+/// Puts the number that was told.
+fn put_reply_text<W: Write>(out: &mut W, table: &mut Buffered, at: Place, reply: &Reply)
+    ensures { Puts (W.contents out.old) table.old (W.contents out.new) table.new (reply_text at.x at.y reply.now) }
+{
+    match *reply {
+        Reply::Number(n) => {
+            start_text(out, table, b"reply", at);
+            put(out, table, b"= ");
+            put_number(out, table, n);
+            end_text(out, table);
+        }
+        Reply::Done | Reply::Pending => {}
+    }
+}
+
+/// Puts the numbers of a call's first and last entries.
+#[tactic(auto, unfolding(crate::specs::Svg::entries_words))]
+fn put_entries_words<W: Write>(out: &mut W, table: &mut Buffered, call: &Call)
+    ensures { Puts (W.contents out.old) table.old (W.contents out.new) table.new (entries_words call.now) }
+{
+    put(out, table, b", entries ");
+    put_number(out, table, call.first as u64);
+    put(out, table, b" to ");
+    put_number(out, table, call.last as u64);
+}
+
+/// Puts the number of a point, at the end of a title.
+#[tactic(auto, unfolding(crate::specs::Svg::point_words))]
+fn put_point_words<W: Write>(out: &mut W, table: &mut Buffered, point: usize)
+    ensures { Puts (W.contents out.old) table.old (W.contents out.new) table.new (point_words point) }
+{
+    put(out, table, b", point ");
+    put_number(out, table, point as u64);
+    put(out, table, b"</title>\n");
+}
+
+/// Puts what is shown on hover.
+#[tactic(auto, unfolding(crate::specs::Svg::call_title))]
+fn put_call_title<W: Write>(
+    out: &mut W,
+    table: &mut Buffered,
+    spellings: &Spellings<'_>,
+    placed: &Placed,
+)
+    ensures { Puts (W.contents out.old) table.old (W.contents out.new) table.new (call_title spellings.now placed.now) }
+{
+    let entry = Entry {
+        worker: placed.call.worker,
+        act: placed.call.op,
+        reply: placed.call.reply,
+    };
+    put(out, table, b"<title>");
+    put_entry(out, table, spellings, &entry);
+    put_entries_words(out, table, &placed.call);
+    put_point_words(out, table, placed.point);
+}
+
+/// Puts where the last round of an await began.
+#[tactic(auto, unfolding(crate::specs::Svg::round_line))]
+fn put_round<W: Write>(out: &mut W, table: &mut Buffered, window: Window, call: &Call)
+    ensures { Puts (W.contents out.old) table.old (W.contents out.new) table.new (round_line window call.now) }
+{
+    if call.first < call.round {
+        let x = edge(window, call.round);
+        let y = row(call.worker.get());
+        put_line(
+            out,
+            table,
+            b"round",
+            Place { x, y: y + 32 },
+            Place { x, y: y + 54 },
+        );
+    }
+}
+
+/// Puts the bar of a call.
+#[tactic(auto, unfolding(crate::specs::Svg::call_bar))]
+fn put_call_bar<W: Write>(out: &mut W, table: &mut Buffered, window: Window, call: &Call)
+    ensures { Puts (W.contents out.old) table.old (W.contents out.new) table.new (call_bar window call.now) }
+{
+    let left = edge(window, call.first);
+    let right = end_of(window, call.last);
+    let at = Place {
+        x: left + 3,
+        y: row(call.worker.get()) + 32,
+    };
+    put_rect(out, table, at, right.saturating_sub(left + 6), 22);
+}
+
+/// Puts the beginning of a call's group: its class, its title and its bar.
+#[tactic(auto, unfolding(crate::specs::Svg::call_front))]
+fn put_call_front<W: Write>(
+    out: &mut W,
+    table: &mut Buffered,
+    spellings: &Spellings<'_>,
+    window: Window,
+    placed: &Placed,
+)
+    ensures { Puts (W.contents out.old) table.old (W.contents out.new) table.new (call_front spellings.now window placed.now) }
+{
+    put(out, table, b"<g class='");
+    put_kind(out, table, &placed.call.op);
+    put(out, table, b"'>");
+    put_call_title(out, table, spellings, placed);
+    put_call_bar(out, table, window, &placed.call);
+}
+
+/// Puts all that is drawn of a call but its mark.
+#[tactic(auto, unfolding(crate::specs::Svg::call_element))]
+pub(crate) fn put_call<W: Write>(
+    out: &mut W,
+    table: &mut Buffered,
+    spellings: &Spellings<'_>,
+    window: Window,
+    placed: &Placed,
+)
+    ensures { Puts (W.contents out.old) table.old (W.contents out.new) table.new (call_element spellings.now window placed.now) }
+{
+    let call = &placed.call;
+    let y = row(call.worker.get());
+    let x = edge(window, call.first) + 3;
+    let end = end_of(window, call.last) - 3;
+    put_call_front(out, table, spellings, window, placed);
+    put_label(out, table, spellings, Place { x, y }, &call.op);
+    put_round(out, table, window, call);
+    put_reply_text(out, table, Place { x: end, y: y + 66 }, &call.reply);
+    put(out, table, b"</g>\n");
+}
+
+/// Puts the finished calls.
+pub(crate) fn put_calls<W: Write>(
+    out: &mut W,
+    table: &mut Buffered,
+    spellings: &Spellings<'_>,
+    window: Window,
+    calls: &[Placed],
+)
+    ensures { Puts (W.contents out.old) table.old (W.contents out.new) table.new (flat_map (call_element spellings.now window) calls.now) }
+{
+    for placed in calls {
+        put_call(out, table, spellings, window, placed);
+    }
+}

@@ -1,0 +1,164 @@
+//! The curves of what is counted.
+ghost use Rattle.std.specs.Prelude.{◌≡◌, ◌≤◌, length, map, slice_get, unwrap_or};
+ghost use Rattle.ec_text.specs.Puts.{Puts};
+ghost use Rattle.ec_draw.specs.Curves.{shown};
+ghost use Rattle.evc_draw.specs.Svg.{counted_word, curve_at, curve_element, curve_elements, curve_path, curve_words, step, steps};
+
+use crate::elements::{Place, put_line, put_name_text, put_number_text, put_pair};
+use crate::places::{base, high_of, level, low_of, picture_width};
+use ec_draw::{Counted, Curve, Window};
+use ec_text::{Buffered, put, put_number};
+use ec_trace::Spellings;
+use std::io::Write;
+
+/// The name of what has a curve.
+fn counted_word<'a>(spellings: &Spellings<'a>, object: &Counted) -> &'a [u8]
+    ensures { result.now ≡ counted_word spellings.now object.now }
+{
+    match *object {
+        Counted::Event(event) => spellings.event(event),
+        Counted::Sequencer(sequencer) => spellings.sequencer(sequencer),
+    }
+}
+
+/// The count at a moment of the window.
+fn height_at(heights: &[u64], moment: usize) -> u64
+    ensures { result ≡ unwrap_or (slice_get heights.now moment) 0 }
+{
+    heights.get(moment).copied().unwrap_or(0)
+}
+
+/// Puts one step of a curve: at the height of a moment's count up to the entry that happens there.
+#[tactic(auto, unfolding(crate::specs::Svg::step))]
+fn put_step<W: Write>(
+    out: &mut W,
+    table: &mut Buffered,
+    workers: usize,
+    number: usize,
+    heights: &[u64],
+    moment: usize,
+)
+    requires { workers ≤ 16 }
+    ensures { Puts (W.contents out.old) table.old (W.contents out.new) table.new (step workers number heights.now moment) }
+{
+    let y = level(workers, number, heights, height_at(heights, moment));
+    let x = 178 + 84 * moment.min(400) as u64;
+    put_pair(out, table, b" V ", y, b" H ", x);
+}
+
+/// Puts the steps of a curve.
+fn put_steps<W: Write>(
+    out: &mut W,
+    table: &mut Buffered,
+    workers: usize,
+    number: usize,
+    heights: &[u64],
+)
+    requires { workers ≤ 16 }
+    ensures { Puts (W.contents out.old) table.old (W.contents out.new) table.new (steps workers number heights.now (length heights.now)) }
+{
+    for moment in 0..heights.len() {
+        put_step(out, table, workers, number, heights, moment);
+    }
+}
+
+/// Puts the line of a curve.
+#[tactic(auto, unfolding(crate::specs::Svg::curve_path))]
+fn put_path<W: Write>(
+    out: &mut W,
+    table: &mut Buffered,
+    workers: usize,
+    number: usize,
+    heights: &[u64],
+)
+    requires { workers ≤ 16 }
+    ensures { Puts (W.contents out.old) table.old (W.contents out.new) table.new (curve_path workers number heights.now) }
+{
+    put(out, table, b"<path class='curve' d='M 136 ");
+    put_number(out, table, base(workers, number));
+    put_steps(out, table, workers, number, heights);
+    put(out, table, b"'/>\n");
+}
+
+/// Puts the name of a curve, and its least and its greatest count.
+#[tactic(auto, unfolding(crate::specs::Svg::curve_words))]
+fn put_words<W: Write>(
+    out: &mut W,
+    table: &mut Buffered,
+    spellings: &Spellings<'_>,
+    window: Window,
+    workers: usize,
+    number: usize,
+    curve: &Curve,
+)
+    requires { workers ≤ 16 }
+    ensures { Puts (W.contents out.old) table.old (W.contents out.new) table.new (curve_words spellings.now window workers number (shown curve.now)) }
+{
+    let y = base(workers, number);
+    let heights = curve.heights.as_slice();
+    let word = counted_word(spellings, &curve.object);
+    put_name_text(out, table, b"name", Place { x: 124, y: y - 20 }, word);
+    put_number_text(out, table, b"count", Place { x: 124, y }, low_of(heights));
+    let top = Place { x: 124, y: y - 44 };
+    put_number_text(out, table, b"count", top, high_of(heights));
+}
+
+/// Puts all that is drawn of a curve.
+#[tactic(auto, unfolding(crate::specs::Svg::curve_element))]
+fn put_curve<W: Write>(
+    out: &mut W,
+    table: &mut Buffered,
+    spellings: &Spellings<'_>,
+    window: Window,
+    workers: usize,
+    number: usize,
+    curve: &Curve,
+)
+    requires { workers ≤ 16 }
+    ensures { Puts (W.contents out.old) table.old (W.contents out.new) table.new (curve_element spellings.now window workers number (shown curve.now)) }
+{
+    let y = base(workers, number);
+    let from = Place { x: 136, y };
+    let to = Place {
+        x: picture_width(window),
+        y,
+    };
+    put_line(out, table, b"zero", from, to);
+    put_words(out, table, spellings, window, workers, number, curve);
+    put_path(out, table, workers, number, curve.heights.as_slice());
+}
+
+/// Puts the curve at a place, if there is one.
+fn put_curve_at<W: Write>(
+    out: &mut W,
+    table: &mut Buffered,
+    spellings: &Spellings<'_>,
+    window: Window,
+    workers: usize,
+    curves: &[Curve],
+    number: usize,
+)
+    requires { workers ≤ 16 }
+    ensures { Puts (W.contents out.old) table.old (W.contents out.new) table.new (curve_at spellings.now window workers number (slice_get (map shown curves.now) number)) }
+{
+    if let Some(curve) = curves.get(number) {
+        put_curve(out, table, spellings, window, workers, number, curve);
+    }
+}
+
+/// Puts the curves.
+pub(crate) fn put_curves<W: Write>(
+    out: &mut W,
+    table: &mut Buffered,
+    spellings: &Spellings<'_>,
+    window: Window,
+    workers: usize,
+    curves: &[Curve],
+)
+    requires { workers ≤ 16 }
+    ensures { Puts (W.contents out.old) table.old (W.contents out.new) table.new (curve_elements spellings.now window workers (map shown curves.now) (length (map shown curves.now))) }
+{
+    for number in 0..curves.len() {
+        put_curve_at(out, table, spellings, window, workers, curves, number);
+    }
+}

@@ -1,0 +1,28 @@
+//! The texts of the command line.
+
+pub(crate) const VERSION: &[u8] = b"evc-draw 0.2
+proved and built with rattle-kit-13b
+";
+
+pub(crate) const USAGE: &[u8] = b"usage: evc-draw [--from N] [--to M] < TRACE > PICTURE.svg
+";
+
+pub(crate) const HELP: &[u8] = b"Draws a trace of eventcounts and sequencers as a picture (SVG)
+
+Usage: evc-draw [--from N] [--to M] < TRACE > PICTURE.svg
+
+The trace is read from standard input. A row for each worker has a bar for each call, from
+its first entry to its last, with a dot for each entry and the component that it read or
+raised; a call under way is dashed and goes on behind the last entry. A diamond marks the
+point of a call, and a dotted line ties that of a read or an await to the curve of its
+eventcount's total below.
+
+Options:
+  --from N       the first entry that is shown, counted from 0
+  --to M         the last entry that is shown
+  -h, --help     this help
+  -V, --version  the version
+
+At most 400 entries are shown. Notes and exit status are those of `evc check`; a trace of
+more entries is refused with status 1 where the options don't choose fewer.
+";

@@ -1,0 +1,71 @@
+//! `evc-draw`: draws a trace.
+#![tactic(auto)]
+
+mod asked;
+mod calls;
+mod curves;
+mod dots;
+mod drawing;
+mod elements;
+mod help;
+mod marks;
+mod places;
+mod style;
+mod svg;
+mod under_way;
+
+use crate::asked::{Asked, read_words};
+use crate::drawing::draw;
+use crate::help::{HELP, USAGE, VERSION};
+use ec_text::write_out;
+use evc_engine::{Notes, Status};
+use std::alloc::AllocError;
+use std::env;
+use std::io::{ErrorKind, Write};
+use std::process::ExitCode;
+
+/// Writes a text that was asked for.
+fn tell<W: Write, N: Write>(text: &[u8], out: &mut W, notes: &mut Notes<N>) -> Status {
+    match write_out(out, text) {
+        Ok(()) => Status::Done,
+        Err(_) => {
+            notes.say(b"write fault\n");
+            Status::InputOutput
+        }
+    }
+}
+
+fn main(rt: HostRuntime) -> ExitCode {
+    let alloc = rt.alloc();
+    let mut notes = Notes::new(rt.stderr());
+    let words: Result<Vec<String>, AllocError> = match env::args(&rt) {
+        Ok(args) => args.collect(alloc),
+        Err(error) => {
+            if error.kind() == ErrorKind::InvalidData {
+                notes.say(USAGE);
+                return ExitCode::from(Status::Usage.code());
+            }
+            Err(AllocError)
+        }
+    };
+    let Ok(words) = words else {
+        notes.say(b"no memory\n");
+        return ExitCode::from(Status::Memory.code());
+    };
+    let status = match read_words(words.as_slice().get(1..).unwrap_or(&[])) {
+        Some(Asked::Draw(window)) => draw(
+            alloc,
+            window,
+            &mut rt.stdin(),
+            &mut rt.stdout(),
+            &mut notes,
+        ),
+        Some(Asked::Help) => tell(HELP, &mut rt.stdout(), &mut notes),
+        Some(Asked::Version) => tell(VERSION, &mut rt.stdout(), &mut notes),
+        None => {
+            notes.say(USAGE);
+            Status::Usage
+        }
+    };
+    ExitCode::from(status.code())
+}

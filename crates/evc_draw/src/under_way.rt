@@ -1,0 +1,107 @@
+//! The bars of calls under way.
+ghost use Rattle.std.specs.Prelude.{◌≡◌};
+ghost use Rattle.std.specs.List.{flat_map};
+ghost use Rattle.ec_text.specs.Puts.{Puts};
+ghost use Rattle.evc_draw.specs.Svg.{from_words, open_front, open_bar, open_element, open_title};
+
+use crate::calls::{put_kind, put_label};
+use crate::elements::{Place, put_rect};
+use crate::places::{edge, picture_width, row};
+use crate::style::{OPEN_GROUP, UNDER_WAY};
+use ec_core::{Entry, Reply};
+use ec_draw::{Open, Window};
+use ec_text::{Buffered, put, put_number};
+use ec_trace::{Spellings, put_entry};
+use std::io::Write;
+
+/// Puts the number of the first entry, at the end of a title.
+#[tactic(auto, unfolding(crate::specs::Svg::from_words))]
+fn put_from_words<W: Write>(out: &mut W, table: &mut Buffered, first: usize)
+    ensures { Puts (W.contents out.old) table.old (W.contents out.new) table.new (from_words first) }
+{
+    put(out, table, UNDER_WAY);
+    put_number(out, table, first as u64);
+    put(out, table, b"</title>\n");
+}
+
+/// Puts what is shown on hover.
+#[tactic(auto, unfolding(crate::specs::Svg::open_title))]
+fn put_open_title<W: Write>(
+    out: &mut W,
+    table: &mut Buffered,
+    spellings: &Spellings<'_>,
+    begun: &Open,
+)
+    ensures { Puts (W.contents out.old) table.old (W.contents out.new) table.new (open_title spellings.now begun.now) }
+{
+    let entry = Entry {
+        worker: begun.worker,
+        act: begun.op,
+        reply: Reply::Pending,
+    };
+    put(out, table, b"<title>");
+    put_entry(out, table, spellings, &entry);
+    put_from_words(out, table, begun.first);
+}
+
+/// Puts the bar.
+#[tactic(auto, unfolding(crate::specs::Svg::open_bar))]
+fn put_open_bar<W: Write>(out: &mut W, table: &mut Buffered, window: Window, begun: &Open)
+    ensures { Puts (W.contents out.old) table.old (W.contents out.new) table.new (open_bar window begun.now) }
+{
+    let x = edge(window, begun.first) + 3;
+    let y = row(begun.worker.get()) + 32;
+    let width = picture_width(window).saturating_sub(x);
+    put_rect(out, table, Place { x, y }, width, 22);
+}
+
+/// Puts the beginning of the call's group: its class, its title and its bar.
+#[tactic(auto, unfolding(crate::specs::Svg::open_front))]
+fn put_open_front<W: Write>(
+    out: &mut W,
+    table: &mut Buffered,
+    spellings: &Spellings<'_>,
+    window: Window,
+    begun: &Open,
+)
+    ensures { Puts (W.contents out.old) table.old (W.contents out.new) table.new (open_front spellings.now window begun.now) }
+{
+    put(out, table, OPEN_GROUP);
+    put_kind(out, table, &begun.op);
+    put(out, table, b"'>");
+    put_open_title(out, table, spellings, begun);
+    put_open_bar(out, table, window, begun);
+}
+
+/// Puts all that is drawn of a call under way.
+#[tactic(auto, unfolding(crate::specs::Svg::open_element))]
+fn put_open<W: Write>(
+    out: &mut W,
+    table: &mut Buffered,
+    spellings: &Spellings<'_>,
+    window: Window,
+    begun: &Open,
+)
+    ensures { Puts (W.contents out.old) table.old (W.contents out.new) table.new (open_element spellings.now window begun.now) }
+{
+    let y = row(begun.worker.get());
+    let x = edge(window, begun.first) + 3;
+    put_open_front(out, table, spellings, window, begun);
+    put_label(out, table, spellings, Place { x, y }, &begun.op);
+    put(out, table, b"</g>\n");
+}
+
+/// Puts the calls under way.
+pub(crate) fn put_opens<W: Write>(
+    out: &mut W,
+    table: &mut Buffered,
+    spellings: &Spellings<'_>,
+    window: Window,
+    calls: &[Open],
+)
+    ensures { Puts (W.contents out.old) table.old (W.contents out.new) table.new (flat_map (open_element spellings.now window) calls.now) }
+{
+    for begun in calls {
+        put_open(out, table, spellings, window, begun);
+    }
+}
