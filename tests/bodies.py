@@ -132,7 +132,7 @@ class Function:
 
 
 ITEM = re.compile(
-    r"^(?P<indent>[ ]*)(?:pub(?:\([a-z]+\))?[ ]+)?(?:(?:const|unsafe)[ ]+)*"
+    r"^(?P<indent>[ ]*)(?:pub(?:\([a-z]+\))?[ ]+)?(?:(?:const|unsafe|extern[ ]+\"C\")[ ]+)*"
     r"(?:fn[ ]+(?P<fn>\w+)|impl(?:<[^>]*>)?[ ]+(?P<impl>[^{]*)|trait[ ]+(?P<trait>\w+))"
 )
 

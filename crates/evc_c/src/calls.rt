@@ -1,0 +1,187 @@
+//! The calls.
+ghost use Rattle.std.specs.Prelude.{◌≡◌, ◌≤◌, [], length, take, drop};
+ghost use Rattle.ec_text.specs.Puts.{nothing_held};
+ghost use Rattle.evc_engine.specs.Checks.{Checks};
+ghost use Rattle.evc_engine.specs.Audits.{Audits};
+ghost use Rattle.evc_engine.specs.Upgrades.{Upgrades};
+ghost use Rattle.evc_scripts.specs.Sims.{Sims};
+ghost use Rattle.evc_c.specs.Answers.{Answers};
+ghost use Rattle.evc_c.specs.Rooms.{Fills};
+
+use crate::room::{Room, put_at};
+use arrayvec::ArrayVec;
+use evc_engine::{Notes, Status, audit, check, upgrade};
+use evc_scripts::sim;
+use std::alloc::Global;
+
+/// The notes of a call, of which there are less than a thousand bytes.
+type Noted = Notes<ArrayVec<u8, 1024>>;
+
+/// How many bytes were written of the text and of the notes.
+#[repr(C)]
+pub struct EvcWritten {
+    pub text: usize,
+    pub notes: usize,
+}
+
+/// Tells how much stands in a room, and hands out as much of the notes as there is room for.
+fn hand_out(out: &Room<'_>, told: &Noted, notes: &mut [u8], written: &mut EvcWritten)
+    ensures text { written.new.text ≡ out.now.len }
+    ensures within { written.new.notes ≤ length notes.new }
+    ensures long { length notes.new ≡ length notes.old }
+    ensures notes { take written.new.notes notes.new ≡ take (length notes.old) told.now.writer.items }
+    ensures rest { drop written.new.notes notes.new ≡ drop written.new.notes notes.old }
+{
+    written.text = out.len;
+    written.notes = put_at(notes, 0, told.writer.as_slice());
+}
+
+/// `check`, of bytes and into a room.
+#[tactic(auto, using(crate::proofs::Grown::check_grows, crate::proofs::Grown::fills))]
+fn check_bytes(alloc: Global, trace: &[u8], out: &mut Room<'_>, notes: &mut Noted) -> Status
+    requires out { out.old.len ≡ 0 }
+    requires notes { notes.old.writer.items ≡ [] }
+    requires table { notes.old.table ≡ nothing_held }
+    ensures same { out.new.bytes.ghost_name ≡ out.old.bytes.ghost_name }
+    ensures fills { Fills Checks trace.now result out.old out.new notes.new.writer.items }
+{
+    let mut reader = trace;
+    check(alloc, &mut reader, out, notes)
+}
+
+/// Checks a trace: the order of its finished calls and the totals are the text.
+///
+/// The status is that of `evc check`, and 3 where the text had no room: then a proper front of it was written.
+#[tactic(auto, using(crate::proofs::Grown::answers))]
+#[unsafe(no_mangle)]
+pub extern "C" fn evc_check(
+    alloc: Global,
+    trace: &[u8],
+    text: &mut [u8],
+    notes: &mut [u8],
+    written: &mut EvcWritten,
+) -> u8
+    ensures answers { Answers Checks trace.now result (take written.new.text text.new) (take written.new.notes notes.new) (length notes.old) }
+    ensures text { written.new.text ≤ length text.new }
+    ensures notes { written.new.notes ≤ length notes.new }
+    ensures rest { drop written.new.notes notes.new ≡ drop written.new.notes notes.old }
+{
+    let mut out = Room::new(text);
+    let mut told = Notes::new(ArrayVec::new());
+    let status = check_bytes(alloc, trace, &mut out, &mut told);
+    hand_out(&out, &told, notes, written);
+    status.code()
+}
+
+/// `audit`, of bytes and into a room.
+#[tactic(auto, using(crate::proofs::Grown::audit_grows, crate::proofs::Grown::fills))]
+fn audit_bytes(alloc: Global, trace: &[u8], out: &mut Room<'_>, notes: &mut Noted) -> Status
+    requires out { out.old.len ≡ 0 }
+    requires notes { notes.old.writer.items ≡ [] }
+    requires table { notes.old.table ≡ nothing_held }
+    ensures same { out.new.bytes.ghost_name ≡ out.old.bytes.ghost_name }
+    ensures fills { Fills Audits trace.now result out.old out.new notes.new.writer.items }
+{
+    let mut reader = trace;
+    audit(alloc, &mut reader, out, notes)
+}
+
+/// Audits the groups of a trace: what the audits found is the text.
+#[tactic(auto, using(crate::proofs::Grown::answers))]
+#[unsafe(no_mangle)]
+pub extern "C" fn evc_audit(
+    alloc: Global,
+    trace: &[u8],
+    text: &mut [u8],
+    notes: &mut [u8],
+    written: &mut EvcWritten,
+) -> u8
+    ensures answers { Answers Audits trace.now result (take written.new.text text.new) (take written.new.notes notes.new) (length notes.old) }
+    ensures text { written.new.text ≤ length text.new }
+    ensures notes { written.new.notes ≤ length notes.new }
+    ensures rest { drop written.new.notes notes.new ≡ drop written.new.notes notes.old }
+{
+    let mut out = Room::new(text);
+    let mut told = Notes::new(ArrayVec::new());
+    let status = audit_bytes(alloc, trace, &mut out, &mut told);
+    hand_out(&out, &told, notes, written);
+    status.code()
+}
+
+/// `upgrade`, of bytes and into a room.
+#[tactic(auto, using(crate::proofs::Grown::upgrade_grows, crate::proofs::Grown::fills))]
+fn upgrade_bytes(alloc: Global, trace: &[u8], out: &mut Room<'_>, notes: &mut Noted) -> Status
+    requires out { out.old.len ≡ 0 }
+    requires notes { notes.old.writer.items ≡ [] }
+    requires table { notes.old.table ≡ nothing_held }
+    ensures same { out.new.bytes.ghost_name ≡ out.old.bytes.ghost_name }
+    ensures fills { Fills Upgrades trace.now result out.old out.new notes.new.writer.items }
+{
+    let mut reader = trace;
+    upgrade(alloc, &mut reader, out, notes)
+}
+
+/// Writes a trace in version 2 of the format: the text is as long as the trace.
+#[tactic(auto, using(crate::proofs::Grown::answers))]
+#[unsafe(no_mangle)]
+pub extern "C" fn evc_upgrade(
+    alloc: Global,
+    trace: &[u8],
+    text: &mut [u8],
+    notes: &mut [u8],
+    written: &mut EvcWritten,
+) -> u8
+    ensures answers { Answers Upgrades trace.now result (take written.new.text text.new) (take written.new.notes notes.new) (length notes.old) }
+    ensures text { written.new.text ≤ length text.new }
+    ensures notes { written.new.notes ≤ length notes.new }
+    ensures rest { drop written.new.notes notes.new ≡ drop written.new.notes notes.old }
+{
+    let mut out = Room::new(text);
+    let mut told = Notes::new(ArrayVec::new());
+    let status = upgrade_bytes(alloc, trace, &mut out, &mut told);
+    hand_out(&out, &told, notes, written);
+    status.code()
+}
+
+/// `sim`, of bytes and into a room.
+#[tactic(auto, using(crate::proofs::Grown::sim_grows, crate::proofs::Grown::fills))]
+fn sim_bytes(alloc: Global, script: &[u8], out: &mut Room<'_>, notes: &mut Noted) -> Status
+    requires out { out.old.len ≡ 0 }
+    requires notes { notes.old.writer.items ≡ [] }
+    requires table { notes.old.table ≡ nothing_held }
+    ensures same { out.new.bytes.ghost_name ≡ out.old.bytes.ghost_name }
+    ensures fills { Fills Sims script.now result out.old out.new notes.new.writer.items }
+{
+    let mut reader = script;
+    sim(alloc, &mut reader, out, notes)
+}
+
+/// Plays the schedule of a script: the trace is the text, and the notes say how the workers have ended.
+#[tactic(auto, using(crate::proofs::Grown::answers))]
+#[unsafe(no_mangle)]
+pub extern "C" fn evc_sim(
+    alloc: Global,
+    script: &[u8],
+    text: &mut [u8],
+    notes: &mut [u8],
+    written: &mut EvcWritten,
+) -> u8
+    ensures answers { Answers Sims script.now result (take written.new.text text.new) (take written.new.notes notes.new) (length notes.old) }
+    ensures text { written.new.text ≤ length text.new }
+    ensures notes { written.new.notes ≤ length notes.new }
+    ensures rest { drop written.new.notes notes.new ≡ drop written.new.notes notes.old }
+{
+    let mut out = Room::new(text);
+    let mut told = Notes::new(ArrayVec::new());
+    let status = sim_bytes(alloc, script, &mut out, &mut told);
+    hand_out(&out, &told, notes, written);
+    status.code()
+}
+
+/// The version: a thousand times its first number, and its second.
+#[unsafe(no_mangle)]
+pub extern "C" fn evc_version() -> u32
+    ensures { result ≡ 2 }
+{
+    2
+}

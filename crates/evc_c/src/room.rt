@@ -1,0 +1,58 @@
+//! The caller's bytes, as a writer.
+ghost use Rattle.std.specs.Prelude.{◌≡◌, ◌≤◌, ◌+◌, ◌-◌, ◌∷◌, ◌++◌, min, length, take, drop, Some, IsOk};
+ghost use Rattle.std.specs.Io.{WritesAtMost};
+ghost use Rattle.std.specs.Io.KnownBytes.{Keeps, WriteAppends};
+
+use std::io;
+use std::io::Write;
+
+/// Bytes of the caller's, which are written from the front on, and how many have been. A write takes what there is room for.
+#[derive(Drop)]
+pub(crate) struct Room<'a> {
+    bytes: &'a mut [u8],
+    pub(crate) len: usize,
+    ghost within: { len ≤ length bytes.now },
+}
+
+impl<'a> Room<'a> {
+    /// A room in which nothing was written yet.
+    pub(crate) fn new(bytes: &'a mut [u8]) -> Room<'a>
+        ensures same { result.bytes.ghost_name ≡ bytes.entry.ghost_name }
+        ensures bytes { result.bytes.now ≡ bytes.old }
+        ensures len { result.len ≡ 0 }
+    {
+        Room { bytes, len: 0 }
+    }
+}
+
+/// Puts as much of bytes as there is room for behind the first `at`, and tells how much.
+pub(crate) fn put_at(room: &mut [u8], at: usize, bytes: &[u8]) -> usize
+    requires { at ≤ length room.old }
+    ensures count { result ≡ min (length bytes.now) (length room.old - at) }
+    ensures len { length room.new ≡ length room.old }
+    ensures rest { drop (at + result) room.new ≡ drop (at + result) room.old }
+    ensures front { take (at + result) room.new ≡ take at room.old ++ take result bytes.now }
+{
+    let n = bytes.len().min(room.len() - at);
+    room[at..at + n].copy_from_slice(&bytes[..n]);
+    n
+}
+
+impl Write for Room<'_> {
+    ghost contents = { λ r. Some (r.bytes.ghost_name ∷ take r.len r.bytes.now) };
+
+    fn write(&mut self, buf: &[u8]) -> io::Result<usize>
+        ensures bound { WritesAtMost result buf.now }
+        ensures bytes { WriteAppends (Some (self.old.bytes.ghost_name ∷ take self.old.len self.old.bytes.now))
+            (Some (self.new.bytes.ghost_name ∷ take self.new.len self.new.bytes.now)) result buf.now }
+        ensures ok { IsOk result }
+    {
+        let n = put_at(self.bytes, self.len, buf);
+        self.len += n;
+        Ok(n)
+    }
+
+    fn flush(&mut self) -> io::Result<()> {
+        Ok(())
+    }
+}

@@ -1,0 +1,77 @@
+/* evc.h: `evc check`, `audit`, `upgrade` and `sim` as calls, for bytes in memory. C11 and C++.
+ *
+ *     cc -std=c11 my_test.c libevc.a
+ *
+ * Each call reads a text that you give, writes its answer into memory that you give, and returns a status. It keeps
+ * nothing: two threads may call at once, each with memory of its own. It takes memory by malloc and lets go of all of
+ * it. What a call promises is proved; docs/PROMISES.md says what that is.
+ *
+ *     static uint8_t text[EVC_ROOM(sizeof trace)], notes[EVC_NOTES_ROOM];
+ *     struct evc_written written;
+ *     if (evc_check(trace, length, text, sizeof text, notes, sizeof notes, &written) != EVC_STATUS_DONE)
+ *         fprintf(stderr, "%.*s", (int)written.notes, (const char *)notes);
+ *
+ * No pointer may be NULL, also where the length beside it is 0. The memory of the text, that of the notes and
+ * `written` may not overlap each other or the input. */
+#ifndef EVC_H
+#define EVC_H
+
+#include <stddef.h>
+#include <stdint.h>
+
+#ifdef __cplusplus
+extern "C" {
+#endif
+
+/* How a call has ended. They are the exit statuses of the program `evc`. */
+enum evc_status {
+    /* The whole text was written. */
+    EVC_STATUS_DONE = 0,
+    /* The input is no trace or no script, or a group is not followed, or the schedule names a worker that has ended.
+     * The notes say what is wrong, and in which line; no text was written. */
+    EVC_STATUS_REFUSED = 1,
+    /* The text had too little room. What was written is a front of it. */
+    EVC_STATUS_NO_ROOM = 3,
+    /* malloc gave nothing. No text was written. */
+    EVC_STATUS_NO_MEMORY = 4
+};
+
+/* How many bytes a call wrote of the text and of the notes, from the front of each. */
+struct evc_written {
+    size_t text;
+    size_t notes;
+};
+
+/* Room enough for the text of evc_check, evc_audit and evc_upgrade, for a trace of so many bytes. */
+#define EVC_ROOM(trace_length) (2 * (trace_length) + 16384)
+
+/* Room enough for the text of evc_sim, for a script of so many bytes. */
+#define EVC_SIM_ROOM(script_length) (44 * (script_length) + 64)
+
+/* Room enough for the notes of any call. Where there is less, they are cut off. */
+#define EVC_NOTES_ROOM 1024
+
+/* Whether a trace is right, and the order of its finished calls and the totals. */
+uint8_t evc_check(const uint8_t *trace, size_t trace_length, uint8_t *text, size_t text_room, uint8_t *notes,
+                  size_t notes_room, struct evc_written *written);
+
+/* Whether the workers of a trace follow its buffers, databases and semaphores, and what came of it. */
+uint8_t evc_audit(const uint8_t *trace, size_t trace_length, uint8_t *text, size_t text_room, uint8_t *notes,
+                  size_t notes_room, struct evc_written *written);
+
+/* The same trace in version 2 of the format. Its text is exactly as long as the trace. */
+uint8_t evc_upgrade(const uint8_t *trace, size_t trace_length, uint8_t *text, size_t text_room, uint8_t *notes,
+                    size_t notes_room, struct evc_written *written);
+
+/* The trace of what the workers of a script do by its schedule. The notes then say how each worker has ended. */
+uint8_t evc_sim(const uint8_t *script, size_t script_length, uint8_t *text, size_t text_room, uint8_t *notes,
+                size_t notes_room, struct evc_written *written);
+
+/* The version: 1000 for each first number and 1 for each second, so 2 for version 0.2. */
+uint32_t evc_version(void);
+
+#ifdef __cplusplus
+}
+#endif
+
+#endif

@@ -1,0 +1,128 @@
+//! `evc check`, `audit`, `upgrade` and `sim` as calls, for bytes in memory: safe Rust over libevc.a.
+//!
+//!     rustc --edition 2021 --test my_test.rs -L FOLDER_OF_LIBEVC -l static=evc
+//!
+//! Plain Rust, this one module, no dependency. What the calls below it promise is proved (docs/PROMISES.md); this
+//! module is not. A call keeps nothing, so any threads may call at once.
+#![allow(dead_code)]
+
+use std::fmt;
+
+/// Why there is no text.
+#[derive(Clone, Debug, PartialEq, Eq)]
+pub enum Fault {
+    /// The input is no trace or no script, or a group is not followed, or the schedule names a worker that has ended.
+    /// The note says which, with a line feed at its end.
+    Refused(String),
+    NoMemory,
+}
+
+impl fmt::Display for Fault {
+    fn fmt(&self, f: &mut fmt::Formatter<'_>) -> fmt::Result {
+        match self {
+            Fault::Refused(note) => f.write_str(note.trim_end()),
+            Fault::NoMemory => f.write_str("no memory"),
+        }
+    }
+}
+
+impl std::error::Error for Fault {}
+
+/// What `sim` writes.
+#[derive(Clone, Debug, PartialEq, Eq)]
+pub struct Simulated {
+    pub trace: String,
+    /// A line for each worker, as `outcome a finished`.
+    pub outcomes: String,
+}
+
+/// Checks a trace: the order of its finished calls, and the totals.
+pub fn check(trace: &[u8]) -> Result<String, Fault> {
+    answer(evc_check, trace, trace_room(trace)).map(|(text, _)| text)
+}
+
+/// Audits the buffers, databases and semaphores of a trace: what came of them.
+pub fn audit(trace: &[u8]) -> Result<String, Fault> {
+    answer(evc_audit, trace, trace_room(trace)).map(|(text, _)| text)
+}
+
+/// The same trace in version 2 of the format.
+pub fn upgrade(trace: &[u8]) -> Result<String, Fault> {
+    answer(evc_upgrade, trace, trace.len()).map(|(text, _)| text)
+}
+
+/// Plays the schedule of a script.
+pub fn sim(script: &[u8]) -> Result<Simulated, Fault> {
+    let room = 44usize.saturating_mul(script.len()).saturating_add(64).min(8_000_000);
+    answer(evc_sim, script, room).map(|(trace, outcomes)| Simulated { trace, outcomes })
+}
+
+/// The version: 1000 for each first number and 1 for each second.
+pub fn version() -> u32 {
+    // SAFETY: it takes nothing and touches nothing.
+    unsafe { evc_version() }
+}
+
+const NOTES_ROOM: usize = 1024;
+
+#[repr(C)]
+struct Written {
+    text: usize,
+    notes: usize,
+}
+
+type Call = unsafe extern "C" fn(*const u8, usize, *mut u8, usize, *mut u8, usize, *mut Written) -> u8;
+
+extern "C" {
+    fn evc_check(trace: *const u8, length: usize, text: *mut u8, room: usize, notes: *mut u8, notes_room: usize, written: *mut Written) -> u8;
+    fn evc_audit(trace: *const u8, length: usize, text: *mut u8, room: usize, notes: *mut u8, notes_room: usize, written: *mut Written) -> u8;
+    fn evc_upgrade(trace: *const u8, length: usize, text: *mut u8, room: usize, notes: *mut u8, notes_room: usize, written: *mut Written) -> u8;
+    fn evc_sim(script: *const u8, length: usize, text: *mut u8, room: usize, notes: *mut u8, notes_room: usize, written: *mut Written) -> u8;
+    fn evc_version() -> u32;
+}
+
+/// Room enough for what is written of a trace.
+fn trace_room(trace: &[u8]) -> usize {
+    trace.len().saturating_mul(2).saturating_add(16384)
+}
+
+/// Makes a call with so much room, and with twice as much for as long as that was too little.
+fn answer(call: Call, input: &[u8], mut room: usize) -> Result<(String, String), Fault> {
+    loop {
+        let mut text = zeros(room)?;
+        let mut notes = zeros(NOTES_ROOM)?;
+        let mut written = Written { text: 0, notes: 0 };
+        // SAFETY: the pointers are those of slices, with their lengths, and no two of them overlap.
+        let status = unsafe {
+            call(
+                input.as_ptr(),
+                input.len(),
+                text.as_mut_ptr(),
+                text.len(),
+                notes.as_mut_ptr(),
+                notes.len(),
+                &mut written,
+            )
+        };
+        text.truncate(written.text);
+        notes.truncate(written.notes);
+        match status {
+            0 => return Ok((string(text), string(notes))),
+            1 => return Err(Fault::Refused(string(notes))),
+            3 => room = room.checked_mul(2).ok_or(Fault::NoMemory)?.max(1),
+            _ => return Err(Fault::NoMemory),
+        }
+    }
+}
+
+fn zeros(length: usize) -> Result<Vec<u8>, Fault> {
+    let mut bytes = Vec::new();
+    bytes.try_reserve_exact(length).map_err(|_| Fault::NoMemory)?;
+    bytes.resize(length, 0);
+    Ok(bytes)
+}
+
+// (texts and notes are ASCII)
+fn string(bytes: Vec<u8>) -> String {
+    String::from_utf8(bytes).unwrap_or_else(|it| String::from_utf8_lossy(it.as_bytes()).into_owned())
+}
