@@ -46,23 +46,48 @@ sources_of() {
     done | LC_ALL=C sort
 }
 
-# digest_of_sources: one sum over the kit's line and the names and contents of all that `evc` is made from.
-digest_of_sources() {
+# digest_of NAME: one sum over the kit's line and the names and contents of all that the crate NAME is made from.
+digest_of() {
     {
         echo "$kit"
-        sources_of evc | tr '\n' '\0' | xargs -0 sha256sum
+        sources_of "$1" | tr '\n' '\0' | xargs -0 sha256sum
     } | sha256sum | cut -d ' ' -f 1
 }
 
-# The release: the program for x86-64 Linux, its sum, and the digest of the sources that it was built from.
+# digest_of_sources: that of the program.
+digest_of_sources() {
+    digest_of evc
+}
+
+# The release: the program for x86-64 Linux, its sum, and the digest of the sources that it was built from. And the same
+# of the library for C.
 release=$top/release/evc-x86_64-linux
+library_release=$top/release/libevc-x86_64-linux
 
 # is_release_of_sources: whether there is a release, and it was built from the sources as they are here.
 is_release_of_sources() {
     [ -f "$release.gz" ] && [ "$(cd "$top" && digest_of_sources)" = "$(cat "$release.sources" 2>/dev/null)" ]
 }
 
-# unpack_release FILE: unpacks the released program into the file, and fails where it has not its sum.
+# unpack NAME FILE: unpacks what was released under a name into the file, and fails where it has not its sum.
+unpack() {
+    gzip -dc "$1.gz" >"$2" 2>/dev/null && [ "$(sha256sum <"$2" | cut -d ' ' -f 1)" = "$(cat "$1.sha256" 2>/dev/null)" ]
+}
+
+# unpack_release FILE: the same of the program.
 unpack_release() {
-    gzip -dc "$release.gz" >"$1" 2>/dev/null && [ "$(sha256sum <"$1" | cut -d ' ' -f 1)" = "$(cat "$release.sha256" 2>/dev/null)" ]
+    unpack "$release" "$1"
+}
+
+# is_library_release_of_sources: whether there is a released library, and it was built from the sources as they are here.
+is_library_release_of_sources() {
+    [ -f "$library_release.gz" ] && [ "$(cd "$top" && digest_of evc_c)" = "$(cat "$library_release.sources" 2>/dev/null)" ]
+}
+
+# whole_library FILE: puts the library that the gate has built, and the three functions of the toolchain by which it takes
+# memory, into one archive.
+whole_library() {
+    folder=$(dirname -- "$(rt doc)") || return 1
+    rm -f "$1"
+    "$folder/toolchain/bin/llvm-ar" qcLD "$1" "$top/crates/evc_c/out/libevc_c.a" "$folder/c/liblibc_c.a"
 }
