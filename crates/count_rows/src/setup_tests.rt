@@ -1,6 +1,6 @@
 //! Limits, declarations and their faults.
 use crate::ids::{cell, event, listed, room, sequencer, worker};
-use ec_count::{CellId, Count, EventId, Limit, SeqId, Setup, SetupFault, WorkerId};
+use ec_count::{CellId, Count, EventId, Limit, Members, SeqId, Setup, SetupFault, WorkerId};
 use std::test::Fail;
 
 /// The number that a limit of a number tells.
@@ -42,6 +42,17 @@ fn a_count_up_to_its_limit(rt: HostRuntime) {
     for right in &ADVANCES {
         assert!(rt; advanced(&mut count) == *right);
     }
+}
+
+#[test]
+fn another_worker_in_a_place(rt: HostRuntime) {
+    let first = WorkerId::new(0).unwrap();
+    let second = WorkerId::new(1).unwrap();
+    let third = WorkerId::new(2).unwrap();
+    let mut members = Members::new(&[first, second]);
+    members.replace(1, third);
+    assert!(rt; members.get(0) == Some(first) && members.get(1) == Some(third));
+    assert!(rt; members.len() == 2 && !members.contains(second));
 }
 
 fn worker_number(n: usize) -> Option<usize> {

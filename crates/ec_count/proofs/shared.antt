@@ -2,6 +2,7 @@
 pub mod Adding
 pub mod Declared
 pub mod Disjoint
+pub mod Distinct
 pub mod Keeping
 pub mod Named
 pub mod Quiet
