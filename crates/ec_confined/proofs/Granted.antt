@@ -1,7 +1,8 @@
 -- What a worker does in an accepted history it may do: it has the right to begin each of its calls.
-use Rattle.std.proofs.Common.{◌≡◌, ℕ, Bool, true, false, not, ◌&&◌, ◌==◌, List, [], ◌∷◌, Option, Some, None, is_some, refl, subst}
+use Rattle.std.proofs.Common.{◌≡◌, ℕ, Bool, true, false, not, ◌&&◌, ◌==◌, List, [], ◌∷◌, Option, Some, None, is_some, refl, ap, sym, ◌∙◌, subst}
 use Rattle.std.proofs.lemmas.Bool.{eqb-true}
 use Rattle.ec_count.specs.Tables.{Tables, component_of, may_observe, may_take, may_write, may_read}
+use Rattle.ec_count.specs.Members.{place_of}
 use Rattle.ec_core.specs.declared.act.Act.{Act}
 use Rattle.ec_core.specs.declared.act.Act.TheVariants.{Advance, Read, Await, Go, Ticket, Put, Get}
 use Rattle.ec_core.specs.declared.act.Entry.{Entry}
@@ -10,6 +11,7 @@ use Rattle.ec_core.specs.Calls.{CallSoFar, is_go, is_pending, gone_on, under_way
 use Rattle.ec_core.specs.Following.{opened}
 use Rattle.ec_core.specs.JoinedLists.{finished_by}
 use Rattle.ec_core.proofs.shared.Answering.{allowed}
+use Rattle.ec_core.proofs.shared.Signalling.{as_declared}
 use Rattle.ec_confined.proofs.Suiting.{AreAllowed, allowed_more}
 
 -- the tables give w the right that the act needs
@@ -34,7 +36,7 @@ granted_op : (t : Tables) (past : List Entry) (w : ℕ) (act : Act) (o : Option 
     → IsGranted t w (opened act o)
 granted_op t past w Go None right going call = cc
 granted_op t past w Go (Some k) right going call = call
-granted_op t past w (Advance e) o right going call = right
+granted_op t past w (Advance e) o right going call = ap (λ ws. is_some (place_of w ws)) (sym (as_declared t e past)) ∙ right
 granted_op t past w (Read e) o right going call = right
 granted_op t past w (Await e v) o right going call = right
 granted_op t past w (Ticket q) o right going call = right

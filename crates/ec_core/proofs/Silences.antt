@@ -1,40 +1,79 @@
 -- What silent workers did leaves no trace in what the others are told.
-use Rattle.std.proofs.Common.{◌≡◌, ℕ, zero, suc, ◌+◌, ◌%◌, Bool, true, false, not, ◌&&◌, ◌||◌, List, [], ◌∷◌, ◌++◌, length, reverse, take, subst, All, Option, Some, None, is_some, unwrap_or, nat_le, Ok, arith, refl, ap, sym, ◌∙◌, cond, ◌==◌, map}
+use Rattle.std.proofs.Common.{◌≡◌, ℕ, zero, suc, ◌+◌, ◌%◌, Bool, true, false, not, ◌&&◌, ◌||◌, List, [], ◌∷◌, ◌++◌, length, reverse, take, subst, All, ◌<◌, Option, Some, None, is_some, unwrap_or, nat_le, Ok, arith, refl, ap, sym, ◌∙◌, cond, ◌==◌, map}
 use Rattle.std.specs.Option.{option_map, option_map_or}
 use Rattle.std.proofs.lemmas.Bool.{eqb-true}
 use Rattle.std.proofs.Math.Bool.{and-false}
 use Rattle.std.proofs.Math.Nat.{zero-add}
-use Rattle.std.proofs.lemmas.List.{length-map, reverse-append, append-nil}
+use Rattle.std.proofs.lemmas.List.{length-map, length-reverse, reverse-append, reverse-reverse, append-nil, take-append-le, take_all}
 use Rattle.std.proofs.lemmas.List.Elements.{filter-append}
+use Rattle.std.specs.Prelude.{◌↔◌}
 use Rattle.ec_count.specs.Tables.{Tables, may_take, may_write, is_silent}
-use Rattle.ec_count.specs.Members.{is_member}
-use Rattle.ec_count.specs.Laws.{HasNoRight}
-use Rattle.ec_count.proofs.shared.Quiet.{silent_has_none}
+use Rattle.ec_count.specs.Members.{is_member, place_of}
+use Rattle.ec_count.proofs.shared.Quiet.{silent_has_none, silent_from_none}
 use Rattle.ec_core.specs.declared.act.Act.{Act}
 use Rattle.ec_core.specs.declared.act.Act.TheVariants.{Advance, Read, Await, Go, Ticket, Put, Get}
 use Rattle.ec_core.specs.declared.act.Reply.TheVariants.{Number, Pending}
 use Rattle.ec_core.specs.declared.act.Entry.{Entry}
-use Rattle.ec_core.specs.Counts.{component_total, issued, cell_value, is_advance, is_ticket, is_place, put_in, component_at}
+use Rattle.ec_core.specs.Counts.{past_at, component_total, issued, cell_value, is_advance, is_ticket, is_place, put_in, handed, signallers_at, component_at}
 use Rattle.ec_core.specs.Calls.{CallSoFar, under_way, gone_on, is_pending}
-use Rattle.ec_core.specs.Rounds.{event_or, width, sum_read, next_component, round_reply, read_reply, go_reply}
+use Rattle.ec_core.specs.Rounds.{event_or, width, sum_read, next_component, round_reply, read_reply, go_reply, IsPastOf, EachIsPastOf}
 use Rattle.ec_core.specs.Acceptance.{reply_of, answer_of, refusal_of, refusal_in, refused_or, has_right, is_at_limit, IsAccepted}
-use Rattle.ec_core.specs.Silence.{without}
+use Rattle.ec_core.specs.Silence.{IsSilent, without}
 use Rattle.ec_core.specs.Laws.{OthersStand}
 use Rattle.ec_core.proofs.shared.Answering.{allowed}
 use Rattle.ec_core.proofs.shared.Moments.{accepted_until, answered_after, split_at}
+use Rattle.ec_core.proofs.shared.Pasts.{past_itself, past_of_past, past_later, call_before, IsCallBefore}
+use Rattle.ec_core.proofs.shared.Signalling.{handed_by_none, as_declared}
 
-comp_without : (t : Tables) (s : ℕ → Bool) (e c : ℕ) (past : List Entry) → ((w : ℕ) → s w ≡ true → HasNoRight t w) → component_total t e c (without s past) ≡ component_total t e c past
+-- a worker that signals nothing at any moment of a past, takes from no sequencer and writes no cell
+pub record IsQuiet (t : Tables) (past : List Entry) (w : ℕ) : Type 0 where
+  pub signals : (early : List Entry) → IsPastOf early past → (e : ℕ) → component_at t e early w ≡ None
+  pub takes : (q : ℕ) → may_take t q w ≡ false
+  pub writes : (x : ℕ) → may_write t x w ≡ false
+
+abbrev pub AreQuiet : Tables → (ℕ → Bool) → List Entry → Type 0
+AreQuiet t s past = (w : ℕ) → s w ≡ true → IsQuiet t past w
+
+-- who is quiet in a past was so before
+quiet_earlier : (t : Tables) (s : ℕ → Bool) (early past : List Entry) → IsPastOf early past → AreQuiet t s past → AreQuiet t s early
+quiet_earlier t s early past is silent w h =
+    let q = silent w h in
+    record { signals = λ p at. q.signals p (past_of_past p early past at is); takes = q.takes; writes = q.writes }
+
+quiet_before : (t : Tables) (s : ℕ → Bool) (x : Entry) (past : List Entry) → AreQuiet t s (x ∷ past) → AreQuiet t s past
+quiet_before t s x past = quiet_earlier t s past (x ∷ past) (past_later past past x (past_itself past))
+
+none_now : (t : Tables) (s : ℕ → Bool) (x : Entry) (past : List Entry) (e : ℕ) → AreQuiet t s (x ∷ past) → s x.worker ≡ true → component_at t e past x.worker ≡ None
+none_now t s x past e silent h = (silent x.worker h).signals past (past_later past past x (past_itself past)) e
+
+-- the same workers signal
+signallers_without : (t : Tables) (s : ℕ → Bool) (e : ℕ) (past : List Entry) → AreQuiet t s past → signallers_at t e (without s past) ≡ signallers_at t e past
+unfolding signallers_at
+signallers_without t s e [] silent = refl
+signallers_without t s e (x ∷ past) silent =
+    elim (s x.worker) as (λ b. s x.worker ≡ b → signallers_at t e (cond (not b) (x ∷ without s past) (without s past)) ≡ handed e x.worker x.act (signallers_at t e past)) [
+      | true ↦ λ h. signallers_without t s e past (quiet_before t s x past silent) ∙ sym (handed_by_none e x.worker x.act (signallers_at t e past) (none_now t s x past e silent h))
+      | false ↦ λ h. ap (handed e x.worker x.act) (signallers_without t s e past (quiet_before t s x past silent))
+    ] refl
+
+component_without : (t : Tables) (s : ℕ → Bool) (e : ℕ) (past : List Entry) (w : ℕ) → AreQuiet t s past → component_at t e (without s past) w ≡ component_at t e past w
+component_without t s e past w silent = ap (place_of w) (signallers_without t s e past silent)
+
+comp_without : (t : Tables) (s : ℕ → Bool) (e c : ℕ) (past : List Entry) → AreQuiet t s past → component_total t e c (without s past) ≡ component_total t e c past
 unfolding component_total
 comp_without t s e c [] silent = refl
 comp_without t s e c (x ∷ past) silent =
+    let rest : component_total t e c (without s past) ≡ component_total t e c past = comp_without t s e c past (quiet_before t s x past silent) in
     elim (s x.worker) as (λ b. s x.worker ≡ b → component_total t e c (cond (not b) (x ∷ without s past) (without s past)) ≡ cond (is_advance e x.act && is_place c (component_at t e past x.worker)) 1 0 + component_total t e c past) [
       | true ↦ λ h.
-          (let off : (is_advance e x.act && is_place c (component_at t e past x.worker)) ≡ false = ap (λ o. is_advance e x.act && is_place c o) ((silent x.worker h).signals e) ∙ and-false (is_advance e x.act) in
-          comp_without t s e c past silent ∙ sym (zero-add (component_total t e c past)) ∙ ap (λ b. cond b 1 0 + component_total t e c past) (sym off))
-      | false ↦ λ h. ap (λ n. cond (is_advance e x.act && is_place c (component_at t e past x.worker)) 1 0 + n) (comp_without t s e c past silent)
+          (let off : (is_advance e x.act && is_place c (component_at t e past x.worker)) ≡ false = ap (λ o. is_advance e x.act && is_place c o) (none_now t s x past e silent h) ∙ and-false (is_advance e x.act) in
+          rest ∙ sym (zero-add (component_total t e c past)) ∙ ap (λ b. cond b 1 0 + component_total t e c past) (sym off))
+      | false ↦ λ h.
+          ap (λ o. cond (is_advance e x.act && is_place c o) 1 0 + component_total t e c (without s past)) (component_without t s e past x.worker (quiet_before t s x past silent))
+          ∙ ap (λ n. cond (is_advance e x.act && is_place c (component_at t e past x.worker)) 1 0 + n) rest
     ] refl
 
-no_ticket : (t : Tables) (past : List Entry) (w q : ℕ) (act : Act) → not (has_right t past w act) ≡ false → HasNoRight t w → is_ticket q act ≡ false
+no_ticket : (t : Tables) (past : List Entry) (w q : ℕ) (act : Act) → not (has_right t past w act) ≡ false → IsQuiet t past w → is_ticket q act ≡ false
 no_ticket t past w q (Ticket r) right silent = (let quiet : may_take t r w ≡ false = silent.takes r in cc)
 no_ticket t past w q (Advance f) right silent = refl
 no_ticket t past w q (Read f) right silent = refl
@@ -43,7 +82,7 @@ no_ticket t past w q Go right silent = refl
 no_ticket t past w q (Put x v) right silent = refl
 no_ticket t past w q (Get x) right silent = refl
 
-no_put : (t : Tables) (past : List Entry) (w x : ℕ) (act : Act) → not (has_right t past w act) ≡ false → HasNoRight t w → put_in x act ≡ None
+no_put : (t : Tables) (past : List Entry) (w x : ℕ) (act : Act) → not (has_right t past w act) ≡ false → IsQuiet t past w → put_in x act ≡ None
 no_put t past w x (Put y v) right silent = (let quiet : may_write t y w ≡ false = silent.writes y in cc)
 no_put t past w x (Advance f) right silent = refl
 no_put t past w x (Read f) right silent = refl
@@ -52,26 +91,26 @@ no_put t past w x Go right silent = refl
 no_put t past w x (Ticket q) right silent = refl
 no_put t past w x (Get y) right silent = refl
 
-issued_without : (t : Tables) (s : ℕ → Bool) (q : ℕ) (past : List Entry) → IsAccepted t past → ((w : ℕ) → s w ≡ true → HasNoRight t w) → issued q (without s past) ≡ issued q past
+issued_without : (t : Tables) (s : ℕ → Bool) (q : ℕ) (past : List Entry) → IsAccepted t past → AreQuiet t s past → issued q (without s past) ≡ issued q past
 unfolding issued
 issued_without t s q [] acc silent = refl
 issued_without t s q (x ∷ past) acc silent =
     elim (s x.worker) as (λ b. s x.worker ≡ b → issued q (cond (not b) (x ∷ without s past) (without s past)) ≡ cond (is_ticket q x.act) 1 0 + issued q past) [
       | true ↦ λ h.
-          (let off : is_ticket q x.act ≡ false = no_ticket t past x.worker q x.act (allowed t past x.worker x.act x.reply acc.0).0.right (silent x.worker h) in
-          issued_without t s q past acc.1 silent ∙ sym (zero-add (issued q past)) ∙ ap (λ b. cond b 1 0 + issued q past) (sym off))
-      | false ↦ λ h. ap (λ n. cond (is_ticket q x.act) 1 0 + n) (issued_without t s q past acc.1 silent)
+          (let off : is_ticket q x.act ≡ false = no_ticket t past x.worker q x.act (allowed t past x.worker x.act x.reply acc.0).0.right (quiet_before t s x past silent x.worker h) in
+          issued_without t s q past acc.1 (quiet_before t s x past silent) ∙ sym (zero-add (issued q past)) ∙ ap (λ b. cond b 1 0 + issued q past) (sym off))
+      | false ↦ λ h. ap (λ n. cond (is_ticket q x.act) 1 0 + n) (issued_without t s q past acc.1 (quiet_before t s x past silent))
     ] refl
 
-cell_without : (t : Tables) (s : ℕ → Bool) (y : ℕ) (past : List Entry) → IsAccepted t past → ((w : ℕ) → s w ≡ true → HasNoRight t w) → cell_value y (without s past) ≡ cell_value y past
+cell_without : (t : Tables) (s : ℕ → Bool) (y : ℕ) (past : List Entry) → IsAccepted t past → AreQuiet t s past → cell_value y (without s past) ≡ cell_value y past
 unfolding cell_value
 cell_without t s y [] acc silent = refl
 cell_without t s y (x ∷ past) acc silent =
     elim (s x.worker) as (λ b. s x.worker ≡ b → cell_value y (cond (not b) (x ∷ without s past) (without s past)) ≡ unwrap_or (put_in y x.act) (cell_value y past)) [
       | true ↦ λ h.
-          (let off : put_in y x.act ≡ None = no_put t past x.worker y x.act (allowed t past x.worker x.act x.reply acc.0).0.right (silent x.worker h) in
-          cell_without t s y past acc.1 silent ∙ ap (λ o. unwrap_or o (cell_value y past)) (sym off))
-      | false ↦ λ h. ap (unwrap_or (put_in y x.act)) (cell_without t s y past acc.1 silent)
+          (let off : put_in y x.act ≡ None = no_put t past x.worker y x.act (allowed t past x.worker x.act x.reply acc.0).0.right (quiet_before t s x past silent x.worker h) in
+          cell_without t s y past acc.1 (quiet_before t s x past silent) ∙ ap (λ o. unwrap_or o (cell_value y past)) (sym off))
+      | false ↦ λ h. ap (unwrap_or (put_in y x.act)) (cell_without t s y past acc.1 (quiet_before t s x past silent))
     ] refl
 
 abbrev call_without : (ℕ → Bool) → CallSoFar → CallSoFar
@@ -114,44 +153,49 @@ is_some_without : (s : ℕ → Bool) (o : Option CallSoFar) → is_some (option_
 is_some_without s None = refl
 is_some_without s (Some call) = refl
 
-sum_without : (t : Tables) (s : ℕ → Bool) (e i : ℕ) (moments : List (List Entry)) → ((w : ℕ) → s w ≡ true → HasNoRight t w) → sum_read t e i (map (without s) moments) ≡ sum_read t e i moments
+sum_without : (t : Tables) (s : ℕ → Bool) (e i : ℕ) (past : List Entry) (moments : List (List Entry)) → EachIsPastOf moments past → AreQuiet t s past → sum_read t e i (map (without s) moments) ≡ sum_read t e i moments
 unfolding sum_read
-sum_without t s e zero moments silent = refl
-sum_without t s e (suc i) [] silent = refl
-sum_without t s e (suc i) (p ∷ moments) silent = (let here = comp_without t s e i p silent in let rest = sum_without t s e i moments silent in cc)
+sum_without t s e zero past moments each silent = refl
+sum_without t s e (suc i) past [] each silent = refl
+sum_without t s e (suc i) past (p ∷ moments) each silent =
+    let here = comp_without t s e i p (quiet_earlier t s p past each.0 silent) in
+    let rest = sum_without t s e i past moments each.1 silent in
+    cc
 
-read_without : (t : Tables) (s : ℕ → Bool) (op : Act) (past : List Entry) (moments : List (List Entry)) → ((w : ℕ) → s w ≡ true → HasNoRight t w)
+read_without : (t : Tables) (s : ℕ → Bool) (op : Act) (past : List Entry) (moments : List (List Entry)) → EachIsPastOf moments past → AreQuiet t s past
     → read_reply t op (without s past) (map (without s) moments) ≡ read_reply t op past moments
 unfolding read_reply
-read_without t s op past moments silent =
+read_without t s op past moments each silent =
     let e = event_or op in
     let same : length (map (without s) moments) ≡ length moments = length-map moments (without s) in
     ap (λ n. cond (nat_le (width t e) (n % width t e + 1)) (round_reply op (sum_read t e (suc (n % width t e)) (without s past ∷ map (without s) moments))) Pending) same
-    ∙ ap (λ r. cond (nat_le (width t e) (next_component t e moments + 1)) (round_reply op r) Pending) (sum_without t s e (suc (next_component t e moments)) (past ∷ moments) silent)
+    ∙ ap (λ r. cond (nat_le (width t e) (next_component t e moments + 1)) (round_reply op r) Pending) (sum_without t s e (suc (next_component t e moments)) past (past ∷ moments) (past_itself past, each) silent)
 
-go_without : (t : Tables) (s : ℕ → Bool) (past : List Entry) (o : Option CallSoFar) → ((w : ℕ) → s w ≡ true → HasNoRight t w)
+go_without : (t : Tables) (s : ℕ → Bool) (past : List Entry) (o : Option CallSoFar) → IsCallBefore o past → AreQuiet t s past
     → go_reply t (without s past) (option_map (call_without s) o) ≡ go_reply t past o
-go_without t s past None silent = refl
-go_without t s past (Some call) silent = read_without t s call.op past call.moments silent
+go_without t s past None before silent = refl
+go_without t s past (Some call) before silent = read_without t s call.op past call.moments before silent
 
-reply_without : (t : Tables) (s : ℕ → Bool) (past : List Entry) (w : ℕ) (act : Act) → IsAccepted t past → ((v : ℕ) → s v ≡ true → HasNoRight t v) → s w ≡ false
+reply_without : (t : Tables) (s : ℕ → Bool) (past : List Entry) (w : ℕ) (act : Act) → IsAccepted t past → AreQuiet t s past → s w ≡ false
     → reply_of t (without s past) w act ≡ reply_of t past w act
 reply_without t s past w (Advance e) acc silent kept = refl
-reply_without t s past w (Read e) acc silent kept = read_without t s (Read e) past [] silent
-reply_without t s past w (Await e v) acc silent kept = read_without t s (Await e v) past [] silent
-reply_without t s past w Go acc silent kept = ap (go_reply t (without s past)) (under_way_without s w past kept) ∙ go_without t s past (under_way w past) silent
+reply_without t s past w (Read e) acc silent kept = read_without t s (Read e) past [] tt silent
+reply_without t s past w (Await e v) acc silent kept = read_without t s (Await e v) past [] tt silent
+reply_without t s past w Go acc silent kept = ap (go_reply t (without s past)) (under_way_without s w past kept) ∙ go_without t s past (under_way w past) (call_before w past) silent
 reply_without t s past w (Ticket q) acc silent kept = ap Number (issued_without t s q past acc silent)
 reply_without t s past w (Put x v) acc silent kept = refl
 reply_without t s past w (Get x) acc silent kept = ap Number (cell_without t s x past acc silent)
 
-full_in : (t : Tables) (s : ℕ → Bool) (e : ℕ) (past : List Entry) (o : Option ℕ) → ((v : ℕ) → s v ≡ true → HasNoRight t v)
+full_in : (t : Tables) (s : ℕ → Bool) (e : ℕ) (past : List Entry) (o : Option ℕ) → AreQuiet t s past
     → option_map_or (λ c. component_total t e c (without s past) == t.limit) o false ≡ option_map_or (λ c. component_total t e c past == t.limit) o false
 full_in t s e past None silent = refl
 full_in t s e past (Some c) silent = ap (λ n. n == t.limit) (comp_without t s e c past silent)
 
-full_without : (t : Tables) (s : ℕ → Bool) (past : List Entry) (w : ℕ) (act : Act) → IsAccepted t past → ((v : ℕ) → s v ≡ true → HasNoRight t v)
+full_without : (t : Tables) (s : ℕ → Bool) (past : List Entry) (w : ℕ) (act : Act) → IsAccepted t past → AreQuiet t s past
     → is_at_limit t (without s past) w act ≡ is_at_limit t past w act
-full_without t s past w (Advance e) acc silent = full_in t s e past (component_at t e past w) silent
+full_without t s past w (Advance e) acc silent =
+    ap (λ o. option_map_or (λ c. component_total t e c (without s past) == t.limit) o false) (component_without t s e past w silent)
+    ∙ full_in t s e past (component_at t e past w) silent
 full_without t s past w (Ticket q) acc silent = ap (λ n. n == t.limit) (issued_without t s q past acc silent)
 full_without t s past w (Read e) acc silent = refl
 full_without t s past w (Await e v) acc silent = refl
@@ -159,32 +203,32 @@ full_without t s past w Go acc silent = refl
 full_without t s past w (Put x v) acc silent = refl
 full_without t s past w (Get x) acc silent = refl
 
-right_without : (t : Tables) (s : ℕ → Bool) (past : List Entry) (w : ℕ) (act : Act) → has_right t (without s past) w act ≡ has_right t past w act
-right_without t s past w (Advance e) = refl
-right_without t s past w (Read e) = refl
-right_without t s past w (Await e v) = refl
-right_without t s past w Go = refl
-right_without t s past w (Ticket q) = refl
-right_without t s past w (Put x v) = refl
-right_without t s past w (Get x) = refl
+right_without : (t : Tables) (s : ℕ → Bool) (past : List Entry) (w : ℕ) (act : Act) → AreQuiet t s past → has_right t (without s past) w act ≡ has_right t past w act
+right_without t s past w (Advance e) silent = ap is_some (component_without t s e past w silent)
+right_without t s past w (Read e) silent = refl
+right_without t s past w (Await e v) silent = refl
+right_without t s past w Go silent = refl
+right_without t s past w (Ticket q) silent = refl
+right_without t s past w (Put x v) silent = refl
+right_without t s past w (Get x) silent = refl
 
 -- the others are answered alike
-pub answer_without : (t : Tables) (s : ℕ → Bool) (past : List Entry) (w : ℕ) (act : Act) → IsAccepted t past → ((v : ℕ) → s v ≡ true → HasNoRight t v) → s w ≡ false
+pub answer_without : (t : Tables) (s : ℕ → Bool) (past : List Entry) (w : ℕ) (act : Act) → IsAccepted t past → AreQuiet t s past → s w ≡ false
     → answer_of t (without s past) w act ≡ answer_of t past w act
 unfolding answer_of
 answer_without t s past w act acc silent kept =
     ap (λ b. refused_or (refusal_in t w act b (has_right t (without s past) w act) (is_at_limit t (without s past) w act)) (reply_of t (without s past) w act)) (ap is_some (under_way_without s w past kept) ∙ is_some_without s (under_way w past))
-    ∙ ap (λ b. refused_or (refusal_in t w act (is_some (under_way w past)) b (is_at_limit t (without s past) w act)) (reply_of t (without s past) w act)) (right_without t s past w act)
+    ∙ ap (λ b. refused_or (refusal_in t w act (is_some (under_way w past)) b (is_at_limit t (without s past) w act)) (reply_of t (without s past) w act)) (right_without t s past w act silent)
     ∙ ap (λ b. refused_or (refusal_in t w act (is_some (under_way w past)) (has_right t past w act) b) (reply_of t (without s past) w act)) (full_without t s past w act acc silent)
     ∙ ap (refused_or (refusal_of t past w act)) (reply_without t s past w act acc silent kept)
 
 -- what is left is accepted
-pub accepted_without : (t : Tables) (s : ℕ → Bool) (past : List Entry) → IsAccepted t past → ((v : ℕ) → s v ≡ true → HasNoRight t v) → IsAccepted t (without s past)
+pub accepted_without : (t : Tables) (s : ℕ → Bool) (past : List Entry) → IsAccepted t past → AreQuiet t s past → IsAccepted t (without s past)
 accepted_without t s [] acc silent = tt
 accepted_without t s (x ∷ past) acc silent =
     elim (s x.worker) as (λ b. s x.worker ≡ b → IsAccepted t (cond (not b) (x ∷ without s past) (without s past))) [
-      | true ↦ λ h. accepted_without t s past acc.1 silent
-      | false ↦ λ h. (answer_without t s past x.worker x.act acc.1 silent h ∙ acc.0, accepted_without t s past acc.1 silent)
+      | true ↦ λ h. accepted_without t s past acc.1 (quiet_before t s x past silent)
+      | false ↦ λ h. (answer_without t s past x.worker x.act acc.1 (quiet_before t s x past silent) h ∙ acc.0, accepted_without t s past acc.1 (quiet_before t s x past silent))
     ] refl
 
 or_member : (a b : Bool) (P : Type 0) → (a ≡ true → P) → (b ≡ true → P) → (a || b) ≡ true → P
@@ -192,12 +236,40 @@ or_member true b P f g h = f refl
 or_member false b P f g h = g h
 
 -- each of the listed workers is silent
-pub members_silent : (t : Tables) (ws : List ℕ) → All (λ w. is_silent t w ≡ true) ws → (w : ℕ) → is_member w ws ≡ true → is_silent t w ≡ true
-members_silent t [] all w h = cc
-members_silent t (v ∷ vs) all w h =
-    or_member (v == w) (is_member w vs) (is_silent t w ≡ true)
-    (λ e. ap (is_silent t) (sym (eqb-true v w e)) ∙ all 0 v (omega arith))
-    (λ e. members_silent t vs (λ k d lt. all (suc k) d (omega arith)) w e) h
+pub members_silent : (t : Tables) (h : List Entry) (ws : List ℕ) → All (λ w. IsSilent t h w) ws → (w : ℕ) → is_member w ws ≡ true → IsSilent t h w
+members_silent t h [] all w is = cc
+members_silent t h (v ∷ vs) all w is =
+    or_member (v == w) (is_member w vs) (IsSilent t h w)
+    (λ e. subst (IsSilent t h) (eqb-true v w e) (all 0 v (omega arith)))
+    (λ e. members_silent t h vs (λ k d lt. all (suc k) d (omega arith)) w e) is
+
+-- who is silent by the declarations is so at each moment, since no act hands a component over, and the other way round
+pub silent_by_declaration : (t : Tables) (h : List Entry) (w : ℕ) → (is_silent t w ≡ true) ↔ IsSilent t h w
+unfolding signallers_at
+silent_by_declaration t h w = (
+  λ is. (let r = silent_has_none t w is in
+      record { declared = r.0; signals = λ k e. ap (place_of w) (as_declared t e (past_at k h)) ∙ r.1.signals e; takes = r.1.takes; writes = r.1.writes }),
+  λ q. silent_from_none t w q.declared (record { signals = λ e. q.signals 0 e; takes = q.takes; writes = q.writes }),
+)
+
+-- what came first is the past at a moment
+past_is : (h since early : List Entry) → reverse h ≡ since ++ early → past_at (length early) h ≡ early
+past_is h since early is =
+    let whole : h ≡ reverse early ++ reverse since = sym (reverse-reverse h) ∙ ap reverse is ∙ reverse-append since early in
+    let within : length early ≡ length (reverse early) = sym (length-reverse early) in
+    ap (λ l. reverse (take (length early) l)) whole
+    ∙ ap reverse (take-append-le (length early) (reverse early) (reverse since) (omega arith) ∙ take_all (length early) (reverse early) (omega arith))
+    ∙ reverse-reverse early
+
+-- the silent workers of a history are quiet in its past
+quiet_all : (t : Tables) (s : ℕ → Bool) (h : List Entry) → ((w : ℕ) → s w ≡ true → IsSilent t h w) → AreQuiet t s (reverse h)
+quiet_all t s h silent w is =
+    let q = silent w is in
+    record {
+      signals = λ early at e. ap (λ p. component_at t e p w) (sym (past_is h at.since early at.is)) ∙ q.signals (length early) e;
+      takes = q.takes;
+      writes = q.writes;
+    }
 
 filter_end : (s : ℕ → Bool) (h : List Entry) (x : Entry) → without s (h ++ x ∷ []) ≡ without s h ++ cond (not (s x.worker)) (x ∷ []) []
 filter_end s h x = filter-append (λ y. not (s y.worker)) h (x ∷ [])
@@ -213,19 +285,17 @@ without_reverse s (x ∷ h) =
     ap (without s) (reverse-append (x ∷ []) h) ∙ filter_end s (reverse h) x
     ∙ ap (λ r. r ++ cond (not (s x.worker)) (x ∷ []) []) (without_reverse s h) ∙ turned_end s (not (s x.worker)) (without s h) x
 
-pub no_right : (t : Tables) (s : ℕ → Bool) → ((w : ℕ) → s w ≡ true → is_silent t w ≡ true) → (w : ℕ) → s w ≡ true → HasNoRight t w
-no_right t s silent w h = (silent_has_none t w (silent w h)).1
-
 -- a kept entry is answered as it was
-pub kept_answer : (t : Tables) (s : ℕ → Bool) (h done others : List Entry) (x : Entry) → IsAccepted t (reverse h) → ((w : ℕ) → s w ≡ true → is_silent t w ≡ true)
+pub kept_answer : (t : Tables) (s : ℕ → Bool) (h done others : List Entry) (x : Entry) → IsAccepted t (reverse h) → ((w : ℕ) → s w ≡ true → IsSilent t h w)
     → done ++ x ∷ others ≡ h → s x.worker ≡ false → answer_of t (reverse (without s done)) x.worker x.act ≡ Ok x.reply
 kept_answer t s h done others x acc silent is kept =
     ap (λ past. answer_of t past x.worker x.act) (sym (without_reverse s done))
-    ∙ answer_without t s (reverse done) x.worker x.act (accepted_until t h done (x ∷ others) acc is) (no_right t s silent) kept
+    ∙ answer_without t s (reverse done) x.worker x.act (accepted_until t h done (x ∷ others) acc is)
+    (quiet_earlier t s (reverse done) (reverse h) (record { since = reverse (x ∷ others); is = ap reverse (sym is) ∙ reverse-append done (x ∷ others) }) (quiet_all t s h silent)) kept
     ∙ answered_after t h done others x acc is
 
 pub others_stand : OthersStand
 others_stand t s h acc silent = (
-  subst (IsAccepted t) (without_reverse s h) (accepted_without t s (reverse h) acc (no_right t s silent)),
+  subst (IsAccepted t) (without_reverse s h) (accepted_without t s (reverse h) acc (quiet_all t s h silent)),
   λ k x at kept. (let r = split_at h k x at in kept_answer t s h (take k h) r.0 x acc silent (sym r.1) kept),
 )

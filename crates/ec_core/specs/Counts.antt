@@ -1,11 +1,11 @@
 -- The counts of a history. A past is the list of the entries before a moment, the newest first, so that each
 -- entry stands before its own past: the past at moment k is the first k entries, turned round. (Reed and
 -- Kanodia: the value of an eventcount is the number of its advances.)
-use Rattle.std.specs.Prelude.{ℕ, ◌+◌, Bool, false, ◌==◌, ◌&&◌, List, [], ◌∷◌, zero, suc, reverse, take, Option, Some, None, if◌then◌else◌, unwrap_or}
+use Rattle.std.specs.Prelude.{ℕ, ◌+◌, Bool, false, ◌==◌, ◌&&◌, List, [], ◌∷◌, zero, suc, reverse, take, Option, Some, None, if◌then◌else◌, unwrap_or, slice_get}
 use Rattle.ec_count.specs.Tables.{Tables, signallers}
 use Rattle.ec_count.specs.Members.{place_of}
 use Rattle.ec_core.specs.declared.act.Act.{Act}
-use Rattle.ec_core.specs.declared.act.Act.TheVariants.{Advance, Ticket, Put}
+use Rattle.ec_core.specs.declared.act.Act.TheVariants.{Advance, Read, Await, Go, Ticket, Put, Get}
 use Rattle.ec_core.specs.declared.act.Entry.{Entry}
 
 -- the past at moment k of a history, which is in natural order
@@ -25,9 +25,24 @@ unfoldable pub total : ℕ → List Entry → ℕ
 total e [] = 0
 total e (x ∷ past) = (if is_advance e x.act then 1 else 0) + total e past
 
--- the signallers of e at the end of a past, in order of component: those that were declared
-abbrev pub signallers_at : Tables → ℕ → List Entry → List ℕ
-signallers_at t e past = signallers t e
+-- the signallers of e after an act of w, where they were ws before it: no act hands a component over yet
+abbrev pub handed : ℕ → ℕ → Act → List ℕ → List ℕ
+handed e w (Advance f) ws = ws
+handed e w (Read f) ws = ws
+handed e w (Await f v) ws = ws
+handed e w Go ws = ws
+handed e w (Ticket q) ws = ws
+handed e w (Put x v) ws = ws
+handed e w (Get x) ws = ws
+
+-- the signallers of e at the end of a past, in order of component: the declared ones, as they were handed on
+unfoldable pub signallers_at : Tables → ℕ → List Entry → List ℕ
+signallers_at t e [] = signallers t e
+signallers_at t e (x ∷ past) = handed e x.worker x.act (signallers_at t e past)
+
+-- the worker that signals component c of e then
+abbrev pub signaller_at : Tables → ℕ → List Entry → ℕ → Option ℕ
+signaller_at t e past c = slice_get (signallers_at t e past) c
 
 -- the component of e that w signals then
 abbrev pub component_at : Tables → ℕ → List Entry → ℕ → Option ℕ

@@ -1,7 +1,7 @@
 -- What a step does to the fields of a world: plain functions of them, below the definitions over a history.
-use Rattle.std.specs.Prelude.{ℕ, ◌+◌, ◌<◌, Bool, false, ◌==◌, nat_le, List, Option, Some, None, is_some, if◌then◌else◌, slice_get, slice_set, slice_index, Result, unwrap_or}
+use Rattle.std.specs.Prelude.{ℕ, ◌+◌, ◌<◌, Bool, false, ◌==◌, nat_le, List, [], Option, Some, None, is_some, if◌then◌else◌, slice_get, slice_set, slice_index, Result, unwrap_or}
 use Rattle.std.specs.Option.{option_map_or}
-use Rattle.ec_count.specs.Tables.{component_of}
+use Rattle.ec_count.specs.Members.{place_of}
 use Rattle.ec_count.specs.Counted.{Counted, raised}
 use Rattle.ec_core.specs.declared.act.Act.{Act}
 use Rattle.ec_core.specs.declared.act.Act.TheVariants.{Advance, Read, Await, Go, Ticket, Put, Get}
@@ -18,11 +18,24 @@ abbrev pub is_full : Option Counted → Bool
 is_full None = false
 is_full (Some n) = n.value == n.limit
 
+-- the signallers of e now
+abbrev pub signallers_in : List (List ℕ) → ℕ → List ℕ
+signallers_in signal e = unwrap_or (slice_get signal e) []
+
+-- the component of e that w signals now
+abbrev pub component_in : State → ℕ → ℕ → Option ℕ
+component_in s e w = place_of w (signallers_in s.signal e)
+
+-- whether w has the right that the act needs: that to signal by the table of those who signal now
+abbrev pub right_in : State → List Entry → ℕ → Act → Bool
+right_in s past w (Advance e) = is_some (component_in s e w)
+right_in s past w act = has_right s.setup past w act
+
 abbrev pub kept_call : State → ℕ → Option Progress
 kept_call s w = unwrap_or (slice_get s.calls w) None
 
 abbrev pub is_full_for : State → ℕ → Act → Bool
-is_full_for s w (Advance e) = option_map_or (λ c. is_full (count_at s.counts e c)) (component_of s.setup e w) false
+is_full_for s w (Advance e) = option_map_or (λ c. is_full (count_at s.counts e c)) (component_in s e w) false
 is_full_for s w (Ticket q) = is_full (slice_get s.issued q)
 is_full_for s w _ = false
 
@@ -85,7 +98,7 @@ with_raised s e (Some c) = record s { counts = changed_at (λ row. changed_at ra
 
 -- the state after an accepted act of w
 abbrev pub state_after : State → ℕ → Act → State
-state_after s w (Advance e) = with_raised s e (component_of s.setup e w)
+state_after s w (Advance e) = with_raised s e (component_in s e w)
 state_after s w (Read e) = with_call s w (next_progress s (begun (Read e)))
 state_after s w (Await e v) = with_call s w (next_progress s (begun (Await e v)))
 state_after s w Go = with_call s w (go_after s (kept_call s w))
@@ -106,4 +119,4 @@ IsNamed (Get x) = x < 256
 -- the answer by what the fields say
 abbrev pub answer_in : State → List Entry → ℕ → Act → Result Reply Refusal
 answer_in s past w act =
-    refused_or (refusal_in s.setup w act (is_some (kept_call s w)) (has_right s.setup past w act) (is_full_for s w act)) (reply_in s w act)
+    refused_or (refusal_in s.setup w act (is_some (kept_call s w)) (right_in s past w act) (is_full_for s w act)) (reply_in s w act)

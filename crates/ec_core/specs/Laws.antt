@@ -1,15 +1,16 @@
 -- What the definitions mean, in order of time: moment k is that after the first k entries of a history h.
 use Rattle.std.specs.Prelude.{◌≡◌, ◌↔◌, ℕ, ◌+◌, ◌-◌, ◌%◌, ◌<◌, ◌≤◌, ◌⊎◌, Bool, true, false, List, [], length, reverse, take, Some, Ok, slice_get, slice_index_or, count_by}
-use Rattle.ec_count.specs.Tables.{Tables, IsDeclared, is_silent}
+use Rattle.ec_count.specs.Tables.{Tables, IsDeclared}
+use Rattle.ec_count.specs.Members.{has_repeat}
 use Rattle.ec_core.specs.declared.act.Entry.{Entry}
 use Rattle.ec_core.specs.declared.act.TheConstants.{VALUE_MAX}
-use Rattle.ec_core.specs.Counts.{past_at, total, component_total, issued, cell_value, is_advance, is_ticket, sum_to}
+use Rattle.ec_core.specs.Counts.{past_at, signallers_at, total, component_total, issued, cell_value, is_advance, is_ticket, sum_to}
 use Rattle.ec_core.specs.InOrder.{advances_at, IsLastPut, IsUntouched}
 use Rattle.ec_core.specs.Calls.{CallSoFar, call_with, under_way}
 use Rattle.ec_core.specs.CallsInOrder.{IsUnderWay}
 use Rattle.ec_core.specs.Rounds.{width, sum_read, round_sum, round_start, read_of, IsPastOfEach, EachIsPastOf}
 use Rattle.ec_core.specs.Acceptance.{answer_of, IsAccepted}
-use Rattle.ec_core.specs.Silence.{without}
+use Rattle.ec_core.specs.Silence.{IsSilent, without}
 use Rattle.ec_core.specs.Values.{TellsAtMost}
 use Rattle.ec_core.specs.Procedures.{IsReply}
 
@@ -90,9 +91,14 @@ abbrev pub RepliesFitTheirActs : Type 0
 RepliesFitTheirActs = (t : Tables) (h : List Entry) (k : ℕ) (x : Entry) → IsDeclared t → IsAccepted t (reverse h) → slice_get h k ≡ Some x
     → IsReply x.act x.reply
 
+-- in an accepted history the signallers of an eventcount at each moment are different workers, as many as it has components
+abbrev pub SignallersAreDifferent : Type 0
+SignallersAreDifferent = (t : Tables) (e k : ℕ) (h : List Entry) → IsDeclared t → IsAccepted t (reverse h)
+    → (has_repeat (signallers_at t e (past_at k h)) ≡ false) × (length (signallers_at t e (past_at k h)) ≡ width t e)
+
 -- an accepted history without some silent workers is accepted, and each entry that is kept is, at the moment that it
 -- then has, the answer to its act
 abbrev pub OthersStand : Type 0
-OthersStand = (t : Tables) (s : ℕ → Bool) (h : List Entry) → IsAccepted t (reverse h) → ((w : ℕ) → s w ≡ true → is_silent t w ≡ true)
+OthersStand = (t : Tables) (s : ℕ → Bool) (h : List Entry) → IsAccepted t (reverse h) → ((w : ℕ) → s w ≡ true → IsSilent t h w)
     → IsAccepted t (reverse (without s h))
     × ((k : ℕ) (x : Entry) → slice_get h k ≡ Some x → s x.worker ≡ false → answer_of t (reverse (without s (take k h))) x.worker x.act ≡ Ok x.reply)

@@ -1,13 +1,13 @@
 -- Rounds: a call on an eventcount of n components reads component 0, 1, .. n - 1 at its entries in turn, then
 -- component 0 again. A round's sum adds each component as it was at its own moment.
 use Rattle.std.specs.Prelude.{◌≡◌, ℕ, ◌+◌, ◌-◌, ◌%◌, nat_le, List, zero, suc, [], ◌∷◌, ◌++◌, length, Option, Some, None, if◌then◌else◌, unwrap_or, slice_index_or}
-use Rattle.ec_count.specs.Tables.{Tables}
+use Rattle.ec_count.specs.Tables.{Tables, signallers}
 use Rattle.ec_core.specs.declared.act.Act.{Act}
 use Rattle.ec_core.specs.declared.act.Act.TheVariants.{Advance, Read, Await}
 use Rattle.ec_core.specs.declared.act.Reply.{Reply}
 use Rattle.ec_core.specs.declared.act.Reply.TheVariants.{Number, Pending}
 use Rattle.ec_core.specs.declared.act.Entry.{Entry}
-use Rattle.ec_core.specs.Counts.{component_total, signallers_at}
+use Rattle.ec_core.specs.Counts.{component_total}
 use Rattle.ec_core.specs.Calls.{CallSoFar}
 
 -- the eventcount that an act names
@@ -26,9 +26,9 @@ read_of (Read e) = Some e
 read_of (Await e v) = Some e
 read_of _ = None
 
--- how many components e has
+-- how many components e has: one for each declared signaller
 abbrev pub width : Tables → ℕ → ℕ
-width t e = length (signallers_at t e [])
+width t e = length (signallers t e)
 
 -- the component that comes next after these entries of a call
 abbrev pub next_component : Tables → ℕ → List (List Entry) → ℕ

@@ -5,13 +5,14 @@ use Rattle.ec_count.specs.Tables.{Tables, IsDeclared}
 use Rattle.ec_count.specs.Counted.{Counted}
 use Rattle.ec_core.specs.declared.act.Entry.{Entry}
 use Rattle.ec_core.specs.Progress.{Progress}
-use Rattle.ec_core.specs.Counts.{component_total, issued, cell_value}
+use Rattle.ec_core.specs.Counts.{signallers_at, component_total, issued, cell_value}
 use Rattle.ec_core.specs.Calls.{CallSoFar, under_way}
 use Rattle.ec_core.specs.Rounds.{event_or, sum_read, next_component}
 use Rattle.ec_core.specs.Acceptance.{IsAccepted}
 
 pub record State : Type 0 where
   pub setup : Tables
+  pub signal : List (List ℕ)
   pub counts : List (List Counted)
   pub issued : List Counted
   pub cells : List ℕ
@@ -34,6 +35,7 @@ progress_of t w past = option_map (shown t) (under_way w past)
 pub record Stands (s : State) (past : List Entry) : Type 0 where
   pub declared : IsDeclared s.setup
   pub accepted : IsAccepted s.setup past
+  pub signal : (e : ℕ) → e < 32 → slice_get s.signal e ≡ Some (signallers_at s.setup e past)
   pub counts : (e c : ℕ) → e < 32 → c < 16 → count_at s.counts e c ≡ Some (record { value = component_total s.setup e c past; limit = s.setup.limit })
   pub issued : (q : ℕ) → q < 32 → slice_get s.issued q ≡ Some (record { value = issued q past; limit = s.setup.limit })
   pub cells : (x : ℕ) → x < 256 → slice_get s.cells x ≡ Some (cell_value x past)

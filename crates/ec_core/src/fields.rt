@@ -1,29 +1,60 @@
 //! What a step asks of a setup and of the arrays of a world, and what it does to them.
-ghost use Rattle.std.specs.Prelude.{◌≡◌, ℕ, ◌<◌, ◌≤◌, List, length, slice_get, Some};
+ghost use Rattle.std.specs.Prelude.{◌≡◌, ℕ, ◌<◌, ◌≤◌, length, slice_get, Some, IfSome};
 ghost use Rattle.ec_count.specs.Counted.{raised};
-ghost use Rattle.ec_core.specs.declared.act.Entry.{Entry};
-ghost use Rattle.ec_core.specs.Acceptance.{has_right, names_unknown_object, is_too_large};
+ghost use Rattle.ec_count.specs.Members.{place_of};
+ghost use Rattle.ec_count.specs.Tables.{signallers};
+ghost use Rattle.ec_core.specs.Acceptance.{names_unknown_object, is_too_large};
 ghost use Rattle.ec_core.specs.Rounds.{event_or};
 ghost use Rattle.ec_core.specs.Counts.{sum_to};
 ghost use Rattle.ec_core.specs.Standing.{count_at};
-ghost use Rattle.ec_core.specs.Fields.{IsNamed, value_of, changed_at};
+ghost use Rattle.ec_core.specs.Fields.{IsNamed, signallers_in, value_of, changed_at};
 
 use crate::{Act, VALUE_MAX};
-use ec_count::{Count, Setup, WorkerId};
+use ec_count::{Count, EventId, Members, Setup, WorkerId};
 
-/// Whether the worker has the right that the act needs.
-#[inline(always)]
-pub(crate) fn has_right(setup: &Setup, worker: WorkerId, act: &Act) -> bool
-    ensures { (past : List Entry) → result ≡ has_right setup.now past worker act.now }
+/// The declared signallers of an eventcount.
+fn declared_for(setup: &Setup, event: EventId) -> Members
+    ensures { result ≡ signallers setup.now event }
 {
-    match *act {
-        Act::Advance(event) => setup.component_of(event, worker).is_some(),
-        Act::Read(event) | Act::Await(event, _) => setup.may_observe(event, worker),
-        Act::Go => true,
-        Act::Ticket(sequencer) => setup.may_take(sequencer, worker),
-        Act::Put(cell, _) => setup.may_write(cell, worker),
-        Act::Get(cell) => setup.may_read(cell, worker),
+    setup.known();
+    Members::new(setup.signallers(event))
+}
+
+/// The declared signallers of each eventcount.
+pub(crate) fn declared(setup: &Setup) -> [Members; 32]
+    ensures { (e : ℕ) → e < 32 → slice_get result e ≡ Some (signallers setup.now e) }
+{
+    let mut signal: [Members; 32] = Default::default();
+    for e in 0..32 {
+        if let Some(event) = EventId::new(e) {
+            signal[e] = declared_for(setup, event);
+        }
     }
+    signal
+}
+
+/// The worker that signals component c of eventcount e.
+pub(crate) fn signaller_in(
+    signal: &[Members; 32],
+    event: usize,
+    component: usize,
+) -> Option<WorkerId>
+    requires { event < 32 }
+    ensures { result ≡ slice_get (signallers_in signal.now event) component }
+{
+    let members = &signal[event];
+    members.get(component)
+}
+
+/// The component of eventcount e that the worker signals.
+#[inline(always)]
+pub(crate) fn place_in(signal: &[Members; 32], event: usize, worker: WorkerId) -> Option<usize>
+    requires { event < 32 }
+    ensures value { result ≡ place_of worker (signallers_in signal.now event) }
+    ensures few { IfSome result (λ c. c < 16) }
+{
+    let members = &signal[event];
+    members.place(worker)
 }
 
 /// Whether the act names something that is not declared.

@@ -2,7 +2,7 @@
 ghost use Rattle.std.specs.Prelude.{◌≡◌};
 ghost use Rattle.ec_core.specs.declared.act.TheConstants.{VALUE_MAX};
 ghost use Rattle.ec_core.specs.FallenShort.{IndexZeroIsAnAwait, IndexZeroMeansFallenShort};
-ghost use Rattle.ec_core.specs.Laws.{TotalsCountAdvances, ComponentsCountAdvances, IssuedCountsTickets, CellsHoldTheLastPut, CallsUnderWayAreCutInOrder, CallsUnderWayRead, RoundsAddTheirComponents, ComponentsAddUp, TotalsRiseByOne, CountsKeepTheLimit, RoundsLieBetween, RoundsOfCallsLieBetween, BeginningsAreAccepted, AcceptedMeansAnswered, NumbersAreSmall, RepliesFitTheirActs, OthersStand};
+ghost use Rattle.ec_core.specs.Laws.{TotalsCountAdvances, ComponentsCountAdvances, IssuedCountsTickets, CellsHoldTheLastPut, CallsUnderWayAreCutInOrder, CallsUnderWayRead, RoundsAddTheirComponents, ComponentsAddUp, TotalsRiseByOne, CountsKeepTheLimit, RoundsLieBetween, RoundsOfCallsLieBetween, BeginningsAreAccepted, AcceptedMeansAnswered, NumbersAreSmall, RepliesFitTheirActs, SignallersAreDifferent, OthersStand};
 
 /// The total of an eventcount at a moment is the number of its advances before it (Reed and
 /// Kanodia's value).
@@ -99,6 +99,12 @@ pub fn numbers_are_small()
 /// greatest value.
 pub fn replies_fit_their_acts()
     ensures { RepliesFitTheirActs }
+{}
+
+/// In an accepted history each component of an eventcount has one signaller at each moment, another
+/// worker for each.
+pub fn signallers_are_different()
+    ensures { SignallersAreDifferent }
 {}
 
 /// An accepted history without some silent workers is accepted, and what the others were told

@@ -1,7 +1,8 @@
 //! Recorded runs.
-ghost use Rattle.std.specs.Prelude.{◌≡◌, ◌<◌, ◌^◌, List, [], ◌∷◌, ◌++◌, length, reverse, slice_get, Ok, IfOk, OnOk, OnErr, MatchResult};
+ghost use Rattle.std.specs.Prelude.{IsTrue, ◌↔◌, ◌≡◌, ◌<◌, ◌^◌, List, [], ◌∷◌, ◌++◌, length, reverse, slice_get, Ok, IfOk, OnOk, OnErr, MatchResult};
 ghost use Rattle.ec_count.specs.Tables.{IsDeclared};
 ghost use Rattle.ec_core.specs.Acceptance.{answer_of, IsAccepted};
+ghost use Rattle.ec_core.specs.Silence.{IsSilent};
 ghost use Rattle.ec_core.specs.Standing.{StandsFor};
 ghost use Rattle.ec_core.specs.Values.{TellsAtMost};
 ghost use Rattle.ec_core.specs.Procedures.{IsReply};
@@ -103,6 +104,14 @@ impl Run {
     {
         let _count = self.len();
         Entries::all(&self.entries)
+    }
+
+    /// Whether the worker is declared, signals no eventcount at any moment of the run, takes from no
+    /// sequencer and writes no cell.
+    pub fn is_silent(&self, worker: WorkerId) -> bool
+        ensures { IsTrue result ↔ IsSilent self.now.setup self.now.entries worker }
+    {
+        self.setup().is_silent(worker)
     }
 
     /// The same run again: the same entries on the same declarations.

@@ -1,27 +1,28 @@
 //! The state of a kernel.
-ghost use Rattle.std.specs.Prelude.{reverse, if◌then◌else◌, nat_lt, ◌≡◌, ◌+◌, ◌*◌, ◌^◌, ◌<◌, ◌≤◌, List, [], ◌∷◌, ◌++◌, length, Some, None, Ok, is_some, IfOk, OnErr};
+ghost use Rattle.std.specs.Prelude.{reverse, if◌then◌else◌, nat_lt, ◌≡◌, ◌+◌, ◌*◌, ◌^◌, ◌<◌, ◌≤◌, List, [], ◌∷◌, ◌++◌, length, Some, None, Ok, is_some, IfOk, IfSome, OnErr};
 ghost use Rattle.ec_core.specs.declared.act.Entry.{Entry};
-ghost use Rattle.ec_core.specs.Acceptance.{has_right, refusal_in, answer_of};
+ghost use Rattle.ec_core.specs.Acceptance.{refusal_in, answer_of};
 ghost use Rattle.ec_core.specs.Rounds.{width};
-ghost use Rattle.ec_core.specs.Counts.{total, component_total, issued, cell_value};
+ghost use Rattle.ec_core.specs.Counts.{total, signaller_at, component_at, component_total, issued, cell_value};
 ghost use Rattle.ec_core.specs.Standing.{StandsFor, progress_of};
 ghost use Rattle.ec_core.specs.Values.{TellsAtMost};
 ghost use Rattle.ec_core.specs.Procedures.{IsReply};
-ghost use Rattle.ec_core.specs.Fields.{kept_call, is_full_for, next_sum, next_reply, reply_in, next_progress, state_after};
+ghost use Rattle.ec_core.specs.Fields.{kept_call, component_in, right_in, is_full_for, next_sum, next_reply, reply_in, next_progress, state_after};
 
 use crate::fields::{
-    all_alike, count_in, count_of, event_or, has_right, is_too_large, named, names_unknown_object,
-    raise_at, raise_in, same_again, sum_of,
+    all_alike, count_in, count_of, declared, event_or, is_too_large, named, names_unknown_object,
+    place_in, raise_at, raise_in, same_again, signaller_in, sum_of,
 };
 use crate::under_way::{after_read, one_read};
 use crate::{Act, Entry, Refusal, Reply, UnderWay, VALUE_MAX};
-use ec_count::{CellId, Count, EventId, SeqId, Setup, WorkerId};
+use ec_count::{CellId, Count, EventId, Members, SeqId, Setup, WorkerId};
 use std::marker::Model;
 
-/// The state of a kernel: its counts, cells and calls under way.
+/// The state of a kernel: who signals now, its counts, cells and calls under way.
 #[derive(Drop)]
 pub struct World {
     setup: Setup,
+    signal: [Members; 32],
     counts: [[Count; 16]; 32],
     issued: [Count; 32],
     cells: [u64; 256],
@@ -33,7 +34,7 @@ impl Model for World {
 
     ghost Value = { State };
 
-    ghost view = { λ w. record { setup = w.setup; counts = w.counts; issued = w.issued; cells = w.cells; calls = w.calls } };
+    ghost view = { λ w. record { setup = w.setup; signal = w.signal; counts = w.counts; issued = w.issued; cells = w.cells; calls = w.calls } };
 }
 
 impl World {
@@ -44,9 +45,11 @@ impl World {
         ensures setup { result.setup ≡ setup }
     {
         setup.known();
+        let signal = declared(&setup);
         let zero = Count::zero(setup.limit());
         World {
             setup,
+            signal,
             counts: all_alike(all_alike(zero)),
             issued: all_alike(zero),
             cells: all_alike(0),
@@ -67,11 +70,36 @@ impl World {
     {
         World {
             setup: self.setup.copy(),
+            signal: self.signal.clone().unwrap(),
             counts: same_again(&self.counts),
             issued: same_again(&self.issued),
             cells: same_again(&self.cells),
             calls: same_again(&self.calls),
         }
+    }
+
+    /// The one worker that signals a component now; None where there is no such component, and so
+    /// where the eventcount is not declared.
+    pub fn signaller(&self, event: EventId, component: usize) -> Option<WorkerId>
+        ensures { (h : List Entry) → StandsFor self.now h → result ≡ signaller_at self.now.setup event (reverse h) component }
+    {
+        signaller_in(&self.signal, event.get(), component)
+    }
+
+    /// The component of an eventcount that the worker signals now. None where it signals none of it,
+    /// as where either is not declared.
+    pub fn component_of(&self, event: EventId, worker: WorkerId) -> Option<usize>
+        ensures { (h : List Entry) → StandsFor self.now h → result ≡ component_at self.now.setup event (reverse h) worker }
+    {
+        self.own_component(event, worker)
+    }
+
+    #[inline(always)]
+    fn own_component(&self, event: EventId, worker: WorkerId) -> Option<usize>
+        ensures value { result ≡ component_in self.now event worker }
+        ensures few { IfSome result (λ c. c < 16) }
+    {
+        place_in(&self.signal, event.get(), worker)
     }
 
     /// The total of an eventcount: how many advances of it there were. None where it is not
@@ -145,7 +173,7 @@ impl World {
         ensures { result ≡ is_full_for self.now worker act.now }
     {
         match *act {
-            Act::Advance(event) => match self.setup.component_of(event, worker) {
+            Act::Advance(event) => match self.own_component(event, worker) {
                 Some(component) => {
                     let count = count_in(&self.counts, event.get(), component);
                     count.is_full()
@@ -160,9 +188,24 @@ impl World {
         }
     }
 
+    /// Whether the worker has the right that the act needs.
+    #[inline(always)]
+    fn has_right(&self, worker: WorkerId, act: &Act) -> bool
+        ensures { (past : List Entry) → result ≡ right_in self.now past worker act.now }
+    {
+        match *act {
+            Act::Advance(event) => self.own_component(event, worker).is_some(),
+            Act::Read(event) | Act::Await(event, _) => self.setup.may_observe(event, worker),
+            Act::Go => true,
+            Act::Ticket(sequencer) => self.setup.may_take(sequencer, worker),
+            Act::Put(cell, _) => self.setup.may_write(cell, worker),
+            Act::Get(cell) => self.setup.may_read(cell, worker),
+        }
+    }
+
     #[inline(always)]
     fn refusal(&self, worker: WorkerId, act: &Act) -> Option<Refusal>
-        ensures { (past : List Entry) → result ≡ refusal_in self.now.setup worker act.now (is_some (kept_call self.now worker)) (has_right self.now.setup past worker act.now) (is_full_for self.now worker act.now) }
+        ensures { (past : List Entry) → result ≡ refusal_in self.now.setup worker act.now (is_some (kept_call self.now worker)) (right_in self.now past worker act.now) (is_full_for self.now worker act.now) }
     {
         if worker.get() >= self.setup.workers() {
             return Some(Refusal::UnknownWorker);
@@ -178,7 +221,7 @@ impl World {
         if names_unknown_object(&self.setup, act) {
             return Some(Refusal::UnknownObject);
         }
-        if !has_right(&self.setup, worker, act) {
+        if !self.has_right(worker, act) {
             return Some(Refusal::NoRight);
         }
         if is_too_large(act) {
@@ -255,7 +298,7 @@ impl World {
     {
         match *act {
             Act::Advance(event) => {
-                if let Some(component) = self.setup.component_of(event, worker) {
+                if let Some(component) = self.own_component(event, worker) {
                     raise_in(&mut self.counts, event.get(), component);
                 }
             }

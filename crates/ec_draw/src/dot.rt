@@ -23,7 +23,7 @@ fn component_in(world: &World, worker: WorkerId, act: Act) -> Option<usize>
         → result ≡ component_in world.now.setup worker (reverse h) act }
 {
     match act {
-        Act::Advance(event) => world.setup().component_of(event, worker),
+        Act::Advance(event) => world.component_of(event, worker),
         Act::Read(_) | Act::Await(_, _) => Some(0),
         Act::Go => match world.under_way(worker) {
             Some(call) => Some(call.index()),

@@ -227,6 +227,10 @@ pub(crate) enum Sight {
     Total(usize, Option<u64>),
     /// A component of an eventcount.
     Component(usize, usize, Option<u64>),
+    /// Who signals a component of an eventcount now.
+    Signaller(usize, usize, Option<usize>),
+    /// The component of an eventcount that a worker signals now.
+    ComponentOf(usize, usize, Option<usize>),
     Issued(usize, Option<u64>),
     Cell(usize, Option<u64>),
     /// The call of a worker that is under way: what was asked for, the next component, and the sum so far.
@@ -241,6 +245,15 @@ fn is_under_way(run: &Run, n: usize, right: Option<(Ask, usize, u64)>) -> bool {
         (Some(call), Some((ask, index, sum))) => {
             call.op() == act_of(ask) && call.index() == index && call.sum() == sum
         }
+        (None, None) => true,
+        _ => false,
+    }
+}
+
+/// Whether a component is signalled now by this worker, or by none.
+fn is_signalled_by(run: &Run, e: usize, component: usize, right: Option<usize>) -> bool {
+    match (run.world().signaller(event(e), component), right) {
+        (Some(found), Some(n)) => found == worker(n),
         (None, None) => true,
         _ => false,
     }
@@ -282,6 +295,8 @@ fn is_seen(run: &Run, sight: &Sight) -> bool {
         Sight::Copied(most) => is_copied(run, most),
         Sight::Total(e, total) => run.world().total(event(e)) == total,
         Sight::Component(e, c, value) => run.world().component(event(e), c) == value,
+        Sight::Signaller(e, c, n) => is_signalled_by(run, e, c, n),
+        Sight::ComponentOf(e, n, c) => run.world().component_of(event(e), worker(n)) == c,
         Sight::Issued(q, issued) => run.world().issued(sequencer(q)) == issued,
         Sight::Cell(x, value) => run.world().cell(cell(x)) == value,
         Sight::UnderWay(n, call) => is_under_way(run, n, call),

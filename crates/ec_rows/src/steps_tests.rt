@@ -109,6 +109,22 @@ fn the_other_component_still_goes_at_the_limit(rt: HostRuntime) -> Result<(), Fa
     shows(rt.alloc(), &UP_TO_THE_LIMIT, &AFTER_THE_LIMIT)
 }
 
+static SIGNALLERS: [Sight; 8] = [
+    Sight::Signaller(0, 0, Some(0)),
+    Sight::Signaller(0, 1, Some(1)),
+    Sight::Signaller(0, 2, None),
+    Sight::Signaller(1, 0, None),
+    Sight::ComponentOf(0, 0, Some(0)),
+    Sight::ComponentOf(0, 1, Some(1)),
+    Sight::ComponentOf(0, 2, None),
+    Sight::ComponentOf(1, 0, None),
+];
+
+#[test]
+fn those_who_signal_are_those_declared(rt: HostRuntime) -> Result<(), Fail> {
+    shows(rt.alloc(), &UP_TO_THE_LIMIT, &SIGNALLERS)
+}
+
 /// One worker takes tickets under limit 2.
 static TICKETS: History = History {
     world: World {
@@ -145,7 +161,7 @@ fn a_read_of_sixteen_components_overtaken_fifteen_times(rt: HostRuntime) -> Resu
 /// All of this is seen of a run without the third worker, which is silent, while the first is not.
 pub(crate) fn shows_without_the_third(run: &Run, sights: &[Sight]) -> Result<(), Fail> {
     let (loud, silent) = (worker(0), worker(2));
-    if run.setup().is_silent(loud) || !run.setup().is_silent(silent) {
+    if run.is_silent(loud) || !run.is_silent(silent) {
         return Err(Fail::new("another worker is silent"));
     }
     let rest = without(run, &[silent])?;

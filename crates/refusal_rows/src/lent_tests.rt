@@ -139,7 +139,7 @@ fn copy(run: &Run) -> Answer {
 
 fn strike_out(run: &Run, right: usize) -> Answer {
     let silent = worker(2);
-    if !run.setup().is_silent(silent) {
+    if !run.is_silent(silent) {
         return Answer::Wrong;
     }
     match without(run, &[silent]) {

@@ -5,7 +5,8 @@ use Rattle.std.specs.Option.{option_map, option_map_or}
 use Rattle.std.proofs.lemmas.Bool.{eqb-true, leb-false, leb-true}
 use Rattle.std.proofs.lemmas.Nat.{mod_below}
 use Rattle.std.proofs.Math.Nat.{suc-mod, mod_self, mod-eq_of_lt}
-use Rattle.ec_count.specs.Tables.{Tables, IsDeclared, signallers, component_of}
+use Rattle.ec_count.specs.Tables.{Tables, IsDeclared}
+use Rattle.ec_count.specs.Members.{place_of}
 use Rattle.ec_count.proofs.shared.Declared.{few_signallers, some_signaller}
 use Rattle.ec_core.specs.declared.act.Act.{Act}
 use Rattle.ec_core.specs.declared.act.Act.TheVariants.{Advance, Read, Await, Go, Ticket, Put, Get}
@@ -13,13 +14,14 @@ use Rattle.ec_core.specs.declared.act.Reply.{Reply}
 use Rattle.ec_core.specs.declared.act.Reply.TheVariants.{Done, Number, Pending}
 use Rattle.ec_core.specs.declared.act.Entry.{Entry}
 use Rattle.ec_core.specs.declared.act.Refusal.{Refusal}
-use Rattle.ec_core.specs.Counts.{component_total}
+use Rattle.ec_core.specs.Counts.{signallers_at, component_at, component_total}
 use Rattle.ec_core.specs.Calls.{CallSoFar, under_way, is_pending, gone_on}
 use Rattle.ec_core.specs.Rounds.{event_or, width, sum_read, next_component, round_reply, read_reply}
 use Rattle.ec_core.specs.Acceptance.{reply_of, answer_of, refusal_of, refused_or, has_right, is_at_limit, IsAccepted, names_unknown_object, is_too_large}
 use Rattle.ec_core.specs.Calls.{is_go}
 use Rattle.ec_core.specs.Standing.{State, Stands, count_at, shown, progress_of}
-use Rattle.ec_core.specs.Fields.{kept_call, is_full, is_full_for, value_of, one_read, after_round, next_reply, next_progress, IsNamed}
+use Rattle.ec_core.specs.Fields.{kept_call, component_in, right_in, is_full, is_full_for, value_of, one_read, after_round, next_reply, next_progress, IsNamed}
+use Rattle.ec_core.proofs.shared.Signalling.{signallers_length}
 
 -- a place is within the list
 pub place_within : (w : ℕ) (ws : List ℕ) (low c : ℕ) → position_from (λ v. v == w) low ws ≡ Some c → c < low + length ws
@@ -38,8 +40,12 @@ width_few t e d = few_signallers t e d
 pub width_some : (t : Tables) (e : ℕ) → IsDeclared t → e < length t.events → 0 < width t e
 width_some t e d lt = some_signaller t e d lt
 
-pub component_few : (t : Tables) (e w c : ℕ) → IsDeclared t → component_of t e w ≡ Some c → c < 16
-component_few t e w c d h = omega (arith, place_within w (signallers t e) 0 c h, width_few t e d)
+pub component_few : (t : Tables) (past : List Entry) (e w c : ℕ) → IsDeclared t → component_at t e past w ≡ Some c → c < 16
+component_few t past e w c d h = omega (arith, place_within w (signallers_at t e past) 0 c h, signallers_length t e past, width_few t e d)
+
+-- the component that a world finds is that of its history
+pub component_is : (s : State) (past : List Entry) (e w : ℕ) → Stands s past → e < 32 → component_in s e w ≡ component_at s.setup e past w
+component_is s past e w st lt = ap (λ o. place_of w (unwrap_or o [])) (st.signal e lt)
 
 -- a world keeps of the call under way what its history says
 pub kept_is : (s : State) (past : List Entry) (w : ℕ) → Stands s past → w < 16 → kept_call s w ≡ progress_of s.setup w past
@@ -49,21 +55,33 @@ pub is_some_map : (t : Tables) (o : Option CallSoFar) → is_some (option_map (s
 is_some_map t None = refl
 is_some_map t (Some call) = refl
 
-advance_full : (s : State) (past : List Entry) (w e : ℕ) → Stands s past → e < 32 → (o : Option ℕ) → component_of s.setup e w ≡ o
+advance_full : (s : State) (past : List Entry) (w e : ℕ) → Stands s past → e < 32 → (o : Option ℕ) → component_at s.setup e past w ≡ o
     → option_map_or (λ c. is_full (count_at s.counts e c)) o false ≡ option_map_or (λ c. component_total s.setup e c past == s.setup.limit) o false
 advance_full s past w e st lt None h = refl
-advance_full s past w e st lt (Some c) h = ap is_full (st.counts e c lt (component_few s.setup e w c st.declared h))
+advance_full s past w e st lt (Some c) h = ap is_full (st.counts e c lt (component_few s.setup past e w c st.declared h))
 
 -- the count that an act would raise is at its limit as the history says
 pub full_is : (s : State) (past : List Entry) (w : ℕ) (act : Act) → Stands s past → IsNamed act
     → is_full_for s w act ≡ is_at_limit s.setup past w act
-full_is s past w (Advance e) st named = advance_full s past w e st named (component_of s.setup e w) refl
+full_is s past w (Advance e) st named =
+    ap (λ o. option_map_or (λ c. is_full (count_at s.counts e c)) o false) (component_is s past e w st named)
+    ∙ advance_full s past w e st named (component_at s.setup e past w) refl
 full_is s past w (Read e) st named = refl
 full_is s past w (Await e v) st named = refl
 full_is s past w Go st named = refl
 full_is s past w (Ticket q) st named = ap is_full (st.issued q named)
 full_is s past w (Put x v) st named = refl
 full_is s past w (Get x) st named = refl
+
+-- the rights that a world finds are those of its history
+pub right_is : (s : State) (past : List Entry) (w : ℕ) (act : Act) → Stands s past → IsNamed act → right_in s past w act ≡ has_right s.setup past w act
+right_is s past w (Advance e) st named = ap is_some (component_is s past e w st named)
+right_is s past w (Read e) st named = refl
+right_is s past w (Await e v) st named = refl
+right_is s past w Go st named = refl
+right_is s past w (Ticket q) st named = refl
+right_is s past w (Put x v) st named = refl
+right_is s past w (Get x) st named = refl
 
 -- one more read tells what the history says
 pub read_is : (s : State) (past : List Entry) (op : Act) (moments : List (List Entry)) → Stands s past → event_or op < 32

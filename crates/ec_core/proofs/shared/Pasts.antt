@@ -20,7 +20,7 @@ pending_is Pending h = refl
 pending_is Done h = cc
 pending_is (Number n) h = cc
 
-past_later : (p past : List Entry) (x : Entry) → IsPastOf p past → IsPastOf p (x ∷ past)
+pub past_later : (p past : List Entry) (x : Entry) → IsPastOf p past → IsPastOf p (x ∷ past)
 past_later p past x h = record { since = x ∷ h.since; is = ap (λ q. x ∷ q) h.is }
 
 each_later : (ps : List (List Entry)) (past : List Entry) (x : Entry) → EachIsPastOf ps past → EachIsPastOf ps (x ∷ past)

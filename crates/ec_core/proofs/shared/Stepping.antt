@@ -7,7 +7,7 @@ use Rattle.std.proofs.lemmas.Bool.{and_parts, eqb-true, leb-false}
 use Rattle.std.proofs.lemmas.Nat.{mod_below}
 use Rattle.std.proofs.Math.Bool.{and-false}
 use Rattle.std.proofs.Math.Nat.{zero-mod, zero-add}
-use Rattle.ec_count.specs.Tables.{Tables, IsDeclared, component_of}
+use Rattle.ec_count.specs.Tables.{Tables, IsDeclared, signallers}
 use Rattle.ec_count.specs.Counted.{Counted, raised}
 use Rattle.ec_core.specs.declared.act.Act.{Act}
 use Rattle.ec_core.specs.declared.act.Act.TheVariants.{Advance, Read, Await, Go, Ticket, Put, Get}
@@ -15,13 +15,13 @@ use Rattle.ec_core.specs.declared.act.Reply.{Reply}
 use Rattle.ec_core.specs.declared.act.Reply.TheVariants.{Done, Number}
 use Rattle.ec_core.specs.declared.act.Entry.{Entry}
 use Rattle.ec_core.specs.Progress.{Progress}
-use Rattle.ec_core.specs.Counts.{component_total, issued, cell_value, is_advance, is_ticket, put_in, is_place}
+use Rattle.ec_core.specs.Counts.{signallers_at, handed, component_at, component_total, issued, cell_value, is_advance, is_ticket, put_in, is_place}
 use Rattle.ec_core.specs.Calls.{CallSoFar, under_way, is_pending, gone_on}
 use Rattle.ec_core.specs.Rounds.{event_or, width, sum_read, next_component, read_reply, go_reply}
 use Rattle.ec_core.specs.Acceptance.{reply_of, answer_of, refusal_in, refused_or, has_right, is_at_limit}
 use Rattle.ec_core.specs.Standing.{State, Stands, count_at, shown, progress_of, StandsFor}
-use Rattle.ec_core.specs.Fields.{kept_call, is_full_for, value_of, begun, next_reply, next_progress, go_on, go_after, reply_in, IsNamed, answer_in, state_after, with_raised, with_call}
-use Rattle.ec_core.proofs.shared.Answering.{width_few, width_some, kept_is, is_some_map, full_is, read_is, IsReadingCall, allowed, call_reads, reading_event, way_is}
+use Rattle.ec_core.specs.Fields.{kept_call, right_in, is_full_for, value_of, begun, next_reply, next_progress, go_on, go_after, reply_in, IsNamed, answer_in, state_after, with_raised, with_call}
+use Rattle.ec_core.proofs.shared.Answering.{width_few, width_some, kept_is, is_some_map, component_is, right_is, full_is, read_is, IsReadingCall, allowed, call_reads, reading_event, way_is}
 use Rattle.ec_core.proofs.shared.Places.{get_set, get_changed, count_changed}
 
 next_small : (t : Tables) (e : ℕ) (moments : List (List Entry)) → IsDeclared t → 0 < width t e → next_component t e moments < 16
@@ -57,7 +57,8 @@ reply_is s past w (Get x) st lt named = ap Number (get_or_from_slice_get s.cells
 pub answer_is : (s : State) (past : List Entry) (w : ℕ) (act : Act) → Stands s past → w < 16 → IsNamed act → answer_in s past w act ≡ answer_of s.setup past w act
 unfolding answer_of
 answer_is s past w act st lt named =
-    ap (λ b. refused_or (refusal_in s.setup w act b (has_right s.setup past w act) (is_full_for s w act)) (reply_in s w act)) (ap is_some (kept_is s past w st lt) ∙ is_some_map s.setup (under_way w past))
+    ap (λ b. refused_or (refusal_in s.setup w act b (right_in s past w act) (is_full_for s w act)) (reply_in s w act)) (ap is_some (kept_is s past w st lt) ∙ is_some_map s.setup (under_way w past))
+    ∙ ap (λ b. refused_or (refusal_in s.setup w act (is_some (under_way w past)) b (is_full_for s w act)) (reply_in s w act)) (right_is s past w act st named)
     ∙ ap (λ b. refused_or (refusal_in s.setup w act (is_some (under_way w past)) (has_right s.setup past w act) b) (reply_in s w act)) (full_is s past w act st named)
     ∙ ap (refused_or (refusal_in s.setup w act (is_some (under_way w past)) (has_right s.setup past w act) (is_at_limit s.setup past w act))) (reply_is s past w act st lt named)
 
@@ -138,10 +139,10 @@ none_of : (o : Option CallSoFar) → (is_some o && true) ≡ false → o ≡ Non
 none_of None h = refl
 none_of (Some call) h = cc
 
-same_place : (t : Tables) (e p q w : ℕ) (o : Option ℕ) → component_of t e w ≡ o → ((e == p) && is_place q (component_of t p w)) ≡ ((e == p) && is_place q o)
-same_place t e p q w o h =
-    elim (e == p) as (λ b. (e == p) ≡ b → (b && is_place q (component_of t p w)) ≡ (b && is_place q o)) [
-      | true ↦ λ k. (let same : e ≡ p = eqb-true e p k in ap (is_place q) (ap (λ v. component_of t v w) (sym same) ∙ h))
+same_place : (t : Tables) (past : List Entry) (e p q w : ℕ) (o : Option ℕ) → component_at t e past w ≡ o → ((e == p) && is_place q (component_at t p past w)) ≡ ((e == p) && is_place q o)
+same_place t past e p q w o h =
+    elim (e == p) as (λ b. (e == p) ≡ b → (b && is_place q (component_at t p past w)) ≡ (b && is_place q o)) [
+      | true ↦ λ k. (let same : e ≡ p = eqb-true e p k in ap (is_place q) (ap (λ v. component_at t v past w) (sym same) ∙ h))
       | false ↦ λ k. refl
     ] refl
 
@@ -149,14 +150,15 @@ abbrev entry : ℕ → Act → Reply → Entry
 entry w act reply = record { worker = w; act = act; reply = reply }
 
 advance_stands : (s : State) (past : List Entry) (w e : ℕ) → Stands s past → answer_of s.setup past w (Advance e) ≡ Ok Done
-    → under_way w past ≡ None → (o : Option ℕ) → component_of s.setup e w ≡ o → option_map_or (λ c. component_total s.setup e c past == s.setup.limit) o false ≡ false
+    → under_way w past ≡ None → (o : Option ℕ) → component_at s.setup e past w ≡ o → option_map_or (λ c. component_total s.setup e c past == s.setup.limit) o false ≡ false
     → Stands (with_raised s e o) (entry w (Advance e) Done ∷ past)
-unfolding component_total issued cell_value
+unfolding signallers_at component_total issued cell_value
 advance_stands s past w e st h free None is room = record {
   declared = st.declared;
   accepted = (h, st.accepted);
+  signal = st.signal;
   counts = λ p q lp lq.
-      (let off : ((e == p) && is_place q (component_of s.setup p w)) ≡ false = same_place s.setup e p q w None is ∙ and-false (e == p) in
+      (let off : ((e == p) && is_place q (component_at s.setup p past w)) ≡ false = same_place s.setup past e p q w None is ∙ and-false (e == p) in
       st.counts p q lp lq ∙ ap (λ v. (let x : Counted = record { value = v; limit = s.setup.limit } in Some x))
       (let zero_more : component_total s.setup p q past ≡ 0 + component_total s.setup p q past = omega arith in
       zero_more ∙ ap (λ b. cond b 1 0 + component_total s.setup p q past) (sym off)));
@@ -167,6 +169,7 @@ advance_stands s past w e st h free None is room = record {
 advance_stands s past w e st h free (Some c) is room = record {
   declared = st.declared;
   accepted = (h, st.accepted);
+  signal = st.signal;
   counts = λ p q lp lq.
       (count_changed raised s.counts e c p q
       ∙ ap (λ o. cond ((e == p) && (c == q)) (option_map raised o) o) (st.counts p q lp lq)
@@ -175,7 +178,7 @@ advance_stands s past w e st h free (Some c) is room = record {
       let se : e ≡ p = eqb-true e p two.0 in
       let sc : c ≡ q = eqb-true c q two.1 in
       ap (λ v. component_total s.setup v q past == s.setup.limit) (sym se) ∙ ap (λ v. component_total s.setup e v past == s.setup.limit) (sym sc) ∙ room))
-      ∙ ap (λ b. (let x : Counted = record { value = cond b 1 0 + component_total s.setup p q past; limit = s.setup.limit } in Some x)) (sym (same_place s.setup e p q w (Some c) is)));
+      ∙ ap (λ b. (let x : Counted = record { value = cond b 1 0 + component_total s.setup p q past; limit = s.setup.limit } in Some x)) (sym (same_place s.setup past e p q w (Some c) is)));
   issued = λ q lq. st.issued q lq ∙ ap (λ v. (let x : Counted = record { value = v; limit = s.setup.limit } in Some x)) (sym (issued_quiet q (entry w (Advance e) Done) past refl));
   cells = st.cells;
   calls = calls_kept s past (entry w (Advance e) Done) st refl free;
@@ -192,10 +195,11 @@ issued_kept s past x st none_such q lq = st.issued q lq ∙ ap (λ v. (let y : C
 
 ticket_stands : (s : State) (past : List Entry) (w q : ℕ) (reply : Reply) → Stands s past → answer_of s.setup past w (Ticket q) ≡ Ok reply → is_pending reply ≡ false
     → under_way w past ≡ None → (issued q past == s.setup.limit) ≡ false → Stands (state_after s w (Ticket q)) (entry w (Ticket q) reply ∷ past)
-unfolding issued cell_value
+unfolding signallers_at issued cell_value
 ticket_stands s past w q reply st h quiet free room = record {
   declared = st.declared;
   accepted = (h, st.accepted);
+  signal = st.signal;
   counts = counts_kept s past (entry w (Ticket q) reply) st (λ e. refl);
   issued = λ p lp.
       (get_changed raised s.issued q p
@@ -211,10 +215,11 @@ put_value false v d = refl
 
 put_stands : (s : State) (past : List Entry) (w x v : ℕ) → Stands s past → x < 256 → answer_of s.setup past w (Put x v) ≡ Ok Done
     → under_way w past ≡ None → Stands (state_after s w (Put x v)) (entry w (Put x v) Done ∷ past)
-unfolding issued cell_value
+unfolding signallers_at issued cell_value
 put_stands s past w x v st lx h free = record {
   declared = st.declared;
   accepted = (h, st.accepted);
+  signal = st.signal;
   counts = counts_kept s past (entry w (Put x v) Done) st (λ e. refl);
   issued = issued_kept s past (entry w (Put x v) Done) st (λ q. refl);
   cells = λ y ly.
@@ -225,10 +230,11 @@ put_stands s past w x v st lx h free = record {
 
 get_stands : (s : State) (past : List Entry) (w x : ℕ) (reply : Reply) → Stands s past → answer_of s.setup past w (Get x) ≡ Ok reply → is_pending reply ≡ false
     → under_way w past ≡ None → Stands s (entry w (Get x) reply ∷ past)
-unfolding issued cell_value
+unfolding signallers_at issued cell_value
 get_stands s past w x reply st h quiet free = record {
   declared = st.declared;
   accepted = (h, st.accepted);
+  signal = st.signal;
   counts = counts_kept s past (entry w (Get x) reply) st (λ e. refl);
   issued = issued_kept s past (entry w (Get x) reply) st (λ q. refl);
   cells = st.cells;
@@ -237,12 +243,14 @@ get_stands s past w x reply st h quiet free = record {
 
 read_stands : (s : State) (past : List Entry) (x : Entry) (way : Option Progress) → Stands s past → x.worker < 16 → answer_of s.setup past x.worker x.act ≡ Ok x.reply
     → ((e : ℕ) → is_advance e x.act ≡ false) → ((q : ℕ) → is_ticket q x.act ≡ false) → ((y : ℕ) → put_in y x.act ≡ None)
+    → ((e : ℕ) (ws : List ℕ) → handed e x.worker x.act ws ≡ ws)
     → way ≡ option_map (shown s.setup) (cond (is_pending x.reply) (gone_on x.act past (under_way x.worker past)) None)
     → Stands (with_call s x.worker way) (x ∷ past)
-unfolding issued cell_value
-read_stands s past x way st small h no_advance no_ticket no_put is = record {
+unfolding signallers_at issued cell_value
+read_stands s past x way st small h no_advance no_ticket no_put no_hand is = record {
   declared = st.declared;
   accepted = (h, st.accepted);
+  signal = λ e le. st.signal e le ∙ ap Some (sym (no_hand e (signallers_at s.setup e past)));
   counts = counts_kept s past x st no_advance;
   issued = issued_kept s past x st no_ticket;
   cells = λ y ly. st.cells y ly ∙ ap (λ o. Some (unwrap_or o (cell_value y past))) (sym (no_put y));
@@ -258,20 +266,21 @@ pub stands_after : (s : State) (past : List Entry) (w : ℕ) (act : Act) (reply 
 stands_after s past w (Advance e) reply st lt named h =
     let k = allowed s.setup past w (Advance e) reply h in
     let P : Reply → Type 0 = λ r. answer_of s.setup past w (Advance e) ≡ Ok r → Stands (state_after s w (Advance e)) (entry w (Advance e) r ∷ past) in
-    subst P k.1 (λ h'. advance_stands s past w e st h' (none_of (under_way w past) k.0.free) (component_of s.setup e w) refl k.0.room) h
+    let Q : Option ℕ → Type 0 = λ o. Stands (with_raised s e o) (entry w (Advance e) Done ∷ past) in
+    subst P k.1 (λ h'. subst Q (sym (component_is s past e w st named)) (advance_stands s past w e st h' (none_of (under_way w past) k.0.free) (component_at s.setup e past w) refl k.0.room)) h
 stands_after s past w (Read e) reply st lt named h =
     let k = allowed s.setup past w (Read e) reply h in
     let some : 0 < width s.setup e = width_some s.setup e st.declared (known_below (length s.setup.events) e k.0.known) in
-    read_stands s past (entry w (Read e) reply) (next_progress s (begun (Read e))) st lt h (λ e. refl) (λ q. refl) (λ y. refl)
+    read_stands s past (entry w (Read e) reply) (next_progress s (begun (Read e))) st lt h (λ e. refl) (λ q. refl) (λ y. refl) (λ e ws. refl)
     (begin_way s past (Read e) st named some ∙ ap (λ r. option_map (shown s.setup) (cond (is_pending r) (Some (record { op = Read e; moments = past ∷ [] })) None)) k.1)
 stands_after s past w (Await e v) reply st lt named h =
     let k = allowed s.setup past w (Await e v) reply h in
     let some : 0 < width s.setup e = width_some s.setup e st.declared (known_below (length s.setup.events) e k.0.known) in
-    read_stands s past (entry w (Await e v) reply) (next_progress s (begun (Await e v))) st lt h (λ e. refl) (λ q. refl) (λ y. refl)
+    read_stands s past (entry w (Await e v) reply) (next_progress s (begun (Await e v))) st lt h (λ e. refl) (λ q. refl) (λ y. refl) (λ e ws. refl)
     (begin_way s past (Await e v) st named some ∙ ap (λ r. option_map (shown s.setup) (cond (is_pending r) (Some (record { op = Await e v; moments = past ∷ [] })) None)) k.1)
 stands_after s past w Go reply st lt named h =
     let k = allowed s.setup past w Go reply h in
-    read_stands s past (entry w Go reply) (go_after s (kept_call s w)) st lt h (λ e. refl) (λ q. refl) (λ y. refl)
+    read_stands s past (entry w Go reply) (go_after s (kept_call s w)) st lt h (λ e. refl) (λ q. refl) (λ y. refl) (λ e ws. refl)
     (ap (go_after s) (kept_is s past w st lt) ∙ go_way s past st (under_way w past) (call_reads s.setup past w st.accepted)
     ∙ ap (λ r. option_map (shown s.setup) (cond (is_pending r) (gone_on Go past (under_way w past)) None)) k.1)
 stands_after s past w (Ticket q) reply st lt named h =
@@ -287,15 +296,16 @@ stands_after s past w (Get x) reply st lt named h =
 
 -- THE FIRST STATE
 
-pub open_stands : (t : Tables) (zeros : List (List Counted)) (row issued : List Counted) (cells : List ℕ) (calls : List (Option Progress)) (nought : Counted)
-    → IsDeclared t → nought ≡ record { value = 0; limit = t.limit }
+pub open_stands : (t : Tables) (signal : List (List ℕ)) (zeros : List (List Counted)) (row issued : List Counted) (cells : List ℕ) (calls : List (Option Progress)) (nought : Counted)
+    → ((e : ℕ) → e < 32 → slice_get signal e ≡ Some (signallers t e)) → IsDeclared t → nought ≡ record { value = 0; limit = t.limit }
     → ((i : ℕ) → i < 32 → slice_get zeros i ≡ Some row) → ((i : ℕ) → i < 16 → slice_get row i ≡ Some nought)
     → ((i : ℕ) → i < 32 → slice_get issued i ≡ Some nought) → ((i : ℕ) → i < 256 → slice_get cells i ≡ Some 0) → ((i : ℕ) → i < 16 → slice_get calls i ≡ Some None)
-    → (let s : State = record { setup = t; counts = zeros; issued = issued; cells = cells; calls = calls } in Stands s [])
-unfolding component_total issued cell_value under_way
-open_stands t zeros row tickets cells calls nought d is rows row_is issued_is cells_is calls_is = record {
+    → (let s : State = record { setup = t; signal = signal; counts = zeros; issued = issued; cells = cells; calls = calls } in Stands s [])
+unfolding signallers_at component_total issued cell_value under_way
+open_stands t signal zeros row tickets cells calls nought signal_is d is rows row_is issued_is cells_is calls_is = record {
   declared = d;
   accepted = tt;
+  signal = signal_is;
   counts = λ e c le lc. ap (option_and_then (λ (r : List Counted). slice_get r c)) (rows e le) ∙ row_is c lc ∙ ap Some is;
   issued = λ q lq. issued_is q lq ∙ ap Some is;
   cells = cells_is;

@@ -1,14 +1,15 @@
 -- The components of an eventcount add up to its total, and a round's sum lies between the totals at its ends.
 use Rattle.std.proofs.Common.{◌≡◌, ℕ, zero, suc, ◌+◌, ◌<◌, ◌≤◌, Bool, true, false, not, ◌&&◌, List, [], ◌∷◌, ◌++◌, length, Option, Some, None, is_some, refl, ap, sym, ◌∙◌, arith, add-one, cond, ◌==◌, ◌≢◌, reverse}
 use Rattle.std.proofs.lemmas.Bool.{eqb-true, eqb-false}
-use Rattle.ec_count.specs.Tables.{Tables, signallers}
+use Rattle.ec_count.specs.Tables.{Tables}
 use Rattle.ec_core.specs.declared.act.Act.{Act}
 use Rattle.ec_core.specs.declared.act.Act.TheVariants.{Advance, Read, Await, Go, Ticket, Put, Get}
 use Rattle.ec_core.specs.declared.act.Entry.{Entry}
-use Rattle.ec_core.specs.Counts.{total, component_total, sum_to, is_advance, is_place, component_at}
+use Rattle.ec_core.specs.Counts.{total, component_total, sum_to, is_advance, is_place, signallers_at, component_at}
 use Rattle.ec_core.specs.Rounds.{width, sum_read, IsPastOf, IsPastOfEach, EachIsPastOf}
 use Rattle.ec_core.specs.Acceptance.{IsAccepted, has_right}
 use Rattle.ec_core.proofs.shared.Answering.{place_within, allowed, width_few}
+use Rattle.ec_core.proofs.shared.Signalling.{signallers_length}
 use Rattle.ec_core.specs.Standing.{State, StandsFor, count_at}
 use Rattle.ec_core.specs.Fields.{value_of}
 
@@ -59,7 +60,8 @@ advance_place t past w e (Advance f) right is =
     let same : f ≡ e = eqb-true f e is in
     let k = some_of (component_at t f past w) right in
     let at : component_at t e past w ≡ Some k.0 = ap (λ v. component_at t v past w) (sym same) ∙ k.1 in
-    let within : k.0 < 0 + length (signallers t e) = place_within w (signallers t e) 0 k.0 at in
+    let within : k.0 < 0 + length (signallers_at t e past) = place_within w (signallers_at t e past) 0 k.0 at in
+    let wide : length (signallers_at t e past) ≡ width t e = signallers_length t e past in
     (k.0, at, (let below : k.0 < width t e = omega arith in below))
 advance_place t past w e (Read f) right is = cc
 advance_place t past w e (Await f v) right is = cc

@@ -14,4 +14,4 @@ take_in-requires c =
     let order : c.loop-entry.yielded ++ x ∷ c.next.new.self ≡ run.entries = ap (λ (r : List Entry). c.loop-entry.yielded ++ r) (sym c.in-Some.ensures.steps) ∙ c.loop-entry.invariant.order in
     let kept : is_member x.worker ws ≡ false = sym c.contains.ensures.value ∙ c.if-not-contains.true in
     ap (λ (r : Recorded). answer_of r.setup (reverse r.entries) x.worker x.act) c.loop-entry.invariant.kept
-    ∙ kept_answer run.setup (λ w. is_member w ws) run.entries c.loop-entry.yielded c.next.new.self x c.known.ensures.accepted (members_silent run.setup ws c.requires) order kept
+    ∙ kept_answer run.setup (λ w. is_member w ws) run.entries c.loop-entry.yielded c.next.new.self x c.known.ensures.accepted (members_silent run.setup run.entries ws c.requires) order kept

@@ -1,0 +1,6 @@
+use Rattle.std.proofs.Common.{◌≡◌, ℕ, ◌<◌, Some, slice_get}
+use Rattle.ec_count.specs.Tables.{signallers}
+use Rattle.ec_core.proofs.fields.declared.Given as goal
+
+abbrev pub invariant-loop-e : goal.invariant-loop-e
+invariant-loop-e l = (i : ℕ) → i < l.e → slice_get l.signal i ≡ Some (signallers l.setup i)
