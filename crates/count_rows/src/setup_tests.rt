@@ -100,6 +100,8 @@ enum Line {
     Worker,
     /// Who signals, and who observes.
     Event(&'static [usize], &'static [usize]),
+    /// The same of a fixed eventcount.
+    FixedEvent(&'static [usize], &'static [usize]),
     /// Who takes.
     Sequencer(&'static [usize]),
     /// How many, who writes, and who reads.
@@ -116,6 +118,9 @@ fn answer(setup: &mut Setup, line: &Line) -> Result<usize, SetupFault> {
         Line::Worker => setup.add_worker().map(|id| id.get()),
         Line::Event(signal, observe) => setup
             .add_event(listed(&mut one, signal), listed(&mut other, observe))
+            .map(|id| id.get()),
+        Line::FixedEvent(signal, observe) => setup
+            .add_fixed_event(listed(&mut one, signal), listed(&mut other, observe))
             .map(|id| id.get()),
         Line::Sequencer(take) => setup
             .add_sequencer(listed(&mut one, take))
@@ -159,6 +164,8 @@ enum Right {
     /// Who signals a component of an eventcount.
     Signaller(usize, usize, Option<usize>),
     Observes(usize, usize, bool),
+    /// Whether an eventcount is declared and not fixed.
+    MayHand(usize, bool),
     Takes(usize, usize, bool),
     Writes(usize, usize, bool),
     Reads(usize, usize, bool),
@@ -186,6 +193,7 @@ fn is_so(setup: &Setup, right: &Right) -> bool {
         Right::ComponentOf(e, w, n) => setup.component_of(event(e), worker(w)) == n,
         Right::Signaller(e, component, w) => is_signaller(setup, e, component, w),
         Right::Observes(e, w, yes) => setup.may_observe(event(e), worker(w)) == yes,
+        Right::MayHand(e, yes) => setup.may_hand(event(e)) == yes,
         Right::Takes(q, w, yes) => setup.may_take(sequencer(q), worker(w)) == yes,
         Right::Writes(x, w, yes) => setup.may_write(cell(x), worker(w)) == yes,
         Right::Reads(x, w, yes) => setup.may_read(cell(x), worker(w)) == yes,
@@ -241,6 +249,63 @@ fn each_fault_of_an_eventcount() -> Result<(), Fail> {
     shows(1, &EVENT_FAULTS, &NO_OBJECTS)
 }
 
+static FIXED_EVENT_FAULTS: [Row; 7] = [
+    (Line::FixedEvent(&[], &[]), Err(SetupFault::Empty)),
+    (Line::FixedEvent(&[0, 0], &[]), Err(SetupFault::Repeated)),
+    (Line::FixedEvent(&[], &[0, 0]), Err(SetupFault::Repeated)),
+    (Line::FixedEvent(&[0], &[1]), Err(SetupFault::UnknownWorker)),
+    (
+        Line::FixedEvent(&[1, 1], &[]),
+        Err(SetupFault::UnknownWorker),
+    ),
+    (Line::FixedEvent(&[1; 17], &[]), Err(SetupFault::TooMany)),
+    (Line::FixedEvent(&[], &[1; 17]), Err(SetupFault::TooMany)),
+];
+
+#[test]
+fn each_fault_of_a_fixed_eventcount() -> Result<(), Fail> {
+    shows(1, &FIXED_EVENT_FAULTS, &NO_OBJECTS)
+}
+
+static FIXED_AND_NOT: [Row; 3] = [
+    (Line::FixedEvent(&[1, 0], &[1]), Ok(0)),
+    (Line::Event(&[1, 0], &[1]), Ok(1)),
+    (Line::FixedEvent(&[0], &[]), Ok(2)),
+];
+
+static WHICH_ARE_FIXED: [Right; 8] = [
+    Right::MayHand(0, false),
+    Right::MayHand(1, true),
+    Right::MayHand(2, false),
+    Right::MayHand(3, false),
+    Right::MayHand(31, false),
+    Right::ComponentOf(0, 0, Some(1)),
+    Right::Signaller(0, 0, Some(1)),
+    Right::Observes(0, 1, true),
+];
+
+#[test]
+fn what_is_fixed_may_not_be_handed() -> Result<(), Fail> {
+    shows(2, &FIXED_AND_NOT, &WHICH_ARE_FIXED)
+}
+
+static ONE_FIXED: [Row; 1] = [(Line::FixedEvent(&[0], &[1]), Ok(0))];
+
+/// Whether the first eventcount is a fixed one that worker 0 signals and worker 1 observes.
+fn has_fixed_event(setup: &Setup) -> bool {
+    setup.declares_fixed_event(event(0), &[worker(0)], &[worker(1)])
+}
+
+#[test]
+fn a_fixed_eventcount_is_another_declaration(rt: HostRuntime) -> Result<(), Fail> {
+    let (mut fixed, mut other) = (no_declarations(), no_declarations());
+    made_after(&mut fixed, 2, &ONE_FIXED)?;
+    made_after(&mut other, 2, &ONE_EVENT)?;
+    assert!(rt; fixed != other && fixed == fixed.copy());
+    assert!(rt; has_fixed_event(&fixed) && !has_fixed_event(&other));
+    Ok(())
+}
+
 static SEQUENCER_FAULTS: [Row; 4] = [
     (Line::Sequencer(&[]), Err(SetupFault::Empty)),
     (Line::Sequencer(&[0, 0]), Err(SetupFault::Repeated)),
@@ -268,8 +333,9 @@ fn each_fault_of_cells() -> Result<(), Fail> {
     shows(1, &CELL_FAULTS, &NO_OBJECTS)
 }
 
-static FULL: [Row; 5] = [
+static FULL: [Row; 6] = [
     (Line::Event(&[0], &[]), Err(SetupFault::TooMany)),
+    (Line::FixedEvent(&[0], &[]), Err(SetupFault::TooMany)),
     (Line::Sequencer(&[0]), Err(SetupFault::TooMany)),
     (Line::Cells(255, &[0], &[]), Ok(0)),
     (Line::Cells(2, &[0], &[]), Err(SetupFault::TooMany)),

@@ -1,5 +1,5 @@
 -- What is declared at an id, and what stays declared where more is added.
-use Rattle.std.specs.Prelude.{◌≡◌, ℕ, ◌+◌, ◌<◌, List, [], ◌∷◌, ◌++◌, Some, slice_get}
+use Rattle.std.specs.Prelude.{◌≡◌, ℕ, ◌+◌, ◌<◌, true, List, [], ◌∷◌, ◌++◌, Some, slice_get}
 use Rattle.ec_count.specs.declared.setup.Rights.{Rights}
 use Rattle.ec_count.specs.declared.setup.Access.{Access}
 use Rattle.ec_count.specs.Tables.{Tables}
@@ -8,9 +8,9 @@ use Rattle.ec_count.specs.Tables.{Tables}
 abbrev pub with_sequencer : Tables → List ℕ → Tables
 with_sequencer t take = record t { takers = t.takers ++ take ∷ [] }
 
--- e is an eventcount with just these signallers and observers
-abbrev pub DeclaresEvent : Tables → ℕ → List ℕ → List ℕ → Type 0
-DeclaresEvent t e signal observe = slice_get t.events e ≡ Some (record { signal = signal; observe = observe })
+-- e is a fixed eventcount with just these signallers and observers
+abbrev pub DeclaresFixedEvent : Tables → ℕ → List ℕ → List ℕ → Type 0
+DeclaresFixedEvent t e signal observe = slice_get t.events e ≡ Some (record { signal = signal; observe = observe; fixed = true })
 
 -- q is a sequencer with just these takers
 abbrev pub DeclaresSequencer : Tables → ℕ → List ℕ → Type 0

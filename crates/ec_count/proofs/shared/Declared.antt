@@ -137,7 +137,7 @@ few_signallers t e d =
 pub some_signaller : (t : Tables) (e : ℕ) → IsDeclared t → e < length t.events → 0 < length (signallers t e)
 some_signaller t e d lt =
     elim (slice_get t.events e) as (λ o. slice_get t.events e ≡ o → 0 < length (option_map_or (λ (r : Rights). r.signal) o [])) [
-      | None ↦ λ at. (let none : Rights = record { signal = []; observe = [] } in let there = slice_get-get_or t.events e none lt in cc)
+      | None ↦ λ at. (let none : Rights = record { signal = []; observe = []; fixed = false } in let there = slice_get-get_or t.events e none lt in cc)
       | Some r ↦ λ at. (rights_at t e r d at).1
     ] refl
 

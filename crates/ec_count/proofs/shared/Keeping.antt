@@ -1,6 +1,6 @@
 -- Whatever is added, what was declared stays declared.
 use Rattle.std.proofs.Common.{◌≡◌, ℕ, zero, suc, List, [], ◌∷◌, ◌++◌, Some, slice_get}
-use Rattle.ec_count.specs.Tables.{Tables, with_event, with_cells}
+use Rattle.ec_count.specs.Tables.{Tables, with_event, with_fixed_event, with_cells}
 use Rattle.ec_count.specs.Declares.{KeepsObjects, with_sequencer}
 
 -- an element stays at its place where more follow
@@ -27,6 +27,10 @@ keeps_worker t n = record { events = λ e r h. h; takers = λ q take h. h; cells
 -- what is declared stays so where an eventcount is added
 pub keeps_event : (t : Tables) (signal observe : List ℕ) → KeepsObjects t (with_event t signal observe)
 keeps_event t signal observe = record { events = λ e r h. still_there t.events _ e r h; takers = λ q take h. h; cells = λ x a h. h }
+
+-- what is declared stays so where a fixed eventcount is added
+pub keeps_fixed_event : (t : Tables) (signal observe : List ℕ) → KeepsObjects t (with_fixed_event t signal observe)
+keeps_fixed_event t signal observe = record { events = λ e r h. still_there t.events _ e r h; takers = λ q take h. h; cells = λ x a h. h }
 
 -- what is declared stays so where a sequencer is added
 pub keeps_sequencer : (t : Tables) (take : List ℕ) → KeepsObjects t (with_sequencer t take)

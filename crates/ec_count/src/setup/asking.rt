@@ -1,7 +1,7 @@
 //! What is declared: how many of each thing, who has which right, and who is silent.
 ghost use Rattle.std.specs.Prelude.{◌≡◌, ◌≤◌, ◌<◌, length, IfSome};
 ghost use Rattle.ec_count.specs.Lists.{observers, takers, writers, readers};
-ghost use Rattle.ec_count.specs.Tables.{component_of, components, signaller, signallers, is_silent, signals_any, takes_any, writes_any, may_observe, may_take, may_write, may_read};
+ghost use Rattle.ec_count.specs.Tables.{component_of, components, signaller, signallers, is_silent, signals_any, takes_any, writes_any, may_observe, may_hand, may_take, may_write, may_read};
 
 use super::Setup;
 use crate::{CellId, EventId, Limit, SeqId, WorkerId};
@@ -76,6 +76,17 @@ impl Setup {
     {
         match self.events.as_slice().get(event.get()) {
             Some(row) => row.observe.contains(worker),
+            None => false,
+        }
+    }
+
+    /// Whether the eventcount is declared and not fixed, as `add_event` adds it. No act hands a
+    /// component over yet.
+    pub fn may_hand(&self, event: EventId) -> bool
+        ensures { result ≡ may_hand self.now event }
+    {
+        match self.events.as_slice().get(event.get()) {
+            Some(row) => !row.fixed,
             None => false,
         }
     }

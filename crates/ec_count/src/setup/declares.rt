@@ -1,18 +1,23 @@
 //! What is declared at an id.
 ghost use Rattle.std.specs.Prelude.{IsTrue, ◌↔◌, ◌≡◌};
-ghost use Rattle.ec_count.specs.Declares.{DeclaresEvent, DeclaresSequencer, DeclaresCells};
-ghost use Rattle.ec_count.specs.Rows.{has_event_row, has_sequencer_row, has_cell_row};
+ghost use Rattle.ec_count.specs.Declares.{DeclaresFixedEvent, DeclaresSequencer, DeclaresCells};
+ghost use Rattle.ec_count.specs.Rows.{has_fixed_event_row, has_sequencer_row, has_cell_row};
 
 use super::Setup;
 use crate::{CellId, EventId, SeqId, WorkerId};
 
 impl Setup {
-    /// Whether this is an eventcount with just these signallers, in order of component, and these
-    /// observers, in the order in which they were declared.
-    pub fn declares_event(&self, event: EventId, signal: &[WorkerId], observe: &[WorkerId]) -> bool
-        ensures { IsTrue result ↔ DeclaresEvent self.now event signal.now observe.now }
+    /// Whether this is a fixed eventcount with just these signallers, in order of component, and
+    /// these observers, in the order in which they were declared.
+    pub fn declares_fixed_event(
+        &self,
+        event: EventId,
+        signal: &[WorkerId],
+        observe: &[WorkerId],
+    ) -> bool
+        ensures { IsTrue result ↔ DeclaresFixedEvent self.now event signal.now observe.now }
     {
-        self.has_event_row(event.get(), signal, observe)
+        self.has_fixed_event_row(event.get(), signal, observe)
     }
 
     /// Whether this is a sequencer with just these takers, in the order in which they were
@@ -46,11 +51,13 @@ impl Setup {
         true
     }
 
-    fn has_event_row(&self, event: usize, signal: &[WorkerId], observe: &[WorkerId]) -> bool
-        ensures { result ≡ has_event_row self.now event signal.now observe.now }
+    fn has_fixed_event_row(&self, event: usize, signal: &[WorkerId], observe: &[WorkerId]) -> bool
+        ensures { result ≡ has_fixed_event_row self.now event signal.now observe.now }
     {
         match self.events.as_slice().get(event) {
-            Some(row) => row.signal.as_slice() == signal && row.observe.as_slice() == observe,
+            Some(row) => {
+                row.signal.as_slice() == signal && row.observe.as_slice() == observe && row.fixed
+            }
             None => false,
         }
     }

@@ -2,7 +2,7 @@
 ghost use Rattle.std.specs.Prelude.{None, nat_lt, replicate, if◌then◌else◌, ◌≡◌, ◌≤◌, ◌+◌, false, List, [], ◌∷◌, ◌++◌, length, OnOk, OnErr, IfOk, nat_le, Some, ◌==◌};
 ghost use Rattle.std.specs.Result.{result_err};
 ghost use Rattle.ec_count.specs.Members.{has_repeat};
-ghost use Rattle.ec_count.specs.Tables.{event_fault, list_fault, cells_fault, with_event, with_cells};
+ghost use Rattle.ec_count.specs.Tables.{event_fault, list_fault, cells_fault, with_rights, with_event, with_fixed_event, with_cells};
 
 use super::{Access, Rights, Setup, SetupFault, names_unknown};
 use crate::members::has_repeat;
@@ -22,7 +22,8 @@ impl Setup {
         Ok(id)
     }
 
-    /// Adds an eventcount with these signallers, one for each component, and these observers.
+    /// Adds an eventcount with these signallers, one for each component, and these observers. It is
+    /// not fixed.
     pub fn add_event(
         &mut self,
         signal: &[WorkerId],
@@ -31,6 +32,35 @@ impl Setup {
         ensures fault { result_err result ≡ event_fault self.old signal.now observe.now }
         ensures id { IfOk result (λ e. e ≡ length self.old.events) }
         ensures ok { OnOk result (self.new ≡ with_event self.old signal.now observe.now) }
+        ensures err { OnErr result (self.new ≡ self.old) }
+    {
+        self.add_rights(signal, observe, false)
+    }
+
+    /// Adds a fixed eventcount: as `add_event`, but no worker may ever hand over a component of it.
+    /// The eventcounts of a group are fixed.
+    pub fn add_fixed_event(
+        &mut self,
+        signal: &[WorkerId],
+        observe: &[WorkerId],
+    ) -> Result<EventId, SetupFault>
+        ensures fault { result_err result ≡ event_fault self.old signal.now observe.now }
+        ensures id { IfOk result (λ e. e ≡ length self.old.events) }
+        ensures ok { OnOk result (self.new ≡ with_fixed_event self.old signal.now observe.now) }
+        ensures err { OnErr result (self.new ≡ self.old) }
+    {
+        self.add_rights(signal, observe, true)
+    }
+
+    fn add_rights(
+        &mut self,
+        signal: &[WorkerId],
+        observe: &[WorkerId],
+        fixed: bool,
+    ) -> Result<EventId, SetupFault>
+        ensures fault { result_err result ≡ event_fault self.old signal.now observe.now }
+        ensures id { IfOk result (λ e. e ≡ length self.old.events) }
+        ensures ok { OnOk result (self.new ≡ with_rights self.old (record { signal = signal.now; observe = observe.now; fixed = fixed })) }
         ensures err { OnErr result (self.new ≡ self.old) }
     {
         if let Some(fault) = self.event_fault(signal, observe) {
@@ -42,6 +72,7 @@ impl Setup {
         self.events.push(Rights {
             signal: Members::new(signal),
             observe: Members::new(observe),
+            fixed,
         });
         Ok(id)
     }
