@@ -1,9 +1,9 @@
 -- Where nothing speaks against a buffer, each of its objects is added.
-use Rattle.std.proofs.Common.{◌≡◌, ℕ, ◌+◌, ◌≤◌, ◌==◌, nat_lt, false, ◌||◌, List, [], ◌∷◌, ◌++◌, length, None, sym, subst, arith, length-append}
+use Rattle.std.proofs.Common.{◌≡◌, ℕ, ◌+◌, ◌≤◌, ◌==◌, nat_lt, true, false, ◌||◌, List, [], ◌∷◌, ◌++◌, length, None, sym, subst, arith, length-append}
 use Rattle.std.specs.Prelude.{Result, Ok, OnOk}
 use Rattle.std.proofs.lemmas.Bool.{or_parts, ltb-false}
 use Rattle.ec_count.specs.Members.{is_faulty}
-use Rattle.ec_count.specs.Tables.{Tables, IsDeclared, event_fault, cells_fault, with_event}
+use Rattle.ec_count.specs.Tables.{Tables, IsDeclared, event_fault, cells_fault, with_fixed_event}
 use Rattle.ec_count.proofs.shared.Adding.{event_free, cells_free}
 use Rattle.ec_count.proofs.shared.Disjoint.{roles_of, joined_sound}
 use Rattle.ec_buffer.specs.Shapes.{lacks_room, buffer_fault}
@@ -11,7 +11,7 @@ use Rattle.ec_buffer.specs.Shapes.{lacks_room, buffer_fault}
 -- nothing speaks against any object of the buffer, once those before it are added
 pub record IsFree (t : Tables) (n : ℕ) (produce consume : List ℕ) : Type 0 where
   pub in_count : event_fault t produce (produce ++ consume) ≡ None
-  pub out_count : event_fault (with_event t produce (produce ++ consume)) consume (produce ++ consume) ≡ None
+  pub out_count : event_fault (with_fixed_event t produce (produce ++ consume)) consume (produce ++ consume) ≡ None
   pub cells : (u : Tables) → u.workers ≡ t.workers → u.cells ≡ t.cells → cells_fault u n produce consume ≡ None
 
 pub free_of : (t : Tables) (n : ℕ) (produce consume : List ℕ) → IsDeclared t → buffer_fault t n produce consume ≡ None → IsFree t n produce consume
@@ -25,7 +25,7 @@ free_of t n produce consume d h =
     let both = joined_sound t.workers produce consume d.few_workers r.first_sound r.second_sound r.apart in
     record {
       in_count = event_free t produce (produce ++ consume) (omega arith) r.first_sound both r.first_some;
-      out_count = event_free (with_event t produce (produce ++ consume)) consume (produce ++ consume) (omega (arith, length-append t.events (record { signal = produce; observe = produce ++ consume } ∷ []))) r.second_sound both r.second_some;
+      out_count = event_free (with_fixed_event t produce (produce ++ consume)) consume (produce ++ consume) (omega (arith, length-append t.events (record { signal = produce; observe = produce ++ consume; fixed = true } ∷ []))) r.second_sound both r.second_some;
       cells = λ u e c. cells_free u n produce consume (subst (λ xs. length xs + n ≤ 256) (sym c) few_cells) (subst (λ k. is_faulty k produce ≡ false) (sym e) r.first_sound) (subst (λ k. is_faulty k consume ≡ false) (sym e) r.second_sound) r.first_some p.1;
     }
 

@@ -1,9 +1,9 @@
 -- The objects of a buffer, and how they are declared.
 use Rattle.std.specs.Prelude.{◌≡◌, ℕ, ◌+◌, ◌<◌, ◌≤◌, Bool, false, ◌==◌, ◌||◌, nat_lt, List, ◌++◌, length, Option}
 use Rattle.ec_count.specs.declared.setup.SetupFault.{SetupFault}
-use Rattle.ec_count.specs.Declares.{DeclaresEvent, DeclaresSequencer, DeclaresCells, with_sequencer}
+use Rattle.ec_count.specs.Declares.{DeclaresFixedEvent, DeclaresSequencer, DeclaresCells, with_sequencer}
 use Rattle.ec_count.specs.Roles.{roles_fault, shares_worker}
-use Rattle.ec_count.specs.Tables.{Tables, with_event, with_cells}
+use Rattle.ec_count.specs.Tables.{Tables, with_fixed_event, with_cells}
 
 -- the eventcounts of the puts and of the gets, the sequencers of the producers and of the consumers, and the cells from the first on
 pub record Buffer : Type 0 where
@@ -33,7 +33,7 @@ buffer_fault t n produce consume = roles_fault t (lacks_room t n) produce consum
 abbrev pub with_buffer : Tables → ℕ → List ℕ → List ℕ → Tables
 with_buffer t n produce consume =
     let both = produce ++ consume in
-    let counted = with_event (with_event t produce both) consume both in
+    let counted = with_fixed_event (with_fixed_event t produce both) consume both in
     let drawn = with_sequencer (with_sequencer counted produce) consume in
     with_cells drawn n produce consume
 
@@ -48,10 +48,10 @@ next_buffer t n = record {
   cells = n;
 }
 
--- the objects of the buffer are declared for these producers and consumers, who share no worker
+-- the objects of the buffer are declared for these producers and consumers, who share no worker; its eventcounts are fixed
 pub record DeclaresBuffer (b : Buffer) (t : Tables) (produce consume : List ℕ) : Type 0 where
-  pub in_count : DeclaresEvent t b.in_count produce (produce ++ consume)
-  pub out_count : DeclaresEvent t b.out_count consume (produce ++ consume)
+  pub in_count : DeclaresFixedEvent t b.in_count produce (produce ++ consume)
+  pub out_count : DeclaresFixedEvent t b.out_count consume (produce ++ consume)
   pub put_seq : DeclaresSequencer t b.put_seq produce
   pub take_seq : DeclaresSequencer t b.take_seq consume
   pub cells : DeclaresCells t b.first_cell b.cells produce consume

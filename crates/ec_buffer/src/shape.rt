@@ -107,16 +107,16 @@ impl BufferShape {
     {
         let both = joined(produce, consume);
         let observe = both.as_slice();
-        setup.declares_event(self.in_count, produce, observe)
-            && setup.declares_event(self.out_count, consume, observe)
+        setup.declares_fixed_event(self.in_count, produce, observe)
+            && setup.declares_fixed_event(self.out_count, consume, observe)
             && setup.declares_sequencer(self.put_seq, produce)
             && setup.declares_sequencer(self.take_seq, consume)
             && setup.declares_cells(self.first_cell, self.cells(), produce, consume)
             && !shares_worker(produce, consume)
     }
 
-    /// Whether the objects are declared there, with the rights of a buffer, for producers and
-    /// consumers that share no worker.
+    /// Whether the objects are declared there, with the rights of a buffer and fixed eventcounts,
+    /// for producers and consumers that share no worker.
     pub fn fits(&self, setup: &Setup) -> bool
         ensures { IsTrue result ↔ Fits self.now setup.now }
     {
@@ -170,8 +170,8 @@ fn add_buffer(
     ensures after { setup.new ≡ with_buffer setup.old n produce.now consume.now }
 {
     let both = joined(produce, consume);
-    let in_count = setup.add_event(produce, both.as_slice()).unwrap();
-    let out_count = setup.add_event(consume, both.as_slice()).unwrap();
+    let in_count = setup.add_fixed_event(produce, both.as_slice()).unwrap();
+    let out_count = setup.add_fixed_event(consume, both.as_slice()).unwrap();
     let put_seq = setup.add_sequencer(produce).unwrap();
     let take_seq = setup.add_sequencer(consume).unwrap();
     let first_cell = setup.add_cells(n, produce, consume).unwrap();

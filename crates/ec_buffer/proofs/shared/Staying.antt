@@ -1,8 +1,8 @@
 -- A declared buffer stays declared where more is declared.
 use Rattle.std.proofs.Common.{ℕ, List, ◌++◌}
 use Rattle.ec_count.specs.Declares.{KeepsObjects, with_sequencer}
-use Rattle.ec_count.specs.Tables.{Tables, with_event}
-use Rattle.ec_count.proofs.shared.Keeping.{keeps_then, keeps_event, keeps_sequencer, keeps_cells}
+use Rattle.ec_count.specs.Tables.{Tables, with_fixed_event}
+use Rattle.ec_count.proofs.shared.Keeping.{keeps_then, keeps_fixed_event, keeps_sequencer, keeps_cells}
 use Rattle.ec_buffer.specs.Shapes.{Buffer, DeclaresBuffer, with_buffer}
 use Rattle.ec_buffer.specs.Laws.{BuffersStay}
 
@@ -24,11 +24,11 @@ buffers_stay b old new k f = (f.0, f.1, still_declared b old new f.0 f.1 k f.2)
 pub keeps_buffer : (t : Tables) (n : ℕ) (produce consume : List ℕ) → KeepsObjects t (with_buffer t n produce consume)
 keeps_buffer t n produce consume =
     let both = produce ++ consume in
-    let one = with_event t produce both in
-    let two = with_event one consume both in
+    let one = with_fixed_event t produce both in
+    let two = with_fixed_event one consume both in
     let three = with_sequencer two produce in
     let four = with_sequencer three consume in
-    keeps_then t one _ (keeps_event t produce both)
-    (keeps_then one two _ (keeps_event one consume both)
+    keeps_then t one _ (keeps_fixed_event t produce both)
+    (keeps_then one two _ (keeps_fixed_event one consume both)
     (keeps_then two three _ (keeps_sequencer two produce)
     (keeps_then three four _ (keeps_sequencer three consume) (keeps_cells four n produce consume))))
