@@ -1,9 +1,9 @@
 -- The objects of a database, and how they are declared.
 use Rattle.std.specs.Prelude.{◌≡◌, ℕ, ◌+◌, ◌<◌, ◌≤◌, Bool, false, ◌==◌, ◌||◌, nat_lt, List, ◌++◌, length, Option}
 use Rattle.ec_count.specs.declared.setup.SetupFault.{SetupFault}
-use Rattle.ec_count.specs.Declares.{DeclaresEvent, DeclaresSequencer, DeclaresCells, with_sequencer}
+use Rattle.ec_count.specs.Declares.{DeclaresFixedEvent, DeclaresSequencer, DeclaresCells, with_sequencer}
 use Rattle.ec_count.specs.Roles.{roles_fault, shares_worker}
-use Rattle.ec_count.specs.Tables.{Tables, with_event, with_cells}
+use Rattle.ec_count.specs.Tables.{Tables, with_fixed_event, with_cells}
 
 -- the eventcounts of the writings that were started and of those that are done, the sequencer of the writers' turns, and the cells from the first on
 pub record Database : Type 0 where
@@ -30,7 +30,7 @@ database_fault t n write read = roles_fault t (lacks_room t n) write read (n == 
 -- the tables with one more database
 abbrev pub with_database : Tables → ℕ → List ℕ → List ℕ → Tables
 with_database t n write read =
-    let counted = with_event (with_event t write read) write (write ++ read) in
+    let counted = with_fixed_event (with_fixed_event t write read) write (write ++ read) in
     let drawn = with_sequencer counted write in
     with_cells drawn n write read
 
@@ -44,10 +44,10 @@ next_database t n = record {
   cells = n;
 }
 
--- the objects of the database are declared for these writers and readers, who share no worker; there is a reader
+-- the objects of the database are declared for these writers and readers, who share no worker; there is a reader, and its eventcounts are fixed
 pub record DeclaresDatabase (d : Database) (t : Tables) (write read : List ℕ) : Type 0 where
-  pub start : DeclaresEvent t d.start write read
-  pub done : DeclaresEvent t d.done write (write ++ read)
+  pub start : DeclaresFixedEvent t d.start write read
+  pub done : DeclaresFixedEvent t d.done write (write ++ read)
   pub turn : DeclaresSequencer t d.turn write
   pub cells : DeclaresCells t d.first_cell d.cells write read
   pub readers : 0 < length read

@@ -88,16 +88,16 @@ impl DatabaseShape {
         ensures { IsTrue result ↔ DeclaresDatabase self.now setup.now write.now read.now }
     {
         let both = joined(write, read);
-        setup.declares_event(self.start, write, read)
-            && setup.declares_event(self.done, write, both.as_slice())
+        setup.declares_fixed_event(self.start, write, read)
+            && setup.declares_fixed_event(self.done, write, both.as_slice())
             && setup.declares_sequencer(self.turn, write)
             && setup.declares_cells(self.first_cell, self.cells(), write, read)
             && !read.is_empty()
             && !shares_worker(write, read)
     }
 
-    /// Whether the objects are declared there, with the rights of a database, for writers and
-    /// readers that share no worker, one of each at least.
+    /// Whether the objects are declared there, with the rights of a database and fixed eventcounts,
+    /// for writers and readers that share no worker, one of each at least.
     pub fn fits(&self, setup: &Setup) -> bool
         ensures { IsTrue result ↔ Fits self.now setup.now }
     {
@@ -147,8 +147,8 @@ fn add_database(setup: &mut Setup, n: usize, write: &[WorkerId], read: &[WorkerI
     ensures after { setup.new ≡ with_database setup.old n write.now read.now }
 {
     let both = joined(write, read);
-    let start = setup.add_event(write, read).unwrap();
-    let done = setup.add_event(write, both.as_slice()).unwrap();
+    let start = setup.add_fixed_event(write, read).unwrap();
+    let done = setup.add_fixed_event(write, both.as_slice()).unwrap();
     let turn = setup.add_sequencer(write).unwrap();
     let first_cell = setup.add_cells(n, write, read).unwrap();
     DatabaseShape {

@@ -1,8 +1,8 @@
 -- A declared database stays declared where more is declared.
 use Rattle.std.proofs.Common.{ℕ, List, ◌++◌}
 use Rattle.ec_count.specs.Declares.{KeepsObjects, with_sequencer}
-use Rattle.ec_count.specs.Tables.{Tables, with_event}
-use Rattle.ec_count.proofs.shared.Keeping.{keeps_then, keeps_event, keeps_sequencer, keeps_cells}
+use Rattle.ec_count.specs.Tables.{Tables, with_fixed_event}
+use Rattle.ec_count.proofs.shared.Keeping.{keeps_then, keeps_fixed_event, keeps_sequencer, keeps_cells}
 use Rattle.ec_database.specs.Shapes.{Database, DeclaresDatabase, with_database}
 use Rattle.ec_database.specs.Laws.{DatabasesStay}
 
@@ -23,9 +23,9 @@ databases_stay d old new k f = (f.0, f.1, still_declared d old new f.0 f.1 k f.2
 -- what was declared before a database stays declared
 pub keeps_database : (t : Tables) (n : ℕ) (write read : List ℕ) → KeepsObjects t (with_database t n write read)
 keeps_database t n write read =
-    let one = with_event t write read in
-    let two = with_event one write (write ++ read) in
+    let one = with_fixed_event t write read in
+    let two = with_fixed_event one write (write ++ read) in
     let three = with_sequencer two write in
-    keeps_then t one _ (keeps_event t write read)
-    (keeps_then one two _ (keeps_event one write (write ++ read))
+    keeps_then t one _ (keeps_fixed_event t write read)
+    (keeps_then one two _ (keeps_fixed_event one write (write ++ read))
     (keeps_then two three _ (keeps_sequencer two write) (keeps_cells three n write read)))
