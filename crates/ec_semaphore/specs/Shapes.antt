@@ -2,9 +2,9 @@
 use Rattle.std.specs.Prelude.{ℕ, ◌==◌, ◌||◌, nat_le, nat_lt, List, [], ◌∷◌, length, Option}
 use Rattle.ec_count.specs.declared.setup.SetupFault.{SetupFault}
 use Rattle.ec_count.specs.declared.setup.SetupFault.TheVariants.{TooMany, UnknownWorker, Repeated, Empty}
-use Rattle.ec_count.specs.Declares.{DeclaresEvent, DeclaresSequencer, with_sequencer}
+use Rattle.ec_count.specs.Declares.{DeclaresFixedEvent, DeclaresSequencer, with_sequencer}
 use Rattle.ec_count.specs.Members.{has_repeat}
-use Rattle.ec_count.specs.Tables.{Tables, first_that, names_unknown, with_event}
+use Rattle.ec_count.specs.Tables.{Tables, first_that, names_unknown, with_fixed_event}
 use Rattle.ec_semaphore.specs.declared.shape.TheConstants.{INITIAL_MAX}
 
 -- the eventcount of a semaphore, the sequencer on which those who want to take one line up, and how many there are at first
@@ -22,9 +22,9 @@ semaphore_fault t initial users = first_that (
     ∷ (length users == 0, Empty)
     ∷ [])
 
--- the tables with one more semaphore: an eventcount that its users signal and observe, then a sequencer that they draw from
+-- the tables with one more semaphore: a fixed eventcount that its users signal and observe, then a sequencer that they draw from
 abbrev pub with_semaphore : Tables → List ℕ → Tables
-with_semaphore t users = with_sequencer (with_event t users users) users
+with_semaphore t users = with_sequencer (with_fixed_event t users users) users
 
 -- the objects of a semaphore that is added to the tables
 abbrev pub next_semaphore : Tables → ℕ → Semaphore
@@ -32,7 +32,7 @@ next_semaphore t initial = record { count = length t.events; line = length t.tak
 
 -- the objects of the semaphore are declared for these users
 pub record DeclaresSemaphore (s : Semaphore) (t : Tables) (users : List ℕ) : Type 0 where
-  pub count : DeclaresEvent t s.count users users
+  pub count : DeclaresFixedEvent t s.count users users
   pub line : DeclaresSequencer t s.line users
 
 -- the objects of the semaphore are declared for some users

@@ -55,12 +55,13 @@ impl SemaphoreShape {
     }
 
     /// Whether the eventcount and the sequencer are declared there, with the rights of a semaphore:
-    /// the same users signal and observe the one and draw from the other.
+    /// the same users signal and observe the one, which is fixed, and draw from the other.
     pub fn fits(&self, setup: &Setup) -> bool
         ensures { IsTrue result ↔ Fits self.now setup.now }
     {
         let users = setup.takers(self.line);
-        setup.declares_event(self.count, users, users) && setup.declares_sequencer(self.line, users)
+        setup.declares_fixed_event(self.count, users, users)
+            && setup.declares_sequencer(self.line, users)
     }
 }
 
@@ -81,7 +82,7 @@ pub fn declare_semaphore(
     if initial > INITIAL_MAX || setup.sequencers() >= 32 {
         return Err(SetupFault::TooMany);
     }
-    let count = setup.add_event(users, users)?;
+    let count = setup.add_fixed_event(users, users)?;
     let Ok(line) = setup.add_sequencer(users) else {
         unreachable!()
     };

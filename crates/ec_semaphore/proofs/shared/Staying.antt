@@ -1,8 +1,8 @@
 -- A declared semaphore stays declared where more is declared.
 use Rattle.std.proofs.Common.{ℕ, List}
 use Rattle.ec_count.specs.Declares.{KeepsObjects}
-use Rattle.ec_count.specs.Tables.{Tables, with_event}
-use Rattle.ec_count.proofs.shared.Keeping.{keeps_then, keeps_event, keeps_sequencer}
+use Rattle.ec_count.specs.Tables.{Tables, with_fixed_event}
+use Rattle.ec_count.proofs.shared.Keeping.{keeps_then, keeps_fixed_event, keeps_sequencer}
 use Rattle.ec_semaphore.specs.Shapes.{Semaphore, DeclaresSemaphore, with_semaphore}
 use Rattle.ec_semaphore.specs.Laws.{SemaphoresStay}
 
@@ -16,5 +16,5 @@ semaphores_stay s old new k f = (f.0, still_declared s old new f.0 k f.1)
 -- what was declared before a semaphore stays declared
 pub keeps_semaphore : (t : Tables) (users : List ℕ) → KeepsObjects t (with_semaphore t users)
 keeps_semaphore t users =
-    let one = with_event t users users in
-    keeps_then t one _ (keeps_event t users users) (keeps_sequencer one users)
+    let one = with_fixed_event t users users in
+    keeps_then t one _ (keeps_fixed_event t users users) (keeps_sequencer one users)
