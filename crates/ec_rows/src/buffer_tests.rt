@@ -2,8 +2,8 @@
 use crate::drive::Ask::{Advance, Await, Get, Go, Put, Ticket};
 use crate::drive::Told::{Done, Number, Pending};
 use crate::drive::{
-    FOUR_WORKERS, SIXTEEN_WORKERS, Step, TWO_WORKERS, are_right, declared, go_on, is_as_declared,
-    right, run_on,
+    FOUR_WORKERS, Line, SIXTEEN_WORKERS, Step, TWO_WORKERS, World, are_right, declared, go_on,
+    is_as_declared, right, run_on,
 };
 use crate::ids::{cell, event, listed, room, sequencer, worker};
 use ec_buffer::{BufferShape, Consume, Delivery, Produce, declare_buffer, deliveries};
@@ -273,6 +273,41 @@ fn the_objects_of_a_buffer(rt: HostRuntime) -> Result<(), Fail> {
     Ok(())
 }
 
+/// The objects of a buffer of one cell.
+static ONE_CELL: World = World {
+    limit: 10,
+    workers: 4,
+    lines: &[
+        Line::FixedEvent(&[0, 1], &[0, 1, 2, 3]),
+        Line::FixedEvent(&[2, 3], &[0, 1, 2, 3]),
+        Line::Sequencer(&[0, 1]),
+        Line::Sequencer(&[2, 3]),
+        Line::Cells(1, &[0, 1], &[2, 3]),
+    ],
+};
+
+/// The same, but the eventcount of the puts is not fixed.
+static PUTS_NOT_FIXED: World = World {
+    limit: 10,
+    workers: 4,
+    lines: &[
+        Line::Event(&[0, 1], &[0, 1, 2, 3]),
+        Line::FixedEvent(&[2, 3], &[0, 1, 2, 3]),
+        Line::Sequencer(&[0, 1]),
+        Line::Sequencer(&[2, 3]),
+        Line::Cells(1, &[0, 1], &[2, 3]),
+    ],
+};
+
+#[test]
+fn a_buffer_has_fixed_eventcounts(rt: HostRuntime) -> Result<(), Fail> {
+    let (setup, shape) = two_and_two(1)?;
+    assert!(rt; !setup.may_hand(shape.in_count()) && !setup.may_hand(shape.out_count()));
+    assert!(rt; shape.fits(&declared(&ONE_CELL)?));
+    assert!(rt; !shape.fits(&declared(&PUTS_NOT_FIXED)?));
+    Ok(())
+}
+
 /// How many cells, who produces, who consumes, and the fault.
 type Fault = (usize, &'static [usize], &'static [usize], SetupFault);
 
@@ -362,8 +397,8 @@ fn all_sixteen_workers_share_a_buffer(rt: HostRuntime) -> Result<(), Fail> {
 fn is_just_that_event(setup: &Setup, shape: &BufferShape) -> bool {
     let (produce, consume) = ([worker(0), worker(1)], [worker(2), worker(3)]);
     let all = joined(&produce, &consume);
-    setup.declares_event(shape.in_count(), &produce, all.as_slice())
-        && !setup.declares_event(shape.in_count(), &produce, &consume)
+    setup.declares_fixed_event(shape.in_count(), &produce, all.as_slice())
+        && !setup.declares_fixed_event(shape.in_count(), &produce, &consume)
 }
 
 /// Whether the sequencer of the consumers is declared just so, and not for the producers.

@@ -351,8 +351,8 @@ static NO_READER: World = World {
     limit: 10,
     workers: 1,
     lines: &[
-        Line::Event(&[0], &[]),
-        Line::Event(&[0], &[0]),
+        Line::FixedEvent(&[0], &[]),
+        Line::FixedEvent(&[0], &[0]),
         Line::Sequencer(&[0]),
         Line::Cells(1, &[0], &[]),
     ],
@@ -363,6 +363,39 @@ fn a_database_has_a_reader(rt: HostRuntime) -> Result<(), Fail> {
     let (_, shape) = one_and_one(1)?;
     let setup = declared(&NO_READER)?;
     assert!(rt; !shape.fits(&setup));
+    Ok(())
+}
+
+/// The objects of a database of one cell.
+static ONE_CELL: World = World {
+    limit: 10,
+    workers: 2,
+    lines: &[
+        Line::FixedEvent(&[0], &[1]),
+        Line::FixedEvent(&[0], &[0, 1]),
+        Line::Sequencer(&[0]),
+        Line::Cells(1, &[0], &[1]),
+    ],
+};
+
+/// The same, but the eventcount of what is done is not fixed.
+static DONE_NOT_FIXED: World = World {
+    limit: 10,
+    workers: 2,
+    lines: &[
+        Line::FixedEvent(&[0], &[1]),
+        Line::Event(&[0], &[0, 1]),
+        Line::Sequencer(&[0]),
+        Line::Cells(1, &[0], &[1]),
+    ],
+};
+
+#[test]
+fn a_database_has_fixed_eventcounts(rt: HostRuntime) -> Result<(), Fail> {
+    let (setup, shape) = one_and_one(1)?;
+    assert!(rt; !setup.may_hand(shape.start()) && !setup.may_hand(shape.done()));
+    assert!(rt; shape.fits(&declared(&ONE_CELL)?));
+    assert!(rt; !shape.fits(&declared(&DONE_NOT_FIXED)?));
     Ok(())
 }
 

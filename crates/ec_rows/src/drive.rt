@@ -91,6 +91,8 @@ fn go_through(run: &mut Run, steps: &[Step]) -> Result<(), Fail> {
 pub(crate) enum Line {
     /// Who signals, and who observes.
     Event(&'static [usize], &'static [usize]),
+    /// The same of a fixed eventcount.
+    FixedEvent(&'static [usize], &'static [usize]),
     /// Who takes.
     Sequencer(&'static [usize]),
     /// How many, who writes, and who reads.
@@ -111,6 +113,9 @@ fn add_line(setup: &mut Setup, line: &Line) -> bool {
     match *line {
         Line::Event(signal, observe) => setup
             .add_event(listed(&mut one, signal), listed(&mut other, observe))
+            .is_ok(),
+        Line::FixedEvent(signal, observe) => setup
+            .add_fixed_event(listed(&mut one, signal), listed(&mut other, observe))
             .is_ok(),
         Line::Sequencer(take) => setup.add_sequencer(listed(&mut one, take)).is_ok(),
         Line::Cells(n, write, read) => setup

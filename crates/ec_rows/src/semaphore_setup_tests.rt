@@ -1,5 +1,5 @@
 //! How semaphores are declared.
-use crate::drive::{ONE_WORKER, TWO_WORKERS, declared, is_as_declared, right};
+use crate::drive::{Line, ONE_WORKER, TWO_WORKERS, World, declared, is_as_declared, right};
 use crate::ids::{event, sequencer, worker};
 use crate::semaphores::{Shapes, declare, two_users};
 use ec_count::{Setup, SetupFault};
@@ -42,6 +42,29 @@ fn the_objects_of_semaphores(rt: HostRuntime) -> Result<(), Fail> {
     assert!(rt; has_semaphores(&setup, &other, &shapes) && are_users(&setup));
     assert!(rt; setup.add_event(&[worker(0), worker(1)], &[]).is_ok());
     assert!(rt; shapes.s.fits(&setup));
+    Ok(())
+}
+
+/// The objects of a semaphore.
+static FIXED: World = World {
+    limit: 10,
+    workers: 2,
+    lines: &[Line::FixedEvent(&[0, 1], &[0, 1]), Line::Sequencer(&[0, 1])],
+};
+
+/// The same, but the eventcount is not fixed.
+static NOT_FIXED: World = World {
+    limit: 10,
+    workers: 2,
+    lines: &[Line::Event(&[0, 1], &[0, 1]), Line::Sequencer(&[0, 1])],
+};
+
+#[test]
+fn a_semaphore_has_a_fixed_eventcount(rt: HostRuntime) -> Result<(), Fail> {
+    let (setup, shapes) = two_users()?;
+    assert!(rt; !setup.may_hand(shapes.r.count()) && !setup.may_hand(shapes.both.count()));
+    assert!(rt; shapes.r.fits(&declared(&FIXED)?));
+    assert!(rt; !shapes.r.fits(&declared(&NOT_FIXED)?));
     Ok(())
 }
 
