@@ -6,7 +6,7 @@ use Rattle.std.proofs.lemmas.Bool.{true≢false, and_from, and_right, or_parts, 
 use Rattle.std.proofs.lemmas.List.{length-replicate}
 use Rattle.ec_count.specs.Names.{same_target}
 use Rattle.ec_count.specs.Targets.{targets_decide}
-use Rattle.ec_count.specs.Tables.{Tables, KeepsTables, with_event, with_cells}
+use Rattle.ec_count.specs.Tables.{Tables, KeepsTables, with_rights, with_event, with_fixed_event, with_cells}
 use Rattle.ec_count.specs.Declares.{with_sequencer}
 use Rattle.ec_count.specs.Members.{is_faulty, is_faulty_pair, has_repeat}
 use Rattle.ec_count.specs.declared.setup.Rights.{Rights}
@@ -163,7 +163,7 @@ block_more first n x lt = elim (cells_more first n x lt) [ inl below ↦ inl bel
 users_cover : (h : Headed) (ws : List ℕ) → Covers h (with_semaphore h.setup ws) (objects_of sorts.Semaphore (next_of h) 0)
 users_cover h ws = record {
   events = λ e lt. one_more (length h.setup.events) e (λ k. HasName (objects_of sorts.Semaphore (next_of h) 0) (Event k)) (names_itself _ (Event (length h.setup.events)) _)
-      (omega (arith, counted h.setup.events (record { signal = ws; observe = ws })));
+      (omega (arith, counted h.setup.events (record { signal = ws; observe = ws; fixed = true })));
   sequencers = λ q lt. one_more (length h.setup.takers) q (λ k. HasName (objects_of sorts.Semaphore (next_of h) 0) (Sequencer k))
       (names_later _ _ _ (names_itself _ (Sequencer (length h.setup.takers)) _))
       (omega (arith, counted h.setup.takers ws));
@@ -173,7 +173,7 @@ users_cover h ws = record {
 pub covers : (s : Sort) (h : Headed) (n : ℕ) (ws vs : List ℕ) → Covers h (with_objects s h.setup n ws vs) (objects_of s (next_of h) n)
 covers sorts.EventCount h n ws vs = record {
   events = λ e lt. one_more (length h.setup.events) e (λ k. HasName (objects_of sorts.EventCount (next_of h) n) (Event k)) (names_itself [] (Event (length h.setup.events)) [])
-      (omega (arith, counted h.setup.events (record { signal = ws; observe = vs })));
+      (omega (arith, counted h.setup.events (record { signal = ws; observe = vs; fixed = false })));
   sequencers = λ q lt. inl lt;
   cells = λ x lt. inl lt;
 }
@@ -192,7 +192,7 @@ covers sorts.Buffer h n ws vs = record {
   events = λ e lt. two_more (length h.setup.events) e (λ k. HasName (objects_of sorts.Buffer (next_of h) n) (Event k))
       (names_itself _ (Event (length h.setup.events)) _)
       (names_later _ _ (Event (length h.setup.events + 1)) (names_itself _ (Event (length h.setup.events + 1)) _))
-      (omega (arith, counted_twice h.setup.events (record { signal = ws; observe = ws ++ vs }) (record { signal = vs; observe = ws ++ vs })));
+      (omega (arith, counted_twice h.setup.events (record { signal = ws; observe = ws ++ vs; fixed = true }) (record { signal = vs; observe = ws ++ vs; fixed = true })));
   sequencers = λ q lt. two_more (length h.setup.takers) q (λ k. HasName (objects_of sorts.Buffer (next_of h) n) (Sequencer k))
       (names_later _ _ _ (names_later _ _ _ (names_itself _ (Sequencer (length h.setup.takers)) _)))
       (names_later _ _ _ (names_later _ _ _ (names_later _ _ _ (names_itself _ (Sequencer (length h.setup.takers + 1)) _))))
@@ -203,7 +203,7 @@ covers sorts.Database h n ws vs = record {
   events = λ e lt. two_more (length h.setup.events) e (λ k. HasName (objects_of sorts.Database (next_of h) n) (Event k))
       (names_itself _ (Event (length h.setup.events)) _)
       (names_later _ _ (Event (length h.setup.events + 1)) (names_itself _ (Event (length h.setup.events + 1)) _))
-      (omega (arith, counted_twice h.setup.events (record { signal = ws; observe = vs }) (record { signal = ws; observe = ws ++ vs })));
+      (omega (arith, counted_twice h.setup.events (record { signal = ws; observe = vs; fixed = true }) (record { signal = ws; observe = ws ++ vs; fixed = true })));
   sequencers = λ q lt. one_more (length h.setup.takers) q (λ k. HasName (objects_of sorts.Database (next_of h) n) (Sequencer k))
       (names_later _ _ _ (names_later _ _ _ (names_itself _ (Sequencer (length h.setup.takers)) _)))
       (omega (arith, counted h.setup.takers ws));
@@ -221,16 +221,16 @@ there n m k e lt = lt-ltb n k (omega arith)
 
 users_below : (h l : Headed) (ws : List ℕ) → l.setup ≡ with_semaphore h.setup ws → length h.groups < length l.groups → AllByRecursion (λ (o : List ℕ × Target). is_below l o.1 ≡ true) (objects_of sorts.Semaphore (next_of h) 0)
 users_below h l ws is more =
-    let e : length l.setup.events ≡ length h.setup.events + 1 = ap (λ (t : Tables). length t.events) is ∙ counted h.setup.events (record { signal = ws; observe = ws }) in
+    let e : length l.setup.events ≡ length h.setup.events + 1 = ap (λ (t : Tables). length t.events) is ∙ counted h.setup.events (record { signal = ws; observe = ws; fixed = true }) in
     let q : length l.setup.takers ≡ length h.setup.takers + 1 = ap (λ (t : Tables). length t.takers) is ∙ counted h.setup.takers ws in
     (there (length h.setup.events) _ _ e (omega arith), (there (length h.setup.takers) _ _ q (omega arith), (lt-ltb (length h.groups) (length l.groups) more, tt)))
 
 pub objects_below : (s : Sort) (h l : Headed) (n : ℕ) (ws vs : List ℕ) → l.setup ≡ with_objects s h.setup n ws vs → (group_of s h.setup n ≢ None → length h.groups < length l.groups) → AllByRecursion (λ (o : List ℕ × Target). is_below l o.1 ≡ true) (objects_of s (next_of h) n)
-objects_below sorts.EventCount h l n ws vs is more = (there (length h.setup.events) (length h.setup.events + 1) (length l.setup.events) (ap (λ (t : Tables). length t.events) is ∙ counted h.setup.events (record { signal = ws; observe = vs })) (omega arith), tt)
+objects_below sorts.EventCount h l n ws vs is more = (there (length h.setup.events) (length h.setup.events + 1) (length l.setup.events) (ap (λ (t : Tables). length t.events) is ∙ counted h.setup.events (record { signal = ws; observe = vs; fixed = false })) (omega arith), tt)
 objects_below sorts.Sequencer h l n ws vs is more = (there (length h.setup.takers) (length h.setup.takers + 1) (length l.setup.takers) (ap (λ (t : Tables). length t.takers) is ∙ counted h.setup.takers ws) (omega arith), tt)
 objects_below sorts.Cells h l n ws vs is more = (cells_there h l n ws vs (ap (λ (t : Tables). t.cells) is), tt)
 objects_below sorts.Buffer h l n ws vs is more =
-    let e : length l.setup.events ≡ length h.setup.events + 2 = ap (λ (t : Tables). length t.events) is ∙ counted_twice h.setup.events (record { signal = ws; observe = ws ++ vs }) (record { signal = vs; observe = ws ++ vs }) in
+    let e : length l.setup.events ≡ length h.setup.events + 2 = ap (λ (t : Tables). length t.events) is ∙ counted_twice h.setup.events (record { signal = ws; observe = ws ++ vs; fixed = true }) (record { signal = vs; observe = ws ++ vs; fixed = true }) in
     let q : length l.setup.takers ≡ length h.setup.takers + 2 = ap (λ (t : Tables). length t.takers) is ∙ counted_twice h.setup.takers ws vs in (
       there (length h.setup.events) _ _ e (omega arith),
       (
@@ -242,7 +242,7 @@ objects_below sorts.Buffer h l n ws vs is more =
       ),
     )
 objects_below sorts.Database h l n ws vs is more =
-    let e : length l.setup.events ≡ length h.setup.events + 2 = ap (λ (t : Tables). length t.events) is ∙ counted_twice h.setup.events (record { signal = ws; observe = vs }) (record { signal = ws; observe = ws ++ vs }) in
+    let e : length l.setup.events ≡ length h.setup.events + 2 = ap (λ (t : Tables). length t.events) is ∙ counted_twice h.setup.events (record { signal = ws; observe = vs; fixed = true }) (record { signal = ws; observe = ws ++ vs; fixed = true }) in
     let q : length l.setup.takers ≡ length h.setup.takers + 1 = ap (λ (t : Tables). length t.takers) is ∙ counted h.setup.takers ws in (
       there (length h.setup.events) _ _ e (omega arith),
       (
@@ -267,13 +267,19 @@ any_push : {X : Type 0} (p : X → Bool) (xs : List X) (y : X) → list_any p xs
 any_push p [] y h k = or_from (p y) false k refl
 any_push p (x ∷ xs) y h k = let q = or_parts (p x) (list_any p xs) h in or_from (p x) (list_any p (xs ++ y ∷ [])) q.0 (any_push p xs y q.1 k)
 
-kept_event : (t : Tables) (ws vs : List ℕ) → IsList t ws → is_faulty t.workers vs ≡ false → Kept t → Kept (with_event t ws vs)
-kept_event t ws vs l others k = record {
+kept_rights : (t : Tables) (row : Rights) → IsList t row.signal → is_faulty t.workers row.observe ≡ false → Kept t → Kept (with_rights t row)
+kept_rights t row l others k = record {
   few_workers = k.few_workers;
-  rights_fit = any_push (λ (r : Rights). is_faulty_pair t.workers r.signal r.observe) t.events (record { signal = ws; observe = vs }) k.rights_fit (or_from _ _ (or_from _ _ l.sound others) l.some);
+  rights_fit = any_push (λ (r : Rights). is_faulty_pair t.workers r.signal r.observe) t.events row k.rights_fit (or_from _ _ (or_from _ _ l.sound others) l.some);
   takers_fit = k.takers_fit;
   access_fits = k.access_fits;
 }
+
+kept_event : (t : Tables) (ws vs : List ℕ) → IsList t ws → is_faulty t.workers vs ≡ false → Kept t → Kept (with_event t ws vs)
+kept_event t ws vs l others k = kept_rights t (record { signal = ws; observe = vs; fixed = false }) l others k
+
+kept_fixed_event : (t : Tables) (ws vs : List ℕ) → IsList t ws → is_faulty t.workers vs ≡ false → Kept t → Kept (with_fixed_event t ws vs)
+kept_fixed_event t ws vs l others k = kept_rights t (record { signal = ws; observe = vs; fixed = true }) l others k
 
 kept_sequencer : (t : Tables) (ws : List ℕ) → IsList t ws → Kept t → Kept (with_sequencer t ws)
 kept_sequencer t ws l k = record {
@@ -301,7 +307,7 @@ second_sound : (s : Sort) (t : Tables) (n : ℕ) (ws vs : List ℕ) → HasRoom 
 second_sound s t n ws vs r = sound_list t vs (known_below t.workers vs r.known_second) r.once_second r.few_second
 
 kept_users : (t : Tables) (ws : List ℕ) → IsList t ws → Kept t → Kept (with_semaphore t ws)
-kept_users t ws l k = kept_sequencer (with_event t ws ws) ws (record { sound = l.sound; some = l.some }) (kept_event t ws ws l l.sound k)
+kept_users t ws l k = kept_sequencer (with_fixed_event t ws ws) ws (record { sound = l.sound; some = l.some }) (kept_fixed_event t ws ws l l.sound k)
 
 pub kept_more : (s : Sort) (t : Tables) (n : ℕ) (ws vs : List ℕ) → HasRoom s t n ws vs → Kept t → Kept (with_objects s t n ws vs)
 kept_more sorts.EventCount t n ws vs r k = kept_event t ws vs (first_list sorts.EventCount t n ws vs r) (second_sound sorts.EventCount t n ws vs r) k
@@ -311,26 +317,26 @@ kept_more sorts.Buffer t n ws vs r k =
     let first : IsList t ws = first_list sorts.Buffer t n ws vs r in
     let second : IsList t vs = record { sound = second_sound sorts.Buffer t n ws vs r; some = r.needed } in
     let both : is_faulty t.workers (ws ++ vs) ≡ false = joined_sound t.workers ws vs k.few_workers first.sound second.sound r.apart in
-    let one : Tables = with_event t ws (ws ++ vs) in
-    let two : Tables = with_event (with_event t ws (ws ++ vs)) vs (ws ++ vs) in
-    let three : Tables = with_sequencer (with_event (with_event t ws (ws ++ vs)) vs (ws ++ vs)) ws in
-    let four : Tables = with_sequencer (with_sequencer (with_event (with_event t ws (ws ++ vs)) vs (ws ++ vs)) ws) vs in
+    let one : Tables = with_fixed_event t ws (ws ++ vs) in
+    let two : Tables = with_fixed_event (with_fixed_event t ws (ws ++ vs)) vs (ws ++ vs) in
+    let three : Tables = with_sequencer (with_fixed_event (with_fixed_event t ws (ws ++ vs)) vs (ws ++ vs)) ws in
+    let four : Tables = with_sequencer (with_sequencer (with_fixed_event (with_fixed_event t ws (ws ++ vs)) vs (ws ++ vs)) ws) vs in
     kept_cells four n ws vs (record { sound = first.sound; some = first.some }) second.sound
     (kept_sequencer three vs (record { sound = second.sound; some = second.some })
     (kept_sequencer two ws (record { sound = first.sound; some = first.some })
-    (kept_event one vs (ws ++ vs) (record { sound = second.sound; some = second.some }) both
-    (kept_event t ws (ws ++ vs) first both k))))
+    (kept_fixed_event one vs (ws ++ vs) (record { sound = second.sound; some = second.some }) both
+    (kept_fixed_event t ws (ws ++ vs) first both k))))
 kept_more sorts.Database t n ws vs r k =
     let first : IsList t ws = first_list sorts.Database t n ws vs r in
     let others : is_faulty t.workers vs ≡ false = second_sound sorts.Database t n ws vs r in
     let both : is_faulty t.workers (ws ++ vs) ≡ false = joined_sound t.workers ws vs k.few_workers first.sound others r.apart in
-    let one : Tables = with_event t ws vs in
-    let two : Tables = with_event (with_event t ws vs) ws (ws ++ vs) in
-    let three : Tables = with_sequencer (with_event (with_event t ws vs) ws (ws ++ vs)) ws in
+    let one : Tables = with_fixed_event t ws vs in
+    let two : Tables = with_fixed_event (with_fixed_event t ws vs) ws (ws ++ vs) in
+    let three : Tables = with_sequencer (with_fixed_event (with_fixed_event t ws vs) ws (ws ++ vs)) ws in
     kept_cells three n ws vs (record { sound = first.sound; some = first.some }) others
     (kept_sequencer two ws (record { sound = first.sound; some = first.some })
-    (kept_event one ws (ws ++ vs) (record { sound = first.sound; some = first.some }) both
-    (kept_event t ws vs first others k)))
+    (kept_fixed_event one ws (ws ++ vs) (record { sound = first.sound; some = first.some }) both
+    (kept_fixed_event t ws vs first others k)))
 kept_more sorts.Semaphore t n ws vs r k = kept_users t ws (first_list sorts.Semaphore t n ws vs r) k
 kept_more sorts.Both t n ws vs r k = kept_users t ws (first_list sorts.Both t n ws vs r) k
 
@@ -346,14 +352,14 @@ bounded_users t ws room b =
     let e : length t.events ≤ 31 = ltb-false 31 (length t.events) rooms.0 in
     let q : length t.takers ≤ 31 = ltb-false 31 (length t.takers) rooms.1 in
     record {
-      events = omega (arith, counted t.events (record { signal = ws; observe = ws }));
+      events = omega (arith, counted t.events (record { signal = ws; observe = ws; fixed = true }));
       sequencers = omega (arith, counted t.takers ws);
       cells = b.cells;
     }
 
 pub bounds_more : (s : Sort) (t : Tables) (n : ℕ) (ws vs : List ℕ) → HasRoom s t n ws vs → Bounds t → Bounds (with_objects s t n ws vs)
 bounds_more sorts.EventCount t n ws vs r b = record {
-  events = (let l : length t.events ≤ 31 = ltb-false 31 (length t.events) r.room in omega (arith, counted t.events (record { signal = ws; observe = vs })));
+  events = (let l : length t.events ≤ 31 = ltb-false 31 (length t.events) r.room in omega (arith, counted t.events (record { signal = ws; observe = vs; fixed = false })));
   sequencers = b.sequencers;
   cells = b.cells;
 }
@@ -374,7 +380,7 @@ bounds_more sorts.Buffer t n ws vs r b =
     let q : length t.takers + 2 ≤ 32 = ltb-false 32 (length t.takers + 2) tables.1 in
     let x : length t.cells + n ≤ 256 = ltb-false 256 (length t.cells + n) rooms.1 in
     record {
-      events = omega (arith, counted_twice t.events (record { signal = ws; observe = ws ++ vs }) (record { signal = vs; observe = ws ++ vs }));
+      events = omega (arith, counted_twice t.events (record { signal = ws; observe = ws ++ vs; fixed = true }) (record { signal = vs; observe = ws ++ vs; fixed = true }));
       sequencers = omega (arith, counted_twice t.takers ws vs);
       cells = omega (arith, counted_cells t.cells n (record { write = ws; read = vs }));
     }
@@ -385,7 +391,7 @@ bounds_more sorts.Database t n ws vs r b =
     let q : length t.takers + 1 ≤ 32 = ltb-false 32 (length t.takers + 1) tables.1 in
     let x : length t.cells + n ≤ 256 = ltb-false 256 (length t.cells + n) rooms.1 in
     record {
-      events = omega (arith, counted_twice t.events (record { signal = ws; observe = vs }) (record { signal = ws; observe = ws ++ vs }));
+      events = omega (arith, counted_twice t.events (record { signal = ws; observe = vs; fixed = true }) (record { signal = ws; observe = ws ++ vs; fixed = true }));
       sequencers = omega (arith, counted t.takers ws);
       cells = omega (arith, counted_cells t.cells n (record { write = ws; read = vs }));
     }
@@ -417,8 +423,8 @@ pub buffer_there : (t : Tables) (n : ℕ) (ws vs : List ℕ) → buffer_fault t 
 buffer_there t n ws vs none =
     let both : List ℕ = ws ++ vs in
     record {
-      in_count = at_first t.events (record { signal = ws; observe = both }) (record { signal = vs; observe = both });
-      out_count = at_second t.events (record { signal = ws; observe = both }) (record { signal = vs; observe = both });
+      in_count = at_first t.events (record { signal = ws; observe = both; fixed = true }) (record { signal = vs; observe = both; fixed = true });
+      out_count = at_second t.events (record { signal = ws; observe = both; fixed = true }) (record { signal = vs; observe = both; fixed = true });
       put_seq = at_first t.takers ws vs;
       take_seq = at_second t.takers ws vs;
       cells = λ k lt. behind t.cells (replicate n (record { write = ws; read = vs })) k ∙ replicated_at n k (record { write = ws; read = vs }) lt;
@@ -430,8 +436,8 @@ pub database_there : (t : Tables) (n : ℕ) (ws vs : List ℕ) → database_faul
 database_there t n ws vs none =
     let roles = (roles_of t (databases.lacks_room t n) ws vs (eqb n 0) none).2 in
     record {
-      start = at_first t.events (record { signal = ws; observe = vs }) (record { signal = ws; observe = ws ++ vs });
-      done = at_second t.events (record { signal = ws; observe = vs }) (record { signal = ws; observe = ws ++ vs });
+      start = at_first t.events (record { signal = ws; observe = vs; fixed = true }) (record { signal = ws; observe = ws ++ vs; fixed = true });
+      done = at_second t.events (record { signal = ws; observe = vs; fixed = true }) (record { signal = ws; observe = ws ++ vs; fixed = true });
       turn = at_end t.takers ws;
       cells = λ k lt. behind t.cells (replicate n (record { write = ws; read = vs })) k ∙ replicated_at n k (record { write = ws; read = vs }) lt;
       readers = some_there vs roles.second_some;
@@ -444,4 +450,4 @@ database_there t n ws vs none =
 
 -- and a semaphore
 pub semaphore_there : (t : Tables) (initial : ℕ) (ws : List ℕ) → DeclaresSemaphore (next_semaphore t initial) (with_semaphore t ws) ws
-semaphore_there t initial ws = record { count = at_end t.events (record { signal = ws; observe = ws }); line = at_end t.takers ws }
+semaphore_there t initial ws = record { count = at_end t.events (record { signal = ws; observe = ws; fixed = true }); line = at_end t.takers ws }

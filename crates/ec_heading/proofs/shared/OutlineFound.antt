@@ -1,5 +1,5 @@
 -- The outline behind a heading is found again from what it declares.
-use Rattle.std.proofs.Common.{◌≡◌, ℕ, zero, suc, ◌<◌, ◌==◌, List, [], ◌∷◌, ◌++◌, length, true, Option, Some, refl, sym, ap, subst, ◌∙◌, append_assoc, append-nil, arith, slice_get, slice_index_or, replicate, option_map, eqb-true}
+use Rattle.std.proofs.Common.{◌≡◌, ℕ, zero, suc, ◌<◌, ◌==◌, List, [], ◌∷◌, ◌++◌, length, true, false, Option, Some, refl, sym, ap, subst, ◌∙◌, append_assoc, append-nil, arith, slice_get, slice_index_or, replicate, option_map, eqb-true}
 use Rattle.std.specs.Option.{option_map_or}
 use Rattle.std.specs.List.{filter_map, cons_option, range_with_len}
 use Rattle.std.proofs.lemmas.List.Elements.{filter_map-append}
@@ -62,7 +62,7 @@ told : (s : Sort) (h l : Headed) (name : List ℕ) (n : ℕ) (ws vs : List ℕ) 
     → is_in_range s n ≡ true → fits_form (other s) vs ≡ true → is_called s name ≡ true → (has_name s ≡ true → word_of l.names (target_of s (next_of h) n) ≡ name)
     → declaration_of l (target_of s (next_of h) n) ≡ Some (record { sort = s; name = name; number = n; first = ws; second = vs })
 told sorts.EventCount h l name n ws vs g groups range form called named =
-    let at = g.keeps.events _ _ (found_at h.setup.events (record { signal = ws; observe = vs }) []) in
+    let at = g.keeps.events _ _ (found_at h.setup.events (record { signal = ws; observe = vs; fixed = false }) []) in
     let first : signallers l.setup (length h.setup.events) ≡ ws = ap (λ (o : Option Rights). option_map_or (λ (r : Rights). r.signal) o []) at in
     let second : observers l.setup (length h.setup.events) ≡ vs = ap (λ (o : Option Rights). option_map_or (λ (r : Rights). r.observe) o []) at in
     let none : n ≡ 0 = number_none sorts.EventCount n refl range in

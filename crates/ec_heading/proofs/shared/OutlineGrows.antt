@@ -1,13 +1,13 @@
 -- What declarations add: tables, names, words and groups grow at their ends.
 use Rattle.std.proofs.Common.{◌≡◌, ℕ, ◌≤◌, List, [], ◌∷◌, ◌++◌, length, true, false, cond, Some, None, refl, sym, ap, ◌∙◌, arith, append_assoc, append-nil, replicate, length-append, slice_get}
 use Rattle.std.specs.List.{cons_option}
-use Rattle.ec_count.specs.Tables.{Tables, with_event, with_cells}
+use Rattle.ec_count.specs.Tables.{Tables, with_event, with_fixed_event, with_cells}
 use Rattle.ec_count.specs.Declares.{KeepsObjects, with_sequencer}
 use Rattle.ec_count.specs.Names.{name_of, same_target}
 use Rattle.ec_count.specs.declared.target.Target.{Target}
 use Rattle.ec_count.specs.declared.target.Target.TheVariants.{Worker}
 use Rattle.ec_semaphore.specs.Shapes.{with_semaphore}
-use Rattle.ec_count.proofs.shared.Keeping.{keeps_same, keeps_then, keeps_event, keeps_sequencer, keeps_cells, still_there}
+use Rattle.ec_count.proofs.shared.Keeping.{keeps_same, keeps_then, keeps_event, keeps_fixed_event, keeps_sequencer, keeps_cells, still_there}
 use Rattle.ec_heading.specs.declared.sort.Sort.{Sort}
 use Rattle.ec_heading.specs.declared.sort.Sort.TheVariants as sorts
 use Rattle.ec_heading.specs.Headed.{Headed}
@@ -70,7 +70,17 @@ grow_event t ws vs = record {
   limit = refl;
   workers = refl;
   keeps = keeps_event t ws vs;
-  events = omega (arith, length-append t.events (record { signal = ws; observe = vs } ∷ []));
+  events = omega (arith, length-append t.events (record { signal = ws; observe = vs; fixed = false } ∷ []));
+  takers = omega arith;
+  cells = omega arith;
+}
+
+grow_fixed_event : (t : Tables) (ws vs : List ℕ) → TablesGrow t (with_fixed_event t ws vs)
+grow_fixed_event t ws vs = record {
+  limit = refl;
+  workers = refl;
+  keeps = keeps_fixed_event t ws vs;
+  events = omega (arith, length-append t.events (record { signal = ws; observe = vs; fixed = true } ∷ []));
   takers = omega arith;
   cells = omega arith;
 }
@@ -99,28 +109,28 @@ grow_cells t n ws vs = record {
 
 grow_buffer : (t : Tables) (n : ℕ) (ws vs : List ℕ) → TablesGrow t (with_objects sorts.Buffer t n ws vs)
 grow_buffer t n ws vs =
-    let one : Tables = with_event t ws (ws ++ vs) in
-    let two : Tables = with_event (with_event t ws (ws ++ vs)) vs (ws ++ vs) in
+    let one : Tables = with_fixed_event t ws (ws ++ vs) in
+    let two : Tables = with_fixed_event (with_fixed_event t ws (ws ++ vs)) vs (ws ++ vs) in
     let three : Tables = with_sequencer two ws in
     let four : Tables = with_sequencer (with_sequencer two ws) vs in
-    grow_then t one _ (grow_event t ws (ws ++ vs))
-    (grow_then one two _ (grow_event one vs (ws ++ vs))
+    grow_then t one _ (grow_fixed_event t ws (ws ++ vs))
+    (grow_then one two _ (grow_fixed_event one vs (ws ++ vs))
     (grow_then two three _ (grow_sequencer two ws)
     (grow_then three four _ (grow_sequencer three vs) (grow_cells four n ws vs))))
 
 grow_database : (t : Tables) (n : ℕ) (ws vs : List ℕ) → TablesGrow t (with_objects sorts.Database t n ws vs)
 grow_database t n ws vs =
-    let one : Tables = with_event t ws vs in
-    let two : Tables = with_event (with_event t ws vs) ws (ws ++ vs) in
+    let one : Tables = with_fixed_event t ws vs in
+    let two : Tables = with_fixed_event (with_fixed_event t ws vs) ws (ws ++ vs) in
     let three : Tables = with_sequencer two ws in
-    grow_then t one _ (grow_event t ws vs)
-    (grow_then one two _ (grow_event one ws (ws ++ vs))
+    grow_then t one _ (grow_fixed_event t ws vs)
+    (grow_then one two _ (grow_fixed_event one ws (ws ++ vs))
     (grow_then two three _ (grow_sequencer two ws) (grow_cells three n ws vs)))
 
 grow_semaphore : (t : Tables) (ws : List ℕ) → TablesGrow t (with_semaphore t ws)
 grow_semaphore t ws =
-    let one : Tables = with_event t ws ws in
-    grow_then t one _ (grow_event t ws ws) (grow_sequencer one ws)
+    let one : Tables = with_fixed_event t ws ws in
+    grow_then t one _ (grow_fixed_event t ws ws) (grow_sequencer one ws)
 
 -- the objects of a declaration leave the tables what they have, and make none shorter
 pub objects_grow : (s : Sort) (t : Tables) (n : ℕ) (ws vs : List ℕ) → TablesGrow t (with_objects s t n ws vs)

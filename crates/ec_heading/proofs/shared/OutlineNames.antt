@@ -66,7 +66,7 @@ some_cells n h = grind (arith, nat_tests)
 
 -- a declaration's own target is declared with it
 new_is_old : (s : Sort) (h : Headed) (d : Declaration) → d.sort ≡ s → is_in_range s d.number ≡ true → IsOld (next_of (declared_by h (record d { sort = s }))) (target_of s (next_of h) d.number)
-new_is_old sorts.EventCount h d is range = let r : Rights = record { signal = d.first; observe = d.second } in omega (arith, length_push h.setup.events r)
+new_is_old sorts.EventCount h d is range = let r : Rights = record { signal = d.first; observe = d.second; fixed = false } in omega (arith, length_push h.setup.events r)
 new_is_old sorts.Sequencer h d is range = omega (arith, length_push h.setup.takers d.first)
 new_is_old sorts.Cells h d is range =
     let a : Access = record { write = d.first; read = d.second } in
