@@ -57,12 +57,6 @@ pub struct Setup {
     pub cells: Vec<Access>,
 }
 
-impl Setup {
-    fn component_of(&self, event: u8, worker: u8) -> Option<usize> {
-        self.events.get(event as usize)?.signal.place(worker)
-    }
-}
-
 #[derive(Clone, Copy, PartialEq, Eq)]
 pub enum Act {
     Advance(u8),
@@ -124,6 +118,7 @@ pub struct UnderWay {
 
 pub struct World {
     pub setup: Setup,
+    signal: [Members; 32],
     counts: [[Count; 16]; 32],
     issued: [Count; 32],
     cells: [u64; 256],
@@ -143,13 +138,22 @@ impl World {
             value: 0,
             limit: setup.limit,
         };
+        let mut signal: [Members; 32] = Default::default();
+        for (members, rights) in signal.iter_mut().zip(&setup.events) {
+            *members = rights.signal.clone();
+        }
         World {
             setup,
+            signal,
             counts: [[zero; 16]; 32],
             issued: [zero; 32],
             cells: [0; 256],
             calls: [None; 16],
         }
+    }
+
+    fn component_of(&self, event: u8, worker: u8) -> Option<usize> {
+        self.signal[event as usize].place(worker)
     }
 
     fn names_unknown_object(&self, act: &Act) -> bool {
@@ -166,7 +170,7 @@ impl World {
     fn has_right(&self, worker: u8, act: &Act) -> bool {
         let setup = &self.setup;
         match *act {
-            Act::Advance(event) => setup.component_of(event, worker).is_some(),
+            Act::Advance(event) => self.component_of(event, worker).is_some(),
             Act::Read(event) | Act::Await(event, _) => {
                 setup.events[event as usize].observe.contains(worker)
             }
@@ -179,7 +183,7 @@ impl World {
 
     fn is_full_for(&self, worker: u8, act: &Act) -> bool {
         let count = match *act {
-            Act::Advance(event) => match self.setup.component_of(event, worker) {
+            Act::Advance(event) => match self.component_of(event, worker) {
                 Some(component) => self.counts[event as usize][component],
                 None => return false,
             },
@@ -261,7 +265,7 @@ impl World {
     fn take_in(&mut self, worker: u8, act: &Act) {
         match *act {
             Act::Advance(event) => {
-                if let Some(component) = self.setup.component_of(event, worker) {
+                if let Some(component) = self.component_of(event, worker) {
                     self.counts[event as usize][component].advance();
                 }
             }
