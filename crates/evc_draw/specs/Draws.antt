@@ -1,4 +1,4 @@
--- What the program answered and wrote, for an input whose bytes are known and a window that was asked for.
+-- What the program answered and wrote, for an input whose bytes are known and what was asked for.
 use Rattle.std.specs.Prelude.{◌≡◌, ◌⊎◌, ℕ, ◌-◌, min, Bool, true, false, nat_lt, List, length, Option, codes}
 use Rattle.std.specs.Io.KnownBytes.{Appends, Keeps}
 use Rattle.ec_text.specs.Puts.{AppendsPrefix}
@@ -13,7 +13,8 @@ use Rattle.evc_engine.specs.declared.status.Status.{Status}
 use Rattle.evc_engine.specs.declared.status.Status.TheVariants.{Done, Refused, Usage, InputOutput, Memory, Stopped}
 use Rattle.evc_engine.specs.Notes.{fault_note}
 use Rattle.evc_engine.specs.Checks.{Outlets, Notes, KeepsNotes, ReadsAs, RefusedFor}
-use Rattle.evc_draw.specs.Svg.{svg}
+use Rattle.evc_draw.specs.declared.drawing.View.{View}
+use Rattle.evc_draw.specs.Documents.{document_for}
 
 -- the part of a window that a history of n entries has
 abbrev pub window_on : Window → ℕ → Window
@@ -28,32 +29,32 @@ abbrev pub window_of : Window → Recounted → Window
 window_of w t = window_on w (length t.entries)
 
 -- the picture of a trace: the bytes of the shapes of its history
-abbrev pub picture_for : Window → Recounted → List ℕ
-picture_for w t = svg t.heading.words t.heading.setup.workers (shapes t.heading.setup (window_of w t) t.entries)
+abbrev pub picture_for : View → Recounted → List ℕ
+picture_for v t = document_for v.form t.heading (shapes t.heading.setup (window_of v.window t) t.entries)
 
 abbrev pub wide_note : List ℕ
 wide_note = codes "more than 400 entries: choose some by --from N --to M\n"
 
 -- how the writing of the picture of a trace ended
-abbrev pub Drawn : Window → Recounted → Status → Outlets → Outlets → Type 0
-Drawn w t Done old new = (is_wide (window_of w t) ≡ false) × Appends old.out new.out (picture_for w t) × KeepsNotes old new
-Drawn w t Refused old new = (is_wide (window_of w t) ≡ true) × Keeps old.out new.out × Notes old new wide_note
-Drawn w t InputOutput old new = AppendsPrefix old.out new.out (picture_for w t) × Notes old new (codes "write fault\n")
-Drawn w t Memory old new = Keeps old.out new.out × Notes old new (codes "no memory\n")
-Drawn w t Usage old new = ⊥
-Drawn w t Stopped old new = ⊥
+abbrev pub Drawn : View → Recounted → Status → Outlets → Outlets → Type 0
+Drawn v t Done old new = (is_wide (window_of v.window t) ≡ false) × Appends old.out new.out (picture_for v t) × KeepsNotes old new
+Drawn v t Refused old new = (is_wide (window_of v.window t) ≡ true) × Keeps old.out new.out × Notes old new wide_note
+Drawn v t InputOutput old new = AppendsPrefix old.out new.out (picture_for v t) × Notes old new (codes "write fault\n")
+Drawn v t Memory old new = Keeps old.out new.out × Notes old new (codes "no memory\n")
+Drawn v t Usage old new = ⊥
+Drawn v t Stopped old new = ⊥
 
 -- how the program ended: the bytes are a trace, and its picture was written, or it has too many entries and that is said; or
 -- they are none, and nothing was written but the note of the first fault; or a failed read is told, and what the reader had
 -- given until then has no fault; or a failed write or want of memory is told
-abbrev pub Draws : Window → List ℕ → Option (List ℕ) → Status → Outlets → Outlets → Type 0
-Draws w bytes left Done old new = (t : Recounted) × ReadsAs bytes t × Drawn w t Done old new
-Draws w bytes left Refused old new =
-    ((t : Recounted) × ReadsAs bytes t × Drawn w t Refused old new)
+abbrev pub Draws : View → List ℕ → Option (List ℕ) → Status → Outlets → Outlets → Type 0
+Draws v bytes left Done old new = (t : Recounted) × ReadsAs bytes t × Drawn v t Done old new
+Draws v bytes left Refused old new =
+    ((t : Recounted) × ReadsAs bytes t × Drawn v t Refused old new)
     ⊎ ((fault : TraceFault) × RefusedFor bytes fault × Keeps old.out new.out × Notes old new (fault_note fault))
-Draws w bytes left InputOutput old new =
-    ((t : Recounted) × ReadsAs bytes t × Drawn w t InputOutput old new)
+Draws v bytes left InputOutput old new =
+    ((t : Recounted) × ReadsAs bytes t × Drawn v t InputOutput old new)
     ⊎ (HasNoFault TRACE_MAX bytes left × Keeps old.out new.out × Notes old new (codes "read fault\n"))
-Draws w bytes left Memory old new = Keeps old.out new.out × Notes old new (codes "no memory\n")
-Draws w bytes left Usage old new = ⊥
-Draws w bytes left Stopped old new = ⊥
+Draws v bytes left Memory old new = Keeps old.out new.out × Notes old new (codes "no memory\n")
+Draws v bytes left Usage old new = ⊥
+Draws v bytes left Stopped old new = ⊥

@@ -5,13 +5,12 @@ use Rattle.ec_count.specs.declared.target.Target.TheVariants as targets
 use Rattle.ec_core.specs.declared.act.Act.{Act}
 use Rattle.ec_core.specs.declared.act.Act.TheVariants.{Advance, Read, Await, Go, Ticket, Put, Get}
 use Rattle.ec_core.specs.declared.act.Reply.{Reply}
-use Rattle.ec_core.specs.declared.act.Reply.TheVariants.{Number, Pending}
-use Rattle.ec_core.specs.declared.act.Entry.{Entry}
+use Rattle.ec_core.specs.declared.act.Reply.TheVariants.{Number}
 use Rattle.ec_core.specs.Rounds.{read_of}
 use Rattle.ec_order.specs.declared.call.Call.{Call}
 use Rattle.ec_order.specs.declared.placed.Placed.{Placed}
 use Rattle.ec_order.specs.Calls.{number_of}
-use Rattle.ec_heading.specs.Spelling.{Named, word_of, cell_word, entry_line}
+use Rattle.ec_heading.specs.Spelling.{Named, word_of, cell_word}
 use Rattle.ec_draw.specs.declared.window.Window.{Window}
 use Rattle.ec_draw.specs.declared.open.Open.{Open}
 use Rattle.ec_draw.specs.declared.dot.Dot.{Dot}
@@ -19,10 +18,10 @@ use Rattle.ec_draw.specs.declared.curve.Counted.{Counted}
 use Rattle.ec_draw.specs.declared.curve.Counted.TheVariants as counted
 use Rattle.ec_draw.specs.Curves.{Line}
 use Rattle.ec_draw.specs.Pictures.{Shapes}
-use Rattle.evc_engine.specs.Texts.{call_entry}
 use Rattle.evc_draw.specs.Places.{low_of, high_of, edge, centre, row, below, base, level, picture_width, picture_height}
 use Rattle.evc_draw.specs.Elements.{pair, line, rect, circle, diamond, number_text, name_text, object_text, text_start, text_end}
-use Rattle.evc_draw.specs.declared.style.TheConstants.{OPENING, OPEN_GROUP, STYLE, UNDER_WAY}
+use Rattle.evc_draw.specs.Words.{call_words, open_words}
+use Rattle.evc_draw.specs.declared.style.TheConstants.{OPENING, OPEN_GROUP, STYLE}
 
 -- LABELS
 
@@ -65,15 +64,9 @@ reply_text x y reply = []
 
 -- BARS
 
-unfoldable pub entries_words : Call → List ℕ
-entries_words c = codes ", entries " ++ decimal c.first ++ codes " to " ++ decimal c.last
-
-unfoldable pub point_words : ℕ → List ℕ
-point_words k = codes ", point " ++ decimal k ++ codes "</title>\n"
-
+-- what is shown on hover
 unfoldable pub call_title : Named → Placed → List ℕ
-call_title names p =
-    codes "<title>" ++ entry_line names (call_entry p.call) ++ entries_words p.call ++ point_words p.point
+call_title names p = codes "<title>" ++ call_words names p ++ codes "</title>\n"
 
 -- where the last round of an await began, if it is not its first
 unfoldable pub round_line : Window → Call → List ℕ
@@ -92,15 +85,8 @@ call_element names w p =
     call_front names w p ++ label names (edge w p.call.first + 3) (row p.call.worker) p.call.op ++ round_line w p.call
     ++ reply_text (edge w (p.call.last + 1) - 3) (row p.call.worker + 66) p.call.reply ++ codes "</g>\n"
 
--- a call under way, as an entry that is told Pending
-abbrev pub open_entry : Open → Entry
-open_entry o = record { worker = o.worker; act = o.op; reply = Pending }
-
-unfoldable pub from_words : ℕ → List ℕ
-from_words k = UNDER_WAY.now ++ decimal k ++ codes "</title>\n"
-
 unfoldable pub open_title : Named → Open → List ℕ
-open_title names o = codes "<title>" ++ entry_line names (open_entry o) ++ from_words o.first
+open_title names o = codes "<title>" ++ open_words names o ++ codes "</title>\n"
 
 -- its bar goes on behind the last column
 unfoldable pub open_bar : Window → Open → List ℕ

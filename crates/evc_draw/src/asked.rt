@@ -1,49 +1,48 @@
 //! What the command line asks for.
 
+use crate::document::Form;
+use crate::drawing::View;
 use ec_draw::Window;
 use ec_text::number;
 
 /// What the program is asked for.
 #[derive(Clone, Copy, Debug, PartialEq, Eq)]
 pub(crate) enum Asked {
-    /// The picture of what a window shows.
-    Draw(Window),
+    /// A picture.
+    Draw(View),
     /// The help.
     Help,
     /// The version.
     Version,
 }
 
-/// The window of all entries.
-const WHOLE: Window = Window {
-    from: 0,
-    to: usize::MAX,
+/// What is drawn where nothing is asked for: all entries, as SVG.
+const PLAIN: View = View {
+    window: Window {
+        from: 0,
+        to: usize::MAX,
+    },
+    form: Form::Svg,
 };
 
-/// The number in a word.
-fn number_in(word: &String) -> Option<usize> {
-    match number(word.as_bytes()) {
-        Some(n) => Some(n as usize),
-        None => None,
-    }
-}
-
-/// The window that one option asks for.
-fn with_option(window: Window, name: &String, value: &String) -> Option<Window> {
-    let Some(n) = number_in(value) else {
-        return None;
-    };
-    match name.as_str() {
-        "--from" => Some(Window { from: n, ..window }),
-        "--to" => Some(Window {
+/// The view that an option and its value ask for.
+fn with_option(view: View, name: &String, value: &String) -> Option<View> {
+    let n = number(value.as_bytes())? as usize;
+    let window = match name.as_str() {
+        "--from" => Window {
+            from: n,
+            ..view.window
+        },
+        "--to" => Window {
             to: n.saturating_add(1),
-            ..window
-        }),
-        _ => None,
-    }
+            ..view.window
+        },
+        _ => return None,
+    };
+    Some(View { window, ..view })
 }
 
-/// What one word asks for.
+/// What one word asks for that is no option of a picture.
 fn one_word(word: &String) -> Option<Asked> {
     match word.as_str() {
         "--help" | "-h" => Some(Asked::Help),
@@ -52,22 +51,38 @@ fn one_word(word: &String) -> Option<Asked> {
     }
 }
 
+/// The view that options ask for; none where they are wrong.
+fn read_options(words: &[String]) -> Option<View> {
+    let mut view = PLAIN;
+    let mut option: Option<&String> = None;
+    for word in words {
+        match option {
+            Some(name) => {
+                view = with_option(view, name, word)?;
+                option = None;
+            }
+            None => {
+                if word.as_str() == "--text" {
+                    view.form = Form::Text;
+                } else {
+                    option = Some(word);
+                }
+            }
+        }
+    }
+    if option.is_some() {
+        return None;
+    }
+    Some(view)
+}
+
 /// What the words behind the program's name ask for; none where they are wrong.
 pub(crate) fn read_words(words: &[String]) -> Option<Asked> {
-    match words {
-        [] => Some(Asked::Draw(WHOLE)),
-        [word] => one_word(word),
-        [name, value] => match with_option(WHOLE, name, value) {
-            Some(window) => Some(Asked::Draw(window)),
-            None => None,
-        },
-        [name, value, second, other] => match with_option(WHOLE, name, value) {
-            Some(window) => match with_option(window, second, other) {
-                Some(window) => Some(Asked::Draw(window)),
-                None => None,
-            },
-            None => None,
-        },
-        _ => None,
+    if let [word] = words {
+        if let Some(asked) = one_word(word) {
+            return Some(asked);
+        }
     }
+    let view = read_options(words)?;
+    Some(Asked::Draw(view))
 }

@@ -4,16 +4,17 @@ ghost use Rattle.ec_heading.specs.Spelling.{cell_word};
 ghost use Rattle.evc_draw.specs.Elements.{name_text};
 ghost use Rattle.std.specs.List.{flat_map};
 ghost use Rattle.ec_text.specs.Puts.{Puts};
-ghost use Rattle.evc_draw.specs.Svg.{act_text, call_bar, call_element, call_front, point_words, call_title, entries_words, kind_word, label, object_label, reply_text, round_line, value_words};
+ghost use Rattle.evc_draw.specs.Svg.{act_text, call_bar, call_element, call_front, call_title, kind_word, label, object_label, reply_text, round_line, value_words};
 
 use crate::elements::{Place, end_text, put_line, put_object_text, put_rect, start_text};
 use crate::places::{edge, end_of, row};
-use ec_core::{Act, Entry, Reply};
+use crate::words::put_call_words;
+use ec_core::{Act, Reply};
 use ec_count::CellId;
 use ec_draw::Window;
 use ec_order::{Call, Placed};
 use ec_text::{Buffered, put, put_number};
-use ec_trace::{Spellings, put_cell, put_entry};
+use ec_trace::{Spellings, put_cell};
 use std::io::Write;
 
 /// Puts the word of an act.
@@ -127,27 +128,6 @@ fn put_reply_text<W: Write>(out: &mut W, table: &mut Buffered, at: Place, reply:
     }
 }
 
-/// Puts the numbers of a call's first and last entries.
-#[tactic(auto, unfolding(crate::specs::Svg::entries_words))]
-fn put_entries_words<W: Write>(out: &mut W, table: &mut Buffered, call: &Call)
-    ensures { Puts (W.contents out.old) table.old (W.contents out.new) table.new (entries_words call.now) }
-{
-    put(out, table, b", entries ");
-    put_number(out, table, call.first as u64);
-    put(out, table, b" to ");
-    put_number(out, table, call.last as u64);
-}
-
-/// Puts the number of a point, at the end of a title.
-#[tactic(auto, unfolding(crate::specs::Svg::point_words))]
-fn put_point_words<W: Write>(out: &mut W, table: &mut Buffered, point: usize)
-    ensures { Puts (W.contents out.old) table.old (W.contents out.new) table.new (point_words point) }
-{
-    put(out, table, b", point ");
-    put_number(out, table, point as u64);
-    put(out, table, b"</title>\n");
-}
-
 /// Puts what is shown on hover.
 #[tactic(auto, unfolding(crate::specs::Svg::call_title))]
 fn put_call_title<W: Write>(
@@ -158,15 +138,9 @@ fn put_call_title<W: Write>(
 )
     ensures { Puts (W.contents out.old) table.old (W.contents out.new) table.new (call_title spellings.now placed.now) }
 {
-    let entry = Entry {
-        worker: placed.call.worker,
-        act: placed.call.op,
-        reply: placed.call.reply,
-    };
     put(out, table, b"<title>");
-    put_entry(out, table, spellings, &entry);
-    put_entries_words(out, table, &placed.call);
-    put_point_words(out, table, placed.point);
+    put_call_words(out, table, spellings, placed);
+    put(out, table, b"</title>\n");
 }
 
 /// Puts where the last round of an await began.

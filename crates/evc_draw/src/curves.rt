@@ -12,7 +12,7 @@ use ec_trace::Spellings;
 use std::io::Write;
 
 /// The name of what has a curve.
-fn counted_word<'a>(spellings: &Spellings<'a>, object: &Counted) -> &'a [u8]
+pub(crate) fn counted_word<'a>(spellings: &Spellings<'a>, object: &Counted) -> &'a [u8]
     ensures { result.now ≡ counted_word spellings.now object.now }
 {
     match *object {

@@ -5,11 +5,13 @@ proved and built with rattle-kit-13b
 ";
 
 pub(crate) const USAGE: &[u8] = b"usage: evc-draw [--from N] [--to M] < TRACE > PICTURE.svg
+       evc-draw --text [--from N] [--to M] < TRACE
 ";
 
 pub(crate) const HELP: &[u8] = b"Draws a trace of eventcounts and sequencers as a picture (SVG)
 
 Usage: evc-draw [--from N] [--to M] < TRACE > PICTURE.svg
+       evc-draw --text [--from N] [--to M] < TRACE
 
 The trace is read from standard input. A row for each worker has a bar for each call, from
 its first entry to its last, with a dot for each entry and the component that it read or
@@ -18,6 +20,8 @@ point of a call, and a dotted line ties that of a read or an await to the curve 
 eventcount's total below.
 
 Options:
+  --text         a text for a terminal in place of a picture: a row for each worker and each
+                 count, a column for each entry, and below them the calls
   --from N       the first entry that is shown, counted from 0
   --to M         the last entry that is shown
   -h, --help     this help

@@ -3,7 +3,9 @@
 
 mod asked;
 mod calls;
+mod cells;
 mod curves;
+mod document;
 mod dots;
 mod drawing;
 mod elements;
@@ -12,7 +14,9 @@ mod marks;
 mod places;
 mod style;
 mod svg;
+mod text;
 mod under_way;
+mod words;
 
 use crate::asked::{Asked, read_words};
 use crate::drawing::draw;
@@ -53,13 +57,7 @@ fn main(rt: HostRuntime) -> ExitCode {
         return ExitCode::from(Status::Memory.code());
     };
     let status = match read_words(words.as_slice().get(1..).unwrap_or(&[])) {
-        Some(Asked::Draw(window)) => draw(
-            alloc,
-            window,
-            &mut rt.stdin(),
-            &mut rt.stdout(),
-            &mut notes,
-        ),
+        Some(Asked::Draw(view)) => draw(alloc, view, &mut rt.stdin(), &mut rt.stdout(), &mut notes),
         Some(Asked::Help) => tell(HELP, &mut rt.stdout(), &mut notes),
         Some(Asked::Version) => tell(VERSION, &mut rt.stdout(), &mut notes),
         None => {

@@ -39,7 +39,7 @@ text, circle { fill: #e4e7eb; }
 <path class='paper' d='M 0 0 H 100000 V 100000 H 0 z'/>
 ";
 
-/// The words of a title before the first entry of a call under way.
+/// The words before the first entry of a call under way.
 pub(crate) const UNDER_WAY: &[u8] = b", under way from entry ";
 
 /// The beginning of the group of a call under way.
@@ -47,3 +47,9 @@ pub(crate) const OPEN_GROUP: &[u8] = b"<g class='open ";
 
 /// The beginning of a bar.
 pub(crate) const BAR: &[u8] = b"<rect rx='6' x='";
+
+/// What fills a cell of a text.
+pub(crate) const BLANKS: &[u8] = b"                       ";
+
+/// What fills it where a call goes on.
+pub(crate) const DASHES: &[u8] = b"--------";

@@ -1,7 +1,6 @@
 //! The whole picture.
-ghost use Rattle.std.specs.Prelude.{◌≡◌, ◌≤◌, ◌<◌, OnOk, OnErr};
-ghost use Rattle.std.specs.Io.KnownBytes.{Appends};
-ghost use Rattle.ec_text.specs.Puts.{Puts, AppendsPrefix};
+ghost use Rattle.std.specs.Prelude.{◌≡◌, ◌≤◌, ◌<◌};
+ghost use Rattle.ec_text.specs.Puts.{Puts};
 ghost use Rattle.ec_count.specs.declared.target.Target.TheVariants.{Worker};
 ghost use Rattle.ec_heading.specs.Spelling.{word_of};
 ghost use Rattle.ec_draw.specs.Pictures.{kept};
@@ -17,8 +16,8 @@ use crate::style::{OPENING, STYLE};
 use crate::under_way::put_opens;
 use ec_count::WorkerId;
 use ec_draw::{Picture, Window};
-use ec_text::{Buffered, WriteFault, finish, put};
-use ec_trace::{Heading, Spellings};
+use ec_text::{Buffered, put};
+use ec_trace::Spellings;
 use std::io::Write;
 
 /// Puts the beginning of a picture.
@@ -34,7 +33,7 @@ fn put_header<W: Write>(out: &mut W, table: &mut Buffered, width: u64, height: u
 }
 
 /// The name of a worker, by number.
-fn worker_name<'a>(spellings: &Spellings<'a>, number: usize) -> &'a [u8]
+pub(crate) fn worker_name<'a>(spellings: &Spellings<'a>, number: usize) -> &'a [u8]
     requires { number < 16 }
     ensures { result.now ≡ word_of spellings.now (Worker number) }
 {
@@ -133,9 +132,9 @@ fn put_mark_elements<W: Write>(out: &mut W, table: &mut Buffered, workers: usize
     put_marks(out, table, window, workers, curves, calls);
 }
 
-/// Puts a picture.
+/// Puts a picture as SVG.
 #[tactic(auto, unfolding(crate::specs::Svg::svg))]
-fn put_picture<W: Write>(
+pub(crate) fn put_svg<W: Write>(
     out: &mut W,
     table: &mut Buffered,
     spellings: &Spellings<'_>,
@@ -149,20 +148,4 @@ fn put_picture<W: Write>(
     put_call_elements(out, table, spellings, picture);
     put_mark_elements(out, table, workers, picture);
     put(out, table, b"</svg>\n");
-}
-
-/// Writes a picture, or a front of it.
-pub(crate) fn write_svg<W: Write>(
-    out: &mut W,
-    heading: &Heading,
-    picture: &Picture,
-) -> Result<(), WriteFault>
-    ensures ok { OnOk result (Appends (W.contents out.old) (W.contents out.new) (svg heading.now.words heading.now.setup.workers (kept picture.now))) }
-    ensures err { OnErr result (AppendsPrefix (W.contents out.old) (W.contents out.new) (svg heading.now.words heading.now.setup.workers (kept picture.now))) }
-{
-    let spellings = Spellings::new(heading.words());
-    let workers = heading.setup().workers();
-    let mut table = Buffered::new();
-    put_picture(out, &mut table, &spellings, workers, picture);
-    finish(out, table)
 }

@@ -2,27 +2,17 @@
 ghost use Rattle.std.specs.Prelude.{◌≡◌};
 ghost use Rattle.std.specs.List.{flat_map};
 ghost use Rattle.ec_text.specs.Puts.{Puts};
-ghost use Rattle.evc_draw.specs.Svg.{from_words, open_front, open_bar, open_element, open_title};
+ghost use Rattle.evc_draw.specs.Svg.{open_bar, open_front, open_element, open_title};
 
 use crate::calls::{put_kind, put_label};
 use crate::elements::{Place, put_rect};
 use crate::places::{edge, picture_width, row};
-use crate::style::{OPEN_GROUP, UNDER_WAY};
-use ec_core::{Entry, Reply};
+use crate::style::OPEN_GROUP;
+use crate::words::put_open_words;
 use ec_draw::{Open, Window};
-use ec_text::{Buffered, put, put_number};
-use ec_trace::{Spellings, put_entry};
+use ec_text::{Buffered, put};
+use ec_trace::Spellings;
 use std::io::Write;
-
-/// Puts the number of the first entry, at the end of a title.
-#[tactic(auto, unfolding(crate::specs::Svg::from_words))]
-fn put_from_words<W: Write>(out: &mut W, table: &mut Buffered, first: usize)
-    ensures { Puts (W.contents out.old) table.old (W.contents out.new) table.new (from_words first) }
-{
-    put(out, table, UNDER_WAY);
-    put_number(out, table, first as u64);
-    put(out, table, b"</title>\n");
-}
 
 /// Puts what is shown on hover.
 #[tactic(auto, unfolding(crate::specs::Svg::open_title))]
@@ -34,14 +24,9 @@ fn put_open_title<W: Write>(
 )
     ensures { Puts (W.contents out.old) table.old (W.contents out.new) table.new (open_title spellings.now begun.now) }
 {
-    let entry = Entry {
-        worker: begun.worker,
-        act: begun.op,
-        reply: Reply::Pending,
-    };
     put(out, table, b"<title>");
-    put_entry(out, table, spellings, &entry);
-    put_from_words(out, table, begun.first);
+    put_open_words(out, table, spellings, begun);
+    put(out, table, b"</title>\n");
 }
 
 /// Puts the bar.

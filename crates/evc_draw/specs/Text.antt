@@ -1,0 +1,91 @@
+-- The picture as a text for a terminal: a function of its shapes and of the names of the heading. A row for the entries, one for
+-- each worker and one for each curve; in each row a cell for each entry. Below stand the calls, a line each.
+use Rattle.std.specs.Prelude.{ℕ, ◌-◌, zero, suc, ◌==◌, ◌&&◌, ◌||◌, nat_le, nat_lt, Bool, List, [], ◌++◌, length, take, Option, Some, None, codes, decimal, if◌then◌else◌}
+use Rattle.std.specs.List.{flat_map, list_any}
+use Rattle.ec_count.specs.declared.target.Target.TheVariants as targets
+use Rattle.ec_order.specs.declared.placed.Placed.{Placed}
+use Rattle.ec_heading.specs.Spelling.{Named, word_of}
+use Rattle.ec_draw.specs.declared.window.Window.{Window}
+use Rattle.ec_draw.specs.declared.open.Open.{Open}
+use Rattle.ec_draw.specs.declared.dot.Dot.{Dot}
+use Rattle.ec_draw.specs.Curves.{Line}
+use Rattle.ec_draw.specs.Pictures.{Shapes}
+use Rattle.evc_draw.specs.Svg.{counted_word}
+use Rattle.evc_draw.specs.Words.{call_words, open_words}
+use Rattle.evc_draw.specs.declared.style.TheConstants.{BLANKS, DASHES}
+
+-- CELLS
+
+-- a word at the right end of a cell, and before it what fills the cell
+unfoldable pub padded : List ℕ → ℕ → List ℕ → List ℕ
+padded fill width word = take (width - length word) fill ++ word
+
+-- how wide a cell is. No count and no entry that is shown is greater than the window's end
+abbrev pub cell_width : Window → ℕ
+cell_width w = if nat_lt w.to 1000 then 4 else 8
+
+-- the name of a row
+unfoldable pub row_name : List ℕ → List ℕ
+row_name name = name ++ take (23 - length name) BLANKS.now
+
+-- whether a call of worker n is under way just before the entry at position k
+abbrev pub goes_through : ℕ → ℕ → Placed → Bool
+goes_through n k p = (p.call.worker == n && nat_lt p.call.first k) && nat_le k p.call.last
+
+abbrev pub goes_on : ℕ → ℕ → Open → Bool
+goes_on n k o = o.worker == n && nat_lt o.first k
+
+abbrev pub is_under_way : Shapes → ℕ → ℕ → Bool
+is_under_way p n k = list_any (goes_through n k) p.calls || list_any (goes_on n k) p.begun
+
+-- what fills the cell of an entry in the row of worker n: dashes, where its call goes on
+abbrev pub fill : Shapes → ℕ → ℕ → List ℕ
+fill p n k = if is_under_way p n k then DASHES.now else BLANKS.now
+
+-- an entry: the component that it read or raised, and a star where it has none
+abbrev pub dot_word : Option ℕ → List ℕ
+dot_word None = codes "*"
+dot_word (Some c) = decimal c
+
+-- ROWS
+
+unfoldable pub dot_cell : Shapes → ℕ → Dot → List ℕ
+dot_cell p n d = padded (fill p n d.position) (cell_width p.window) (if d.worker == n then dot_word d.component else [])
+
+unfoldable pub number_cell : Window → ℕ → List ℕ
+number_cell w n = padded BLANKS.now (cell_width w) (decimal n)
+
+unfoldable pub entry_cell : Window → Dot → List ℕ
+entry_cell w d = number_cell w d.position
+
+-- the row of the entries' numbers. Its first cell, that of the moment before them, is empty
+unfoldable pub entry_row : Window → List Dot → List ℕ
+entry_row w ds = row_name (codes "entry") ++ padded BLANKS.now (cell_width w) [] ++ flat_map (entry_cell w) ds ++ codes "\n"
+
+unfoldable pub worker_row : Named → Shapes → ℕ → List ℕ
+worker_row names p n =
+    row_name (word_of names (targets.Worker n)) ++ padded BLANKS.now (cell_width p.window) [] ++ flat_map (dot_cell p n) p.dots ++ codes "\n"
+
+-- the rows of the first n workers
+unfoldable pub worker_rows : Named → Shapes → ℕ → List ℕ
+worker_rows names p zero = []
+worker_rows names p (suc n) = worker_rows names p n ++ worker_row names p n
+
+-- the count before the first entry, and after each
+unfoldable pub curve_row : Named → Window → Line → List ℕ
+curve_row names w l = row_name (counted_word names l.object) ++ flat_map (number_cell w) l.heights ++ codes "\n"
+
+-- THE WHOLE
+
+unfoldable pub call_line : Named → Placed → List ℕ
+call_line names p = call_words names p ++ codes "\n"
+
+unfoldable pub open_line : Named → Open → List ℕ
+open_line names o = open_words names o ++ codes "\n"
+
+unfoldable pub rows : Named → ℕ → Shapes → List ℕ
+rows names m p = entry_row p.window p.dots ++ worker_rows names p m ++ flat_map (curve_row names p.window) p.curves
+
+-- the text of these shapes, where m workers are declared
+unfoldable pub text : Named → ℕ → Shapes → List ℕ
+text names m p = rows names m p ++ codes "\n" ++ flat_map (call_line names) p.calls ++ flat_map (open_line names) p.begun

@@ -1,0 +1,135 @@
+//! The cells of the rows of a text.
+ghost use Rattle.std.specs.Prelude.{◌≡◌, ◌≤◌, [], decimal};
+ghost use Rattle.std.specs.List.{list_any};
+ghost use Rattle.ec_text.specs.Puts.{Puts};
+ghost use Rattle.ec_draw.specs.Pictures.{kept};
+ghost use Rattle.evc_draw.specs.Text.{cell_width, dot_cell, dot_word, fill, goes_on, goes_through, is_under_way, number_cell, padded, row_name};
+
+use crate::style::{BLANKS, DASHES};
+use ec_draw::{Dot, Open, Picture, Window};
+use ec_order::Placed;
+use ec_text::{Buffered, put};
+use itoa::Buffer;
+use std::io::Write;
+
+/// Puts a word at the right end of a cell.
+#[tactic(auto, unfolding(crate::specs::Text::padded))]
+pub(crate) fn put_padded<W: Write>(
+    out: &mut W,
+    table: &mut Buffered,
+    fill: &[u8],
+    width: usize,
+    word: &[u8],
+)
+    ensures { Puts (W.contents out.old) table.old (W.contents out.new) table.new (padded fill.now width word.now) }
+{
+    let room = width.saturating_sub(word.len()).min(fill.len());
+    put(out, table, &fill[..room]);
+    put(out, table, word);
+}
+
+/// How wide a cell is.
+pub(crate) fn cell_width(window: Window) -> usize
+    ensures { result ≡ cell_width window }
+{
+    if window.to < 1000 { 4 } else { 8 }
+}
+
+/// Puts the name of a row.
+#[tactic(auto, unfolding(crate::specs::Text::row_name))]
+pub(crate) fn put_row_name<W: Write>(out: &mut W, table: &mut Buffered, name: &[u8])
+    ensures { Puts (W.contents out.old) table.old (W.contents out.new) table.new (row_name name.now) }
+{
+    let room = 23usize.saturating_sub(name.len());
+    put(out, table, name);
+    put(out, table, &BLANKS[..room]);
+}
+
+/// Puts a number at the right end of a cell.
+fn put_padded_number<W: Write>(out: &mut W, table: &mut Buffered, fill: &[u8], width: usize, n: u64)
+    ensures { Puts (W.contents out.old) table.old (W.contents out.new) table.new (padded fill.now width (decimal n)) }
+{
+    let mut digits = Buffer::new();
+    put_padded(out, table, fill, width, digits.format(n).as_bytes());
+}
+
+/// Puts a cell with a number.
+#[tactic(auto, unfolding(crate::specs::Text::number_cell))]
+pub(crate) fn put_number_cell<W: Write>(out: &mut W, table: &mut Buffered, window: Window, n: u64)
+    ensures { Puts (W.contents out.old) table.old (W.contents out.new) table.new (number_cell window n) }
+{
+    put_padded_number(out, table, BLANKS, cell_width(window), n);
+}
+
+/// Whether a finished call of a worker is under way just before an entry.
+fn any_goes_through(calls: &[Placed], worker: usize, position: usize) -> bool
+    ensures { result ≡ list_any (goes_through worker position) calls.now }
+{
+    calls.iter().any(|placed| {
+        placed.call.worker.get() == worker
+            && placed.call.first < position
+            && position <= placed.call.last
+    })
+}
+
+/// Whether a call of a worker that never ends is under way just before an entry.
+fn any_goes_on(calls: &[Open], worker: usize, position: usize) -> bool
+    ensures { result ≡ list_any (goes_on worker position) calls.now }
+{
+    calls.iter().any(|begun| begun.worker.get() == worker && begun.first < position)
+}
+
+/// Whether a call of a worker is under way just before an entry.
+fn is_under_way(picture: &Picture, worker: usize, position: usize) -> bool
+    ensures { result ≡ is_under_way (kept picture.now) worker position }
+{
+    any_goes_through(picture.calls.as_slice(), worker, position)
+        || any_goes_on(picture.begun.as_slice(), worker, position)
+}
+
+/// What fills the cell of an entry in the row of a worker.
+fn fill(picture: &Picture, worker: usize, position: usize) -> &'static [u8]
+    ensures { result.now ≡ fill (kept picture.now) worker position }
+{
+    if is_under_way(picture, worker, position) {
+        DASHES
+    } else {
+        BLANKS
+    }
+}
+
+/// Puts the cell of an entry in the row of its worker.
+fn put_own_cell<W: Write>(
+    out: &mut W,
+    table: &mut Buffered,
+    fill: &[u8],
+    width: usize,
+    component: Option<usize>,
+)
+    ensures { Puts (W.contents out.old) table.old (W.contents out.new) table.new (padded fill.now width (dot_word component)) }
+{
+    match component {
+        Some(number) => put_padded_number(out, table, fill, width, number as u64),
+        None => put_padded(out, table, fill, width, b"*"),
+    }
+}
+
+/// Puts the cell of an entry in the row of a worker.
+#[tactic(auto, unfolding(crate::specs::Text::dot_cell))]
+pub(crate) fn put_dot_cell<W: Write>(
+    out: &mut W,
+    table: &mut Buffered,
+    picture: &Picture,
+    worker: usize,
+    dot: &Dot,
+)
+    ensures { Puts (W.contents out.old) table.old (W.contents out.new) table.new (dot_cell (kept picture.now) worker dot.now) }
+{
+    let width = cell_width(picture.window);
+    let fill = fill(picture, worker, dot.position);
+    if dot.worker.get() == worker {
+        put_own_cell(out, table, fill, width, dot.component);
+    } else {
+        put_padded(out, table, fill, width, b"");
+    }
+}

@@ -1,0 +1,228 @@
+//! The picture as a text for a terminal.
+ghost use Rattle.std.specs.Prelude.{◌≡◌, ◌≤◌, ◌<◌, OnOk, OnErr, map};
+ghost use Rattle.std.specs.List.{flat_map};
+ghost use Rattle.std.specs.Io.KnownBytes.{Appends};
+ghost use Rattle.ec_text.specs.Puts.{Puts, AppendsPrefix};
+ghost use Rattle.ec_draw.specs.Curves.{shown};
+ghost use Rattle.ec_draw.specs.Pictures.{kept};
+ghost use Rattle.evc_draw.specs.Text.{call_line, curve_row, dot_cell, entry_cell, entry_row, number_cell, open_line, rows, text, worker_row, worker_rows};
+
+use crate::cells::{cell_width, put_dot_cell, put_number_cell, put_padded, put_row_name};
+use crate::curves::counted_word;
+use crate::style::BLANKS;
+use crate::svg::worker_name;
+use crate::words::{put_call_words, put_open_words};
+use ec_draw::{Curve, Dot, Open, Picture, Window};
+use ec_order::Placed;
+use ec_text::{Buffered, WriteFault, finish, put};
+use ec_trace::{Heading, Spellings};
+use std::io::Write;
+
+/// Puts the number of an entry.
+#[tactic(auto, unfolding(crate::specs::Text::entry_cell))]
+fn put_entry_cell<W: Write>(out: &mut W, table: &mut Buffered, window: Window, dot: &Dot)
+    ensures { Puts (W.contents out.old) table.old (W.contents out.new) table.new (entry_cell window dot.now) }
+{
+    put_number_cell(out, table, window, dot.position as u64);
+}
+
+/// Puts the numbers of the entries.
+fn put_entry_cells<W: Write>(out: &mut W, table: &mut Buffered, window: Window, dots: &[Dot])
+    ensures { Puts (W.contents out.old) table.old (W.contents out.new) table.new (flat_map (entry_cell window) dots.now) }
+{
+    for dot in dots {
+        put_entry_cell(out, table, window, dot);
+    }
+}
+
+/// Puts the row of the entries.
+#[tactic(auto, unfolding(crate::specs::Text::entry_row))]
+fn put_entry_row<W: Write>(out: &mut W, table: &mut Buffered, window: Window, dots: &[Dot])
+    ensures { Puts (W.contents out.old) table.old (W.contents out.new) table.new (entry_row window dots.now) }
+{
+    put_row_name(out, table, b"entry");
+    put_padded(out, table, BLANKS, cell_width(window), b"");
+    put_entry_cells(out, table, window, dots);
+    put(out, table, b"\n");
+}
+
+/// Puts the cells of a worker.
+fn put_dot_cells<W: Write>(
+    out: &mut W,
+    table: &mut Buffered,
+    picture: &Picture,
+    worker: usize,
+    dots: &[Dot],
+)
+    ensures { Puts (W.contents out.old) table.old (W.contents out.new) table.new (flat_map (dot_cell (kept picture.now) worker) dots.now) }
+{
+    for dot in dots {
+        put_dot_cell(out, table, picture, worker, dot);
+    }
+}
+
+/// Puts the row of a worker.
+#[tactic(auto, unfolding(crate::specs::Text::worker_row))]
+fn put_worker_row<W: Write>(
+    out: &mut W,
+    table: &mut Buffered,
+    spellings: &Spellings<'_>,
+    picture: &Picture,
+    worker: usize,
+)
+    requires { worker < 16 }
+    ensures { Puts (W.contents out.old) table.old (W.contents out.new) table.new (worker_row spellings.now (kept picture.now) worker) }
+{
+    put_row_name(out, table, worker_name(spellings, worker));
+    put_padded(out, table, BLANKS, cell_width(picture.window), b"");
+    put_dot_cells(out, table, picture, worker, picture.dots.as_slice());
+    put(out, table, b"\n");
+}
+
+/// Puts the rows of the workers.
+fn put_worker_rows<W: Write>(
+    out: &mut W,
+    table: &mut Buffered,
+    spellings: &Spellings<'_>,
+    picture: &Picture,
+    workers: usize,
+)
+    requires { workers ≤ 16 }
+    ensures { Puts (W.contents out.old) table.old (W.contents out.new) table.new (worker_rows spellings.now (kept picture.now) workers) }
+{
+    for worker in 0..workers {
+        put_worker_row(out, table, spellings, picture, worker);
+    }
+}
+
+/// Puts the numbers of a curve.
+fn put_heights<W: Write>(out: &mut W, table: &mut Buffered, window: Window, heights: &[u64])
+    ensures { Puts (W.contents out.old) table.old (W.contents out.new) table.new (flat_map (number_cell window) heights.now) }
+{
+    for height in heights {
+        put_number_cell(out, table, window, *height);
+    }
+}
+
+/// Puts the row of a curve.
+#[tactic(auto, unfolding(crate::specs::Text::curve_row))]
+fn put_curve_row<W: Write>(
+    out: &mut W,
+    table: &mut Buffered,
+    spellings: &Spellings<'_>,
+    window: Window,
+    curve: &Curve,
+)
+    ensures { Puts (W.contents out.old) table.old (W.contents out.new) table.new (curve_row spellings.now window (shown curve.now)) }
+{
+    put_row_name(out, table, counted_word(spellings, &curve.object));
+    put_heights(out, table, window, curve.heights.as_slice());
+    put(out, table, b"\n");
+}
+
+/// Puts the rows of the curves.
+fn put_curve_rows<W: Write>(
+    out: &mut W,
+    table: &mut Buffered,
+    spellings: &Spellings<'_>,
+    window: Window,
+    curves: &[Curve],
+)
+    ensures { Puts (W.contents out.old) table.old (W.contents out.new) table.new (flat_map (curve_row spellings.now window) (map shown curves.now)) }
+{
+    for curve in curves {
+        put_curve_row(out, table, spellings, window, curve);
+    }
+}
+
+/// Puts the rows.
+#[tactic(auto, unfolding(crate::specs::Text::rows))]
+fn put_all_rows<W: Write>(
+    out: &mut W,
+    table: &mut Buffered,
+    spellings: &Spellings<'_>,
+    workers: usize,
+    picture: &Picture,
+)
+    requires { workers ≤ 16 }
+    ensures { Puts (W.contents out.old) table.old (W.contents out.new) table.new (rows spellings.now workers (kept picture.now)) }
+{
+    put_entry_row(out, table, picture.window, picture.dots.as_slice());
+    put_worker_rows(out, table, spellings, picture, workers);
+    let curves = picture.curves.as_slice();
+    put_curve_rows(out, table, spellings, picture.window, curves);
+}
+
+/// Puts the line of a finished call.
+#[tactic(auto, unfolding(crate::specs::Text::call_line))]
+fn put_call_line<W: Write>(
+    out: &mut W,
+    table: &mut Buffered,
+    spellings: &Spellings<'_>,
+    placed: &Placed,
+)
+    ensures { Puts (W.contents out.old) table.old (W.contents out.new) table.new (call_line spellings.now placed.now) }
+{
+    put_call_words(out, table, spellings, placed);
+    put(out, table, b"\n");
+}
+
+/// Puts the line of a call under way.
+#[tactic(auto, unfolding(crate::specs::Text::open_line))]
+fn put_open_line<W: Write>(
+    out: &mut W,
+    table: &mut Buffered,
+    spellings: &Spellings<'_>,
+    begun: &Open,
+)
+    ensures { Puts (W.contents out.old) table.old (W.contents out.new) table.new (open_line spellings.now begun.now) }
+{
+    put_open_words(out, table, spellings, begun);
+    put(out, table, b"\n");
+}
+
+/// Puts the lines of the finished calls.
+fn put_call_lines<W: Write>(
+    out: &mut W,
+    table: &mut Buffered,
+    spellings: &Spellings<'_>,
+    calls: &[Placed],
+)
+    ensures { Puts (W.contents out.old) table.old (W.contents out.new) table.new (flat_map (call_line spellings.now) calls.now) }
+{
+    for placed in calls {
+        put_call_line(out, table, spellings, placed);
+    }
+}
+
+/// Puts the lines of the calls under way.
+fn put_open_lines<W: Write>(
+    out: &mut W,
+    table: &mut Buffered,
+    spellings: &Spellings<'_>,
+    calls: &[Open],
+)
+    ensures { Puts (W.contents out.old) table.old (W.contents out.new) table.new (flat_map (open_line spellings.now) calls.now) }
+{
+    for begun in calls {
+        put_open_line(out, table, spellings, begun);
+    }
+}
+
+/// Puts the text of a picture.
+#[tactic(auto, unfolding(crate::specs::Text::text))]
+pub(crate) fn put_text<W: Write>(
+    out: &mut W,
+    table: &mut Buffered,
+    spellings: &Spellings<'_>,
+    workers: usize,
+    picture: &Picture,
+)
+    requires { workers ≤ 16 }
+    ensures { Puts (W.contents out.old) table.old (W.contents out.new) table.new (text spellings.now workers (kept picture.now)) }
+{
+    put_all_rows(out, table, spellings, workers, picture);
+    put(out, table, b"\n");
+    put_call_lines(out, table, spellings, picture.calls.as_slice());
+    put_open_lines(out, table, spellings, picture.begun.as_slice());
+}
