@@ -54,34 +54,44 @@ digest_of() {
     } | sha256sum | cut -d ' ' -f 1
 }
 
-# digest_of_sources: that of the program.
-digest_of_sources() {
-    digest_of evc
+# What is released, a line each: its name, the crate that it is made from, and what the gate leaves of that.
+release_table() {
+    cat <<'END'
+evc evc crates/evc/out/evc
+evc-draw evc_draw crates/evc_draw/out/evc_draw
+libevc evc_c crates/evc_c/out/libevc_c.a
+END
 }
 
-# The release: the program for x86-64 Linux, its sum, and the digest of the sources that it was built from. And the same
-# of the library for C.
-release=$top/release/evc-x86_64-linux
-library_release=$top/release/libevc-x86_64-linux
-
-# is_release_of_sources: whether there is a release, and it was built from the sources as they are here.
-is_release_of_sources() {
-    [ -f "$release.gz" ] && [ "$(cd "$top" && digest_of_sources)" = "$(cat "$release.sources" 2>/dev/null)" ]
+# crate_released NAME: the crate that it is made from.
+crate_released() {
+    release_table | awk -v name="$1" '$1 == name { print $2 }'
 }
 
-# unpack NAME FILE: unpacks what was released under a name into the file, and fails where it has not its sum.
-unpack() {
-    gzip -dc "$1.gz" >"$2" 2>/dev/null && [ "$(sha256sum <"$2" | cut -d ' ' -f 1)" = "$(cat "$1.sha256" 2>/dev/null)" ]
+# place_of NAME: where its release stands, for x86-64 Linux: packed as .gz, beside it the sum of what was packed and the digest
+# of the sources that it was built from.
+place_of() {
+    echo "$top/release/$1-x86_64-linux"
 }
 
-# unpack_release FILE: the same of the program.
+# is_release_of NAME: whether there is a release of it, and it was built from the sources as they are here.
+is_release_of() {
+    [ -f "$(place_of "$1").gz" ] &&
+        [ "$(cd "$top" && digest_of "$(crate_released "$1")")" = "$(cat "$(place_of "$1").sources" 2>/dev/null)" ]
+}
+
+# unpack_release NAME FILE: unpacks its release into the file, and fails where that has not its sum.
 unpack_release() {
-    unpack "$release" "$1"
+    gzip -dc "$(place_of "$1").gz" >"$2" 2>/dev/null &&
+        [ "$(sha256sum <"$2" | cut -d ' ' -f 1)" = "$(cat "$(place_of "$1").sha256" 2>/dev/null)" ]
 }
 
-# is_library_release_of_sources: whether there is a released library, and it was built from the sources as they are here.
-is_library_release_of_sources() {
-    [ -f "$library_release.gz" ] && [ "$(cd "$top" && digest_of evc_c)" = "$(cat "$library_release.sources" 2>/dev/null)" ]
+# whole_of NAME FILE: puts what is released under the name, as the gate has just made it, into the file.
+whole_of() {
+    case $1 in
+    lib*) whole_library "$2" ;;
+    *) cp "$top/$(release_table | awk -v name="$1" '$1 == name { print $3 }')" "$2" ;;
+    esac
 }
 
 # whole_library FILE: puts the library that the gate has built, and the three functions of the toolchain by which it takes
