@@ -4,7 +4,7 @@ use Rattle.std.specs.Option.{option_and_then, option_map}
 use Rattle.std.specs.List.{list_any}
 use Rattle.std.proofs.lemmas.Bool.{eqb-true, eq-eqb, leb-false, and_parts}
 use Rattle.std.proofs.lemmas.Bool.Decides.{nat_tests}
-use Rattle.std.proofs.lemmas.Option.{slice_get-map}
+use Rattle.std.proofs.lemmas.Option.{slice_get-map, slice_get_within}
 use Rattle.ec_count.specs.Tables.{Tables}
 use Rattle.ec_core.specs.declared.act.Act.{Act}
 use Rattle.ec_core.specs.declared.act.Act.TheVariants.{Advance, Read, Await, Go, Ticket, Put, Get}
@@ -268,3 +268,35 @@ stepped b x h free within known =
       above = λ u e v g. (each u e v g).1;
       all = λ s. cc;
     }
+
+-- A NEW BOARD
+
+live_if : (b : Bool) (s : Seat) → s ≡ cond b Running Gone → is_live s ≡ true → b ≡ true
+live_if true s is live = refl
+live_if false s is live = sym (ap is_live is) ∙ live
+
+none_waits : (b : Bool) (s : Seat) (e v : ℕ) → s ≡ cond b Running Gone → s ≡ Waiting e v → ⊥
+none_waits true s e v is waits = (let no : Running ≡ Waiting e v = sym is ∙ waits in cc)
+none_waits false s e v is waits = (let no : Gone ≡ Waiting e v = sym is ∙ waits in cc)
+
+-- the seat of a worker, where the first n are live
+seat_there : (seats : List Seat) (n w : ℕ) (s : Seat) → length seats ≡ 16 → ((v : ℕ) → v < 16 → slice_get seats v ≡ Some (cond (nat_lt v n) Running Gone))
+    → slice_get seats w ≡ Some s → s ≡ cond (nat_lt w n) Running Gone
+seat_there seats n w s long is at =
+    let within : w < length seats = slice_get_within seats w s at in
+    let both : Some s ≡ Some (cond (nat_lt w n) Running Gone) = sym at ∙ is w (omega arith) in
+    cc
+
+-- where all who are declared are live and the flag is down, nobody waits
+pub opened : (b : Boarded) (n : ℕ) → n ≡ b.run.setup.workers → length b.seats ≡ 16 → ((w : ℕ) → w < 16 → slice_get b.seats w ≡ Some (cond (nat_lt w n) Running Gone))
+    → b.stuck ≡ false → AreWaiters b
+opened b n all long is down = record {
+  declared = λ w live.
+      (elim (slice_get b.seats w) as (λ o. slice_get b.seats w ≡ o → is_live (unwrap_or o Gone) ≡ true → w < b.run.setup.workers) [
+        | None ↦ λ at h. (cc)
+        | Some s ↦ λ at h. (let below : w < n = lt_of w n (live_if (nat_lt w n) s (seat_there b.seats n w s long is at) h) in omega arith)
+      ] refl live);
+  short = λ w e v at. absurd (none_waits (nat_lt w n) (Waiting e v) e v (seat_there b.seats n w (Waiting e v) long is at) refl);
+  above = λ w e v at. absurd (none_waits (nat_lt w n) (Waiting e v) e v (seat_there b.seats n w (Waiting e v) long is at) refl);
+  all = λ up. (cc);
+}

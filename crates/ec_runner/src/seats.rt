@@ -41,7 +41,8 @@ impl Seats {
     /// The first so many workers are live, and nobody waits.
     pub fn open(workers: usize) -> Self
         requires { workers ≤ 16 }
-        ensures { (w : ℕ) → w < 16 → slice_get result w ≡ Some (if nat_lt w workers then Running else Gone) }
+        ensures seats { (w : ℕ) → w < 16 → slice_get result w ≡ Some (if nat_lt w workers then Running else Gone) }
+        ensures long { length result ≡ 16 }
     {
         Seats {
             table: running(workers),
