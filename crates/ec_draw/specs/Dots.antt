@@ -1,12 +1,12 @@
 -- The dots: one for each entry that is shown, with the component that it read or raised.
-use Rattle.std.specs.Prelude.{ℕ, List, [], ◌∷◌, ◌++◌, length, Option, Some, None, if◌then◌else◌}
+use Rattle.std.specs.Prelude.{ℕ, List, [], ◌∷◌, ◌++◌, length, Option, Some, None, option_and_then, nat_lt, if◌then◌else◌}
 use Rattle.ec_count.specs.Tables.{Tables}
 use Rattle.ec_core.specs.declared.act.Act.{Act}
 use Rattle.ec_core.specs.declared.act.Act.TheVariants.{Advance, Read, Await, Go}
 use Rattle.ec_core.specs.declared.act.Entry.{Entry}
 use Rattle.ec_core.specs.Calls.{CallSoFar, under_way}
-use Rattle.ec_core.specs.Counts.{component_at}
-use Rattle.ec_core.specs.Rounds.{event_or, next_component}
+use Rattle.ec_core.specs.Counts.{component_at, component_total}
+use Rattle.ec_core.specs.Rounds.{event_or, next_component, read_of, width}
 use Rattle.ec_draw.specs.declared.window.Window.{Window}
 use Rattle.ec_draw.specs.declared.dot.Dot.{Dot}
 use Rattle.ec_draw.specs.Windows.{shows}
@@ -25,9 +25,26 @@ component_in t w past (Await e v) = Some 0
 component_in t w past Go = gone_component t (under_way w past)
 component_in t w past act = None
 
+-- what component c of e holds after a past, if there is one
+abbrev pub held_in : Tables → ℕ → ℕ → List Entry → Option ℕ
+held_in t e c past = if nat_lt c (width t e) then Some (component_total t e c past) else None
+
+-- what a go of a call reads
+abbrev pub gone_read : Tables → List Entry → Option CallSoFar → Option ℕ
+gone_read t past None = None
+gone_read t past (Some call) =
+    option_and_then (λ e. held_in t e (next_component t (event_or call.op) call.moments) past) (read_of call.op)
+
+-- what an act of w reads of its component at the end of a past
+abbrev pub number_in : Tables → ℕ → List Entry → Act → Option ℕ
+number_in t w past (Read e) = held_in t e 0 past
+number_in t w past (Await e v) = held_in t e 0 past
+number_in t w past Go = gone_read t past (under_way w past)
+number_in t w past act = None
+
 -- the dot of an entry at the end of a past; the entry's position is the length of its past
 abbrev pub dot_of : Tables → List Entry → Entry → Dot
-dot_of t past x = record { worker = x.worker; position = length past; component = component_in t x.worker past x.act }
+dot_of t past x = record { worker = x.worker; position = length past; component = component_in t x.worker past x.act; number = number_in t x.worker past x.act }
 
 -- the dots of a past: of each entry that is shown, in order
 unfoldable pub dots_of : Tables → Window → List Entry → List Dot

@@ -1,11 +1,12 @@
 //! The dots of entries.
-ghost use Rattle.std.specs.Prelude.{◌≡◌, IfOk, List, length, reverse};
+ghost use Rattle.std.specs.Prelude.{◌≡◌, IfOk, List, length, option_and_then, reverse};
 ghost use Rattle.ec_core.specs.declared.act.Entry.{Entry};
+ghost use Rattle.ec_core.specs.Rounds.{read_of};
 ghost use Rattle.ec_core.specs.Standing.{StandsFor};
-ghost use Rattle.ec_draw.specs.Dots.{component_in, dot_of, dots_of};
+ghost use Rattle.ec_draw.specs.Dots.{component_in, dot_of, dots_of, held_in, number_in};
 
 use crate::Window;
-use ec_core::{Act, Entry, Run, World};
+use ec_core::{Act, Entry, Run, UnderWay, World};
 use ec_count::WorkerId;
 use std::alloc::{AllocError, Global};
 
@@ -15,6 +16,8 @@ pub struct Dot {
     pub worker: WorkerId,
     pub position: usize,
     pub component: Option<usize>,
+    /// What it read of the component.
+    pub number: Option<u64>,
 }
 
 /// The component that an act reads or raises in a world.
@@ -33,6 +36,32 @@ fn component_in(world: &World, worker: WorkerId, act: Act) -> Option<usize>
     }
 }
 
+/// What a go of a call reads in a world.
+fn gone_read(world: &World, call: &UnderWay) -> Option<u64>
+    ensures { (h : List Entry) → StandsFor world.now h
+        → result ≡ option_and_then (λ e. held_in world.now.setup e call.now.index (reverse h)) (read_of call.now.op) }
+{
+    match call.op() {
+        Act::Read(event) | Act::Await(event, _) => world.component(event, call.index()),
+        Act::Advance(_) | Act::Go | Act::Ticket(_) | Act::Put(_, _) | Act::Get(_) => None,
+    }
+}
+
+/// What an act reads of its component in a world.
+fn number_in(world: &World, worker: WorkerId, act: Act) -> Option<u64>
+    ensures { (h : List Entry) → StandsFor world.now h
+        → result ≡ number_in world.now.setup worker (reverse h) act }
+{
+    match act {
+        Act::Read(event) | Act::Await(event, _) => world.component(event, 0),
+        Act::Go => match world.under_way(worker) {
+            Some(call) => gone_read(world, &call),
+            None => None,
+        },
+        Act::Advance(_) | Act::Ticket(_) | Act::Put(_, _) | Act::Get(_) => None,
+    }
+}
+
 /// The dot of an entry that comes next in a world.
 fn dot_of(world: &World, position: usize, entry: &Entry) -> Dot
     ensures { (h : List Entry) → StandsFor world.now h → position ≡ length (reverse h)
@@ -42,6 +71,7 @@ fn dot_of(world: &World, position: usize, entry: &Entry) -> Dot
         worker: entry.worker,
         position,
         component: component_in(world, entry.worker, entry.act),
+        number: number_in(world, entry.worker, entry.act),
     }
 }
 

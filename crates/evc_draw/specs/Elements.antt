@@ -1,5 +1,5 @@
 -- The elements of a picture, as bytes.
-use Rattle.std.specs.Prelude.{ℕ, List, [], ◌++◌, length, nat_lt, codes, decimal, if◌then◌else◌}
+use Rattle.std.specs.Prelude.{ℕ, List, [], ◌++◌, length, Bool, nat_lt, codes, decimal, if◌then◌else◌}
 use Rattle.evc_draw.specs.declared.style.TheConstants.{BAR}
 
 -- two numbers, each behind its name
@@ -21,8 +21,8 @@ unfoldable pub diamond : ℕ → ℕ → List ℕ
 diamond x y = pair (codes "<path class='mark' d='M ") x (codes " ") y ++ codes " m 0 -6 l 6 6 l -6 6 l -6 -6 z'/>\n"
 
 -- a text of more than 13 letters is written small, and squeezed into its column where the viewer can
-abbrev pub squeeze : ℕ → List ℕ
-squeeze n = if nat_lt 13 n then codes " long' textLength='78' lengthAdjust='spacingAndGlyphs" else []
+abbrev pub squeeze : Bool → List ℕ
+squeeze is_long = if is_long then codes " long' textLength='78' lengthAdjust='spacingAndGlyphs" else []
 
 unfoldable pub text_start : List ℕ → ℕ → ℕ → List ℕ
 text_start class x y = codes "<text class='" ++ class ++ pair (codes "' x='") x (codes "' y='") y ++ codes "'>"
@@ -38,4 +38,4 @@ name_text class x y name = text_start class x y ++ name ++ text_end
 
 unfoldable pub object_text : ℕ → ℕ → List ℕ → List ℕ
 object_text x y name =
-    codes "<text class='object" ++ squeeze (length name) ++ pair (codes "' x='") x (codes "' y='") y ++ codes "'>" ++ name ++ text_end
+    codes "<text class='object" ++ squeeze (nat_lt 13 (length name)) ++ pair (codes "' x='") x (codes "' y='") y ++ codes "'>" ++ name ++ text_end

@@ -1,5 +1,5 @@
 -- The picture as bytes: a function of its shapes and of the names of the heading.
-use Rattle.std.specs.Prelude.{ℕ, ◌+◌, ◌-◌, ◌*◌, min, zero, suc, ◌==◌, ◌&&◌, nat_le, nat_lt, Bool, List, [], ◌++◌, length, Option, Some, None, slice_get, unwrap_or, codes, decimal, if◌then◌else◌}
+use Rattle.std.specs.Prelude.{ℕ, ◌+◌, ◌-◌, ◌*◌, min, zero, suc, ◌==◌, ◌&&◌, nat_le, nat_lt, Bool, false, List, [], ◌++◌, length, Option, Some, None, slice_get, unwrap_or, codes, decimal, if◌then◌else◌}
 use Rattle.std.specs.List.{flat_map}
 use Rattle.ec_count.specs.declared.target.Target.TheVariants as targets
 use Rattle.ec_core.specs.declared.act.Act.{Act}
@@ -19,7 +19,7 @@ use Rattle.ec_draw.specs.declared.curve.Counted.TheVariants as counted
 use Rattle.ec_draw.specs.Curves.{Line}
 use Rattle.ec_draw.specs.Pictures.{Shapes}
 use Rattle.evc_draw.specs.Places.{low_of, high_of, edge, centre, row, below, base, level, picture_width, picture_height}
-use Rattle.evc_draw.specs.Elements.{pair, line, rect, circle, diamond, number_text, name_text, object_text, text_start, text_end}
+use Rattle.evc_draw.specs.Elements.{pair, squeeze, line, rect, circle, diamond, number_text, name_text, object_text, text_start, text_end}
 use Rattle.evc_draw.specs.Words.{call_words, open_words}
 use Rattle.evc_draw.specs.declared.style.TheConstants.{OPENING, OPEN_GROUP, STYLE}
 
@@ -41,8 +41,17 @@ value_words (Await e v) = codes " " ++ decimal v
 value_words (Put x v) = codes " " ++ decimal v
 value_words act = []
 
+-- whether the words of an act have more than 13 letters
+abbrev pub is_long : Act → Bool
+is_long (Await e v) = nat_lt 9999999 v
+is_long (Put x v) = nat_lt 999999999 v
+is_long act = false
+
+unfoldable pub act_start : ℕ → ℕ → Act → List ℕ
+act_start x y act = codes "<text class='act" ++ squeeze (is_long act) ++ pair (codes "' x='") x (codes "' y='") y ++ codes "'>"
+
 unfoldable pub act_text : ℕ → ℕ → Act → List ℕ
-act_text x y act = text_start (codes "act") x y ++ kind_word act ++ value_words act ++ text_end
+act_text x y act = act_start x y act ++ kind_word act ++ value_words act ++ text_end
 
 -- the object that an act names
 abbrev pub object_label : Named → ℕ → ℕ → Act → List ℕ
@@ -100,13 +109,21 @@ open_element names w o = open_front names w o ++ label names (edge w o.first + 3
 
 -- DOTS
 
-abbrev pub component_text : ℕ → ℕ → Option ℕ → List ℕ
-component_text x y None = []
-component_text x y (Some c) = number_text (codes "component") x y c
+abbrev pub read_words : Option ℕ → List ℕ
+read_words None = []
+read_words (Some n) = codes "=" ++ decimal n
+
+-- a component, and what was read of it
+unfoldable pub component_label : ℕ → ℕ → ℕ → Option ℕ → List ℕ
+component_label x y c number = text_start (codes "component") x y ++ decimal c ++ read_words number ++ text_end
+
+abbrev pub component_text : ℕ → ℕ → Option ℕ → Option ℕ → List ℕ
+component_text x y None number = []
+component_text x y (Some c) number = component_label x y c number
 
 unfoldable pub dot_element : Window → Dot → List ℕ
 dot_element w d =
-    circle (centre w d.position) (row d.worker + 43) ++ component_text (centre w d.position + 9) (row d.worker + 47) d.component
+    circle (centre w d.position) (row d.worker + 43) ++ component_text (centre w d.position + 9) (row d.worker + 47) d.component d.number
 
 -- the column of an entry: a line at its left edge, and its number
 unfoldable pub column_element : Window → ℕ → Dot → List ℕ

@@ -4,9 +4,11 @@ ghost use Rattle.ec_heading.specs.Spelling.{cell_word};
 ghost use Rattle.evc_draw.specs.Elements.{name_text};
 ghost use Rattle.std.specs.List.{flat_map};
 ghost use Rattle.ec_text.specs.Puts.{Puts};
-ghost use Rattle.evc_draw.specs.Svg.{act_text, call_bar, call_element, call_front, call_title, kind_word, label, object_label, reply_text, round_line, value_words};
+ghost use Rattle.evc_draw.specs.Svg.{act_start, act_text, call_bar, call_element, call_front, call_title, is_long, kind_word, label, object_label, reply_text, round_line, value_words};
 
-use crate::elements::{Place, end_text, put_line, put_object_text, put_rect, start_text};
+use crate::elements::{
+    Place, end_text, put_line, put_object_text, put_pair, put_rect, put_squeeze, start_text,
+};
 use crate::places::{edge, end_of, row};
 use crate::words::put_call_words;
 use ec_core::{Act, Reply};
@@ -45,12 +47,34 @@ fn put_value<W: Write>(out: &mut W, table: &mut Buffered, act: &Act)
     }
 }
 
+/// Whether the words of an act have more than 13 letters.
+fn is_long(act: &Act) -> bool
+    ensures { result ≡ is_long act.now }
+{
+    match *act {
+        Act::Await(_, value) => value > 9_999_999,
+        Act::Put(_, value) => value > 999_999_999,
+        Act::Advance(_) | Act::Read(_) | Act::Go | Act::Ticket(_) | Act::Get(_) => false,
+    }
+}
+
+/// Puts the beginning of the text of an act.
+#[tactic(auto, unfolding(crate::specs::Svg::act_start))]
+fn put_act_start<W: Write>(out: &mut W, table: &mut Buffered, at: Place, act: &Act)
+    ensures { Puts (W.contents out.old) table.old (W.contents out.new) table.new (act_start at.x at.y act.now) }
+{
+    put(out, table, b"<text class='act");
+    put_squeeze(out, table, is_long(act));
+    put_pair(out, table, b"' x='", at.x, b"' y='", at.y);
+    put(out, table, b"'>");
+}
+
 /// Puts what was asked for.
 #[tactic(auto, unfolding(crate::specs::Svg::act_text))]
 fn put_act_text<W: Write>(out: &mut W, table: &mut Buffered, at: Place, act: &Act)
     ensures { Puts (W.contents out.old) table.old (W.contents out.new) table.new (act_text at.x at.y act.now) }
 {
-    start_text(out, table, b"act", at);
+    put_act_start(out, table, at, act);
     put_kind(out, table, act);
     put_value(out, table, act);
     end_text(out, table);

@@ -2,24 +2,51 @@
 ghost use Rattle.std.specs.Prelude.{◌≡◌};
 ghost use Rattle.std.specs.List.{flat_map};
 ghost use Rattle.ec_text.specs.Puts.{Puts};
-ghost use Rattle.evc_draw.specs.Svg.{column_element, component_text, dot_element};
+ghost use Rattle.evc_draw.specs.Svg.{column_element, component_label, component_text, dot_element, read_words};
 
-use crate::elements::{Place, put_circle, put_line, put_number_text};
+use crate::elements::{Place, end_text, put_circle, put_line, put_number_text, start_text};
 use crate::places::{centre, edge, row};
 use ec_draw::{Dot, Window};
-use ec_text::Buffered;
+use ec_text::{Buffered, put, put_number};
 use std::io::Write;
 
-/// Puts the number of a component.
-fn put_component<W: Write>(out: &mut W, table: &mut Buffered, at: Place, component: Option<usize>)
-    ensures { Puts (W.contents out.old) table.old (W.contents out.new) table.new (component_text at.x at.y component) }
+/// Puts the number that was read.
+fn put_read<W: Write>(out: &mut W, table: &mut Buffered, number: Option<u64>)
+    ensures { Puts (W.contents out.old) table.old (W.contents out.new) table.new (read_words number) }
 {
-    if let Some(number) = component {
-        put_number_text(out, table, b"component", at, number as u64);
+    if let Some(n) = number {
+        put(out, table, b"=");
+        put_number(out, table, n);
     }
 }
 
-/// Puts a dot, with the component that was read or raised.
+/// Puts a component, and what was read of it.
+#[tactic(auto, unfolding(crate::specs::Svg::component_label))]
+fn put_component_label<W: Write>(
+    out: &mut W,
+    table: &mut Buffered,
+    at: Place,
+    component: usize,
+    number: Option<u64>,
+)
+    ensures { Puts (W.contents out.old) table.old (W.contents out.new) table.new (component_label at.x at.y component number) }
+{
+    start_text(out, table, b"component", at);
+    put_number(out, table, component as u64);
+    put_read(out, table, number);
+    end_text(out, table);
+}
+
+/// Puts the component of a dot, if it has one.
+fn put_component<W: Write>(out: &mut W, table: &mut Buffered, at: Place, dot: &Dot)
+    ensures { Puts (W.contents out.old) table.old (W.contents out.new) table.new (component_text at.x at.y dot.now.component dot.now.number) }
+{
+    if let Some(component) = dot.component {
+        put_component_label(out, table, at, component, dot.number);
+    }
+}
+
+/// Puts a dot, with the component that was read or raised, and what was read of it.
 #[tactic(auto, unfolding(crate::specs::Svg::dot_element))]
 fn put_dot<W: Write>(out: &mut W, table: &mut Buffered, window: Window, dot: &Dot)
     ensures { Puts (W.contents out.old) table.old (W.contents out.new) table.new (dot_element window dot.now) }
@@ -34,7 +61,7 @@ fn put_dot<W: Write>(out: &mut W, table: &mut Buffered, window: Window, dot: &Do
             x: x + 9,
             y: y + 47,
         },
-        dot.component,
+        dot,
     );
 }
 

@@ -134,11 +134,11 @@ pub(crate) fn put_name_text<W: Write>(
     end_text(out, table);
 }
 
-/// Puts what squeezes a text of so many letters into its column, if it has too many.
-fn put_squeeze<W: Write>(out: &mut W, table: &mut Buffered, letters: usize)
-    ensures { Puts (W.contents out.old) table.old (W.contents out.new) table.new (squeeze letters) }
+/// Puts what squeezes a long text into its column.
+pub(crate) fn put_squeeze<W: Write>(out: &mut W, table: &mut Buffered, is_long: bool)
+    ensures { Puts (W.contents out.old) table.old (W.contents out.new) table.new (squeeze is_long) }
 {
-    if letters > 13 {
+    if is_long {
         put(
             out,
             table,
@@ -153,7 +153,7 @@ pub(crate) fn put_object_text<W: Write>(out: &mut W, table: &mut Buffered, at: P
     ensures { Puts (W.contents out.old) table.old (W.contents out.new) table.new (object_text at.x at.y name.now) }
 {
     put(out, table, b"<text class='object");
-    put_squeeze(out, table, name.len());
+    put_squeeze(out, table, name.len() > 13);
     put_pair(out, table, b"' x='", at.x, b"' y='", at.y);
     put(out, table, b"'>");
     put_name_end(out, table, name);
