@@ -68,8 +68,8 @@ crate_released() {
     release_table | awk -v name="$1" '$1 == name { print $2 }'
 }
 
-# place_of NAME: where its release stands, for x86-64 Linux: packed as .gz, beside it the sum of what was packed and the digest
-# of the sources that it was built from.
+# place_of NAME: where its release stands, for x86-64 Linux: packed as .gz, beside it the sum of what was packed and
+# the digest of the sources that it was built from.
 place_of() {
     echo "$top/release/$1-x86_64-linux"
 }
@@ -94,8 +94,8 @@ whole_of() {
     esac
 }
 
-# whole_library FILE: puts the library that the gate has built, and the three functions of the toolchain by which it takes
-# memory, into one archive.
+# whole_library FILE: puts the library that the gate has built, and the three functions of the toolchain by which it
+# takes memory, into one archive.
 whole_library() {
     folder=$(dirname -- "$(rt doc)") || return 1
     rm -f "$1"
