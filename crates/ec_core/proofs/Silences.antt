@@ -11,19 +11,19 @@ use Rattle.ec_count.specs.Tables.{Tables, may_take, may_write, is_silent}
 use Rattle.ec_count.specs.Members.{is_member, place_of}
 use Rattle.ec_count.proofs.shared.Quiet.{silent_has_none, silent_from_none}
 use Rattle.ec_core.specs.declared.act.Act.{Act}
-use Rattle.ec_core.specs.declared.act.Act.TheVariants.{Advance, Read, Await, Go, Ticket, Put, Get}
+use Rattle.ec_core.specs.declared.act.Act.TheVariants.{Advance, Read, Await, Go, Ticket, Put, Get, Hand}
 use Rattle.ec_core.specs.declared.act.Reply.TheVariants.{Number, Pending}
 use Rattle.ec_core.specs.declared.act.Entry.{Entry}
 use Rattle.ec_core.specs.Counts.{past_at, component_total, issued, cell_value, is_advance, is_ticket, is_place, put_in, handed, signallers_at, component_at}
 use Rattle.ec_core.specs.Calls.{CallSoFar, under_way, gone_on, is_pending}
 use Rattle.ec_core.specs.Rounds.{event_or, width, sum_read, next_component, round_reply, read_reply, go_reply, IsPastOf, EachIsPastOf}
-use Rattle.ec_core.specs.Acceptance.{reply_of, answer_of, refusal_of, refusal_in, refused_or, has_right, is_at_limit, IsAccepted}
+use Rattle.ec_core.specs.Acceptance.{reply_of, answer_of, refusal_of, refusal_in, refused_or, has_right, is_at_limit, signals_already, IsAccepted}
 use Rattle.ec_core.specs.Silence.{IsSilent, without}
 use Rattle.ec_core.specs.Laws.{OthersStand}
 use Rattle.ec_core.proofs.shared.Answering.{allowed}
 use Rattle.ec_core.proofs.shared.Moments.{accepted_until, answered_after, split_at}
 use Rattle.ec_core.proofs.shared.Pasts.{past_itself, past_of_past, past_later, call_before, IsCallBefore}
-use Rattle.ec_core.proofs.shared.Signalling.{handed_by_none, as_declared}
+use Rattle.ec_core.proofs.shared.Signalling.{handed_by_none}
 
 -- a worker that signals nothing at any moment of a past, takes from no sequencer and writes no cell
 pub record IsQuiet (t : Tables) (past : List Entry) (w : ℕ) : Type 0 where
@@ -81,6 +81,7 @@ no_ticket t past w q (Await f v) right silent = refl
 no_ticket t past w q Go right silent = refl
 no_ticket t past w q (Put x v) right silent = refl
 no_ticket t past w q (Get x) right silent = refl
+no_ticket t past w q (Hand e f) right silent = refl
 
 no_put : (t : Tables) (past : List Entry) (w x : ℕ) (act : Act) → not (has_right t past w act) ≡ false → IsQuiet t past w → put_in x act ≡ None
 no_put t past w x (Put y v) right silent = (let quiet : may_write t y w ≡ false = silent.writes y in cc)
@@ -90,6 +91,7 @@ no_put t past w x (Await f v) right silent = refl
 no_put t past w x Go right silent = refl
 no_put t past w x (Ticket q) right silent = refl
 no_put t past w x (Get y) right silent = refl
+no_put t past w x (Hand e f) right silent = refl
 
 issued_without : (t : Tables) (s : ℕ → Bool) (q : ℕ) (past : List Entry) → IsAccepted t past → AreQuiet t s past → issued q (without s past) ≡ issued q past
 unfolding issued
@@ -125,6 +127,7 @@ gone_without s (Await e v) past o = refl
 gone_without s (Ticket q) past o = refl
 gone_without s (Put x v) past o = refl
 gone_without s (Get x) past o = refl
+gone_without s (Hand e f) past o = refl
 
 if_without : (s : ℕ → Bool) (b : Bool) (o : Option CallSoFar) → cond b (option_map (call_without s) o) None ≡ option_map (call_without s) (cond b o None)
 if_without s true o = refl
@@ -185,6 +188,7 @@ reply_without t s past w Go acc silent kept = ap (go_reply t (without s past)) (
 reply_without t s past w (Ticket q) acc silent kept = ap Number (issued_without t s q past acc silent)
 reply_without t s past w (Put x v) acc silent kept = refl
 reply_without t s past w (Get x) acc silent kept = ap Number (cell_without t s x past acc silent)
+reply_without t s past w (Hand e b) acc silent kept = refl
 
 full_in : (t : Tables) (s : ℕ → Bool) (e : ℕ) (past : List Entry) (o : Option ℕ) → AreQuiet t s past
     → option_map_or (λ c. component_total t e c (without s past) == t.limit) o false ≡ option_map_or (λ c. component_total t e c past == t.limit) o false
@@ -202,6 +206,7 @@ full_without t s past w (Await e v) acc silent = refl
 full_without t s past w Go acc silent = refl
 full_without t s past w (Put x v) acc silent = refl
 full_without t s past w (Get x) acc silent = refl
+full_without t s past w (Hand e f) acc silent = refl
 
 right_without : (t : Tables) (s : ℕ → Bool) (past : List Entry) (w : ℕ) (act : Act) → AreQuiet t s past → has_right t (without s past) w act ≡ has_right t past w act
 right_without t s past w (Advance e) silent = ap is_some (component_without t s e past w silent)
@@ -211,15 +216,30 @@ right_without t s past w Go silent = refl
 right_without t s past w (Ticket q) silent = refl
 right_without t s past w (Put x v) silent = refl
 right_without t s past w (Get x) silent = refl
+right_without t s past w (Hand e b) silent = ap is_some (component_without t s e past w silent)
+
+already_without : (t : Tables) (s : ℕ → Bool) (past : List Entry) (act : Act) → AreQuiet t s past → signals_already t (without s past) act ≡ signals_already t past act
+already_without t s past (Hand e b) silent = ap is_some (component_without t s e past b silent)
+already_without t s past (Advance e) silent = refl
+already_without t s past (Read e) silent = refl
+already_without t s past (Await e v) silent = refl
+already_without t s past Go silent = refl
+already_without t s past (Ticket q) silent = refl
+already_without t s past (Put x v) silent = refl
+already_without t s past (Get x) silent = refl
 
 -- the others are answered alike
 pub answer_without : (t : Tables) (s : ℕ → Bool) (past : List Entry) (w : ℕ) (act : Act) → IsAccepted t past → AreQuiet t s past → s w ≡ false
     → answer_of t (without s past) w act ≡ answer_of t past w act
 unfolding answer_of
 answer_without t s past w act acc silent kept =
-    ap (λ b. refused_or (refusal_in t w act b (has_right t (without s past) w act) (is_at_limit t (without s past) w act)) (reply_of t (without s past) w act)) (ap is_some (under_way_without s w past kept) ∙ is_some_without s (under_way w past))
-    ∙ ap (λ b. refused_or (refusal_in t w act (is_some (under_way w past)) b (is_at_limit t (without s past) w act)) (reply_of t (without s past) w act)) (right_without t s past w act silent)
-    ∙ ap (λ b. refused_or (refusal_in t w act (is_some (under_way w past)) (has_right t past w act) b) (reply_of t (without s past) w act)) (full_without t s past w act acc silent)
+    let r = reply_of t (without s past) w act in
+    let full = is_at_limit t (without s past) w act in
+    let already = signals_already t (without s past) act in
+    ap (λ b. refused_or (refusal_in t w act b (has_right t (without s past) w act) full already) r) (ap is_some (under_way_without s w past kept) ∙ is_some_without s (under_way w past))
+    ∙ ap (λ b. refused_or (refusal_in t w act (is_some (under_way w past)) b full already) r) (right_without t s past w act silent)
+    ∙ ap (λ b. refused_or (refusal_in t w act (is_some (under_way w past)) (has_right t past w act) b already) r) (full_without t s past w act acc silent)
+    ∙ ap (λ b. refused_or (refusal_in t w act (is_some (under_way w past)) (has_right t past w act) (is_at_limit t past w act) b) r) (already_without t s past act silent)
     ∙ ap (refused_or (refusal_of t past w act)) (reply_without t s past w act acc silent kept)
 
 -- what is left is accepted
