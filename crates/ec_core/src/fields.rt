@@ -1,5 +1,5 @@
 //! What a step asks of a setup and of the arrays of a world, and what it does to them.
-ghost use Rattle.std.specs.Prelude.{◌≡◌, ℕ, ◌<◌, ◌≤◌, length, slice_get, Some, IfSome};
+ghost use Rattle.std.specs.Prelude.{◌≡◌, ℕ, false, ◌<◌, ◌≤◌, length, slice_get, Some, IfSome};
 ghost use Rattle.ec_count.specs.Counted.{raised};
 ghost use Rattle.ec_count.specs.Members.{place_of, is_member};
 ghost use Rattle.ec_count.specs.Tables.{signallers};

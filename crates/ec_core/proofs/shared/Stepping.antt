@@ -68,11 +68,11 @@ answer_is s past w act st lt named =
 
 -- COUNTS
 
-comp_quiet : (t : Tables) (e c : ℕ) (x : Entry) (past : List Entry) → is_advance e x.act ≡ false → component_total t e c (x ∷ past) ≡ component_total t e c past
+pub comp_quiet : (t : Tables) (e c : ℕ) (x : Entry) (past : List Entry) → is_advance e x.act ≡ false → component_total t e c (x ∷ past) ≡ component_total t e c past
 unfolding component_total
 comp_quiet t e c x past h = rw h (zero-add (component_total t e c past))
 
-issued_quiet : (q : ℕ) (x : Entry) (past : List Entry) → is_ticket q x.act ≡ false → issued q (x ∷ past) ≡ issued q past
+pub issued_quiet : (q : ℕ) (x : Entry) (past : List Entry) → is_ticket q x.act ≡ false → issued q (x ∷ past) ≡ issued q past
 unfolding issued
 issued_quiet q x past h = rw h (zero-add (issued q past))
 

@@ -49,7 +49,8 @@ raised_sum true o n f h =
     rw k.1 (one_more n f k.0 k.2)
 raised_sum false o n f h = same_sum n f
 
-some_of : (o : Option ℕ) → not (is_some o) ≡ false → (d : ℕ) × (o ≡ Some d)
+-- what an option that is some holds
+pub some_of : (o : Option ℕ) → not (is_some o) ≡ false → (d : ℕ) × (o ≡ Some d)
 some_of None h = cc
 some_of (Some d) h = (d, refl)
 
