@@ -44,11 +44,12 @@ pub hands_change : HandsChangeNoNumber
 hands_change t h k e b x at is =
     let n = no_number e b x.act is in
     let past = past_at k h in
-    let next : past_at (k + 1) h ≡ x ∷ past = ap (λ i. past_at i h) (add-one k) ∙ past_next h k x at in
-    (λ f. ap (total f) next ∙ total_quiet f x past (n.advance f),
-    λ f c. ap (component_total t f c) next ∙ comp_quiet t f c x past (n.advance f),
-    λ q. ap (issued q) next ∙ issued_quiet q x past (n.ticket q),
-    λ y. ap (cell_value y) next ∙ cell_quiet y x past (n.put y))
+    let next : past_at (k + 1) h ≡ x ∷ past = ap (λ i. past_at i h) (add-one k) ∙ past_next h k x at in (
+      λ f. ap (total f) next ∙ total_quiet f x past (n.advance f),
+      λ f c. ap (component_total t f c) next ∙ comp_quiet t f c x past (n.advance f),
+      λ q. ap (issued q) next ∙ issued_quiet q x past (n.ticket q),
+      λ y. ap (cell_value y) next ∙ cell_quiet y x past (n.put y),
+    )
 
 -- the receiver, where there is one
 abbrev latest : Option ℕ → Option ℕ → Option ℕ

@@ -327,8 +327,8 @@ received t past v w (Hand e b) reply answered is =
     let k = some_of (component_at t e past v) (allowed t past v (Hand e b) reply answered).0.right in
     let within : k.0 < 0 + length ws = place_within v ws 0 k.0 k.1 in
     let after : place_of w (cond (e == e) (replaced (place_of v ws) b ws) ws) ≡ place_of w (slice_set ws k.0 w) =
-        ap (λ same. place_of w (cond same (replaced (place_of v ws) b ws) ws)) (eq-eqb e e refl)
-        ∙ ap (λ o. place_of w (replaced o b ws)) k.1 ∙ ap (λ u. place_of w (slice_set ws k.0 u)) (eqb-true b w is) in
+    ap (λ same. place_of w (cond same (replaced (place_of v ws) b ws) ws)) (eq-eqb e e refl)
+    ∙ ap (λ o. place_of w (replaced o b ws)) k.1 ∙ ap (λ u. place_of w (slice_set ws k.0 u)) (eqb-true b w is) in
     (e, λ none. set_some w ws 0 k.0 (omega arith) (sym after ∙ none))
 received t past v w (Advance f) reply answered is = cc
 received t past v w (Read f) reply answered is = cc

@@ -121,6 +121,7 @@ impl Run {
     pub fn is_silent(&self, worker: WorkerId) -> bool
         ensures { IsTrue result ↔ IsSilent self.now.setup self.now.entries worker }
     {
+        self.known();
         if !self.setup().is_silent(worker) {
             return false;
         }
