@@ -1,5 +1,5 @@
 -- Hands in order of time.
-use Rattle.std.proofs.Common.{◌≡◌, ◌≢◌, ℕ, zero, suc, ◌+◌, ◌<◌, Bool, true, false, List, [], ◌∷◌, length, Option, Some, None, ◌⊎◌, inl, inr, unwrap_or, slice_get, slice_set, refl, ap, sym, ◌∙◌, arith, add-one, subst, cond, ◌==◌}
+use Rattle.std.proofs.Common.{◌≡◌, ◌≢◌, ℕ, zero, suc, ◌+◌, ◌<◌, Bool, true, false, List, ◌∷◌, length, Option, Some, None, ◌⊎◌, inl, inr, unwrap_or, slice_get, refl, ap, sym, ◌∙◌, arith, add-one, subst, cond, ◌==◌}
 use Rattle.std.specs.Option.{option_and_then}
 use Rattle.std.proofs.Math.Nat.{zero-add}
 use Rattle.std.proofs.lemmas.Bool.{eqb-true, eqb-false}

@@ -24,7 +24,7 @@ pub returns : goal.returns
 returns c =
     let run = c.args.self.now in
     let same : c.is_silent.result ≡ is_silent run.setup c.args.worker = c.is_silent.ensures ∙ ap (λ t. is_silent t c.args.worker) c.setup.ensures in
-    let rest : c.loop-entry.yielded ++ [] ≡ run.entries = ap (λ (r : List Entry). c.loop-entry.yielded ++ r) (sym c.in-None.ensures.steps) ∙ c.loop-entry.invariant.order in
+    let rest : c.loop-entry.yielded ++ [] ≡ run.entries = ap (λ (r : List Entry). c.loop-entry.yielded ++ r) (sym c.in-None.ensures.steps.0) ∙ c.loop-entry.invariant.order in
     let whole : c.loop-entry.yielded ≡ run.entries = sym (append-nil c.loop-entry.yielded) ∙ rest in
     let none : list_any (λ (x : Entry). hands_to c.args.worker x.act) run.entries ≡ false = ap (list_any (λ (x : Entry). hands_to c.args.worker x.act)) (sym whole) ∙ c.loop-entry.invariant.none in
     (λ yes. silent_by_entries run.setup run.entries c.args.worker (sym same ∙ c.if-not-is_silent.false) none, λ silent. cc)
