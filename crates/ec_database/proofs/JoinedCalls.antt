@@ -5,7 +5,7 @@ use Rattle.std.proofs.lemmas.Bool.{eq-eqb, and_from}
 use Rattle.std.proofs.lemmas.List.{length-take-le, length-replicate}
 use Rattle.std.proofs.lemmas.Option.{slice_get_within, slice_get_past, slice_get-get_or}
 use Rattle.ec_core.specs.declared.act.Act.{Act}
-use Rattle.ec_core.specs.declared.act.Act.TheVariants.{Advance, Read, Await, Go, Ticket, Put, Get}
+use Rattle.ec_core.specs.declared.act.Act.TheVariants.{Advance, Read, Await, Go, Ticket, Put, Get, Hand}
 use Rattle.ec_core.specs.CallLists.{is_act, is_due, unvalued, rule_of}
 use Rattle.ec_core.specs.Following.{Told}
 use Rattle.ec_core.specs.JoinedLists.{ComesNext, IsBeginning, IsWholeList, IsJoined, SpeaksOf, is_whole}
@@ -26,6 +26,7 @@ act_self Go = refl
 act_self (Ticket q) = eq-eqb q q refl
 act_self (Put x v) = and_from (x == x) (v == v) (eq-eqb x x refl) (eq-eqb v v refl)
 act_self (Get x) = eq-eqb x x refl
+act_self (Hand e b) = and_from (e == e) (b == b) (eq-eqb e e refl) (eq-eqb b b refl)
 
 -- the call that comes next is that of the list, at whose places nothing changes once they were reached
 record IsList (call : List Told → Option Act) (list : List Told → List Act) : Type 0 where
