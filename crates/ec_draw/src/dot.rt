@@ -32,7 +32,7 @@ fn component_in(world: &World, worker: WorkerId, act: Act) -> Option<usize>
             Some(call) => Some(call.index()),
             None => None,
         },
-        Act::Ticket(_) | Act::Put(_, _) | Act::Get(_) | Act::Hand(_, _) => None,
+        Act::Ticket(_) | Act::Put(_, _) | Act::Get(_) => None,
     }
 }
 

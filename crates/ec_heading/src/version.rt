@@ -7,9 +7,9 @@ use ec_count::Limit;
 /// The version of a trace or a script, which stands at the end of its first line.
 #[derive(Clone, Copy, Debug, PartialEq, Eq)]
 pub enum Version {
-    /// The limit goes up to 4294967295, and there is no hand.
+    /// The limit goes up to 4294967295.
     One,
-    /// The limit goes up to 281474976710655, and components are handed over.
+    /// The limit goes up to 281474976710655.
     Two,
 }
 

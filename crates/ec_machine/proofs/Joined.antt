@@ -250,7 +250,6 @@ go_is (acts.Await e v) is = cc
 go_is (acts.Ticket q) is = cc
 go_is (acts.Put x v) is = cc
 go_is (acts.Get x) is = cc
-go_is (acts.Hand e b) is = cc
 
 due_of : (due o : Option Act) (act : Act) → is_go act ≡ is_some o → due ≡ Some (begun_by act o) → next_of (is_some o) due ≡ Some act
 due_of due None act go is = is ∙ ap (λ a. Some a) (begun_alone act)

@@ -15,8 +15,6 @@ mod drive;
 #[cfg(test)]
 mod example_tests;
 #[cfg(test)]
-mod hand_tests;
-#[cfg(test)]
 mod histories;
 #[cfg(test)]
 mod ids;

@@ -3,7 +3,7 @@ use Rattle.std.specs.Prelude.{ℕ, ◌+◌, ◌-◌, ◌*◌, min, zero, suc, �
 use Rattle.std.specs.List.{flat_map}
 use Rattle.ec_count.specs.declared.target.Target.TheVariants as targets
 use Rattle.ec_core.specs.declared.act.Act.{Act}
-use Rattle.ec_core.specs.declared.act.Act.TheVariants.{Advance, Read, Await, Go, Ticket, Put, Get, Hand}
+use Rattle.ec_core.specs.declared.act.Act.TheVariants.{Advance, Read, Await, Go, Ticket, Put, Get}
 use Rattle.ec_core.specs.declared.act.Reply.{Reply}
 use Rattle.ec_core.specs.declared.act.Reply.TheVariants.{Number}
 use Rattle.ec_core.specs.Rounds.{read_of}
@@ -34,14 +34,12 @@ kind_word Go = codes "go"
 kind_word (Ticket q) = codes "ticket"
 kind_word (Put x v) = codes "put"
 kind_word (Get x) = codes "get"
-kind_word (Hand e b) = codes "hand"
 
--- the threshold of an await, the value of a put, and the worker that a hand is to
-abbrev pub value_words : Named → Act → List ℕ
-value_words names (Await e v) = codes " " ++ decimal v
-value_words names (Put x v) = codes " " ++ decimal v
-value_words names (Hand e b) = codes " " ++ word_of names (targets.Worker b)
-value_words names act = []
+-- the threshold of an await, and the value of a put
+abbrev pub value_words : Act → List ℕ
+value_words (Await e v) = codes " " ++ decimal v
+value_words (Put x v) = codes " " ++ decimal v
+value_words act = []
 
 -- whether the words of an act have more than 13 letters
 abbrev pub is_long : Act → Bool
@@ -52,8 +50,8 @@ is_long act = false
 unfoldable pub act_start : ℕ → ℕ → Act → List ℕ
 act_start x y act = codes "<text class='act" ++ squeeze (is_long act) ++ pair (codes "' x='") x (codes "' y='") y ++ codes "'>"
 
-unfoldable pub act_text : Named → ℕ → ℕ → Act → List ℕ
-act_text names x y act = act_start x y act ++ kind_word act ++ value_words names act ++ text_end
+unfoldable pub act_text : ℕ → ℕ → Act → List ℕ
+act_text x y act = act_start x y act ++ kind_word act ++ value_words act ++ text_end
 
 -- the object that an act names
 abbrev pub object_label : Named → ℕ → ℕ → Act → List ℕ
@@ -64,10 +62,9 @@ object_label names x y Go = []
 object_label names x y (Ticket q) = object_text x y (word_of names (targets.Sequencer q))
 object_label names x y (Put c v) = name_text (codes "cell") x y (cell_word names c)
 object_label names x y (Get c) = name_text (codes "cell") x y (cell_word names c)
-object_label names x y (Hand e b) = object_text x y (word_of names (targets.Event e))
 
 unfoldable pub label : Named → ℕ → ℕ → Act → List ℕ
-label names x y act = act_text names x (y + 14) act ++ object_label names x (y + 26) act
+label names x y act = act_text x (y + 14) act ++ object_label names x (y + 26) act
 
 -- the number that a call was told, below the end of its bar
 abbrev pub reply_text : ℕ → ℕ → Reply → List ℕ

@@ -31,22 +31,17 @@ pub(crate) fn put_kind<W: Write>(out: &mut W, table: &mut Buffered, act: &Act)
         Act::Ticket(_) => put(out, table, b"ticket"),
         Act::Put(_, _) => put(out, table, b"put"),
         Act::Get(_) => put(out, table, b"get"),
-        Act::Hand(_, _) => put(out, table, b"hand"),
     }
 }
 
-/// Puts the threshold of an await, the value of a put, or the worker that a hand is to.
-fn put_value<W: Write>(out: &mut W, table: &mut Buffered, spellings: &Spellings<'_>, act: &Act)
-    ensures { Puts (W.contents out.old) table.old (W.contents out.new) table.new (value_words spellings.now act.now) }
+/// Puts the threshold of an await, or the value of a put.
+fn put_value<W: Write>(out: &mut W, table: &mut Buffered, act: &Act)
+    ensures { Puts (W.contents out.old) table.old (W.contents out.new) table.new (value_words act.now) }
 {
     match *act {
         Act::Await(_, value) | Act::Put(_, value) => {
             put(out, table, b" ");
             put_number(out, table, value);
-        }
-        Act::Hand(_, to) => {
-            put(out, table, b" ");
-            put(out, table, spellings.worker(to));
         }
         Act::Advance(_) | Act::Read(_) | Act::Go | Act::Ticket(_) | Act::Get(_) => {}
     }
@@ -76,18 +71,12 @@ fn put_act_start<W: Write>(out: &mut W, table: &mut Buffered, at: Place, act: &A
 
 /// Puts what was asked for.
 #[tactic(auto, unfolding(crate::specs::Svg::act_text))]
-fn put_act_text<W: Write>(
-    out: &mut W,
-    table: &mut Buffered,
-    spellings: &Spellings<'_>,
-    at: Place,
-    act: &Act,
-)
-    ensures { Puts (W.contents out.old) table.old (W.contents out.new) table.new (act_text spellings.now at.x at.y act.now) }
+fn put_act_text<W: Write>(out: &mut W, table: &mut Buffered, at: Place, act: &Act)
+    ensures { Puts (W.contents out.old) table.old (W.contents out.new) table.new (act_text at.x at.y act.now) }
 {
     put_act_start(out, table, at, act);
     put_kind(out, table, act);
-    put_value(out, table, spellings, act);
+    put_value(out, table, act);
     end_text(out, table);
 }
 
@@ -118,7 +107,7 @@ fn put_object_label<W: Write>(
     ensures { Puts (W.contents out.old) table.old (W.contents out.new) table.new (object_label spellings.now at.x at.y act.now) }
 {
     match *act {
-        Act::Advance(event) | Act::Read(event) | Act::Await(event, _) | Act::Hand(event, _) => {
+        Act::Advance(event) | Act::Read(event) | Act::Await(event, _) => {
             put_object_text(out, table, at, spellings.event(event));
         }
         Act::Go => {}
@@ -144,7 +133,7 @@ pub(crate) fn put_label<W: Write>(
     ensures { Puts (W.contents out.old) table.old (W.contents out.new) table.new (label spellings.now at.x at.y act.now) }
 {
     let (x, y) = (at.x, at.y);
-    put_act_text(out, table, spellings, Place { x, y: y + 14 }, act);
+    put_act_text(out, table, Place { x, y: y + 14 }, act);
     put_object_label(out, table, spellings, Place { x, y: y + 26 }, act);
 }
 

@@ -21,12 +21,7 @@ fn read_of(act: &Act) -> Option<usize>
 {
     match *act {
         Act::Read(event) | Act::Await(event, _) => Some(event.get()),
-        Act::Advance(_)
-        | Act::Go
-        | Act::Ticket(_)
-        | Act::Put(_, _)
-        | Act::Get(_)
-        | Act::Hand(_, _) => None,
+        Act::Advance(_) | Act::Go | Act::Ticket(_) | Act::Put(_, _) | Act::Get(_) => None,
     }
 }
 

@@ -28,7 +28,6 @@ rect { fill-opacity: 0.35; stroke-width: 1.5; }
 .ticket rect { fill: #e69f00; stroke: #e69f00; }
 .put rect { fill: #d55e00; stroke: #d55e00; }
 .get rect { fill: #56b4e9; stroke: #56b4e9; }
-.hand rect { fill: #f0e442; stroke: #f0e442; }
 .open rect { stroke-dasharray: 5 3; }
 @media (prefers-color-scheme: dark) {
 text, circle { fill: #e4e7eb; }

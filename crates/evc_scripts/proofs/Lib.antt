@@ -8,4 +8,3 @@ pub mod OutcomeLines
 pub mod SimEnds
 pub mod RunLemmas
 pub mod SameReports
-pub mod PlainActs

@@ -9,7 +9,6 @@ use Rattle.ec_heading.specs.Outline.{Outline, IsOutline, headed}
 use Rattle.ec_heading.specs.Upgraded.{upgraded, upgraded_outline}
 use Rattle.ec_heading.specs.Spelling.{heading_lines, trace_header, entry_line, trace_lines, trace_text, text_of}
 use Rattle.ec_heading.proofs.shared.Upgrades.{upgraded_headed, upgraded_is}
-use Rattle.ec_heading.proofs.shared.VersionFacts.{two_spells_all}
 use Rattle.ec_trace.specs.Grammar.{IsTrace}
 use Rattle.ec_trace.specs.Outcome.{outcome}
 use Rattle.ec_trace.specs.ReadingLaws.{UpgradesTo, TracesAreUpgraded}
@@ -59,7 +58,6 @@ traces_are_upgraded bytes o es is =
     let trace : IsTrace (trace_text (upgraded_outline o) es) (upgraded_outline o) es = record {
       heading = upgraded_is o is.heading;
       accepted = subst (λ (h : Headed). IsAccepted h.setup (reverse es)) (sym (upgraded_headed o)) is.accepted;
-      spelled = two_spells_all es;
       text = refl;
       within = omega (arith, long, is.within);
     } in

@@ -9,9 +9,6 @@ use Rattle.ec_core.specs.declared.act.Reply.{Reply}
 use Rattle.ec_core.specs.Acceptance.{IsAccepted, answer_of}
 use Rattle.ec_machine.specs.declared.command.Command.{Command}
 use Rattle.ec_heading.specs.Headed.{Headed}
-use Rattle.ec_heading.specs.declared.version.Version.{Version}
-use Rattle.ec_heading.specs.Versions.{CanSpellAll}
-use Rattle.ec_heading.proofs.shared.OutlineFound.{version_found}
 use Rattle.ec_trace.specs.Outcome.{outcome}
 use Rattle.ec_heading.specs.Outline.{headed}
 use Rattle.ec_trace.specs.Recounted.{Recounted}
@@ -20,7 +17,6 @@ use Rattle.ec_trace.proofs.shared.ReadTraces.{written_is_read}
 use Rattle.ec_runner.specs.Schedules.{Turn, AreTurns, entries_of, with_answer}
 use Rattle.evc_scripts.specs.Sims.{IsTraceUnder}
 use Rattle.evc_scripts.specs.SimLaws.{SimulatedIsReadAgain, RanIsReadAgain}
-use Rattle.evc_scripts.proofs.PlainActs.{turns_plain, report_plain, plain_spelled}
 
 answered : (t : Tables) (past : List Entry) (w : ℕ) (act : Act) (a : Result Reply Refusal) → answer_of t past w act ≡ a → IsAccepted t past → IsAccepted t (with_answer w act a past)
 answered t past w act (Ok reply) is accepted = (is, accepted)
@@ -30,27 +26,21 @@ pub accepted_turns : (t : Tables) (programs : List (List Command)) (turns : List
 accepted_turns t programs [] each = tt
 accepted_turns t programs (x ∷ turns) each = answered t (entries_of turns) x.worker x.act x.answer each.0.answer (accepted_turns t programs turns each.1)
 
--- the trace of an accepted history under a heading whose version can spell it, within the bound, is read again as these two
-pub read_under : (h : Headed) (entries : List Entry) (trace : List ℕ) → IsAccepted h.setup (reverse entries) → CanSpellAll h.version entries → IsTraceUnder h entries trace → length trace ≤ TRACE_MAX
+-- the trace of an accepted history under a heading, within the bound, is read again as these two
+pub read_under : (h : Headed) (entries : List Entry) (trace : List ℕ) → IsAccepted h.setup (reverse entries) → IsTraceUnder h entries trace → length trace ≤ TRACE_MAX
     → outcome TRACE_MAX trace ≡ Ok (record { heading = h; entries = entries })
-read_under h entries trace accepted spelled under short =
+read_under h entries trace accepted under short =
     let o = under.outline in
-    let version : h.version ≡ o.version = sym (ap (λ (k : Headed). k.version) under.declares) ∙ version_found o in
     subst (λ (k : Headed). outcome TRACE_MAX trace ≡ Ok (record { heading = k; entries = entries })) under.declares
-    (rw under.text (written_is_read o entries under.is (subst (λ (k : Headed). IsAccepted k.setup (reverse entries)) (sym under.declares) accepted)
-    (subst (λ (v : Version). CanSpellAll v entries) version spelled) (rw under.text at short)))
+    (rw under.text (written_is_read o entries under.is (subst (λ (k : Headed). IsAccepted k.setup (reverse entries)) (sym under.declares) accepted) (rw under.text at short)))
 
 -- the trace of a schedule that was played, within the bound, is read as the history of its turns
 pub simulated_again : SimulatedIsReadAgain
 simulated_again p trace note played short =
     let past = entries_of played.turns in
     let accepted = accepted_turns p.heading.setup played.played.programs played.turns played.played.plays.each in
-    let spelled = plain_spelled p.heading.version (reverse past) (turns_plain p.heading.setup played.played.programs played.turns played.played.plays.each) in
-    read_under p.heading (reverse past) trace (subst (IsAccepted p.heading.setup) (sym (reverse-reverse past)) accepted) spelled played.written short
+    read_under p.heading (reverse past) trace (subst (IsAccepted p.heading.setup) (sym (reverse-reverse past)) accepted) played.written short
 
 -- the trace of workers on threads, within the bound, is read as the history of their run
 pub ran_again : RanIsReadAgain
-ran_again p turns status trace note ran short =
-    let entries = ran.report.run.entries in
-    let spelled = plain_spelled p.heading.version entries (report_plain p.heading.setup ran.programs turns ran.report ran.told ran.accepted) in
-    read_under p.heading entries trace ran.accepted spelled ran.written short
+ran_again p turns status trace note ran short = read_under p.heading ran.report.run.entries trace ran.accepted ran.written short
