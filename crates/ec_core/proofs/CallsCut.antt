@@ -4,7 +4,7 @@ use Rattle.std.specs.Option.{option_map_or}
 use Rattle.std.proofs.lemmas.Bool.{eqb-true, eqb-false, eq-eqb, le-leb, lt-leb}
 use Rattle.ec_count.specs.Tables.{Tables}
 use Rattle.ec_core.specs.declared.act.Act.{Act}
-use Rattle.ec_core.specs.declared.act.Act.TheVariants.{Advance, Read, Await, Go, Ticket, Put, Get}
+use Rattle.ec_core.specs.declared.act.Act.TheVariants.{Advance, Read, Await, Go, Ticket, Put, Get, Hand}
 use Rattle.ec_core.specs.declared.act.Reply.TheVariants.{Pending}
 use Rattle.ec_core.specs.declared.act.Entry.{Entry}
 use Rattle.ec_core.specs.Counts.{past_at, component_total, sum_to}
@@ -131,6 +131,7 @@ gone w h k x (Await e v) o at own told is c = subst (λ act. IsUnderWay w h (suc
 gone w h k x (Ticket q) o at own told is c = subst (λ act. IsUnderWay w h (suc k) (made act (past_at k h ∷ []))) is (begun w h k x at own told (ap is_go is))
 gone w h k x (Put y v) o at own told is c = subst (λ act. IsUnderWay w h (suc k) (made act (past_at k h ∷ []))) is (begun w h k x at own told (ap is_go is))
 gone w h k x (Get y) o at own told is c = subst (λ act. IsUnderWay w h (suc k) (made act (past_at k h ∷ []))) is (begun w h k x at own told (ap is_go is))
+gone w h k x (Hand e b) o at own told is c = subst (λ act. IsUnderWay w h (suc k) (made act (past_at k h ∷ []))) is (begun w h k x at own told (ap is_go is))
 
 cut_next : (w : ℕ) (h : List Entry) (k : ℕ) (o : Option Entry) → slice_get h k ≡ o → IsCut w h k (under_way w (past_at k h)) → IsCut w h (suc k) (under_way w (past_at (suc k) h))
 unfolding under_way
@@ -194,6 +195,7 @@ gone_begins (Await e v) past o h = refl
 gone_begins (Ticket q) past o h = refl
 gone_begins (Put x v) past o h = refl
 gone_begins (Get x) past o h = refl
+gone_begins (Hand e f) past o h = refl
 
 made_is : (call : CallSoFar) (op : Act) (moments : List (List Entry)) → op ≡ call.op → moments ≡ call.moments → Some (made op moments) ≡ Some call
 made_is call op moments a b = (let same : made op moments ≡ made call.op call.moments = cc in ap Some same)
@@ -268,6 +270,7 @@ reads t Go h = absurd h
 reads t (Ticket q) h = absurd h
 reads t (Put x v) h = absurd h
 reads t (Get x) h = absurd h
+reads t (Hand e f) h = absurd h
 
 pub calls_read : CallsUnderWayRead
 calls_read t w k h call acc is = reads t call.op (subst (IsReadingCall t) is (call_reads t (past_at k h) w (beginnings t k h acc)))

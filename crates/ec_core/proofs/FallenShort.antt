@@ -6,7 +6,7 @@ use Rattle.std.proofs.lemmas.Nat.{mod_below}
 use Rattle.std.proofs.Math.Nat.{add-mod_left, mod-eq_of_lt}
 use Rattle.ec_count.specs.Tables.{Tables, IsDeclared}
 use Rattle.ec_core.specs.declared.act.Act.{Act}
-use Rattle.ec_core.specs.declared.act.Act.TheVariants.{Advance, Read, Await, Go, Ticket, Put, Get}
+use Rattle.ec_core.specs.declared.act.Act.TheVariants.{Advance, Read, Await, Go, Ticket, Put, Get, Hand}
 use Rattle.ec_core.specs.declared.act.Reply.{Reply}
 use Rattle.ec_core.specs.declared.act.Reply.TheVariants.{Number, Pending}
 use Rattle.ec_core.specs.declared.act.Entry.{Entry}
@@ -78,6 +78,7 @@ fell_op t Go past moments d r p = tt
 fell_op t (Ticket q) past moments d r p = tt
 fell_op t (Put y v) past moments d r p = tt
 fell_op t (Get y) past moments d r p = tt
+fell_op t (Hand e f) past moments d r p = tt
 
 fell_gone : (t : Tables) (past : List Entry) (w : ℕ) (act : Act) (o : Option CallSoFar) → IsDeclared t → under_way w past ≡ o → names_unknown_object t act ≡ false → IsReadingCall t o
     → reply_of t past w act ≡ Pending → FellShortCall t (gone_on act past o)
@@ -89,6 +90,7 @@ fell_gone t past w (Advance f) o d e known r p = tt
 fell_gone t past w (Ticket q) o d e known r p = tt
 fell_gone t past w (Put y v) o d e known r p = tt
 fell_gone t past w (Get y) o d e known r p = tt
+fell_gone t past w (Hand f g) o d e known r p = tt
 
 fell : (t : Tables) (w : ℕ) (past : List Entry) → IsDeclared t → IsAccepted t past → FellShortCall t (under_way w past)
 unfolding under_way
@@ -326,6 +328,7 @@ await_of t Go moments r fell index = absurd r
 await_of t (Ticket q) moments r fell index = absurd r
 await_of t (Put x v) moments r fell index = absurd r
 await_of t (Get x) moments r fell index = absurd r
+await_of t (Hand e f) moments r fell index = absurd r
 
 pub index_zero_awaits : IndexZeroIsAnAwait
 index_zero_awaits t h w k progress d acc is zero_index =

@@ -2,7 +2,7 @@
 use Rattle.std.proofs.Common.{◌≡◌, ℕ, suc, ◌+◌, Bool, true, false, List, [], ◌∷◌, Option, Some, None, Ok, nat_le, ◌⊎◌, inl, inr, sym, subst, cond, ◌++◌, reverse}
 use Rattle.ec_count.specs.Tables.{Tables, IsDeclared}
 use Rattle.ec_core.specs.declared.act.Act.{Act}
-use Rattle.ec_core.specs.declared.act.Act.TheVariants.{Advance, Read, Await, Go, Ticket, Put, Get}
+use Rattle.ec_core.specs.declared.act.Act.TheVariants.{Advance, Read, Await, Go, Ticket, Put, Get, Hand}
 use Rattle.ec_core.specs.declared.act.Reply.{Reply}
 use Rattle.ec_core.specs.declared.act.Reply.TheVariants.{Number, Pending}
 use Rattle.ec_core.specs.declared.act.Entry.{Entry}
@@ -35,6 +35,7 @@ round_told Go s reply small is = inr (number_told reply s small is)
 round_told (Ticket q) s reply small is = inr (number_told reply s small is)
 round_told (Put x v) s reply small is = inr (number_told reply s small is)
 round_told (Get x) s reply small is = inr (number_told reply s small is)
+round_told (Hand e f) s reply small is = inr (number_told reply s small is)
 
 last_told : (b : Bool) (op : Act) (s : ℕ) (reply : Reply) → TellsAtMost VALUE_MAX reply → reply ≡ cond b (round_reply op s) Pending → IsReadingReply reply
 last_told true op s reply small is = round_told op s reply small is
@@ -60,6 +61,7 @@ kind_told t past w Go reply small is = go_told t past (under_way w past) reply s
 kind_told t past w (Ticket q) reply small is = number_told reply (issued q past) small is
 kind_told t past w (Put x v) reply small is = is
 kind_told t past w (Get x) reply small is = number_told reply (cell_value x past) small is
+kind_told t past w (Hand e b) reply small is = is
 
 -- what an act is told, where it is not refused
 pub kind_is : (t : Tables) (past : List Entry) (w : ℕ) (act : Act) (reply : Reply) → IsDeclared t → IsAccepted t past

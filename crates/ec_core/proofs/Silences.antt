@@ -1,29 +1,31 @@
 -- What silent workers did leaves no trace in what the others are told.
-use Rattle.std.proofs.Common.{◌≡◌, ℕ, zero, suc, ◌+◌, ◌%◌, Bool, true, false, not, ◌&&◌, ◌||◌, List, [], ◌∷◌, ◌++◌, length, reverse, take, subst, All, ◌<◌, Option, Some, None, is_some, unwrap_or, nat_le, Ok, arith, refl, ap, sym, ◌∙◌, cond, ◌==◌, map}
+use Rattle.std.proofs.Common.{◌≡◌, ℕ, zero, suc, ◌+◌, ◌%◌, Bool, true, false, not, ◌&&◌, ◌||◌, List, [], ◌∷◌, ◌++◌, length, reverse, take, subst, All, ◌<◌, Option, Some, None, is_some, unwrap_or, nat_le, Ok, arith, refl, ap, sym, ◌∙◌, cond, ◌==◌, map, slice_get, slice_set}
 use Rattle.std.specs.Option.{option_map, option_map_or}
-use Rattle.std.proofs.lemmas.Bool.{eqb-true}
+use Rattle.std.proofs.lemmas.Bool.{eqb-true, eq-eqb, or_parts}
 use Rattle.std.proofs.Math.Bool.{and-false}
 use Rattle.std.proofs.Math.Nat.{zero-add}
 use Rattle.std.proofs.lemmas.List.{length-map, length-reverse, reverse-append, reverse-reverse, append-nil, take-append-le, take_all}
 use Rattle.std.proofs.lemmas.List.Elements.{filter-append}
-use Rattle.std.specs.Prelude.{◌↔◌}
+use Rattle.std.specs.List.{list_any, position_from}
 use Rattle.ec_count.specs.Tables.{Tables, may_take, may_write, is_silent}
 use Rattle.ec_count.specs.Members.{is_member, place_of}
 use Rattle.ec_count.proofs.shared.Quiet.{silent_has_none, silent_from_none}
 use Rattle.ec_core.specs.declared.act.Act.{Act}
-use Rattle.ec_core.specs.declared.act.Act.TheVariants.{Advance, Read, Await, Go, Ticket, Put, Get}
+use Rattle.ec_core.specs.declared.act.Act.TheVariants.{Advance, Read, Await, Go, Ticket, Put, Get, Hand}
+use Rattle.ec_core.specs.declared.act.Reply.{Reply}
 use Rattle.ec_core.specs.declared.act.Reply.TheVariants.{Number, Pending}
 use Rattle.ec_core.specs.declared.act.Entry.{Entry}
-use Rattle.ec_core.specs.Counts.{past_at, component_total, issued, cell_value, is_advance, is_ticket, is_place, put_in, handed, signallers_at, component_at}
+use Rattle.ec_core.specs.Counts.{past_at, component_total, issued, cell_value, is_advance, is_ticket, is_place, put_in, replaced, handed, signallers_at, component_at}
 use Rattle.ec_core.specs.Calls.{CallSoFar, under_way, gone_on, is_pending}
 use Rattle.ec_core.specs.Rounds.{event_or, width, sum_read, next_component, round_reply, read_reply, go_reply, IsPastOf, EachIsPastOf}
-use Rattle.ec_core.specs.Acceptance.{reply_of, answer_of, refusal_of, refusal_in, refused_or, has_right, is_at_limit, IsAccepted}
-use Rattle.ec_core.specs.Silence.{IsSilent, without}
+use Rattle.ec_core.specs.Acceptance.{reply_of, answer_of, refusal_of, refusal_in, refused_or, has_right, is_at_limit, signals_already, IsAccepted}
+use Rattle.ec_core.specs.Silence.{IsSilent, hands_to, without}
 use Rattle.ec_core.specs.Laws.{OthersStand}
-use Rattle.ec_core.proofs.shared.Answering.{allowed}
-use Rattle.ec_core.proofs.shared.Moments.{accepted_until, answered_after, split_at}
+use Rattle.ec_core.proofs.shared.Answering.{allowed, place_within}
+use Rattle.ec_core.proofs.shared.Moments.{accepted_until, answered_after, past_next, past_end, past_through, split_at}
+use Rattle.ec_core.proofs.shared.Totals.{some_of}
 use Rattle.ec_core.proofs.shared.Pasts.{past_itself, past_of_past, past_later, call_before, IsCallBefore}
-use Rattle.ec_core.proofs.shared.Signalling.{handed_by_none, as_declared}
+use Rattle.ec_core.proofs.shared.Signalling.{handed_by_none}
 
 -- a worker that signals nothing at any moment of a past, takes from no sequencer and writes no cell
 pub record IsQuiet (t : Tables) (past : List Entry) (w : ℕ) : Type 0 where
@@ -81,6 +83,7 @@ no_ticket t past w q (Await f v) right silent = refl
 no_ticket t past w q Go right silent = refl
 no_ticket t past w q (Put x v) right silent = refl
 no_ticket t past w q (Get x) right silent = refl
+no_ticket t past w q (Hand e f) right silent = refl
 
 no_put : (t : Tables) (past : List Entry) (w x : ℕ) (act : Act) → not (has_right t past w act) ≡ false → IsQuiet t past w → put_in x act ≡ None
 no_put t past w x (Put y v) right silent = (let quiet : may_write t y w ≡ false = silent.writes y in cc)
@@ -90,6 +93,7 @@ no_put t past w x (Await f v) right silent = refl
 no_put t past w x Go right silent = refl
 no_put t past w x (Ticket q) right silent = refl
 no_put t past w x (Get y) right silent = refl
+no_put t past w x (Hand e f) right silent = refl
 
 issued_without : (t : Tables) (s : ℕ → Bool) (q : ℕ) (past : List Entry) → IsAccepted t past → AreQuiet t s past → issued q (without s past) ≡ issued q past
 unfolding issued
@@ -125,6 +129,7 @@ gone_without s (Await e v) past o = refl
 gone_without s (Ticket q) past o = refl
 gone_without s (Put x v) past o = refl
 gone_without s (Get x) past o = refl
+gone_without s (Hand e f) past o = refl
 
 if_without : (s : ℕ → Bool) (b : Bool) (o : Option CallSoFar) → cond b (option_map (call_without s) o) None ≡ option_map (call_without s) (cond b o None)
 if_without s true o = refl
@@ -185,6 +190,7 @@ reply_without t s past w Go acc silent kept = ap (go_reply t (without s past)) (
 reply_without t s past w (Ticket q) acc silent kept = ap Number (issued_without t s q past acc silent)
 reply_without t s past w (Put x v) acc silent kept = refl
 reply_without t s past w (Get x) acc silent kept = ap Number (cell_without t s x past acc silent)
+reply_without t s past w (Hand e b) acc silent kept = refl
 
 full_in : (t : Tables) (s : ℕ → Bool) (e : ℕ) (past : List Entry) (o : Option ℕ) → AreQuiet t s past
     → option_map_or (λ c. component_total t e c (without s past) == t.limit) o false ≡ option_map_or (λ c. component_total t e c past == t.limit) o false
@@ -202,6 +208,7 @@ full_without t s past w (Await e v) acc silent = refl
 full_without t s past w Go acc silent = refl
 full_without t s past w (Put x v) acc silent = refl
 full_without t s past w (Get x) acc silent = refl
+full_without t s past w (Hand e f) acc silent = refl
 
 right_without : (t : Tables) (s : ℕ → Bool) (past : List Entry) (w : ℕ) (act : Act) → AreQuiet t s past → has_right t (without s past) w act ≡ has_right t past w act
 right_without t s past w (Advance e) silent = ap is_some (component_without t s e past w silent)
@@ -211,15 +218,30 @@ right_without t s past w Go silent = refl
 right_without t s past w (Ticket q) silent = refl
 right_without t s past w (Put x v) silent = refl
 right_without t s past w (Get x) silent = refl
+right_without t s past w (Hand e b) silent = ap is_some (component_without t s e past w silent)
+
+already_without : (t : Tables) (s : ℕ → Bool) (past : List Entry) (act : Act) → AreQuiet t s past → signals_already t (without s past) act ≡ signals_already t past act
+already_without t s past (Hand e b) silent = ap is_some (component_without t s e past b silent)
+already_without t s past (Advance e) silent = refl
+already_without t s past (Read e) silent = refl
+already_without t s past (Await e v) silent = refl
+already_without t s past Go silent = refl
+already_without t s past (Ticket q) silent = refl
+already_without t s past (Put x v) silent = refl
+already_without t s past (Get x) silent = refl
 
 -- the others are answered alike
 pub answer_without : (t : Tables) (s : ℕ → Bool) (past : List Entry) (w : ℕ) (act : Act) → IsAccepted t past → AreQuiet t s past → s w ≡ false
     → answer_of t (without s past) w act ≡ answer_of t past w act
 unfolding answer_of
 answer_without t s past w act acc silent kept =
-    ap (λ b. refused_or (refusal_in t w act b (has_right t (without s past) w act) (is_at_limit t (without s past) w act)) (reply_of t (without s past) w act)) (ap is_some (under_way_without s w past kept) ∙ is_some_without s (under_way w past))
-    ∙ ap (λ b. refused_or (refusal_in t w act (is_some (under_way w past)) b (is_at_limit t (without s past) w act)) (reply_of t (without s past) w act)) (right_without t s past w act silent)
-    ∙ ap (λ b. refused_or (refusal_in t w act (is_some (under_way w past)) (has_right t past w act) b) (reply_of t (without s past) w act)) (full_without t s past w act acc silent)
+    let r = reply_of t (without s past) w act in
+    let full = is_at_limit t (without s past) w act in
+    let already = signals_already t (without s past) act in
+    ap (λ b. refused_or (refusal_in t w act b (has_right t (without s past) w act) full already) r) (ap is_some (under_way_without s w past kept) ∙ is_some_without s (under_way w past))
+    ∙ ap (λ b. refused_or (refusal_in t w act (is_some (under_way w past)) b full already) r) (right_without t s past w act silent)
+    ∙ ap (λ b. refused_or (refusal_in t w act (is_some (under_way w past)) (has_right t past w act) b already) r) (full_without t s past w act acc silent)
+    ∙ ap (λ b. refused_or (refusal_in t w act (is_some (under_way w past)) (has_right t past w act) (is_at_limit t past w act) b) r) (already_without t s past act silent)
     ∙ ap (refused_or (refusal_of t past w act)) (reply_without t s past w act acc silent kept)
 
 -- what is left is accepted
@@ -243,15 +265,6 @@ members_silent t h (v ∷ vs) all w is =
     (λ e. subst (IsSilent t h) (eqb-true v w e) (all 0 v (omega arith)))
     (λ e. members_silent t h vs (λ k d lt. all (suc k) d (omega arith)) w e) is
 
--- who is silent by the declarations is so at each moment, since no act hands a component over, and the other way round
-pub silent_by_declaration : (t : Tables) (h : List Entry) (w : ℕ) → (is_silent t w ≡ true) ↔ IsSilent t h w
-unfolding signallers_at
-silent_by_declaration t h w = (
-  λ is. (let r = silent_has_none t w is in
-      record { declared = r.0; signals = λ k e. ap (place_of w) (as_declared t e (past_at k h)) ∙ r.1.signals e; takes = r.1.takes; writes = r.1.writes }),
-  λ q. silent_from_none t w q.declared (record { signals = λ e. q.signals 0 e; takes = q.takes; writes = q.writes }),
-)
-
 -- what came first is the past at a moment
 past_is : (h since early : List Entry) → reverse h ≡ since ++ early → past_at (length early) h ≡ early
 past_is h since early is =
@@ -260,6 +273,108 @@ past_is h since early is =
     ap (λ l. reverse (take (length early) l)) whole
     ∙ ap reverse (take-append-le (length early) (reverse early) (reverse since) (omega arith) ∙ take_all (length early) (reverse early) (omega arith))
     ∙ reverse-reverse early
+
+-- RECEIVERS
+
+set_none : (w b : ℕ) (ws : List ℕ) (low c : ℕ) → (b == w) ≡ false → position_from (λ v. v == w) low ws ≡ None → position_from (λ v. v == w) low (slice_set ws c b) ≡ None
+set_none w b [] low c other h = refl
+set_none w b (v ∷ ws) low zero other h =
+    ap (λ is. cond is (Some low) (position_from (λ u. u == w) (low + 1) ws)) other
+    ∙ (elim (v == w) as (λ is. cond is (Some low) (position_from (λ u. u == w) (low + 1) ws) ≡ None → position_from (λ u. u == w) (low + 1) ws ≡ None) [
+      | true ↦ λ g. cc
+      | false ↦ λ g. g
+    ] h)
+set_none w b (v ∷ ws) low (suc c) other h =
+    elim (v == w) as (λ is. cond is (Some low) (position_from (λ u. u == w) (low + 1) ws) ≡ None → cond is (Some low) (position_from (λ u. u == w) (low + 1) (slice_set ws c b)) ≡ None) [
+      | true ↦ λ g. g
+      | false ↦ λ g. set_none w b ws (low + 1) c other g
+    ] h
+
+set_some : (w : ℕ) (ws : List ℕ) (low c : ℕ) → c < length ws → position_from (λ v. v == w) low (slice_set ws c w) ≡ None → ⊥
+set_some w [] low c lt h = absurd (omega arith)
+set_some w (v ∷ ws) low zero lt h =
+    (let some : Some low ≡ None = sym (ap (λ is. cond is (Some low) (position_from (λ u. u == w) (low + 1) ws)) (eq-eqb w w refl)) ∙ h in cc)
+set_some w (v ∷ ws) low (suc c) lt h =
+    elim (v == w) as (λ is. cond is (Some low) (position_from (λ u. u == w) (low + 1) (slice_set ws c w)) ≡ None → ⊥) [
+      | true ↦ λ g. cc
+      | false ↦ λ g. set_some w ws (low + 1) c (omega arith) g
+    ] h
+
+none_replaced : (w b : ℕ) (ws : List ℕ) (o : Option ℕ) → (b == w) ≡ false → place_of w ws ≡ None → place_of w (replaced o b ws) ≡ None
+none_replaced w b ws None other h = h
+none_replaced w b ws (Some c) other h = set_none w b ws 0 c other h
+
+-- an act that hands nothing to a worker leaves it no signaller
+not_handed : (e v w : ℕ) (act : Act) (ws : List ℕ) → hands_to w act ≡ false → place_of w ws ≡ None → place_of w (handed e v act ws) ≡ None
+not_handed e v w (Advance f) ws other h = h
+not_handed e v w (Read f) ws other h = h
+not_handed e v w (Await f u) ws other h = h
+not_handed e v w Go ws other h = h
+not_handed e v w (Ticket q) ws other h = h
+not_handed e v w (Put x u) ws other h = h
+not_handed e v w (Get x) ws other h = h
+not_handed e v w (Hand f b) ws other h =
+    elim (f == e) as (λ is. place_of w (cond is (replaced (place_of v ws) b ws) ws) ≡ None) [
+      | true ↦ none_replaced w b ws (place_of v ws) other h
+      | false ↦ h
+    ]
+
+-- an answered hand makes its receiver a signaller
+received : (t : Tables) (past : List Entry) (v w : ℕ) (act : Act) (reply : Reply) → answer_of t past v act ≡ Ok reply → hands_to w act ≡ true
+    → (e : ℕ) × (place_of w (handed e v act (signallers_at t e past)) ≡ None → ⊥)
+received t past v w (Hand e b) reply answered is =
+    let ws = signallers_at t e past in
+    let k = some_of (component_at t e past v) (allowed t past v (Hand e b) reply answered).0.right in
+    let within : k.0 < 0 + length ws = place_within v ws 0 k.0 k.1 in
+    let after : place_of w (cond (e == e) (replaced (place_of v ws) b ws) ws) ≡ place_of w (slice_set ws k.0 w) =
+    ap (λ same. place_of w (cond same (replaced (place_of v ws) b ws) ws)) (eq-eqb e e refl)
+    ∙ ap (λ o. place_of w (replaced o b ws)) k.1 ∙ ap (λ u. place_of w (slice_set ws k.0 u)) (eqb-true b w is) in
+    (e, λ none. set_some w ws 0 k.0 (omega arith) (sym after ∙ none))
+received t past v w (Advance f) reply answered is = cc
+received t past v w (Read f) reply answered is = cc
+received t past v w (Await f u) reply answered is = cc
+received t past v w Go reply answered is = cc
+received t past v w (Ticket q) reply answered is = cc
+received t past v w (Put x u) reply answered is = cc
+received t past v w (Get x) reply answered is = cc
+
+-- a worker that something was handed to is not silent
+pub receiver_speaks : (t : Tables) (h done others : List Entry) (x : Entry) (w : ℕ) → IsAccepted t (reverse h) → done ++ x ∷ others ≡ h → hands_to w x.act ≡ true
+    → IsSilent t h w → ⊥
+unfolding signallers_at
+receiver_speaks t h done others x w acc is to silent =
+    let r = received t (reverse done) x.worker w x.act x.reply (answered_after t h done others x acc is) to in
+    let early : List Entry = x ∷ reverse done in
+    r.1 (ap (λ p. component_at t r.0 p w) (sym (past_is h (reverse others) early (past_through h done others x is))) ∙ silent.signals (length early) r.0)
+
+handed_none : (t : Tables) (e w k : ℕ) (h : List Entry) (o : Option Entry) → slice_get h k ≡ o → option_map_or (λ (x : Entry). hands_to w x.act) o false ≡ false
+    → component_at t e (past_at k h) w ≡ None → component_at t e (past_at (suc k) h) w ≡ None
+unfolding signallers_at
+handed_none t e w k h None at off none = ap (λ p. component_at t e p w) (past_end h k at) ∙ none
+handed_none t e w k h (Some x) at off none =
+    ap (λ p. component_at t e p w) (past_next h k x at) ∙ not_handed e x.worker w x.act (signallers_at t e (past_at k h)) off none
+
+none_at : (w : ℕ) (h : List Entry) (k : ℕ) → list_any (λ (x : Entry). hands_to w x.act) h ≡ false → option_map_or (λ (x : Entry). hands_to w x.act) (slice_get h k) false ≡ false
+none_at w [] k off = refl
+none_at w (x ∷ h) zero off = (or_parts (hands_to w x.act) (list_any (λ (y : Entry). hands_to w y.act) h) off).0
+none_at w (x ∷ h) (suc k) off = none_at w h k (or_parts (hands_to w x.act) (list_any (λ (y : Entry). hands_to w y.act) h) off).1
+
+none_signalled : (t : Tables) (h : List Entry) (w : ℕ) → list_any (λ (x : Entry). hands_to w x.act) h ≡ false → (e : ℕ) → component_at t e [] w ≡ None
+    → (k : ℕ) → component_at t e (past_at k h) w ≡ None
+none_signalled t h w off e none zero = none
+none_signalled t h w off e none (suc k) = handed_none t e w k h (slice_get h k) refl (none_at w h k off) (none_signalled t h w off e none k)
+
+-- who is silent by the declarations, and to whom nothing was handed, is silent
+pub silent_by_entries : (t : Tables) (h : List Entry) (w : ℕ) → is_silent t w ≡ true → list_any (λ (x : Entry). hands_to w x.act) h ≡ false → IsSilent t h w
+unfolding signallers_at
+silent_by_entries t h w is off =
+    let r = silent_has_none t w is in
+    record { declared = r.0; signals = λ k e. none_signalled t h w off e (r.1.signals e) k; takes = r.1.takes; writes = r.1.writes }
+
+-- who is silent is so by the declarations
+pub silent_declared : (t : Tables) (h : List Entry) (w : ℕ) → IsSilent t h w → is_silent t w ≡ true
+unfolding signallers_at
+silent_declared t h w q = silent_from_none t w q.declared (record { signals = λ e. q.signals 0 e; takes = q.takes; writes = q.writes })
 
 -- the silent workers of a history are quiet in its past
 quiet_all : (t : Tables) (s : ℕ → Bool) (h : List Entry) → ((w : ℕ) → s w ≡ true → IsSilent t h w) → AreQuiet t s (reverse h)

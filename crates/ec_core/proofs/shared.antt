@@ -1,6 +1,7 @@
 -- Lemmas that the proofs of other crates cite too.
 pub mod Answering
 pub mod Signalling
+pub mod Handing
 pub mod Places
 pub mod Stepping
 pub mod Totals

@@ -1,7 +1,7 @@
 -- Written lists of calls, and the acts that stand in them.
 use Rattle.std.specs.Prelude.{ℕ, Bool, true, false, ◌==◌, ◌&&◌, not, List, Option, Some, None, is_some}
 use Rattle.ec_core.specs.declared.act.Act.{Act}
-use Rattle.ec_core.specs.declared.act.Act.TheVariants.{Advance, Read, Await, Go, Ticket, Put, Get}
+use Rattle.ec_core.specs.declared.act.Act.TheVariants.{Advance, Read, Await, Go, Ticket, Put, Get, Hand}
 use Rattle.ec_core.specs.declared.act.Reply.{Reply}
 use Rattle.ec_core.specs.declared.act.Reply.TheVariants.{Number}
 use Rattle.ec_core.specs.Following.{Told, Rule}
@@ -14,6 +14,7 @@ is_act Go Go = true
 is_act (Ticket q) (Ticket r) = q == r
 is_act (Put x v) (Put y u) = x == y && v == u
 is_act (Get x) (Get y) = x == y
+is_act (Hand e b) (Hand f c) = e == f && b == c
 is_act _ _ = false
 
 abbrev pub is_due : Option Act → Act → Bool
@@ -38,6 +39,7 @@ is_among events sequencers cells Go = false
 is_among events sequencers cells (Ticket q) = sequencers q
 is_among events sequencers cells (Put x v) = cells x
 is_among events sequencers cells (Get x) = cells x
+is_among events sequencers cells (Hand e b) = events e
 
 -- the rule of a written list, given as the call that comes after these
 abbrev pub rule_of : (Act → Bool) → (List Told → Option Act) → Rule

@@ -1,11 +1,11 @@
 -- The counts of a history. A past is the list of the entries before a moment, the newest first, so that each
 -- entry stands before its own past: the past at moment k is the first k entries, turned round. (Reed and
 -- Kanodia: the value of an eventcount is the number of its advances.)
-use Rattle.std.specs.Prelude.{ℕ, ◌+◌, Bool, false, ◌==◌, ◌&&◌, List, [], ◌∷◌, zero, suc, reverse, take, Option, Some, None, if◌then◌else◌, unwrap_or, slice_get}
+use Rattle.std.specs.Prelude.{ℕ, ◌+◌, Bool, false, ◌==◌, ◌&&◌, List, [], ◌∷◌, zero, suc, reverse, take, Option, Some, None, if◌then◌else◌, unwrap_or, slice_get, slice_set}
 use Rattle.ec_count.specs.Tables.{Tables, signallers}
 use Rattle.ec_count.specs.Members.{place_of}
 use Rattle.ec_core.specs.declared.act.Act.{Act}
-use Rattle.ec_core.specs.declared.act.Act.TheVariants.{Advance, Read, Await, Go, Ticket, Put, Get}
+use Rattle.ec_core.specs.declared.act.Act.TheVariants.{Advance, Read, Await, Go, Ticket, Put, Get, Hand}
 use Rattle.ec_core.specs.declared.act.Entry.{Entry}
 
 -- the past at moment k of a history, which is in natural order
@@ -25,7 +25,18 @@ unfoldable pub total : ℕ → List Entry → ℕ
 total e [] = 0
 total e (x ∷ past) = (if is_advance e x.act then 1 else 0) + total e past
 
--- the signallers of e after an act of w, where they were ws before it: no act hands a component over yet
+-- the worker that an act hands its component of e to
+abbrev pub hand_of : ℕ → Act → Option ℕ
+hand_of e (Hand f b) = if f == e then Some b else None
+hand_of e _ = None
+
+-- the list with b in a place
+abbrev pub replaced : Option ℕ → ℕ → List ℕ → List ℕ
+replaced None b ws = ws
+replaced (Some c) b ws = slice_set ws c b
+
+-- the signallers of e after an act of w, where they were ws before it: where w is one of them, a hand of e to b puts b
+-- in its place
 abbrev pub handed : ℕ → ℕ → Act → List ℕ → List ℕ
 handed e w (Advance f) ws = ws
 handed e w (Read f) ws = ws
@@ -34,6 +45,7 @@ handed e w Go ws = ws
 handed e w (Ticket q) ws = ws
 handed e w (Put x v) ws = ws
 handed e w (Get x) ws = ws
+handed e w (Hand f b) ws = if f == e then replaced (place_of w ws) b ws else ws
 
 -- the signallers of e at the end of a past, in order of component: the declared ones, as they were handed on
 unfoldable pub signallers_at : Tables → ℕ → List Entry → List ℕ

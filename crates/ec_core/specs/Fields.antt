@@ -1,15 +1,16 @@
 -- What a step does to the fields of a world: plain functions of them, below the definitions over a history.
 use Rattle.std.specs.Prelude.{ℕ, ◌+◌, ◌<◌, Bool, false, ◌==◌, nat_le, List, [], Option, Some, None, is_some, if◌then◌else◌, slice_get, slice_set, slice_index, Result, unwrap_or}
 use Rattle.std.specs.Option.{option_map_or}
-use Rattle.ec_count.specs.Members.{place_of}
+use Rattle.ec_count.specs.Members.{place_of, is_member}
 use Rattle.ec_count.specs.Counted.{Counted, raised}
 use Rattle.ec_core.specs.declared.act.Act.{Act}
-use Rattle.ec_core.specs.declared.act.Act.TheVariants.{Advance, Read, Await, Go, Ticket, Put, Get}
+use Rattle.ec_core.specs.declared.act.Act.TheVariants.{Advance, Read, Await, Go, Ticket, Put, Get, Hand}
 use Rattle.ec_core.specs.declared.act.Reply.{Reply}
 use Rattle.ec_core.specs.declared.act.Reply.TheVariants.{Done, Number, Pending}
 use Rattle.ec_core.specs.declared.act.Entry.{Entry}
 use Rattle.ec_core.specs.declared.act.Refusal.{Refusal}
 use Rattle.ec_core.specs.Progress.{Progress}
+use Rattle.ec_core.specs.Counts.{replaced}
 use Rattle.ec_core.specs.Rounds.{event_or, width, round_reply}
 use Rattle.ec_core.specs.Acceptance.{refused_or, refusal_in, has_right}
 use Rattle.ec_core.specs.Standing.{State, count_at}
@@ -29,7 +30,17 @@ component_in s e w = place_of w (signallers_in s.signal e)
 -- whether w has the right that the act needs: that to signal by the table of those who signal now
 abbrev pub right_in : State → List Entry → ℕ → Act → Bool
 right_in s past w (Advance e) = is_some (component_in s e w)
+right_in s past w (Hand e b) = is_some (component_in s e w)
 right_in s past w act = has_right s.setup past w act
+
+-- whether the worker that the act hands to signals the eventcount now
+abbrev pub already_in : State → Act → Bool
+already_in s (Hand e b) = is_some (component_in s e b)
+already_in s _ = false
+
+-- the list with b in a place, unless b stands in it
+abbrev pub replaced_new : Option ℕ → ℕ → List ℕ → List ℕ
+replaced_new c b ws = if is_member b ws then ws else replaced c b ws
 
 abbrev pub kept_call : State → ℕ → Option Progress
 kept_call s w = unwrap_or (slice_get s.calls w) None
@@ -77,6 +88,7 @@ reply_in s w Go = go_on s (kept_call s w)
 reply_in s w (Ticket q) = Number (value_of (slice_get s.issued q))
 reply_in s w (Put x v) = Done
 reply_in s w (Get x) = Number (slice_index s.cells x)
+reply_in s w (Hand e b) = Done
 
 -- xs with f of the element at i
 abbrev pub changed_at : {X : Type 0} → (X → X) → List X → ℕ → List X
@@ -105,6 +117,7 @@ state_after s w Go = with_call s w (go_after s (kept_call s w))
 state_after s w (Ticket q) = record s { issued = changed_at raised s.issued q }
 state_after s w (Put x v) = record s { cells = slice_set s.cells x v }
 state_after s w (Get x) = s
+state_after s w (Hand e b) = record s { signal = changed_at (λ ws. replaced_new (place_of w ws) b ws) s.signal e }
 
 -- what each act of the program names
 abbrev pub IsNamed : Act → Type 0
@@ -115,8 +128,9 @@ IsNamed Go = Unit {0}
 IsNamed (Ticket q) = q < 32
 IsNamed (Put x v) = x < 256
 IsNamed (Get x) = x < 256
+IsNamed (Hand e b) = e < 32
 
 -- the answer by what the fields say
 abbrev pub answer_in : State → List Entry → ℕ → Act → Result Reply Refusal
 answer_in s past w act =
-    refused_or (refusal_in s.setup w act (is_some (kept_call s w)) (right_in s past w act) (is_full_for s w act)) (reply_in s w act)
+    refused_or (refusal_in s.setup w act (is_some (kept_call s w)) (right_in s past w act) (is_full_for s w act) (already_in s act)) (reply_in s w act)

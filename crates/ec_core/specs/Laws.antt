@@ -1,11 +1,11 @@
 -- What the definitions mean, in order of time: moment k is that after the first k entries of a history h.
 use Rattle.std.specs.Prelude.{◌≡◌, ◌↔◌, ℕ, ◌+◌, ◌-◌, ◌%◌, ◌<◌, ◌≤◌, ◌⊎◌, Bool, true, false, List, [], length, reverse, take, Some, Ok, slice_get, slice_index_or, count_by}
-use Rattle.ec_count.specs.Tables.{Tables, IsDeclared}
+use Rattle.ec_count.specs.Tables.{Tables, IsDeclared, signallers, may_hand}
 use Rattle.ec_count.specs.Members.{has_repeat}
 use Rattle.ec_core.specs.declared.act.Entry.{Entry}
 use Rattle.ec_core.specs.declared.act.TheConstants.{VALUE_MAX}
-use Rattle.ec_core.specs.Counts.{past_at, signallers_at, total, component_total, issued, cell_value, is_advance, is_ticket, sum_to}
-use Rattle.ec_core.specs.InOrder.{advances_at, IsLastPut, IsUntouched}
+use Rattle.ec_core.specs.Counts.{past_at, hand_of, signallers_at, signaller_at, total, component_total, issued, cell_value, is_advance, is_ticket, sum_to}
+use Rattle.ec_core.specs.InOrder.{advances_at, IsLastPut, IsUntouched, IsLastHand, IsUnhanded}
 use Rattle.ec_core.specs.Calls.{CallSoFar, call_with, under_way}
 use Rattle.ec_core.specs.CallsInOrder.{IsUnderWay}
 use Rattle.ec_core.specs.Rounds.{width, sum_read, round_sum, round_start, read_of, IsPastOfEach, EachIsPastOf}
@@ -95,6 +95,25 @@ RepliesFitTheirActs = (t : Tables) (h : List Entry) (k : ℕ) (x : Entry) → Is
 abbrev pub SignallersAreDifferent : Type 0
 SignallersAreDifferent = (t : Tables) (e k : ℕ) (h : List Entry) → IsDeclared t → IsAccepted t (reverse h)
     → (has_repeat (signallers_at t e (past_at k h)) ≡ false) × (length (signallers_at t e (past_at k h)) ≡ width t e)
+
+-- in an accepted history a fixed eventcount keeps its signallers at every moment
+abbrev pub FixedEventsKeepTheirSignallers : Type 0
+FixedEventsKeepTheirSignallers = (t : Tables) (e k : ℕ) (h : List Entry) → IsAccepted t (reverse h) → may_hand t e ≡ false
+    → signallers_at t e (past_at k h) ≡ signallers t e
+
+-- the signaller of a component at moment k is the receiver of the last hand of it before k, and the declared one where
+-- there is none
+abbrev pub SignallersAreTheLastReceivers : Type 0
+SignallersAreTheLastReceivers = (t : Tables) (e c k : ℕ) (h : List Entry)
+    → IsLastHand t e c h k (signaller_at t e (past_at k h) c) ⊎ IsUnhanded t e c h k (signaller_at t e (past_at k h) c)
+
+-- where entry k is a hand, each total, each component, each number of tickets and each cell is after it as before
+abbrev pub HandsChangeNoNumber : Type 0
+HandsChangeNoNumber = (t : Tables) (h : List Entry) (k e b : ℕ) (x : Entry) → slice_get h k ≡ Some x → hand_of e x.act ≡ Some b
+    → ((f : ℕ) → total f (past_at (k + 1) h) ≡ total f (past_at k h))
+    × ((f c : ℕ) → component_total t f c (past_at (k + 1) h) ≡ component_total t f c (past_at k h))
+    × ((q : ℕ) → issued q (past_at (k + 1) h) ≡ issued q (past_at k h))
+    × ((y : ℕ) → cell_value y (past_at (k + 1) h) ≡ cell_value y (past_at k h))
 
 -- an accepted history without some silent workers is accepted, and each entry that is kept is, at the moment that it
 -- then has, the answer to its act

@@ -1,7 +1,7 @@
 -- What a procedure asks for, and what it may be told.
 use Rattle.std.specs.Prelude.{◌≡◌, ℕ, ◌≤◌, ◌⊎◌, Bool, true, false, List, ◌++◌, take, slice_get, Option, Some, None}
 use Rattle.ec_core.specs.declared.act.Act.{Act}
-use Rattle.ec_core.specs.declared.act.Act.TheVariants.{Advance, Read, Await, Go, Ticket, Put, Get}
+use Rattle.ec_core.specs.declared.act.Act.TheVariants.{Advance, Read, Await, Go, Ticket, Put, Get, Hand}
 use Rattle.ec_core.specs.declared.act.Reply.{Reply}
 use Rattle.ec_core.specs.declared.act.Reply.TheVariants.{Done, Number, Pending}
 use Rattle.ec_core.specs.declared.act.TheConstants.{VALUE_MAX}
@@ -26,6 +26,7 @@ IsReply Go reply = (reply ≡ Pending) ⊎ IsNumber reply
 IsReply (Ticket q) reply = IsNumber reply
 IsReply (Put x v) reply = reply ≡ Done
 IsReply (Get x) reply = IsNumber reply
+IsReply (Hand e b) reply = reply ≡ Done
 
 -- there is an act, and the reply is of a kind that it can get
 abbrev pub IsReplyTo : Option Act → Reply → Type 0

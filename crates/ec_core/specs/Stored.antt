@@ -20,6 +20,7 @@ act_with verbs.Go v = acts.Go
 act_with (verbs.Ticket q) v = acts.Ticket q
 act_with (verbs.Put x) v = acts.Put x v
 act_with (verbs.Get x) v = acts.Get x
+act_with (verbs.Hand e b) v = acts.Hand e b
 
 -- the value of an act; 0 where it has none
 abbrev pub value_of : Act → ℕ

@@ -16,6 +16,7 @@ fn is_act(a: &Act, b: &Act) -> bool
         (Act::Ticket(q), Act::Ticket(r)) => q.get() == r.get(),
         (Act::Put(x, v), Act::Put(y, u)) => x.get() == y.get() && *v == *u,
         (Act::Get(x), Act::Get(y)) => x.get() == y.get(),
+        (Act::Hand(e, b), Act::Hand(f, c)) => e.get() == f.get() && b.get() == c.get(),
         _ => false,
     }
 }

@@ -1,13 +1,13 @@
 //! What a step asks of a setup and of the arrays of a world, and what it does to them.
-ghost use Rattle.std.specs.Prelude.{◌≡◌, ℕ, ◌<◌, ◌≤◌, length, slice_get, Some, IfSome};
+ghost use Rattle.std.specs.Prelude.{◌≡◌, ℕ, false, ◌<◌, ◌≤◌, length, slice_get, Some, IfSome};
 ghost use Rattle.ec_count.specs.Counted.{raised};
-ghost use Rattle.ec_count.specs.Members.{place_of};
+ghost use Rattle.ec_count.specs.Members.{place_of, is_member};
 ghost use Rattle.ec_count.specs.Tables.{signallers};
-ghost use Rattle.ec_core.specs.Acceptance.{names_unknown_object, is_too_large};
+ghost use Rattle.ec_core.specs.Acceptance.{names_unknown_object, is_too_large, is_not_handable};
 ghost use Rattle.ec_core.specs.Rounds.{event_or};
-ghost use Rattle.ec_core.specs.Counts.{sum_to};
+ghost use Rattle.ec_core.specs.Counts.{replaced, sum_to};
 ghost use Rattle.ec_core.specs.Standing.{count_at};
-ghost use Rattle.ec_core.specs.Fields.{IsNamed, signallers_in, value_of, changed_at};
+ghost use Rattle.ec_core.specs.Fields.{IsNamed, signallers_in, value_of, changed_at, replaced_new};
 
 use crate::{Act, VALUE_MAX};
 use ec_count::{Count, EventId, Members, Setup, WorkerId};
@@ -57,6 +57,27 @@ pub(crate) fn place_in(signal: &[Members; 32], event: usize, worker: WorkerId) -
     members.place(worker)
 }
 
+/// Puts the one worker in the other's place.
+fn hand(members: &mut Members, from: WorkerId, to: WorkerId)
+    requires { is_member to members.old ≡ false }
+    ensures { members.new ≡ replaced (place_of from members.old) to members.old }
+{
+    if let Some(place) = members.place(from) {
+        members.replace(place, to);
+    }
+}
+
+/// Hands the one worker's component of eventcount e to the other, unless that one signals it too.
+pub(crate) fn hand_in(signal: &mut [Members; 32], event: usize, from: WorkerId, to: WorkerId)
+    requires { event < 32 }
+    ensures { signal.new ≡ changed_at (λ ws. replaced_new (place_of from ws) to ws) signal.old event }
+{
+    let members = &mut signal[event];
+    if !members.contains(to) {
+        hand(members, from, to);
+    }
+}
+
 /// Whether the act names something that is not declared.
 pub(crate) fn names_unknown_object(setup: &Setup, act: &Act) -> bool
     ensures { result ≡ names_unknown_object setup.now act.now }
@@ -68,6 +89,17 @@ pub(crate) fn names_unknown_object(setup: &Setup, act: &Act) -> bool
         Act::Go => false,
         Act::Ticket(sequencer) => sequencer.get() >= setup.sequencers(),
         Act::Put(cell, _) | Act::Get(cell) => cell.get() >= setup.cells(),
+        Act::Hand(event, to) => event.get() >= setup.events() || to.get() >= setup.workers(),
+    }
+}
+
+/// Whether the act hands over a component of an eventcount that is fixed.
+pub(crate) fn is_not_handable(setup: &Setup, act: &Act) -> bool
+    ensures { result ≡ is_not_handable setup.now act.now }
+{
+    match *act {
+        Act::Hand(event, _) => !setup.may_hand(event),
+        _ => false,
     }
 }
 
@@ -77,7 +109,8 @@ pub(crate) fn is_too_large(act: &Act) -> bool
 {
     match *act {
         Act::Await(_, value) | Act::Put(_, value) => value > VALUE_MAX,
-        Act::Advance(_) | Act::Read(_) | Act::Go | Act::Ticket(_) | Act::Get(_) => false,
+        Act::Advance(_) | Act::Read(_) | Act::Go | Act::Ticket(_) | Act::Get(_) | Act::Hand(_, _) =>
+            false,
     }
 }
 
@@ -88,7 +121,7 @@ pub(crate) fn event_or(op: Act) -> usize
 {
     match op {
         Act::Advance(event) | Act::Read(event) | Act::Await(event, _) => event.get(),
-        Act::Go | Act::Ticket(_) | Act::Put(_, _) | Act::Get(_) => 0,
+        Act::Go | Act::Ticket(_) | Act::Put(_, _) | Act::Get(_) | Act::Hand(_, _) => 0,
     }
 }
 
@@ -162,7 +195,7 @@ pub(crate) fn named(act: &Act)
     ensures { IsNamed act.now }
 {
     match *act {
-        Act::Advance(event) | Act::Read(event) | Act::Await(event, _) => {
+        Act::Advance(event) | Act::Read(event) | Act::Await(event, _) | Act::Hand(event, _) => {
             let _event = event.get();
         }
         Act::Go => {}

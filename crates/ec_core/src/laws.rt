@@ -2,7 +2,7 @@
 ghost use Rattle.std.specs.Prelude.{◌≡◌};
 ghost use Rattle.ec_core.specs.declared.act.TheConstants.{VALUE_MAX};
 ghost use Rattle.ec_core.specs.FallenShort.{IndexZeroIsAnAwait, IndexZeroMeansFallenShort};
-ghost use Rattle.ec_core.specs.Laws.{TotalsCountAdvances, ComponentsCountAdvances, IssuedCountsTickets, CellsHoldTheLastPut, CallsUnderWayAreCutInOrder, CallsUnderWayRead, RoundsAddTheirComponents, ComponentsAddUp, TotalsRiseByOne, CountsKeepTheLimit, RoundsLieBetween, RoundsOfCallsLieBetween, BeginningsAreAccepted, AcceptedMeansAnswered, NumbersAreSmall, RepliesFitTheirActs, SignallersAreDifferent, OthersStand};
+ghost use Rattle.ec_core.specs.Laws.{TotalsCountAdvances, ComponentsCountAdvances, IssuedCountsTickets, CellsHoldTheLastPut, CallsUnderWayAreCutInOrder, CallsUnderWayRead, RoundsAddTheirComponents, ComponentsAddUp, TotalsRiseByOne, CountsKeepTheLimit, RoundsLieBetween, RoundsOfCallsLieBetween, BeginningsAreAccepted, AcceptedMeansAnswered, NumbersAreSmall, RepliesFitTheirActs, SignallersAreDifferent, FixedEventsKeepTheirSignallers, SignallersAreTheLastReceivers, HandsChangeNoNumber, OthersStand};
 
 /// The total of an eventcount at a moment is the number of its advances before it (Reed and
 /// Kanodia's value).
@@ -105,6 +105,22 @@ pub fn replies_fit_their_acts()
 /// worker for each.
 pub fn signallers_are_different()
     ensures { SignallersAreDifferent }
+{}
+
+/// In an accepted history a fixed eventcount keeps its signallers.
+pub fn fixed_events_keep_their_signallers()
+    ensures { FixedEventsKeepTheirSignallers }
+{}
+
+/// The signaller of a component is the worker that it was last handed to, and the declared one where
+/// it was not handed over.
+pub fn signallers_are_the_last_receivers()
+    ensures { SignallersAreTheLastReceivers }
+{}
+
+/// A hand changes no total, no component, no number of tickets and no cell.
+pub fn hands_change_no_number()
+    ensures { HandsChangeNoNumber }
 {}
 
 /// An accepted history without some silent workers is accepted, and what the others were told

@@ -2,7 +2,7 @@
 ghost use Rattle.std.specs.Prelude.{IsTrue, ◌↔◌, ◌≡◌, ◌<◌, ◌^◌, List, [], ◌∷◌, ◌++◌, length, reverse, slice_get, Ok, IfOk, OnOk, OnErr, MatchResult};
 ghost use Rattle.ec_count.specs.Tables.{IsDeclared};
 ghost use Rattle.ec_core.specs.Acceptance.{answer_of, IsAccepted};
-ghost use Rattle.ec_core.specs.Silence.{IsSilent};
+ghost use Rattle.ec_core.specs.Silence.{IsSilent, hands_to};
 ghost use Rattle.ec_core.specs.Standing.{StandsFor};
 ghost use Rattle.ec_core.specs.Values.{TellsAtMost};
 ghost use Rattle.ec_core.specs.Procedures.{IsReply};
@@ -13,6 +13,16 @@ use ec_count::{Setup, WorkerId};
 use std::alloc::{AllocError, Global};
 use std::marker::Model;
 use thiserror::Error;
+
+/// Whether the act hands a component to the worker.
+fn hands_to(act: &Act, worker: WorkerId) -> bool
+    ensures { result ≡ hands_to worker act.now }
+{
+    match *act {
+        Act::Hand(_, to) => to.get() == worker.get(),
+        _ => false,
+    }
+}
 
 /// Why a run made no step. After either everything is as before.
 #[derive(Clone, Copy, Debug, PartialEq, Eq, Error)]
@@ -111,7 +121,16 @@ impl Run {
     pub fn is_silent(&self, worker: WorkerId) -> bool
         ensures { IsTrue result ↔ IsSilent self.now.setup self.now.entries worker }
     {
-        self.setup().is_silent(worker)
+        self.known();
+        if !self.setup().is_silent(worker) {
+            return false;
+        }
+        for entry in self.entries() {
+            if hands_to(&entry.act, worker) {
+                return false;
+            }
+        }
+        true
     }
 
     /// The same run again: the same entries on the same declarations.

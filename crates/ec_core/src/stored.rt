@@ -16,6 +16,7 @@ pub(crate) enum Verb {
     Ticket(SeqId),
     Put(CellId),
     Get(CellId),
+    Hand(EventId, WorkerId),
 }
 
 /// A reply without its number.
@@ -65,6 +66,7 @@ impl Stored {
             Verb::Ticket(sequencer) => Act::Ticket(sequencer),
             Verb::Put(cell) => Act::Put(cell, self.value),
             Verb::Get(cell) => Act::Get(cell),
+            Verb::Hand(event, to) => Act::Hand(event, to),
         };
         let reply = match self.answer {
             Answer::Done => Reply::Done,
@@ -90,6 +92,7 @@ fn verb_of(act: &Act) -> Verb
         Act::Ticket(sequencer) => Verb::Ticket(sequencer),
         Act::Put(cell, _) => Verb::Put(cell),
         Act::Get(cell) => Verb::Get(cell),
+        Act::Hand(event, to) => Verb::Hand(event, to),
     }
 }
 
@@ -99,7 +102,8 @@ fn value_of(act: &Act) -> u64
 {
     match *act {
         Act::Await(_, value) | Act::Put(_, value) => value,
-        Act::Advance(_) | Act::Read(_) | Act::Go | Act::Ticket(_) | Act::Get(_) => 0,
+        Act::Advance(_) | Act::Read(_) | Act::Go | Act::Ticket(_) | Act::Get(_) | Act::Hand(_, _) =>
+            0,
     }
 }
 

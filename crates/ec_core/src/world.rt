@@ -7,11 +7,11 @@ ghost use Rattle.ec_core.specs.Counts.{total, signaller_at, component_at, compon
 ghost use Rattle.ec_core.specs.Standing.{StandsFor, progress_of};
 ghost use Rattle.ec_core.specs.Values.{TellsAtMost};
 ghost use Rattle.ec_core.specs.Procedures.{IsReply};
-ghost use Rattle.ec_core.specs.Fields.{kept_call, component_in, right_in, is_full_for, next_sum, next_reply, reply_in, next_progress, state_after};
+ghost use Rattle.ec_core.specs.Fields.{kept_call, component_in, right_in, already_in, is_full_for, next_sum, next_reply, reply_in, next_progress, state_after};
 
 use crate::fields::{
-    all_alike, count_in, count_of, declared, event_or, is_too_large, named, names_unknown_object,
-    place_in, raise_at, raise_in, same_again, signaller_in, sum_of,
+    all_alike, count_in, count_of, declared, event_or, hand_in, is_not_handable, is_too_large,
+    named, names_unknown_object, place_in, raise_at, raise_in, same_again, signaller_in, sum_of,
 };
 use crate::under_way::{after_read, one_read};
 use crate::{Act, Entry, Refusal, Reply, UnderWay, VALUE_MAX};
@@ -116,8 +116,8 @@ impl World {
         Some(sum_of(&self.counts, event, width))
     }
 
-    /// A component of an eventcount: how many advances its signaller made. None where there is no
-    /// such component, and so where the eventcount is not declared.
+    /// A component of an eventcount: how many advances were made by who signalled it at their moment.
+    /// None where there is no such component, and so where the eventcount is not declared.
     pub fn component(&self, event: EventId, component: usize) -> Option<u64>
         ensures { (h : List Entry) → StandsFor self.now h
             → result ≡ (if nat_lt component (width self.now.setup event) then Some (component_total self.now.setup event component (reverse h)) else None) }
@@ -184,7 +184,12 @@ impl World {
                 let count = count_of(&self.issued, sequencer.get());
                 count.is_full()
             }
-            Act::Read(_) | Act::Await(_, _) | Act::Go | Act::Put(_, _) | Act::Get(_) => false,
+            Act::Read(_)
+            | Act::Await(_, _)
+            | Act::Go
+            | Act::Put(_, _)
+            | Act::Get(_)
+            | Act::Hand(_, _) => false,
         }
     }
 
@@ -194,7 +199,10 @@ impl World {
         ensures { (past : List Entry) → result ≡ right_in self.now past worker act.now }
     {
         match *act {
-            Act::Advance(event) => self.own_component(event, worker).is_some(),
+            Act::Advance(event) | Act::Hand(event, _) => {
+                let component = self.own_component(event, worker);
+                component.is_some()
+            }
             Act::Read(event) | Act::Await(event, _) => self.setup.may_observe(event, worker),
             Act::Go => true,
             Act::Ticket(sequencer) => self.setup.may_take(sequencer, worker),
@@ -203,9 +211,20 @@ impl World {
         }
     }
 
+    /// Whether the worker that the act hands to signals the eventcount now.
+    #[inline(always)]
+    fn signals_already(&self, act: &Act) -> bool
+        ensures { result ≡ already_in self.now act.now }
+    {
+        match *act {
+            Act::Hand(event, to) => self.own_component(event, to).is_some(),
+            _ => false,
+        }
+    }
+
     #[inline(always)]
     fn refusal(&self, worker: WorkerId, act: &Act) -> Option<Refusal>
-        ensures { (past : List Entry) → result ≡ refusal_in self.now.setup worker act.now (is_some (kept_call self.now worker)) (right_in self.now past worker act.now) (is_full_for self.now worker act.now) }
+        ensures { (past : List Entry) → result ≡ refusal_in self.now.setup worker act.now (is_some (kept_call self.now worker)) (right_in self.now past worker act.now) (is_full_for self.now worker act.now) (already_in self.now act.now) }
     {
         if worker.get() >= self.setup.workers() {
             return Some(Refusal::UnknownWorker);
@@ -229,6 +248,12 @@ impl World {
         }
         if self.is_full_for(worker, act) {
             return Some(Refusal::AtLimit);
+        }
+        if is_not_handable(&self.setup, act) {
+            return Some(Refusal::NotHandable);
+        }
+        if self.signals_already(act) {
+            return Some(Refusal::AlreadySignals);
         }
         None
     }
@@ -267,7 +292,7 @@ impl World {
         ensures { result ≡ reply_in self.now worker act.now }
     {
         match *act {
-            Act::Advance(_) | Act::Put(_, _) => Reply::Done,
+            Act::Advance(_) | Act::Put(_, _) | Act::Hand(_, _) => Reply::Done,
             Act::Read(_) | Act::Await(_, _) => self.next_reply(&UnderWay::begun(*act)),
             Act::Go => match self.call(worker) {
                 Some(call) => self.next_reply(&call),
@@ -316,6 +341,7 @@ impl World {
             Act::Ticket(sequencer) => raise_at(&mut self.issued, sequencer.get()),
             Act::Put(cell, value) => self.cells[cell.get()] = value,
             Act::Get(_) => {}
+            Act::Hand(event, to) => hand_in(&mut self.signal, event.get(), worker, to),
         }
     }
 

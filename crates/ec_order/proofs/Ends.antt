@@ -4,7 +4,7 @@ use Rattle.std.proofs.lemmas.Bool.{leb-true, leb-false}
 use Rattle.std.proofs.lemmas.Nat.{mod_below}
 use Rattle.ec_count.specs.Tables.{Tables, IsDeclared}
 use Rattle.ec_core.specs.declared.act.Act.{Act}
-use Rattle.ec_core.specs.declared.act.Act.TheVariants.{Advance, Read, Await, Go, Ticket, Put, Get}
+use Rattle.ec_core.specs.declared.act.Act.TheVariants.{Advance, Read, Await, Go, Ticket, Put, Get, Hand}
 use Rattle.ec_core.specs.declared.act.Reply.{Reply}
 use Rattle.ec_core.specs.declared.act.Reply.TheVariants.{Number, Pending}
 use Rattle.ec_core.specs.declared.act.Entry.{Entry}
@@ -158,6 +158,7 @@ ends_at t past w (Ticket q) reply d acc a h =
 ends_at t past w (Put x v) reply d acc a h = acting_ends t past w (Put x v) reply (under_way w past) refl (ap is_pending (sym h)) refl refl (λ s k. ap Some h)
 ends_at t past w (Get x) reply d acc a h =
     acting_ends t past w (Get x) reply (under_way w past) refl (ap is_pending (sym h)) refl refl (λ s k. ap (λ n. Some (Number n)) (k.cells x) ∙ ap Some h)
+ends_at t past w (Hand e b) reply d acc a h = acting_ends t past w (Hand e b) reply (under_way w past) refl (ap is_pending (sym h)) refl refl (λ s k. ap Some h)
 
 pub ends : (t : Tables) (x : Entry) (past : List Entry) → IsDeclared t → IsAccepted t (x ∷ past) → Ends t x past (under_way x.worker past)
 ends t x past d acc =

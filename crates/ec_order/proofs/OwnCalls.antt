@@ -6,7 +6,7 @@ use Rattle.std.proofs.lemmas.List.{map-append, append-nil}
 use Rattle.std.proofs.lemmas.List.Elements.{filter-append}
 use Rattle.ec_count.specs.Tables.{Tables}
 use Rattle.ec_core.specs.declared.act.Act.{Act}
-use Rattle.ec_core.specs.declared.act.Act.TheVariants.{Advance, Read, Await, Go, Ticket, Put, Get}
+use Rattle.ec_core.specs.declared.act.Act.TheVariants.{Advance, Read, Await, Go, Ticket, Put, Get, Hand}
 use Rattle.ec_core.specs.declared.act.Reply.{Reply}
 use Rattle.ec_core.specs.declared.act.Entry.{Entry}
 use Rattle.ec_core.specs.Acceptance.{IsAccepted}
@@ -69,6 +69,7 @@ ended_by_own t w Go reply past (Some call) going final = ended_one t (entry w Go
 ended_by_own t w (Ticket q) reply past o going final = ended_one t (entry w (Ticket q) reply) (Ticket q) (past ∷ []) final
 ended_by_own t w (Put x v) reply past o going final = ended_one t (entry w (Put x v) reply) (Put x v) (past ∷ []) final
 ended_by_own t w (Get x) reply past o going final = ended_one t (entry w (Get x) reply) (Get x) (past ∷ []) final
+ended_by_own t w (Hand e b) reply past o going final = ended_one t (entry w (Hand e b) reply) (Hand e b) (past ∷ []) final
 
 abbrev AreTheirs : Tables → ℕ → List Entry → Type 0
 AreTheirs t w past = told_by w (finished_calls t past) ≡ finished_by w past

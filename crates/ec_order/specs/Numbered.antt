@@ -1,7 +1,7 @@
 -- The sequential object as the check keeps it, in three tables.
 use Rattle.std.specs.Prelude.{ℕ, ◌+◌, ◌≤◌, nat_le, Option, Some, None, slice_index, slice_set, if◌then◌else◌}
 use Rattle.ec_core.specs.declared.act.Act.{Act}
-use Rattle.ec_core.specs.declared.act.Act.TheVariants.{Advance, Read, Await, Go, Ticket, Put, Get}
+use Rattle.ec_core.specs.declared.act.Act.TheVariants.{Advance, Read, Await, Go, Ticket, Put, Get, Hand}
 use Rattle.ec_core.specs.declared.act.Reply.{Reply}
 use Rattle.ec_core.specs.declared.act.Reply.TheVariants.{Done, Number}
 use Rattle.ec_order.specs.declared.numbers.Numbers.{Numbers}
@@ -13,6 +13,7 @@ reply_in n (Await e v) = if nat_le v (slice_index n.events e) then Some (Number 
 reply_in n (Ticket q) = Some (Number (slice_index n.sequencers q))
 reply_in n (Put x v) = Some Done
 reply_in n (Get x) = Some (Number (slice_index n.cells x))
+reply_in n (Hand e b) = Some Done
 reply_in n Go = None
 
 abbrev pub after_in : Numbers → Act → Numbers

@@ -2,7 +2,7 @@
 -- step.
 use Rattle.std.specs.Prelude.{◌≡◌, ℕ, ◌+◌, ◌==◌, nat_le, List, [], ◌∷◌, Option, Some, None, if◌then◌else◌}
 use Rattle.ec_core.specs.declared.act.Act.{Act}
-use Rattle.ec_core.specs.declared.act.Act.TheVariants.{Advance, Read, Await, Go, Ticket, Put, Get}
+use Rattle.ec_core.specs.declared.act.Act.TheVariants.{Advance, Read, Await, Go, Ticket, Put, Get, Hand}
 use Rattle.ec_core.specs.declared.act.Reply.{Reply}
 use Rattle.ec_core.specs.declared.act.Reply.TheVariants.{Done, Number}
 use Rattle.ec_order.specs.declared.call.Call.{Call}
@@ -16,7 +16,7 @@ pub record SequentialState : Type 0 where
 abbrev pub zero_state : SequentialState
 zero_state = record { events = λ e. 0; sequencers = λ q. 0; cells = λ x. 0 }
 
--- what a call is answered: an advance and a put are done; a read gives the number, and so does an await, which is
+-- what a call is answered: an advance, a put and a hand are done; a read gives the number, and so does an await, which is
 -- possible only where the number has reached its threshold; a ticket and a get give theirs. No call begins with a go
 abbrev pub sequential_reply : SequentialState → Act → Option Reply
 sequential_reply s (Advance e) = Some Done
@@ -25,6 +25,7 @@ sequential_reply s (Await e v) = if nat_le v (s.events e) then Some (Number (s.e
 sequential_reply s (Ticket q) = Some (Number (s.sequencers q))
 sequential_reply s (Put x v) = Some Done
 sequential_reply s (Get x) = Some (Number (s.cells x))
+sequential_reply s (Hand e b) = Some Done
 sequential_reply s Go = None
 
 -- f with v at n

@@ -42,7 +42,7 @@ pub(crate) fn event_or(op: Act) -> usize
 {
     match op {
         Act::Advance(event) | Act::Read(event) | Act::Await(event, _) => event.get(),
-        Act::Go | Act::Ticket(_) | Act::Put(_, _) | Act::Get(_) => 0,
+        Act::Go | Act::Ticket(_) | Act::Put(_, _) | Act::Get(_) | Act::Hand(_, _) => 0,
     }
 }
 

@@ -16,7 +16,7 @@ pub(crate) fn is_alone(act: Act) -> bool
 {
     match act {
         Act::Read(_) | Act::Await(_, _) | Act::Go => false,
-        Act::Advance(_) | Act::Ticket(_) | Act::Put(_, _) | Act::Get(_) => true,
+        Act::Advance(_) | Act::Ticket(_) | Act::Put(_, _) | Act::Get(_) | Act::Hand(_, _) => true,
     }
 }
 

@@ -16,7 +16,12 @@ pub(crate) fn is_reading(op: Act) -> bool
 {
     match op {
         Act::Read(_) | Act::Await(_, _) => true,
-        Act::Advance(_) | Act::Go | Act::Ticket(_) | Act::Put(_, _) | Act::Get(_) => false,
+        Act::Advance(_)
+        | Act::Go
+        | Act::Ticket(_)
+        | Act::Put(_, _)
+        | Act::Get(_)
+        | Act::Hand(_, _) => false,
     }
 }
 

@@ -72,6 +72,7 @@ impl Numbers {
                 Some(Reply::Done)
             }
             Act::Get(cell) => Some(Reply::Number(self.cells[cell.get()])),
+            Act::Hand(_, _) => Some(Reply::Done),
             Act::Go => None,
         }
     }
@@ -86,7 +87,7 @@ impl Numbers {
             Act::Advance(event) => self.events[event.get()] += 1,
             Act::Ticket(sequencer) => self.sequencers[sequencer.get()] += 1,
             Act::Put(cell, value) => self.cells[cell.get()] = value,
-            Act::Read(_) | Act::Await(_, _) | Act::Get(_) | Act::Go => {}
+            Act::Read(_) | Act::Await(_, _) | Act::Get(_) | Act::Hand(_, _) | Act::Go => {}
         }
     }
 }

@@ -9,7 +9,7 @@ use Rattle.ec_count.specs.Tables.{Tables, IsDeclared}
 use Rattle.ec_count.specs.Members.{place_of}
 use Rattle.ec_count.proofs.shared.Declared.{few_signallers, some_signaller}
 use Rattle.ec_core.specs.declared.act.Act.{Act}
-use Rattle.ec_core.specs.declared.act.Act.TheVariants.{Advance, Read, Await, Go, Ticket, Put, Get}
+use Rattle.ec_core.specs.declared.act.Act.TheVariants.{Advance, Read, Await, Go, Ticket, Put, Get, Hand}
 use Rattle.ec_core.specs.declared.act.Reply.{Reply}
 use Rattle.ec_core.specs.declared.act.Reply.TheVariants.{Done, Number, Pending}
 use Rattle.ec_core.specs.declared.act.Entry.{Entry}
@@ -17,10 +17,10 @@ use Rattle.ec_core.specs.declared.act.Refusal.{Refusal}
 use Rattle.ec_core.specs.Counts.{signallers_at, component_at, component_total}
 use Rattle.ec_core.specs.Calls.{CallSoFar, under_way, is_pending, gone_on}
 use Rattle.ec_core.specs.Rounds.{event_or, width, sum_read, next_component, round_reply, read_reply}
-use Rattle.ec_core.specs.Acceptance.{reply_of, answer_of, refusal_of, refused_or, has_right, is_at_limit, IsAccepted, names_unknown_object, is_too_large}
+use Rattle.ec_core.specs.Acceptance.{reply_of, answer_of, refusal_of, refused_or, has_right, is_at_limit, IsAccepted, names_unknown_object, is_too_large, is_not_handable, signals_already}
 use Rattle.ec_core.specs.Calls.{is_go}
 use Rattle.ec_core.specs.Standing.{State, Stands, count_at, shown, progress_of}
-use Rattle.ec_core.specs.Fields.{kept_call, component_in, right_in, is_full, is_full_for, value_of, one_read, after_round, next_reply, next_progress, IsNamed}
+use Rattle.ec_core.specs.Fields.{kept_call, component_in, right_in, already_in, is_full, is_full_for, value_of, one_read, after_round, next_reply, next_progress, IsNamed}
 use Rattle.ec_core.proofs.shared.Signalling.{signallers_length}
 
 -- a place is within the list
@@ -72,6 +72,7 @@ full_is s past w Go st named = refl
 full_is s past w (Ticket q) st named = ap is_full (st.issued q named)
 full_is s past w (Put x v) st named = refl
 full_is s past w (Get x) st named = refl
+full_is s past w (Hand e b) st named = refl
 
 -- the rights that a world finds are those of its history
 pub right_is : (s : State) (past : List Entry) (w : ℕ) (act : Act) → Stands s past → IsNamed act → right_in s past w act ≡ has_right s.setup past w act
@@ -82,6 +83,18 @@ right_is s past w Go st named = refl
 right_is s past w (Ticket q) st named = refl
 right_is s past w (Put x v) st named = refl
 right_is s past w (Get x) st named = refl
+right_is s past w (Hand e b) st named = ap is_some (component_is s past e w st named)
+
+-- whether the worker that is handed to signals already is as the history says
+pub already_is : (s : State) (past : List Entry) (act : Act) → Stands s past → IsNamed act → already_in s act ≡ signals_already s.setup past act
+already_is s past (Hand e b) st named = ap is_some (component_is s past e b st named)
+already_is s past (Advance e) st named = refl
+already_is s past (Read e) st named = refl
+already_is s past (Await e v) st named = refl
+already_is s past Go st named = refl
+already_is s past (Ticket q) st named = refl
+already_is s past (Put x v) st named = refl
+already_is s past (Get x) st named = refl
 
 -- one more read tells what the history says
 pub read_is : (s : State) (past : List Entry) (op : Act) (moments : List (List Entry)) → Stands s past → event_or op < 32
@@ -116,6 +129,8 @@ pub record IsAllowed (t : Tables) (past : List Entry) (w : ℕ) (act : Act) : Ty
   pub right : not (has_right t past w act) ≡ false
   pub small : is_too_large act ≡ false
   pub room : is_at_limit t past w act ≡ false
+  pub handable : is_not_handable t act ≡ false
+  pub fresh : signals_already t past act ≡ false
 
 accepted_or : (o : Option Refusal) (x y : Reply) → refused_or o x ≡ Ok y → (o ≡ None) × (x ≡ y)
 accepted_or None x y h = (refl, cc)
@@ -134,7 +149,9 @@ allowed t past w act reply h =
     let e = chosen_none _ _ _ d.1 in
     let f = chosen_none _ _ _ e.1 in
     let g = chosen_none _ _ _ f.1 in
-    (record { declared = a.0; free = b.0; going = c.0; known = d.0; right = e.0; small = f.0; room = g.0 }, k.1)
+    let i = chosen_none _ _ _ g.1 in
+    let j = chosen_none _ _ _ i.1 in
+    (record { declared = a.0; free = b.0; going = c.0; known = d.0; right = e.0; small = f.0; room = g.0; handable = i.0; fresh = j.0 }, k.1)
 
 kept_or : (t : Tables) (b : Bool) (o : Option CallSoFar) → IsReadingCall t o → IsReadingCall t (cond b o None)
 kept_or t true o h = h
@@ -154,6 +171,7 @@ reading_step t past w Go reply a r h = kept_or t (is_pending reply) (gone_on Go 
 reading_step t past w (Ticket q) reply a r h = subst (λ p. IsReadingCall t (cond (is_pending p) (gone_on (Ticket q) past (under_way w past)) None)) r tt
 reading_step t past w (Put x v) reply a r h = subst (λ p. IsReadingCall t (cond (is_pending p) (gone_on (Put x v) past (under_way w past)) None)) r tt
 reading_step t past w (Get x) reply a r h = subst (λ p. IsReadingCall t (cond (is_pending p) (gone_on (Get x) past (under_way w past)) None)) r tt
+reading_step t past w (Hand e f) reply a r h = subst (λ p. IsReadingCall t (cond (is_pending p) (gone_on (Hand e f) past (under_way w past)) None)) r tt
 
 -- each call under way in an accepted history was begun by a read or an await of a declared eventcount
 pub call_reads : (t : Tables) (past : List Entry) (w : ℕ) → IsAccepted t past → IsReadingCall t (under_way w past)
@@ -177,6 +195,7 @@ reading_event t Go h = absurd h
 reading_event t (Ticket q) h = absurd h
 reading_event t (Put x v) h = absurd h
 reading_event t (Get x) h = absurd h
+reading_event t (Hand e f) h = absurd h
 
 -- counting round: the next remainder is one more, or 0 where that makes the whole
 pub mod_next : (n k : ℕ) → 0 < n → suc k % n ≡ cond (nat_le n (k % n + 1)) 0 (k % n + 1)

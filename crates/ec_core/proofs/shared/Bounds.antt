@@ -5,7 +5,7 @@ use Rattle.std.proofs.lemmas.Bool.{and_parts, eqb-true, eqb-false, ltb-false, le
 use Rattle.std.proofs.lemmas.Nat.{mod_below}
 use Rattle.ec_count.specs.Tables.{Tables, IsDeclared}
 use Rattle.ec_core.specs.declared.act.Act.{Act}
-use Rattle.ec_core.specs.declared.act.Act.TheVariants.{Advance, Read, Await, Go, Ticket, Put, Get}
+use Rattle.ec_core.specs.declared.act.Act.TheVariants.{Advance, Read, Await, Go, Ticket, Put, Get, Hand}
 use Rattle.ec_core.specs.declared.act.Reply.{Reply}
 use Rattle.ec_core.specs.declared.act.Reply.TheVariants.{Number, Pending}
 use Rattle.ec_core.specs.declared.act.Entry.{Entry}
@@ -43,6 +43,7 @@ advance_below t past w e c Go h room = cc
 advance_below t past w e c (Ticket q) h room = cc
 advance_below t past w e c (Put x v) h room = cc
 advance_below t past w e c (Get x) h room = cc
+advance_below t past w e c (Hand f g) h room = cc
 
 -- no component passes the limit
 pub component_within : (t : Tables) (e c : ℕ) (past : List Entry) → IsAccepted t past → component_total t e c past ≤ t.limit
@@ -63,6 +64,7 @@ ticket_below t past w q (Await e v) h room = cc
 ticket_below t past w q Go h room = cc
 ticket_below t past w q (Put x v) h room = cc
 ticket_below t past w q (Get x) h room = cc
+ticket_below t past w q (Hand e f) h room = cc
 
 -- no number of tickets drawn passes the limit
 pub issued_within : (t : Tables) (q : ℕ) (past : List Entry) → IsAccepted t past → issued q past ≤ t.limit
@@ -84,6 +86,7 @@ put_within x d (Await e v) small h = h
 put_within x d Go small h = h
 put_within x d (Ticket q) small h = h
 put_within x d (Get y) small h = h
+put_within x d (Hand e f) small h = h
 
 -- no cell holds more than the greatest value
 pub cell_within : (t : Tables) (x : ℕ) (past : List Entry) → IsAccepted t past → cell_value x past ≤ VALUE_MAX
@@ -115,6 +118,7 @@ round_small Go s h = h
 round_small (Ticket q) s h = h
 round_small (Put x v) s h = h
 round_small (Get x) s h = h
+round_small (Hand e f) s h = h
 
 small_if : (b : Bool) (reply : Reply) → TellsAtMost VALUE_MAX reply → TellsAtMost VALUE_MAX (cond b reply Pending)
 small_if true reply h = h
@@ -155,6 +159,7 @@ reply_small t past w Go d low acc known = go_small t past (under_way w past) d l
 reply_small t past w (Ticket q) d low acc known = small_number (issued q past) t.limit (issued_within t q past acc) low
 reply_small t past w (Put x v) d low acc known = tt
 reply_small t past w (Get x) d low acc known = cell_within t x past acc
+reply_small t past w (Hand e b) d low acc known = tt
 
 -- no number that an act is told after an accepted history is above the greatest value
 pub told_small : (t : Tables) (past : List Entry) (w : ℕ) (act : Act) (reply : Reply) → IsDeclared t → IsAccepted t past

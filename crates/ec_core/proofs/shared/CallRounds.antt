@@ -7,7 +7,7 @@ use Rattle.std.proofs.lemmas.List.{reverse-append, reverse-reverse, length-rever
 use Rattle.std.proofs.Math.Seq.{take-append_seam}
 use Rattle.ec_count.specs.Tables.{Tables}
 use Rattle.ec_core.specs.declared.act.Act.{Act}
-use Rattle.ec_core.specs.declared.act.Act.TheVariants.{Advance, Read, Await, Go, Ticket, Put, Get}
+use Rattle.ec_core.specs.declared.act.Act.TheVariants.{Advance, Read, Await, Go, Ticket, Put, Get, Hand}
 use Rattle.ec_core.specs.declared.act.Entry.{Entry}
 use Rattle.ec_core.specs.Counts.{past_at, total}
 use Rattle.ec_core.specs.Calls.{CallSoFar, under_way, gone_on, is_pending}
@@ -37,6 +37,7 @@ gone_stacked (Await e v) past o before h = (tt, tt)
 gone_stacked (Ticket q) past o before h = (tt, tt)
 gone_stacked (Put x v) past o before h = (tt, tt)
 gone_stacked (Get x) past o before h = (tt, tt)
+gone_stacked (Hand e f) past o before h = (tt, tt)
 
 kept_stacked : (b : Bool) (o : Option CallSoFar) → IsCallStacked o → IsCallStacked (cond b o None)
 kept_stacked true o h = h
@@ -121,6 +122,7 @@ reading_is t Go e h is = absurd h
 reading_is t (Ticket q) e h is = absurd h
 reading_is t (Put x v) e h is = absurd h
 reading_is t (Get x) e h is = absurd h
+reading_is t (Hand f g) e h is = absurd h
 
 -- what an accepted entry's call reads is declared
 gone_reads : (t : Tables) (past : List Entry) (act : Act) (o : Option CallSoFar) (call : CallSoFar) (e : ℕ) → names_unknown_object t act ≡ false → IsReadingCall t o
@@ -135,6 +137,7 @@ gone_reads t past (Advance f) o call e known reading is reads = (let op : Advanc
 gone_reads t past (Ticket q) o call e known reading is reads = (let op : Ticket q ≡ call.op = cc in cc)
 gone_reads t past (Put x v) o call e known reading is reads = (let op : Put x v ≡ call.op = cc in cc)
 gone_reads t past (Get x) o call e known reading is reads = (let op : Get x ≡ call.op = cc in cc)
+gone_reads t past (Hand f g) o call e known reading is reads = (let op : Hand f g ≡ call.op = cc in cc)
 
 one_long : (past : List Entry) (call : CallSoFar) → past ∷ [] ≡ call.moments → 0 < length call.moments
 one_long past call same = (let long = ap length same in omega arith)
@@ -148,6 +151,7 @@ gone_some (Await e v) past o call is = one_long past call cc
 gone_some (Ticket q) past o call is = one_long past call cc
 gone_some (Put x v) past o call is = one_long past call cc
 gone_some (Get x) past o call is = one_long past call cc
+gone_some (Hand e f) past o call is = one_long past call cc
 
 pub rounds_of_calls : RoundsOfCallsLieBetween
 rounds_of_calls t h k e x call d acc at is reads whole =

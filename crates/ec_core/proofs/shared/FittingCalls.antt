@@ -3,7 +3,7 @@ use Rattle.std.proofs.Common.{◌≡◌, ℕ, Bool, true, false, not, ◌&&◌, 
 use Rattle.std.proofs.lemmas.Bool.{eqb-true, eq-eqb}
 use Rattle.ec_count.specs.Tables.{Tables, IsDeclared}
 use Rattle.ec_core.specs.declared.act.Act.{Act}
-use Rattle.ec_core.specs.declared.act.Act.TheVariants.{Advance, Read, Await, Go, Ticket, Put, Get}
+use Rattle.ec_core.specs.declared.act.Act.TheVariants.{Advance, Read, Await, Go, Ticket, Put, Get, Hand}
 use Rattle.ec_core.specs.declared.act.Reply.{Reply}
 use Rattle.ec_core.specs.declared.act.Reply.TheVariants.{Done, Number, Pending}
 use Rattle.ec_core.specs.declared.act.Entry.{Entry}
@@ -151,6 +151,7 @@ fitting_act t r b (Await e v) reading h = h
 fitting_act t r b (Ticket q) reading h = h
 fitting_act t r b (Put x v) reading h = h
 fitting_act t r b (Get x) reading h = h
+fitting_act t r b (Hand e f) reading h = h
 
 fitting_call : (t : Tables) (r : Rule) (b : List Told) (o : Option CallSoFar) → IsReadingCall t o → IsRightCall r b o → IsFittingCall r b o
 fitting_call t r b None reading h = tt
@@ -174,6 +175,7 @@ gone_fits r b (Await e v) past o going h = h
 gone_fits r b (Ticket q) past o going h = h
 gone_fits r b (Put x v) past o going h = h
 gone_fits r b (Get x) past o going h = h
+gone_fits r b (Hand e f) past o going h = h
 
 fits_before : (r : Rule) (b : List Told) (act : Act) (o : Option CallSoFar) → (is_some o && not (is_go act)) ≡ false → is_fitting r b (opened act o) ≡ true → IsFittingCall r b o
 fits_before r b act None free h = tt
@@ -184,6 +186,7 @@ fits_before r b (Await e v) (Some call) free h = cc
 fits_before r b (Ticket q) (Some call) free h = cc
 fits_before r b (Put x v) (Some call) free h = cc
 fits_before r b (Get x) (Some call) free h = cc
+fits_before r b (Hand e f) (Some call) free h = cc
 
 right_act : (r : Rule) (b : List Told) (act : Act) (o : Option CallSoFar) → is_fitting r b (opened act o) ≡ true → is_right r b act ≡ true
 right_act r b Go o h = refl
@@ -193,6 +196,7 @@ right_act r b (Await e v) o h = h
 right_act r b (Ticket q) o h = h
 right_act r b (Put x v) o h = h
 right_act r b (Get x) o h = h
+right_act r b (Hand e f) o h = h
 
 -- what fits after an entry of the worker: its calls before, and the call of the entry
 pub record FitsWith (r : Rule) (x : Entry) (past : List Entry) : Type 0 where

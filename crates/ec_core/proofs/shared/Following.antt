@@ -4,7 +4,7 @@ use Rattle.std.proofs.lemmas.Bool.{eqb-true, eq-eqb, and_parts, leb-true, leb-fa
 use Rattle.std.proofs.lemmas.Nat.{mod_below}
 use Rattle.ec_count.specs.Tables.{Tables, IsDeclared}
 use Rattle.ec_core.specs.declared.act.Act.{Act}
-use Rattle.ec_core.specs.declared.act.Act.TheVariants.{Advance, Read, Await, Go, Ticket, Put, Get}
+use Rattle.ec_core.specs.declared.act.Act.TheVariants.{Advance, Read, Await, Go, Ticket, Put, Get, Hand}
 use Rattle.ec_core.specs.declared.act.Reply.{Reply}
 use Rattle.ec_core.specs.declared.act.Reply.TheVariants.{Done, Number, Pending}
 use Rattle.ec_core.specs.declared.act.Entry.{Entry}
@@ -49,6 +49,7 @@ opened_is t (Await e v) o h r = inl refl
 opened_is t (Ticket q) o h r = inl refl
 opened_is t (Put x v) o h r = inl refl
 opened_is t (Get x) o h r = inl refl
+opened_is t (Hand e f) o h r = inl refl
 
 -- what is the same for a go and all reads and awaits is the same for an act and the act that began its call
 pub same_test : {T : Type 0} (f : Act → T) (y : T) (t : Tables) (act op : Act) → (f Go ≡ y) → ((e : ℕ) → f (Read e) ≡ y) → ((e v : ℕ) → f (Await e v) ≡ y)
@@ -61,6 +62,7 @@ same_test f y t act Go go read await (inr k) = absurd k.0
 same_test f y t act (Ticket q) go read await (inr k) = absurd k.0
 same_test f y t act (Put x v) go read await (inr k) = absurd k.0
 same_test f y t act (Get x) go read await (inr k) = absurd k.0
+same_test f y t act (Hand e g) go read await (inr k) = absurd k.0
 
 -- WHAT A CALL IS TOLD
 
@@ -98,6 +100,7 @@ moments_before (Await e v) o past h = tt
 moments_before (Ticket q) o past h = tt
 moments_before (Put y v) o past h = tt
 moments_before (Get y) o past h = tt
+moments_before (Hand e f) o past h = tt
 
 pub reply_read : (t : Tables) (past : List Entry) (w : ℕ) (act : Act) (o : Option CallSoFar) → under_way w past ≡ o → IsReading t (opened act o)
     → reply_of t past w act ≡ read_reply t (opened act o) past (moments_of act o)
@@ -109,6 +112,7 @@ reply_read t past w (Advance f) o e r = absurd r
 reply_read t past w (Ticket q) o e r = absurd r
 reply_read t past w (Put y v) o e r = absurd r
 reply_read t past w (Get y) o e r = absurd r
+reply_read t past w (Hand f g) o e r = absurd r
 
 -- what the reply to an entry says, by the act that began its call
 abbrev pub IsTold : Tables → List Entry → Act → Reply → Type 0
@@ -119,6 +123,7 @@ IsTold t past Go reply = ⊥
 IsTold t past (Ticket q) reply = reply ≡ Number (issued q past)
 IsTold t past (Put x v) reply = reply ≡ Done
 IsTold t past (Get x) reply = reply ≡ Number (cell_value x past)
+IsTold t past (Hand e b) reply = reply ≡ Done
 
 told_read : (t : Tables) (past : List Entry) (op : Act) (reply : Reply) → IsReading t op
     → (reply ≡ Pending) ⊎ ((s : ℕ) × (s ≤ total (event_or op) past) × (reply ≡ round_reply op s)) → IsTold t past op reply
@@ -134,6 +139,7 @@ told_read t past Go reply r h = absurd r
 told_read t past (Ticket q) reply r h = absurd r
 told_read t past (Put x v) reply r h = absurd r
 told_read t past (Get x) reply r h = absurd r
+told_read t past (Hand e b) reply r h = absurd r
 
 pub reading_told : (t : Tables) (past : List Entry) (w : ℕ) (act : Act) (o : Option CallSoFar) (reply : Reply) → IsDeclared t → IsAccepted t past → IsCallBefore o past → under_way w past ≡ o
     → reply_of t past w act ≡ reply → IsReading t (opened act o) → IsTold t past (opened act o) reply
@@ -154,6 +160,7 @@ told_any t past w (Advance f) o reply d acc b e h known going r = sym h
 told_any t past w (Ticket q) o reply d acc b e h known going r = sym h
 told_any t past w (Put x v) o reply d acc b e h known going r = sym h
 told_any t past w (Get x) o reply d acc b e h known going r = sym h
+told_any t past w (Hand f g) o reply d acc b e h known going r = sym h
 
 -- the act that began the call of an entry
 abbrev pub op_at : Entry → List Entry → Act
@@ -206,6 +213,7 @@ right_after r b (Await e v) past Pending o h k = h
 right_after r b (Ticket q) past Pending o h k = h
 right_after r b (Put x v) past Pending o h k = h
 right_after r b (Get x) past Pending o h k = h
+right_after r b (Hand e f) past Pending o h k = h
 
 -- the call under way is right where it stands
 pub right_call : (rules : ℕ → Rule) (past : List Entry) (w : ℕ) → Follow rules past → IsRightCall (rules w) (block (rules w) w past) (under_way w past)
@@ -230,6 +238,7 @@ right_op r b (Await e v) o h k = h
 right_op r b (Ticket q) o h k = h
 right_op r b (Put x v) o h k = h
 right_op r b (Get x) o h k = h
+right_op r b (Hand e f) o h k = h
 
 due_of : (c f : Bool) → (not c || f) ≡ true → (c ≡ false) ⊎ ((c ≡ true) × (f ≡ true))
 due_of true f h = inr (refl, h)
@@ -243,6 +252,7 @@ due_act r b (Await e v) h n = due_of _ _ h
 due_act r b (Ticket q) h n = due_of _ _ h
 due_act r b (Put x v) h n = due_of _ _ h
 due_act r b (Get x) h n = due_of _ _ h
+due_act r b (Hand e c) h n = due_of _ _ h
 
 no_go : (t : Tables) (past : List Entry) (op : Act) (reply : Reply) → IsTold t past op reply → op ≡ Go → ⊥
 no_go t past Go reply h e = h
@@ -252,6 +262,7 @@ no_go t past (Await f v) reply h e = cc
 no_go t past (Ticket q) reply h e = cc
 no_go t past (Put x v) reply h e = cc
 no_go t past (Get x) reply h e = cc
+no_go t past (Hand f g) reply h e = cc
 
 -- the call of an entry does not concern its worker's list, or is next in it
 pub step_due : (t : Tables) (rules : ℕ → Rule) (x : Entry) (past : List Entry) → IsDeclared t → IsAccepted t (x ∷ past) → Follow rules (x ∷ past)
@@ -275,6 +286,8 @@ is_act-true (Ticket q) (Ticket r) h = ap Ticket (eqb-true q r h)
 is_act-true (Put x v) (Put y u) h =
     (let k = and_parts (x == y) (v == u) h in let p : x ≡ y = eqb-true x y k.0 in let q : v ≡ u = eqb-true v u k.1 in cc)
 is_act-true (Get x) (Get y) h = ap Get (eqb-true x y h)
+is_act-true (Hand e b) (Hand f c) h =
+    (let k = and_parts (e == f) (b == c) h in let p : e ≡ f = eqb-true e f k.0 in let q : b ≡ c = eqb-true b c k.1 in cc)
 is_act-true _ _ h = cc
 
 -- the test finds each act to be itself
@@ -286,6 +299,7 @@ is_act-same Go = refl
 is_act-same (Ticket q) = eq-eqb q q refl
 is_act-same (Put x v) = rw (eq-eqb x x refl, eq-eqb v v refl) refl
 is_act-same (Get x) = eq-eqb x x refl
+is_act-same (Hand e b) = rw (eq-eqb e e refl, eq-eqb b b refl) refl
 
 abbrev pub with_value : Act → ℕ → Act
 with_value (Put x u) v = Put x v
@@ -304,6 +318,7 @@ valued Go = refl
 valued (Ticket q) = refl
 valued (Put x v) = refl
 valued (Get x) = refl
+valued (Hand e f) = refl
 
 -- the act is the one that is due, with some value
 pub due_is : (due op : Act) → is_act due (unvalued op) ≡ true → (v : ℕ) × (op ≡ with_value due v)

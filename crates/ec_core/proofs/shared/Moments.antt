@@ -49,12 +49,15 @@ accepted_at t h k x acc at =
     let whole : reverse h ≡ reverse r.0 ++ x ∷ reverse (take k h) = ap reverse r.1 ∙ reverse-append (take k h) (x ∷ r.0) ∙ turned (reverse (take k h)) x r.0 in
     (accepted_before t (reverse r.0) (x ∷ reverse (take k h)) (subst (IsAccepted t) whole acc)).0
 
+-- the past through an entry is the end of the whole past
+pub past_through : (h done others : List Entry) (x : Entry) → done ++ x ∷ others ≡ h → reverse h ≡ reverse others ++ x ∷ reverse done
+past_through h done others x is = ap reverse (sym is) ∙ reverse-append done (x ∷ others) ∙ turned (reverse done) x others
+
 -- an entry that stands after these was the answer after them
 pub answered_after : (t : Tables) (h done others : List Entry) (x : Entry) → IsAccepted t (reverse h) → done ++ x ∷ others ≡ h
     → answer_of t (reverse done) x.worker x.act ≡ Ok x.reply
 answered_after t h done others x acc is =
-    let whole : reverse h ≡ reverse others ++ x ∷ reverse done = ap reverse (sym is) ∙ reverse-append done (x ∷ others) ∙ turned (reverse done) x others in
-    (accepted_before t (reverse others) (x ∷ reverse done) (subst (IsAccepted t) whole acc)).0
+    (accepted_before t (reverse others) (x ∷ reverse done) (subst (IsAccepted t) (past_through h done others x is) acc)).0
 
 -- the first entries of an accepted history, whatever comes after them, are accepted
 pub accepted_until : (t : Tables) (h done others : List Entry) → IsAccepted t (reverse h) → done ++ others ≡ h → IsAccepted t (reverse done)

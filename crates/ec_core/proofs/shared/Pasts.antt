@@ -1,7 +1,7 @@
 -- The moments of a call under way came before.
 use Rattle.std.proofs.Common.{◌≡◌, ℕ, Bool, true, false, List, [], ◌∷◌, ◌++◌, append_assoc, Option, Some, None, refl, ap, sym, ◌∙◌, cond, ◌==◌}
 use Rattle.ec_core.specs.declared.act.Act.{Act}
-use Rattle.ec_core.specs.declared.act.Act.TheVariants.{Advance, Read, Await, Go, Ticket, Put, Get}
+use Rattle.ec_core.specs.declared.act.Act.TheVariants.{Advance, Read, Await, Go, Ticket, Put, Get, Hand}
 use Rattle.ec_core.specs.declared.act.Reply.{Reply}
 use Rattle.ec_core.specs.declared.act.Reply.TheVariants.{Done, Number, Pending}
 use Rattle.ec_core.specs.declared.act.Entry.{Entry}
@@ -40,6 +40,7 @@ gone_before (Await e v) past o h = (past_itself past, tt)
 gone_before (Ticket q) past o h = (past_itself past, tt)
 gone_before (Put x v) past o h = (past_itself past, tt)
 gone_before (Get x) past o h = (past_itself past, tt)
+gone_before (Hand e f) past o h = (past_itself past, tt)
 
 call_later : (o : Option CallSoFar) (past : List Entry) (x : Entry) → IsCallBefore o past → IsCallBefore o (x ∷ past)
 call_later None past x h = tt

@@ -4,7 +4,7 @@ use Rattle.std.proofs.lemmas.Bool.{eqb-true, eqb-false, eq-eqb, leb-true, leb-fa
 use Rattle.std.proofs.Math.Nat.{zero-add, mod-eq_of_lt}
 use Rattle.ec_count.specs.Tables.{Tables, IsDeclared}
 use Rattle.ec_core.specs.declared.act.Act.{Act}
-use Rattle.ec_core.specs.declared.act.Act.TheVariants.{Advance, Read, Await, Go, Ticket, Put, Get}
+use Rattle.ec_core.specs.declared.act.Act.TheVariants.{Advance, Read, Await, Go, Ticket, Put, Get, Hand}
 use Rattle.ec_core.specs.declared.act.Reply.TheVariants.{Number, Pending}
 use Rattle.ec_core.specs.declared.act.Entry.{Entry}
 use Rattle.ec_core.specs.Counts.{total, issued, sum_to, is_advance, is_ticket}
@@ -123,6 +123,7 @@ moments_stacked (Await e v) o h = tt
 moments_stacked (Ticket q) o h = tt
 moments_stacked (Put y v) o h = tt
 moments_stacked (Get y) o h = tt
+moments_stacked (Hand e f) o h = tt
 
 -- the past at which an entry's call began is a past of that of each entry of the call so far
 pub began_past : (x : Entry) (past : List Entry) → IsPastOf (began x past) past × IsPastOfEach (began x past) (moments_of x.act (under_way x.worker past))
@@ -165,6 +166,7 @@ begun_after r w (Await f v) past now o e h = sym e
 begun_after r w (Ticket q) past now o e h = sym e
 begun_after r w (Put y v) past now o e h = sym e
 begun_after r w (Get y) past now o e h = sym e
+begun_after r w (Hand f g) past now o e h = sym e
 
 -- the list that a worker is in is the one that it was in when its call under way began
 begun : (r : Rule) (w : ℕ) (past : List Entry) → IsBegun r w past (under_way w past)
@@ -189,6 +191,7 @@ began_of r w (Await f v) past o h = refl
 began_of r w (Ticket q) past o h = refl
 began_of r w (Put y v) past o h = refl
 began_of r w (Get y) past o h = refl
+began_of r w (Hand e f) past o h = refl
 
 -- the list of an entry's worker is the one that it was in when the entry's call began
 pub began_block : (r : Rule) (x : Entry) (past : List Entry) → block r x.worker (began x past) ≡ block r x.worker past
@@ -222,6 +225,7 @@ short_op t Go past moments h p = tt
 short_op t (Ticket q) past moments h p = tt
 short_op t (Put y v) past moments h p = tt
 short_op t (Get y) past moments h p = tt
+short_op t (Hand e f) past moments h p = tt
 
 short_gone : (t : Tables) (past : List Entry) (w : ℕ) (act : Act) (o : Option CallSoFar) → IsDeclared t → under_way w past ≡ o → names_unknown_object t act ≡ false → IsReadingCall t o → IsShortCall t o
     → reply_of t past w act ≡ Pending → IsShortCall t (gone_on act past o)
@@ -233,6 +237,7 @@ short_gone t past w (Advance f) o d e known r h p = tt
 short_gone t past w (Ticket q) o d e known r h p = tt
 short_gone t past w (Put y v) o d e known r h p = tt
 short_gone t past w (Get y) o d e known r h p = tt
+short_gone t past w (Hand f g) o d e known r h p = tt
 
 short : (t : Tables) (w : ℕ) (past : List Entry) → IsDeclared t → IsAccepted t past → IsShortCall t (under_way w past)
 unfolding under_way
@@ -259,6 +264,7 @@ short_now t (Advance e) o d k h = tt
 short_now t (Ticket q) o d k h = tt
 short_now t (Put y v) o d k h = tt
 short_now t (Get y) o d k h = tt
+short_now t (Hand e f) o d k h = tt
 
 is_reading : (t : Tables) (act op : Act) (e : ℕ) → (act ≡ op) ⊎ (IsReading t op × (act ≡ Go)) → op ≡ Read e → names_unknown_object t act ≡ false → IsReading t op
 is_reading t act op e (inr k) is known = k.0

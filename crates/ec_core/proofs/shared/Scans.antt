@@ -3,7 +3,7 @@ use Rattle.std.proofs.Common.{◌≡◌, ℕ, ◌<◌, true, false, List, [], �
 use Rattle.std.specs.Option.{option_map}
 use Rattle.std.proofs.lemmas.Bool.{eqb-true, eq-eqb}
 use Rattle.ec_core.specs.declared.act.Act.{Act}
-use Rattle.ec_core.specs.declared.act.Act.TheVariants.{Advance, Read, Await, Go, Ticket, Put, Get}
+use Rattle.ec_core.specs.declared.act.Act.TheVariants.{Advance, Read, Await, Go, Ticket, Put, Get, Hand}
 use Rattle.ec_core.specs.declared.act.Reply.{Reply}
 use Rattle.ec_core.specs.declared.act.Reply.TheVariants.{Done, Number, Pending}
 use Rattle.ec_core.specs.declared.act.Entry.{Entry}
@@ -30,6 +30,7 @@ opened_same (Await e v) o = refl
 opened_same (Ticket q) o = refl
 opened_same (Put x v) o = refl
 opened_same (Get x) o = refl
+opened_same (Hand e f) o = refl
 
 done_none : (act : Act) (o : Option Act) → open_after act Done o ≡ None
 done_none (Advance e) o = refl
@@ -39,6 +40,7 @@ done_none Go o = refl
 done_none (Ticket q) o = refl
 done_none (Put x v) o = refl
 done_none (Get x) o = refl
+done_none (Hand e f) o = refl
 
 number_none : (act : Act) (n : ℕ) (o : Option Act) → open_after act (Number n) o ≡ None
 number_none (Advance e) n o = refl
@@ -48,6 +50,7 @@ number_none Go n o = refl
 number_none (Ticket q) n o = refl
 number_none (Put x v) n o = refl
 number_none (Get x) n o = refl
+number_none (Hand e f) n o = refl
 
 after_same : (act : Act) (reply : Reply) (past : List Entry) (o : Option CallSoFar) → open_after act reply (option_map op_of o) ≡ option_map op_of (cond (is_pending reply) (gone_on act past o) None)
 after_same act Done past o = done_none act (option_map op_of o)
@@ -60,6 +63,7 @@ after_same (Await e v) Pending past o = refl
 after_same (Ticket q) Pending past o = refl
 after_same (Put x v) Pending past o = refl
 after_same (Get x) Pending past o = refl
+after_same (Hand e f) Pending past o = refl
 
 pub call_own : (x : Entry) (past : List Entry) → under_way x.worker (x ∷ past) ≡ cond (is_pending x.reply) (gone_on x.act past (under_way x.worker past)) None
 unfolding under_way

@@ -8,20 +8,22 @@ use Rattle.std.proofs.lemmas.Nat.{mod_below}
 use Rattle.std.proofs.Math.Bool.{and-false}
 use Rattle.std.proofs.Math.Nat.{zero-mod, zero-add}
 use Rattle.ec_count.specs.Tables.{Tables, IsDeclared, signallers}
+use Rattle.ec_count.specs.Members.{place_of, is_member}
 use Rattle.ec_count.specs.Counted.{Counted, raised}
 use Rattle.ec_core.specs.declared.act.Act.{Act}
-use Rattle.ec_core.specs.declared.act.Act.TheVariants.{Advance, Read, Await, Go, Ticket, Put, Get}
+use Rattle.ec_core.specs.declared.act.Act.TheVariants.{Advance, Read, Await, Go, Ticket, Put, Get, Hand}
 use Rattle.ec_core.specs.declared.act.Reply.{Reply}
 use Rattle.ec_core.specs.declared.act.Reply.TheVariants.{Done, Number}
 use Rattle.ec_core.specs.declared.act.Entry.{Entry}
 use Rattle.ec_core.specs.Progress.{Progress}
-use Rattle.ec_core.specs.Counts.{signallers_at, handed, component_at, component_total, issued, cell_value, is_advance, is_ticket, put_in, is_place}
+use Rattle.ec_core.specs.Counts.{replaced, signallers_at, handed, component_at, component_total, issued, cell_value, is_advance, is_ticket, put_in, is_place}
 use Rattle.ec_core.specs.Calls.{CallSoFar, under_way, is_pending, gone_on}
 use Rattle.ec_core.specs.Rounds.{event_or, width, sum_read, next_component, read_reply, go_reply}
-use Rattle.ec_core.specs.Acceptance.{reply_of, answer_of, refusal_in, refused_or, has_right, is_at_limit}
+use Rattle.ec_core.specs.Acceptance.{reply_of, answer_of, refusal_in, refused_or, has_right, is_at_limit, signals_already}
 use Rattle.ec_core.specs.Standing.{State, Stands, count_at, shown, progress_of, StandsFor}
-use Rattle.ec_core.specs.Fields.{kept_call, right_in, is_full_for, value_of, begun, next_reply, next_progress, go_on, go_after, reply_in, IsNamed, answer_in, state_after, with_raised, with_call}
-use Rattle.ec_core.proofs.shared.Answering.{width_few, width_some, kept_is, is_some_map, component_is, right_is, full_is, read_is, IsReadingCall, allowed, call_reads, reading_event, way_is}
+use Rattle.ec_core.specs.Fields.{kept_call, right_in, already_in, replaced_new, is_full_for, value_of, begun, next_reply, next_progress, go_on, go_after, reply_in, IsNamed, answer_in, state_after, with_raised, with_call}
+use Rattle.ec_core.proofs.shared.Answering.{width_few, width_some, kept_is, is_some_map, component_is, right_is, already_is, full_is, read_is, IsReadingCall, allowed, call_reads, reading_event, way_is}
+use Rattle.ec_core.proofs.shared.Handing.{new_signaller}
 use Rattle.ec_core.proofs.shared.Places.{get_set, get_changed, count_changed}
 
 next_small : (t : Tables) (e : ℕ) (moments : List (List Entry)) → IsDeclared t → 0 < width t e → next_component t e moments < 16
@@ -52,23 +54,25 @@ reply_is s past w Go st lt named = ap (go_on s) (kept_is s past w st lt) ∙ go_
 reply_is s past w (Ticket q) st lt named = ap (λ o. Number (value_of o)) (st.issued q named)
 reply_is s past w (Put x v) st lt named = refl
 reply_is s past w (Get x) st lt named = ap Number (get_or_from_slice_get s.cells x (cell_value x past) 0 (st.cells x named))
+reply_is s past w (Hand e b) st lt named = refl
 
 -- the refusal or the reply that the history asks for
 pub answer_is : (s : State) (past : List Entry) (w : ℕ) (act : Act) → Stands s past → w < 16 → IsNamed act → answer_in s past w act ≡ answer_of s.setup past w act
 unfolding answer_of
 answer_is s past w act st lt named =
-    ap (λ b. refused_or (refusal_in s.setup w act b (right_in s past w act) (is_full_for s w act)) (reply_in s w act)) (ap is_some (kept_is s past w st lt) ∙ is_some_map s.setup (under_way w past))
-    ∙ ap (λ b. refused_or (refusal_in s.setup w act (is_some (under_way w past)) b (is_full_for s w act)) (reply_in s w act)) (right_is s past w act st named)
-    ∙ ap (λ b. refused_or (refusal_in s.setup w act (is_some (under_way w past)) (has_right s.setup past w act) b) (reply_in s w act)) (full_is s past w act st named)
-    ∙ ap (refused_or (refusal_in s.setup w act (is_some (under_way w past)) (has_right s.setup past w act) (is_at_limit s.setup past w act))) (reply_is s past w act st lt named)
+    ap (λ b. refused_or (refusal_in s.setup w act b (right_in s past w act) (is_full_for s w act) (already_in s act)) (reply_in s w act)) (ap is_some (kept_is s past w st lt) ∙ is_some_map s.setup (under_way w past))
+    ∙ ap (λ b. refused_or (refusal_in s.setup w act (is_some (under_way w past)) b (is_full_for s w act) (already_in s act)) (reply_in s w act)) (right_is s past w act st named)
+    ∙ ap (λ b. refused_or (refusal_in s.setup w act (is_some (under_way w past)) (has_right s.setup past w act) b (already_in s act)) (reply_in s w act)) (full_is s past w act st named)
+    ∙ ap (λ b. refused_or (refusal_in s.setup w act (is_some (under_way w past)) (has_right s.setup past w act) (is_at_limit s.setup past w act) b) (reply_in s w act)) (already_is s past act st named)
+    ∙ ap (refused_or (refusal_in s.setup w act (is_some (under_way w past)) (has_right s.setup past w act) (is_at_limit s.setup past w act) (signals_already s.setup past act))) (reply_is s past w act st lt named)
 
 -- COUNTS
 
-comp_quiet : (t : Tables) (e c : ℕ) (x : Entry) (past : List Entry) → is_advance e x.act ≡ false → component_total t e c (x ∷ past) ≡ component_total t e c past
+pub comp_quiet : (t : Tables) (e c : ℕ) (x : Entry) (past : List Entry) → is_advance e x.act ≡ false → component_total t e c (x ∷ past) ≡ component_total t e c past
 unfolding component_total
 comp_quiet t e c x past h = rw h (zero-add (component_total t e c past))
 
-issued_quiet : (q : ℕ) (x : Entry) (past : List Entry) → is_ticket q x.act ≡ false → issued q (x ∷ past) ≡ issued q past
+pub issued_quiet : (q : ℕ) (x : Entry) (past : List Entry) → is_ticket q x.act ≡ false → issued q (x ∷ past) ≡ issued q past
 unfolding issued
 issued_quiet q x past h = rw h (zero-add (issued q past))
 
@@ -257,6 +261,32 @@ read_stands s past x way st small h no_advance no_ticket no_put no_hand is = rec
   calls = calls_set s past x way st small is;
 }
 
+replaced_once : (b : ℕ) (o : Option ℕ) (ws : List ℕ) → is_member b ws ≡ false → cond (is_member b ws) ws (replaced o b ws) ≡ replaced o b ws
+replaced_once b o ws new = ap (λ is. cond is ws (replaced o b ws)) new
+
+-- a hand changes the signallers of its eventcount alone
+hand_stands : (s : State) (past : List Entry) (w e b : ℕ) → Stands s past → answer_of s.setup past w (Hand e b) ≡ Ok Done
+    → under_way w past ≡ None → is_some (component_at s.setup e past b) ≡ false → Stands (state_after s w (Hand e b)) (entry w (Hand e b) Done ∷ past)
+unfolding signallers_at issued cell_value
+hand_stands s past w e b st h free fresh = record {
+  declared = st.declared;
+  accepted = (h, st.accepted);
+  signal = λ p lp.
+      (let ws = signallers_at s.setup p past in
+      get_changed (λ us. replaced_new (place_of w us) b us) s.signal e p
+      ∙ ap (λ o. cond (e == p) (option_map (λ us. replaced_new (place_of w us) b us) o) o) (st.signal p lp)
+      ∙ (elim (e == p) as (λ is. (e == p) ≡ is → cond is (Some (replaced_new (place_of w ws) b ws)) (Some ws) ≡ Some (cond is (replaced (place_of w ws) b ws) ws)) [
+        | true ↦ λ k.
+            (let same : e ≡ p = eqb-true e p k in
+            ap Some (replaced_once b (place_of w ws) ws (new_signaller s.setup past p b (ap (λ v. is_some (component_at s.setup v past b)) (sym same) ∙ fresh))))
+        | false ↦ λ k. refl
+      ] refl));
+  counts = counts_kept s past (entry w (Hand e b) Done) st (λ e. refl);
+  issued = issued_kept s past (entry w (Hand e b) Done) st (λ q. refl);
+  cells = st.cells;
+  calls = calls_kept s past (entry w (Hand e b) Done) st refl free;
+}
+
 known_below : (n e : ℕ) → nat_le n e ≡ false → e < n
 known_below n e h = leb-false n e h
 
@@ -293,6 +323,10 @@ stands_after s past w (Put x v) reply st lt named h =
 stands_after s past w (Get x) reply st lt named h =
     let k = allowed s.setup past w (Get x) reply h in
     get_stands s past w x reply st h (ap is_pending (sym k.1)) (none_of (under_way w past) k.0.free)
+stands_after s past w (Hand e b) reply st lt named h =
+    let k = allowed s.setup past w (Hand e b) reply h in
+    let P : Reply → Type 0 = λ r. answer_of s.setup past w (Hand e b) ≡ Ok r → Stands (state_after s w (Hand e b)) (entry w (Hand e b) r ∷ past) in
+    subst P k.1 (λ h'. hand_stands s past w e b st h' (none_of (under_way w past) k.0.free) k.0.fresh) h
 
 -- THE FIRST STATE
 

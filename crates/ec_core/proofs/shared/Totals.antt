@@ -3,7 +3,7 @@ use Rattle.std.proofs.Common.{◌≡◌, ℕ, zero, suc, ◌+◌, ◌<◌, ◌�
 use Rattle.std.proofs.lemmas.Bool.{eqb-true, eqb-false}
 use Rattle.ec_count.specs.Tables.{Tables}
 use Rattle.ec_core.specs.declared.act.Act.{Act}
-use Rattle.ec_core.specs.declared.act.Act.TheVariants.{Advance, Read, Await, Go, Ticket, Put, Get}
+use Rattle.ec_core.specs.declared.act.Act.TheVariants.{Advance, Read, Await, Go, Ticket, Put, Get, Hand}
 use Rattle.ec_core.specs.declared.act.Entry.{Entry}
 use Rattle.ec_core.specs.Counts.{total, component_total, sum_to, is_advance, is_place, signallers_at, component_at}
 use Rattle.ec_core.specs.Rounds.{width, sum_read, IsPastOf, IsPastOfEach, EachIsPastOf}
@@ -49,7 +49,8 @@ raised_sum true o n f h =
     rw k.1 (one_more n f k.0 k.2)
 raised_sum false o n f h = same_sum n f
 
-some_of : (o : Option ℕ) → not (is_some o) ≡ false → (d : ℕ) × (o ≡ Some d)
+-- what an option that is some holds
+pub some_of : (o : Option ℕ) → not (is_some o) ≡ false → (d : ℕ) × (o ≡ Some d)
 some_of None h = cc
 some_of (Some d) h = (d, refl)
 
@@ -69,6 +70,7 @@ advance_place t past w e Go right is = cc
 advance_place t past w e (Ticket q) right is = cc
 advance_place t past w e (Put x v) right is = cc
 advance_place t past w e (Get x) right is = cc
+advance_place t past w e (Hand f g) right is = cc
 
 -- so many times 0 is 0
 pub zeros : (n : ℕ) → sum_to (λ c. 0) n ≡ 0

@@ -4,7 +4,7 @@ use Rattle.std.specs.Option.{option_map}
 use Rattle.std.proofs.lemmas.Bool.{eqb-true}
 use Rattle.std.proofs.lemmas.List.{reverse-append, reverse-reverse, length-reverse}
 use Rattle.ec_core.specs.declared.act.Act.{Act}
-use Rattle.ec_core.specs.declared.act.Act.TheVariants.{Advance, Read, Await, Go, Ticket, Put, Get}
+use Rattle.ec_core.specs.declared.act.Act.TheVariants.{Advance, Read, Await, Go, Ticket, Put, Get, Hand}
 use Rattle.ec_core.specs.declared.act.Entry.{Entry}
 use Rattle.ec_core.specs.declared.audit.AuditFault.{AuditFault}
 use Rattle.ec_core.specs.declared.audit.AuditFault.TheVariants.{NotFollowed, Memory}
@@ -130,6 +130,7 @@ right_off r calls (Await e v) o h = not_true (r.concerns calls (Await e v)) (r.f
 right_off r calls (Ticket q) o h = not_true (r.concerns calls (Ticket q)) (r.fits calls (Ticket q)) h
 right_off r calls (Put y v) o h = not_true (r.concerns calls (Put y v)) (r.fits calls (Put y v)) h
 right_off r calls (Get y) o h = not_true (r.concerns calls (Get y)) (r.fits calls (Get y)) h
+right_off r calls (Hand e f) o h = not_true (r.concerns calls (Hand e f)) (r.fits calls (Hand e f)) h
 
 found_off : (rules : ℕ → Rule) (fault : Option AuditFault) (x : Entry) (past : List Entry)
     → is_right (rules x.worker) (block (rules x.worker) x.worker past) x.act ≡ true → IsFinding rules fault past → IsFinding rules fault (x ∷ past)

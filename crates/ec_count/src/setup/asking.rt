@@ -52,8 +52,8 @@ impl Setup {
         Some(row.signal.len())
     }
 
-    /// The component of an eventcount that is the worker's own: its place, from 0, among the
-    /// signallers. None where the worker signals none of it, as where it is not declared.
+    /// The component of an eventcount that is declared as the worker's own: its place, from 0, among
+    /// the signallers. None where the worker is declared for none, as where it is not declared itself.
     pub fn component_of(&self, event: EventId, worker: WorkerId) -> Option<usize>
         ensures value { result ≡ component_of self.now event worker }
         ensures few { IfSome result (λ c. c < 16) }
@@ -62,7 +62,7 @@ impl Setup {
         row.signal.place(worker)
     }
 
-    /// The one worker that signals a component; None where there is no such component.
+    /// The one worker that is declared to signal a component; None where there is no such component.
     pub fn signaller(&self, event: EventId, component: usize) -> Option<WorkerId>
         ensures { result ≡ signaller self.now event component }
     {
@@ -80,8 +80,7 @@ impl Setup {
         }
     }
 
-    /// Whether the eventcount is declared and not fixed, as `add_event` adds it. No act hands a
-    /// component over yet.
+    /// Whether the eventcount is declared and not fixed, as `add_event` adds it.
     pub fn may_hand(&self, event: EventId) -> bool
         ensures { result ≡ may_hand self.now event }
     {

@@ -1,4 +1,4 @@
-use Rattle.std.proofs.Common.{◌≤◌, ◌∙◌, length, ap, arith}
+use Rattle.std.proofs.Common.{◌∙◌, length, ap, arith}
 use Rattle.ec_count.specs.Members.{has_repeat}
 use Rattle.ec_count.proofs.shared.Declared.{few_signallers}
 use Rattle.ec_core.proofs.shared.Signalling.{different_signallers}

@@ -1,6 +1,7 @@
 use Rattle.ec_core.specs.Counts.{past_at}
 use Rattle.ec_core.proofs.shared.Moments.{beginnings}
-use Rattle.ec_core.proofs.shared.Signalling.{signallers_differ, signallers_length}
+use Rattle.ec_core.proofs.shared.Handing.{signallers_differ}
+use Rattle.ec_core.proofs.shared.Signalling.{signallers_length}
 use Rattle.ec_core.proofs.laws.signallers_are_different.Goals as goal
 
 pub returns : goal.returns
