@@ -6,7 +6,7 @@ use Rattle.std.proofs.lemmas.List.{reverse-append, get_or-replicate, get_or-set_
 use Rattle.std.proofs.Math.Seq.{take-length}
 use Rattle.ec_count.specs.Tables.{Tables}
 use Rattle.ec_core.specs.declared.act.Act.{Act}
-use Rattle.ec_core.specs.declared.act.Act.TheVariants.{Advance, Read, Await, Go, Ticket, Put, Get}
+use Rattle.ec_core.specs.declared.act.Act.TheVariants.{Advance, Read, Await, Go, Ticket, Put, Get, Hand}
 use Rattle.ec_core.specs.declared.act.Entry.{Entry}
 use Rattle.ec_core.specs.Calls.{CallSoFar, under_way}
 use Rattle.ec_core.specs.CallLists.{number_of}
@@ -80,6 +80,7 @@ writer_step b (Read e) w j writers m room lt h = h
 writer_step b (Await e v) w j writers m room lt h = h
 writer_step b Go w j writers m room lt h = h
 writer_step b (Ticket q) w j writers m room lt h = h
+writer_step b (Hand e c) w j writers m room lt h = h
 
 writer_stands : (b : Buffer) (past : List Entry) (j : ℕ) → IsShape b → j < b.cells → get_or (writers_of b past) j 0 ≡ (standing (b.first_cell + j) past).worker
 unfolding writers_of standing
@@ -117,6 +118,7 @@ get_of b (Read f) o place e = cc
 get_of b (Await f v) o place e = cc
 get_of b Go o place e = cc
 get_of b (Ticket q) o place e = cc
+get_of b (Hand f c) o place e = cc
 
 -- as many deliveries as gets
 one_longer : {A : Type 0} (xs : List A) (y : A) → length (xs ++ y ∷ []) ≡ 1 + length xs
@@ -135,6 +137,7 @@ list_length b (Read e) n x writers list h = omega arith
 list_length b (Await e v) n x writers list h = omega arith
 list_length b Go n x writers list h = omega arith
 list_length b (Ticket q) n x writers list h = omega arith
+list_length b (Hand e c) n x writers list h = omega arith
 
 collected_length : (b : Buffer) (past : List Entry) → length (collected b past) ≡ gets b past
 unfolding collected gets

@@ -5,7 +5,7 @@ use Rattle.std.specs.Option.{option_map_or}
 use Rattle.std.proofs.Math.Nat.{zero-add}
 use Rattle.ec_count.specs.Tables.{Tables}
 use Rattle.ec_core.specs.declared.act.Act.{Act}
-use Rattle.ec_core.specs.declared.act.Act.TheVariants.{Advance, Read, Await, Go, Ticket, Put, Get}
+use Rattle.ec_core.specs.declared.act.Act.TheVariants.{Advance, Read, Await, Go, Ticket, Put, Get, Hand}
 use Rattle.ec_core.specs.declared.act.Entry.{Entry}
 use Rattle.ec_core.specs.Counts.{total, issued, cell_value, is_advance, is_ticket, put_in}
 use Rattle.ec_core.specs.Acceptance.{IsAccepted}
@@ -213,6 +213,7 @@ quiet_off b (Ticket q) h =
     record { ticket_put = k.0; advance_in = refl; put_one = refl; ticket_take = k.1; advance_out = refl; get_one = refl; cells = λ j lt. refl })
 quiet_off b (Put y v) h = record { ticket_put = refl; advance_in = refl; put_one = rw h refl; ticket_take = refl; advance_out = refl; get_one = refl; cells = λ j lt. off_cell b y v j h lt }
 quiet_off b (Get y) h = record { ticket_put = refl; advance_in = refl; put_one = refl; ticket_take = refl; advance_out = refl; get_one = h; cells = λ j lt. refl }
+quiet_off b (Hand e c) h = record { ticket_put = refl; advance_in = refl; put_one = refl; ticket_take = refl; advance_out = refl; get_one = refl; cells = λ j lt. refl }
 
 quiet_counted : (b : Buffer) (produces : ℕ → Bool) (t : Tables) (x : Entry) (past : List Entry) (op : Act) → IsStep b produces t x past → op_at x past ≡ op → IsQuiet b op
     → IsCounted b x past false false false false false false

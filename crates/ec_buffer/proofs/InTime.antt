@@ -5,7 +5,7 @@ use Rattle.std.proofs.lemmas.List.Sums.{sum_by-cons}
 use Rattle.std.proofs.lemmas.List.Sorted.{sum_by-IsPermutation, IsPermutation-reverse}
 use Rattle.ec_count.specs.Tables.{Tables, IsDeclared, may_take}
 use Rattle.ec_core.specs.declared.act.Act.{Act}
-use Rattle.ec_core.specs.declared.act.Act.TheVariants.{Advance, Read, Await, Go, Ticket, Put, Get}
+use Rattle.ec_core.specs.declared.act.Act.TheVariants.{Advance, Read, Await, Go, Ticket, Put, Get, Hand}
 use Rattle.ec_core.specs.declared.act.Reply.{Reply}
 use Rattle.ec_core.specs.declared.act.Reply.TheVariants.{Number}
 use Rattle.ec_core.specs.declared.act.Entry.{Entry}
@@ -96,6 +96,7 @@ told_get b t past (Read e) o reply h on = cc
 told_get b t past (Await e v) o reply h on = cc
 told_get b t past Go o reply h on = cc
 told_get b t past (Ticket q) o reply h on = cc
+told_get b t past (Hand e c) o reply h on = cc
 
 -- a get is told a number
 pub get_told : (b : Buffer) (t : Tables) (x : Entry) (past : List Entry) → IsDeclared t → IsAccepted t (x ∷ past) → is_get_on b x.act ≡ true → x.reply ≡ Number (number_of x.reply)

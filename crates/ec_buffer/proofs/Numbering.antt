@@ -3,7 +3,7 @@ use Rattle.std.proofs.Common.{◌≡◌, ℕ, ◌+◌, ◌-◌, ◌%◌, ◌<◌
 use Rattle.std.proofs.lemmas.Bool.{ne_eqb}
 use Rattle.ec_count.specs.Tables.{Tables, IsDeclared}
 use Rattle.ec_core.specs.declared.act.Act.{Act}
-use Rattle.ec_core.specs.declared.act.Act.TheVariants.{Advance, Read, Await, Go, Ticket, Put, Get}
+use Rattle.ec_core.specs.declared.act.Act.TheVariants.{Advance, Read, Await, Go, Ticket, Put, Get, Hand}
 use Rattle.ec_core.specs.declared.act.Entry.{Entry}
 use Rattle.ec_core.specs.Counts.{total}
 use Rattle.ec_core.specs.Acceptance.{IsAccepted}
@@ -143,6 +143,7 @@ no_put_of_get b (Read e) h = cc
 no_put_of_get b (Await e v) h = cc
 no_put_of_get b Go h = cc
 no_put_of_get b (Ticket q) h = cc
+no_put_of_get b (Hand e c) h = cc
 
 pub no_get_of_put : (b : Buffer) (act : Act) → is_some (put_on b act) ≡ true → is_get_on b act ≡ false
 no_get_of_put b (Put y v) h = refl
@@ -152,6 +153,7 @@ no_get_of_put b (Read e) h = cc
 no_get_of_put b (Await e v) h = cc
 no_get_of_put b Go h = cc
 no_get_of_put b (Ticket q) h = cc
+no_get_of_put b (Hand e c) h = cc
 
 -- the put with ticket i + n stands after the get with ticket i
 pub put_after_get : (b : Buffer) (produces : ℕ → Bool) (t : Tables) (x : Entry) (past : List Entry) (i : ℕ) → IsShape b → IsDeclared t → IsAccepted t (x ∷ past) → Follow (role_rules b produces) (x ∷ past)

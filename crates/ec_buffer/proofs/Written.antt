@@ -1,31 +1,19 @@
 -- A worker follows a buffer exactly where its calls are the written lists, joined end to end.
-use Rattle.std.proofs.Common.{◌≡◌, ℕ, zero, suc, ◌<◌, ◌≤◌, Bool, true, false, not, List, [], ◌∷◌, length, Option, Some, None, is_some, refl, ap, sym, ◌∙◌, arith, cond, ◌==◌, slice_get, take, get_or}
+use Rattle.std.proofs.Common.{◌≡◌, ℕ, zero, suc, ◌<◌, ◌≤◌, Bool, true, false, not, List, [], ◌∷◌, length, Option, Some, None, is_some, refl, ap, sym, ◌∙◌, arith, cond, slice_get, take, get_or}
 use Rattle.std.specs.Prelude.{All, IfSome, ◌↔◌}
-use Rattle.std.proofs.lemmas.Bool.{eq-eqb, and_from}
 use Rattle.std.proofs.lemmas.List.{length-take-le}
 use Rattle.std.proofs.lemmas.Option.{slice_get_within, slice_get_past, slice_get-get_or}
 use Rattle.ec_count.specs.Tables.{may_take}
 use Rattle.ec_core.specs.declared.act.Act.{Act}
-use Rattle.ec_core.specs.declared.act.Act.TheVariants.{Advance, Read, Await, Go, Ticket, Put, Get}
-use Rattle.ec_core.specs.CallLists.{is_act, is_due, unvalued, rule_of}
+use Rattle.ec_core.specs.CallLists.{is_due, unvalued, rule_of}
 use Rattle.ec_core.specs.Following.{Told, Rule}
 use Rattle.ec_core.specs.JoinedLists.{ComesNext, IsBeginning, IsWholeList, IsJoined, SpeaksOf, is_whole}
-use Rattle.ec_core.proofs.shared.Following.{is_act-true}
+use Rattle.ec_core.proofs.shared.Following.{is_act-true, is_act-same}
 use Rattle.ec_core.proofs.shared.JoinedLists.{following_joins}
 use Rattle.ec_buffer.specs.Shapes.{Buffer}
 use Rattle.ec_buffer.specs.CallLists.{produce_list, consume_list, turn_of}
 use Rattle.ec_buffer.specs.Follows.{is_on, produce_rule, consume_rule, buffer_rules}
 use Rattle.ec_buffer.specs.Joined.{IsBegun, IsWhole, IsNext, AreLists, FollowingMeansLists}
-
--- an act is the same as itself
-act_self : (a : Act) → is_act a a ≡ true
-act_self (Advance e) = eq-eqb e e refl
-act_self (Read e) = eq-eqb e e refl
-act_self (Await e v) = and_from (e == e) (v == v) (eq-eqb e e refl) (eq-eqb v v refl)
-act_self Go = refl
-act_self (Ticket q) = eq-eqb q q refl
-act_self (Put x v) = and_from (x == x) (v == v) (eq-eqb x x refl) (eq-eqb v v refl)
-act_self (Get x) = eq-eqb x x refl
 
 abbrev rule : (Act → Bool) → (ℕ → List Act) → Rule
 rule on list = rule_of on (λ calls. slice_get (list (turn_of calls)) (length calls))
@@ -48,7 +36,7 @@ goes_on on list (c ∷ calls) op n = ap (λ o. not (is_some o)) n
 
 comes_of : (on : Act → Bool) (list : ℕ → List Act) (calls : List Told) (op : Act) → IsNext list calls op → ComesNext (rule on list) calls op
 comes_of on list calls op n = record {
-  fits = ap (λ o. is_due o (unvalued op)) n ∙ act_self (unvalued op);
+  fits = ap (λ o. is_due o (unvalued op)) n ∙ is_act-same (unvalued op);
   goes_on = goes_on on list calls op n;
 }
 

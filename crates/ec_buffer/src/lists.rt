@@ -44,6 +44,7 @@ fn is_on(shape: &BufferShape, act: &Act) -> bool
         Act::Ticket(sequencer) => is_sequencer(shape, *sequencer),
         Act::Put(cell, _) => shape.is_cell(*cell),
         Act::Get(cell) => shape.is_cell(*cell),
+        Act::Hand(event, _) => is_count(shape, *event),
     }
 }
 

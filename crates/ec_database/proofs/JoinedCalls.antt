@@ -1,31 +1,20 @@
 -- A worker follows a database exactly where its calls are the written lists, joined end to end.
 use Rattle.std.proofs.Common.{◌≡◌, ℕ, zero, suc, ◌+◌, ◌<◌, ◌≤◌, Bool, true, false, not, List, [], ◌∷◌, length, Option, Some, None, is_some, nat_lt, refl, ap, sym, ◌∙◌, arith, cond, ◌==◌, slice_get, take, get_or, replicate}
 use Rattle.std.specs.Prelude.{All, IfSome, ◌↔◌}
-use Rattle.std.proofs.lemmas.Bool.{eq-eqb, and_from}
 use Rattle.std.proofs.lemmas.List.{length-take-le, length-replicate}
 use Rattle.std.proofs.lemmas.Option.{slice_get_within, slice_get_past, slice_get-get_or}
 use Rattle.ec_core.specs.declared.act.Act.{Act}
-use Rattle.ec_core.specs.declared.act.Act.TheVariants.{Advance, Read, Await, Go, Ticket, Put, Get}
-use Rattle.ec_core.specs.CallLists.{is_act, is_due, unvalued, rule_of}
+use Rattle.ec_core.specs.declared.act.Act.TheVariants.{Advance, Put}
+use Rattle.ec_core.specs.CallLists.{is_due, unvalued, rule_of}
 use Rattle.ec_core.specs.Following.{Told}
 use Rattle.ec_core.specs.JoinedLists.{ComesNext, IsBeginning, IsWholeList, IsJoined, SpeaksOf, is_whole}
-use Rattle.ec_core.proofs.shared.Following.{is_act-true}
+use Rattle.ec_core.proofs.shared.Following.{is_act-true, is_act-same}
 use Rattle.ec_core.proofs.shared.JoinedLists.{following_joins}
 use Rattle.ec_database.specs.Shapes.{Database}
 use Rattle.ec_database.specs.Calls.{first_number, turn_of, write_call, try_call, write_list, try_list}
 use Rattle.ec_database.specs.Following.{is_on, writes, write_rule, try_rule, database_rules}
 use Rattle.ec_database.specs.Joined.{list_of, IsBegun, IsWhole, IsNext, AreLists, FollowingMeansLists}
 use Rattle.ec_database.proofs.Spelled.{writing, a_try}
-
--- an act is the same as itself
-act_self : (a : Act) → is_act a a ≡ true
-act_self (Advance e) = eq-eqb e e refl
-act_self (Read e) = eq-eqb e e refl
-act_self (Await e v) = and_from (e == e) (v == v) (eq-eqb e e refl) (eq-eqb v v refl)
-act_self Go = refl
-act_self (Ticket q) = eq-eqb q q refl
-act_self (Put x v) = and_from (x == x) (v == v) (eq-eqb x x refl) (eq-eqb v v refl)
-act_self (Get x) = eq-eqb x x refl
 
 -- the call that comes next is that of the list, at whose places nothing changes once they were reached
 record IsList (call : List Told → Option Act) (list : List Told → List Act) : Type 0 where
@@ -46,7 +35,7 @@ goes_on on call (c ∷ calls) op n = ap (λ o. not (is_some o)) n
 
 comes_of : (on : Act → Bool) (call : List Told → Option Act) (list : List Told → List Act) (calls : List Told) (op : Act) → IsList call list → IsNext list calls op → ComesNext (rule_of on call) calls op
 comes_of on call list calls op l n = (let is : call calls ≡ Some (unvalued op) = l.is calls ∙ n in record {
-  fits = ap (λ o. is_due o (unvalued op)) is ∙ act_self (unvalued op);
+  fits = ap (λ o. is_due o (unvalued op)) is ∙ is_act-same (unvalued op);
   goes_on = goes_on on call calls (unvalued op) is;
 })
 

@@ -2,7 +2,7 @@
 use Rattle.std.proofs.Common.{◌≡◌, ◌≢◌, ℕ, zero, suc, ◌+◌, ◌-◌, ◌<◌, ◌≤◌, Bool, true, false, List, [], ◌∷◌, length, Option, Some, None, nat_lt, get_or, refl, ap, sym, ◌∙◌, arith, cond, ◌==◌}
 use Rattle.std.proofs.lemmas.Bool.{eqb-true, eqb-false, eq-eqb, ne_eqb, ltb-true, ltb-false, lt-ltb, le-ltb}
 use Rattle.ec_core.specs.declared.act.Act.{Act}
-use Rattle.ec_core.specs.declared.act.Act.TheVariants.{Advance, Read, Await, Go, Ticket, Put, Get}
+use Rattle.ec_core.specs.declared.act.Act.TheVariants.{Advance, Read, Await, Go, Ticket, Put, Get, Hand}
 use Rattle.ec_core.specs.Following.{Told, is_right}
 use Rattle.ec_core.specs.CallLists.{is_due, unvalued, number_of, rule_of}
 use Rattle.ec_database.specs.Shapes.{Database}
@@ -81,3 +81,4 @@ right_due on list calls (Await e v) off h = rw h refl
 right_due on list calls (Ticket q) off h = rw h refl
 right_due on list calls (Put x v) off h = rw h refl
 right_due on list calls (Get x) off h = rw h refl
+right_due on list calls (Hand e b) off h = rw h refl

@@ -3,7 +3,7 @@ use Rattle.std.proofs.Common.{◌≡◌, ℕ, zero, suc, ◌+◌, ◌<◌, ◌�
 use Rattle.std.proofs.lemmas.Bool.{ltb-true, leb-false}
 use Rattle.ec_count.specs.Tables.{Tables, IsDeclared}
 use Rattle.ec_core.specs.declared.act.Act.{Act}
-use Rattle.ec_core.specs.declared.act.Act.TheVariants.{Advance, Read, Await, Go, Ticket, Put, Get}
+use Rattle.ec_core.specs.declared.act.Act.TheVariants.{Advance, Read, Await, Go, Ticket, Put, Get, Hand}
 use Rattle.ec_core.specs.declared.act.Entry.{Entry}
 use Rattle.ec_core.specs.Counts.{total, issued, cell_value, is_advance, is_ticket, put_in, sum_to}
 use Rattle.ec_core.specs.Acceptance.{IsAccepted}
@@ -202,6 +202,7 @@ is_put_some d (Await e v) h = cc
 is_put_some d Go h = cc
 is_put_some d (Ticket q) h = cc
 is_put_some d (Get y) h = cc
+is_put_some d (Hand e b) h = cc
 
 worker_declared : (t : Tables) (x : Entry) (past : List Entry) → IsAccepted t (x ∷ past) → x.worker < t.workers
 worker_declared t x past acc = leb-false t.workers x.worker (allowed t past x.worker x.act x.reply acc.0).0.declared
@@ -234,3 +235,4 @@ off_put d (Await e v) j h lt = refl
 off_put d Go j h lt = refl
 off_put d (Ticket q) j h lt = refl
 off_put d (Get y) j h lt = refl
+off_put d (Hand e b) j h lt = refl

@@ -3,7 +3,7 @@ use Rattle.std.proofs.Common.{◌≡◌, ℕ, suc, ◌+◌, ◌<◌, ◌≤◌, 
 use Rattle.std.proofs.lemmas.Bool.{eqb-true, le-leb}
 use Rattle.ec_count.specs.Tables.{Tables, IsDeclared}
 use Rattle.ec_core.specs.declared.act.Act.{Act}
-use Rattle.ec_core.specs.declared.act.Act.TheVariants.{Advance, Read, Await, Go, Ticket, Put, Get}
+use Rattle.ec_core.specs.declared.act.Act.TheVariants.{Advance, Read, Await, Go, Ticket, Put, Get, Hand}
 use Rattle.ec_core.specs.declared.act.Entry.{Entry}
 use Rattle.ec_core.specs.Counts.{put_in}
 use Rattle.ec_core.specs.Acceptance.{IsAccepted}
@@ -30,6 +30,7 @@ put_in_some y (Await e u) v h = cc
 put_in_some y Go v h = cc
 put_in_some y (Ticket q) v h = cc
 put_in_some y (Get z) v h = cc
+put_in_some y (Hand e b) v h = cc
 
 abbrev place_in : Act → ℕ
 place_in (Put y v) = y

@@ -5,7 +5,7 @@ use Rattle.std.proofs.lemmas.List.{length-append}
 use Rattle.std.proofs.Math.Nat.{zero-add}
 use Rattle.ec_count.specs.Tables.{Tables}
 use Rattle.ec_core.specs.declared.act.Act.{Act}
-use Rattle.ec_core.specs.declared.act.Act.TheVariants.{Advance, Read, Await, Go, Ticket, Put, Get}
+use Rattle.ec_core.specs.declared.act.Act.TheVariants.{Advance, Read, Await, Go, Ticket, Put, Get, Hand}
 use Rattle.ec_core.specs.declared.act.Reply.TheVariants.{Done, Number, Pending}
 use Rattle.ec_core.specs.declared.act.Entry.{Entry}
 use Rattle.ec_core.specs.Counts.{total, issued, cell_value, is_advance, is_ticket, put_in}
@@ -192,6 +192,7 @@ quiet_off d Go h = record { start = refl; done = refl; ticket = refl; cells = λ
 quiet_off d (Ticket q) h = record { start = refl; done = refl; ticket = h; cells = λ j lt. refl; puts = refl }
 quiet_off d (Put y v) h = record { start = refl; done = refl; ticket = refl; cells = λ j lt. off_cell d y v j h lt; puts = h }
 quiet_off d (Get y) h = quiet_get d y
+quiet_off d (Hand e b) h = record { start = refl; done = refl; ticket = refl; cells = λ j lt. refl; puts = refl }
 
 turned : (a b : ℕ) → (a == b) ≡ false → (b == a) ≡ false
 turned a b h = (let other : a ≢ b = eqb-false a b h in ne_eqb b a (λ e. other (sym e)))

@@ -54,6 +54,7 @@ pub(crate) fn is_on(shape: &DatabaseShape, act: &Act) -> bool
         Act::Ticket(q) => is_turn(shape, *q),
         Act::Put(x, _) => is_cell(shape, *x),
         Act::Get(x) => is_cell(shape, *x),
+        Act::Hand(e, _) => is_count(shape, *e),
     }
 }
 

@@ -77,6 +77,7 @@ act_words names acts.Go = codes "go" ∷ []
 act_words names (acts.Ticket q) = codes "ticket" ∷ word_of names (Sequencer q) ∷ []
 act_words names (acts.Put x v) = codes "put" ∷ cell_word names x ∷ decimal v ∷ []
 act_words names (acts.Get x) = codes "get" ∷ cell_word names x ∷ []
+act_words names (acts.Hand e b) = codes "hand" ∷ word_of names (Event e) ∷ word_of names (Worker b) ∷ []
 
 abbrev pub reply_word : Reply → List ℕ
 reply_word Done = codes "done"

@@ -1,5 +1,9 @@
--- The versions of texts: which limits each may have, and by which first line it is told.
-use Rattle.std.specs.Prelude.{ℕ, Bool, ◌&&◌, nat_le, List, Option, Some, None, if◌then◌else◌, bytes_eq}
+-- The versions of texts: which limits and which acts each may have, and by which first line it is told.
+use Rattle.std.specs.Prelude.{◌≡◌, ℕ, Bool, true, false, ◌&&◌, nat_le, List, Option, Some, None, if◌then◌else◌, bytes_eq}
+use Rattle.std.specs.List.{All}
+use Rattle.ec_core.specs.declared.act.Act.{Act}
+use Rattle.ec_core.specs.declared.act.Act.TheVariants.{Hand}
+use Rattle.ec_core.specs.declared.act.Entry.{Entry}
 use Rattle.ec_heading.specs.declared.version.Version.{Version}
 use Rattle.ec_heading.specs.declared.version.Version.TheVariants.{One, Two}
 
@@ -13,6 +17,20 @@ is_limit v n = nat_le 1 n && nat_le n (greatest_limit v)
 
 abbrev pub as_limit : Version → ℕ → Option ℕ
 as_limit v n = if is_limit v n then Some n else None
+
+-- whether components are handed over in texts of this version
+abbrev pub has_hand : Version → Bool
+has_hand One = false
+has_hand Two = true
+
+-- whether a text of this version may have the act: a hand, or any other
+abbrev pub can_spell : Version → Act → Bool
+can_spell v (Hand e b) = has_hand v
+can_spell v act = true
+
+-- it may have each of these entries
+abbrev pub CanSpellAll : Version → List Entry → Type 0
+CanSpellAll v entries = All (λ (e : Entry). can_spell v e.act ≡ true) entries
 
 -- the version that a line tells, where these are the first lines of the versions
 abbrev pub version_of : (Version → List ℕ) → List ℕ → Option Version

@@ -1,15 +1,15 @@
 //! Versions of traces and scripts.
 ghost use Rattle.std.specs.Prelude.{◌≡◌, ◌≤◌, IfSome};
-ghost use Rattle.ec_heading.specs.Versions.{greatest_limit, as_limit};
+ghost use Rattle.ec_heading.specs.Versions.{greatest_limit, as_limit, has_hand};
 
 use ec_count::Limit;
 
 /// The version of a trace or a script, which stands at the end of its first line.
 #[derive(Clone, Copy, Debug, PartialEq, Eq)]
 pub enum Version {
-    /// The limit goes up to 4294967295.
+    /// The limit goes up to 4294967295, and there is no hand.
     One,
-    /// The limit goes up to 281474976710655.
+    /// The limit goes up to 281474976710655, and components are handed over.
     Two,
 }
 
@@ -21,6 +21,17 @@ impl Version {
         match self {
             Version::One => 4_294_967_295,
             Version::Two => 281_474_976_710_655,
+        }
+    }
+
+    /// Whether components are handed over in texts of this version.
+    #[inline(always)]
+    pub fn has_hand(self) -> bool
+        ensures { result ≡ has_hand self }
+    {
+        match self {
+            Version::One => false,
+            Version::Two => true,
         }
     }
 

@@ -6,7 +6,7 @@ use Rattle.ec_core.specs.declared.act.TheConstants.{VALUE_MAX}
 use Rattle.ec_machine.specs.declared.command.Command.{Command}
 use Rattle.ec_machine.specs.declared.command.Command.TheOpen.{Command-F}
 use Rattle.ec_machine.specs.declared.command.Command.TheOpen as layer
-use Rattle.ec_machine.specs.declared.command.Command.TheVariants.{rolls-Advance, rolls-Read, rolls-Await, rolls-Ticket, rolls-Put, rolls-Get, rolls-Produce, rolls-Consume, rolls-WriteAll, rolls-Snapshot, rolls-Down, rolls-Up, rolls-DownBoth}
+use Rattle.ec_machine.specs.declared.command.Command.TheVariants.{rolls-Advance, rolls-Read, rolls-Await, rolls-Ticket, rolls-Put, rolls-Get, rolls-Hand, rolls-Produce, rolls-Consume, rolls-WriteAll, rolls-Snapshot, rolls-Down, rolls-Up, rolls-DownBoth}
 use Rattle.ec_machine.specs.declared.command.Value.{Value}
 use Rattle.ec_machine.specs.declared.command.Command.TheViews.{roll-Command, out-Command, roll-out-Command}
 use Rattle.ec_machine.specs.declared.command.Command.TheFolds.{fold-roll-Command}
@@ -25,6 +25,7 @@ asks_roll last (layer.Await e v) single = subst (Asks last) (sym (rolls-Await e 
 asks_roll last (layer.Ticket q) single = subst (Asks last) (sym (rolls-Ticket q)) refl
 asks_roll last (layer.Put x v) single = subst (Asks last) (sym (rolls-Put x v)) refl
 asks_roll last (layer.Get x) single = subst (Asks last) (sym (rolls-Get x)) refl
+asks_roll last (layer.Hand e b) single = subst (Asks last) (sym (rolls-Hand e b)) refl
 asks_roll last (layer.Produce b v) single = subst (Asks last) (sym (rolls-Produce b v)) refl
 asks_roll last (layer.Consume b) single = subst (Asks last) (sym (rolls-Consume b)) refl
 asks_roll last (layer.WriteAll d vs) single = subst (Asks last) (sym (rolls-WriteAll d vs)) refl

@@ -136,6 +136,7 @@ begun_alone acts.Go = refl
 begun_alone (acts.Ticket q) = refl
 begun_alone (acts.Put x v) = refl
 begun_alone (acts.Get x) = refl
+begun_alone (acts.Hand e b) = refl
 
 -- an act that is due is part of the call that is next
 begun_due : (due o : Option Act) (act : Act) → next_of (is_some o) due ≡ Some act → ((op : Act) → o ≡ Some op → due ≡ Some op) → due ≡ Some (begun_by act o)

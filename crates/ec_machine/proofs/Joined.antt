@@ -72,6 +72,7 @@ asks (layer.Await e v) inner = one _ (commands.Await e v) (fold-roll-Command (Li
 asks (layer.Ticket q) inner = one _ (commands.Ticket q) (fold-roll-Command (List Command) written_step (layer.Ticket q)) (λ last. refl)
 asks (layer.Put x v) inner = one _ (commands.Put x v) (fold-roll-Command (List Command) written_step (layer.Put x v)) (λ last. refl)
 asks (layer.Get x) inner = one _ (commands.Get x) (fold-roll-Command (List Command) written_step (layer.Get x)) (λ last. refl)
+asks (layer.Hand e b) inner = one _ (commands.Hand e b) (fold-roll-Command (List Command) written_step (layer.Hand e b)) (λ last. refl)
 asks (layer.Produce b v) inner = one _ (commands.Produce b v) (fold-roll-Command (List Command) written_step (layer.Produce b v)) (λ last. refl)
 asks (layer.Consume b) inner = one _ (commands.Consume b) (fold-roll-Command (List Command) written_step (layer.Consume b)) (λ last. refl)
 asks (layer.WriteAll d vs) inner = one _ (commands.WriteAll d vs) (fold-roll-Command (List Command) written_step (layer.WriteAll d vs)) (λ last. refl)
@@ -250,6 +251,7 @@ go_is (acts.Await e v) is = cc
 go_is (acts.Ticket q) is = cc
 go_is (acts.Put x v) is = cc
 go_is (acts.Get x) is = cc
+go_is (acts.Hand e b) is = cc
 
 due_of : (due o : Option Act) (act : Act) → is_go act ≡ is_some o → due ≡ Some (begun_by act o) → next_of (is_some o) due ≡ Some act
 due_of due None act go is = is ∙ ap (λ a. Some a) (begun_alone act)

@@ -12,7 +12,7 @@ use Rattle.ec_database.specs.Calls.{write_call}
 use Rattle.ec_database.specs.Snapshots.{snapshot_call}
 use Rattle.ec_semaphore.specs.Uses.{down_call, up_call}
 use Rattle.ec_semaphore.specs.Both.{down_both_call}
-use Rattle.ec_machine.specs.declared.command.Command.{Command, Advance, Read, Await, Ticket, Put, Get, Produce, Consume, WriteAll, Snapshot, Down, Up, DownBoth, Repeat'}
+use Rattle.ec_machine.specs.declared.command.Command.{Command, Advance, Read, Await, Ticket, Put, Get, Hand, Produce, Consume, WriteAll, Snapshot, Down, Up, DownBoth, Repeat'}
 use Rattle.ec_machine.specs.declared.outcome.Outcome.{Outcome}
 use Rattle.ec_machine.specs.declared.outcome.Outcome.TheVariants as outcomes
 use Rattle.ec_machine.specs.Written.{written}
@@ -42,6 +42,7 @@ command_call last (Await e v) = one_call (acts.Await e (value_of last v))
 command_call last (Ticket q) = one_call (acts.Ticket q)
 command_call last (Put x v) = one_call (acts.Put x (value_of last v))
 command_call last (Get x) = one_call (acts.Get x)
+command_call last (Hand e b) = one_call (acts.Hand e b)
 command_call last (Produce b v) = produce_call b (value_of last v)
 command_call last (Consume b) = consume_call b
 command_call last (WriteAll d vs) = write_call d (values_of last vs.items)

@@ -1,6 +1,6 @@
 //! What a worker is to do. The commands are this project's own.
 use ec_buffer::BufferShape;
-use ec_count::{CellId, EventId, SeqId};
+use ec_count::{CellId, EventId, SeqId, WorkerId};
 use ec_database::DatabaseShape;
 use ec_semaphore::SemaphoreShape;
 
@@ -31,6 +31,8 @@ pub enum Command {
     Put(CellId, Value),
     /// Reads a cell.
     Get(CellId),
+    /// Hands the worker's own component of an eventcount to another worker.
+    Hand(EventId, WorkerId),
     /// Puts one item into a buffer.
     Produce(BufferShape, Value),
     /// Gets one item from a buffer.

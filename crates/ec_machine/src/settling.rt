@@ -41,6 +41,7 @@ fn act_of(last: u64, command: &Command) -> Act
         Command::Ticket(sequencer) => Act::Ticket(*sequencer),
         Command::Put(cell, value) => Act::Put(*cell, value_of(last, value)),
         Command::Get(cell) => Act::Get(*cell),
+        Command::Hand(event, to) => Act::Hand(*event, *to),
         _ => unreachable!(),
     }
 }
@@ -112,7 +113,10 @@ fn begin(task: &mut Task, last: u64, command: &Command)
         | Command::Await(_, _)
         | Command::Ticket(_)
         | Command::Put(_, _)
-        | Command::Get(_) => task.put_small(SmallTask::One(OneCall::new(act_of(last, command)))),
+        | Command::Get(_)
+        | Command::Hand(_, _) => task.put_small(SmallTask::One(OneCall::new(act_of(
+            last, command,
+        )))),
         _ => task.put_small(small_of(last, command)),
     }
 }

@@ -4,7 +4,7 @@ use Rattle.std.proofs.lemmas.Bool.{eqb-true, eqb-false, eq-eqb, ne_eqb, or_cases
 use Rattle.std.proofs.Math.Nat.{zero-add}
 use Rattle.ec_count.specs.Tables.{Tables, IsDeclared}
 use Rattle.ec_core.specs.declared.act.Act.{Act}
-use Rattle.ec_core.specs.declared.act.Act.TheVariants.{Advance, Read, Await, Go, Ticket, Put, Get}
+use Rattle.ec_core.specs.declared.act.Act.TheVariants.{Advance, Read, Await, Go, Ticket, Put, Get, Hand}
 use Rattle.ec_core.specs.declared.act.Reply.TheVariants.{Done, Number, Pending}
 use Rattle.ec_core.specs.declared.act.Entry.{Entry}
 use Rattle.ec_core.specs.Counts.{total, issued, is_advance, is_ticket, sum_to}
@@ -215,6 +215,7 @@ quiet s Go h = (refl, refl)
 quiet s (Ticket q) h = (h, refl)
 quiet s (Put y v) h = (refl, refl)
 quiet s (Get y) h = (refl, refl)
+quiet s (Hand e b) h = (refl, refl)
 
 total_up : (t : Tables) (e : ℕ) (x : Entry) (past : List Entry) → IsAccepted t (x ∷ past) → total e past ≤ total e (x ∷ past)
 total_up t e x past acc = (let k = total_step t e x past acc in omega arith)

@@ -9,7 +9,7 @@ use Rattle.std.proofs.lemmas.List.Quantifiers.{all_pairs_push}
 use Rattle.std.proofs.Math.Nat.{zero-add}
 use Rattle.ec_count.specs.Tables.{Tables, IsDeclared}
 use Rattle.ec_core.specs.declared.act.Act.{Act}
-use Rattle.ec_core.specs.declared.act.Act.TheVariants.{Advance, Read, Await, Go, Ticket, Put, Get}
+use Rattle.ec_core.specs.declared.act.Act.TheVariants.{Advance, Read, Await, Go, Ticket, Put, Get, Hand}
 use Rattle.ec_core.specs.declared.act.Reply.TheVariants.{Done, Number}
 use Rattle.ec_core.specs.declared.act.Entry.{Entry}
 use Rattle.ec_core.specs.Counts.{total, issued, is_advance, is_ticket}
@@ -269,6 +269,7 @@ off_quiet c Go h = (refl, refl)
 off_quiet c (Ticket q) h = (h, refl)
 off_quiet c (Put y v) h = (refl, refl)
 off_quiet c (Get y) h = (refl, refl)
+off_quiet c (Hand e b) h = (refl, refl)
 
 pub outside : (calls : List Told) → is_begun calls ≡ false → calls ≡ []
 outside [] h = refl

@@ -2,7 +2,7 @@
 use Rattle.std.proofs.Common.{◌≡◌, ◌≢◌, ℕ, zero, suc, Bool, true, false, not, ◌&&◌, ◌||◌, ◌==◌, ◌⊎◌, inl, inr, List, [], ◌∷◌, length, take, slice_get, Some, refl, ap, sym, ◌∙◌, arith, subst}
 use Rattle.std.proofs.lemmas.Bool.{eqb-true, eq-eqb, ne_eqb, and_parts, and_from, or_cases}
 use Rattle.ec_core.specs.declared.act.Act.{Act}
-use Rattle.ec_core.specs.declared.act.Act.TheVariants.{Advance, Read, Await, Go, Ticket, Put, Get}
+use Rattle.ec_core.specs.declared.act.Act.TheVariants.{Advance, Read, Await, Go, Ticket, Put, Get, Hand}
 use Rattle.ec_core.specs.Counts.{is_advance}
 use Rattle.ec_core.specs.CallLists.{is_act, number_of}
 use Rattle.ec_core.specs.Following.{Told}
@@ -25,6 +25,7 @@ advanced e Go h = cc
 advanced e (Ticket q) h = cc
 advanced e (Put x v) h = cc
 advanced e (Get x) h = cc
+advanced e (Hand f b) h = cc
 
 uses_from : (s : Semaphore) (calls : List Told) → IsWholeList (use_rule s) calls → IsDown s calls ⊎ IsUp s calls
 uses_from s [] w = (let k = w.whole in cc)

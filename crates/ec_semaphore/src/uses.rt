@@ -49,6 +49,7 @@ pub fn is_on(shape: &SemaphoreShape, act: &Act) -> bool
         Act::Ticket(sequencer) => sequencer.get() == shape.line().get(),
         Act::Put(_, _) => false,
         Act::Get(_) => false,
+        Act::Hand(event, _) => event.get() == shape.count().get(),
     }
 }
 

@@ -1,7 +1,7 @@
 -- A line is read as the entry that it spells, and as none where it spells none.
 use Rattle.std.proofs.Common.{◌≡◌, ◌≢◌, inl, inr, ℕ, ◌+◌, ◌<◌, ◌≤◌, List, [], ◌∷◌, length, cond, true, false, nat_lt, Option, Some, None, Result, Ok, Err, refl, sym, ap, subst, ◌∙◌, arith, codes, reverse}
-use Rattle.std.specs.Prelude.{bytes_eq}
-use Rattle.std.proofs.lemmas.Bool.{true≢false, false_from_ne_true, ltb-true, leb-true, lt-leb, le-ltb}
+use Rattle.std.specs.Prelude.{bytes_eq, nat_le}
+use Rattle.std.proofs.lemmas.Bool.{true≢false, false_from_ne_true, ltb-true, leb-true, lt-leb, le-ltb, or_from}
 use Rattle.std.proofs.lemmas.Slice.Eq.{bytes_eq-Decides}
 use Rattle.ec_core.specs.Acceptance.{names_unknown_object, is_too_large, answer_of}
 use Rattle.ec_core.specs.Values.{TellsAtMost}
@@ -21,6 +21,7 @@ use Rattle.ec_heading.specs.Lists.{worker_in}
 use Rattle.ec_heading.specs.Outline.{headed}
 use Rattle.ec_heading.specs.Outlined.{HasOutline}
 use Rattle.ec_heading.specs.Spelled.{event_in, sequencer_in, cell_in_word}
+use Rattle.ec_heading.specs.Versions.{can_spell}
 use Rattle.ec_heading.proofs.shared.AddedObjects.{is_below}
 use Rattle.ec_heading.proofs.shared.ReadHeadings.{IsSound, sound}
 use Rattle.ec_heading.proofs.shared.ReadNames.{found_all}
@@ -28,7 +29,7 @@ use Rattle.ec_trace.specs.declared.fault.LineFault.{LineFault}
 use Rattle.ec_trace.specs.declared.fault.LineFault.TheVariants.{Bad, Refused, WrongReply}
 use Rattle.ec_trace.specs.declared.stage.Stage.TheVariants.{Running, Ended}
 use Rattle.ec_trace.specs.Entries.{◌>>=◌, act_alone, act_on, act_with, reply_of, entry_by, entry_in, entry_of}
-use Rattle.ec_trace.specs.EntryLines.{MayBeWritten, SpellsEntry, SpellsNoEntry, IsEntryFault, EntriesAreSpelled, OtherLinesSpellNone, FaultsOfEntries}
+use Rattle.ec_trace.specs.EntryLines.{MayBeWritten, SpellsEntry, SpellsNoEntry, SpellsInVersion, SpellsNoneInVersion, IsEntryFault, EntriesAreSpelled, OtherLinesSpellNone, FaultsOfEntries}
 use Rattle.ec_trace.specs.Recounted.{Recounted}
 use Rattle.ec_trace.specs.Step.{step, entry_step, entered, answered, ran_on, same_reply}
 use Rattle.ec_trace.proofs.LedOutlines.{lines_lead}
@@ -107,12 +108,20 @@ with_named h verb object value a s is = elim (either (bytes_eq verb (codes "awai
       let v = bind_back (number_of value) (λ v. Some (acts.Await e.0 v)) a e.2 in
       let same : acts.Await e.0 v.0 ≡ a = cc in
       subst (IsNamed h) same (record { object = lt-leb _ _ (event_below h object e.0 s e.1); value = small_value value v.0 v.1 })
-  | inr h2 ↦
-      let k = guarded (bytes_eq verb (codes "put")) _ a h2 in
-      let x = bind_back (cell_in_word h.words object) (λ x. number_of value >>= λ v. Some (acts.Put x v)) a k.1 in
-      let v = bind_back (number_of value) (λ v. Some (acts.Put x.0 v)) a x.2 in
-      let same : acts.Put x.0 v.0 ≡ a = cc in
-      subst (IsNamed h) same (record { object = lt-leb _ _ (cell_below h object x.0 s x.1); value = small_value value v.0 v.1 })
+  | inr h2 ↦ elim (either (bytes_eq verb (codes "put")) _ _ a h2) [
+    | inl k ↦
+        let x = bind_back (cell_in_word h.words object) (λ x. number_of value >>= λ v. Some (acts.Put x v)) a k.1 in
+        let v = bind_back (number_of value) (λ v. Some (acts.Put x.0 v)) a x.2 in
+        let same : acts.Put x.0 v.0 ≡ a = cc in
+        subst (IsNamed h) same (record { object = lt-leb _ _ (cell_below h object x.0 s x.1); value = small_value value v.0 v.1 })
+    | inr h3 ↦
+        let k = guarded (bytes_eq verb (codes "hand")) _ a h3 in
+        let e = bind_back (event_in h.words object) (λ e. worker_in h.words value >>= λ b. Some (acts.Hand e b)) a k.1 in
+        let b = bind_back (worker_in h.words value) (λ b. Some (acts.Hand e.0 b)) a e.2 in
+        let same : acts.Hand e.0 b.0 ≡ a = cc in
+        let known = or_from (nat_le (length h.setup.events) e.0) (nat_le h.setup.workers b.0) (lt-leb _ _ (event_below h object e.0 s e.1)) (lt-leb _ _ (worker_below h value b.0 s b.1)) in
+        subst (IsNamed h) same (record { object = known; value = refl })
+  ]
 ]
 
 reply_small : (word : List ℕ) (r : Reply) → reply_of word ≡ Some r → TellsAtMost VALUE_MAX r
@@ -184,8 +193,8 @@ others_spell_none o line is = (none_spelled (headed o) line (sound o is), none_r
 same_fault : {S : Type 0} (f g : LineFault) (r : Result S LineFault) → r ≡ Err f → r ≡ Err g → f ≡ g
 same_fault f g r is too = cc
 
--- an entry that was read, and its answer
-answered_fault : (t : Recounted) (line : List ℕ) (e : Entry) (r : Result Reply Refusal) (fault : LineFault) → SpellsEntry t.heading line e → answer_of t.heading.setup (reverse t.entries) e.worker e.act ≡ r
+-- an entry that was read, that the version may have, and its answer
+answered_fault : (t : Recounted) (line : List ℕ) (e : Entry) (r : Result Reply Refusal) (fault : LineFault) → SpellsInVersion t.heading line e → answer_of t.heading.setup (reverse t.entries) e.worker e.act ≡ r
     → answered t e r ≡ Err fault → IsEntryFault t line fault
 answered_fault t line e (Err refusal) fault spells answer is = subst (IsEntryFault t line) (same_fault (Refused refusal) fault (answered t e (Err refusal)) refl is) (e, spells, answer)
 answered_fault t line e (Ok right) fault spells answer is =
@@ -197,11 +206,24 @@ answered_fault t line e (Ok right) fault spells answer is =
           subst (IsEntryFault t line) is (e, spells, answer, other))
     ] refl is
 
+not_the_end : (line : List ℕ) → bytes_eq line (codes "end") ≡ false → line ≢ codes "end"
+not_the_end line other same = true≢false (sym ((bytes_eq-Decides line (codes "end")).1 same) ∙ other)
+
+-- a line that spells an entry which the version may not have spells no other
+no_other : (h : Headed) (line : List ℕ) (e : Entry) → IsSound h → entry_of h.words line ≡ Some e → can_spell h.version e.act ≡ false → SpellsNoneInVersion h line
+no_other h line e s read off f spells =
+    let k : Some f ≡ Some e = sym (spelled_reads h line f s spells.0) ∙ read in
+    let same : f ≡ e = cc in
+    true≢false (sym (subst (λ (x : Entry). can_spell h.version x.act ≡ true) same spells.1) ∙ off)
+
 entered_fault : (t : Recounted) (line : List ℕ) (o : Option Entry) (fault : LineFault) → IsSound t.heading → bytes_eq line (codes "end") ≡ false → entry_of t.heading.words line ≡ o → entered t o ≡ Err fault → IsEntryFault t line fault
 entered_fault t line None fault s other read is =
-    subst (IsEntryFault t line) (same_fault Bad fault (entered t None) refl is) ((λ same. true≢false (sym ((bytes_eq-Decides line (codes "end")).1 same) ∙ other)), none_spelled t.heading line s read)
+    subst (IsEntryFault t line) (same_fault Bad fault (entered t None) refl is) (not_the_end line other, λ e spells. none_spelled t.heading line s read e spells.0)
 entered_fault t line (Some e) fault s other read is =
-    answered_fault t line e (answer_of t.heading.setup (reverse t.entries) e.worker e.act) fault (read_spells t.heading line e s read) refl is
+    elim (can_spell t.heading.version e.act) as (λ b. can_spell t.heading.version e.act ≡ b → cond b (answered t e (answer_of t.heading.setup (reverse t.entries) e.worker e.act)) (Err Bad) ≡ Err fault → IsEntryFault t line fault) [
+      | true ↦ λ q g. answered_fault t line e (answer_of t.heading.setup (reverse t.entries) e.worker e.act) fault (read_spells t.heading line e s read, q) refl g
+      | false ↦ λ q g. subst (IsEntryFault t line) (same_fault Bad fault (entered t None) refl g) (not_the_end line other, no_other t.heading line e s read q)
+    ] refl is
 
 ran_fault : (r : Result Recounted LineFault) (fault : LineFault) → ran_on r ≡ Err fault → r ≡ Err fault
 ran_fault (Ok t) fault is = cc
@@ -215,21 +237,28 @@ fault_told t line fault s is =
       | false ↦ λ q g. entered_fault t line (entry_of t.heading.words line) fault s q refl (ran_fault (entry_step t line) fault g)
     ] refl is
 
--- the step at an entry that was read
-at_entry : (t : Recounted) (line : List ℕ) (e : Entry) → IsSound t.heading → SpellsEntry t.heading line e → step (Running t) line ≡ ran_on (answered t e (answer_of t.heading.setup (reverse t.entries) e.worker e.act))
+-- the step at an entry that was read and that the version may have
+at_entry : (t : Recounted) (line : List ℕ) (e : Entry) → IsSound t.heading → SpellsInVersion t.heading line e → step (Running t) line ≡ ran_on (answered t e (answer_of t.heading.setup (reverse t.entries) e.worker e.act))
 unfolding step entry_step
 at_entry t line e s spells =
-    let read : entry_of t.heading.words line ≡ Some e = spelled_reads t.heading line e s spells in
-    rw (not_end t.heading.words line e read, read) refl
+    let read : entry_of t.heading.words line ≡ Some e = spelled_reads t.heading line e s spells.0 in
+    rw (not_end t.heading.words line e read, read) (rw spells.1 refl)
 
 off_reply : (right r : Reply) → right ≢ r → same_reply right r ≡ false
 off_reply right r off = false_from_ne_true _ (λ same. off (same_is right r same))
+
+-- where the line spells no entry that the version may have, the entry that was read, if one was, is none that it may have
+bad_entry : (t : Recounted) (line : List ℕ) (o : Option Entry) → IsSound t.heading → SpellsNoneInVersion t.heading line → entry_of t.heading.words line ≡ o → entered t o ≡ Err Bad
+bad_entry t line None s none read = refl
+bad_entry t line (Some e) s none read =
+    let off : can_spell t.heading.version e.act ≡ false = false_from_ne_true _ (λ can. none e (read_spells t.heading line e s read, can)) in
+    rw off refl
 
 fault_is : (t : Recounted) (line : List ℕ) (fault : LineFault) → IsSound t.heading → IsEntryFault t line fault → step (Running t) line ≡ Err fault
 unfolding step entry_step
 fault_is t line Bad s (other, none) =
     let off : bytes_eq line (codes "end") ≡ false = false_from_ne_true _ (λ same. other ((bytes_eq-Decides line (codes "end")).0 same)) in
-    rw (off, none_read t.heading line s none) refl
+    rw off (ap ran_on (bad_entry t line (entry_of t.heading.words line) s none refl))
 fault_is t line (Refused r) s (e, spells, answer) = at_entry t line e s spells ∙ ap (λ a. ran_on (answered t e a)) answer
 fault_is t line (WrongReply right) s (e, spells, answer, other) =
     at_entry t line e s spells ∙ ap (λ a. ran_on (answered t e a)) answer ∙ rw (off_reply right e.reply other) refl

@@ -3,7 +3,7 @@ use Rattle.std.proofs.Common.{◌≡◌, ℕ, List, [], ◌∷◌, ◌++◌, app
 use Rattle.std.specs.List.{join_with_byte}
 use Rattle.ec_count.specs.declared.target.Target.TheVariants.{Worker}
 use Rattle.ec_core.specs.declared.act.Act.{Act}
-use Rattle.ec_core.specs.declared.act.Act.TheVariants.{Advance, Read, Await, Go, Ticket, Put, Get}
+use Rattle.ec_core.specs.declared.act.Act.TheVariants.{Advance, Read, Await, Go, Ticket, Put, Get, Hand}
 use Rattle.ec_core.specs.declared.act.Entry.{Entry}
 use Rattle.ec_heading.specs.Spelling.{Named, word_of, act_words, reply_word, entry_line}
 
@@ -16,6 +16,7 @@ around names all w r Go = simp append_assoc
 around names all w r (Ticket q) = simp append_assoc
 around names all w r (Put x v) = simp append_assoc
 around names all w r (Get x) = simp append_assoc
+around names all w r (Hand e b) = simp append_assoc
 
 pub entry_parts : (names : Named) (e : Entry) (all : List ℕ)
     → all ++ entry_line names e ≡ ((((all ++ word_of names (Worker e.worker)) ++ 32 ∷ []) ++ join_with_byte 32 (act_words names e.act)) ++ codes " = ") ++ reply_word e.reply

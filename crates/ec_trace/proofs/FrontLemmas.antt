@@ -150,22 +150,29 @@ put_so : (names : Named) (verb object v : List ℕ) (x m : ℕ) → bytes_eq ver
 unfolding act_with
 put_so names verb object v x m other is found = rw (other, is, found) (put_valued x m (number_of v))
 
--- an act with one value shows the act with each
-with_act : (names : Named) (verb object value : List ℕ) (a : Act) → act_with names verb object value ≡ Some a → (v : List ℕ) → act_with names verb object v ≡ valued_by a (number_of v)
+-- an act with one value shows the act with each; a hand has none
+with_act : (names : Named) (verb object value : List ℕ) (a : Act) → is_valued a ≡ true → act_with names verb object value ≡ Some a → (v : List ℕ) → act_with names verb object v ≡ valued_by a (number_of v)
 unfolding act_with
-with_act names verb object value a h v = elim (either (bytes_eq verb (codes "await")) _ _ a h) [
+with_act names verb object value a valued h v = elim (either (bytes_eq verb (codes "await")) _ _ a h) [
   | inl k ↦
       let e = bound (event_in names object) (λ e. number_of value >>= λ v. Some (acts.Await e v)) a k.1 in
       let n = bound (number_of value) (λ v. Some (acts.Await e.0 v)) a e.2 in
       let is : acts.Await e.0 n.0 ≡ a = cc in
       await_so names verb object v e.0 n.0 k.0 e.1 ∙ ap (λ (x : Act). valued_by x (number_of v)) is
-  | inr h2 ↦
-      let k = guarded (bytes_eq verb (codes "put")) _ a h2 in
-      let x = bound (cell_in_word names object) (λ x. number_of value >>= λ v. Some (acts.Put x v)) a k.1 in
-      let n = bound (number_of value) (λ v. Some (acts.Put x.0 v)) a x.2 in
-      let is : acts.Put x.0 n.0 ≡ a = cc in
-      let other : bytes_eq verb (codes "await") ≡ false = ap (λ (w : List ℕ). bytes_eq w (codes "await")) ((bytes_eq-Decides verb (codes "put")).0 k.0) in
-      put_so names verb object v x.0 n.0 other k.0 x.1 ∙ ap (λ (y : Act). valued_by y (number_of v)) is
+  | inr h2 ↦ elim (either (bytes_eq verb (codes "put")) _ _ a h2) [
+    | inl k ↦
+        let x = bound (cell_in_word names object) (λ x. number_of value >>= λ v. Some (acts.Put x v)) a k.1 in
+        let n = bound (number_of value) (λ v. Some (acts.Put x.0 v)) a x.2 in
+        let is : acts.Put x.0 n.0 ≡ a = cc in
+        let other : bytes_eq verb (codes "await") ≡ false = ap (λ (w : List ℕ). bytes_eq w (codes "await")) ((bytes_eq-Decides verb (codes "put")).0 k.0) in
+        put_so names verb object v x.0 n.0 other k.0 x.1 ∙ ap (λ (y : Act). valued_by y (number_of v)) is
+    | inr h3 ↦
+        let k = guarded (bytes_eq verb (codes "hand")) _ a h3 in
+        let e = bound (event_in names object) (λ e. worker_in names value >>= λ b. Some (acts.Hand e b)) a k.1 in
+        let b = bound (worker_in names value) (λ b. Some (acts.Hand e.0 b)) a e.2 in
+        let is : acts.Hand e.0 b.0 ≡ a = cc in
+        absurd (true≢false (sym valued ∙ sym (ap is_valued is)))
+  ]
 ]
 
 -- what an entry shows of its worker and its act
@@ -203,7 +210,7 @@ in_opening names (w ∷ verb ∷ []) value answer e valued h v r =
     absurd (true≢false (sym valued ∙ on_unvalued names verb value e.act s.act))
 in_opening names (w ∷ verb ∷ object ∷ []) value answer e valued h v r =
     let s = shows names w (act_with names verb object value) (codes "=") answer e h in
-    ap (λ (o : Option Act). entry_by names w o (codes "=") r) (with_act names verb object value e.act s.act v) ∙ by_both names w r e.worker e.act (number_of v) s.who
+    ap (λ (o : Option Act). entry_by names w o (codes "=") r) (with_act names verb object value e.act valued s.act v) ∙ by_both names w r e.worker e.act (number_of v) s.who
 in_opening names (a ∷ b ∷ c ∷ d ∷ []) value answer e valued h v r = cc
 in_opening names (a ∷ b ∷ c ∷ d ∷ f ∷ []) value answer e valued h v r = cc
 in_opening names (a ∷ b ∷ c ∷ d ∷ f ∷ g ∷ []) value answer e valued h v r = cc

@@ -47,6 +47,7 @@ ActIsNamed names acts.Go = Unit {0}
 ActIsNamed names (acts.Ticket q) = HasName names (Sequencer q)
 ActIsNamed names (acts.Put x v) = (is_celled x names ≡ true) × (x < 1000000000000000000) × (v < 1000000000000000000)
 ActIsNamed names (acts.Get x) = (is_celled x names ≡ true) × (x < 1000000000000000000)
+ActIsNamed names (acts.Hand e b) = HasName names (Event e) × HasName names (Worker b)
 
 abbrev pub ReplyIsShort : Reply → Type 0
 ReplyIsShort Done = Unit {0}
@@ -144,6 +145,10 @@ put_again : (names : Named) (word : List ℕ) (x v : ℕ) → cell_in_word names
 unfolding act_with
 put_again names word x v is small = rw (is, number_again v small) refl
 
+hand_again : (names : Named) (word to : List ℕ) (e b : ℕ) → event_in names word ≡ Some e → worker_in names to ≡ Some b → act_with names (codes "hand") word to ≡ Some (acts.Hand e b)
+unfolding act_with
+hand_again names word to e b is who = rw (is, who) refl
+
 go_again : act_alone (codes "go") ≡ Some acts.Go
 unfolding act_alone
 go_again = refl
@@ -194,6 +199,12 @@ line_again names w (acts.Get x) r are who what told =
     let b = has_block names x what.0 in
     ap (entry_in names) (five_words _ _ _ _ _ (name_word names (Worker w) _ m) (literal_word (codes "get") refl) (cell_is_word names x are b what.1) equals_word (reply_is_word r told))
     ∙ by_again names _ _ _ w (acts.Get x) r (worker_again names _ w m.found) (get_again names _ x (cell_again names x are b what.1)) (reply_again r told)
+line_again names w (acts.Hand e b) r are who what told =
+    let m = named_by names (Worker w) are who in
+    let n = named_by names (Event e) are what.0 in
+    let k = named_by names (Worker b) are what.1 in
+    ap (entry_in names) (six_words _ _ _ _ _ _ (name_word names (Worker w) _ m) (literal_word (codes "hand") refl) (name_word names (Event e) _ n) (name_word names (Worker b) _ k) equals_word (reply_is_word r told))
+    ∙ by_again names _ _ _ w (acts.Hand e b) r (worker_again names _ w m.found) (hand_again names _ _ e b (event_again names _ e n.found) (worker_again names _ b k.found)) (reply_again r told)
 
 -- what is spelled so is read
 pub entry_again : (names : Named) (e : Entry) → AreWords names → IsSpellable names e → entry_of names (entry_line names e) ≡ Some e
@@ -230,6 +241,9 @@ worker_found (Some _) w h = cc
 
 event_spelled : (names : Named) (word : List ℕ) (e : ℕ) → AreApart names → event_in names word ≡ Some e → word_of names (Event e) ≡ word
 event_spelled names word e apart h = word_back names word (Event e) apart refl (event_found (find_name word names) e h)
+
+worker_spelled : (names : Named) (word : List ℕ) (w : ℕ) → AreApart names → worker_in names word ≡ Some w → word_of names (Worker w) ≡ word
+worker_spelled names word w apart h = word_back names word (Worker w) apart refl (worker_found (find_name word names) w h)
 
 sequencer_spelled : (names : Named) (word : List ℕ) (q : ℕ) → AreApart names → sequencer_in names word ≡ Some q → word_of names (Sequencer q) ≡ word
 sequencer_spelled names word q apart h = word_back names word (Sequencer q) apart refl (sequencer_found (find_name word names) q h)
@@ -294,12 +308,19 @@ with_back names verb object value a apart h = elim (either (bytes_eq verb (codes
       let v = bind_back (number_of value) (λ v. Some (acts.Await e.0 v)) a e.2 in
       let is : acts.Await e.0 v.0 ≡ a = cc in
       ap (act_words names) (sym is) ∙ triple_is _ _ _ _ _ _ (sym (same_word verb (codes "await") k.0)) (event_spelled names object e.0 apart e.1) (sym (number_takes value v.0 v.1).0)
-  | inr h2 ↦
-      let k = guarded (bytes_eq verb (codes "put")) _ a h2 in
-      let x = bind_back (cell_in_word names object) (λ x. number_of value >>= λ v. Some (acts.Put x v)) a k.1 in
-      let v = bind_back (number_of value) (λ v. Some (acts.Put x.0 v)) a x.2 in
-      let is : acts.Put x.0 v.0 ≡ a = cc in
-      ap (act_words names) (sym is) ∙ triple_is _ _ _ _ _ _ (sym (same_word verb (codes "put") k.0)) (cell_spelled names object x.0 apart x.1) (sym (number_takes value v.0 v.1).0)
+  | inr h2 ↦ elim (either (bytes_eq verb (codes "put")) _ _ a h2) [
+    | inl k ↦
+        let x = bind_back (cell_in_word names object) (λ x. number_of value >>= λ v. Some (acts.Put x v)) a k.1 in
+        let v = bind_back (number_of value) (λ v. Some (acts.Put x.0 v)) a x.2 in
+        let is : acts.Put x.0 v.0 ≡ a = cc in
+        ap (act_words names) (sym is) ∙ triple_is _ _ _ _ _ _ (sym (same_word verb (codes "put") k.0)) (cell_spelled names object x.0 apart x.1) (sym (number_takes value v.0 v.1).0)
+    | inr h3 ↦
+        let k = guarded (bytes_eq verb (codes "hand")) _ a h3 in
+        let e = bind_back (event_in names object) (λ e. worker_in names value >>= λ b. Some (acts.Hand e b)) a k.1 in
+        let b = bind_back (worker_in names value) (λ b. Some (acts.Hand e.0 b)) a e.2 in
+        let is : acts.Hand e.0 b.0 ≡ a = cc in
+        ap (act_words names) (sym is) ∙ triple_is _ _ _ _ _ _ (sym (same_word verb (codes "hand") k.0)) (event_spelled names object e.0 apart e.1) (worker_spelled names value b.0 apart b.1)
+  ]
 ]
 
 -- the parts of an entry that was read

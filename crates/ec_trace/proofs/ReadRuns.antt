@@ -1,8 +1,8 @@
 -- The lines of entries, read one after another.
-use Rattle.std.proofs.Common.{◌≡◌, ℕ, ◌<◌, ◌≤◌, List, [], ◌∷◌, ◌++◌, length, cond, true, false, Option, Some, None, Result, Ok, Err, map, refl, sym, ap, subst, ◌∙◌, arith, codes, append-nil, reverse}
-use Rattle.std.specs.Prelude.{bytes_eq}
+use Rattle.std.proofs.Common.{◌≡◌, ℕ, ◌<◌, ◌≤◌, List, [], ◌∷◌, ◌++◌, length, cond, Bool, true, false, Option, Some, None, Result, Ok, Err, map, refl, sym, ap, subst, ◌∙◌, arith, codes, append-nil, reverse}
+use Rattle.std.specs.Prelude.{bytes_eq, nat_le}
 use Rattle.std.specs.List.{AllByRecursion}
-use Rattle.std.proofs.lemmas.Bool.{true≢false, eqb-true, eq-eqb, false_from_ne_true, leb-false, ltb-false}
+use Rattle.std.proofs.lemmas.Bool.{true≢false, eqb-true, eq-eqb, false_from_ne_true, leb-false, ltb-false, or_parts}
 use Rattle.std.proofs.lemmas.List.{reverse-append}
 use Rattle.std.proofs.lemmas.Slice.Eq.{bytes_eq-Decides}
 use Rattle.std.proofs.Math.Seq.{append_snoc}
@@ -26,6 +26,7 @@ use Rattle.ec_trace.specs.declared.stage.Stage.TheVariants.{Running, Ended}
 use Rattle.ec_trace.specs.Recounted.{Recounted}
 use Rattle.ec_heading.specs.Spelling.{entry_line}
 use Rattle.ec_heading.specs.Spelled.{Named}
+use Rattle.ec_heading.specs.Versions.{can_spell}
 use Rattle.ec_trace.specs.Entries.{entry_in, entry_of}
 use Rattle.ec_trace.specs.Step.{step, entry_step, entered, answered, ran_on, same_reply}
 use Rattle.ec_trace.specs.FirstFault.{Leads, IsLine}
@@ -59,6 +60,9 @@ act_named h (acts.Ticket q) is known small = is.sequencers q (leb-false _ _ know
 act_named h (acts.Put x v) is known small =
     (is.cells x (leb-false _ _ known), (let l : x < length h.setup.cells = leb-false _ _ known in omega (arith, is.bounds.cells)), (let l : v ≤ VALUE_MAX = ltb-false _ _ small in omega arith))
 act_named h (acts.Get x) is known small = (is.cells x (leb-false _ _ known), (let l : x < length h.setup.cells = leb-false _ _ known in omega (arith, is.bounds.cells)))
+act_named h (acts.Hand e b) is known small =
+    let k = or_parts (nat_le (length h.setup.events) e) (nat_le h.setup.workers b) known in
+    (is.events e (leb-false _ _ k.0), is.workers b (leb-false _ _ k.1))
 
 pub reply_short : (r : Reply) → TellsAtMost VALUE_MAX r → ReplyIsShort r
 reply_short Done h = tt
@@ -100,25 +104,31 @@ not_end names line e h =
 abbrev pub with_entry : Recounted → Entry → Recounted
 with_entry t e = record { heading = t.heading; entries = t.entries ++ e ∷ [] }
 
-entered_so : (t : Recounted) (line : List ℕ) (e : Entry) → entry_of t.heading.words line ≡ Some e → answer_of t.heading.setup (reverse t.entries) e.worker e.act ≡ Ok e.reply → entry_step t line ≡ Ok (with_entry t e)
+entered_so : (t : Recounted) (line : List ℕ) (e : Entry) → entry_of t.heading.words line ≡ Some e → can_spell t.heading.version e.act ≡ true
+    → answer_of t.heading.setup (reverse t.entries) e.worker e.act ≡ Ok e.reply → entry_step t line ≡ Ok (with_entry t e)
 unfolding entry_step
-entered_so t line e is right = rw is (rw right (rw (same_self e.reply) refl))
+entered_so t line e is can right = rw is (rw can (rw right (rw (same_self e.reply) refl)))
 
-steps_so : (t : Recounted) (line : List ℕ) (e : Entry) → entry_of t.heading.words line ≡ Some e → answer_of t.heading.setup (reverse t.entries) e.worker e.act ≡ Ok e.reply → step (Running t) line ≡ Ok (Running (with_entry t e))
+steps_so : (t : Recounted) (line : List ℕ) (e : Entry) → entry_of t.heading.words line ≡ Some e → can_spell t.heading.version e.act ≡ true
+    → answer_of t.heading.setup (reverse t.entries) e.worker e.act ≡ Ok e.reply → step (Running t) line ≡ Ok (Running (with_entry t e))
 unfolding step
-steps_so t line e is right = rw (not_end t.heading.words line e is) (ap ran_on (entered_so t line e is right))
+steps_so t line e is can right = rw (not_end t.heading.words line e is) (ap ran_on (entered_so t line e is can right))
+
+-- the version may have each of the entries
+abbrev pub EachInVersion : Headed → List Entry → Type 0
+EachInVersion h es = AllByRecursion (λ (e : Entry). can_spell h.version e.act ≡ true) es
 
 -- the entries of an accepted history are read in turn
-pub entries_lead : (h : Headed) (pre es : List Entry) → IsSound h → IsAccepted h.setup (reverse (pre ++ es))
+pub entries_lead : (h : Headed) (pre es : List Entry) → IsSound h → EachInVersion h es → IsAccepted h.setup (reverse (pre ++ es))
     → Leads (Running (record { heading = h; entries = pre })) (map (entry_line h.words) es) (Running (record { heading = h; entries = pre ++ es }))
-entries_lead h pre [] is acc = ap (λ (xs : List Entry). Running (record { heading = h; entries = xs })) (sym (append-nil pre))
-entries_lead h pre (e ∷ es) is acc =
+entries_lead h pre [] is can acc = ap (λ (xs : List Entry). Running (record { heading = h; entries = xs })) (sym (append-nil pre))
+entries_lead h pre (e ∷ es) is can acc =
     let now = accepted_front h.setup pre es e acc in
     let more : pre ++ e ∷ es ≡ (pre ++ e ∷ []) ++ es = sym (append_snoc pre e es) in (
       Running (record { heading = h; entries = pre ++ e ∷ [] }),
-      steps_so (record { heading = h; entries = pre }) (entry_line h.words e) e (entry_again h.words e is.words (may_be_spelled h (reverse pre) e is now)) now.0,
+      steps_so (record { heading = h; entries = pre }) (entry_line h.words e) e (entry_again h.words e is.words (may_be_spelled h (reverse pre) e is now)) can.0 now.0,
       subst (λ (xs : List Entry). Leads (Running (record { heading = h; entries = pre ++ e ∷ [] })) (map (entry_line h.words) es) (Running (record { heading = h; entries = xs }))) (sym more)
-          (entries_lead h (pre ++ e ∷ []) es is (subst (λ (xs : List Entry). IsAccepted h.setup (reverse xs)) more acc)),
+          (entries_lead h (pre ++ e ∷ []) es is can.1 (subst (λ (xs : List Entry). IsAccepted h.setup (reverse xs)) more acc)),
     )
 
 pub entries_are_lines : (h : Headed) (pre es : List Entry) → IsSound h → IsAccepted h.setup (reverse (pre ++ es)) → AllByRecursion IsLine (map (entry_line h.words) es)
@@ -148,18 +158,26 @@ answered_back t u e (Ok right) h =
       | false ↦ λ q g. (cc)
     ] refl h
 
-pub entered_back : (t u : Recounted) (o : Option Entry) → entered t o ≡ Ok u → (e : Entry) × (o ≡ Some e) × (answered t e (answer_of t.heading.setup (reverse t.entries) e.worker e.act) ≡ Ok u)
+if_can : (b : Bool) (r : Result Recounted LineFault) (u : Recounted) → cond b r (Err Bad) ≡ Ok u → (r ≡ Ok u) × (b ≡ true)
+if_can true r u h = (h, refl)
+if_can false r u h = cc
+
+pub entered_back : (t u : Recounted) (o : Option Entry) → entered t o ≡ Ok u
+    → (e : Entry) × (o ≡ Some e) × (answered t e (answer_of t.heading.setup (reverse t.entries) e.worker e.act) ≡ Ok u) × (can_spell t.heading.version e.act ≡ true)
 entered_back t u None h = cc
-entered_back t u (Some e) h = (e, refl, h)
+entered_back t u (Some e) h =
+    let k = if_can (can_spell t.heading.version e.act) (answered t e (answer_of t.heading.setup (reverse t.entries) e.worker e.act)) u h in
+    (e, refl, k.0, k.1)
 
 pub ran_back : (r : Result Recounted LineFault) (s : Stage) → ran_on r ≡ Ok s → (u : Recounted) × (r ≡ Ok u) × (s ≡ Running u)
 ran_back (Ok u) s h = (u, refl, cc)
 ran_back (Err f) s h = cc
 
--- the line spells an entry that is accepted next
+-- the line spells an entry that the version may have and that is accepted next
 record IsNext (t : Recounted) (line : List ℕ) (s : Stage) : Type 0 where
   entry : Entry
   spelled : line ≡ entry_line t.heading.words entry
+  can : can_spell t.heading.version entry.act ≡ true
   right : answer_of t.heading.setup (reverse t.entries) entry.worker entry.act ≡ Ok entry.reply
   stage : s ≡ Running (with_entry t entry)
 
@@ -172,16 +190,18 @@ next_entry t line s is h =
     record {
       entry = o.0;
       spelled = entry_spelled t.heading.words line o.0 is.apart o.1;
+      can = o.3;
       right = a.0;
       stage = r.2 ∙ ap Running a.1;
     }
 
--- these lines are those of entries that are accepted, and `end`
+-- these lines are those of entries that the version may have and that are accepted, and `end`
 pub record IsRunOf (h : Headed) (pre : List Entry) (lines : List (List ℕ)) (t : Recounted) : Type 0 where
   pub entries : List Entry
   pub lines_are : lines ≡ map (entry_line h.words) entries ++ codes "end" ∷ []
   pub ends : t ≡ record { heading = h; entries = pre ++ entries }
   pub accepted : IsAccepted h.setup (reverse (pre ++ entries))
+  pub can : EachInVersion h entries
 
 run_ends : (h : Headed) (pre : List Entry) (line : List ℕ) (lines : List (List ℕ)) (t : Recounted) → IsAccepted h.setup (reverse pre) → line ≡ codes "end" → (lines ≡ []) × (record { heading = h; entries = pre } ≡ t) → IsRunOf h pre (line ∷ lines) t
 run_ends h pre line lines t acc is rest = record {
@@ -189,14 +209,17 @@ run_ends h pre line lines t acc is rest = record {
   lines_are = cc (is, rest.0);
   ends = sym rest.1 ∙ ap (λ (xs : List Entry). record { heading = h; entries = xs }) (sym (append-nil pre));
   accepted = subst (λ (xs : List Entry). IsAccepted h.setup (reverse xs)) (sym (append-nil pre)) acc;
+  can = tt;
 }
 
-run_along : (h : Headed) (pre : List Entry) (e : Entry) (line : List ℕ) (lines : List (List ℕ)) (t : Recounted) → line ≡ entry_line h.words e → IsRunOf h (pre ++ e ∷ []) lines t → IsRunOf h pre (line ∷ lines) t
-run_along h pre e line lines t is r = record {
+run_along : (h : Headed) (pre : List Entry) (e : Entry) (line : List ℕ) (lines : List (List ℕ)) (t : Recounted) → line ≡ entry_line h.words e → can_spell h.version e.act ≡ true
+    → IsRunOf h (pre ++ e ∷ []) lines t → IsRunOf h pre (line ∷ lines) t
+run_along h pre e line lines t is can r = record {
   entries = e ∷ r.entries;
   lines_are = cc (is, r.lines_are);
   ends = r.ends ∙ ap (λ (xs : List Entry). record { heading = h; entries = xs }) (append_snoc pre e r.entries);
   accepted = subst (λ (xs : List Entry). IsAccepted h.setup (reverse xs)) (append_snoc pre e r.entries) r.accepted;
+  can = (can, r.can);
 }
 
 stage_is : {X : Type 0} (x y : X) → ◌≡◌ {A = Result X LineFault} (Ok x) (Ok y) → y ≡ x
@@ -212,6 +235,6 @@ run_back h pre (line ∷ lines) t is acc (next, taken, leads) =
       | true ↦ λ q g. run_ends h pre line lines t acc ((bytes_eq-Decides line (codes "end")).0 q) (after_end now t lines (subst (λ (s : Stage). Leads s lines (Ended t)) (stage_is (Ended now) next g) leads))
       | false ↦ λ q g.
           (let n = next_entry now line next is g in
-          run_along h pre n.entry line lines t n.spelled
+          run_along h pre n.entry line lines t n.spelled n.can
           (run_back h (pre ++ n.entry ∷ []) lines t is (subst (IsAccepted h.setup) (sym (reversed pre n.entry)) (n.right, acc)) (subst (λ (s : Stage). Leads s lines (Ended t)) n.stage leads)))
     ] refl taken

@@ -201,6 +201,10 @@ act_fine names acts.Go are h = record { each = (literal_fine (codes "go") refl r
 act_fine names (acts.Ticket q) are h = record { each = (literal_fine (codes "ticket") refl refl, (word_fine _ (named_by names (Sequencer q) are h).plain, tt)); few = omega arith }
 act_fine names (acts.Put x v) are h = record { each = (literal_fine (codes "put") refl refl, (cell_fine names x are (has_block names x h.0) h.1, (number_fine v h.2, tt))); few = omega arith }
 act_fine names (acts.Get x) are h = record { each = (literal_fine (codes "get") refl refl, (cell_fine names x are (has_block names x h.0) h.1, tt)); few = omega arith }
+act_fine names (acts.Hand e b) are h = record {
+  each = (literal_fine (codes "hand") refl refl, (word_fine _ (named_by names (Event e) are h.0).plain, (word_fine _ (named_by names (Worker b) are h.1).plain, tt)));
+  few = omega arith;
+}
 
 fine_clean : (words : List (List ℕ)) → AllByRecursion IsFine words → AllByRecursion Lacks words
 fine_clean [] h = tt

@@ -1,4 +1,5 @@
--- The entry that a line spells, by the words of the line.
+-- The entry that a line spells, by the words of the line. It is one question whether the version of the text may have it, and another one
+-- whether the history may.
 use Rattle.std.specs.Prelude.{ℕ, List, [], ◌∷◌, Option, Some, None, bytes_eq, codes, if◌then◌else◌}
 use Rattle.ec_core.specs.declared.act.Act.{Act}
 use Rattle.ec_core.specs.declared.act.Act.TheVariants as acts
@@ -14,7 +15,7 @@ abbrev pub ◌>>=◌ : {A B : Type 0} → Option A → (A → Option B) → Opti
 (Some x) >>= f = f x
 None >>= f = None
 
--- the act of one word, of a word and an object, and of a word, an object and a value
+-- the act of one word, of a word and an object, and of a word, an object and a value or a worker
 unfoldable pub act_alone : List ℕ → Option Act
 act_alone verb = if bytes_eq verb (codes "go") then Some acts.Go else None
 
@@ -28,7 +29,8 @@ act_on names verb object =
 unfoldable pub act_with : Named → List ℕ → List ℕ → List ℕ → Option Act
 act_with names verb object value =
     if bytes_eq verb (codes "await") then (event_in names object >>= λ e. number_of value >>= λ v. Some (acts.Await e v))
-    else (if bytes_eq verb (codes "put") then (cell_in_word names object >>= λ x. number_of value >>= λ v. Some (acts.Put x v)) else None)
+    else (if bytes_eq verb (codes "put") then (cell_in_word names object >>= λ x. number_of value >>= λ v. Some (acts.Put x v))
+    else (if bytes_eq verb (codes "hand") then (event_in names object >>= λ e. worker_in names value >>= λ b. Some (acts.Hand e b)) else None))
 
 unfoldable pub reply_of : List ℕ → Option Reply
 reply_of word =

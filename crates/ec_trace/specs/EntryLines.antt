@@ -1,6 +1,6 @@
 -- Which lines are entries: the spellings of those that may be written under a heading, and no others. So what a faulty line behind
 -- `run` is, with nothing of how a line is read.
-use Rattle.std.specs.Prelude.{◌≡◌, ◌≢◌, ◌↔◌, ℕ, ◌<◌, List, false, codes, reverse, Some, None, Ok, Err}
+use Rattle.std.specs.Prelude.{◌≡◌, ◌≢◌, ◌↔◌, ℕ, ◌<◌, List, true, false, codes, reverse, Some, None, Ok, Err}
 use Rattle.ec_count.specs.Tables.{Tables}
 use Rattle.ec_core.specs.declared.act.Entry.{Entry}
 use Rattle.ec_core.specs.declared.act.TheConstants.{VALUE_MAX}
@@ -10,6 +10,7 @@ use Rattle.ec_heading.specs.Headed.{Headed}
 use Rattle.ec_heading.specs.Outline.{Outline, IsOutline, headed}
 use Rattle.ec_heading.specs.Outlined.{HasOutline}
 use Rattle.ec_heading.specs.Spelling.{entry_line}
+use Rattle.ec_heading.specs.Versions.{can_spell}
 use Rattle.ec_trace.specs.declared.fault.LineFault.{LineFault}
 use Rattle.ec_trace.specs.declared.fault.LineFault.TheVariants.{Bad, Refused, WrongReply}
 use Rattle.ec_trace.specs.declared.stage.Stage.TheVariants.{Opening, Running}
@@ -18,8 +19,8 @@ use Rattle.ec_trace.specs.FirstFault.{Leads}
 use Rattle.ec_trace.specs.Recounted.{Recounted}
 use Rattle.ec_trace.specs.Step.{step}
 
--- the worker and the object that an entry names are declared, and its value and the number of its reply are at most the greatest
--- value; whether it is accepted is another matter
+-- the worker, the object and the receiver that an entry names are declared, and its value and the number of its reply are at most the
+-- greatest value; whether it is accepted is another matter, and whether the version may have it
 pub record MayBeWritten (t : Tables) (e : Entry) : Type 0 where
   pub worker : e.worker < t.workers
   pub object : names_unknown_object t e.act ≡ false
@@ -34,16 +35,24 @@ SpellsEntry h line e = MayBeWritten h.setup e × (line ≡ entry_line h.words e)
 abbrev pub SpellsNoEntry : Headed → List ℕ → Type 0
 SpellsNoEntry h line = (e : Entry) → SpellsEntry h line e → ⊥
 
--- why a line behind `run` is refused, after these entries: it is neither `end` nor the spelling of an entry, or it spells an entry that is
--- refused, or one whose right reply is another
+-- the line is the one spelling of this entry, and the version may have it
+abbrev pub SpellsInVersion : Headed → List ℕ → Entry → Type 0
+SpellsInVersion h line e = SpellsEntry h line e × (can_spell h.version e.act ≡ true)
+
+-- the line is the spelling of no entry that the version may have
+abbrev pub SpellsNoneInVersion : Headed → List ℕ → Type 0
+SpellsNoneInVersion h line = (e : Entry) → SpellsInVersion h line e → ⊥
+
+-- why a line behind `run` is refused, after these entries: it is neither `end` nor the spelling of an entry that the version may have, or
+-- it spells such an entry that is refused, or one whose right reply is another
 abbrev pub IsEntryFault : Recounted → List ℕ → LineFault → Type 0
-IsEntryFault t line Bad = (line ≢ codes "end") × SpellsNoEntry t.heading line
-IsEntryFault t line (Refused r) = (e : Entry) × SpellsEntry t.heading line e × (answer_of t.heading.setup (reverse t.entries) e.worker e.act ≡ Err r)
-IsEntryFault t line (WrongReply right) = (e : Entry) × SpellsEntry t.heading line e × (answer_of t.heading.setup (reverse t.entries) e.worker e.act ≡ Ok right) × (right ≢ e.reply)
+IsEntryFault t line Bad = (line ≢ codes "end") × SpellsNoneInVersion t.heading line
+IsEntryFault t line (Refused r) = (e : Entry) × SpellsInVersion t.heading line e × (answer_of t.heading.setup (reverse t.entries) e.worker e.act ≡ Err r)
+IsEntryFault t line (WrongReply right) = (e : Entry) × SpellsInVersion t.heading line e × (answer_of t.heading.setup (reverse t.entries) e.worker e.act ≡ Ok right) × (right ≢ e.reply)
 
 -- LAWS
 
--- a line is read as an entry exactly where it spells that entry
+-- a line is read as an entry exactly where it spells that entry, of which it is then asked whether the version may have it
 abbrev pub EntriesAreSpelled : Type 0
 EntriesAreSpelled = (o : Outline) (line : List ℕ) (e : Entry) → IsOutline o → (entry_of (headed o).words line ≡ Some e) ↔ SpellsEntry (headed o) line e
 

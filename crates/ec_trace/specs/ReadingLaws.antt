@@ -5,6 +5,7 @@ use Rattle.ec_core.specs.Acceptance.{IsAccepted}
 use Rattle.ec_heading.specs.Outline.{Outline, IsOutline, headed}
 use Rattle.ec_heading.specs.Spelling.{trace_header, trace_text}
 use Rattle.ec_heading.specs.Upgraded.{upgraded, upgraded_outline}
+use Rattle.ec_heading.specs.Versions.{CanSpellAll}
 use Rattle.ec_heading.specs.declared.version.Version.TheVariants.{Two}
 use Rattle.ec_trace.specs.Grammar.{IsTrace}
 use Rattle.ec_trace.specs.Recounted.{Recounted}
@@ -46,10 +47,10 @@ TraceHasOneMeaning = (bytes : List ℕ) (o p : Outline) (es fs : List Entry) →
 abbrev pub NoTraceBeginsAnother : Type 0
 NoTraceBeginsAnother = (bytes more : List ℕ) (o p : Outline) (es fs : List Entry) → IsTrace bytes o es → IsTrace (bytes ++ more) p fs → more ≡ []
 
--- the trace of an accepted history under a heading is read again as that heading and that history, where it is within
--- the bound
+-- the trace of an accepted history under a heading whose version can spell it is read again as that heading and that history, where it is
+-- within the bound
 abbrev pub WrittenIsReadAgain : Type 0
-WrittenIsReadAgain = (o : Outline) (entries : List Entry) → IsOutline o → IsAccepted (headed o).setup (reverse entries) → length (trace_text o entries) ≤ TRACE_MAX
+WrittenIsReadAgain = (o : Outline) (entries : List Entry) → IsOutline o → IsAccepted (headed o).setup (reverse entries) → CanSpellAll o.version entries → length (trace_text o entries) ≤ TRACE_MAX
     → outcome TRACE_MAX (trace_text o entries) ≡ Ok (record { heading = headed o; entries = entries })
 
 -- a text that is the trace of the same declarations and the same history under version 2: behind its first line it is these bytes, so it

@@ -7,7 +7,7 @@ use Rattle.ec_core.specs.declared.act.Entry.{Entry}
 use Rattle.ec_core.specs.declared.act.Refusal.{Refusal}
 use Rattle.ec_text.specs.Words.{words_of, number_of}
 use Rattle.ec_heading.specs.declared.version.Version.{Version}
-use Rattle.ec_heading.specs.Versions.{as_limit, version_of}
+use Rattle.ec_heading.specs.Versions.{as_limit, can_spell, version_of}
 use Rattle.ec_heading.specs.Headed.{Headed}
 use Rattle.ec_heading.specs.Outline.{opened}
 use Rattle.ec_heading.specs.Heading.{head_step}
@@ -61,9 +61,10 @@ abbrev pub answered : Recounted → Entry → Result Reply Refusal → Result Re
 answered t e (Err r) = Err (Refused r)
 answered t e (Ok right) = if same_reply right e.reply then Ok (record { heading = t.heading; entries = t.entries ++ e ∷ [] }) else Err (WrongReply right)
 
+-- a line that spells no entry is bad, and one whose entry the version may not have
 abbrev pub entered : Recounted → Option Entry → Result Recounted LineFault
 entered t None = Err Bad
-entered t (Some e) = answered t e (answer_of t.heading.setup (reverse t.entries) e.worker e.act)
+entered t (Some e) = if can_spell t.heading.version e.act then answered t e (answer_of t.heading.setup (reverse t.entries) e.worker e.act) else Err Bad
 
 -- one more entry, by its line
 unfoldable pub entry_step : Recounted → List ℕ → Result Recounted LineFault

@@ -39,7 +39,7 @@ fn act_on(heading: &Heading, verb: &[u8], object: &[u8]) -> Option<Act>
     None
 }
 
-/// The act of a word, an object and a value.
+/// The act of a word, an object and a value or a worker.
 #[tactic(auto, unfolding(crate::specs::Entries::act_with))]
 fn act_with(heading: &Heading, verb: &[u8], object: &[u8], value: &[u8]) -> Option<Act>
     ensures { result ≡ act_with heading.now.words verb.now object.now value.now }
@@ -49,6 +49,9 @@ fn act_with(heading: &Heading, verb: &[u8], object: &[u8], value: &[u8]) -> Opti
     }
     if verb == b"put".as_slice() {
         return Some(Act::Put(heading.cell(object)?, number(value)?));
+    }
+    if verb == b"hand".as_slice() {
+        return Some(Act::Hand(heading.event(object)?, heading.worker(value)?));
     }
     None
 }

@@ -20,8 +20,8 @@ pub enum StageFault {
 /// Why no trace was read. Lines are numbered from 1.
 #[derive(Clone, Copy, Debug, PartialEq, Eq, Error)]
 pub enum TraceFault {
-    /// This line has not the form that its place asks for, declares what can't be declared, has more
-    /// than 8192 bytes, or stands behind the last.
+    /// This line has not the form that its place asks for, which in version 1 no hand has, declares
+    /// what can't be declared, has more than 8192 bytes, or stands behind the last.
     #[error("line {0}: bad line")]
     BadLine(u64),
     /// The step of this line is refused.

@@ -211,7 +211,8 @@ fn is_valued(act: &Act) -> bool
 {
     match *act {
         Act::Await(_, _) | Act::Put(_, _) => true,
-        Act::Advance(_) | Act::Read(_) | Act::Go | Act::Ticket(_) | Act::Get(_) => false,
+        Act::Advance(_) | Act::Read(_) | Act::Go | Act::Ticket(_) | Act::Get(_) | Act::Hand(_, _) =>
+            false,
     }
 }
 

@@ -70,12 +70,14 @@ pub fn lines_lead_to_outlines()
 {}
 
 /// So a line behind `run` is told as a bad line exactly where it is neither `end` nor the spelling of
-/// an entry, as refused or as a wrong reply exactly where it spells an entry of which that holds.
+/// an entry that the version may have, as refused or as a wrong reply exactly where it spells such an
+/// entry of which that holds.
 pub fn faults_of_entries()
     ensures { FaultsOfEntries }
 {}
 
-/// What `write_trace` writes of a run under a heading is read again as the same heading and the same run, where it is within the bound.
+/// What `write_trace` writes of a run under a heading is read again as the same heading and the same run, where it is within the bound
+/// and, under version 1, the run has no hand.
 #[tactic(auto, using(crate::proofs::shared::ReadTraces::written_is_read))]
 pub fn written_is_read_again()
     ensures { WrittenIsReadAgain }

@@ -1,12 +1,24 @@
 //! A heading and a run on it.
 ghost use Rattle.std.specs.Prelude.{◌≡◌, [], IfOk};
+ghost use Rattle.ec_heading.specs.Versions.{can_spell};
 
 use crate::fault::{LineFault, StageFault};
 use crate::fronts::Fronts;
-use ec_core::{Run, StepFault};
-use ec_heading::Heading;
+use ec_core::{Act, Run, StepFault};
+use ec_heading::{Heading, Version};
 use std::alloc::{AllocError, Global};
 use std::marker::Model;
+
+/// Whether a text of this version may have the act.
+#[inline(always)]
+fn can_spell(version: Version, act: &Act) -> bool
+    ensures { result ≡ can_spell version act.now }
+{
+    match *act {
+        Act::Hand(_, _) => version.has_hand(),
+        _ => true,
+    }
+}
 
 /// A trace that was read: a heading, and a run on what it declares.
 #[derive(Drop)]
@@ -82,6 +94,9 @@ impl Traced {
         let Some(entry) = self.fronts.read(&self.heading, line) else {
             return Err(StageFault::Line(LineFault::Bad));
         };
+        if !can_spell(self.heading.version(), &entry.act) {
+            return Err(StageFault::Line(LineFault::Bad));
+        }
         match self.run.step(entry.worker, entry.act) {
             Ok(right) => {
                 if right == entry.reply {

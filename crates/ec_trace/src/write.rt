@@ -67,6 +67,12 @@ fn put_act<W: Write>(writer: &mut W, buffered: &mut Buffered, spellings: &Spelli
             put(writer, buffered, b"get ");
             put_cell(writer, buffered, spellings, cell);
         }
+        Act::Hand(event, to) => {
+            put(writer, buffered, b"hand ");
+            put(writer, buffered, spellings.event(event));
+            put_byte(writer, buffered, b' ');
+            put(writer, buffered, spellings.worker(to));
+        }
     }
 }
 
@@ -163,6 +169,7 @@ fn put_trace<W: Write>(
 }
 
 /// Writes the trace of a run under the heading whose declarations the run is on: all its entries, those of calls under way too.
+/// Version 1 has no trace of a run with a hand: what is written of one under it is no trace.
 /// A WriteFault comes only where a write failed or wrote none of its bytes. It takes no memory.
 pub fn write_trace<W: Write>(run: &Run, heading: &Heading, writer: &mut W) -> Result<(), WriteFault>
     ensures ok { (o : Outline) → IsOutline o → headed o ≡ heading.now → OnOk result (Appends (W.contents writer.old) (W.contents writer.new) (trace_text o run.now.entries)) }

@@ -1,11 +1,16 @@
--- Versions: which limits each may have, and the first lines by which texts tell them.
-use Rattle.std.proofs.Common.{◌≡◌, ◌≢◌, ℕ, ◌<◌, ◌≤◌, ◌^◌, List, cond, true, false, Some, None, refl, sym, ap, ◌∙◌, arith, nat_le}
+-- Versions: which limits and which acts each may have, and the first lines by which texts tell them.
+use Rattle.std.proofs.Common.{◌≡◌, ◌≢◌, ℕ, ◌<◌, ◌≤◌, ◌^◌, List, [], ◌∷◌, cond, true, false, Some, None, refl, sym, ap, ◌∙◌, arith, nat_le}
 use Rattle.std.specs.Prelude.{bytes_eq}
+use Rattle.std.specs.List.{AllByRecursion}
 use Rattle.std.proofs.lemmas.Bool.{and_parts, and_from, le-leb, leb-true}
+use Rattle.std.proofs.lemmas.List.Elements.{All-from_recursion}
 use Rattle.std.proofs.lemmas.Slice.Eq.{bytes_eq-Decides}
+use Rattle.ec_core.specs.declared.act.Act.{Act}
+use Rattle.ec_core.specs.declared.act.Act.TheVariants.{Hand}
+use Rattle.ec_core.specs.declared.act.Entry.{Entry}
 use Rattle.ec_heading.specs.declared.version.Version.{Version}
 use Rattle.ec_heading.specs.declared.version.Version.TheVariants.{One, Two}
-use Rattle.ec_heading.specs.Versions.{greatest_limit, is_limit, version_of}
+use Rattle.ec_heading.specs.Versions.{greatest_limit, is_limit, can_spell, CanSpellAll, version_of}
 
 -- LIMITS
 
@@ -24,6 +29,20 @@ limit_parts v n is = (let p = and_parts (nat_le 1 n) (nat_le n (greatest_limit v
 
 pub limit_from : (v : Version) (n : ℕ) → 1 ≤ n → n ≤ greatest_limit v → is_limit v n ≡ true
 limit_from v n low high = and_from (nat_le 1 n) (nat_le n (greatest_limit v)) (le-leb 1 n low) (le-leb n (greatest_limit v) high)
+
+-- ACTS
+
+two_spells : (act : Act) → can_spell Two act ≡ true
+two_spells (Hand e b) = refl
+two_spells _ = refl
+
+two_spells_each : (entries : List Entry) → AllByRecursion (λ (e : Entry). can_spell Two e.act ≡ true) entries
+two_spells_each [] = tt
+two_spells_each (e ∷ entries) = (two_spells e.act, two_spells_each entries)
+
+-- version 2 has every act
+pub two_spells_all : (entries : List Entry) → CanSpellAll Two entries
+two_spells_all entries = All-from_recursion (λ (e : Entry). can_spell Two e.act ≡ true) entries (two_spells_each entries)
 
 -- FIRST LINES
 

@@ -2,7 +2,7 @@
 use Rattle.std.proofs.Common.{◌≡◌, ℕ, Bool, true, false, ◌==◌, ◌&&◌, not, List, [], ◌∷◌, ◌++◌, Option, Some, None, is_some, cond, if◌then◌else◌, refl, sym, ◌∙◌, ap, subst, eqb-true, eq-eqb}
 use Rattle.ec_count.specs.Tables.{Tables}
 use Rattle.ec_core.specs.declared.act.Act.{Act}
-use Rattle.ec_core.specs.declared.act.Act.TheVariants.{Advance, Read, Await, Go, Ticket, Put, Get}
+use Rattle.ec_core.specs.declared.act.Act.TheVariants.{Advance, Read, Await, Go, Ticket, Put, Get, Hand}
 use Rattle.ec_core.specs.declared.act.Entry.{Entry}
 use Rattle.ec_core.specs.declared.act.Reply.{Reply}
 use Rattle.ec_core.specs.Acceptance.{IsAccepted}
@@ -22,6 +22,7 @@ begun_opened (Await e v) o = refl
 begun_opened (Ticket q) o = refl
 begun_opened (Put x v) o = refl
 begun_opened (Get x) o = refl
+begun_opened (Hand e b) o = refl
 
 gone_opened : (act : Act) (past : List Entry) (o : Option CallSoFar) → (not (is_some o) && is_go act) ≡ false → op_of (gone_on act past o) ≡ Some (opened act o)
 gone_opened Go past None going = cc
@@ -32,6 +33,7 @@ gone_opened (Await e v) past o going = refl
 gone_opened (Ticket q) past o going = refl
 gone_opened (Put x v) past o going = refl
 gone_opened (Get x) past o going = refl
+gone_opened (Hand e b) past o going = refl
 
 cut_finished : (b : Bool) (mine theirs : List Told) (op other : Act) (reply : Reply) → mine ≡ theirs → op ≡ other
     → (if b then mine else mine ++ record { op = op; reply = reply } ∷ []) ≡ (if not b then theirs ++ record { op = other; reply = reply } ∷ [] else theirs)

@@ -3,7 +3,7 @@ use Rattle.std.proofs.Common.{◌≡◌, ℕ, Bool, true, false, not, ◌&&◌, 
 use Rattle.std.proofs.lemmas.Bool.{eqb-true, eq-eqb, ne_eqb, and_parts, and_from, or_parts}
 use Rattle.ec_count.specs.Tables.{Tables, IsDeclared}
 use Rattle.ec_core.specs.declared.act.Act.{Act}
-use Rattle.ec_core.specs.declared.act.Act.TheVariants.{Advance, Read, Await, Go, Ticket, Put, Get}
+use Rattle.ec_core.specs.declared.act.Act.TheVariants.{Advance, Read, Await, Go, Ticket, Put, Get, Hand}
 use Rattle.ec_core.specs.declared.act.Reply.TheVariants.{Done, Number}
 use Rattle.ec_core.specs.declared.act.Entry.{Entry}
 use Rattle.ec_core.specs.Counts.{issued}
@@ -32,6 +32,7 @@ right_off r b (Await e v) h = rw h refl
 right_off r b (Ticket q) h = rw h refl
 right_off r b (Put x v) h = rw h refl
 right_off r b (Get x) h = rw h refl
+right_off r b (Hand e c) h = rw h refl
 
 or_true : (b : Bool) → (b || true) ≡ true
 or_true true = refl
@@ -48,6 +49,7 @@ right_fit r b (Await e v) h = fits_or _ _ h
 right_fit r b (Ticket q) h = fits_or _ _ h
 right_fit r b (Put x v) h = fits_or _ _ h
 right_fit r b (Get x) h = fits_or _ _ h
+right_fit r b (Hand e c) h = fits_or _ _ h
 
 -- an entry is right where the call that it is part of does not concern the list, or is next in it
 entry_right : (r : Rule) (b : List Told) (t : Tables) (act op : Act) → (act ≡ op) ⊎ (IsReading t op × (act ≡ Go)) → (r.concerns b op ≡ false) ⊎ (r.fits b op ≡ true) → is_right r b act ≡ true

@@ -1,7 +1,7 @@
 -- The audit of a semaphore may leave out the entries whose calls are not on it.
 use Rattle.std.proofs.Common.{◌≡◌, ℕ, ◌+◌, ◌&&◌, false, not, List, ◌∷◌, Option, refl, ap, sym, ◌∙◌, arith, cond}
 use Rattle.ec_core.specs.declared.act.Act.{Act}
-use Rattle.ec_core.specs.declared.act.Act.TheVariants.{Advance, Read, Await, Go, Ticket, Put, Get}
+use Rattle.ec_core.specs.declared.act.Act.TheVariants.{Advance, Read, Await, Go, Ticket, Put, Get, Hand}
 use Rattle.ec_core.specs.declared.act.Entry.{Entry}
 use Rattle.ec_core.specs.Counts.{total, is_advance}
 use Rattle.ec_core.specs.Calls.{CallSoFar, under_way, is_pending}
@@ -22,6 +22,7 @@ no_await s Go h = refl
 no_await s (Ticket q) h = refl
 no_await s (Put y v) h = refl
 no_await s (Get y) h = refl
+no_await s (Hand e b) h = refl
 
 no_advance : (s : Semaphore) (act : Act) (o : Option CallSoFar) → is_on s (opened act o) ≡ false → is_advance s.count act ≡ false
 no_advance s (Advance e) o h = h
@@ -31,6 +32,7 @@ no_advance s Go o h = refl
 no_advance s (Ticket q) o h = refl
 no_advance s (Put y v) o h = refl
 no_advance s (Get y) o h = refl
+no_advance s (Hand e b) o h = refl
 
 downs_off : (s : Semaphore) (x : Entry) (past : List Entry) → is_on s (op_at x past) ≡ false → downs s (x ∷ past) ≡ downs s past
 unfolding downs

@@ -1,9 +1,10 @@
 -- A trace is read as what it spells, and nothing else is read.
-use Rattle.std.proofs.Common.{◌≡◌, ℕ, ◌<◌, ◌≤◌, ◌^◌, List, [], ◌∷◌, ◌++◌, length, cond, true, false, eqb, Option, Some, None, Result, Ok, Err, map, refl, sym, ap, ap₂, subst, ◌∙◌, arith, codes, decimal, append_assoc, reverse, nat_le, nat_lt, leb, ◌&&◌}
+use Rattle.std.proofs.Common.{◌≡◌, ℕ, ◌<◌, ◌≤◌, ◌^◌, List, [], ◌∷◌, ◌++◌, length, cond, true, false, eqb, Option, Some, None, Result, Ok, Err, map, refl, sym, ap, ap₂, subst, ◌∙◌, arith, codes, decimal, append_assoc, reverse, nat_lt, leb, ◌&&◌}
 use Rattle.std.specs.Prelude.{bytes_eq, not, IfSome, IfOk, IfErr}
 use Rattle.std.specs.Option.{option_and_then}
 use Rattle.std.specs.List.{AllByRecursion, join_with_byte, list_all}
-use Rattle.std.proofs.lemmas.Bool.{false_from_ne_true, and_parts, and_from, and_left, lt-ltb, le-leb, ltb-true, leb-true}
+use Rattle.std.proofs.lemmas.Bool.{false_from_ne_true, and_parts, and_left, lt-ltb, ltb-true, leb-true}
+use Rattle.std.proofs.lemmas.List.Elements.{All-from_recursion, recursion_from_All}
 use Rattle.std.proofs.lemmas.Slice.Eq.{bytes_eq-Decides}
 use Rattle.ec_core.specs.Acceptance.{IsAccepted}
 use Rattle.ec_core.specs.declared.act.Entry.{Entry}
@@ -13,7 +14,7 @@ use Rattle.ec_text.proofs.shared.NumberLemmas.{number_again, number_takes, guard
 use Rattle.ec_heading.specs.declared.version.Version.{Version}
 use Rattle.ec_heading.specs.declared.version.Version.TheVariants.{One, Two}
 use Rattle.ec_heading.specs.Versions.{greatest_limit}
-use Rattle.ec_heading.specs.Versions.{is_limit, as_limit, version_of}
+use Rattle.ec_heading.specs.Versions.{is_limit, as_limit, can_spell, CanSpellAll, version_of}
 use Rattle.ec_heading.specs.Headed.{Headed}
 use Rattle.ec_heading.specs.Outline.{Outline, IsOutline, opened, headed}
 use Rattle.ec_heading.specs.Form.{parts_in}
@@ -22,7 +23,6 @@ use Rattle.ec_heading.specs.HeadingLaws.{LinesLead, Outlines, outline_lines}
 use Rattle.ec_heading.specs.declared.heading.HeadFault.{HeadFault}
 use Rattle.ec_heading.specs.declared.heading.HeadFault.TheVariants as head_faults
 use Rattle.ec_trace.specs.declared.fault.LineFault.{LineFault}
-use Rattle.ec_trace.specs.declared.fault.LineFault.TheVariants.{Bad}
 use Rattle.ec_trace.specs.declared.stage.Stage.{Stage}
 use Rattle.ec_trace.specs.declared.stage.Stage.TheVariants.{Opening, Limiting, Declaring, Running, Ended}
 use Rattle.ec_trace.specs.declared.fault.TraceFault.{TraceFault}
@@ -37,7 +37,7 @@ use Rattle.ec_trace.specs.ReadingLaws.{TraceIsRead, IsTraceOf, IsNoTrace, Refuse
 use Rattle.ec_trace.specs.declared.read.TheConstants.{TRACE_MAX}
 use Rattle.ec_heading.proofs.shared.Declarable.{Heads, heads_opened, heads_all}
 use Rattle.ec_heading.specs.Recalled.{outline_of}
-use Rattle.ec_heading.proofs.shared.OutlineFound.{outline_found}
+use Rattle.ec_heading.proofs.shared.OutlineFound.{outline_found, version_found}
 use Rattle.ec_heading.proofs.shared.LeadLines.{outline_leads, leads_outline}
 use Rattle.ec_trace.specs.FirstFault.{IsLine, Leads}
 use Rattle.ec_trace.proofs.Leads.{leads_append, IsText, text_read, no_front, one_meaning, text_back}
@@ -45,7 +45,7 @@ use Rattle.ec_heading.proofs.shared.Each.{each_append}
 use Rattle.ec_trace.proofs.TraceLines.{line_is, literal_lacks, heading_lines_are, limit_line_is}
 use Rattle.ec_heading.proofs.shared.ReadHeadings.{IsSound, sound}
 use Rattle.ec_trace.proofs.ReadEntries.{number_word}
-use Rattle.ec_trace.proofs.ReadRuns.{entries_lead, entries_are_lines, end_leads, IsRunOf, run_back}
+use Rattle.ec_trace.proofs.ReadRuns.{EachInVersion, entries_lead, entries_are_lines, end_leads, IsRunOf, run_back}
 
 -- THE LINE OF THE LIMIT
 
@@ -182,17 +182,24 @@ recount o es = record { heading = headed o; entries = es }
 abbrev behind : Outline → List Entry → List (List ℕ)
 behind o es = (outline_lines o ++ codes "run" ∷ map (entry_line (headed o).words) es) ++ codes "end" ∷ []
 
-behind_leads : (o : Outline) (es : List Entry) → IsOutline o → IsAccepted (headed o).setup (reverse es) → Leads (Declaring (opened o.version o.limit [])) (behind o es) (Ended (recount o es))
-behind_leads o es is acc =
+-- what the version of an outline may have, that of its heading may have
+each_in_version : (o : Outline) (es : List Entry) → CanSpellAll o.version es → EachInVersion (headed o) es
+each_in_version o es can = subst (λ (v : Version). AllByRecursion (λ (e : Entry). can_spell v e.act ≡ true) es) (sym (version_found o)) (recursion_from_All (λ (e : Entry). can_spell o.version e.act ≡ true) es can)
+
+all_in_version : (o : Outline) (es : List Entry) → EachInVersion (headed o) es → CanSpellAll o.version es
+all_in_version o es can = All-from_recursion (λ (e : Entry). can_spell o.version e.act ≡ true) es (subst (λ (v : Version). AllByRecursion (λ (e : Entry). can_spell v e.act ≡ true) es) (version_found o) can)
+
+behind_leads : (o : Outline) (es : List Entry) → IsOutline o → CanSpellAll o.version es → IsAccepted (headed o).setup (reverse es) → Leads (Declaring (opened o.version o.limit [])) (behind o es) (Ended (recount o es))
+behind_leads o es is can acc =
     leads_append (Declaring (opened o.version o.limit [])) (Running (recount o es)) (Ended (recount o es)) (outline_lines o ++ codes "run" ∷ map (entry_line (headed o).words) es) (codes "end" ∷ [])
     (leads_append (Declaring (opened o.version o.limit [])) (Declaring (headed o)) (Running (recount o es)) (outline_lines o) (codes "run" ∷ map (entry_line (headed o).words) es)
     (heading_leads (opened o.version o.limit []) (headed o) (outline_lines o) (outline_leads o is))
-    (Running (recount o []), run_leads (headed o) (has_workers o is), entries_lead (headed o) [] es (sound o is) acc))
+    (Running (recount o []), run_leads (headed o) (has_workers o is), entries_lead (headed o) [] es (sound o is) (each_in_version o es can) acc))
     (end_leads (recount o es))
 
-all_lead : (o : Outline) (es : List Entry) → IsOutline o → IsAccepted (headed o).setup (reverse es) → Leads Opening (trace_lines o es) (Ended (recount o es))
-all_lead o es is acc =
-    (Limiting o.version, first_line_leads o.version, (Declaring (opened o.version o.limit []), limit_leads o.version o.limit is.low is.high, behind_leads o es is acc))
+all_lead : (o : Outline) (es : List Entry) → IsOutline o → CanSpellAll o.version es → IsAccepted (headed o).setup (reverse es) → Leads Opening (trace_lines o es) (Ended (recount o es))
+all_lead o es is can acc =
+    (Limiting o.version, first_line_leads o.version, (Declaring (opened o.version o.limit []), limit_leads o.version o.limit is.low is.high, behind_leads o es is can acc))
 
 literal_is : (line : List ℕ) → list_all (λ b. not (eqb b 10)) line ≡ true → leb (length line) 8192 ≡ true → IsLine line
 literal_is line clean short = line_is line (literal_lacks line clean) (leb-true _ _ short)
@@ -216,7 +223,7 @@ all_lines o es is acc = (
 
 is_text : (bytes : List ℕ) (o : Outline) (es : List Entry) → IsTrace bytes o es → IsText bytes (trace_lines o es) (recount o es)
 unfolding trace_text
-is_text bytes o es h = record { spelled = h.text; each = all_lines o es h.heading h.accepted; leads = all_lead o es h.heading h.accepted }
+is_text bytes o es h = record { spelled = h.text; each = all_lines o es h.heading h.accepted; leads = all_lead o es h.heading h.spelled h.accepted }
 
 pub trace_is_read : TraceIsRead
 trace_is_read bytes o es h = text_read TRACE_MAX bytes (trace_lines o es) (recount o es) h.within (is_text bytes o es h)
@@ -238,6 +245,7 @@ record AreOf (lines : List (List ℕ)) (t : Recounted) : Type 0 where
   is : IsOutline outline
   declares : headed outline ≡ t.heading
   accepted : IsAccepted (headed outline).setup (reverse t.entries)
+  can : CanSpellAll outline.version t.entries
   lines_are : lines ≡ trace_lines outline t.entries
 
 -- the heading of such lines has an outline
@@ -260,6 +268,7 @@ put_together v n head rest end t o r =
       is = o.is;
       declares = sym o.end_is ∙ sym heading;
       accepted = subst (λ (es : List Entry). IsAccepted (headed o.outline).setup (reverse es)) (sym entries) (subst (λ (h : Headed). IsAccepted h.setup (reverse r.entries)) o.end_is r.accepted);
+      can = subst (CanSpellAll o.outline.version) (sym entries) (all_in_version o.outline r.entries (subst (λ (h : Headed). EachInVersion h r.entries) o.end_is r.can));
       lines_are =
           ap (λ (w : Version). trace_header w ∷ limit_line n ∷ (head ++ codes "run" ∷ rest)) (sym o.version_is)
           ∙ ap₂ (λ (m : ℕ) (ls : List (List ℕ)). trace_header o.outline.version ∷ limit_line m ∷ ls) (sym o.limit_is) body;
@@ -305,7 +314,7 @@ read_is_trace bytes t e =
     let r = text_back TRACE_MAX bytes t e in
     let a = opening_back r.0.lines t r.0.leads in record {
       outline = a.outline;
-      trace = record { heading = a.is; accepted = a.accepted; text = r.0.spelled ∙ ap text_of a.lines_are; within = r.1 };
+      trace = record { heading = a.is; accepted = a.accepted; spelled = a.can; text = r.0.spelled ∙ ap text_of a.lines_are; within = r.1 };
       declares = a.declares;
     }
 
@@ -330,7 +339,7 @@ told_fault (Some bytes) left (Ok t) h = tt
 told_fault (Some bytes) left (Err f) h = fault_refuses bytes left f h
 
 -- what is written is read again
-pub written_is_read : (o : Outline) (entries : List Entry) → IsOutline o → IsAccepted (headed o).setup (reverse entries) → length (trace_text o entries) ≤ TRACE_MAX
+pub written_is_read : (o : Outline) (entries : List Entry) → IsOutline o → IsAccepted (headed o).setup (reverse entries) → CanSpellAll o.version entries → length (trace_text o entries) ≤ TRACE_MAX
     → outcome TRACE_MAX (trace_text o entries) ≡ Ok (record { heading = headed o; entries = entries })
-written_is_read o entries outline accepted within =
-    trace_is_read (trace_text o entries) o entries (record { heading = outline; accepted = accepted; text = refl; within = within })
+written_is_read o entries outline accepted can within =
+    trace_is_read (trace_text o entries) o entries (record { heading = outline; accepted = accepted; spelled = can; text = refl; within = within })

@@ -1,18 +1,17 @@
 -- A trace that is upgraded is as long as it was, and is read as the same history under version 2.
-use Rattle.std.proofs.Common.{◌≡◌, ℕ, ◌+◌, ◌≤◌, List, [], ◌∷◌, ◌++◌, length, length-append, Ok, map, refl, sym, ap, subst, ◌∙◌, arith, append_assoc, codes, reverse}
+use Rattle.std.proofs.Common.{◌≡◌, ℕ, List, [], ◌∷◌, ◌++◌, length, length-append, Ok, map, refl, sym, ap, subst, ◌∙◌, arith, append_assoc, codes, reverse}
 use Rattle.ec_core.specs.Acceptance.{IsAccepted}
 use Rattle.ec_core.specs.declared.act.Entry.{Entry}
 use Rattle.ec_heading.specs.declared.version.Version.{Version}
 use Rattle.ec_heading.specs.declared.version.Version.TheVariants.{One, Two}
 use Rattle.ec_heading.specs.Headed.{Headed}
-use Rattle.ec_heading.specs.Outline.{Outline, IsOutline, headed}
-use Rattle.ec_heading.specs.Upgraded.{upgraded, upgraded_outline}
+use Rattle.ec_heading.specs.Outline.{Outline, headed}
+use Rattle.ec_heading.specs.Upgraded.{upgraded_outline}
 use Rattle.ec_heading.specs.Spelling.{heading_lines, trace_header, entry_line, trace_lines, trace_text, text_of}
 use Rattle.ec_heading.proofs.shared.Upgrades.{upgraded_headed, upgraded_is}
+use Rattle.ec_heading.proofs.shared.VersionFacts.{two_spells_all}
 use Rattle.ec_trace.specs.Grammar.{IsTrace}
-use Rattle.ec_trace.specs.Outcome.{outcome}
-use Rattle.ec_trace.specs.ReadingLaws.{UpgradesTo, TracesAreUpgraded}
-use Rattle.ec_trace.specs.declared.read.TheConstants.{TRACE_MAX}
+use Rattle.ec_trace.specs.ReadingLaws.{TracesAreUpgraded}
 use Rattle.ec_trace.proofs.shared.ReadTraces.{trace_is_read}
 
 -- the lines behind the first
@@ -58,6 +57,7 @@ traces_are_upgraded bytes o es is =
     let trace : IsTrace (trace_text (upgraded_outline o) es) (upgraded_outline o) es = record {
       heading = upgraded_is o is.heading;
       accepted = subst (λ (h : Headed). IsAccepted h.setup (reverse es)) (sym (upgraded_headed o)) is.accepted;
+      spelled = two_spells_all es;
       text = refl;
       within = omega (arith, long, is.within);
     } in
