@@ -8,7 +8,7 @@ use Rattle.ec_count.specs.Tables.{Tables}
 use Rattle.ec_count.specs.declared.setup.Rights.{Rights}
 use Rattle.ec_count.specs.declared.setup.Access.{Access}
 use Rattle.ec_core.specs.declared.act.Act.{Act}
-use Rattle.ec_core.specs.declared.act.Act.TheVariants.{Advance, Read, Await, Go, Ticket, Put, Get}
+use Rattle.ec_core.specs.declared.act.Act.TheVariants.{Advance, Read, Await, Go, Ticket, Put, Get, Hand}
 use Rattle.ec_heading.specs.declared.group.Group.{Group}
 use Rattle.ec_heading.specs.declared.sort.Sort.{Sort}
 use Rattle.ec_heading.specs.declared.sort.Sort.TheVariants as sorts
@@ -29,6 +29,7 @@ IsOf t Go = Unit {0}
 IsOf t (Ticket q) = q < length t.takers
 IsOf t (Put x v) = x < length t.cells
 IsOf t (Get x) = x < length t.cells
+IsOf t (Hand e b) = e < length t.events
 
 record Grow (t u : Tables) : Type 0 where
   events : length t.events ≤ length u.events
@@ -43,6 +44,7 @@ stays t u Go grow of = tt
 stays t u (Ticket q) grow of = omega (arith, grow.takers, of)
 stays t u (Put x v) grow of = omega (arith, grow.cells, of)
 stays t u (Get x) grow of = omega (arith, grow.cells, of)
+stays t u (Hand e b) grow of = omega (arith, grow.events, of)
 
 tables_grow : (s : Sort) (t : Tables) (n : ℕ) (first second : List ℕ) → Grow t (with_objects s t n first second)
 tables_grow sorts.EventCount t n first second = record { events = omega (arith, length-append {A = Rights}); takers = omega arith; cells = omega arith }
@@ -107,6 +109,7 @@ new_act t u g Go new on = cc
 new_act t u g (Ticket q) new on = let k = new.lines q on in ((λ of. absurd (omega (arith, k.0, of))), k.1)
 new_act t u g (Put x v) new on = let k = new.cells x on in ((λ of. absurd (omega (arith, k.0, of))), k.1)
 new_act t u g (Get x) new on = let k = new.cells x on in ((λ of. absurd (omega (arith, k.0, of))), k.1)
+new_act t u g (Hand e b) new on = let k = new.counts e on in ((λ of. absurd (omega (arith, k.0, of))), k.1)
 
 -- ALL GROUPS
 

@@ -17,7 +17,7 @@ use Rattle.ec_semaphore.specs.Both.{is_line, down_both_call}
 use Rattle.ec_machine.specs.declared.command.Command.{Command, Produce, Consume, WriteAll, Snapshot, Down, Up, DownBoth}
 use Rattle.ec_machine.specs.declared.command.Command.TheOpen.{Command-F}
 use Rattle.ec_machine.specs.declared.command.Command.TheOpen as layer
-use Rattle.ec_machine.specs.declared.command.Command.TheVariants.{rolls-Advance, rolls-Read, rolls-Await, rolls-Ticket, rolls-Put, rolls-Get, rolls-Produce, rolls-Consume, rolls-WriteAll, rolls-Snapshot, rolls-Down, rolls-Up, rolls-DownBoth, rolls-Repeat}
+use Rattle.ec_machine.specs.declared.command.Command.TheVariants.{rolls-Advance, rolls-Read, rolls-Await, rolls-Ticket, rolls-Put, rolls-Get, rolls-Hand, rolls-Produce, rolls-Consume, rolls-WriteAll, rolls-Snapshot, rolls-Down, rolls-Up, rolls-DownBoth, rolls-Repeat}
 use Rattle.ec_machine.specs.declared.command.Command.TheViews.{roll-Command, out-Command, roll-out-Command}
 use Rattle.ec_machine.specs.Values.{value_of, values_of}
 use Rattle.ec_machine.specs.Runs.{one_call, command_call}
@@ -177,6 +177,8 @@ rolled_uses t gs g are has (layer.Put x v) uses =
     subst (UsesGroup gs g) (sym (rolls-Put x v)) (inr (λ last calls op is. raw_apart gs g (acts.Put x (value_of last v)) calls op has uses is))
 rolled_uses t gs g are has (layer.Get x) uses =
     subst (UsesGroup gs g) (sym (rolls-Get x)) (inr (λ last calls op is. raw_apart gs g (acts.Get x) calls op has uses is))
+rolled_uses t gs g are has (layer.Hand e b) uses =
+    subst (UsesGroup gs g) (sym (rolls-Hand e b)) (inr (λ last calls op is. raw_apart gs g (acts.Hand e b) calls op has uses is))
 rolled_uses t gs g are has (layer.Produce b v) uses =
     subst (UsesGroup gs g) (sym (rolls-Produce b v))
     (procedure_uses t gs (groups.Buffer b) g (Produce b v) are uses has refl

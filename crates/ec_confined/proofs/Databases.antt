@@ -4,7 +4,7 @@ use Rattle.std.specs.Option.{option_map_or}
 use Rattle.std.proofs.lemmas.Bool.{eq-eqb, and_from, le-leb, lt-ltb, ltb-true}
 use Rattle.ec_count.specs.declared.setup.Rights.{Rights}
 use Rattle.ec_count.specs.Members.{is_member, place_of}
-use Rattle.ec_count.specs.Tables.{Tables, may_observe}
+use Rattle.ec_count.specs.Tables.{Tables, may_observe, may_hand}
 use Rattle.ec_core.specs.declared.act.Act.{Act}
 use Rattle.ec_core.specs.declared.act.Act.TheVariants.{Advance, Read, Await, Ticket, Put, Get}
 use Rattle.ec_core.specs.CallLists.{unvalued, number_of}
@@ -166,17 +166,23 @@ writer t d w write read declares = ap (λ (o : Option Rights). is_some (place_of
 reader : (t : Tables) (d : Database) (w : ℕ) (write read : List ℕ) → DeclaresDatabase d t write read → may_observe t d.start w ≡ is_member w read
 reader t d w write read declares = ap (λ (o : Option Rights). option_map_or (λ (r : Rights). is_member w r.observe) o false) declares.start
 
+-- who signals its eventcounts is told by the tables
+start_fixed : (t : Tables) (d : Database) → Fits d t → may_hand t d.start ≡ false
+start_fixed t d fits = ap (λ (o : Option Rights). option_map_or (λ (r : Rights). not r.fixed) o false) fits.2.start
+
 two_roles : (t : Tables) (d : Database) (w : ℕ) (write read : List ℕ) → DeclaresDatabase d t write read → writes t d w ≡ true → may_observe t d.start w ≡ true → ⊥
 two_roles t d w write read declares writes_it reads_it =
     one_role w write read declares.apart (placed_is_member w write (sym (writer t d w write read declares) ∙ writes_it)) (sym (reader t d w write read declares) ∙ reads_it)
 
-write_suits : (t : Tables) (d : Database) (w : ℕ) (values : List ℕ) → Suits (IsGranted t w) (database_rules t d w) (write_call d values)
-write_suits t d w values =
+write_suits : (t : Tables) (d : Database) (w : ℕ) (values : List ℕ) → Fits d t → Suits (IsGranted t w) (database_rules t d w) (write_call d values)
+write_suits t d w values fits =
     elim (writes t d w) as (λ p. writes t d w ≡ p → Suits (IsGranted t w) (if p then write_rule d else try_rule d) (write_call d values)) [
       | true ↦ λ puts. suits_free (IsGranted t w) (is_on d) (write_call d []) (write_call d values) (write_free d values) (write_on d values)
       | false ↦ λ no. blocked (IsGranted t w) (try_rule d) (write_call d values)
           (λ op is granted.
-          (let signals : writes t d w ≡ true = (let same : op ≡ Advance d.start = cc in subst (IsGranted t w) same granted) in
+          (let same : op ≡ Advance d.start = cc in
+          let advances : IsGranted t w (Advance d.start) = subst (IsGranted t w) same granted in
+          let signals : writes t d w ≡ true = advances (start_fixed t d fits) in
           let clash : false ≡ true = sym no ∙ signals in
           cc))
     ] refl
@@ -192,7 +198,7 @@ snapshot_suits t d w tries fits =
 -- EACH COMMAND
 
 own_suits : (t : Tables) (d : Database) (w last : ℕ) (c : Command) → Fits d t → IsOfDatabase d c → Suits (IsGranted t w) (database_rules t d w) (command_call last c)
-own_suits t d w last (WriteAll e vs) fits is = subst (λ u. Suits (IsGranted t w) (database_rules t d w) (write_call u (values_of last vs.items))) (sym is) (write_suits t d w (values_of last vs.items))
+own_suits t d w last (WriteAll e vs) fits is = subst (λ u. Suits (IsGranted t w) (database_rules t d w) (write_call u (values_of last vs.items))) (sym is) (write_suits t d w (values_of last vs.items) fits)
 own_suits t d w last (Snapshot e tries) fits is = subst (λ u. Suits (IsGranted t w) (database_rules t d w) (snapshot_call u tries)) (sym is) (snapshot_suits t d w tries fits)
 own_suits t d w last c fits is = absurd is
 

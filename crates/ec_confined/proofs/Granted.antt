@@ -1,28 +1,29 @@
 -- What a worker does in an accepted history it may do: it has the right to begin each of its calls.
 use Rattle.std.proofs.Common.{◌≡◌, ℕ, Bool, true, false, not, ◌&&◌, ◌==◌, List, [], ◌∷◌, Option, Some, None, is_some, refl, ap, sym, ◌∙◌, subst}
 use Rattle.std.proofs.lemmas.Bool.{eqb-true}
-use Rattle.ec_count.specs.Tables.{Tables, component_of, may_observe, may_take, may_write, may_read}
+use Rattle.ec_count.specs.Tables.{Tables, component_of, may_observe, may_take, may_write, may_read, may_hand}
 use Rattle.ec_count.specs.Members.{place_of}
 use Rattle.ec_core.specs.declared.act.Act.{Act}
-use Rattle.ec_core.specs.declared.act.Act.TheVariants.{Advance, Read, Await, Go, Ticket, Put, Get}
+use Rattle.ec_core.specs.declared.act.Act.TheVariants.{Advance, Read, Await, Go, Ticket, Put, Get, Hand}
 use Rattle.ec_core.specs.declared.act.Entry.{Entry}
 use Rattle.ec_core.specs.Acceptance.{has_right, IsAccepted}
 use Rattle.ec_core.specs.Calls.{CallSoFar, is_go, is_pending, gone_on, under_way}
 use Rattle.ec_core.specs.Following.{opened}
 use Rattle.ec_core.specs.JoinedLists.{finished_by}
 use Rattle.ec_core.proofs.shared.Answering.{allowed}
-use Rattle.ec_core.proofs.shared.Signalling.{as_declared}
+use Rattle.ec_core.proofs.shared.Handing.{as_declared}
 use Rattle.ec_confined.proofs.Suiting.{AreAllowed, allowed_more}
 
--- the tables give w the right that the act needs
+-- the tables give w the right that the act needs; who signals an eventcount that may be handed over, they don't tell
 abbrev pub IsGranted : Tables → ℕ → Act → Type 0
-IsGranted t w (Advance e) = is_some (component_of t e w) ≡ true
+IsGranted t w (Advance e) = may_hand t e ≡ false → is_some (component_of t e w) ≡ true
 IsGranted t w (Read e) = may_observe t e w ≡ true
 IsGranted t w (Await e v) = may_observe t e w ≡ true
 IsGranted t w Go = Unit {0}
 IsGranted t w (Ticket q) = may_take t q w ≡ true
 IsGranted t w (Put x v) = may_write t x w ≡ true
 IsGranted t w (Get x) = may_read t x w ≡ true
+IsGranted t w (Hand e b) = Unit {0}
 
 abbrev pub IsGrantedCall : Tables → ℕ → Option CallSoFar → Type 0
 IsGrantedCall t w None = Unit {0}
@@ -32,16 +33,17 @@ of_not : (b : Bool) → not b ≡ false → b ≡ true
 of_not true is = refl
 of_not false is = cc
 
-granted_op : (t : Tables) (past : List Entry) (w : ℕ) (act : Act) (o : Option CallSoFar) → has_right t past w act ≡ true → (not (is_some o) && is_go act) ≡ false → IsGrantedCall t w o
+granted_op : (t : Tables) (past : List Entry) (w : ℕ) (act : Act) (o : Option CallSoFar) → IsAccepted t past → has_right t past w act ≡ true → (not (is_some o) && is_go act) ≡ false → IsGrantedCall t w o
     → IsGranted t w (opened act o)
-granted_op t past w Go None right going call = cc
-granted_op t past w Go (Some k) right going call = call
-granted_op t past w (Advance e) o right going call = ap (λ ws. is_some (place_of w ws)) (sym (as_declared t e past)) ∙ right
-granted_op t past w (Read e) o right going call = right
-granted_op t past w (Await e v) o right going call = right
-granted_op t past w (Ticket q) o right going call = right
-granted_op t past w (Put x v) o right going call = right
-granted_op t past w (Get x) o right going call = right
+granted_op t past w Go None acc right going call = cc
+granted_op t past w Go (Some k) acc right going call = call
+granted_op t past w (Advance e) o acc right going call = λ fixed. ap (λ ws. is_some (place_of w ws)) (sym (as_declared t e past acc fixed)) ∙ right
+granted_op t past w (Read e) o acc right going call = right
+granted_op t past w (Await e v) o acc right going call = right
+granted_op t past w (Ticket q) o acc right going call = right
+granted_op t past w (Put x v) o acc right going call = right
+granted_op t past w (Get x) o acc right going call = right
+granted_op t past w (Hand e b) o acc right going call = tt
 
 granted_going : (t : Tables) (past : List Entry) (w : ℕ) (act : Act) (o : Option CallSoFar) → IsGranted t w (opened act o) → IsGrantedCall t w (gone_on act past o)
 granted_going t past w Go None op = tt
@@ -52,6 +54,7 @@ granted_going t past w (Await e v) o op = op
 granted_going t past w (Ticket q) o op = op
 granted_going t past w (Put x v) o op = op
 granted_going t past w (Get x) o op = op
+granted_going t past w (Hand e b) o op = op
 
 -- the finished calls of w, and the one that is under way
 abbrev pub AreGranted : Tables → ℕ → List Entry → Type 0
@@ -80,6 +83,6 @@ granted t w (x ∷ past) acc =
           let by : x.worker ≡ w = eqb-true x.worker w mine in
           let right : has_right t past w x.act ≡ true = subst (λ v. has_right t past v x.act ≡ true) by (of_not (has_right t past x.worker x.act) k.right) in
           let going : (not (is_some (under_way w past)) && is_go x.act) ≡ false = subst (λ v. (not (is_some (under_way v past)) && is_go x.act) ≡ false) by k.going in
-          granted_if (is_pending x.reply) t w x past refl mine (granted_op t past w x.act (under_way w past) right going before.1) before)
+          granted_if (is_pending x.reply) t w x past refl mine (granted_op t past w x.act (under_way w past) acc.1 right going before.1) before)
       | false ↦ λ other. granted_other t w x past other (granted t w past acc.1)
     ] refl

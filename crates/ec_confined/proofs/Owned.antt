@@ -3,7 +3,7 @@ use Rattle.std.proofs.Common.{◌≡◌, ◌⊎◌, inl, inr, ℕ, zero, suc, �
 use Rattle.std.specs.List.{Contains, list_any}
 use Rattle.std.proofs.lemmas.Bool.{eq-eqb, or_parts}
 use Rattle.ec_core.specs.declared.act.Act.{Act}
-use Rattle.ec_core.specs.declared.act.Act.TheVariants.{Advance, Read, Await, Go, Ticket, Put, Get}
+use Rattle.ec_core.specs.declared.act.Act.TheVariants.{Advance, Read, Await, Go, Ticket, Put, Get, Hand}
 use Rattle.ec_buffer.specs.Shapes.{Buffer}
 use Rattle.ec_buffer.specs.Follows as buffers
 use Rattle.ec_database.specs.Shapes.{Database}
@@ -45,6 +45,7 @@ acts_on g Go = false
 acts_on g (Ticket q) = has_line g q
 acts_on g (Put x v) = has_cell g x
 acts_on g (Get x) = has_cell g x
+acts_on g (Hand e b) = has_count g e
 
 same_tests : (e m n : ℕ) → (e == m || e == n) ≡ (m == e || n == e)
 same_tests e m n = ap (λ b. b || e == n) (same_test e m) ∙ ap (λ b. m == e || b) (same_test e n)
@@ -57,6 +58,7 @@ on_buffer b Go = refl
 on_buffer b (Ticket q) = same_tests q b.put_seq b.take_seq
 on_buffer b (Put x v) = refl
 on_buffer b (Get x) = refl
+on_buffer b (Hand e c) = same_tests e b.in_count b.out_count
 
 pub on_database : (d : Database) (act : Act) → databases.is_on d act ≡ acts_on (groups.Database d) act
 on_database d (Advance e) = same_tests e d.start d.done
@@ -66,6 +68,7 @@ on_database d Go = refl
 on_database d (Ticket q) = same_test q d.turn
 on_database d (Put x v) = refl
 on_database d (Get x) = refl
+on_database d (Hand e b) = same_tests e d.start d.done
 
 pub on_semaphore : (s : Semaphore) (act : Act) → semaphores.is_on s act ≡ acts_on (groups.Semaphore s) act
 on_semaphore s (Advance e) = same_test e s.count
@@ -75,6 +78,7 @@ on_semaphore s Go = refl
 on_semaphore s (Ticket q) = same_test q s.line
 on_semaphore s (Put x v) = refl
 on_semaphore s (Get x) = refl
+on_semaphore s (Hand e b) = same_test e s.count
 
 pub on_both : (s : Semaphore) (act : Act) → semaphores.is_on s act ≡ acts_on (groups.Both s) act
 on_both s (Advance e) = same_test e s.count
@@ -84,6 +88,7 @@ on_both s Go = refl
 on_both s (Ticket q) = same_test q s.line
 on_both s (Put x v) = refl
 on_both s (Get x) = refl
+on_both s (Hand e b) = same_test e s.count
 
 -- GROUPS THAT ARE APART
 

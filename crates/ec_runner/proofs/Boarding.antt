@@ -7,7 +7,7 @@ use Rattle.std.proofs.lemmas.Bool.Decides.{nat_tests}
 use Rattle.std.proofs.lemmas.Option.{slice_get-map, slice_get_within}
 use Rattle.ec_count.specs.Tables.{Tables}
 use Rattle.ec_core.specs.declared.act.Act.{Act}
-use Rattle.ec_core.specs.declared.act.Act.TheVariants.{Advance, Read, Await, Go, Ticket, Put, Get}
+use Rattle.ec_core.specs.declared.act.Act.TheVariants.{Advance, Read, Await, Go, Ticket, Put, Get, Hand}
 use Rattle.ec_core.specs.declared.act.Entry.{Entry}
 use Rattle.ec_core.specs.Counts.{total, is_advance}
 use Rattle.ec_core.specs.Calls.{CallSoFar, under_way}
@@ -57,6 +57,7 @@ woken_live Go past seats u = refl
 woken_live (Ticket q) past seats u = refl
 woken_live (Put x n) past seats u = refl
 woken_live (Get x) past seats u = refl
+woken_live (Hand f b) past seats u = refl
 
 -- WHAT IS WAITED FOR
 
@@ -72,6 +73,7 @@ short_reads t Go c a r h = cc
 short_reads t (Ticket q) c a r h = cc
 short_reads t (Put x v) c a r h = cc
 short_reads t (Get x) c a r h = cc
+short_reads t (Hand e b) c a r h = cc
 
 call_short : (t : Tables) (o : Option CallSoFar) (a : Wait) → IsReadingCall t o → option_and_then (fallen_short t) o ≡ Some a → a.event < length t.events
 call_short t None a r h = cc
@@ -216,6 +218,7 @@ woken_waits Go past seats u e v h = (h, λ t. cc)
 woken_waits (Ticket q) past seats u e v h = (h, λ t. cc)
 woken_waits (Put x n) past seats u e v h = (h, λ t. cc)
 woken_waits (Get x) past seats u e v h = (h, λ t. cc)
+woken_waits (Hand f b) past seats u e v h = (h, λ t. cc)
 
 total_still : (e : ℕ) (x : Entry) (past : List Entry) → is_advance e x.act ≡ false → total e (x ∷ past) ≡ total e past
 unfolding total

@@ -70,6 +70,7 @@ none_let_go acts.Go past seats w h = refl
 none_let_go (acts.Ticket q) past seats w h = refl
 none_let_go (acts.Put x v) past seats w h = refl
 none_let_go (acts.Get x) past seats w h = refl
+none_let_go (acts.Hand e b) past seats w h = refl
 
 wait_stays : (d : Boarded) (w v : ℕ) (o : Option Wait) → w ≢ v → slice_get (waiting_for d w o).seats v ≡ slice_get d.seats v
 wait_stays d w v None not = refl
@@ -179,6 +180,7 @@ advancer_awake (next.Sleep reply) b d w acts.Go may_park a h = cc
 advancer_awake (next.Sleep reply) b d w (acts.Ticket q) may_park a h = cc
 advancer_awake (next.Sleep reply) b d w (acts.Put x v) may_park a h = cc
 advancer_awake (next.Sleep reply) b d w (acts.Get x) may_park a h = cc
+advancer_awake (next.Sleep reply) b d w (acts.Hand e c) may_park a h = cc
 
 free_below : (x s : Bool) → (x && not s) ≡ true → s ≡ false
 free_below false s h = cc

@@ -42,7 +42,8 @@ kept e sum Gone = Gone
 kept e sum Running = Running
 kept e sum (Waiting f v) = if f == e && nat_le v sum then Running else Waiting f v
 
--- the seats after an act that is the newest of a past: an advance takes those off whom it lets go, and no other act does
+-- the seats after an act that is the newest of a past: an advance takes those off whom it lets go, and no other act does (a hand
+-- changes no total)
 abbrev pub woken : Act → List Entry → List Seat → List Seat
 woken (Advance e) past seats = map (kept e (total e past)) seats
 woken _ past seats = seats

@@ -13,7 +13,7 @@ use Rattle.ec_heading.specs.declared.sort.Sort.TheVariants as sorts
 use Rattle.ec_heading.specs.Objects.{group_of}
 use Rattle.ec_heading.specs.Outline.{with_objects}
 use Rattle.ec_script.specs.declared.object.Object.{Object}
-use Rattle.ec_script.specs.declared.object.Object.TheVariants.{Event, Sequencer, Cell}
+use Rattle.ec_script.specs.declared.object.Object.TheVariants.{Event, Sequencer, Cell, Handed}
 use Rattle.ec_script.specs.Objects.{owns}
 use Rattle.ec_script.specs.Confined.{AreApart}
 
@@ -24,6 +24,7 @@ abbrev pub IsOf : Tables → Object → Type 0
 IsOf t (Event e) = e < length t.events
 IsOf t (Sequencer q) = q < length t.takers
 IsOf t (Cell x) = x < length t.cells
+IsOf t (Handed e b) = e < length t.events
 IsOf t _ = Unit {0}
 
 pub record Grow (t u : Tables) : Type 0 where
@@ -35,6 +36,7 @@ pub stays : (t u : Tables) (o : Object) → Grow t u → IsOf t o → IsOf u o
 stays t u (Event e) grow of = omega (arith, grow.events, of)
 stays t u (Sequencer q) grow of = omega (arith, grow.takers, of)
 stays t u (Cell x) grow of = omega (arith, grow.cells, of)
+stays t u (Handed e b) grow of = omega (arith, grow.events, of)
 stays t u _ grow of = tt
 
 pub tables_grow : (s : Sort) (t : Tables) (n : ℕ) (first second : List ℕ) → Grow t (with_objects s t n first second)
@@ -65,10 +67,14 @@ either_is a b e is = elim (or_cases (eqb a e) (eqb b e) is) [ inl f ↦ inl (one
 within : (first n x : ℕ) → (nat_le first x && nat_lt x (first + n)) ≡ true → (first ≤ x) × (x < first + n)
 within first n x is = let p = and_parts (nat_le first x) (nat_lt x (first + n)) is in (leb-true first x p.0, ltb-true x (first + n) p.1)
 
-buffer_new : (t : Tables) (n : ℕ) (first second : List ℕ) → AreNew t (with_objects sorts.Buffer t n first second) (group_of sorts.Buffer t n)
-buffer_new t n first second (Event e) own =
+buffer_events : (t : Tables) (n : ℕ) (first second : List ℕ) (e : ℕ) → (eqb (length t.events) e || eqb (length t.events + 1) e) ≡ true → (e < length t.events → ⊥) × (e < length (with_objects sorts.Buffer t n first second).events)
+buffer_events t n first second e own =
     let i = either_is (length t.events) (length t.events + 1) e own in
     ((λ of. omega (arith, i, of)), omega (arith, i, length-append {A = Rights}))
+
+buffer_new : (t : Tables) (n : ℕ) (first second : List ℕ) → AreNew t (with_objects sorts.Buffer t n first second) (group_of sorts.Buffer t n)
+buffer_new t n first second (Event e) own = buffer_events t n first second e own
+buffer_new t n first second (Handed e b) own = buffer_events t n first second e own
 buffer_new t n first second (Sequencer q) own =
     let i = either_is (length t.takers) (length t.takers + 1) q own in
     ((λ of. omega (arith, i, of)), omega (arith, i, length-append {A = List ℕ}))
@@ -77,10 +83,14 @@ buffer_new t n first second (Cell x) own =
     ((λ of. omega (arith, i, of)), omega (arith, i, length-append {A = Access}, length-replicate {A = Access}))
 buffer_new t n first second _ own = cc
 
-database_new : (t : Tables) (n : ℕ) (first second : List ℕ) → AreNew t (with_objects sorts.Database t n first second) (group_of sorts.Database t n)
-database_new t n first second (Event e) own =
+database_events : (t : Tables) (n : ℕ) (first second : List ℕ) (e : ℕ) → (eqb (length t.events) e || eqb (length t.events + 1) e) ≡ true → (e < length t.events → ⊥) × (e < length (with_objects sorts.Database t n first second).events)
+database_events t n first second e own =
     let i = either_is (length t.events) (length t.events + 1) e own in
     ((λ of. omega (arith, i, of)), omega (arith, i, length-append {A = Rights}))
+
+database_new : (t : Tables) (n : ℕ) (first second : List ℕ) → AreNew t (with_objects sorts.Database t n first second) (group_of sorts.Database t n)
+database_new t n first second (Event e) own = database_events t n first second e own
+database_new t n first second (Handed e b) own = database_events t n first second e own
 database_new t n first second (Sequencer q) own =
     let i = one_is (length t.takers) q own in
     ((λ of. omega (arith, i, of)), omega (arith, i, length-append {A = List ℕ}))
@@ -89,19 +99,27 @@ database_new t n first second (Cell x) own =
     ((λ of. omega (arith, i, of)), omega (arith, i, length-append {A = Access}, length-replicate {A = Access}))
 database_new t n first second _ own = cc
 
-semaphore_new : (t : Tables) (n : ℕ) (first second : List ℕ) → AreNew t (with_objects sorts.Semaphore t n first second) (group_of sorts.Semaphore t n)
-semaphore_new t n first second (Event e) own =
+semaphore_events : (t : Tables) (n : ℕ) (first second : List ℕ) (e : ℕ) → eqb (length t.events) e ≡ true → (e < length t.events → ⊥) × (e < length (with_objects sorts.Semaphore t n first second).events)
+semaphore_events t n first second e own =
     let i = one_is (length t.events) e own in
     ((λ of. omega (arith, i, of)), omega (arith, i, length-append {A = Rights}))
+
+semaphore_new : (t : Tables) (n : ℕ) (first second : List ℕ) → AreNew t (with_objects sorts.Semaphore t n first second) (group_of sorts.Semaphore t n)
+semaphore_new t n first second (Event e) own = semaphore_events t n first second e own
+semaphore_new t n first second (Handed e b) own = semaphore_events t n first second e own
 semaphore_new t n first second (Sequencer q) own =
     let i = one_is (length t.takers) q own in
     ((λ of. omega (arith, i, of)), omega (arith, i, length-append {A = List ℕ}))
 semaphore_new t n first second _ own = cc
 
-both_new : (t : Tables) (n : ℕ) (first second : List ℕ) → AreNew t (with_objects sorts.Both t n first second) (group_of sorts.Both t n)
-both_new t n first second (Event e) own =
+both_events : (t : Tables) (n : ℕ) (first second : List ℕ) (e : ℕ) → eqb (length t.events) e ≡ true → (e < length t.events → ⊥) × (e < length (with_objects sorts.Both t n first second).events)
+both_events t n first second e own =
     let i = one_is (length t.events) e own in
     ((λ of. omega (arith, i, of)), omega (arith, i, length-append {A = Rights}))
+
+both_new : (t : Tables) (n : ℕ) (first second : List ℕ) → AreNew t (with_objects sorts.Both t n first second) (group_of sorts.Both t n)
+both_new t n first second (Event e) own = both_events t n first second e own
+both_new t n first second (Handed e b) own = both_events t n first second e own
 both_new t n first second (Sequencer q) own =
     let i = one_is (length t.takers) q own in
     ((λ of. omega (arith, i, of)), omega (arith, i, length-append {A = List ℕ}))

@@ -38,8 +38,8 @@ use Rattle.ec_script.specs.Spelling.{value_word, group_word, command_words, orde
 use Rattle.ec_script.specs.Given.{may_do, is_line_of, IsGiven, MayGive}
 use Rattle.ec_script.specs.Spelled.{Spelled, IsGivenBlock, IsSpelled}
 use Rattle.ec_script.proofs.Owners.{owning}
-use Rattle.ec_script.proofs.Namings.{IsFound, found_in, IsClean, name_clean, decimal_clean, event_clean, sequencer_clean, cell_clean, group_clean}
-use Rattle.ec_script.proofs.Sayings.{signalled, observed, taken, written, read_from}
+use Rattle.ec_script.proofs.Namings.{IsFound, found_in, IsClean, name_clean, decimal_clean, worker_clean, event_clean, sequencer_clean, cell_clean, group_clean}
+use Rattle.ec_script.proofs.Sayings.{signals, handed, observed, taken, written, read_from}
 
 -- LINES BY THEIR WORDS
 
@@ -139,13 +139,16 @@ database_clean h f d has = group_clean h f (groups.Database d) (Event d.start) h
 semaphore_clean : (h : Headed) → IsFound h → (s : Semaphore) → Contains h.groups (groups.Semaphore s) → IsClean (group_word h (Sequencer s.line))
 semaphore_clean h f s has = group_clean h f (groups.Semaphore s) (Sequencer s.line) has refl (eq-eqb s.line s.line refl)
 
-command_clean : (h : Headed) → IsFound h → (n : ℕ) (d : Command-F Command) → UsesGroups h.groups d → may_do h.setup n d ≡ true → is_line_of d ≡ true → AllByRecursion IsClean (command_words h d)
-command_clean h f n (layer.Advance e) uses may line = (literal_clean (codes "advance") refl, (event_clean h f e (signalled h.setup e n may), tt))
+command_clean : (h : Headed) → IsFound h → (n : ℕ) (d : Command-F Command) → UsesGroups h.groups d → may_do h.version h.setup n d ≡ true → is_line_of d ≡ true → AllByRecursion IsClean (command_words h d)
+command_clean h f n (layer.Advance e) uses may line = (literal_clean (codes "advance") refl, (event_clean h f e (signals h.version h.setup e n may), tt))
 command_clean h f n (layer.Read e) uses may line = (literal_clean (codes "read") refl, (event_clean h f e (observed h.setup e n may), tt))
 command_clean h f n (layer.Await e v) uses may line = (literal_clean (codes "await") refl, (event_clean h f e (observed h.setup e n may), (value_clean v line, tt)))
 command_clean h f n (layer.Ticket q) uses may line = (literal_clean (codes "ticket") refl, (sequencer_clean h f q (taken h.setup q n may), tt))
 command_clean h f n (layer.Put x v) uses may line = (literal_clean (codes "put") refl, (cell_clean h f x (written h.setup x n may), (value_clean v line, tt)))
 command_clean h f n (layer.Get x) uses may line = (literal_clean (codes "get") refl, (cell_clean h f x (read_from h.setup x n may), tt))
+command_clean h f n (layer.Hand e b) uses may line =
+    let declared = handed h.setup e b may in
+    (literal_clean (codes "hand") refl, (event_clean h f e declared.0, (worker_clean h f b declared.1, tt)))
 command_clean h f n (layer.Produce b v) uses may line = (literal_clean (codes "produce") refl, (buffer_clean h f b uses, (value_clean v line, tt)))
 command_clean h f n (layer.Consume b) uses may line = (literal_clean (codes "consume") refl, (buffer_clean h f b uses, tt))
 command_clean h f n (layer.WriteAll d vs) uses may line = tt

@@ -1,4 +1,4 @@
--- A line without fault makes confined commands alone.
+-- A line without fault makes confined commands alone, and such as the version has.
 use Rattle.std.proofs.Common.{◌≡◌, ◌≢◌, ℕ, List, Bool, true, false, not, Option, Some, None, option_map, option_and_then, refl, sym, ap, ◌∙◌, subst, eq-eqb}
 use Rattle.std.specs.List.{Contains, slice_get}
 use Rattle.std.specs.Option.{IfSome}
@@ -12,52 +12,66 @@ use Rattle.ec_machine.specs.declared.command.Value as amounts
 use Rattle.ec_machine.specs.declared.command.Command.TheOpen as layer
 use Rattle.ec_machine.specs.declared.command.Command.TheVariants as commands
 use Rattle.ec_machine.specs.Limits.{is_same, are_apart}
+use Rattle.ec_machine.specs.declared.command.Command.{Command}
+use Rattle.ec_machine.specs.declared.command.Command.TheOpen.{Command-F}
+use Rattle.ec_machine.specs.declared.command.Command.TheViews.{roll-Command}
 use Rattle.ec_heading.specs.declared.group.Group.{Group}
 use Rattle.ec_heading.specs.declared.group.Group.TheVariants as groups
+use Rattle.ec_heading.specs.declared.version.Version.{Version}
 use Rattle.ec_heading.specs.Headed.{Headed}
 use Rattle.ec_heading.specs.Lists.{worker_in}
 use Rattle.ec_heading.specs.Spelled.{event_in, sequencer_in, cell_in_word}
 use Rattle.ec_script.specs.declared.verb.Verb.{Verb}
 use Rattle.ec_script.specs.declared.verb.Verb.TheVariants as verbs
 use Rattle.ec_script.specs.declared.object.Object.{Object}
-use Rattle.ec_script.specs.declared.object.Object.TheVariants.{Nothing, Worker, Event, Sequencer, Cell, OfBuffer, OfDatabase, OfSemaphore, Three}
+use Rattle.ec_script.specs.declared.object.Object.TheVariants.{Nothing, Worker, Event, Sequencer, Cell, Handed, OfBuffer, OfDatabase, OfSemaphore, Three}
+use Rattle.ec_script.specs.declared.order.Order.{Order}
+use Rattle.ec_script.specs.declared.order.Order.TheVariants.{Do}
+use Rattle.ec_heading.specs.Versions.{has_hand}
+use Rattle.ec_script.specs.Verbs.{has_verb}
 use Rattle.ec_script.specs.Forms.{only_in}
-use Rattle.ec_script.specs.Objects.{place_of, group_in, buffer_of, database_of, semaphore_of, semaphore_in, both_of, three_of, object_for, is_owned}
+use Rattle.ec_script.specs.Objects.{place_of, group_in, buffer_of, database_of, semaphore_of, semaphore_in, both_of, three_of, handed_of, object_for, is_owned}
 use Rattle.ec_script.specs.Kinds.{or_nothing, has_two_roles}
 use Rattle.ec_script.specs.Orders.{event_order, cell_order, buffer_order, database_order, semaphore_order, command_in, amount_in, size_in}
-use Rattle.ec_script.specs.Confined.{IsConfined, AreApart}
-use Rattle.ec_script.proofs.shared.WrittenOut.{uses_of}
+use Rattle.ec_script.specs.Versioned.{has_command, HasOrder}
+use Rattle.ec_script.specs.Confined.{UsesGroups, IsConfined, AreApart}
+use Rattle.ec_script.proofs.shared.WrittenOut.{by_layer}
 
 -- OBJECTS
 
--- what an object must be of which confined commands are made
-abbrev pub IsFit : List Group → Object → Type 0
-IsFit gs (Event e) = is_owned gs (Event e) ≡ false
-IsFit gs (Sequencer q) = is_owned gs (Sequencer q) ≡ false
-IsFit gs (Cell x) = is_owned gs (Cell x) ≡ false
-IsFit gs (OfBuffer b) = Contains gs (groups.Buffer b)
-IsFit gs (OfDatabase d) = Contains gs (groups.Database d)
-IsFit gs (OfSemaphore s) = Contains gs (groups.Semaphore s)
-IsFit gs (Three common one other) = (both_of gs ≡ Some common) × Contains gs (groups.Semaphore one) × Contains gs (groups.Semaphore other) × (one.line ≢ other.line)
-IsFit gs (Worker w) = Unit {0}
-IsFit gs Nothing = Unit {0}
+-- what an object must be of which confined commands are made, such as the version has
+abbrev pub IsFit : List Group → Version → Object → Type 0
+IsFit gs v (Event e) = is_owned gs (Event e) ≡ false
+IsFit gs v (Sequencer q) = is_owned gs (Sequencer q) ≡ false
+IsFit gs v (Cell x) = is_owned gs (Cell x) ≡ false
+IsFit gs v (Handed e b) = (is_owned gs (Event e) ≡ false) × (has_hand v ≡ true)
+IsFit gs v (OfBuffer b) = Contains gs (groups.Buffer b)
+IsFit gs v (OfDatabase d) = Contains gs (groups.Database d)
+IsFit gs v (OfSemaphore s) = Contains gs (groups.Semaphore s)
+IsFit gs v (Three common one other) = (both_of gs ≡ Some common) × Contains gs (groups.Semaphore one) × Contains gs (groups.Semaphore other) × (one.line ≢ other.line)
+IsFit gs v (Worker w) = Unit {0}
+IsFit gs v Nothing = Unit {0}
 
 -- a raw object belongs to no group
-event_fits : (gs : List Group) (o : Option ℕ) → is_owned gs (or_nothing (option_map Event o)) ≡ false → IsFit gs (or_nothing (option_map Event o))
-event_fits gs None free = tt
-event_fits gs (Some e) free = free
+event_fits : (gs : List Group) (v : Version) (o : Option ℕ) → is_owned gs (or_nothing (option_map Event o)) ≡ false → IsFit gs v (or_nothing (option_map Event o))
+event_fits gs v None free = tt
+event_fits gs v (Some e) free = free
 
-sequencer_fits : (gs : List Group) (o : Option ℕ) → is_owned gs (or_nothing (option_map Sequencer o)) ≡ false → IsFit gs (or_nothing (option_map Sequencer o))
-sequencer_fits gs None free = tt
-sequencer_fits gs (Some q) free = free
+sequencer_fits : (gs : List Group) (v : Version) (o : Option ℕ) → is_owned gs (or_nothing (option_map Sequencer o)) ≡ false → IsFit gs v (or_nothing (option_map Sequencer o))
+sequencer_fits gs v None free = tt
+sequencer_fits gs v (Some q) free = free
 
-cell_fits : (gs : List Group) (o : Option ℕ) → is_owned gs (or_nothing (option_map Cell o)) ≡ false → IsFit gs (or_nothing (option_map Cell o))
-cell_fits gs None free = tt
-cell_fits gs (Some x) free = free
+cell_fits : (gs : List Group) (v : Version) (o : Option ℕ) → is_owned gs (or_nothing (option_map Cell o)) ≡ false → IsFit gs v (or_nothing (option_map Cell o))
+cell_fits gs v None free = tt
+cell_fits gs v (Some x) free = free
 
-worker_fits : (gs : List Group) (o : Option ℕ) → IsFit gs (or_nothing (option_map Worker o))
-worker_fits gs None = tt
-worker_fits gs (Some w) = tt
+handed_fits : (gs : List Group) (v : Version) (x y : Option ℕ) → is_owned gs (or_nothing (handed_of x y)) ≡ false → has_hand v ≡ true → IsFit gs v (or_nothing (handed_of x y))
+handed_fits gs v (Some e) (Some b) free has = (free, has)
+handed_fits gs v _ _ free has = tt
+
+worker_fits : (gs : List Group) (v : Version) (o : Option ℕ) → IsFit gs v (or_nothing (option_map Worker o))
+worker_fits gs v None = tt
+worker_fits gs v (Some w) = tt
 
 -- a group that is found is declared
 at_place : (gs : List Group) (i : ℕ) (g : Group) → slice_get gs i ≡ Some g → Contains gs g
@@ -66,15 +80,15 @@ at_place gs i g is = (i, slice_get_within gs i g is, get_or_from_slice_get gs i 
 pub found_group : (h : Headed) (word : List ℕ) (g : Group) → group_in h word ≡ Some g → Contains h.groups g
 found_group h word g is = option_and_then_some (λ (i : ℕ). slice_get h.groups i) (option_and_then place_of (find_name word h.names)) g is (λ i at e. at_place h.groups i g e)
 
-buffer_fits : (gs : List Group) (o : Option Group) → ((g : Group) → o ≡ Some g → Contains gs g) → IsFit gs (or_nothing (option_map OfBuffer (option_and_then buffer_of o)))
-buffer_fits gs None found = tt
-buffer_fits gs (Some (groups.Buffer b)) found = found (groups.Buffer b) refl
-buffer_fits gs (Some _) found = tt
+buffer_fits : (gs : List Group) (v : Version) (o : Option Group) → ((g : Group) → o ≡ Some g → Contains gs g) → IsFit gs v (or_nothing (option_map OfBuffer (option_and_then buffer_of o)))
+buffer_fits gs v None found = tt
+buffer_fits gs v (Some (groups.Buffer b)) found = found (groups.Buffer b) refl
+buffer_fits gs v (Some _) found = tt
 
-database_fits : (gs : List Group) (o : Option Group) → ((g : Group) → o ≡ Some g → Contains gs g) → IsFit gs (or_nothing (option_map OfDatabase (option_and_then database_of o)))
-database_fits gs None found = tt
-database_fits gs (Some (groups.Database d)) found = found (groups.Database d) refl
-database_fits gs (Some _) found = tt
+database_fits : (gs : List Group) (v : Version) (o : Option Group) → ((g : Group) → o ≡ Some g → Contains gs g) → IsFit gs v (or_nothing (option_map OfDatabase (option_and_then database_of o)))
+database_fits gs v None found = tt
+database_fits gs v (Some (groups.Database d)) found = found (groups.Database d) refl
+database_fits gs v (Some _) found = tt
 
 semaphore_in_groups : (gs : List Group) (o : Option Group) (s : Semaphore) → ((g : Group) → o ≡ Some g → Contains gs g) → option_and_then semaphore_of o ≡ Some s → Contains gs (groups.Semaphore s)
 semaphore_in_groups gs None s found is = cc
@@ -84,9 +98,9 @@ semaphore_in_groups gs (Some _) s found is = cc
 pub found_semaphore : (h : Headed) (word : List ℕ) (s : Semaphore) → semaphore_in h word ≡ Some s → Contains h.groups (groups.Semaphore s)
 found_semaphore h word s is = semaphore_in_groups h.groups (group_in h word) s (found_group h word) is
 
-semaphore_fits : (gs : List Group) (o : Option Semaphore) → ((s : Semaphore) → o ≡ Some s → Contains gs (groups.Semaphore s)) → IsFit gs (or_nothing (option_map OfSemaphore o))
-semaphore_fits gs None found = tt
-semaphore_fits gs (Some s) found = found s refl
+semaphore_fits : (gs : List Group) (v : Version) (o : Option Semaphore) → ((s : Semaphore) → o ≡ Some s → Contains gs (groups.Semaphore s)) → IsFit gs v (or_nothing (option_map OfSemaphore o))
+semaphore_fits gs v None found = tt
+semaphore_fits gs v (Some s) found = found s refl
 
 -- TWO SEMAPHORES
 
@@ -106,74 +120,83 @@ lines_differ gs common one other apart a b differ = λ e.
     let p = and_parts _ _ differ in
     true≢false (sym (itself one) ∙ ap (is_same one) g ∙ not_true (is_same one other) p.1)
 
-three_fits : (gs : List Group) (c o u : Option Semaphore) → AreApart gs → both_of gs ≡ c → ((s : Semaphore) → o ≡ Some s → Contains gs (groups.Semaphore s)) → ((s : Semaphore) → u ≡ Some s → Contains gs (groups.Semaphore s))
-    → has_two_roles (or_nothing (three_of c o u)) ≡ false → IsFit gs (or_nothing (three_of c o u))
-three_fits gs (Some common) (Some one) (Some other) apart both first second roles =
+three_fits : (gs : List Group) (v : Version) (c o u : Option Semaphore) → AreApart gs → both_of gs ≡ c → ((s : Semaphore) → o ≡ Some s → Contains gs (groups.Semaphore s)) → ((s : Semaphore) → u ≡ Some s → Contains gs (groups.Semaphore s))
+    → has_two_roles (or_nothing (three_of c o u)) ≡ false → IsFit gs v (or_nothing (three_of c o u))
+three_fits gs v (Some common) (Some one) (Some other) apart both first second roles =
     let a = first one refl in
     let b = second other refl in
     (both, a, b, lines_differ gs common one other apart a b (not-false (are_apart common one other) roles))
-three_fits gs None _ _ apart both first second roles = tt
-three_fits gs (Some common) None _ apart both first second roles = tt
-three_fits gs (Some common) (Some one) None apart both first second roles = tt
+three_fits gs v None _ _ apart both first second roles = tt
+three_fits gs v (Some common) None _ apart both first second roles = tt
+three_fits gs v (Some common) (Some one) None apart both first second roles = tt
 
 pub only_semaphore : (h : Headed) (word : Option (List ℕ)) (s : Semaphore) → option_and_then (semaphore_in h) word ≡ Some s → Contains h.groups (groups.Semaphore s)
 only_semaphore h None s is = cc
 only_semaphore h (Some w) s is = found_semaphore h w s is
 
 -- the object of a line without fault
-pub object_fits : (h : Headed) (v : Verb) (w : List ℕ) (ws : List (List ℕ)) → AreApart h.groups
-    → is_owned h.groups (or_nothing (object_for h v w ws)) ≡ false → has_two_roles (or_nothing (object_for h v w ws)) ≡ false → IsFit h.groups (or_nothing (object_for h v w ws))
-object_fits h verbs.Advance w ws apart free roles = event_fits h.groups (event_in h.words w) free
-object_fits h verbs.Read w ws apart free roles = event_fits h.groups (event_in h.words w) free
-object_fits h verbs.Await w ws apart free roles = event_fits h.groups (event_in h.words w) free
-object_fits h verbs.Ticket w ws apart free roles = sequencer_fits h.groups (sequencer_in h.words w) free
-object_fits h verbs.Put w ws apart free roles = cell_fits h.groups (cell_in_word h.words w) free
-object_fits h verbs.Get w ws apart free roles = cell_fits h.groups (cell_in_word h.words w) free
-object_fits h verbs.Produce w ws apart free roles = buffer_fits h.groups (group_in h w) (found_group h w)
-object_fits h verbs.Consume w ws apart free roles = buffer_fits h.groups (group_in h w) (found_group h w)
-object_fits h verbs.Write w ws apart free roles = database_fits h.groups (group_in h w) (found_group h w)
-object_fits h verbs.Snapshot w ws apart free roles = database_fits h.groups (group_in h w) (found_group h w)
-object_fits h verbs.Down w ws apart free roles = semaphore_fits h.groups (semaphore_in h w) (found_semaphore h w)
-object_fits h verbs.Up w ws apart free roles = semaphore_fits h.groups (semaphore_in h w) (found_semaphore h w)
-object_fits h verbs.DownBoth w ws apart free roles =
-    three_fits h.groups (both_of h.groups) (semaphore_in h w) (option_and_then (semaphore_in h) (only_in ws)) apart refl (found_semaphore h w) (only_semaphore h (only_in ws)) roles
-object_fits h verbs.Worker w ws apart free roles = worker_fits h.groups (worker_in h.words w)
-object_fits h verbs.Repeat w ws apart free roles = tt
-object_fits h verbs.End w ws apart free roles = tt
-object_fits h verbs.Schedule w ws apart free roles = tt
+pub object_fits : (h : Headed) (v : Verb) (w : List ℕ) (ws : List (List ℕ)) → AreApart h.groups → has_verb h.version v ≡ true
+    → is_owned h.groups (or_nothing (object_for h v w ws)) ≡ false → has_two_roles (or_nothing (object_for h v w ws)) ≡ false → IsFit h.groups h.version (or_nothing (object_for h v w ws))
+object_fits h verbs.Advance w ws apart has free roles = event_fits h.groups h.version (event_in h.words w) free
+object_fits h verbs.Read w ws apart has free roles = event_fits h.groups h.version (event_in h.words w) free
+object_fits h verbs.Await w ws apart has free roles = event_fits h.groups h.version (event_in h.words w) free
+object_fits h verbs.Ticket w ws apart has free roles = sequencer_fits h.groups h.version (sequencer_in h.words w) free
+object_fits h verbs.Put w ws apart has free roles = cell_fits h.groups h.version (cell_in_word h.words w) free
+object_fits h verbs.Get w ws apart has free roles = cell_fits h.groups h.version (cell_in_word h.words w) free
+object_fits h verbs.Hand w ws apart has free roles = handed_fits h.groups h.version (event_in h.words w) (option_and_then (worker_in h.words) (only_in ws)) free has
+object_fits h verbs.Produce w ws apart has free roles = buffer_fits h.groups h.version (group_in h w) (found_group h w)
+object_fits h verbs.Consume w ws apart has free roles = buffer_fits h.groups h.version (group_in h w) (found_group h w)
+object_fits h verbs.Write w ws apart has free roles = database_fits h.groups h.version (group_in h w) (found_group h w)
+object_fits h verbs.Snapshot w ws apart has free roles = database_fits h.groups h.version (group_in h w) (found_group h w)
+object_fits h verbs.Down w ws apart has free roles = semaphore_fits h.groups h.version (semaphore_in h w) (found_semaphore h w)
+object_fits h verbs.Up w ws apart has free roles = semaphore_fits h.groups h.version (semaphore_in h w) (found_semaphore h w)
+object_fits h verbs.DownBoth w ws apart has free roles =
+    three_fits h.groups h.version (both_of h.groups) (semaphore_in h w) (option_and_then (semaphore_in h) (only_in ws)) apart refl (found_semaphore h w) (only_semaphore h (only_in ws)) roles
+object_fits h verbs.Worker w ws apart has free roles = worker_fits h.groups h.version (worker_in h.words w)
+object_fits h verbs.Repeat w ws apart has free roles = tt
+object_fits h verbs.End w ws apart has free roles = tt
+object_fits h verbs.Schedule w ws apart has free roles = tt
 
 -- COMMANDS
 
-event_confined : (gs : List Group) (v : Verb) (e : ℕ) (x : amounts.Value) → is_owned gs (Event e) ≡ false → IsConfined gs (event_order v e x)
-event_confined gs verbs.Advance e x free = uses_of gs (layer.Advance e) (commands.Advance e) (commands.rolls-Advance e) free
-event_confined gs verbs.Read e x free = uses_of gs (layer.Read e) (commands.Read e) (commands.rolls-Read e) free
-event_confined gs _ e x free = uses_of gs (layer.Await e x) (commands.Await e x) (commands.rolls-Await e x) free
+-- an order that the programs of a script may have
+abbrev pub IsProper : List Group → Version → Order → Type 0
+IsProper gs v o = IsConfined gs o × HasOrder v o
 
-cell_confined : (gs : List Group) (giving : Bool) (i : ℕ) (x : amounts.Value) → is_owned gs (Cell i) ≡ false → IsConfined gs (cell_order giving i x)
-cell_confined gs true i x free = uses_of gs (layer.Put i x) (commands.Put i x) (commands.rolls-Put i x) free
-cell_confined gs false i x free = uses_of gs (layer.Get i) (commands.Get i) (commands.rolls-Get i) free
+proper_of : (gs : List Group) (ver : Version) (d : Command-F Command) (c : Command) → roll-Command d ≡ c → UsesGroups gs d → has_command ver d ≡ true → IsProper gs ver (Do c)
+proper_of gs ver d c is uses has = (by_layer (UsesGroups gs) d c is uses, by_layer (λ x. has_command ver x ≡ true) d c is has)
 
-buffer_confined : (gs : List Group) (giving : Bool) (b : Buffer) (x : amounts.Value) → Contains gs (groups.Buffer b) → IsConfined gs (buffer_order giving b x)
-buffer_confined gs true b x declared = uses_of gs (layer.Produce b x) (commands.Produce b x) (commands.rolls-Produce b x) declared
-buffer_confined gs false b x declared = uses_of gs (layer.Consume b) (commands.Consume b) (commands.rolls-Consume b) declared
+event_proper : (gs : List Group) (ver : Version) (v : Verb) (e : ℕ) (x : amounts.Value) → is_owned gs (Event e) ≡ false → IsProper gs ver (event_order v e x)
+event_proper gs ver verbs.Advance e x free = proper_of gs ver (layer.Advance e) (commands.Advance e) (commands.rolls-Advance e) free refl
+event_proper gs ver verbs.Read e x free = proper_of gs ver (layer.Read e) (commands.Read e) (commands.rolls-Read e) free refl
+event_proper gs ver _ e x free = proper_of gs ver (layer.Await e x) (commands.Await e x) (commands.rolls-Await e x) free refl
 
-database_confined : (gs : List Group) (v : Verb) (d : Database) (ws : List (List ℕ)) → Contains gs (groups.Database d) → IfSome (database_order v d ws) (IsConfined gs)
-database_confined gs verbs.Write d ws declared = declared
-database_confined gs verbs.Snapshot d ws declared = uses_of gs (layer.Snapshot d (size_in ws)) (commands.Snapshot d (size_in ws)) (commands.rolls-Snapshot d (size_in ws)) declared
-database_confined gs _ d ws declared = tt
+cell_proper : (gs : List Group) (ver : Version) (giving : Bool) (i : ℕ) (x : amounts.Value) → is_owned gs (Cell i) ≡ false → IsProper gs ver (cell_order giving i x)
+cell_proper gs ver true i x free = proper_of gs ver (layer.Put i x) (commands.Put i x) (commands.rolls-Put i x) free refl
+cell_proper gs ver false i x free = proper_of gs ver (layer.Get i) (commands.Get i) (commands.rolls-Get i) free refl
 
-semaphore_confined : (gs : List Group) (v : Verb) (s : Semaphore) → Contains gs (groups.Semaphore s) → IsConfined gs (semaphore_order v s)
-semaphore_confined gs verbs.Down s declared = uses_of gs (layer.Down s) (commands.Down s) (commands.rolls-Down s) declared
-semaphore_confined gs _ s declared = uses_of gs (layer.Up s) (commands.Up s) (commands.rolls-Up s) declared
+buffer_proper : (gs : List Group) (ver : Version) (giving : Bool) (b : Buffer) (x : amounts.Value) → Contains gs (groups.Buffer b) → IsProper gs ver (buffer_order giving b x)
+buffer_proper gs ver true b x declared = proper_of gs ver (layer.Produce b x) (commands.Produce b x) (commands.rolls-Produce b x) declared refl
+buffer_proper gs ver false b x declared = proper_of gs ver (layer.Consume b) (commands.Consume b) (commands.rolls-Consume b) declared refl
+
+database_proper : (gs : List Group) (ver : Version) (v : Verb) (d : Database) (ws : List (List ℕ)) → Contains gs (groups.Database d) → IfSome (database_order v d ws) (IsProper gs ver)
+database_proper gs ver verbs.Write d ws declared = (declared, refl)
+database_proper gs ver verbs.Snapshot d ws declared = proper_of gs ver (layer.Snapshot d (size_in ws)) (commands.Snapshot d (size_in ws)) (commands.rolls-Snapshot d (size_in ws)) declared refl
+database_proper gs ver _ d ws declared = tt
+
+semaphore_proper : (gs : List Group) (ver : Version) (v : Verb) (s : Semaphore) → Contains gs (groups.Semaphore s) → IsProper gs ver (semaphore_order v s)
+semaphore_proper gs ver verbs.Down s declared = proper_of gs ver (layer.Down s) (commands.Down s) (commands.rolls-Down s) declared refl
+semaphore_proper gs ver _ s declared = proper_of gs ver (layer.Up s) (commands.Up s) (commands.rolls-Up s) declared refl
 
 -- the command that is made with such an object
-pub command_confined : (gs : List Group) (v : Verb) (giving : Bool) (o : Object) (ws : List (List ℕ)) → IsFit gs o → IfSome (command_in v giving o ws) (IsConfined gs)
-command_confined gs v giving (Event e) ws fit = event_confined gs v e (amount_in ws) fit
-command_confined gs v giving (Sequencer q) ws fit = uses_of gs (layer.Ticket q) (commands.Ticket q) (commands.rolls-Ticket q) fit
-command_confined gs v giving (Cell x) ws fit = cell_confined gs giving x (amount_in ws) fit
-command_confined gs v giving (OfBuffer b) ws fit = buffer_confined gs giving b (amount_in ws) fit
-command_confined gs v giving (OfDatabase d) ws fit = database_confined gs v d ws fit
-command_confined gs v giving (OfSemaphore s) ws fit = semaphore_confined gs v s fit
-command_confined gs v giving (Three common one other) ws fit = uses_of gs (layer.DownBoth common one other) (commands.DownBoth common one other) (commands.rolls-DownBoth common one other) fit
-command_confined gs v giving Nothing ws fit = tt
-command_confined gs v giving (Worker w) ws fit = tt
+pub command_proper : (gs : List Group) (ver : Version) (v : Verb) (giving : Bool) (o : Object) (ws : List (List ℕ)) → IsFit gs ver o → IfSome (command_in v giving o ws) (IsProper gs ver)
+command_proper gs ver v giving (Event e) ws fit = event_proper gs ver v e (amount_in ws) fit
+command_proper gs ver v giving (Sequencer q) ws fit = proper_of gs ver (layer.Ticket q) (commands.Ticket q) (commands.rolls-Ticket q) fit refl
+command_proper gs ver v giving (Cell x) ws fit = cell_proper gs ver giving x (amount_in ws) fit
+command_proper gs ver v giving (Handed e b) ws fit = proper_of gs ver (layer.Hand e b) (commands.Hand e b) (commands.rolls-Hand e b) fit.0 fit.1
+command_proper gs ver v giving (OfBuffer b) ws fit = buffer_proper gs ver giving b (amount_in ws) fit
+command_proper gs ver v giving (OfDatabase d) ws fit = database_proper gs ver v d ws fit
+command_proper gs ver v giving (OfSemaphore s) ws fit = semaphore_proper gs ver v s fit
+command_proper gs ver v giving (Three common one other) ws fit = proper_of gs ver (layer.DownBoth common one other) (commands.DownBoth common one other) (commands.rolls-DownBoth common one other) fit refl
+command_proper gs ver v giving Nothing ws fit = tt
+command_proper gs ver v giving (Worker w) ws fit = tt

@@ -9,7 +9,7 @@ use Rattle.ec_database.specs.Shapes.{Database}
 use Rattle.ec_machine.specs.declared.command.Value.{Value}
 use Rattle.ec_machine.specs.declared.command.Command.{Command}
 use Rattle.ec_machine.specs.declared.command.Command.TheViews.{roll-Command, out-Command, roll-out-Command}
-use Rattle.ec_machine.specs.declared.command.Command.TheVariants.{Repeat, WriteAll, rolls-Repeat, rolls-Advance, rolls-Read, rolls-Await, rolls-Ticket, rolls-Put, rolls-Get, rolls-Produce, rolls-Consume, rolls-WriteAll, rolls-Snapshot, rolls-Down, rolls-Up, rolls-DownBoth}
+use Rattle.ec_machine.specs.declared.command.Command.TheVariants.{Repeat, WriteAll, rolls-Repeat, rolls-Advance, rolls-Read, rolls-Await, rolls-Ticket, rolls-Put, rolls-Get, rolls-Hand, rolls-Produce, rolls-Consume, rolls-WriteAll, rolls-Snapshot, rolls-Down, rolls-Up, rolls-DownBoth}
 use Rattle.ec_machine.specs.declared.command.Command.TheOpen as layer
 use Rattle.ec_machine.specs.declared.command.Command.TheFolds.{fold-roll-Command}
 use Rattle.ec_machine.specs.Limits.{is_sound, is_sound_one, sound_step, is_value, nesting, nesting_one, nesting_step, count, count_one, count_step}
@@ -53,6 +53,7 @@ plain_roll (layer.Await e v) is = record { flat = fold-roll-Command (List Order)
 plain_roll (layer.Ticket q) is = record { flat = fold-roll-Command (List Order) flat_step (layer.Ticket q) ∙ ap (λ x. Do x ∷ []) (sym (rolls-Ticket q)); nesting = fold-roll-Command ℕ nesting_step (layer.Ticket q); count = fold-roll-Command ℕ count_step (layer.Ticket q) }
 plain_roll (layer.Put x v) is = record { flat = fold-roll-Command (List Order) flat_step (layer.Put x v) ∙ ap (λ x. Do x ∷ []) (sym (rolls-Put x v)); nesting = fold-roll-Command ℕ nesting_step (layer.Put x v); count = fold-roll-Command ℕ count_step (layer.Put x v) }
 plain_roll (layer.Get x) is = record { flat = fold-roll-Command (List Order) flat_step (layer.Get x) ∙ ap (λ x. Do x ∷ []) (sym (rolls-Get x)); nesting = fold-roll-Command ℕ nesting_step (layer.Get x); count = fold-roll-Command ℕ count_step (layer.Get x) }
+plain_roll (layer.Hand e b) is = record { flat = fold-roll-Command (List Order) flat_step (layer.Hand e b) ∙ ap (λ x. Do x ∷ []) (sym (rolls-Hand e b)); nesting = fold-roll-Command ℕ nesting_step (layer.Hand e b); count = fold-roll-Command ℕ count_step (layer.Hand e b) }
 plain_roll (layer.Produce b v) is = record { flat = fold-roll-Command (List Order) flat_step (layer.Produce b v) ∙ ap (λ x. Do x ∷ []) (sym (rolls-Produce b v)); nesting = fold-roll-Command ℕ nesting_step (layer.Produce b v); count = fold-roll-Command ℕ count_step (layer.Produce b v) }
 plain_roll (layer.Consume b) is = record { flat = fold-roll-Command (List Order) flat_step (layer.Consume b) ∙ ap (λ x. Do x ∷ []) (sym (rolls-Consume b)); nesting = fold-roll-Command ℕ nesting_step (layer.Consume b); count = fold-roll-Command ℕ count_step (layer.Consume b) }
 plain_roll (layer.WriteAll d vs) is = let f = fold-roll-Command Bool plain_step (layer.WriteAll d vs) in let e : false ≡ true = sym f ∙ is in cc

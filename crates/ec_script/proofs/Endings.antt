@@ -1,5 +1,5 @@
 -- A text is told as unfinished exactly where it ends too early.
-use Rattle.std.proofs.Common.{◌≡◌, ◌≢◌, ◌⊎◌, inl, inr, ℕ, ◌+◌, ◌<◌, ◌≤◌, List, [], ◌∷◌, ◌++◌, length, Bool, true, false, cond, Option, Some, None, Result, Ok, Err, refl, sym, ap, ◌∙◌, subst, arith, append-nil, bytes_eq, codes, nat_lt}
+use Rattle.std.proofs.Common.{◌≡◌, ◌≢◌, ◌⊎◌, inl, inr, ℕ, ◌+◌, ◌<◌, ◌≤◌, List, [], ◌∷◌, ◌++◌, length, Bool, true, false, cond, Option, Some, None, Result, Ok, Err, refl, sym, ap, ◌∙◌, subst, arith, append-nil, nat_lt}
 use Rattle.ec_text.specs.Words.{words_of, number_of}
 use Rattle.ec_heading.specs.Versions.{is_limit, version_of}
 use Rattle.ec_script.specs.Headers.{script_header, bounded}

@@ -1,8 +1,7 @@
 -- A fault is told of a text exactly where it is that of its first faulty line, or of line 1 where the text is too long.
-use Rattle.std.proofs.Common.{◌≡◌, ◌≢◌, ◌⊎◌, inl, inr, ℕ, ◌+◌, ◌<◌, ◌≤◌, List, [], ◌∷◌, ◌++◌, length, true, false, cond, Option, Some, None, Err, refl, sym, ap, ◌∙◌, subst, arith, append_assoc, append-nil, bytes_eq, codes}
+use Rattle.std.proofs.Common.{◌≡◌, ◌≢◌, ◌⊎◌, inl, inr, ℕ, ◌+◌, ◌<◌, ◌≤◌, List, [], ◌∷◌, ◌++◌, length, Some, None, Err, refl, sym, ap, ◌∙◌, subst, arith, append_assoc, append-nil}
 use Rattle.std.specs.List.{AllByRecursion}
-use Rattle.std.proofs.lemmas.Bool.{true≢false, false_from_ne_true, cases_lt}
-use Rattle.std.proofs.lemmas.Slice.Eq.{bytes_eq-Decides}
+use Rattle.std.proofs.lemmas.Bool.{cases_lt}
 use Rattle.ec_script.specs.declared.fault.Kind.{Kind}
 use Rattle.ec_script.specs.declared.fault.Kind.TheVariants as kinds
 use Rattle.ec_script.specs.declared.parsing.TheConstants.{SCRIPT_MAX}

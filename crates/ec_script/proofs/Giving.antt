@@ -21,18 +21,20 @@ use Rattle.ec_machine.specs.Limits.{is_value, are_apart}
 use Rattle.ec_heading.specs.declared.group.Group.TheVariants as groups
 use Rattle.ec_heading.specs.Headed.{Headed}
 use Rattle.ec_heading.specs.Outline.{Declaration, Outline, IsOutline, opened, declared_by, declared_all, headed}
+use Rattle.ec_heading.specs.Lists.{worker_in}
 use Rattle.ec_heading.specs.Spelled.{event_in, sequencer_in, cell_in_word}
 use Rattle.ec_script.specs.declared.verb.Verb.{Verb}
 use Rattle.ec_script.specs.declared.verb.Verb.TheVariants as verbs
 use Rattle.ec_script.specs.declared.object.Object.{Object}
-use Rattle.ec_script.specs.declared.object.Object.TheVariants.{Event, Sequencer, Cell, OfBuffer, OfDatabase, OfSemaphore, Three}
+use Rattle.ec_script.specs.declared.object.Object.TheVariants.{Event, Sequencer, Cell, Handed, OfBuffer, OfDatabase, OfSemaphore, Three}
 use Rattle.ec_script.specs.declared.order.Order.{Order}
 use Rattle.ec_script.specs.declared.order.Order.TheVariants.{Do, Write, Begin, End}
-use Rattle.ec_script.specs.Verbs.{tail_of, is_giving, is_outer}
+use Rattle.ec_script.specs.Verbs.{has_verb, tail_of, is_giving, is_outer}
 use Rattle.ec_script.specs.Forms.{more_in, last_plus, number_or_more, value_of, only_in, is_tail}
-use Rattle.ec_script.specs.Objects.{object_for, group_in, buffer_in, database_in, semaphore_in, both_of, three_of, is_owned}
+use Rattle.ec_script.specs.Objects.{object_for, group_in, buffer_in, database_in, semaphore_in, both_of, three_of, handed_of, is_owned}
 use Rattle.ec_script.specs.Kinds.{is_no_value, is_bad_tail, has_two_roles, has_right}
 use Rattle.ec_script.specs.Orders.{amount_of, amount_in, size_in}
+use Rattle.ec_script.specs.Versioned.{has_command}
 use Rattle.ec_script.specs.Confined.{UsesGroups, AreApart}
 use Rattle.ec_script.specs.Layout.{order_by, Says}
 use Rattle.ec_script.specs.Given.{may_do, is_line_of, IsGiven}
@@ -102,10 +104,11 @@ IsTailOf v us o = (is_tail (tail_of v) us ≡ true) × (is_bad_tail (tail_of v) 
 
 -- what a line without fault says
 pub record IsRight (h : Headed) (n : ℕ) (v : Verb) (us : List (List ℕ)) (o : Object) : Type 0 where
+  pub version : has_verb h.version v ≡ true
   pub tail : IsTailOf v us o
   pub apart : is_owned h.groups o ≡ false
   pub differ : has_two_roles o ≡ false
-  pub right : has_right h.setup n (is_giving v) o ≡ true
+  pub right : has_right h.version h.setup n (is_giving v) o ≡ true
 
 abbrev Gives : Headed → ℕ → Verb → List (List ℕ) → Object → Type 0
 Gives h n v us o = IsRight h n v us o → (order : Order) → order_by v o us ≡ Some order → IsGiven h n order
@@ -121,6 +124,10 @@ case_sequencer P (Some e) o f is = (let same : Sequencer e ≡ o = cc in subst P
 pub case_cell : (P : Object → Type 0) (x : Option ℕ) (o : Object) → ((c : ℕ) → x ≡ Some c → P (Cell c)) → option_map Cell x ≡ Some o → P o
 case_cell P None o f is = cc
 case_cell P (Some e) o f is = (let same : Cell e ≡ o = cc in subst P same (f e refl))
+
+pub case_handed : (P : Object → Type 0) (x y : Option ℕ) (o : Object) → ((e b : ℕ) → x ≡ Some e → y ≡ Some b → P (Handed e b)) → handed_of x y ≡ Some o → P o
+case_handed P (Some e) (Some b) o f is = (let same : Handed e b ≡ o = cc in subst P same (f e b refl refl))
+case_handed P _ _ o f is = cc
 
 pub case_buffer : (P : Object → Type 0) (x : Option Buffer) (o : Object) → ((b : Buffer) → x ≡ Some b → P (OfBuffer b)) → option_map OfBuffer x ≡ Some o → P o
 case_buffer P None o f is = cc
@@ -140,11 +147,11 @@ case_three P _ _ _ o f is = cc
 
 -- COMMANDS
 
-given_by : (h : Headed) (n : ℕ) (d : Command-F Command) (c : Command) (order : Order) → roll-Command d ≡ c → Some (Do c) ≡ Some order → UsesGroups h.groups d → may_do h.setup n d ≡ true → is_line_of d ≡ true → IsGiven h n order
-given_by h n d c order rolls says uses may line =
+given_by : (h : Headed) (n : ℕ) (d : Command-F Command) (c : Command) (order : Order) → roll-Command d ≡ c → Some (Do c) ≡ Some order → UsesGroups h.groups d → may_do h.version h.setup n d ≡ true → is_line_of d ≡ true → has_command h.version d ≡ true → IsGiven h n order
+given_by h n d c order rolls says uses may line has =
     let same : Do c ≡ order = cc in
     let e : d ≡ out-Command c = sym (out-roll-Command d) ∙ ap out-Command rolls in
-    subst (IsGiven h n) same (subst (λ x. UsesGroups h.groups x × (may_do h.setup n x ≡ true) × (is_line_of x ≡ true)) e (uses, may, line))
+    subst (IsGiven h n) same (subst (λ x. UsesGroups h.groups x × (may_do h.version h.setup n x ≡ true) × (is_line_of x ≡ true) × (has_command h.version x ≡ true)) e (uses, may, line, has))
 
 declared_buffer : (h : Headed) (w : List ℕ) (b : Buffer) → buffer_in h w ≡ Some b → Contains h.groups (groups.Buffer b)
 declared_buffer h w b is = found_group h w (groups.Buffer b) (buffer_back (group_in h w) b is)
@@ -160,34 +167,37 @@ write_given h n d us order says declared r =
     subst (IsGiven h n) same (declared, r.right, omega (arith, some, length-map us amount_of), as_many us d.cells (not-false _ p.1), amounts_ranged us p.0)
 
 command_given : (h : Headed) (n : ℕ) → AreApart h.groups → (v : Verb) (w : List ℕ) (us : List (List ℕ)) (o : Object) → IsCommand v → object_for h v w us ≡ Some o → Gives h n v us o
-command_given h n apart verbs.Advance w us o command is = case_event (Gives h n verbs.Advance us) (event_in h.words w) o (λ e at r order says. given_by h n (layer.Advance e) (commands.Advance e) order (commands.rolls-Advance e) says r.apart r.right refl) is
-command_given h n apart verbs.Read w us o command is = case_event (Gives h n verbs.Read us) (event_in h.words w) o (λ e at r order says. given_by h n (layer.Read e) (commands.Read e) order (commands.rolls-Read e) says r.apart r.right refl) is
+command_given h n apart verbs.Advance w us o command is = case_event (Gives h n verbs.Advance us) (event_in h.words w) o (λ e at r order says. given_by h n (layer.Advance e) (commands.Advance e) order (commands.rolls-Advance e) says r.apart r.right refl refl) is
+command_given h n apart verbs.Read w us o command is = case_event (Gives h n verbs.Read us) (event_in h.words w) o (λ e at r order says. given_by h n (layer.Read e) (commands.Read e) order (commands.rolls-Read e) says r.apart r.right refl refl) is
 command_given h n apart verbs.Await w us o command is =
     case_event (Gives h n verbs.Await us) (event_in h.words w) o (λ e at r order says.
-    given_by h n (layer.Await e (amount_in us)) (commands.Await e (amount_in us)) order (commands.rolls-Await e (amount_in us)) says r.apart r.right (one_ranged us (is_one _ us r.tail.0) r.tail.1)) is
-command_given h n apart verbs.Ticket w us o command is = case_sequencer (Gives h n verbs.Ticket us) (sequencer_in h.words w) o (λ q at r order says. given_by h n (layer.Ticket q) (commands.Ticket q) order (commands.rolls-Ticket q) says r.apart r.right refl) is
+    given_by h n (layer.Await e (amount_in us)) (commands.Await e (amount_in us)) order (commands.rolls-Await e (amount_in us)) says r.apart r.right (one_ranged us (is_one _ us r.tail.0) r.tail.1) refl) is
+command_given h n apart verbs.Ticket w us o command is = case_sequencer (Gives h n verbs.Ticket us) (sequencer_in h.words w) o (λ q at r order says. given_by h n (layer.Ticket q) (commands.Ticket q) order (commands.rolls-Ticket q) says r.apart r.right refl refl) is
 command_given h n apart verbs.Put w us o command is =
     case_cell (Gives h n verbs.Put us) (cell_in_word h.words w) o (λ x at r order says.
-    given_by h n (layer.Put x (amount_in us)) (commands.Put x (amount_in us)) order (commands.rolls-Put x (amount_in us)) says r.apart r.right (one_ranged us (is_one _ us r.tail.0) r.tail.1)) is
-command_given h n apart verbs.Get w us o command is = case_cell (Gives h n verbs.Get us) (cell_in_word h.words w) o (λ x at r order says. given_by h n (layer.Get x) (commands.Get x) order (commands.rolls-Get x) says r.apart r.right refl) is
+    given_by h n (layer.Put x (amount_in us)) (commands.Put x (amount_in us)) order (commands.rolls-Put x (amount_in us)) says r.apart r.right (one_ranged us (is_one _ us r.tail.0) r.tail.1) refl) is
+command_given h n apart verbs.Get w us o command is = case_cell (Gives h n verbs.Get us) (cell_in_word h.words w) o (λ x at r order says. given_by h n (layer.Get x) (commands.Get x) order (commands.rolls-Get x) says r.apart r.right refl refl) is
+command_given h n apart verbs.Hand w us o command is =
+    case_handed (Gives h n verbs.Hand us) (event_in h.words w) (option_and_then (worker_in h.words) (only_in us)) o (λ e b at to r order says.
+    given_by h n (layer.Hand e b) (commands.Hand e b) order (commands.rolls-Hand e b) says r.apart r.right refl r.version) is
 command_given h n apart verbs.Produce w us o command is =
     case_buffer (Gives h n verbs.Produce us) (buffer_in h w) o (λ b at r order says.
-    given_by h n (layer.Produce b (amount_in us)) (commands.Produce b (amount_in us)) order (commands.rolls-Produce b (amount_in us)) says (declared_buffer h w b at) r.right (one_ranged us (is_one _ us r.tail.0) r.tail.1)) is
+    given_by h n (layer.Produce b (amount_in us)) (commands.Produce b (amount_in us)) order (commands.rolls-Produce b (amount_in us)) says (declared_buffer h w b at) r.right (one_ranged us (is_one _ us r.tail.0) r.tail.1) refl) is
 command_given h n apart verbs.Consume w us o command is =
-    case_buffer (Gives h n verbs.Consume us) (buffer_in h w) o (λ b at r order says. given_by h n (layer.Consume b) (commands.Consume b) order (commands.rolls-Consume b) says (declared_buffer h w b at) r.right refl) is
+    case_buffer (Gives h n verbs.Consume us) (buffer_in h w) o (λ b at r order says. given_by h n (layer.Consume b) (commands.Consume b) order (commands.rolls-Consume b) says (declared_buffer h w b at) r.right refl refl) is
 command_given h n apart verbs.Write w us o command is = case_database (Gives h n verbs.Write us) (database_in h w) o (λ d at r order says. write_given h n d us order says (declared_database h w d at) r) is
 command_given h n apart verbs.Snapshot w us o command is =
     case_database (Gives h n verbs.Snapshot us) (database_in h w) o (λ d at r order says.
     given_by h n (layer.Snapshot d (size_in us)) (commands.Snapshot d (size_in us)) order (commands.rolls-Snapshot d (size_in us)) says (declared_database h w d at) r.right
-    (size_sound 1000 (option_and_then number_of (only_in us)) (not-false _ r.tail.1))) is
-command_given h n apart verbs.Down w us o command is = case_semaphore (Gives h n verbs.Down us) (semaphore_in h w) o (λ s at r order says. given_by h n (layer.Down s) (commands.Down s) order (commands.rolls-Down s) says (found_semaphore h w s at) r.right refl) is
-command_given h n apart verbs.Up w us o command is = case_semaphore (Gives h n verbs.Up us) (semaphore_in h w) o (λ s at r order says. given_by h n (layer.Up s) (commands.Up s) order (commands.rolls-Up s) says (found_semaphore h w s at) r.right refl) is
+    (size_sound 1000 (option_and_then number_of (only_in us)) (not-false _ r.tail.1)) refl) is
+command_given h n apart verbs.Down w us o command is = case_semaphore (Gives h n verbs.Down us) (semaphore_in h w) o (λ s at r order says. given_by h n (layer.Down s) (commands.Down s) order (commands.rolls-Down s) says (found_semaphore h w s at) r.right refl refl) is
+command_given h n apart verbs.Up w us o command is = case_semaphore (Gives h n verbs.Up us) (semaphore_in h w) o (λ s at r order says. given_by h n (layer.Up s) (commands.Up s) order (commands.rolls-Up s) says (found_semaphore h w s at) r.right refl refl) is
 command_given h n apart verbs.DownBoth w us o command is =
     case_three (Gives h n verbs.DownBoth us) (both_of h.groups) (semaphore_in h w) (option_and_then (semaphore_in h) (only_in us)) o (λ c s t common first second r order says.
     (let one = found_semaphore h w s first in
     let other = only_semaphore h (only_in us) t second in
     let differ : are_apart c s t ≡ true = not-false _ r.differ in
-    given_by h n (layer.DownBoth c s t) (commands.DownBoth c s t) order (commands.rolls-DownBoth c s t) says (common, one, other, lines_differ h.groups c s t apart one other differ) r.right differ)) is
+    given_by h n (layer.DownBoth c s t) (commands.DownBoth c s t) order (commands.rolls-DownBoth c s t) says (common, one, other, lines_differ h.groups c s t apart one other differ) r.right differ refl)) is
 command_given h n apart verbs.Repeat w us o command is = absurd command
 command_given h n apart verbs.End w us o command is = absurd command
 command_given h n apart verbs.Worker w us o command is = absurd command
@@ -209,4 +219,4 @@ pub line_given : (o : Outline) (n : ℕ) (line : List ℕ) (order : Order) → I
 line_given o n line order is says =
     let words : Worded (words_of line) says.phrase = worded (words_of line) says.phrase says.form in
     given_in (headed o) n (outline_keeps o is).apart.apart says.phrase.verb says.phrase.object says.phrase.rest says.object order says.inner says.declared
-    (record { tail = (words.tail, says.range); apart = says.apart; differ = says.differ; right = says.right }) says.says
+    (record { version = says.version; tail = (words.tail, says.range); apart = says.apart; differ = says.differ; right = says.right }) says.says

@@ -4,14 +4,15 @@ use Rattle.std.specs.Bool.{Decides}
 use Rattle.std.specs.Prelude.{◌↔◌}
 use Rattle.std.specs.List.{AllByRecursion, list_any}
 use Rattle.std.specs.Option.{option_map_or}
-use Rattle.std.proofs.lemmas.Bool.{true≢false, and_parts, and_from, or_parts, or_from, false_from_ne_true, ltb-false, le-ltb, ne_eqb, not_from_false}
-use Rattle.std.proofs.lemmas.Bool.Decides.{Decides-like, Decides-or, Decides-eqb}
+use Rattle.std.proofs.lemmas.Bool.{true≢false, and_parts, and_from, or_parts, or_from, ltb-false, le-ltb, ne_eqb, not_from_false}
+use Rattle.std.proofs.lemmas.Bool.Decides.{Decides-like, Decides-or, Decides-and, Decides-eqb}
 use Rattle.std.proofs.lemmas.Option.{same_Some}
 use Rattle.std.proofs.lemmas.Slice.Eq.{bytes_eq-Decides}
 use Rattle.ec_text.specs.Words.{words_of, number_of, is_number_form}
 use Rattle.ec_heading.specs.Versions.{is_limit, version_of}
 use Rattle.ec_script.specs.Headers.{script_header, bounded, Bounded}
 use Rattle.ec_heading.specs.declared.version.Version.{Version}
+use Rattle.ec_heading.specs.declared.version.Version.TheVariants.{One, Two}
 use Rattle.ec_heading.proofs.shared.VersionFacts.{version_none, version_none_from}
 use Rattle.ec_heading.specs.declared.heading.HeadFault.{HeadFault}
 use Rattle.ec_heading.specs.declared.heading.HeadFault.TheVariants as heads
@@ -46,8 +47,9 @@ use Rattle.ec_script.specs.Phrased.{Worded}
 use Rattle.ec_script.specs.Placed.{IsOfWords, IsLimitLine, IsWorkersLine, IsDeclaration, MayStand, IsOther}
 use Rattle.ec_script.specs.Reading.{nest_of, seen, after, fault_or, phrased, headed_on, is_declaring, opens_outer, script_step, limiting, limited, limit_digits, limit_or, limit_step, named_on, read_on, step}
 use Rattle.ec_script.specs.Scripted.{Scripted}
-use Rattle.ec_script.specs.Verbs.{is_outer}
-use Rattle.ec_script.proofs.Deciding.{never, decides_not}
+use Rattle.ec_heading.specs.Versions.{has_hand}
+use Rattle.ec_script.specs.Verbs.{has_verb, is_outer}
+use Rattle.ec_script.proofs.Deciding.{never}
 use Rattle.ec_script.proofs.HeadKinds.{limit_tests, limit_decided, workers_tests, workers_decided, workers_least, declaration_tests, declaration_decided, declaration_least}
 use Rattle.ec_script.proofs.shared.Keeping.{Keeps, leads_keeps}
 use Rattle.ec_script.proofs.Least.{least, least_holds, none_holds}
@@ -265,7 +267,7 @@ reading_tests s (inl p) k = declaration_tests s.heading p k
 reading_tests s (inr p) k = other_tests s p k
 
 abbrev allowed : Scripted → Phrase → Bool
-allowed s p = is_allowed p.verb (is_some (option_map nest_of s.block)) (length s.schedule)
+allowed s p = has_verb s.heading.version p.verb && is_allowed p.verb (is_some (option_map nest_of s.block)) (length s.schedule)
 
 abbrev declared_form : Option headings.Phrase → Option (headings.Phrase ⊎ Phrase)
 declared_form None = None
@@ -289,9 +291,14 @@ empty_is : {X : Type 0} (xs : List X) → Decides (length xs == 0) (xs ≡ [])
 empty_is [] = ((λ e. refl), λ e. refl)
 empty_is (x ∷ xs) = ((λ e. absurd (let k = (Decides-eqb (length (x ∷ xs)) 0).0 e in omega (arith, k))), λ e. cc)
 
-place_decided : (s : Scripted) (v : Verb) → Decides (is_allowed v (is_some (option_map nest_of s.block)) (length s.schedule)) (MayStand s v)
+two_is : (v : Version) → Decides (has_hand v) (v ≡ Two)
+two_is One = ((λ e. cc), λ e. cc)
+two_is Two = ((λ e. refl), λ e. refl)
+
+place_decided : (s : Scripted) (v : Verb) → Decides (has_verb s.heading.version v && is_allowed v (is_some (option_map nest_of s.block)) (length s.schedule)) (MayStand s v)
 place_decided s verbs.Schedule = ((λ e. tt), λ t. refl)
 place_decided s verbs.Worker = Decides-or (is_some (option_map nest_of s.block)) (length s.schedule == 0) (block_is s.block) (empty_is s.schedule)
+place_decided s verbs.Hand = Decides-and (has_hand s.heading.version) (is_some (option_map nest_of s.block)) (two_is s.heading.version) (block_is s.block)
 place_decided s _ = block_is s.block
 
 -- a declaration opens with no word of the others
@@ -322,6 +329,7 @@ behind_begun s keeps declaring =
 stands_behind : (s : Scripted) (v : Verb) → Keeps s → MayStand s v → is_declaring s ≡ true → is_outer v ≡ true
 stands_behind s verbs.Worker keeps may declaring = refl
 stands_behind s verbs.Schedule keeps may declaring = refl
+stands_behind s verbs.Hand keeps may declaring = absurd (may.1 (behind_begun s keeps declaring))
 stands_behind s _ keeps may declaring = absurd (may (behind_begun s keeps declaring))
 
 other_behind : (s : Scripted) (line : List ℕ) (p : Phrase) → Keeps s → IsOther s line p → (is_declaring s && not (opens_outer (words_of line))) ≡ false

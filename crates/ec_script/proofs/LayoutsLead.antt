@@ -2,7 +2,7 @@
 use Rattle.std.proofs.Common.{◌≡◌, ◌==◌, ◌⊎◌, inl, inr, ℕ, ◌+◌, ◌<◌, ◌≤◌, ◌^◌, List, [], ◌∷◌, ◌++◌, length, map, replicate, Bool, true, false, not, cond, eqb, nat_le, nat_lt, Option, Some, None, option_map, Result, Ok, Err, refl, sym, ap, ◌∙◌, subst, arith, codes, decimal, slice_set, get_or, ne_eqb, length-append, append-nil, append_assoc, zero-le, zero-add}
 use Rattle.std.specs.List.{AllByRecursion, flat_map, join_with_byte, range_with_len, list_any}
 use Rattle.std.specs.Option.{option_map_or}
-use Rattle.std.proofs.lemmas.Bool.{and_from, and_left, and_right, or_parts, or_from, not_from_true, not_from_false, le-ltb, lt-ltb, le-leb, lt-leb, eqb-false, false_from_ne_true}
+use Rattle.std.proofs.lemmas.Bool.{and_left, and_right, or_parts, or_from, not_from_true, not_from_false, le-ltb, le-leb, lt-leb, eqb-false, false_from_ne_true}
 use Rattle.ec_count.specs.Members.{is_member, has_repeat}
 use Rattle.ec_text.specs.Words.{words_of, number_of, is_number_form, AreWords}
 use Rattle.ec_text.proofs.shared.WordLemmas.{words_join, literal_word}
@@ -99,6 +99,7 @@ worker_leads h ws heads are named ps i within new =
     let object : object_for h verbs.Worker (get_or ws i []) [] ≡ Some (Worker i) = ap (option_map Worker) found in
     let form : phrase_in (words_of (worker_line ws i)) ≡ Some (made verbs.Worker (get_or ws i []) []) = ap phrase_in l.0 in
     let passes : Passes (seen (state h named ps None [])) (made verbs.Worker (get_or ws i []) []) (Some (Worker i)) = record {
+      version = refl;
       allowed = refl;
       new = new;
       found = refl;
@@ -136,6 +137,7 @@ row_leads h ws heads are named ps sc ids row few =
     let form : phrase_in (words_of (schedule_line ws ids)) ≡ Some (made verbs.Schedule [] (list_words ws ids)) = ap phrase_in l.0 ∙ row_form (list_words ws ids) (omega (arith, many, row.some)) in
     let again : ids_in h.words (list_words ws ids) ≡ ids = ap (λ es. ids_in es (list_words ws ids)) heads.words ∙ ids_again ws heads.others ids are.differ low in
     let passes : Passes (seen (state h named ps None sc)) (made verbs.Schedule [] (list_words ws ids)) (Some Nothing) = record {
+      version = refl;
       allowed = refl;
       new = refl;
       found = refl;
@@ -231,6 +233,7 @@ order_leads : (h : Headed) (named : List ℕ) (ps : List (List Order)) (b : Open
     → step (Reading (state h named ps (Some b) sc)) line ≡ Ok (Reading (state h named ps (Some (record { worker = b.worker; draft = with_order b.draft order })) sc))
 order_leads h named ps b sc line order some says may =
     let passes : Passes (seen (state h named ps (Some b) sc)) says.phrase (Some says.object) = record {
+      version = says.version;
       allowed = allowed_in says.phrase.verb (length sc);
       new = not_named h says.phrase.verb says.phrase.object says.phrase.rest says.object order named says.inner says.declared says.says;
       found = refl;
@@ -257,6 +260,7 @@ end_leads h named ps b sc some closed =
     let l = fit_line (codes "end") [] fit (omega arith) in
     let past : eqb (length named) 0 ≡ false = ne_eqb (length named) 0 (λ e. omega (arith, e, some)) in
     let passes : Passes (seen (state h named ps (Some b) sc)) (made verbs.End [] []) (Some Nothing) = record {
+      version = refl;
       allowed = refl;
       new = refl;
       found = refl;

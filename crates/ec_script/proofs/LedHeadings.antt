@@ -1,6 +1,5 @@
 -- What the lines of a script have declared is a heading.
-use Rattle.std.proofs.Common.{◌≡◌, inr, ℕ, ◌≤◌, ◌<◌, ◌^◌, ◌==◌, ◌&&◌, cond, Bool, true, false, not, List, [], ◌∷◌, Option, Some, None, Result, Ok, Err, nat_lt, nat_le, slice_set, refl, sym, ap, ◌∙◌, subst, bytes_eq, codes, leb-true, ltb-true}
-use Rattle.std.proofs.lemmas.Bool.{and_parts}
+use Rattle.std.proofs.Common.{◌≡◌, inr, ℕ, ◌≤◌, ◌==◌, ◌&&◌, cond, Bool, true, false, not, List, [], ◌∷◌, Option, Some, None, Result, Ok, Err, slice_set, refl, sym, ap, ◌∙◌, subst}
 use Rattle.ec_text.specs.Words.{words_of, number_of}
 use Rattle.ec_heading.specs.Versions.{greatest_limit, is_limit, version_of}
 use Rattle.ec_script.specs.Headers.{script_header, bounded}

@@ -23,6 +23,7 @@ use Rattle.ec_heading.specs.Objects.{objects_of, target_of, group_of, spelling, 
 use Rattle.ec_heading.specs.Headed.{Headed}
 use Rattle.ec_heading.specs.Outline.{Declaration, Outline, IsOutline, IsDeclarable, AreDeclarable, opened, numbered, next_of, named_as, declared_by, declared_all, headed}
 use Rattle.ec_heading.specs.Spelling.{word_of, cell_word}
+use Rattle.ec_heading.specs.Lists.{worker_of, worker_in}
 use Rattle.ec_heading.specs.Spelled.{cut_at, event_of, sequencer_of, event_in, sequencer_in, cell_in_word}
 use Rattle.ec_heading.proofs.shared.Each.{each_append}
 use Rattle.ec_heading.proofs.shared.LineWords.{IsFit, AreNamed}
@@ -152,13 +153,18 @@ found_in o is own = record {
   owning = own;
 }
 
--- EVENTCOUNTS AND SEQUENCERS
+-- WORKERS, EVENTCOUNTS AND SEQUENCERS
 
 word_fits : (h : Headed) → IsFound h → (t : Target) (word : List ℕ) → IsNamedBy h.words t word → IsFit word
 word_fits h f t word by = record {
   word = All-from_recursion (λ b. eqb b 32 ≡ false) word (word_lacks 32 word refl by.plain);
   some = found_word (λ w. eqb (length w) 0 ≡ false) h.words word t f.bytes by.found;
 }
+
+pub worker_again : (h : Headed) → IsFound h → (w : ℕ) → w < h.setup.workers → (worker_in h.words (word_of h.words (targets.Worker w)) ≡ Some w) × IsFit (word_of h.words (targets.Worker w))
+worker_again h f w within =
+    let by : IsNamedBy h.words (targets.Worker w) (word_of h.words (targets.Worker w)) = named_by h.words (targets.Worker w) f.is.words (f.is.workers w within) in
+    (ap (option_and_then worker_of) by.found, word_fits h f (targets.Worker w) (word_of h.words (targets.Worker w)) by)
 
 pub event_again : (h : Headed) → IsFound h → (e : ℕ) → e < length h.setup.events → (event_in h.words (word_of h.words (targets.Event e)) ≡ Some e) × IsFit (word_of h.words (targets.Event e))
 event_again h f e within =
@@ -240,6 +246,9 @@ name_clean name is = bytes_clean name (name_called name is).bytes
 
 pub decimal_clean : (n : ℕ) → n < 1000000000000000000 → IsClean (decimal n)
 decimal_clean n small = decimal_lacks 10 n small (λ r. omega arith)
+
+pub worker_clean : (h : Headed) → IsFound h → (w : ℕ) → w < h.setup.workers → IsClean (word_of h.words (targets.Worker w))
+worker_clean h f w within = word_lacks 10 (word_of h.words (targets.Worker w)) refl (named_by h.words (targets.Worker w) f.is.words (f.is.workers w within)).plain
 
 pub event_clean : (h : Headed) → IsFound h → (e : ℕ) → e < length h.setup.events → IsClean (word_of h.words (targets.Event e))
 event_clean h f e within = word_lacks 10 (word_of h.words (targets.Event e)) refl (named_by h.words (targets.Event e) f.is.words (f.is.events e within)).plain

@@ -26,18 +26,19 @@ use Rattle.ec_heading.specs.declared.group.Group.TheVariants as groups
 use Rattle.ec_heading.specs.Headed.{Headed}
 use Rattle.ec_heading.specs.Outline.{Outline, IsOutline, headed}
 use Rattle.ec_heading.specs.Spelling.{word_of, heading_lines}
+use Rattle.ec_heading.specs.Lists.{worker_of, worker_in}
 use Rattle.ec_heading.specs.Spelled.{Named, event_of, sequencer_of, event_in, sequencer_in, cell_in_word}
 use Rattle.ec_heading.proofs.shared.ReadNames.{AreApart, word_back}
 use Rattle.ec_heading.proofs.shared.ReadHeadings.{sound}
 use Rattle.ec_script.specs.declared.verb.Verb.{Verb}
 use Rattle.ec_script.specs.declared.verb.Verb.TheVariants as verbs
 use Rattle.ec_script.specs.declared.object.Object.{Object}
-use Rattle.ec_script.specs.declared.object.Object.TheVariants.{Event, Sequencer, Cell, OfBuffer, OfDatabase, OfSemaphore, Three}
+use Rattle.ec_script.specs.declared.object.Object.TheVariants.{Event, Sequencer, Cell, Handed, OfBuffer, OfDatabase, OfSemaphore, Three}
 use Rattle.ec_script.specs.declared.order.Order.{Order}
 use Rattle.ec_script.specs.declared.order.Order.TheVariants.{Do, Write, Begin, End}
 use Rattle.ec_script.specs.Verbs.{tail_of, has_object, is_outer}
 use Rattle.ec_script.specs.Forms.{more_in, last_plus, number_or_more, value_of, only_in, is_tail}
-use Rattle.ec_script.specs.Objects.{object_for, place_of, group_in, buffer_of, database_of, semaphore_of, buffer_in, database_in, semaphore_in, both_of, three_of, owns}
+use Rattle.ec_script.specs.Objects.{object_for, place_of, group_in, buffer_of, database_of, semaphore_of, buffer_in, database_in, semaphore_in, both_of, three_of, handed_of, owns}
 use Rattle.ec_script.specs.Kinds.{is_no_value, cells_of, is_count, is_bad_tail}
 use Rattle.ec_script.specs.Orders.{amount_of, amount_in, size_in}
 use Rattle.ec_script.specs.Grammar.{text_of}
@@ -134,6 +135,14 @@ event_spelled names word e apart is = word_back names word (targets.Event e) apa
 sequencer_spelled : (names : Named) (word : List ℕ) (q : ℕ) → AreApart names → sequencer_in names word ≡ Some q → word_of names (targets.Sequencer q) ≡ word
 sequencer_spelled names word q apart is = word_back names word (targets.Sequencer q) apart refl (sequencer_back (find_name word names) q is)
 
+worker_back : (t : Option Target) (b : ℕ) → option_and_then worker_of t ≡ Some b → t ≡ Some (targets.Worker b)
+worker_back None b is = cc
+worker_back (Some (targets.Worker d)) b is = (let same : d ≡ b = cc in ap (λ x. Some (targets.Worker x)) same)
+worker_back (Some _) b is = cc
+
+worker_spelled : (names : Named) (word : List ℕ) (b : ℕ) → AreApart names → worker_in names word ≡ Some b → word_of names (targets.Worker b) ≡ word
+worker_spelled names word b apart is = word_back names word (targets.Worker b) apart refl (worker_back (find_name word names) b is)
+
 place_back : (t : Option Target) (i : ℕ) → option_and_then place_of t ≡ Some i → t ≡ Some (targets.Group i)
 place_back None i is = cc
 place_back (Some (targets.Group j)) i is = (let same : j ≡ i = cc in ap (λ x. Some (targets.Group x)) same)
@@ -200,6 +209,11 @@ of_cell : (h : Headed) (v : Verb) (w : List ℕ) (us : List (List ℕ)) (o : Obj
 of_cell h v w us o None at f is = cc
 of_cell h v w us o (Some e) at f is = let same : Cell e ≡ o = cc in subst (Spells h v w us) same (f e at)
 
+of_handed : (h : Headed) (v : Verb) (w : List ℕ) (us : List (List ℕ)) (o : Object) (x y : Option ℕ) → event_in h.words w ≡ x → option_and_then (worker_in h.words) (only_in us) ≡ y
+    → ((e b : ℕ) → event_in h.words w ≡ Some e → option_and_then (worker_in h.words) (only_in us) ≡ Some b → Spells h v w us (Handed e b)) → handed_of x y ≡ Some o → Spells h v w us o
+of_handed h v w us o (Some e) (Some b) at to f is = let same : Handed e b ≡ o = cc in subst (Spells h v w us) same (f e b at to)
+of_handed h v w us o _ _ at to f is = cc
+
 of_buffer : (h : Headed) (v : Verb) (w : List ℕ) (us : List (List ℕ)) (o : Object) (x : Option Buffer) → buffer_in h w ≡ x → ((b : Buffer) → buffer_in h w ≡ Some b → Spells h v w us (OfBuffer b)) → option_map OfBuffer x ≡ Some o → Spells h v w us o
 of_buffer h v w us o None at f is = cc
 of_buffer h v w us o (Some e) at f is = let same : OfBuffer e ≡ o = cc in subst (Spells h v w us) same (f e at)
@@ -222,6 +236,12 @@ second_named : (h : Headed) (us : List (List ℕ)) (s : Semaphore) → Owning h 
 second_named h [] s is found = cc
 second_named h (u ∷ []) s is found = ap (λ (x : List ℕ). x ∷ []) (semaphore_named h u s is found)
 second_named h (u ∷ v ∷ us) s is found = cc
+
+-- and the worker to whom a component is handed
+receiver_named : (names : Named) (us : List (List ℕ)) (b : ℕ) → AreApart names → option_and_then (worker_in names) (only_in us) ≡ Some b → word_of names (targets.Worker b) ∷ [] ≡ us
+receiver_named names [] b apart found = cc
+receiver_named names (u ∷ []) b apart found = ap (λ (x : List ℕ). x ∷ []) (worker_spelled names u b apart found)
+receiver_named names (u ∷ v ∷ us) b apart found = cc
 
 write_words : (h : Headed) (d : Database) (vs : List Value) (order : Order) (w : List ℕ) (us : List (List ℕ)) → Some (Write d vs) ≡ Some order → group_word h (Event d.start) ≡ w → map value_word vs ≡ us → order_words h order ≡ codes "write" ∷ w ∷ us
 write_words h d vs order w us is name values = (let same : Write d vs ≡ order = cc in ap (order_words h) (sym same) ∙ ap₂ (λ (x : List ℕ) (xs : List (List ℕ)). codes "write" ∷ x ∷ xs) name values)
@@ -261,6 +281,10 @@ object_spelled h k verbs.Get w us o command tail is =
     of_cell h verbs.Get w us o (cell_in_word h.words w) refl (λ x at order says.
     by_command h (layer.Get x) (commands.Get x) order (codes "get" ∷ w ∷ us) (commands.rolls-Get x) says
     (two (codes "get") _ w us (cell_spelled h.words w x k.apart at) (no_words us tail.0))) is
+object_spelled h k verbs.Hand w us o command tail is =
+    of_handed h verbs.Hand w us o (event_in h.words w) (option_and_then (worker_in h.words) (only_in us)) refl refl (λ e b at to order says.
+    by_command h (layer.Hand e b) (commands.Hand e b) order (codes "hand" ∷ w ∷ us) (commands.rolls-Hand e b) says
+    (three (codes "hand") _ _ w us (event_spelled h.words w e k.apart at) (sym (receiver_named h.words us b k.apart to)))) is
 object_spelled h k verbs.Produce w us o command tail is =
     of_buffer h verbs.Produce w us o (buffer_in h w) refl (λ b at order says.
     by_command h (layer.Produce b (amount_in us)) (commands.Produce b (amount_in us)) order (codes "produce" ∷ w ∷ us) (commands.rolls-Produce b (amount_in us)) says

@@ -7,7 +7,7 @@ use Rattle.std.proofs.lemmas.Bool.{true≢false, and_parts, and_from, false_from
 use Rattle.std.proofs.lemmas.Bool.Decides.{Decides-like, Decides-or, Decides-and, Decides-at, Decides-ltb, Decides-eqb}
 use Rattle.std.proofs.lemmas.Option.{same_Some}
 use Rattle.ec_core.specs.declared.act.TheConstants.{VALUE_MAX}
-use Rattle.ec_count.specs.Tables.{Tables, first_that}
+use Rattle.ec_count.specs.Tables.{first_that}
 use Rattle.ec_database.specs.Shapes.{Database}
 use Rattle.ec_text.specs.Words.{number_of}
 use Rattle.ec_text.proofs.shared.NumberLemmas.{number_takes}
@@ -33,7 +33,7 @@ use Rattle.ec_script.specs.Kinds.{is_no_value, cells_of, is_count, is_allowed, i
 use Rattle.ec_script.specs.Objects.{object_for, object_in, database_in, owns, is_owned}
 use Rattle.ec_script.specs.Reading.{nest_of, seen}
 use Rattle.ec_script.specs.Scripted.{Scripted}
-use Rattle.ec_script.specs.Verbs.{tail_of, is_giving, is_counted}
+use Rattle.ec_script.specs.Verbs.{has_verb, tail_of, is_giving, is_counted}
 use Rattle.ec_script.proofs.Deciding.{never, decides_none, decides_not, decides_itself, decides_any, decides_member, decides_number, decides_block}
 use Rattle.ec_script.proofs.HeadKinds.{unknown_decided}
 use Rattle.ec_script.proofs.OrderLines.{value_back}
@@ -193,8 +193,9 @@ roles_decided h p is = (
   ]) refl,
 )
 
-right_decided : (t : Tables) (v : Verb) (o : Option Object) (w : ℕ) → Decides (not (has_right t w (is_giving v) (or_nothing o))) ((x : Object) × (o ≡ Some x) × (has_right t w (is_giving v) x ≡ false))
-right_decided t v o w = decides_object o (λ x. not (has_right t w (is_giving v) x)) (λ x. has_right t w (is_giving v) x ≡ false) refl (λ x. decides_not (has_right t w (is_giving v) x))
+right_decided : (h : Headed) (v : Verb) (o : Option Object) (w : ℕ) → Decides (not (has_right h.version h.setup w (is_giving v) (or_nothing o))) ((x : Object) × (o ≡ Some x) × (has_right h.version h.setup w (is_giving v) x ≡ false))
+right_decided h v o w =
+    decides_object o (λ x. not (has_right h.version h.setup w (is_giving v) x)) (λ x. has_right h.version h.setup w (is_giving v) x ≡ false) refl (λ x. decides_not (has_right h.version h.setup w (is_giving v) x))
 
 misplaced_decided : (v : Verb) (b : Block) → Decides (is_badly_nested v (Some (nest_of b))) (IsMisplaced b v)
 misplaced_decided verbs.Worker b = ((λ e. tt), λ t. refl)
@@ -212,7 +213,7 @@ other_tests s p kinds.BadNumber = is_bad_tail (tail_of p.verb) p.verb p.rest (or
 other_tests s p kinds.TooMany = is_too_many p.verb p.rest (option_map nest_of s.block) (length s.schedule)
 other_tests s p kinds.Hidden = is_owned s.heading.groups (or_nothing (object_in s.heading p))
 other_tests s p kinds.TwoRoles = has_two_roles (or_nothing (object_in s.heading p))
-other_tests s p kinds.NoRight = lacks_right s.heading.setup (option_map nest_of s.block) p.verb (or_nothing (object_in s.heading p))
+other_tests s p kinds.NoRight = lacks_right s.heading (option_map nest_of s.block) p.verb (or_nothing (object_in s.heading p))
 other_tests s p kinds.BadNesting = is_badly_nested p.verb (option_map nest_of s.block)
 other_tests s p _ = false
 
@@ -227,20 +228,20 @@ other_decided s p kinds.Hidden is tail =
     (λ o. decides_any (owns o) (λ (g : Group). owns o g ≡ true) (λ g. decides_itself (owns o g)) s.heading.groups)
 other_decided s p kinds.TwoRoles is tail = roles_decided s.heading p is
 other_decided s p kinds.NoRight is tail =
-    decides_block s.block (λ n. lacks_right s.heading.setup n p.verb (or_nothing (object_in s.heading p))) (λ b. About s p (λ o. has_right s.heading.setup b.worker (is_giving p.verb) o ≡ false)) refl
-    (λ b. right_decided s.heading.setup p.verb (object_in s.heading p) b.worker)
+    decides_block s.block (λ n. lacks_right s.heading n p.verb (or_nothing (object_in s.heading p))) (λ b. About s p (λ o. has_right s.heading.version s.heading.setup b.worker (is_giving p.verb) o ≡ false)) refl
+    (λ b. right_decided s.heading p.verb (object_in s.heading p) b.worker)
 other_decided s p kinds.BadNesting is tail = decides_block s.block (is_badly_nested p.verb) (λ b. IsMisplaced b p.verb) refl (misplaced_decided p.verb)
 other_decided s p _ is tail = never (λ t. t)
 
 -- where such a line may stand, the first of these tests tells the fault
-pub other_least : (s : Scripted) (p : Phrase) → is_allowed p.verb (is_some (option_map nest_of s.block)) (length s.schedule) ≡ true → phrase_fault (seen s) p (object_in s.heading p) ≡ first_that (
+pub other_least : (s : Scripted) (p : Phrase) → (has_verb s.heading.version p.verb && is_allowed p.verb (is_some (option_map nest_of s.block)) (length s.schedule)) ≡ true → phrase_fault (seen s) p (object_in s.heading p) ≡ first_that (
     (is_named_again s.named (or_nothing (object_in s.heading p)), kinds.NameTaken)
     ∷ (is_none (object_in s.heading p) || has_unknown_name s.heading p.verb p.rest, kinds.UnknownName)
     ∷ (is_bad_tail (tail_of p.verb) p.verb p.rest (or_nothing (object_in s.heading p)), kinds.BadNumber)
     ∷ (is_too_many p.verb p.rest (option_map nest_of s.block) (length s.schedule), kinds.TooMany)
     ∷ (is_owned s.heading.groups (or_nothing (object_in s.heading p)), kinds.Hidden)
     ∷ (has_two_roles (or_nothing (object_in s.heading p)), kinds.TwoRoles)
-    ∷ (lacks_right s.heading.setup (option_map nest_of s.block) p.verb (or_nothing (object_in s.heading p)), kinds.NoRight)
+    ∷ (lacks_right s.heading (option_map nest_of s.block) p.verb (or_nothing (object_in s.heading p)), kinds.NoRight)
     ∷ (is_badly_nested p.verb (option_map nest_of s.block), kinds.BadNesting)
     ∷ [])
 other_least s p allowed = rw allowed refl

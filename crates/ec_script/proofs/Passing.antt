@@ -1,6 +1,6 @@
 -- A line behind the declarations that is taken passes each test.
 use Rattle.std.proofs.Common.{◌≡◌, ℕ, List, [], ◌∷◌, Bool, true, false, not, ◌&&◌, ◌||◌, cond, Option, Some, None, is_some, is_none, Result, Ok, Err, refl, sym, ap, ◌∙◌}
-use Rattle.std.proofs.lemmas.Bool.{or_parts, or_from, not-false, not_from_true}
+use Rattle.std.proofs.lemmas.Bool.{and_parts, and_from, or_parts, or_from, not-false, not_from_true}
 use Rattle.ec_count.specs.Tables.{first_that}
 use Rattle.ec_text.specs.Words.{words_of}
 use Rattle.ec_heading.specs.Heading.{head_step, is_no_line}
@@ -10,7 +10,7 @@ use Rattle.ec_script.specs.declared.fault.Kind.TheVariants as kinds
 use Rattle.ec_script.specs.declared.object.Object.{Object}
 use Rattle.ec_script.specs.declared.stage.Stage.{Stage}
 use Rattle.ec_script.specs.declared.stage.Stage.TheVariants.{Reading}
-use Rattle.ec_script.specs.Verbs.{tail_of}
+use Rattle.ec_script.specs.Verbs.{has_verb, tail_of}
 use Rattle.ec_script.specs.Forms.{Phrase, phrase_in}
 use Rattle.ec_script.specs.Objects.{object_in, is_owned}
 use Rattle.ec_script.specs.Kinds.{Seen, phrase_fault, or_nothing, is_allowed, is_named_again, has_unknown_name, is_bad_tail, is_too_many, has_two_roles, lacks_right, is_badly_nested}
@@ -19,6 +19,7 @@ use Rattle.ec_script.specs.Reading.{seen, after, fault_or, phrased, headed_on, i
 
 -- no test holds of the line
 pub record Passes (s : Seen) (p : Phrase) (o : Option Object) : Type 0 where
+  pub version : has_verb s.heading.version p.verb ≡ true
   pub allowed : is_allowed p.verb (is_some s.nest) s.scheduled ≡ true
   pub new : is_named_again s.named (or_nothing o) ≡ false
   pub found : is_none o ≡ false
@@ -27,7 +28,7 @@ pub record Passes (s : Seen) (p : Phrase) (o : Option Object) : Type 0 where
   pub few : is_too_many p.verb p.rest s.nest s.scheduled ≡ false
   pub apart : is_owned s.heading.groups (or_nothing o) ≡ false
   pub differ : has_two_roles (or_nothing o) ≡ false
-  pub right : lacks_right s.heading.setup s.nest p.verb (or_nothing o) ≡ false
+  pub right : lacks_right s.heading s.nest p.verb (or_nothing o) ≡ false
   pub nested : is_badly_nested p.verb s.nest ≡ false
 
 record Nine (t1 t2 t3 t4 t5 t6 t7 t8 t9 : Bool) : Type 0 where
@@ -66,23 +67,24 @@ nine t1 t2 t3 t4 t5 t6 t7 t8 t9 is =
 
 pub passes : (s : Seen) (p : Phrase) (o : Option Object) → phrase_fault s p o ≡ None → Passes s p o
 passes s p o is =
-    let n = nine (not (is_allowed p.verb (is_some s.nest) s.scheduled)) (is_named_again s.named (or_nothing o)) (is_none o || has_unknown_name s.heading p.verb p.rest)
+    let n = nine (not (has_verb s.heading.version p.verb && is_allowed p.verb (is_some s.nest) s.scheduled)) (is_named_again s.named (or_nothing o)) (is_none o || has_unknown_name s.heading p.verb p.rest)
     (is_bad_tail (tail_of p.verb) p.verb p.rest (or_nothing o)) (is_too_many p.verb p.rest s.nest s.scheduled) (is_owned s.heading.groups (or_nothing o))
-    (has_two_roles (or_nothing o)) (lacks_right s.heading.setup s.nest p.verb (or_nothing o)) (is_badly_nested p.verb s.nest) is in
+    (has_two_roles (or_nothing o)) (lacks_right s.heading s.nest p.verb (or_nothing o)) (is_badly_nested p.verb s.nest) is in
+    let place = and_parts (has_verb s.heading.version p.verb) (is_allowed p.verb (is_some s.nest) s.scheduled) (not-false _ n.f1) in
     let u = or_parts (is_none o) (has_unknown_name s.heading p.verb p.rest) n.f3 in
-    record { allowed = not-false _ n.f1; new = n.f2; found = u.0; known = u.1; range = n.f4; few = n.f5; apart = n.f6; differ = n.f7; right = n.f8; nested = n.f9 }
+    record { version = place.0; allowed = place.1; new = n.f2; found = u.0; known = u.1; range = n.f4; few = n.f5; apart = n.f6; differ = n.f7; right = n.f8; nested = n.f9 }
 
 -- and where none holds there is no fault
 pub no_fault_of : (s : Seen) (p : Phrase) (o : Option Object) → Passes s p o → phrase_fault s p o ≡ None
 no_fault_of s p o h =
-    let t1 : Bool = not (is_allowed p.verb (is_some s.nest) s.scheduled) in
+    let t1 : Bool = not (has_verb s.heading.version p.verb && is_allowed p.verb (is_some s.nest) s.scheduled) in
     let t2 : Bool = is_named_again s.named (or_nothing o) in
     let t3 : Bool = is_none o || has_unknown_name s.heading p.verb p.rest in
     let t4 : Bool = is_bad_tail (tail_of p.verb) p.verb p.rest (or_nothing o) in
     let t5 : Bool = is_too_many p.verb p.rest s.nest s.scheduled in
     let t6 : Bool = is_owned s.heading.groups (or_nothing o) in
     let t7 : Bool = has_two_roles (or_nothing o) in
-    let t8 : Bool = lacks_right s.heading.setup s.nest p.verb (or_nothing o) in
+    let t8 : Bool = lacks_right s.heading s.nest p.verb (or_nothing o) in
     let t9 : Bool = is_badly_nested p.verb s.nest in
     let l9 : List (Bool × Kind) = (t9, kinds.BadNesting) ∷ [] in
     let l8 : List (Bool × Kind) = (t8, kinds.NoRight) ∷ l9 in
@@ -92,7 +94,7 @@ no_fault_of s p o h =
     let l4 : List (Bool × Kind) = (t4, kinds.BadNumber) ∷ l5 in
     let l3 : List (Bool × Kind) = (t3, kinds.UnknownName) ∷ l4 in
     let l2 : List (Bool × Kind) = (t2, kinds.NameTaken) ∷ l3 in
-    pass t1 kinds.BadLine l2 (not_from_true _ h.allowed) (pass t2 kinds.NameTaken l3 h.new (pass t3 kinds.UnknownName l4 (or_from _ _ h.found h.known)
+    pass t1 kinds.BadLine l2 (not_from_true _ (and_from _ _ h.version h.allowed)) (pass t2 kinds.NameTaken l3 h.new (pass t3 kinds.UnknownName l4 (or_from _ _ h.found h.known)
     (pass t4 kinds.BadNumber l5 h.range (pass t5 kinds.TooMany l6 h.few (pass t6 kinds.Hidden l7 h.apart (pass t7 kinds.TwoRoles l8 h.differ (pass t8 kinds.NoRight l9 h.right (pass t9 kinds.BadNesting [] h.nested refl))))))))
 
 -- A LINE

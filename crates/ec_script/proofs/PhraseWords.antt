@@ -23,7 +23,7 @@ no_verb w v (Some u) n e = cc
 
 raw_back : (w : List ℕ) (v : Verb) → raw_verb_of w ≡ Some v → w ≡ verb_word v
 raw_back w v =
-    pick w verbs.Advance _ v (pick w verbs.Read _ v (pick w verbs.Await _ v (pick w verbs.Ticket _ v (pick w verbs.Put _ v (pick w verbs.Get _ v (no_verb w v None refl))))))
+    pick w verbs.Advance _ v (pick w verbs.Read _ v (pick w verbs.Await _ v (pick w verbs.Ticket _ v (pick w verbs.Put _ v (pick w verbs.Get _ v (pick w verbs.Hand _ v (no_verb w v None refl)))))))
 
 procedure_back : (w : List ℕ) (v : Verb) → procedure_verb_of w ≡ Some v → w ≡ verb_word v
 procedure_back w v =
@@ -47,6 +47,7 @@ verb_again verbs.Await = refl
 verb_again verbs.Ticket = refl
 verb_again verbs.Put = refl
 verb_again verbs.Get = refl
+verb_again verbs.Hand = refl
 verb_again verbs.Produce = refl
 verb_again verbs.Consume = refl
 verb_again verbs.Write = refl

@@ -1,7 +1,7 @@
 -- A line without fault may go on with its block.
 use Rattle.std.proofs.Common.{◌≡◌, ℕ, ◌<◌, ◌&&◌, ◌||◌, Bool, true, false, not, List, length, Option, Some, None, option_map, is_some, is_none, nat_le, nat_lt, arith, refl, sym, ap, ◌∙◌, lt-ltb, [], ◌∷◌}
 use Rattle.std.specs.Option.{option_and_then}
-use Rattle.std.proofs.lemmas.Bool.{leb-false}
+use Rattle.std.proofs.lemmas.Bool.{leb-false, and_parts}
 use Rattle.ec_count.specs.Tables.{first_that}
 use Rattle.ec_text.specs.Words.{number_of}
 use Rattle.ec_script.specs.declared.fault.Kind.{Kind}
@@ -12,7 +12,7 @@ use Rattle.ec_script.specs.declared.order.Order.{Order}
 use Rattle.ec_script.specs.declared.order.Order.TheVariants.{Do, Write, Begin, End}
 use Rattle.ec_script.specs.declared.verb.Verb.{Verb}
 use Rattle.ec_script.specs.declared.verb.Verb.TheVariants as verbs
-use Rattle.ec_script.specs.Verbs.{is_counted, tail_of}
+use Rattle.ec_script.specs.Verbs.{has_verb, is_counted, tail_of}
 use Rattle.ec_script.specs.Forms.{Phrase, only_in}
 use Rattle.ec_script.specs.Objects.{is_owned}
 use Rattle.ec_script.specs.Kinds.{Seen, phrase_fault, or_nothing, is_allowed, is_named_again, has_unknown_name, is_bad_tail, is_too_many, has_two_roles, lacks_right, is_badly_nested}
@@ -40,6 +40,7 @@ rest_none true k rest is = cc
 rest_none false k rest is = is
 
 pub record NoFault (s : Seen) (p : Phrase) (o : Option Object) : Type 0 where
+  pub version : has_verb s.heading.version p.verb ≡ true
   pub number : is_bad_tail (tail_of p.verb) p.verb p.rest (or_nothing o) ≡ false
   pub many : is_too_many p.verb p.rest s.nest s.scheduled ≡ false
   pub owned : is_owned s.heading.groups (or_nothing o) ≡ false
@@ -47,7 +48,8 @@ pub record NoFault (s : Seen) (p : Phrase) (o : Option Object) : Type 0 where
   pub nested : is_badly_nested p.verb s.nest ≡ false
 
 -- of nine tests in order
-record Five (number many owned roles nested : Bool) : Type 0 where
+record Six (line number many owned roles nested : Bool) : Type 0 where
+  pub no_line : line ≡ false
   pub no_number : number ≡ false
   pub no_many : many ≡ false
   pub no_owned : owned ≡ false
@@ -56,7 +58,7 @@ record Five (number many owned roles nested : Bool) : Type 0 where
 
 nine : (t1 t2 t3 t4 t5 t6 t7 t8 t9 : Bool)
     → first_that ((t1, kinds.BadLine) ∷ (t2, kinds.NameTaken) ∷ (t3, kinds.UnknownName) ∷ (t4, kinds.BadNumber) ∷ (t5, kinds.TooMany) ∷ (t6, kinds.Hidden) ∷ (t7, kinds.TwoRoles) ∷ (t8, kinds.NoRight) ∷ (t9, kinds.BadNesting) ∷ []) ≡ None
-    → Five t4 t5 t6 t7 t9
+    → Six t1 t4 t5 t6 t7 t9
 nine t1 t2 t3 t4 t5 t6 t7 t8 t9 is =
     let l9 : List (Bool × Kind) = (t9, kinds.BadNesting) ∷ [] in
     let l8 : List (Bool × Kind) = (t8, kinds.NoRight) ∷ l9 in
@@ -74,14 +76,19 @@ nine t1 t2 t3 t4 t5 t6 t7 t8 t9 is =
     let r6 = rest_none t6 kinds.Hidden l7 r5 in
     let r7 = rest_none t7 kinds.TwoRoles l8 r6 in
     let r8 = rest_none t8 kinds.NoRight l9 r7 in
-    record { no_number = first_false t4 kinds.BadNumber l5 r3; no_many = first_false t5 kinds.TooMany l6 r4; no_owned = first_false t6 kinds.Hidden l7 r5; no_roles = first_false t7 kinds.TwoRoles l8 r6; no_nested = first_false t9 kinds.BadNesting [] r8 }
+    record { no_line = first_false t1 kinds.BadLine l2 is; no_number = first_false t4 kinds.BadNumber l5 r3; no_many = first_false t5 kinds.TooMany l6 r4; no_owned = first_false t6 kinds.Hidden l7 r5; no_roles = first_false t7 kinds.TwoRoles l8 r6; no_nested = first_false t9 kinds.BadNesting [] r8 }
+
+not_false : (b : Bool) → not b ≡ false → b ≡ true
+not_false true h = refl
+not_false false h = cc
 
 pub no_fault : (s : Seen) (p : Phrase) (o : Option Object) → phrase_fault s p o ≡ None → NoFault s p o
 no_fault s p o is =
-    let f = nine (not (is_allowed p.verb (is_some s.nest) s.scheduled)) (is_named_again s.named (or_nothing o)) (is_none o || has_unknown_name s.heading p.verb p.rest)
+    let f = nine (not (has_verb s.heading.version p.verb && is_allowed p.verb (is_some s.nest) s.scheduled)) (is_named_again s.named (or_nothing o)) (is_none o || has_unknown_name s.heading p.verb p.rest)
     (is_bad_tail (tail_of p.verb) p.verb p.rest (or_nothing o)) (is_too_many p.verb p.rest s.nest s.scheduled) (is_owned s.heading.groups (or_nothing o))
-    (has_two_roles (or_nothing o)) (lacks_right s.heading.setup s.nest p.verb (or_nothing o)) (is_badly_nested p.verb s.nest) is in
-    record { number = f.no_number; many = f.no_many; owned = f.no_owned; roles = f.no_roles; nested = f.no_nested }
+    (has_two_roles (or_nothing o)) (lacks_right s.heading s.nest p.verb (or_nothing o)) (is_badly_nested p.verb s.nest) is in
+    let place = and_parts (has_verb s.heading.version p.verb) (is_allowed p.verb (is_some s.nest) s.scheduled) (not_false _ f.no_line) in
+    record { version = place.0; number = f.no_number; many = f.no_many; owned = f.no_owned; roles = f.no_roles; nested = f.no_nested }
 
 -- A BLOCK
 
@@ -94,10 +101,6 @@ room_for verbs.Schedule ws (Some b) n counted h = cc
 room_for verbs.Worker ws (Some b) n counted h = cc
 room_for verbs.End ws (Some b) n counted h = cc
 room_for v ws (Some b) n counted h = below 4096 b.draft.many h
-
-not_false : (b : Bool) → not b ≡ false → b ≡ true
-not_false true h = refl
-not_false false h = cc
 
 pub may_repeat : (ws : List (List ℕ)) (b : Option Block) (n : ℕ) (o : Object)
     → is_bad_tail (tail_of verbs.Repeat) verbs.Repeat ws o ≡ false → is_too_many verbs.Repeat ws (option_map nest_of b) n ≡ false → is_badly_nested verbs.Repeat (option_map nest_of b) ≡ false

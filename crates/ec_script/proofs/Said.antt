@@ -11,13 +11,13 @@ use Rattle.ec_heading.specs.Spelled.{event_in, sequencer_in, cell_in_word}
 use Rattle.ec_script.specs.declared.verb.Verb.{Verb}
 use Rattle.ec_script.specs.declared.verb.Verb.TheVariants as verbs
 use Rattle.ec_script.specs.declared.object.Object.{Object}
-use Rattle.ec_script.specs.declared.object.Object.TheVariants.{Event, Sequencer, Cell, OfBuffer, OfDatabase, OfSemaphore, Three}
+use Rattle.ec_script.specs.declared.object.Object.TheVariants.{Event, Sequencer, Cell, Handed, OfBuffer, OfDatabase, OfSemaphore, Three}
 use Rattle.ec_script.specs.declared.order.Order.{Order}
 use Rattle.ec_script.specs.declared.order.Order.TheVariants.{Do, Write, Begin, End}
 use Rattle.ec_script.specs.declared.kinds.Nest.{Nest}
 use Rattle.ec_script.specs.Verbs.{is_giving, is_outer}
 use Rattle.ec_script.specs.Forms.{phrase_in}
-use Rattle.ec_script.specs.Objects.{object_for, buffer_in, database_in, semaphore_in, both_of, three_of}
+use Rattle.ec_script.specs.Objects.{object_for, buffer_in, database_in, semaphore_in, both_of, three_of, handed_of}
 use Rattle.ec_script.specs.Kinds.{Seen, lacks_right}
 use Rattle.ec_script.specs.Orders.{command_in}
 use Rattle.ec_script.specs.Drafted.{Drafted, with_order}
@@ -59,6 +59,10 @@ of_cell : (v : Verb) (ws : List (List ℕ)) (o : Object) (x : Option ℕ) → ((
 of_cell v ws o None f is = cc
 of_cell v ws o (Some e) f is = let same : Cell e ≡ o = cc in subst (λ x. Ordered v x ws) same (f e)
 
+of_handed : (v : Verb) (ws : List (List ℕ)) (o : Object) (x y : Option ℕ) → ((e b : ℕ) → Ordered v (Handed e b) ws) → handed_of x y ≡ Some o → Ordered v o ws
+of_handed v ws o (Some e) (Some b) f is = let same : Handed e b ≡ o = cc in subst (λ x. Ordered v x ws) same (f e b)
+of_handed v ws o _ _ f is = cc
+
 of_buffer : (v : Verb) (ws : List (List ℕ)) (o : Object) (x : Option Buffer) → ((b : Buffer) → Ordered v (OfBuffer b) ws) → option_map OfBuffer x ≡ Some o → Ordered v o ws
 of_buffer v ws o None f is = cc
 of_buffer v ws o (Some e) f is = let same : OfBuffer e ≡ o = cc in subst (λ x. Ordered v x ws) same (f e)
@@ -82,6 +86,7 @@ ordered_of h verbs.Await w ws o command is = of_event verbs.Await ws o (event_in
 ordered_of h verbs.Ticket w ws o command is = of_sequencer verbs.Ticket ws o (sequencer_in h.words w) (λ e. record { order = _; is = refl; step = tt }) is
 ordered_of h verbs.Put w ws o command is = of_cell verbs.Put ws o (cell_in_word h.words w) (λ e. record { order = _; is = refl; step = tt }) is
 ordered_of h verbs.Get w ws o command is = of_cell verbs.Get ws o (cell_in_word h.words w) (λ e. record { order = _; is = refl; step = tt }) is
+ordered_of h verbs.Hand w ws o command is = of_handed verbs.Hand ws o (event_in h.words w) _ (λ e b. record { order = _; is = refl; step = tt }) is
 ordered_of h verbs.Produce w ws o command is = of_buffer verbs.Produce ws o (buffer_in h w) (λ e. record { order = _; is = refl; step = tt }) is
 ordered_of h verbs.Consume w ws o command is = of_buffer verbs.Consume ws o (buffer_in h w) (λ e. record { order = _; is = refl; step = tt }) is
 ordered_of h verbs.Write w ws o command is = of_database verbs.Write ws o (database_in h w) (λ e. record { order = _; is = refl; step = tt }) is
@@ -109,12 +114,13 @@ said s n line v w ws o order whole form inner nest is h says =
       phrase = made v w ws;
       form = form;
       inner = inner;
+      version = g.version;
       object = o;
       declared = is;
       range = g.range;
       apart = g.apart;
       differ = g.differ;
-      right = not-false _ (ap (λ m. lacks_right s.heading.setup m v o) (sym nest) ∙ g.right);
+      right = not-false _ (ap (λ m. lacks_right s.heading m v o) (sym nest) ∙ g.right);
       says = says;
     }
 

@@ -2,7 +2,7 @@
 use Rattle.std.proofs.Common.{◌≡◌, ◌==◌, ℕ, ◌<◌, ◌≤◌, List, [], ◌∷◌, ◌++◌, length, map, take, drop, true, false, not, ◌&&◌, cond, eqb, nat_le, nat_lt, Some, None, option_map, is_some, is_none, unwrap_or, refl, sym, ap, ap₂, ◌∙◌, subst, arith, bytes_eq, codes, decimal, ne_eqb, eq-eqb, length-append}
 use Rattle.std.specs.List.{AllByRecursion, join_with_byte, list_any, list_all, Contains, slice_get}
 use Rattle.std.specs.Option.{option_and_then, option_map_or}
-use Rattle.std.proofs.lemmas.Bool.{and_parts, and_from, or_from, or_parts, or_left, or_right, not_from_true, le-leb, leb-true, ltb-false, false_from_ne_true}
+use Rattle.std.proofs.lemmas.Bool.{and_parts, and_from, or_from, or_parts, or_left, or_right, not_from_true, le-leb, leb-true, ltb-false, ltb-true, false_from_ne_true}
 use Rattle.std.proofs.lemmas.List.{length-map, take-append-drop}
 use Rattle.std.proofs.lemmas.List.Elements.{All-from_recursion, recursion_from_All}
 use Rattle.std.proofs.lemmas.Option.{slice_get_within}
@@ -28,22 +28,26 @@ use Rattle.ec_machine.specs.declared.command.Command.TheOpen as layer
 use Rattle.ec_machine.specs.declared.command.Command.TheVariants as commands
 use Rattle.ec_machine.specs.Limits.{is_value}
 use Rattle.ec_heading.specs.declared.group.Group.TheVariants as groups
+use Rattle.ec_heading.specs.declared.version.Version.{Version}
+use Rattle.ec_heading.specs.declared.version.Version.TheVariants.{One, Two}
 use Rattle.ec_heading.specs.Headed.{Headed}
 use Rattle.ec_heading.specs.Outline.{Outline, IsOutline, headed}
+use Rattle.ec_heading.specs.Lists.{worker_in}
 use Rattle.ec_heading.specs.Spelling.{word_of, cell_word}
 use Rattle.ec_heading.proofs.shared.Each.{each_append}
 use Rattle.ec_heading.proofs.shared.LineWords.{IsFit, AreFit}
 use Rattle.ec_script.specs.declared.verb.Verb.{Verb}
 use Rattle.ec_script.specs.declared.verb.Verb.TheVariants as verbs
 use Rattle.ec_script.specs.declared.object.Object.{Object}
-use Rattle.ec_script.specs.declared.object.Object.TheVariants.{Nothing, Event, Sequencer, Cell, OfBuffer, OfDatabase, OfSemaphore, Three}
+use Rattle.ec_script.specs.declared.object.Object.TheVariants.{Nothing, Event, Sequencer, Cell, Handed, OfBuffer, OfDatabase, OfSemaphore, Three}
 use Rattle.ec_script.specs.declared.order.Order.{Order}
 use Rattle.ec_script.specs.declared.order.Order.TheVariants.{Do, Write, Begin, End}
-use Rattle.ec_script.specs.Verbs.{tail_of, has_object, is_giving, is_outer}
+use Rattle.ec_script.specs.Verbs.{has_verb, tail_of, has_object, is_giving, is_outer}
 use Rattle.ec_script.specs.Forms.{more_in, last_plus, number_or_more, value_of, is_value_form, is_tail, objected_in, tailed_in, verbed_in, phrase_in}
-use Rattle.ec_script.specs.Objects.{object_for, buffer_of, database_of, semaphore_of, buffer_in, database_in, semaphore_in, three_of, is_owned}
-use Rattle.ec_script.specs.Kinds.{is_no_value, is_count, is_bad_tail, has_two_roles, has_right}
+use Rattle.ec_script.specs.Objects.{object_for, buffer_of, database_of, semaphore_of, buffer_in, database_in, semaphore_in, three_of, handed_of, is_owned}
+use Rattle.ec_script.specs.Kinds.{is_no_value, is_count, is_bad_tail, has_two_roles, may_signal, are_declared, has_right}
 use Rattle.ec_script.specs.Orders.{amount_of}
+use Rattle.ec_script.specs.Versioned.{has_command}
 use Rattle.ec_script.specs.Confined.{UsesGroups}
 use Rattle.ec_script.specs.Layout.{order_by, Says}
 use Rattle.ec_script.specs.Spelling.{value_word, group_word, command_words, order_words, order_line}
@@ -53,7 +57,7 @@ use Rattle.ec_script.proofs.PhraseWords.{made, verb_again}
 use Rattle.ec_script.proofs.LayoutsLead.{fit_line, none_owned}
 use Rattle.ec_script.proofs.OrderLines.{line_spelled}
 use Rattle.ec_script.proofs.Owners.{owning}
-use Rattle.ec_script.proofs.Namings.{IsFound, found_in, event_again, sequencer_again, cell_again, group_again}
+use Rattle.ec_script.proofs.Namings.{IsFound, found_in, worker_again, event_again, sequencer_again, cell_again, group_again}
 use Rattle.ec_script.proofs.Giving.{line_given}
 
 -- NUMBERS AND VALUES
@@ -144,12 +148,19 @@ values_spelled (v ∷ vs) all =
 
 -- RIGHTS ARE TO WHAT IS DECLARED
 
-pub signalled : (t : Tables) (e w : ℕ) → is_some (component_of t e w) ≡ true → e < length t.events
+signalled : (t : Tables) (e w : ℕ) → is_some (component_of t e w) ≡ true → e < length t.events
 signalled t e w is =
     (elim (slice_get t.events e) as (λ x. slice_get t.events e ≡ x → is_some (member_place w (option_map_or (λ (r : Rights). r.signal) x [])) ≡ true → e < length t.events) [
       | None ↦ λ at h. cc
       | Some r ↦ λ at h. slice_get_within t.events e r at
     ]) refl is
+
+pub signals : (v : Version) (t : Tables) (e w : ℕ) → may_signal v t e w ≡ true → e < length t.events
+signals One t e w is = signalled t e w is
+signals Two t e w is = ltb-true e (length t.events) is
+
+pub handed : (t : Tables) (e b : ℕ) → are_declared t e b ≡ true → (e < length t.events) × (b < t.workers)
+handed t e b is = (let p = and_parts (nat_lt e (length t.events)) (nat_lt b t.workers) is in (ltb-true e (length t.events) p.0, ltb-true b t.workers p.1))
 
 pub observed : (t : Tables) (e w : ℕ) → may_observe t e w ≡ true → e < length t.events
 observed t e w is =
@@ -220,6 +231,7 @@ verb_fits verbs.Await = record { word = literal_word (codes "await") refl; some 
 verb_fits verbs.Ticket = record { word = literal_word (codes "ticket") refl; some = refl }
 verb_fits verbs.Put = record { word = literal_word (codes "put") refl; some = refl }
 verb_fits verbs.Get = record { word = literal_word (codes "get") refl; some = refl }
+verb_fits verbs.Hand = record { word = literal_word (codes "hand") refl; some = refl }
 verb_fits verbs.Produce = record { word = literal_word (codes "produce") refl; some = refl }
 verb_fits verbs.Consume = record { word = literal_word (codes "consume") refl; some = refl }
 verb_fits verbs.Write = record { word = literal_word (codes "write") refl; some = refl }
@@ -234,13 +246,14 @@ verb_fits verbs.Schedule = record { word = literal_word (codes "schedule") refl;
 
 -- what a line must be that says an order by these words
 record IsSaid (h : Headed) (n : ℕ) (v : Verb) (w : List ℕ) (us : List (List ℕ)) (o : Object) (order : Order) : Type 0 where
+  version : has_verb h.version v ≡ true
   tail : is_tail (tail_of v) us ≡ true
   fit : AreFit us
   found : object_for h v w us ≡ Some o
   range : is_bad_tail (tail_of v) v us o ≡ false
   apart : is_owned h.groups o ≡ false
   differ : has_two_roles o ≡ false
-  right : has_right h.setup n (is_giving v) o ≡ true
+  right : has_right h.version h.setup n (is_giving v) o ≡ true
   says : order_by v o us ≡ Some order
 
 -- a line with an object
@@ -253,6 +266,7 @@ say h n v w us o order has inner fits s short =
       phrase = made v w us;
       form = ap phrase_in l.0 ∙ phrase_again v w us has s.tail;
       inner = inner;
+      version = s.version;
       object = o;
       declared = s.found;
       range = s.range;
@@ -272,6 +286,7 @@ say_alone h n v us o order has inner s short =
       phrase = made v [] us;
       form = ap phrase_in l.0 ∙ phrase_alone v us has s.tail;
       inner = inner;
+      version = s.version;
       object = o;
       declared = s.found;
       range = s.range;
@@ -294,57 +309,75 @@ count_in n most is few =
     let small : n < 1000000000000000000 = omega (arith, low, few) in
     ((number_is_form (decimal n) n (number_again n small)).0, number_again n small, number_fits n small)
 
-says_layer : (h : Headed) → IsFound h → (n : ℕ) (d : Command-F Command) → UsesGroups h.groups d → may_do h.setup n d ≡ true → is_line_of d ≡ true → SaysLayer h n d (roll-Command d)
-says_layer h f n (layer.Advance e) uses may line = λ short.
-    let w = event_again h f e (signalled h.setup e n may) in
+says_layer : (h : Headed) → IsFound h → (n : ℕ) (d : Command-F Command) → UsesGroups h.groups d → may_do h.version h.setup n d ≡ true → is_line_of d ≡ true → has_command h.version d ≡ true → SaysLayer h n d (roll-Command d)
+says_layer h f n (layer.Advance e) uses may line has = λ short.
+    let w = event_again h f e (signals h.version h.setup e n may) in
     subst (λ c. Says h n (join_with_byte 32 (command_words h (layer.Advance e))) (Do c)) (sym (commands.rolls-Advance e))
     (say h n verbs.Advance (word_of h.words (targets.Event e)) [] (Event e) (Do (commands.Advance e)) refl refl w.1
-    (record { tail = refl; fit = tt; found = ap (option_map Event) w.0; range = refl; apart = uses; differ = refl; right = may; says = refl }) short)
-says_layer h f n (layer.Read e) uses may line = λ short.
+    (record { version = refl; tail = refl; fit = tt; found = ap (option_map Event) w.0; range = refl; apart = uses; differ = refl; right = may; says = refl }) short)
+says_layer h f n (layer.Read e) uses may line has = λ short.
     let w = event_again h f e (observed h.setup e n may) in
     subst (λ c. Says h n (join_with_byte 32 (command_words h (layer.Read e))) (Do c)) (sym (commands.rolls-Read e))
     (say h n verbs.Read (word_of h.words (targets.Event e)) [] (Event e) (Do (commands.Read e)) refl refl w.1
-    (record { tail = refl; fit = tt; found = ap (option_map Event) w.0; range = refl; apart = uses; differ = refl; right = may; says = refl }) short)
-says_layer h f n (layer.Await e v) uses may line = λ short.
+    (record { version = refl; tail = refl; fit = tt; found = ap (option_map Event) w.0; range = refl; apart = uses; differ = refl; right = may; says = refl }) short)
+says_layer h f n (layer.Await e v) uses may line has = λ short.
     let w = event_again h f e (observed h.setup e n may) in
     let x : IsSpelled v = value_spelled v line in
     subst (λ c. Says h n (join_with_byte 32 (command_words h (layer.Await e v))) (Do c)) (sym (commands.rolls-Await e v))
     (say h n verbs.Await (word_of h.words (targets.Event e)) (value_word v ∷ []) (Event e) (Do (commands.Await e v)) refl refl w.1
-    (record { tail = x.form; fit = (x.fits, tt); found = ap (option_map Event) w.0; range = no_value_not v x; apart = uses; differ = refl; right = may; says = ap (λ y. Some (Do (commands.Await e y))) (amount_again v x) }) short)
-says_layer h f n (layer.Ticket q) uses may line = λ short.
+    (record { version = refl; tail = x.form; fit = (x.fits, tt); found = ap (option_map Event) w.0; range = no_value_not v x; apart = uses; differ = refl; right = may; says = ap (λ y. Some (Do (commands.Await e y))) (amount_again v x) }) short)
+says_layer h f n (layer.Ticket q) uses may line has = λ short.
     let w = sequencer_again h f q (taken h.setup q n may) in
     subst (λ c. Says h n (join_with_byte 32 (command_words h (layer.Ticket q))) (Do c)) (sym (commands.rolls-Ticket q))
     (say h n verbs.Ticket (word_of h.words (targets.Sequencer q)) [] (Sequencer q) (Do (commands.Ticket q)) refl refl w.1
-    (record { tail = refl; fit = tt; found = ap (option_map Sequencer) w.0; range = refl; apart = uses; differ = refl; right = may; says = refl }) short)
-says_layer h f n (layer.Put i v) uses may line = λ short.
+    (record { version = refl; tail = refl; fit = tt; found = ap (option_map Sequencer) w.0; range = refl; apart = uses; differ = refl; right = may; says = refl }) short)
+says_layer h f n (layer.Put i v) uses may line has = λ short.
     let w = cell_again h f i (written h.setup i n may) in
     let x : IsSpelled v = value_spelled v line in
     subst (λ c. Says h n (join_with_byte 32 (command_words h (layer.Put i v))) (Do c)) (sym (commands.rolls-Put i v))
     (say h n verbs.Put (cell_word h.words i) (value_word v ∷ []) (Cell i) (Do (commands.Put i v)) refl refl w.1
-    (record { tail = x.form; fit = (x.fits, tt); found = ap (option_map Cell) w.0; range = no_value_not v x; apart = uses; differ = refl; right = may; says = ap (λ y. Some (Do (commands.Put i y))) (amount_again v x) }) short)
-says_layer h f n (layer.Get i) uses may line = λ short.
+    (record { version = refl; tail = x.form; fit = (x.fits, tt); found = ap (option_map Cell) w.0; range = no_value_not v x; apart = uses; differ = refl; right = may; says = ap (λ y. Some (Do (commands.Put i y))) (amount_again v x) }) short)
+says_layer h f n (layer.Get i) uses may line has = λ short.
     let w = cell_again h f i (read_from h.setup i n may) in
     subst (λ c. Says h n (join_with_byte 32 (command_words h (layer.Get i))) (Do c)) (sym (commands.rolls-Get i))
     (say h n verbs.Get (cell_word h.words i) [] (Cell i) (Do (commands.Get i)) refl refl w.1
-    (record { tail = refl; fit = tt; found = ap (option_map Cell) w.0; range = refl; apart = uses; differ = refl; right = may; says = refl }) short)
-says_layer h f n (layer.Produce b v) uses may line = λ short.
+    (record { version = refl; tail = refl; fit = tt; found = ap (option_map Cell) w.0; range = refl; apart = uses; differ = refl; right = may; says = refl }) short)
+says_layer h f n (layer.Hand e b) uses may line has = λ short.
+    let declared = handed h.setup e b may in
+    let w = event_again h f e declared.0 in
+    let to = worker_again h f b declared.1 in
+    subst (λ c. Says h n (join_with_byte 32 (command_words h (layer.Hand e b))) (Do c)) (sym (commands.rolls-Hand e b))
+    (say h n verbs.Hand (word_of h.words (targets.Event e)) (word_of h.words (targets.Worker b) ∷ []) (Handed e b) (Do (commands.Hand e b)) refl refl w.1
+    (record {
+      version = has;
+      tail = refl;
+      fit = (to.1, tt);
+      found = ap (λ x. handed_of x (worker_in h.words (word_of h.words (targets.Worker b)))) w.0 ∙ ap (handed_of (Some e)) to.0;
+      range = refl;
+      apart = uses;
+      differ = refl;
+      right = may;
+      says = refl;
+    }) short)
+says_layer h f n (layer.Produce b v) uses may line has = λ short.
     let w = buffer_again h f b uses in
     let x : IsSpelled v = value_spelled v line in
     subst (λ c. Says h n (join_with_byte 32 (command_words h (layer.Produce b v))) (Do c)) (sym (commands.rolls-Produce b v))
     (say h n verbs.Produce (group_word h (Event b.in_count)) (value_word v ∷ []) (OfBuffer b) (Do (commands.Produce b v)) refl refl w.1
-    (record { tail = x.form; fit = (x.fits, tt); found = ap (option_map OfBuffer) w.0; range = no_value_not v x; apart = none_owned h.groups (OfBuffer b) (λ g. refl); differ = refl; right = may; says = ap (λ y. Some (Do (commands.Produce b y))) (amount_again v x) }) short)
-says_layer h f n (layer.Consume b) uses may line = λ short.
+    (record { version = refl; tail = x.form; fit = (x.fits, tt); found = ap (option_map OfBuffer) w.0; range = no_value_not v x; apart = none_owned h.groups (OfBuffer b) (λ g. refl); differ = refl; right = may; says = ap (λ y. Some (Do (commands.Produce b y))) (amount_again v x) }) short)
+says_layer h f n (layer.Consume b) uses may line has = λ short.
     let w = buffer_again h f b uses in
     subst (λ c. Says h n (join_with_byte 32 (command_words h (layer.Consume b))) (Do c)) (sym (commands.rolls-Consume b))
     (say h n verbs.Consume (group_word h (Event b.in_count)) [] (OfBuffer b) (Do (commands.Consume b)) refl refl w.1
-    (record { tail = refl; fit = tt; found = ap (option_map OfBuffer) w.0; range = refl; apart = none_owned h.groups (OfBuffer b) (λ g. refl); differ = refl; right = may; says = refl }) short)
-says_layer h f n (layer.WriteAll d vs) uses may line = cc
-says_layer h f n (layer.Snapshot d k) uses may line = λ short.
+    (record { version = refl; tail = refl; fit = tt; found = ap (option_map OfBuffer) w.0; range = refl; apart = none_owned h.groups (OfBuffer b) (λ g. refl); differ = refl; right = may; says = refl }) short)
+says_layer h f n (layer.WriteAll d vs) uses may line has = cc
+says_layer h f n (layer.Snapshot d k) uses may line has = λ short.
     let w = database_again h f d uses in
     let x = count_in k 1000 line (omega arith) in
     subst (λ c. Says h n (join_with_byte 32 (command_words h (layer.Snapshot d k))) (Do c)) (sym (commands.rolls-Snapshot d k))
     (say h n verbs.Snapshot (group_word h (Event d.start)) (decimal k ∷ []) (OfDatabase d) (Do (commands.Snapshot d k)) refl refl w.1
     (record {
+      version = refl;
       tail = x.0;
       fit = (x.2, tt);
       found = ap (option_map OfDatabase) w.0;
@@ -354,22 +387,23 @@ says_layer h f n (layer.Snapshot d k) uses may line = λ short.
       right = may;
       says = ap (λ o. Some (Do (commands.Snapshot d (unwrap_or o 0)))) x.1;
     }) short)
-says_layer h f n (layer.Down s) uses may line = λ short.
+says_layer h f n (layer.Down s) uses may line has = λ short.
     let w = semaphore_again h f s uses in
     subst (λ c. Says h n (join_with_byte 32 (command_words h (layer.Down s))) (Do c)) (sym (commands.rolls-Down s))
     (say h n verbs.Down (group_word h (Sequencer s.line)) [] (OfSemaphore s) (Do (commands.Down s)) refl refl w.1
-    (record { tail = refl; fit = tt; found = ap (option_map OfSemaphore) w.0; range = refl; apart = none_owned h.groups (OfSemaphore s) (λ g. refl); differ = refl; right = may; says = refl }) short)
-says_layer h f n (layer.Up s) uses may line = λ short.
+    (record { version = refl; tail = refl; fit = tt; found = ap (option_map OfSemaphore) w.0; range = refl; apart = none_owned h.groups (OfSemaphore s) (λ g. refl); differ = refl; right = may; says = refl }) short)
+says_layer h f n (layer.Up s) uses may line has = λ short.
     let w = semaphore_again h f s uses in
     subst (λ c. Says h n (join_with_byte 32 (command_words h (layer.Up s))) (Do c)) (sym (commands.rolls-Up s))
     (say h n verbs.Up (group_word h (Sequencer s.line)) [] (OfSemaphore s) (Do (commands.Up s)) refl refl w.1
-    (record { tail = refl; fit = tt; found = ap (option_map OfSemaphore) w.0; range = refl; apart = none_owned h.groups (OfSemaphore s) (λ g. refl); differ = refl; right = may; says = refl }) short)
-says_layer h f n (layer.DownBoth r s t) uses may line = λ short.
+    (record { version = refl; tail = refl; fit = tt; found = ap (option_map OfSemaphore) w.0; range = refl; apart = none_owned h.groups (OfSemaphore s) (λ g. refl); differ = refl; right = may; says = refl }) short)
+says_layer h f n (layer.DownBoth r s t) uses may line has = λ short.
     let one = semaphore_again h f s uses.1 in
     let other = semaphore_again h f t uses.2 in
     subst (λ c. Says h n (join_with_byte 32 (command_words h (layer.DownBoth r s t))) (Do c)) (sym (commands.rolls-DownBoth r s t))
     (say h n verbs.DownBoth (group_word h (Sequencer s.line)) (group_word h (Sequencer t.line) ∷ []) (Three r s t) (Do (commands.DownBoth r s t)) refl refl one.1
     (record {
+      version = refl;
       tail = refl;
       fit = (other.1, tt);
       found = ap (λ x. three_of x (semaphore_in h (group_word h (Sequencer s.line))) (semaphore_in h (group_word h (Sequencer t.line)))) uses.0
@@ -381,19 +415,20 @@ says_layer h f n (layer.DownBoth r s t) uses may line = λ short.
       right = may;
       says = refl;
     }) short)
-says_layer h f n (layer.Repeat k block) uses may line = cc
+says_layer h f n (layer.Repeat k block) uses may line has = cc
 
 -- ANY ORDER
 
 says_order : (h : Headed) → IsFound h → (n : ℕ) (order : Order) → IsGiven h n order → length (join_with_byte 32 (order_words h order)) ≤ 8192 → Says h n (join_with_byte 32 (order_words h order)) order
 says_order h f n (Do c) given short =
-    subst (λ x. Says h n (join_with_byte 32 (command_words h (out-Command c))) (Do x)) (roll-out-Command c) (says_layer h f n (out-Command c) given.0 given.1 given.2 short)
+    subst (λ x. Says h n (join_with_byte 32 (command_words h (out-Command c))) (Do x)) (roll-out-Command c) (says_layer h f n (out-Command c) given.0 given.1 given.2 given.3 short)
 says_order h f n (Write d vs) given short =
     let w = database_again h f d given.0 in
     let x : AreSpelled vs = values_spelled vs given.4 in
     let many : length (map value_word vs) ≡ length vs = length-map vs value_word in
     say h n verbs.Write (group_word h (Event d.start)) (map value_word vs) (OfDatabase d) (Write d vs) refl refl w.1
     (record {
+      version = refl;
       tail = and_from _ _ (le-leb 1 (length (map value_word vs)) (omega (arith, many, given.2))) x.forms;
       fit = x.fit;
       found = ap (option_map OfDatabase) w.0;
@@ -408,6 +443,7 @@ says_order h f n (Begin k) given short =
     let x = count_in k 1000000 within (omega arith) in
     say_alone h n verbs.Repeat (decimal k ∷ []) Nothing (Begin k) refl refl
     (record {
+      version = refl;
       tail = x.0;
       fit = (x.2, tt);
       found = refl;
@@ -419,7 +455,7 @@ says_order h f n (Begin k) given short =
     }) short
 says_order h f n End given short =
     say_alone h n verbs.End [] Nothing End refl refl
-    (record { tail = refl; fit = tt; found = refl; range = refl; apart = none_owned h.groups Nothing (λ g. refl); differ = refl; right = refl; says = refl }) short
+    (record { version = refl; tail = refl; fit = tt; found = refl; range = refl; apart = none_owned h.groups Nothing (λ g. refl); differ = refl; right = refl; says = refl }) short
 
 line_said : (o : Outline) (n : ℕ) (line : List ℕ) (order : Order) → IsOutline o → line ≡ order_line (headed o) order → MayGive (headed o) n order → Says (headed o) n line order
 unfolding order_line

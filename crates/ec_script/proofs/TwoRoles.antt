@@ -18,8 +18,9 @@ use Rattle.ec_script.specs.declared.verb.Verb.{Verb}
 use Rattle.ec_script.specs.declared.verb.Verb.TheVariants as verbs
 use Rattle.ec_script.specs.declared.object.Object.{Object}
 use Rattle.ec_script.specs.declared.object.Object.TheVariants.{Worker, Event, Sequencer, Cell, OfBuffer, OfDatabase, OfSemaphore, Three}
+use Rattle.ec_script.specs.Verbs.{has_verb}
 use Rattle.ec_script.specs.Forms.{Phrase, only_in}
-use Rattle.ec_script.specs.Objects.{buffer_in, database_in, semaphore_in, both_of, three_of, object_for, object_in, is_owned}
+use Rattle.ec_script.specs.Objects.{buffer_in, database_in, semaphore_in, both_of, three_of, handed_of, object_for, object_in, is_owned}
 use Rattle.ec_script.specs.Kinds.{Seen, is_allowed, is_named_again, is_too_many, has_two_roles, or_nothing, phrase_fault}
 use Rattle.ec_script.specs.Pairs.{TwoRolesAreOneName, NamesOneTwice, TwoRolesAreTold}
 use Rattle.ec_script.proofs.Commons.{common_starts, common_counts}
@@ -107,6 +108,10 @@ plain : {X : Type 0} (f : X → Object) (m : Option X) → ((x : X) → has_two_
 plain f None off on = cc
 plain f (Some x) off on = true≢false (sym on ∙ off x)
 
+plain_hand : (x y : Option ℕ) → has_two_roles (or_nothing (handed_of x y)) ≡ true → ⊥
+plain_hand (Some e) (Some b) on = cc
+plain_hand _ _ on = cc
+
 pub pair_verb : (h : Headed) (v : Verb) (w : List ℕ) (ws : List (List ℕ)) → has_two_roles (or_nothing (object_for h v w ws)) ≡ true → v ≡ verbs.DownBoth
 pair_verb h verbs.Advance w ws on = absurd (plain Event (event_in h.words w) (λ x. refl) on)
 pair_verb h verbs.Read w ws on = absurd (plain Event (event_in h.words w) (λ x. refl) on)
@@ -114,6 +119,7 @@ pair_verb h verbs.Await w ws on = absurd (plain Event (event_in h.words w) (λ x
 pair_verb h verbs.Ticket w ws on = absurd (plain Sequencer (sequencer_in h.words w) (λ x. refl) on)
 pair_verb h verbs.Put w ws on = absurd (plain Cell (cell_in_word h.words w) (λ x. refl) on)
 pair_verb h verbs.Get w ws on = absurd (plain Cell (cell_in_word h.words w) (λ x. refl) on)
+pair_verb h verbs.Hand w ws on = absurd (plain_hand (event_in h.words w) (option_and_then (worker_in h.words) (only_in ws)) on)
 pair_verb h verbs.Produce w ws on = absurd (plain OfBuffer (buffer_in h w) (λ x. refl) on)
 pair_verb h verbs.Consume w ws on = absurd (plain OfBuffer (buffer_in h w) (λ x. refl) on)
 pair_verb h verbs.Write w ws on = absurd (plain OfDatabase (database_in h w) (λ x. refl) on)
@@ -184,7 +190,7 @@ names_one s p is fault =
       verb = verb;
       twice = pair.1 ∙ ap (λ (w : List ℕ). w ∷ []) (sym (same_word p.object pair.0 same));
       declared = ap is_some x.1;
-      inside = in_block s.nest (subst (λ v. not (is_allowed v (is_some s.nest) s.scheduled) ≡ false) verb t.inside);
+      inside = in_block s.nest (subst (λ v. not (has_verb s.heading.version v && is_allowed v (is_some s.nest) s.scheduled) ≡ false) verb t.inside);
       room = t.room;
     }
 

@@ -13,6 +13,7 @@ use Rattle.ec_script.specs.declared.object.Object.TheVariants.{Event, Sequencer,
 use Rattle.ec_script.specs.declared.order.Order.{Order}
 use Rattle.ec_script.specs.declared.order.Order.TheVariants.{Do, Write, Begin, End}
 use Rattle.ec_script.specs.Objects.{owns, is_owned, both_of}
+use Rattle.ec_script.specs.Versioned.{HasOrders}
 use Rattle.ec_script.specs.Flat.{flat}
 use Rattle.ec_script.specs.Scripted.{Planned}
 use Rattle.ec_script.specs.Outcome.{outcome}
@@ -28,6 +29,7 @@ UsesGroups gs (layer.Await e v) = is_owned gs (Event e) ≡ false
 UsesGroups gs (layer.Ticket q) = is_owned gs (Sequencer q) ≡ false
 UsesGroups gs (layer.Put x v) = is_owned gs (Cell x) ≡ false
 UsesGroups gs (layer.Get x) = is_owned gs (Cell x) ≡ false
+UsesGroups gs (layer.Hand e b) = is_owned gs (Event e) ≡ false
 UsesGroups gs (layer.Produce b v) = Contains gs (groups.Buffer b)
 UsesGroups gs (layer.Consume b) = Contains gs (groups.Buffer b)
 UsesGroups gs (layer.WriteAll d vs) = Contains gs (groups.Database d)
@@ -54,13 +56,14 @@ AreConfined gs programs = AllByRecursion (AllByRecursion (IsConfined gs)) progra
 abbrev pub AreApart : List Group → Type 0
 AreApart gs = (o : Object) (g k : Group) → Contains gs g → Contains gs k → owns o g ≡ true → owns o k ≡ true → g ≡ k
 
--- some worker is declared, the groups are apart, there is a program for each declared worker, each confined, and a schedule of declared
--- workers
+-- some worker is declared, the groups are apart, there is a program for each declared worker, each confined and of commands that the
+-- version of the heading has, and a schedule of declared workers
 pub record IsPlan (p : Planned) : Type 0 where
   pub some : 1 ≤ p.heading.setup.workers
   pub apart : AreApart p.heading.groups
   pub programs : length p.programs ≡ p.heading.setup.workers
   pub confined : AreConfined p.heading.groups p.programs
+  pub version : HasOrders p.heading.version p.programs
   pub schedule : AllByRecursion (λ w. w < p.heading.setup.workers) p.schedule
 
 -- every script is such a plan

@@ -1,37 +1,41 @@
 -- Which orders a script may give to a worker, by what they say.
-use Rattle.std.specs.Prelude.{◌≡◌, ◌↔◌, ℕ, ◌≤◌, ◌==◌, ◌&&◌, Bool, true, false, nat_le, List, length, is_some}
+use Rattle.std.specs.Prelude.{◌≡◌, ◌↔◌, ℕ, ◌≤◌, ◌==◌, ◌&&◌, Bool, true, false, nat_le, List, length}
 use Rattle.std.specs.List.{list_all, Contains}
-use Rattle.ec_count.specs.Tables.{Tables, component_of, may_observe, may_take, may_write, may_read}
+use Rattle.ec_count.specs.Tables.{Tables, may_observe, may_take, may_write, may_read}
 use Rattle.ec_machine.specs.declared.command.Command.{Command}
 use Rattle.ec_machine.specs.declared.command.Command.TheViews.{out-Command}
 use Rattle.ec_machine.specs.declared.command.Command.TheOpen.{Command-F}
 use Rattle.ec_machine.specs.declared.command.Command.TheOpen as layer
 use Rattle.ec_machine.specs.Limits.{is_value, are_apart}
 use Rattle.ec_heading.specs.declared.group.Group.TheVariants as groups
+use Rattle.ec_heading.specs.declared.version.Version.{Version}
 use Rattle.ec_heading.specs.Headed.{Headed}
 use Rattle.ec_heading.specs.Outline.{Outline, IsOutline, headed}
 use Rattle.ec_script.specs.declared.order.Order.{Order}
 use Rattle.ec_script.specs.declared.order.Order.TheVariants.{Do, Write, Begin, End}
+use Rattle.ec_script.specs.Kinds.{may_signal, are_declared}
+use Rattle.ec_script.specs.Versioned.{has_command}
 use Rattle.ec_script.specs.Confined.{UsesGroups}
 use Rattle.ec_script.specs.Layout.{Says}
 use Rattle.ec_script.specs.Spelling.{order_line}
 
--- whether the worker has the right to do such a thing
-abbrev pub may_do : Tables → ℕ → Command-F Command → Bool
-may_do t w (layer.Advance e) = is_some (component_of t e w)
-may_do t w (layer.Read e) = may_observe t e w
-may_do t w (layer.Await e v) = may_observe t e w
-may_do t w (layer.Ticket q) = may_take t q w
-may_do t w (layer.Put x v) = may_write t x w
-may_do t w (layer.Get x) = may_read t x w
-may_do t w (layer.Produce b v) = may_take t b.put_seq w
-may_do t w (layer.Consume b) = may_take t b.take_seq w
-may_do t w (layer.WriteAll d vs) = may_take t d.turn w
-may_do t w (layer.Snapshot d n) = may_observe t d.start w
-may_do t w (layer.Down s) = may_take t s.line w
-may_do t w (layer.Up s) = may_take t s.line w
-may_do t w (layer.DownBoth common one other) = may_take t common.line w && may_take t one.line w && may_take t other.line w
-may_do t w (layer.Repeat n block) = true
+-- whether a script of the version may have the worker do such a thing, as the rights of its declarations go
+abbrev pub may_do : Version → Tables → ℕ → Command-F Command → Bool
+may_do v t w (layer.Advance e) = may_signal v t e w
+may_do v t w (layer.Read e) = may_observe t e w
+may_do v t w (layer.Await e x) = may_observe t e w
+may_do v t w (layer.Ticket q) = may_take t q w
+may_do v t w (layer.Put c x) = may_write t c w
+may_do v t w (layer.Get c) = may_read t c w
+may_do v t w (layer.Hand e b) = are_declared t e b
+may_do v t w (layer.Produce b x) = may_take t b.put_seq w
+may_do v t w (layer.Consume b) = may_take t b.take_seq w
+may_do v t w (layer.WriteAll d xs) = may_take t d.turn w
+may_do v t w (layer.Snapshot d n) = may_observe t d.start w
+may_do v t w (layer.Down s) = may_take t s.line w
+may_do v t w (layer.Up s) = may_take t s.line w
+may_do v t w (layer.DownBoth common one other) = may_take t common.line w && may_take t one.line w && may_take t other.line w
+may_do v t w (layer.Repeat n block) = true
 
 -- whether it is a command of one line without a list, its number is in range, and the semaphores of P on two of them differ
 abbrev pub is_line_of : Command-F Command → Bool
@@ -44,9 +48,11 @@ is_line_of (layer.WriteAll d vs) = false
 is_line_of (layer.Repeat n block) = false
 is_line_of _ = true
 
--- the order uses the objects of groups by the groups' procedures alone, the worker has the right, and the numbers are in range
+-- the order uses the objects of groups by the groups' procedures alone, the worker has the right, the numbers are in range, and the
+-- version has the command
 abbrev pub IsGiven : Headed → ℕ → Order → Type 0
-IsGiven h w (Do c) = UsesGroups h.groups (out-Command c) × (may_do h.setup w (out-Command c) ≡ true) × (is_line_of (out-Command c) ≡ true)
+IsGiven h w (Do c) =
+    UsesGroups h.groups (out-Command c) × (may_do h.version h.setup w (out-Command c) ≡ true) × (is_line_of (out-Command c) ≡ true) × (has_command h.version (out-Command c) ≡ true)
 IsGiven h w (Write d vs) = Contains h.groups (groups.Database d) × (may_take h.setup d.turn w ≡ true) × (1 ≤ length vs) × ((length vs == d.cells) ≡ true) × (list_all is_value vs ≡ true)
 IsGiven h w (Begin n) = (1 ≤ n) × (n ≤ 1000000)
 IsGiven h w End = Unit {0}

@@ -1,5 +1,5 @@
 -- Which kinds of fault hold of a line in its place, each in its own words; and that the one that is told is the least that holds.
-use Rattle.std.specs.Prelude.{◌≡◌, ◌≢◌, ◌⊎◌, ◌↔◌, ℕ, ◌+◌, ◌<◌, ◌≤◌, true, false, List, [], ◌∷◌, ◌++◌, length, Some, None, Err, decimal, codes}
+use Rattle.std.specs.Prelude.{◌≡◌, ◌≢◌, ◌⊎◌, ◌↔◌, ℕ, ◌+◌, ◌<◌, ◌≤◌, true, false, List, [], ◌∷◌, ◌++◌, length, Some, None, Err, decimal}
 use Rattle.std.specs.List.{Any, Contains}
 use Rattle.ec_count.specs.Names.{find_name}
 use Rattle.ec_count.specs.Reserved.{is_name}
@@ -138,7 +138,7 @@ OtherHas s p kinds.BadNumber = IsBadNumber (tail_of p.verb) s.heading p
 OtherHas s p kinds.TooMany = IsTooLong s p
 OtherHas s p kinds.Hidden = About s p (λ o. Any (λ (g : Group). owns o g ≡ true) s.heading.groups)
 OtherHas s p kinds.TwoRoles = (p.verb ≡ verbs.DownBoth) × (p.rest ≡ p.object ∷ []) × (object_in s.heading p ≢ None)
-OtherHas s p kinds.NoRight = InBlock s (λ b. About s p (λ o. has_right s.heading.setup b.worker (is_giving p.verb) o ≡ false))
+OtherHas s p kinds.NoRight = InBlock s (λ b. About s p (λ o. has_right s.heading.version s.heading.setup b.worker (is_giving p.verb) o ≡ false))
 OtherHas s p kinds.BadNesting = InBlock s (λ b. IsMisplaced b p.verb)
 OtherHas s p _ = ⊥
 

@@ -6,6 +6,8 @@ use Rattle.ec_count.specs.Tables.{Tables, first_that, component_of, may_observe,
 use Rattle.ec_count.specs.Members.{is_member}
 use Rattle.ec_text.specs.Words.{number_of}
 use Rattle.ec_machine.specs.Limits.{are_apart}
+use Rattle.ec_heading.specs.declared.version.Version.{Version}
+use Rattle.ec_heading.specs.declared.version.Version.TheVariants.{One, Two}
 use Rattle.ec_heading.specs.Headed.{Headed}
 use Rattle.ec_heading.specs.Lists.{has_unknown}
 use Rattle.ec_script.specs.declared.fault.Kind.{Kind}
@@ -15,10 +17,10 @@ use Rattle.ec_script.specs.declared.verb.Verb.TheVariants as verbs
 use Rattle.ec_script.specs.declared.verb.Tail.{Tail}
 use Rattle.ec_script.specs.declared.verb.Tail.TheVariants as tails
 use Rattle.ec_script.specs.declared.object.Object.{Object}
-use Rattle.ec_script.specs.declared.object.Object.TheVariants.{Nothing, Worker, Event, Sequencer, Cell, OfBuffer, OfDatabase, OfSemaphore, Three}
+use Rattle.ec_script.specs.declared.object.Object.TheVariants.{Nothing, Worker, Event, Sequencer, Cell, Handed, OfBuffer, OfDatabase, OfSemaphore, Three}
 use Rattle.ec_script.specs.declared.kinds.Nest.{Nest}
 use Rattle.ec_script.specs.declared.kinds.View.{View}
-use Rattle.ec_script.specs.Verbs.{tail_of, is_giving, is_counted}
+use Rattle.ec_script.specs.Verbs.{has_verb, tail_of, is_giving, is_counted}
 use Rattle.ec_script.specs.Forms.{Phrase, only_in, value_of}
 use Rattle.ec_script.specs.Objects.{is_owned}
 
@@ -100,20 +102,31 @@ has_two_roles _ = false
 
 -- NO RIGHT
 
-abbrev pub has_right : Tables → ℕ → Bool → Object → Bool
-has_right t w giving (Event e) = if giving then is_some (component_of t e w) else may_observe t e w
-has_right t w giving (Sequencer q) = may_take t q w
-has_right t w giving (Cell x) = if giving then may_write t x w else may_read t x w
-has_right t w giving (OfBuffer b) = may_take t (if giving then b.put_seq else b.take_seq) w
-has_right t w giving (OfDatabase d) = if giving then may_take t d.turn w else may_observe t d.start w
-has_right t w giving (OfSemaphore s) = may_take t s.line w
-has_right t w giving (Three common one other) = may_take t common.line w && may_take t one.line w && may_take t other.line w
-has_right t w giving _ = true
+-- whether a script may have the worker signal the eventcount: under version 1 its declared signallers alone; under version 2 components
+-- are handed over, and who signals it shows when the program runs
+abbrev pub may_signal : Version → Tables → ℕ → ℕ → Bool
+may_signal One t e w = is_some (component_of t e w)
+may_signal Two t e w = nat_lt e (length t.events)
+
+-- so of a hand it is asked alone that there are such an eventcount and such a worker
+abbrev pub are_declared : Tables → ℕ → ℕ → Bool
+are_declared t e b = nat_lt e (length t.events) && nat_lt b t.workers
+
+abbrev pub has_right : Version → Tables → ℕ → Bool → Object → Bool
+has_right v t w giving (Event e) = if giving then may_signal v t e w else may_observe t e w
+has_right v t w giving (Sequencer q) = may_take t q w
+has_right v t w giving (Cell x) = if giving then may_write t x w else may_read t x w
+has_right v t w giving (Handed e b) = are_declared t e b
+has_right v t w giving (OfBuffer b) = may_take t (if giving then b.put_seq else b.take_seq) w
+has_right v t w giving (OfDatabase d) = if giving then may_take t d.turn w else may_observe t d.start w
+has_right v t w giving (OfSemaphore s) = may_take t s.line w
+has_right v t w giving (Three common one other) = may_take t common.line w && may_take t one.line w && may_take t other.line w
+has_right v t w giving _ = true
 
 -- whether the worker of the block lacks the right to do such a thing with the object
-abbrev pub lacks_right : Tables → Option Nest → Verb → Object → Bool
-lacks_right t None v o = false
-lacks_right t (Some n) v o = not (has_right t n.worker (is_giving v) o)
+abbrev pub lacks_right : Headed → Option Nest → Verb → Object → Bool
+lacks_right h None v o = false
+lacks_right h (Some n) v o = not (has_right h.version h.setup n.worker (is_giving v) o)
 
 -- BAD NESTING
 
@@ -135,13 +148,13 @@ or_nothing o = unwrap_or o Nothing
 -- the least fault of a line of one of the forms, whose word for an object means this
 abbrev pub phrase_fault : Seen → Phrase → Option Object → Option Kind
 phrase_fault s p o = first_that (
-    (not (is_allowed p.verb (is_some s.nest) s.scheduled), kinds.BadLine)
+    (not (has_verb s.heading.version p.verb && is_allowed p.verb (is_some s.nest) s.scheduled), kinds.BadLine)
     ∷ (is_named_again s.named (or_nothing o), kinds.NameTaken)
     ∷ (is_none o || has_unknown_name s.heading p.verb p.rest, kinds.UnknownName)
     ∷ (is_bad_tail (tail_of p.verb) p.verb p.rest (or_nothing o), kinds.BadNumber)
     ∷ (is_too_many p.verb p.rest s.nest s.scheduled, kinds.TooMany)
     ∷ (is_owned s.heading.groups (or_nothing o), kinds.Hidden)
     ∷ (has_two_roles (or_nothing o), kinds.TwoRoles)
-    ∷ (lacks_right s.heading.setup s.nest p.verb (or_nothing o), kinds.NoRight)
+    ∷ (lacks_right s.heading s.nest p.verb (or_nothing o), kinds.NoRight)
     ∷ (is_badly_nested p.verb s.nest, kinds.BadNesting)
     ∷ [])

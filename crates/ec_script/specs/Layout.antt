@@ -14,7 +14,7 @@ use Rattle.ec_script.specs.declared.object.Object.{Object}
 use Rattle.ec_script.specs.declared.order.Order.{Order}
 use Rattle.ec_script.specs.declared.order.Order.TheVariants.{Do, Write, Begin, End}
 use Rattle.ec_script.specs.declared.parsing.TheConstants.{SCRIPT_MAX}
-use Rattle.ec_script.specs.Verbs.{tail_of, is_giving, is_outer}
+use Rattle.ec_script.specs.Verbs.{has_verb, tail_of, is_giving, is_outer}
 use Rattle.ec_script.specs.Forms.{Phrase, phrase_in}
 use Rattle.ec_script.specs.Objects.{object_in, is_owned}
 use Rattle.ec_script.specs.Kinds.{is_bad_tail, has_two_roles, has_right}
@@ -30,20 +30,21 @@ order_by verbs.Repeat o ws = Some (Begin (size_in ws))
 order_by verbs.End o ws = Some End
 order_by v o ws = command_in v (is_giving v) o ws
 
--- the line says this order to the worker: it has at most 8192 bytes and no empty word, it has the form of a command, of `repeat` or of
--- `end`, its object is declared, its numbers are in range and its values as many as the cells, a raw command names no object of a
+-- the line says this order to the worker: it has at most 8192 bytes and no empty word, it has the form of a command that the version of
+-- the heading has, of `repeat` or of `end`, its object is declared, its numbers are in range and its values as many as the cells, a raw command names no object of a
 -- group, no semaphore stands twice, and the worker has the right
 pub record Says (h : Headed) (w : ℕ) (line : List ℕ) (order : Order) : Type 0 where
   pub whole : is_no_line line ≡ false
   pub phrase : Phrase
   pub form : phrase_in (words_of line) ≡ Some phrase
   pub inner : is_outer phrase.verb ≡ false
+  pub version : has_verb h.version phrase.verb ≡ true
   pub object : Object
   pub declared : object_in h phrase ≡ Some object
   pub range : is_bad_tail (tail_of phrase.verb) phrase.verb phrase.rest object ≡ false
   pub apart : is_owned h.groups object ≡ false
   pub differ : has_two_roles object ≡ false
-  pub right : has_right h.setup w (is_giving phrase.verb) object ≡ true
+  pub right : has_right h.version h.setup w (is_giving phrase.verb) object ≡ true
   pub says : order_by phrase.verb object phrase.rest ≡ Some order
 
 -- BLOCKS

@@ -15,6 +15,7 @@ pub mod Headers
 pub mod Reading
 pub mod Outcome
 pub mod Grammar
+pub mod Versioned
 pub mod Confined
 pub mod Layout
 pub mod Spelling

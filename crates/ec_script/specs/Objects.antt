@@ -16,7 +16,7 @@ use Rattle.ec_heading.specs.Spelled.{event_in, sequencer_in, cell_in_word}
 use Rattle.ec_script.specs.declared.verb.Verb.{Verb}
 use Rattle.ec_script.specs.declared.verb.Verb.TheVariants as verbs
 use Rattle.ec_script.specs.declared.object.Object.{Object}
-use Rattle.ec_script.specs.declared.object.Object.TheVariants.{Nothing, Worker, Event, Sequencer, Cell, OfBuffer, OfDatabase, OfSemaphore, Three}
+use Rattle.ec_script.specs.declared.object.Object.TheVariants.{Nothing, Worker, Event, Sequencer, Cell, Handed, OfBuffer, OfDatabase, OfSemaphore, Three}
 use Rattle.ec_script.specs.Forms.{Phrase, only_in}
 
 -- GROUPS BY NAME
@@ -63,6 +63,11 @@ abbrev pub three_of : Option Semaphore → Option Semaphore → Option Semaphore
 three_of (Some common) (Some one) (Some other) = Some (Three common one other)
 three_of _ _ _ = None
 
+-- an eventcount, and the worker to whom its component is handed
+abbrev pub handed_of : Option ℕ → Option ℕ → Option Object
+handed_of (Some e) (Some b) = Some (Handed e b)
+handed_of _ _ = None
+
 -- what a line is about: the declared object, of the sort that its verb asks for, that the word spells
 abbrev pub object_for : Headed → Verb → List ℕ → List (List ℕ) → Option Object
 object_for h verbs.Advance w ws = option_map Event (event_in h.words w)
@@ -71,6 +76,7 @@ object_for h verbs.Await w ws = option_map Event (event_in h.words w)
 object_for h verbs.Ticket w ws = option_map Sequencer (sequencer_in h.words w)
 object_for h verbs.Put w ws = option_map Cell (cell_in_word h.words w)
 object_for h verbs.Get w ws = option_map Cell (cell_in_word h.words w)
+object_for h verbs.Hand w ws = handed_of (event_in h.words w) (option_and_then (worker_in h.words) (only_in ws))
 object_for h verbs.Produce w ws = option_map OfBuffer (buffer_in h w)
 object_for h verbs.Consume w ws = option_map OfBuffer (buffer_in h w)
 object_for h verbs.Write w ws = option_map OfDatabase (database_in h w)
@@ -106,11 +112,12 @@ has_cell (groups.Database d) x = nat_le d.first_cell x && nat_lt x (d.first_cell
 has_cell (groups.Semaphore s) x = false
 has_cell (groups.Both s) x = false
 
--- whether an eventcount, a sequencer or a cell belongs to the group
+-- whether an eventcount, a sequencer or a cell belongs to the group; of a hand, its eventcount
 abbrev pub owns : Object → Group → Bool
 owns (Event e) g = has_count g e
 owns (Sequencer q) g = has_line g q
 owns (Cell x) g = has_cell g x
+owns (Handed e b) g = has_count g e
 owns _ g = false
 
 abbrev pub is_owned : List Group → Object → Bool

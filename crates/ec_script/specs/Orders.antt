@@ -16,7 +16,7 @@ use Rattle.ec_script.specs.declared.order.Order.TheVariants.{Do, Write, Begin, E
 use Rattle.ec_script.specs.declared.verb.Verb.{Verb}
 use Rattle.ec_script.specs.declared.verb.Verb.TheVariants as verbs
 use Rattle.ec_script.specs.declared.object.Object.{Object}
-use Rattle.ec_script.specs.declared.object.Object.TheVariants.{Nothing, Worker, Event, Sequencer, Cell, OfBuffer, OfDatabase, OfSemaphore, Three}
+use Rattle.ec_script.specs.declared.object.Object.TheVariants.{Nothing, Worker, Event, Sequencer, Cell, Handed, OfBuffer, OfDatabase, OfSemaphore, Three}
 use Rattle.ec_script.specs.Forms.{only_in, value_of}
 
 -- the value that a word spells; it is `last` where the word spells none in its range, of which no command is made
@@ -59,6 +59,7 @@ abbrev pub command_in : Verb → Bool → Object → List (List ℕ) → Option 
 command_in v giving (Event e) ws = Some (event_order v e (amount_in ws))
 command_in v giving (Sequencer q) ws = Some (Do (commands.Ticket q))
 command_in v giving (Cell x) ws = Some (cell_order giving x (amount_in ws))
+command_in v giving (Handed e b) ws = Some (Do (commands.Hand e b))
 command_in v giving (OfBuffer b) ws = Some (buffer_order giving b (amount_in ws))
 command_in v giving (OfDatabase d) ws = database_order v d ws
 command_in v giving (OfSemaphore s) ws = Some (semaphore_order v s)

@@ -2,6 +2,7 @@
 use Rattle.std.specs.Prelude.{◌≡◌, ◌≢◌, ◌⊎◌, ℕ, ◌≤◌, true, List, [], ◌∷◌, length, None, codes}
 use Rattle.std.specs.List.{AllByRecursion}
 use Rattle.ec_text.specs.Words.{words_of, is_number_form}
+use Rattle.ec_heading.specs.declared.version.Version.TheVariants.{Two}
 use Rattle.ec_heading.specs.Form as headings
 use Rattle.ec_heading.specs.Phrased.{IsSpelled}
 use Rattle.ec_script.specs.declared.verb.Verb.{Verb}
@@ -28,11 +29,12 @@ pub record IsDeclaration (s : Scripted) (line : List ℕ) (p : headings.Phrase) 
   pub whole : IsOfWords line
   pub form : IsSpelled (words_of line) p
 
--- commands, `repeat` and `end` stand in a block; `worker` in a block, where it is badly nested, and before the schedule; `schedule`
--- anywhere
+-- commands, `repeat` and `end` stand in a block, and `hand` in one of version 2; `worker` in a block, where it is badly nested, and before
+-- the schedule; `schedule` anywhere
 abbrev pub MayStand : Scripted → Verb → Type 0
 MayStand s verbs.Schedule = Unit {0}
 MayStand s verbs.Worker = (s.block ≢ None) ⊎ (s.schedule ≡ [])
+MayStand s verbs.Hand = (s.heading.version ≡ Two) × (s.block ≢ None)
 MayStand s _ = s.block ≢ None
 
 -- a line of a block, of the schedule, or the first of a block, where such a line may stand

@@ -56,6 +56,7 @@ command_words h (layer.Await e v) = codes "await" ∷ word_of h.words (targets.E
 command_words h (layer.Ticket q) = codes "ticket" ∷ word_of h.words (targets.Sequencer q) ∷ []
 command_words h (layer.Put x v) = codes "put" ∷ cell_word h.words x ∷ value_word v ∷ []
 command_words h (layer.Get x) = codes "get" ∷ cell_word h.words x ∷ []
+command_words h (layer.Hand e b) = codes "hand" ∷ word_of h.words (targets.Event e) ∷ word_of h.words (targets.Worker b) ∷ []
 command_words h (layer.Produce b v) = codes "produce" ∷ group_word h (Event b.in_count) ∷ value_word v ∷ []
 command_words h (layer.Consume b) = codes "consume" ∷ group_word h (Event b.in_count) ∷ []
 command_words h (layer.Snapshot d n) = codes "snapshot" ∷ group_word h (Event d.start) ∷ decimal n ∷ []

@@ -1,5 +1,7 @@
 -- The lines of blocks and of the schedule, as a table over the word that opens them.
 use Rattle.std.specs.Prelude.{ℕ, Bool, true, false, List, Option, Some, None, if◌then◌else◌, bytes_eq, codes}
+use Rattle.ec_heading.specs.declared.version.Version.{Version}
+use Rattle.ec_heading.specs.Versions.{has_hand}
 use Rattle.ec_script.specs.declared.verb.Verb.{Verb}
 use Rattle.ec_script.specs.declared.verb.Verb.TheVariants as verbs
 use Rattle.ec_script.specs.declared.verb.Tail.{Tail}
@@ -15,7 +17,8 @@ raw_verb_of w =
     else (if bytes_eq w (codes "await") then Some verbs.Await
     else (if bytes_eq w (codes "ticket") then Some verbs.Ticket
     else (if bytes_eq w (codes "put") then Some verbs.Put
-    else (if bytes_eq w (codes "get") then Some verbs.Get else None)))))
+    else (if bytes_eq w (codes "get") then Some verbs.Get
+    else (if bytes_eq w (codes "hand") then Some verbs.Hand else None))))))
 
 -- the words of procedures
 abbrev pub procedure_verb_of : List ℕ → Option Verb
@@ -44,6 +47,13 @@ or_else (Some v) other = Some v
 abbrev pub verb_of : List ℕ → Option Verb
 verb_of w = or_else (raw_verb_of w) (or_else (procedure_verb_of w) (order_verb_of w))
 
+-- IN A VERSION
+
+-- whether its scripts have such lines
+abbrev pub has_verb : Version → Verb → Bool
+has_verb v verbs.Hand = has_hand v
+has_verb v _ = true
+
 -- THE FORMS
 
 -- whether the word of an object or of a worker stands behind it
@@ -62,12 +72,13 @@ tail_of verbs.Write = tails.Amounts
 tail_of verbs.Snapshot = tails.Digits
 tail_of verbs.Repeat = tails.Digits
 tail_of verbs.DownBoth = tails.Word
+tail_of verbs.Hand = tails.Word
 tail_of verbs.Schedule = tails.Words
 tail_of _ = tails.Nothing
 
 -- WHAT THEY DO
 
--- whether it signals, writes or produces; else it observes, reads or consumes
+-- whether it signals, writes or produces; else it observes, reads, consumes or hands over
 abbrev pub is_giving : Verb → Bool
 is_giving verbs.Advance = true
 is_giving verbs.Put = true

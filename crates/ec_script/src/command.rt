@@ -164,6 +164,7 @@ pub(crate) fn command_in(
         Object::Event(event) => event_order(verb, event, value),
         Object::Sequencer(sequencer) => Order::Do(Command::Ticket(sequencer)),
         Object::Cell(cell) => cell_order(giving, cell, value),
+        Object::Handed(event, to) => Order::Do(Command::Hand(event, to)),
         Object::OfBuffer(shape) => buffer_order(giving, shape, value),
         Object::OfDatabase(shape) => return database_order(alloc, verb, shape, parts.rest),
         Object::OfSemaphore(shape) => semaphore_order(verb, shape),

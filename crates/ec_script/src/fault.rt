@@ -36,7 +36,8 @@ pub enum Kind {
     /// A worker stands in both lists of a group, or P on two semaphores names one twice.
     #[error("one stands in both roles")]
     TwoRoles,
-    /// The worker of the block lacks the right.
+    /// The worker of the block lacks the right. Under version 2 the right to signal an eventcount of no
+    /// group is not judged, since components are handed over there.
     #[error("the worker lacks the right")]
     NoRight,
     /// A line stands inside a block that must not, a fifth repeat inside the others, or an `end` of

@@ -7,15 +7,15 @@ ghost use Rattle.ec_text.specs.Words.{number_of};
 ghost use Rattle.ec_machine.specs.Limits.{is_same, are_apart};
 ghost use Rattle.ec_script.specs.Forms.{rest_words, shown};
 ghost use Rattle.ec_script.specs.Verbs.{tail_of};
-ghost use Rattle.ec_script.specs.Kinds.{seen_of, is_no_value, is_count, is_allowed, is_named_again, has_unknown_name, cells_of, greatest, is_bad_tail, is_too_many, has_two_roles, has_right, lacks_right, is_badly_nested, or_nothing, phrase_fault};
+ghost use Rattle.ec_script.specs.Kinds.{seen_of, is_no_value, is_count, is_allowed, is_named_again, has_unknown_name, cells_of, greatest, is_bad_tail, is_too_many, has_two_roles, may_signal, are_declared, has_right, lacks_right, is_badly_nested, or_nothing, phrase_fault};
 
 use crate::fault::Kind;
 use crate::form::{Parts, only_word, value_of};
 use crate::lists::{count_words, has_no_value, has_unknown};
 use crate::object::{Object, is_owned};
 use crate::verb::{Tail, Verb};
-use ec_count::{Setup, WorkerId};
-use ec_heading::Heading;
+use ec_count::{EventId, Setup, WorkerId};
+use ec_heading::{Heading, Version};
 use ec_semaphore::SemaphoreShape;
 use ec_text::number;
 
@@ -201,14 +201,38 @@ fn has_two_roles(object: &Object) -> bool
     }
 }
 
-/// Whether the worker has the right to do such a thing with the object.
-fn has_right(setup: &Setup, worker: WorkerId, giving: bool, object: &Object) -> bool
-    ensures { result ≡ has_right setup.now worker giving object.now }
+/// Whether a script of this version may have the worker signal the eventcount: under version 1 its
+/// declared signallers alone; under version 2 who signals it shows when the program runs.
+fn may_signal(version: Version, setup: &Setup, event: EventId, worker: WorkerId) -> bool
+    ensures { result ≡ may_signal version setup.now event worker }
+{
+    match version {
+        Version::One => setup.component_of(event, worker).is_some(),
+        Version::Two => event.get() < setup.events(),
+    }
+}
+
+/// Whether there are such an eventcount and such a worker.
+fn are_declared(setup: &Setup, event: EventId, worker: WorkerId) -> bool
+    ensures { result ≡ are_declared setup.now event worker }
+{
+    event.get() < setup.events() && worker.get() < setup.workers()
+}
+
+/// Whether a script of this version may have the worker do such a thing with the object.
+fn has_right(
+    version: Version,
+    setup: &Setup,
+    worker: WorkerId,
+    giving: bool,
+    object: &Object,
+) -> bool
+    ensures { result ≡ has_right version setup.now worker giving object.now }
 {
     match *object {
         Object::Event(event) => {
             if giving {
-                setup.component_of(event, worker).is_some()
+                may_signal(version, setup, event, worker)
             } else {
                 setup.may_observe(event, worker)
             }
@@ -221,6 +245,7 @@ fn has_right(setup: &Setup, worker: WorkerId, giving: bool, object: &Object) -> 
                 setup.may_read(cell, worker)
             }
         }
+        Object::Handed(event, to) => are_declared(setup, event, to),
         Object::OfBuffer(shape) => {
             let line = if giving {
                 shape.put_seq()
@@ -247,12 +272,18 @@ fn has_right(setup: &Setup, worker: WorkerId, giving: bool, object: &Object) -> 
 }
 
 /// Whether the worker of the block lacks the right to do such a thing with the object.
-fn lacks_right(setup: &Setup, nest: Option<Nest>, verb: Verb, object: &Object) -> bool
-    ensures { result ≡ lacks_right setup.now nest verb object.now }
+fn lacks_right(heading: &Heading, nest: Option<Nest>, verb: Verb, object: &Object) -> bool
+    ensures { result ≡ lacks_right heading.now nest verb object.now }
 {
     match nest {
         None => false,
-        Some(nest) => !has_right(setup, nest.worker, verb.is_giving(), object),
+        Some(nest) => !has_right(
+            heading.version(),
+            heading.setup(),
+            nest.worker,
+            verb.is_giving(),
+            object,
+        ),
     }
 }
 
@@ -291,7 +322,9 @@ pub(crate) fn phrase_fault(
     ensures { result ≡ phrase_fault (seen_of view.now) (shown parts.now) found }
 {
     let object = or_nothing(found);
-    if !is_allowed(parts.verb, view.nest.is_some(), view.scheduled) {
+    if !parts.verb.is_of(view.heading.version())
+        || !is_allowed(parts.verb, view.nest.is_some(), view.scheduled)
+    {
         return Some(Kind::BadLine);
     }
     if is_named_again(view.named, &object) {
@@ -312,7 +345,7 @@ pub(crate) fn phrase_fault(
     if has_two_roles(&object) {
         return Some(Kind::TwoRoles);
     }
-    if lacks_right(view.heading.setup(), view.nest, parts.verb, &object) {
+    if lacks_right(view.heading, view.nest, parts.verb, &object) {
         return Some(Kind::NoRight);
     }
     if is_badly_nested(parts.verb, view.nest) {

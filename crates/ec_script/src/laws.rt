@@ -67,7 +67,8 @@ pub fn unfinished_is_told()
 {}
 
 /// Every plan has a program for each declared worker and a schedule of declared workers, and its
-/// commands use the objects of the heading's groups by those groups' procedures alone.
+/// commands use the objects of the heading's groups by those groups' procedures alone, and are of those
+/// that its version has.
 pub fn plans_are_confined()
     ensures { PlansAreConfined }
 {}

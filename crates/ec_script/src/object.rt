@@ -1,8 +1,10 @@
 //! What the word of an object stands for.
 ghost use Rattle.std.specs.Prelude.{◌≡◌};
 ghost use Rattle.std.specs.Option.{option_and_then};
+ghost use Rattle.ec_heading.specs.Lists.{worker_in};
+ghost use Rattle.ec_heading.specs.Spelled.{event_in};
 ghost use Rattle.ec_script.specs.Forms.{only_in, rest_words, shown};
-ghost use Rattle.ec_script.specs.Objects.{group_in, buffer_of, database_of, semaphore_of, buffer_in, database_in, semaphore_in, both_of, three_of, object_in, has_count, has_line, has_cell, owns, is_owned};
+ghost use Rattle.ec_script.specs.Objects.{group_in, buffer_of, database_of, semaphore_of, buffer_in, database_in, semaphore_in, both_of, three_of, handed_of, object_in, has_count, has_line, has_cell, owns, is_owned};
 
 use crate::form::{Parts, only_word};
 use crate::verb::Verb;
@@ -20,6 +22,8 @@ pub(crate) enum Object {
     Event(EventId),
     Sequencer(SeqId),
     Cell(CellId),
+    /// An eventcount, and the worker to whom its component is handed.
+    Handed(EventId, WorkerId),
     OfBuffer(BufferShape),
     OfDatabase(DatabaseShape),
     OfSemaphore(SemaphoreShape),
@@ -106,6 +110,15 @@ fn three_in(heading: &Heading, parts: &Parts<'_>) -> Option<Object>
     Some(Object::Three(common, one, other))
 }
 
+/// The eventcount and the worker that a line names.
+fn handed_in(heading: &Heading, parts: &Parts<'_>) -> Option<Object>
+    ensures { result ≡ handed_of (event_in heading.now.words parts.now.object.now) (option_and_then (worker_in heading.now.words) (only_in (rest_words parts.now.rest))) }
+{
+    let event = heading.event(parts.object)?;
+    let to = heading.worker(only_word(parts.rest)?)?;
+    Some(Object::Handed(event, to))
+}
+
 /// What a line is about: the declared object, of the sort that its verb asks for, that its word
 /// spells.
 pub(crate) fn object_in(heading: &Heading, parts: &Parts<'_>) -> Option<Object>
@@ -116,6 +129,7 @@ pub(crate) fn object_in(heading: &Heading, parts: &Parts<'_>) -> Option<Object>
         Verb::Advance | Verb::Read | Verb::Await => Some(Object::Event(heading.event(word)?)),
         Verb::Ticket => Some(Object::Sequencer(heading.sequencer(word)?)),
         Verb::Put | Verb::Get => Some(Object::Cell(heading.cell(word)?)),
+        Verb::Hand => handed_in(heading, parts),
         Verb::Produce | Verb::Consume => Some(Object::OfBuffer(buffer_in(heading, word)?)),
         Verb::Write | Verb::Snapshot => Some(Object::OfDatabase(database_in(heading, word)?)),
         Verb::Down | Verb::Up => Some(Object::OfSemaphore(semaphore_in(heading, word)?)),
@@ -161,7 +175,7 @@ fn has_cell(group: &Group, cell: CellId) -> bool
     first.get() <= cell.get() && cell.get() < first.get() + cells
 }
 
-/// Whether an eventcount, a sequencer or a cell belongs to the group.
+/// Whether an eventcount, a sequencer or a cell belongs to the group; of a hand, its eventcount.
 fn owns(object: &Object, group: &Group) -> bool
     ensures { result ≡ owns object.now group.now }
 {
@@ -169,6 +183,7 @@ fn owns(object: &Object, group: &Group) -> bool
         Object::Event(event) => has_count(group, event),
         Object::Sequencer(sequencer) => has_line(group, sequencer),
         Object::Cell(cell) => has_cell(group, cell),
+        Object::Handed(event, _) => has_count(group, event),
         _ => false,
     }
 }

@@ -3,6 +3,7 @@ ghost use Rattle.std.specs.Prelude.{◌≡◌, ◌<◌, ◌^◌, Err, IfOk, leng
 ghost use Rattle.ec_script.specs.Confined.{AreConfinedPrograms, IsPlan};
 ghost use Rattle.ec_script.specs.Outcome.{Tells, ended, fault_at, finished, first_of, goes, long_kind, outcome, parts_of, plan_in, shown_plan, taken};
 ghost use Rattle.ec_script.specs.Reading.{step};
+ghost use Rattle.ec_script.specs.Versioned.{HasPrograms};
 
 use crate::fault::{Kind, ScriptFault, StageFault};
 use crate::plan::Plan;
@@ -110,6 +111,7 @@ pub fn parse(alloc: Global, text: &[u8]) -> Result<Plan, ScriptFault>
     ensures tells { Tells (outcome text.now) result }
     ensures plan { IfOk result (λ plan. IsPlan (shown_plan plan)) }
     ensures commands { IfOk result (λ plan. AreConfinedPrograms plan.heading.groups plan.programs.items) }
+    ensures version { IfOk result (λ plan. HasPrograms plan.heading.version plan.programs.items) }
 {
     if text.len() > SCRIPT_MAX {
         return Err(ScriptFault::At {

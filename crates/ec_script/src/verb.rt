@@ -1,6 +1,8 @@
 //! The words that open the lines of blocks and of the schedule.
 ghost use Rattle.std.specs.Prelude.{◌≡◌};
-ghost use Rattle.ec_script.specs.Verbs.{raw_verb_of, procedure_verb_of, order_verb_of, verb_of, has_object, tail_of, is_giving, is_outer, is_counted};
+ghost use Rattle.ec_script.specs.Verbs.{raw_verb_of, procedure_verb_of, order_verb_of, verb_of, has_verb, has_object, tail_of, is_giving, is_outer, is_counted};
+
+use ec_heading::Version;
 
 /// What a line of a block does, or a line that opens a block or goes on with the schedule.
 #[derive(Clone, Copy, Debug, PartialEq, Eq)]
@@ -11,6 +13,7 @@ pub(crate) enum Verb {
     Ticket,
     Put,
     Get,
+    Hand,
     Produce,
     Consume,
     Write,
@@ -61,6 +64,9 @@ fn raw_verb_of(word: &[u8]) -> Option<Verb>
     }
     if word == b"get".as_slice() {
         return Some(Verb::Get);
+    }
+    if word == b"hand".as_slice() {
+        return Some(Verb::Hand);
     }
     None
 }
@@ -126,6 +132,16 @@ pub(crate) fn verb_of(word: &[u8]) -> Option<Verb>
 }
 
 impl Verb {
+    /// Whether scripts of the version have such lines.
+    pub(crate) fn is_of(self, version: Version) -> bool
+        ensures { result ≡ has_verb version self }
+    {
+        match self {
+            Verb::Hand => version.has_hand(),
+            _ => true,
+        }
+    }
+
     /// Whether the word of an object or of a worker stands behind it.
     pub(crate) fn has_object(self) -> bool
         ensures { result ≡ has_object self }
@@ -144,13 +160,13 @@ impl Verb {
             Verb::Await | Verb::Put | Verb::Produce => Tail::Amount,
             Verb::Write => Tail::Amounts,
             Verb::Snapshot | Verb::Repeat => Tail::Digits,
-            Verb::DownBoth => Tail::Word,
+            Verb::DownBoth | Verb::Hand => Tail::Word,
             Verb::Schedule => Tail::Words,
             _ => Tail::Nothing,
         }
     }
 
-    /// Whether it signals, writes or produces; else it observes, reads or consumes.
+    /// Whether it signals, writes or produces; else it observes, reads, consumes or hands over.
     pub(crate) fn is_giving(self) -> bool
         ensures { result ≡ is_giving self }
     {

@@ -5,7 +5,7 @@ use Rattle.std.proofs.lemmas.Bool.Decides.{nat_tests}
 use Rattle.ec_count.specs.Tables.{Tables}
 use Rattle.ec_count.specs.declared.setup.Rights.{Rights}
 use Rattle.ec_core.specs.declared.act.Act.{Act}
-use Rattle.ec_core.specs.declared.act.Act.TheVariants.{Advance, Read, Await, Go, Ticket, Put, Get}
+use Rattle.ec_core.specs.declared.act.Act.TheVariants.{Advance, Read, Await, Go, Ticket, Put, Get, Hand}
 use Rattle.ec_core.specs.declared.act.Entry.{Entry}
 use Rattle.ec_core.specs.Counts.{total, issued, cell_value, component_total, sum_to, is_ticket, put_in}
 use Rattle.ec_core.specs.Acceptance.{IsAccepted, names_unknown_object}
@@ -42,6 +42,7 @@ no_ticket t q (Await f v) known h = refl
 no_ticket t q Go known h = refl
 no_ticket t q (Put x v) known h = refl
 no_ticket t q (Get x) known h = refl
+no_ticket t q (Hand f b) known h = refl
 
 no_put : (t : Tables) (x : ℕ) (act : Act) → names_unknown_object t act ≡ false → length t.cells ≤ x → put_in x act ≡ None
 no_put t x (Put y v) known h = (let off : (y == x) ≡ false = grind (arith, nat_tests) in ap (λ b. cond b (Some v) None) off)
@@ -51,6 +52,7 @@ no_put t x (Read f) known h = refl
 no_put t x (Await f v) known h = refl
 no_put t x Go known h = refl
 no_put t x (Get y) known h = refl
+no_put t x (Hand f b) known h = refl
 
 issued_none : (t : Tables) (q : ℕ) (past : List Entry) → IsAccepted t past → length t.takers ≤ q → issued q past ≡ 0
 unfolding issued

@@ -6,7 +6,7 @@ use Rattle.std.proofs.lemmas.List.Sums.{AllPass-from_list_all}
 use Rattle.std.proofs.lemmas.Option.{slice_get_within, slice_get-get_or}
 use Rattle.ec_count.proofs.shared.Keeping.{still_there}
 use Rattle.ec_core.specs.declared.act.Act.{Act}
-use Rattle.ec_core.specs.declared.act.Act.TheVariants.{Advance, Read, Await}
+use Rattle.ec_core.specs.declared.act.Act.TheVariants.{Advance, Read, Await, Hand}
 use Rattle.ec_core.specs.declared.act.Entry.{Entry}
 use Rattle.ec_core.specs.Calls.{under_way}
 use Rattle.ec_core.specs.Following.{opened}
@@ -85,6 +85,12 @@ on_await e v (groups.Buffer b) = refl
 on_await e v (groups.Database d) = refl
 on_await e v (groups.Semaphore s) = refl
 on_await e v (groups.Both s) = refl
+
+pub on_hand : (e b : ℕ) (g : Group) → is_on g (Hand e b) ≡ is_on g (Read e)
+on_hand e b (groups.Buffer s) = refl
+on_hand e b (groups.Database d) = refl
+on_hand e b (groups.Semaphore s) = refl
+on_hand e b (groups.Both s) = refl
 
 -- THE AUDITS
 

@@ -156,6 +156,7 @@ impl Table {
             Act::Ticket(sequencer) => at(&self.sequencers, sequencer.get()),
             Act::Put(_, _) => NOWHERE,
             Act::Get(_) => NOWHERE,
+            Act::Hand(event, _) => at(&self.events, event.get()),
         }
     }
 }

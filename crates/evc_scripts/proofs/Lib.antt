@@ -8,3 +8,4 @@ pub mod OutcomeLines
 pub mod SimEnds
 pub mod RunLemmas
 pub mod SameReports
+pub mod PlainActs

@@ -1,5 +1,5 @@
 -- What `run` has written, by what its parts have.
-use Rattle.std.proofs.Common.{◌≡◌, ◌≤◌, ◌⊎◌, inl, inr, ℕ, Bool, true, false, cond, List, length, reverse, Option, Some, None, IfSome, Ok, Err, refl, sym, ap, subst, ◌∙◌, arith}
+use Rattle.std.proofs.Common.{◌≡◌, ◌≤◌, ◌⊎◌, inl, inr, ℕ, Bool, true, false, cond, List, length, map, reverse, Option, Some, None, IfSome, Ok, Err, refl, sym, ap, subst, ◌∙◌, arith}
 use Rattle.std.specs.Io.KnownBytes.{Appends, Keeps}
 use Rattle.std.specs.List.{list_any}
 use Rattle.ec_count.specs.Tables.{Tables}
@@ -14,27 +14,37 @@ use Rattle.ec_runner.specs.declared.run_fault.RunFault.TheVariants.{Mismatch, Sp
 use Rattle.ec_runner.specs.declared.run_fault.RunFault.TheVariants as faults
 use Rattle.ec_script.specs.declared.parsing.TheConstants.{SCRIPT_MAX}
 use Rattle.ec_script.specs.declared.plan.Plan.{Plan}
+use Rattle.ec_script.specs.Flat.{flat}
 use Rattle.ec_script.specs.Outcome.{shown_plan}
 use Rattle.ec_script.specs.Scripted.{Planned}
+use Rattle.ec_script.specs.Versioned.{HasOrders}
+use Rattle.ec_script.proofs.shared.WrittenOut.{had_lines}
 use Rattle.evc_engine.specs.declared.status.Status.{Status}
 use Rattle.evc_engine.specs.declared.status.Status.TheVariants.{Done, Refused, Usage, InputOutput, Memory, Stopped}
 use Rattle.evc_engine.specs.Checks.{Outlets, Notes}
 use Rattle.evc_scripts.specs.Inputs.{looked_at, IsReadUp}
 use Rattle.evc_scripts.specs.OutcomeNotes.{outcomes_note}
 use Rattle.evc_scripts.specs.Runs.{HaveRun, IsTold, HasNoReport, Says, RunEnds, TextRuns, Runs, status_for, is_memory, is_cut_short, run_fault_status, run_fault_note}
+use Rattle.evc_scripts.proofs.PlainActs.{report_spelled}
 use Rattle.evc_scripts.proofs.SimEnds.{says, refused_at}
 
 -- a report of a plan, and its trace by an outline of the heading
-pub have_run : (plan : Plan) (report : Report) (turns : ℕ) (h : HasOutline plan.heading) → IsReportOf plan.heading.setup plan.programs.items turns report
+pub have_run : (plan : Plan) (report : Report) (turns : ℕ) (h : HasOutline plan.heading) → HasOrders plan.heading.version (map flat plan.programs.items) → IsReportOf plan.heading.setup plan.programs.items turns report
     → IsAccepted report.run.setup (reverse report.run.entries)
     → HaveRun (shown_plan plan) turns (status_for report.outcomes.items) (trace_text h.outline report.run.entries) (outcomes_note plan.heading report.outcomes.items)
-have_run plan report turns h told accepted = record {
+have_run plan report turns h has told accepted = let acc = subst (λ (t : Tables). IsAccepted t (reverse report.run.entries)) told.setup accepted in record {
   programs = plan.programs.items;
   lines = refl;
   report = report;
   told = told;
-  accepted = subst (λ (t : Tables). IsAccepted t (reverse report.run.entries)) told.setup accepted;
-  written = record { outline = h.outline; is = h.is; declares = h.declares; text = refl };
+  accepted = acc;
+  written = record {
+    outline = h.outline;
+    is = h.is;
+    declares = h.declares;
+    spelled = report_spelled plan.heading.version plan.heading.setup plan.programs.items turns report (had_lines plan.heading.version plan.programs.items has) told acc;
+    text = refl;
+  };
   noted = refl;
   ended = refl;
 }

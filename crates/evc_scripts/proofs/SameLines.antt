@@ -80,6 +80,7 @@ said (layer.Await e v) inner = one _ (Do (commands.Await e v)) (commands.Await e
 said (layer.Ticket q) inner = one _ (Do (commands.Ticket q)) (commands.Ticket q) (fold-roll-Command (List Order) flat_step (layer.Ticket q)) (fold-roll-Command (List Command) written_step (layer.Ticket q)) (commands.rolls-Ticket q) (λ last. refl) (λ last. refl)
 said (layer.Put x v) inner = one _ (Do (commands.Put x v)) (commands.Put x v) (fold-roll-Command (List Order) flat_step (layer.Put x v)) (fold-roll-Command (List Command) written_step (layer.Put x v)) (commands.rolls-Put x v) (λ last. refl) (λ last. refl)
 said (layer.Get x) inner = one _ (Do (commands.Get x)) (commands.Get x) (fold-roll-Command (List Order) flat_step (layer.Get x)) (fold-roll-Command (List Command) written_step (layer.Get x)) (commands.rolls-Get x) (λ last. refl) (λ last. refl)
+said (layer.Hand e b) inner = one _ (Do (commands.Hand e b)) (commands.Hand e b) (fold-roll-Command (List Order) flat_step (layer.Hand e b)) (fold-roll-Command (List Command) written_step (layer.Hand e b)) (commands.rolls-Hand e b) (λ last. refl) (λ last. refl)
 said (layer.Produce b v) inner = one _ (Do (commands.Produce b v)) (commands.Produce b v) (fold-roll-Command (List Order) flat_step (layer.Produce b v)) (fold-roll-Command (List Command) written_step (layer.Produce b v)) (commands.rolls-Produce b v) (λ last. refl) (λ last. refl)
 said (layer.Consume b) inner = one _ (Do (commands.Consume b)) (commands.Consume b) (fold-roll-Command (List Order) flat_step (layer.Consume b)) (fold-roll-Command (List Command) written_step (layer.Consume b)) (commands.rolls-Consume b) (λ last. refl) (λ last. refl)
 said (layer.WriteAll d vs) inner = one _ (Write d vs.items) (commands.WriteAll d vs) (fold-roll-Command (List Order) flat_step (layer.WriteAll d vs)) (fold-roll-Command (List Command) written_step (layer.WriteAll d vs)) (commands.rolls-WriteAll d vs) (λ last. refl) (λ last. refl)

@@ -12,23 +12,27 @@ use Rattle.ec_runner.specs.declared.report.Report.{Report}
 use Rattle.ec_script.specs.declared.fault.Kind.{Kind}
 use Rattle.ec_script.specs.declared.parsing.TheConstants.{SCRIPT_MAX}
 use Rattle.ec_script.specs.declared.plan.Plan.{Plan}
+use Rattle.ec_script.specs.Flat.{flat}
 use Rattle.ec_script.specs.Grammar.{IsScript, IsNoScript}
 use Rattle.ec_script.specs.Outcome.{outcome, shown_plan}
 use Rattle.ec_script.specs.Scripted.{Planned}
+use Rattle.ec_script.specs.Versioned.{HasOrders}
 use Rattle.ec_script.proofs.shared.Texts.{read_is_script, script_is_read}
+use Rattle.ec_script.proofs.shared.WrittenOut.{had_lines}
 use Rattle.evc_engine.specs.declared.status.Status.{Status}
 use Rattle.evc_engine.specs.declared.status.Status.TheVariants.{Done, Refused, Usage, InputOutput, Memory, Stopped}
 use Rattle.evc_engine.specs.Checks.{Outlets}
 use Rattle.evc_scripts.specs.Inputs.{looked_at, IsReadUp}
 use Rattle.evc_scripts.specs.OutcomeNotes.{outcomes_note}
 use Rattle.evc_scripts.specs.Sims.{IsPlayed, TextEnds, SaysPlan, RefusedAt, Sims}
+use Rattle.evc_scripts.proofs.PlainActs.{turns_spelled}
 
 -- A REPORT
 
 -- a report of a plan, and its trace by an outline of the heading
-pub is_played : (plan : Plan) (report : Report) (h : HasOutline plan.heading) → IsReport plan.heading.setup plan.programs.items plan.schedule.items report
+pub is_played : (plan : Plan) (report : Report) (h : HasOutline plan.heading) → HasOrders plan.heading.version (map flat plan.programs.items) → IsReport plan.heading.setup plan.programs.items plan.schedule.items report
     → IsPlayed (shown_plan plan) (trace_text h.outline report.run.entries) (outcomes_note plan.heading report.outcomes.items)
-is_played plan report h r = record {
+is_played plan report h has r = record {
   turns = r.turns;
   outcomes = report.outcomes.items;
   played = record { programs = plan.programs.items; lines = refl; plays = r.plays; after = r.outcomes };
@@ -36,6 +40,7 @@ is_played plan report h r = record {
     outline = h.outline;
     is = h.is;
     declares = h.declares;
+    spelled = turns_spelled plan.heading.version plan.heading.setup plan.programs.items r.turns (had_lines plan.heading.version plan.programs.items has) r.plays.each;
     text = ap (trace_text h.outline) (sym (reverse-reverse report.run.entries) ∙ ap reverse r.entries);
   };
   noted = refl;

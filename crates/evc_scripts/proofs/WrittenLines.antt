@@ -117,6 +117,7 @@ spreads (layer.Await e v) inner = one _ (Do (commands.Await e v)) (commands.Awai
 spreads (layer.Ticket q) inner = one _ (Do (commands.Ticket q)) (commands.Ticket q) (fold-roll-Command (List Order) flat_step (layer.Ticket q)) (fold-roll-Command (List Command) written_step (layer.Ticket q)) (commands.rolls-Ticket q) (does (commands.Ticket q))
 spreads (layer.Put x v) inner = one _ (Do (commands.Put x v)) (commands.Put x v) (fold-roll-Command (List Order) flat_step (layer.Put x v)) (fold-roll-Command (List Command) written_step (layer.Put x v)) (commands.rolls-Put x v) (does (commands.Put x v))
 spreads (layer.Get x) inner = one _ (Do (commands.Get x)) (commands.Get x) (fold-roll-Command (List Order) flat_step (layer.Get x)) (fold-roll-Command (List Command) written_step (layer.Get x)) (commands.rolls-Get x) (does (commands.Get x))
+spreads (layer.Hand e b) inner = one _ (Do (commands.Hand e b)) (commands.Hand e b) (fold-roll-Command (List Order) flat_step (layer.Hand e b)) (fold-roll-Command (List Command) written_step (layer.Hand e b)) (commands.rolls-Hand e b) (does (commands.Hand e b))
 spreads (layer.Produce b v) inner = one _ (Do (commands.Produce b v)) (commands.Produce b v) (fold-roll-Command (List Order) flat_step (layer.Produce b v)) (fold-roll-Command (List Command) written_step (layer.Produce b v)) (commands.rolls-Produce b v) (does (commands.Produce b v))
 spreads (layer.Consume b) inner = one _ (Do (commands.Consume b)) (commands.Consume b) (fold-roll-Command (List Order) flat_step (layer.Consume b)) (fold-roll-Command (List Command) written_step (layer.Consume b)) (commands.rolls-Consume b) (does (commands.Consume b))
 spreads (layer.WriteAll d vs) inner = one _ (Write d vs.items) (commands.WriteAll d vs) (fold-roll-Command (List Order) flat_step (layer.WriteAll d vs)) (fold-roll-Command (List Command) written_step (layer.WriteAll d vs)) (commands.rolls-WriteAll d vs) (writes d vs.items)

@@ -6,6 +6,7 @@ use Rattle.ec_text.specs.Puts.{AppendsPrefix}
 use Rattle.ec_machine.specs.declared.command.Command.{Command}
 use Rattle.ec_machine.specs.declared.outcome.Outcome.{Outcome}
 use Rattle.ec_heading.specs.Headed.{Headed}
+use Rattle.ec_heading.specs.Versions.{CanSpellAll}
 use Rattle.ec_heading.specs.Outline.{Outline, IsOutline, headed}
 use Rattle.ec_heading.specs.Spelling.{trace_text}
 use Rattle.ec_script.specs.declared.fault.Kind.{Kind}
@@ -44,11 +45,12 @@ pub record EndsEarly (p : Planned) (place w : ℕ) : Type 0 where
   pub lines : AreProgramsOf p programs
   pub ended : HasEnded p.heading.setup programs p.schedule place w
 
--- the trace of a history under a heading
+-- the trace of a history under a heading, whose version can spell it
 pub record IsTraceUnder (h : Headed) (entries : List Entry) (trace : List ℕ) : Type 0 where
   pub outline : Outline
   pub is : IsOutline outline
   pub declares : headed outline ≡ h
+  pub spelled : CanSpellAll h.version entries
   pub text : trace ≡ trace_text outline entries
 
 -- a plan was played: this is the trace of what its workers did, and this is how they ended

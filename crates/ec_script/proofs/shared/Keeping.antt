@@ -1,5 +1,5 @@
--- The lines of a script keep its programs confined, and so every plan is.
-use Rattle.std.proofs.Common.{◌≡◌, ℕ, ◌<◌, List, [], ◌∷◌, ◌++◌, length, replicate, zero, suc, Bool, true, false, cond, not, ◌&&◌, eqb, Option, Some, None, Result, Ok, Err, refl, sym, ap, ◌∙◌, subst, arith, bytes_eq, codes, nat_lt, eqb-true, length-append, length-set, slice_set}
+-- The lines of a script keep its programs confined, and of commands that its version has, and so every plan is.
+use Rattle.std.proofs.Common.{◌≡◌, ℕ, ◌<◌, List, [], ◌∷◌, ◌++◌, length, replicate, zero, suc, Bool, true, false, cond, not, ◌&&◌, eqb, Option, Some, None, Result, Ok, Err, refl, sym, ap, ◌∙◌, subst, arith, nat_lt, eqb-true, length-append, length-set, slice_set}
 use Rattle.std.specs.List.{AllByRecursion}
 use Rattle.std.specs.Option.{IfSome}
 use Rattle.std.specs.Result.{IfOk}
@@ -10,7 +10,6 @@ use Rattle.ec_text.specs.Words.{words_of, number_of}
 use Rattle.ec_heading.specs.Versions.{is_limit, version_of}
 use Rattle.ec_script.specs.Headers.{script_header, bounded}
 use Rattle.ec_heading.specs.declared.version.Version.{Version}
-use Rattle.ec_heading.specs.declared.group.Group.{Group}
 use Rattle.ec_heading.specs.declared.heading.HeadFault.{HeadFault}
 use Rattle.ec_heading.specs.Headed.{Headed}
 use Rattle.ec_heading.specs.Outline.{opened}
@@ -29,7 +28,7 @@ use Rattle.ec_script.specs.declared.order.Order.TheVariants.{Do, Write, Begin, E
 use Rattle.ec_script.specs.declared.script.Block.{Block}
 use Rattle.ec_script.specs.declared.stage.Stage.{Stage}
 use Rattle.ec_script.specs.declared.stage.Stage.TheVariants.{Opening, Limiting, Naming, Reading}
-use Rattle.ec_script.specs.Verbs.{is_giving}
+use Rattle.ec_script.specs.Verbs.{has_verb, is_giving}
 use Rattle.ec_script.specs.Forms.{Phrase, phrase_in}
 use Rattle.ec_script.specs.Objects.{object_for, object_in, is_owned}
 use Rattle.ec_script.specs.Drafted.{Drafted, with_order}
@@ -39,27 +38,49 @@ use Rattle.ec_script.specs.Scripted.{Scripted, Planned}
 use Rattle.ec_script.specs.Reading.{seen, began, ordered_in, commanded, ended_in, after_verb, after, fault_or, phrased, headed_on, is_declaring, opens_outer, script_step, limiting, limited, limit_digits, limit_or, limit_step, script_of, named_on, read_on, step}
 use Rattle.ec_script.specs.Outcome.{plan_or, plan_in, outcome, Tells, shown_plan}
 use Rattle.ec_script.specs.Grammar.{Leads, IsScript}
+use Rattle.ec_script.specs.Versioned.{HasOrder, HasOrders, HasPrograms}
 use Rattle.ec_script.specs.Confined.{IsConfined, AreConfined, IsPlan, AreConfinedPrograms}
 use Rattle.ec_script.proofs.Room.{NoFault, no_fault}
 use Rattle.ec_script.proofs.shared.Texts.{read_is_script}
-use Rattle.ec_script.proofs.shared.WrittenOut.{every_append, confined_lines}
+use Rattle.ec_script.proofs.shared.WrittenOut.{every_append, confined_lines, had_lines}
 use Rattle.ec_script.proofs.Declaring.{HeadKeeps, Grows, first_keeps, head_grows, ids_below}
-use Rattle.ec_script.proofs.Confining.{object_fits, command_confined}
+use Rattle.ec_script.proofs.Confining.{object_fits, IsProper, command_proper}
 
 -- LISTS
 
 every_set : {X : Type 0} (P : X → Type 0) (xs : List X) (i : ℕ) (x : X) → P x → AllByRecursion P xs → AllByRecursion P (slice_set xs i x)
 every_set P xs i x one all = recursion_from_All P (slice_set xs i x) (All-set P xs i x one (All-from_recursion P xs all))
 
-none_confined : (gs : List Group) (n : ℕ) → AreConfined gs (replicate n [])
-none_confined gs zero = tt
-none_confined gs (suc n) = (tt, none_confined gs n)
+-- each of two that hold of each element
+firsts : {X : Type 0} (P Q : X → Type 0) (xs : List X) → AllByRecursion (λ x. P x × Q x) xs → AllByRecursion P xs
+firsts P Q [] all = tt
+firsts P Q (x ∷ xs) all = (all.0.0, firsts P Q xs all.1)
+
+seconds : {X : Type 0} (P Q : X → Type 0) (xs : List X) → AllByRecursion (λ x. P x × Q x) xs → AllByRecursion Q xs
+seconds P Q [] all = tt
+seconds P Q (x ∷ xs) all = (all.0.1, seconds P Q xs all.1)
+
+-- orders that the programs of a script of this heading may have
+abbrev AreProper : Headed → List Order → Type 0
+AreProper h os = AllByRecursion (IsProper h.groups h.version) os
+
+none_proper : (h : Headed) (n : ℕ) → AllByRecursion (AreProper h) (replicate n [])
+none_proper h zero = tt
+none_proper h (suc n) = (tt, none_proper h n)
+
+all_confined : (h : Headed) (programs : List (List Order)) → AllByRecursion (AreProper h) programs → AreConfined h.groups programs
+all_confined h [] all = tt
+all_confined h (os ∷ programs) all = (firsts (IsConfined h.groups) (HasOrder h.version) os all.0, all_confined h programs all.1)
+
+all_had : (h : Headed) (programs : List (List Order)) → AllByRecursion (AreProper h) programs → HasOrders h.version programs
+all_had h [] all = tt
+all_had h (os ∷ programs) all = (seconds (IsConfined h.groups) (HasOrder h.version) os all.0, all_had h programs all.1)
 
 -- WHAT A SCRIPT KEEPS
 
-abbrev BlockKeeps : List Group → Option Block → Type 0
-BlockKeeps gs None = Unit {0}
-BlockKeeps gs (Some b) = AllByRecursion (IsConfined gs) b.draft.orders
+abbrev BlockKeeps : Headed → Option Block → Type 0
+BlockKeeps h None = Unit {0}
+BlockKeeps h (Some b) = AreProper h b.draft.orders
 
 -- nothing is commanded yet
 abbrev IsBare : Scripted → Type 0
@@ -68,8 +89,8 @@ IsBare s = (s.block ≡ None) × (s.programs ≡ replicate s.heading.setup.worke
 pub record Keeps (s : Scripted) : Type 0 where
   pub head : HeadKeeps s.heading
   pub programs : length s.programs ≡ s.heading.setup.workers
-  pub confined : AreConfined s.heading.groups s.programs
-  pub block : BlockKeeps s.heading.groups s.block
+  pub proper : AllByRecursion (AreProper s.heading) s.programs
+  pub block : BlockKeeps s.heading s.block
   pub schedule : AllByRecursion (λ w. w < s.heading.setup.workers) s.schedule
   pub early : length s.named ≡ 0 → IsBare s
 
@@ -77,7 +98,7 @@ script_keeps : (h : Headed) → HeadKeeps h → Keeps (script_of h)
 script_keeps h head = record {
   head = head;
   programs = length-replicate h.setup.workers [];
-  confined = none_confined h.groups h.setup.workers;
+  proper = none_proper h h.setup.workers;
   block = tt;
   schedule = tt;
   early = λ none. (refl, refl);
@@ -92,8 +113,8 @@ grown_keeps s h keeps none grows =
     record {
       head = grows.keeps;
       programs = keeps.programs ∙ sym grows.workers;
-      confined = subst (AreConfined h.groups) (sym same) (none_confined h.groups h.setup.workers);
-      block = subst (BlockKeeps h.groups) (sym bare.0) tt;
+      proper = subst (AllByRecursion (AreProper h)) (sym same) (none_proper h h.setup.workers);
+      block = subst (BlockKeeps h) (sym bare.0) tt;
       schedule = subst (λ (n : ℕ). AllByRecursion (λ w. w < n) s.schedule) (sym grows.workers) keeps.schedule;
       early = λ none. (bare.0, same);
     }
@@ -113,19 +134,19 @@ with_order_adds d End = refl
 pub not_bare : (s : Scripted) (b : Block) → s.block ≡ Some b → IsBare s → ⊥
 not_bare s b is bare = let e : s.block ≡ None = bare.0 in cc
 
-ordered_keeps : (s : Scripted) (o : Order) (b : Option Block) → s.block ≡ b → Keeps s → IsConfined s.heading.groups o → Keeps (ordered_in s b o)
+ordered_keeps : (s : Scripted) (o : Order) (b : Option Block) → s.block ≡ b → Keeps s → IsProper s.heading.groups s.heading.version o → Keeps (ordered_in s b o)
 ordered_keeps s o None is keeps one = keeps
 ordered_keeps s o (Some b) is keeps one = record {
   head = keeps.head;
   programs = keeps.programs;
-  confined = keeps.confined;
-  block = subst (AllByRecursion (IsConfined s.heading.groups)) (sym (with_order_adds b.draft o))
-      (every_append (IsConfined s.heading.groups) b.draft.orders (o ∷ []) (subst (BlockKeeps s.heading.groups) is keeps.block) (one, tt));
+  proper = keeps.proper;
+  block = subst (AreProper s.heading) (sym (with_order_adds b.draft o))
+      (every_append (IsProper s.heading.groups s.heading.version) b.draft.orders (o ∷ []) (subst (BlockKeeps s.heading) is keeps.block) (one, tt));
   schedule = keeps.schedule;
   early = λ none. absurd (not_bare s b is (keeps.early none));
 }
 
-commanded_keeps : (s : Scripted) (o : Option Order) → Keeps s → IfSome o (IsConfined s.heading.groups) → Keeps (commanded s o)
+commanded_keeps : (s : Scripted) (o : Option Order) → Keeps s → IfSome o (IsProper s.heading.groups s.heading.version) → Keeps (commanded s o)
 commanded_keeps s None keeps one = keeps
 commanded_keeps s (Some o) keeps one = ordered_keeps s o s.block refl keeps one
 
@@ -133,7 +154,7 @@ closed_keeps : (s : Scripted) (b : Block) → s.block ≡ Some b → Keeps s →
 closed_keeps s b is keeps = record {
   head = keeps.head;
   programs = length-set s.programs b.worker b.draft.orders ∙ keeps.programs;
-  confined = every_set (AllByRecursion (IsConfined s.heading.groups)) s.programs b.worker b.draft.orders (subst (BlockKeeps s.heading.groups) is keeps.block) keeps.confined;
+  proper = every_set (AreProper s.heading) s.programs b.worker b.draft.orders (subst (BlockKeeps s.heading) is keeps.block) keeps.proper;
   block = tt;
   schedule = keeps.schedule;
   early = λ none. absurd (not_bare s b is (keeps.early none));
@@ -143,14 +164,14 @@ ended_keeps : (s : Scripted) (b : Option Block) → s.block ≡ b → Keeps s �
 ended_keeps s None is keeps = keeps
 ended_keeps s (Some b) is keeps =
     let P : Bool → Type 0 = λ t. Keeps (cond t (record s { programs = slice_set s.programs b.worker b.draft.orders; block = None }) (ordered_in s (Some b) End)) in
-    let go : P (eqb b.draft.depth 0) = elim (eqb b.draft.depth 0) as P [ true ↦ closed_keeps s b is keeps | false ↦ ordered_keeps s End (Some b) is keeps tt ] in
+    let go : P (eqb b.draft.depth 0) = elim (eqb b.draft.depth 0) as P [ true ↦ closed_keeps s b is keeps | false ↦ ordered_keeps s End (Some b) is keeps (tt, refl) ] in
     go
 
 began_keeps : (s : Scripted) (o : Object) → Keeps s → Keeps (began s o)
 began_keeps s (Worker w) keeps = record {
   head = keeps.head;
   programs = keeps.programs;
-  confined = keeps.confined;
+  proper = keeps.proper;
   block = tt;
   schedule = keeps.schedule;
   early = λ none. absurd (omega (arith, length-append s.named (w ∷ []), none));
@@ -161,7 +182,7 @@ scheduled_keeps : (s : Scripted) (ws : List (List ℕ)) → Keeps s → Keeps (r
 scheduled_keeps s ws keeps = record {
   head = keeps.head;
   programs = keeps.programs;
-  confined = keeps.confined;
+  proper = keeps.proper;
   block = keeps.block;
   schedule = every_append (λ w. w < s.heading.setup.workers) s.schedule (ids_in s.heading.words ws) keeps.schedule (ids_below s.heading.setup.workers s.heading.words ws keeps.head.words);
   early = keeps.early;
@@ -169,19 +190,19 @@ scheduled_keeps s ws keeps = record {
 
 -- BY ITS VERB
 
-command_keeps : (s : Scripted) (v : Verb) (w : List ℕ) (ws : List (List ℕ)) → Keeps s → is_owned s.heading.groups (or_nothing (object_for s.heading v w ws)) ≡ false → has_two_roles (or_nothing (object_for s.heading v w ws)) ≡ false
+command_keeps : (s : Scripted) (v : Verb) (w : List ℕ) (ws : List (List ℕ)) → Keeps s → has_verb s.heading.version v ≡ true → is_owned s.heading.groups (or_nothing (object_for s.heading v w ws)) ≡ false → has_two_roles (or_nothing (object_for s.heading v w ws)) ≡ false
     → Keeps (commanded s (command_in v (is_giving v) (or_nothing (object_for s.heading v w ws)) ws))
-command_keeps s v w ws keeps free roles =
+command_keeps s v w ws keeps has free roles =
     commanded_keeps s (command_in v (is_giving v) (or_nothing (object_for s.heading v w ws)) ws) keeps
-    (command_confined s.heading.groups v (is_giving v) (or_nothing (object_for s.heading v w ws)) ws (object_fits s.heading v w ws keeps.head.apart.apart free roles))
+    (command_proper s.heading.groups s.heading.version v (is_giving v) (or_nothing (object_for s.heading v w ws)) ws (object_fits s.heading v w ws keeps.head.apart.apart has free roles))
 
-after_keeps : (s : Scripted) (v : Verb) (w : List ℕ) (ws : List (List ℕ)) → Keeps s → is_owned s.heading.groups (or_nothing (object_for s.heading v w ws)) ≡ false → has_two_roles (or_nothing (object_for s.heading v w ws)) ≡ false
+after_keeps : (s : Scripted) (v : Verb) (w : List ℕ) (ws : List (List ℕ)) → Keeps s → has_verb s.heading.version v ≡ true → is_owned s.heading.groups (or_nothing (object_for s.heading v w ws)) ≡ false → has_two_roles (or_nothing (object_for s.heading v w ws)) ≡ false
     → Keeps (after_verb v s (or_nothing (object_for s.heading v w ws)) ws)
-after_keeps s verbs.Worker w ws keeps free roles = began_keeps s (or_nothing (object_for s.heading verbs.Worker w ws)) keeps
-after_keeps s verbs.Schedule w ws keeps free roles = scheduled_keeps s ws keeps
-after_keeps s verbs.Repeat w ws keeps free roles = ordered_keeps s (Begin (size_in ws)) s.block refl keeps tt
-after_keeps s verbs.End w ws keeps free roles = ended_keeps s s.block refl keeps
-after_keeps s v w ws keeps free roles = command_keeps s v w ws keeps free roles
+after_keeps s verbs.Worker w ws keeps has free roles = began_keeps s (or_nothing (object_for s.heading verbs.Worker w ws)) keeps
+after_keeps s verbs.Schedule w ws keeps has free roles = scheduled_keeps s ws keeps
+after_keeps s verbs.Repeat w ws keeps has free roles = ordered_keeps s (Begin (size_in ws)) s.block refl keeps (tt, refl)
+after_keeps s verbs.End w ws keeps has free roles = ended_keeps s s.block refl keeps
+after_keeps s v w ws keeps has free roles = command_keeps s v w ws keeps has free roles
 
 unfaulted : (o : Option Kind) (s t : Scripted) → fault_or o s ≡ Ok t → (o ≡ None) × (s ≡ t)
 unfaulted None s t is = (refl, cc)
@@ -192,7 +213,7 @@ phrased_keeps s t None keeps is = cc
 phrased_keeps s t (Some p) keeps is =
     let f = unfaulted (phrase_fault (seen s) p (object_in s.heading p)) (after s p) t is in
     let n : NoFault (seen s) p (object_in s.heading p) = no_fault (seen s) p (object_in s.heading p) f.0 in
-    subst Keeps f.1 (after_keeps s p.verb p.object p.rest keeps n.owned n.roles)
+    subst Keeps f.1 (after_keeps s p.verb p.object p.rest keeps n.version n.owned n.roles)
 
 -- LINES
 
@@ -264,14 +285,14 @@ leads_keeps s (line ∷ lines) t keeps leads = leads_keeps leads.0 lines t (step
 plan_of : (s : Scripted) (b : Option Block) (p : Planned) → Keeps s → plan_or s b ≡ Some p → IsPlan p
 plan_of s None p keeps is =
     let e : (let q : Planned = record { heading = s.heading; programs = s.programs; schedule = s.schedule } in q) ≡ p = cc in
-    subst IsPlan e (record { some = keeps.head.some; apart = keeps.head.apart.apart; programs = keeps.programs; confined = keeps.confined; schedule = keeps.schedule })
+    subst IsPlan e (record { some = keeps.head.some; apart = keeps.head.apart.apart; programs = keeps.programs; confined = all_confined s.heading s.programs keeps.proper; version = all_had s.heading s.programs keeps.proper; schedule = keeps.schedule })
 plan_of s (Some b) p keeps is = cc
 
 plan_keeps : (t : Stage) (p : Planned) → StageKeeps t → plan_in t ≡ Some p → IsPlan p
 plan_keeps (Reading s) p keeps is = plan_of s s.block p keeps is
 plan_keeps _ p keeps is = cc
 
--- a plan that a text comes to has groups apart, confined programs, one for each worker, and a schedule of these
+-- a plan that a text comes to has groups apart, confined programs, one for each worker and of its version, and a schedule of these
 pub plans_are_confined : (bytes : List ℕ) (p : Planned) → outcome bytes ≡ Ok p → IsPlan p
 plans_are_confined bytes p is =
     let r : IsScript bytes p = read_is_script bytes p is in
@@ -285,3 +306,7 @@ told_plan bytes (Err f) tells = tt
 pub told_commands : (bytes : List ℕ) (result : Result Plan ScriptFault) → Tells (outcome bytes) result → IfOk result (λ plan. AreConfinedPrograms plan.heading.groups plan.programs.items)
 told_commands bytes (Ok plan) tells = confined_lines plan.heading.groups plan.programs.items (plans_are_confined bytes (shown_plan plan) tells).confined
 told_commands bytes (Err f) tells = tt
+
+pub told_version : (bytes : List ℕ) (result : Result Plan ScriptFault) → Tells (outcome bytes) result → IfOk result (λ plan. HasPrograms plan.heading.version plan.programs.items)
+told_version bytes (Ok plan) tells = had_lines plan.heading.version plan.programs.items (plans_are_confined bytes (shown_plan plan) tells).version
+told_version bytes (Err f) tells = tt

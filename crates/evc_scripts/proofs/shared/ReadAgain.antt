@@ -9,6 +9,9 @@ use Rattle.ec_core.specs.declared.act.Reply.{Reply}
 use Rattle.ec_core.specs.Acceptance.{IsAccepted, answer_of}
 use Rattle.ec_machine.specs.declared.command.Command.{Command}
 use Rattle.ec_heading.specs.Headed.{Headed}
+use Rattle.ec_heading.specs.declared.version.Version.{Version}
+use Rattle.ec_heading.specs.Versions.{CanSpellAll}
+use Rattle.ec_heading.proofs.shared.OutlineFound.{version_found}
 use Rattle.ec_trace.specs.Outcome.{outcome}
 use Rattle.ec_heading.specs.Outline.{headed}
 use Rattle.ec_trace.specs.Recounted.{Recounted}
@@ -31,8 +34,10 @@ pub read_under : (h : Headed) (entries : List Entry) (trace : List ℕ) → IsAc
     → outcome TRACE_MAX trace ≡ Ok (record { heading = h; entries = entries })
 read_under h entries trace accepted under short =
     let o = under.outline in
+    let version : h.version ≡ o.version = sym (ap (λ (k : Headed). k.version) under.declares) ∙ version_found o in
     subst (λ (k : Headed). outcome TRACE_MAX trace ≡ Ok (record { heading = k; entries = entries })) under.declares
-    (rw under.text (written_is_read o entries under.is (subst (λ (k : Headed). IsAccepted k.setup (reverse entries)) (sym under.declares) accepted) (rw under.text at short)))
+    (rw under.text (written_is_read o entries under.is (subst (λ (k : Headed). IsAccepted k.setup (reverse entries)) (sym under.declares) accepted)
+    (subst (λ (v : Version). CanSpellAll v entries) version under.spelled) (rw under.text at short)))
 
 -- the trace of a schedule that was played, within the bound, is read as the history of its turns
 pub simulated_again : SimulatedIsReadAgain
@@ -43,4 +48,6 @@ simulated_again p trace note played short =
 
 -- the trace of workers on threads, within the bound, is read as the history of their run
 pub ran_again : RanIsReadAgain
-ran_again p turns status trace note ran short = read_under p.heading ran.report.run.entries trace ran.accepted ran.written short
+ran_again p turns status trace note ran short =
+    let entries = ran.report.run.entries in
+    read_under p.heading entries trace ran.accepted ran.written short

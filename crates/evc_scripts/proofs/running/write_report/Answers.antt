@@ -21,7 +21,7 @@ returns-then-write_run-clause-ends g c = λ turns told.
     (told_ends (shown_plan c.args.plan.now) turns (status_for c.args.report.now.outcomes.items) _ _ (
       _,
       _,
-      have_run c.args.plan.now c.args.report.now turns h told c.known-3.ensures.accepted,
+      have_run c.args.plan.now c.args.report.now turns h c.requires.plan.version told c.known-3.ensures.accepted,
       c.if-write_run.ensures.all h.outline h.is h.declares refl,
       (
         subst (λ (os : List Outcome). Puts (g.N.Write.contents c.args.notes.now.writer) c.args.notes.now.table (g.N.Write.contents c.write_run.new.notes.writer) c.write_run.new.notes.table (outcomes_note c.args.plan.now.heading os))
@@ -33,4 +33,4 @@ returns-then-write_run-clause-ends g c = λ turns told.
 pub returns-else-write_run-clause-ends : goal.returns-else-write_run-clause-ends
 returns-else-write_run-clause-ends g c = λ turns told.
     let h : HasOutline c.args.plan.now.heading = c.known.ensures.outline c.requires.plan.some in
-    inl (_, _, _, have_run c.args.plan.now c.args.report.now turns h told c.known-3.ensures.accepted, c.if-write_run.ensures.front h.outline h.is h.declares refl, (c.if-write_run.ensures.noted, c.if-write_run.ensures.written))
+    inl (_, _, _, have_run c.args.plan.now c.args.report.now turns h c.requires.plan.version told c.known-3.ensures.accepted, c.if-write_run.ensures.front h.outline h.is h.declares refl, (c.if-write_run.ensures.noted, c.if-write_run.ensures.written))

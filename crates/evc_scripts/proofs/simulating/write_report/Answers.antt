@@ -11,7 +11,7 @@ returns-then-write_run-clause-ends g c =
     let h : HasOutline c.args.plan.now.heading = c.known.ensures.outline c.requires.plan.some in (
       _,
       _,
-      is_played c.args.plan.now c.args.report.now h c.requires.report,
+      is_played c.args.plan.now c.args.report.now h c.requires.plan.version c.requires.report,
       c.if-write_run.ensures.all h.outline h.is h.declares refl,
       (
         subst (λ (os : List Outcome). Puts (g.N.Write.contents c.args.notes.now.writer) c.args.notes.now.table (g.N.Write.contents c.write_run.new.notes.writer) c.write_run.new.notes.table (outcomes_note c.args.plan.now.heading os))
@@ -23,4 +23,4 @@ returns-then-write_run-clause-ends g c =
 pub returns-else-write_run-clause-ends : goal.returns-else-write_run-clause-ends
 returns-else-write_run-clause-ends g c =
     let h : HasOutline c.args.plan.now.heading = c.known.ensures.outline c.requires.plan.some in
-    (_, _, is_played c.args.plan.now c.args.report.now h c.requires.report, c.if-write_run.ensures.front h.outline h.is h.declares refl, (c.if-write_run.ensures.noted, c.if-write_run.ensures.written))
+    (_, _, is_played c.args.plan.now c.args.report.now h c.requires.plan.version c.requires.report, c.if-write_run.ensures.front h.outline h.is h.declares refl, (c.if-write_run.ensures.noted, c.if-write_run.ensures.written))

@@ -1,8 +1,8 @@
 use Rattle.std.proofs.Common.{◌≡◌, ℕ, ◌<◌, Some, refl, sym, subst, arith, slice_get}
 use Rattle.ec_core.specs.declared.act.Act.{Act}
-use Rattle.ec_core.specs.declared.act.Act.TheVariants.{Advance, Read, Await, Ticket}
+use Rattle.ec_core.specs.declared.act.Act.TheVariants.{Advance, Read, Await, Ticket, Hand}
 use Rattle.evc_engine.specs.Walks.{Covers}
-use Rattle.evc_engine.proofs.WalkLemmas.{covers_at, on_advance, on_await}
+use Rattle.evc_engine.proofs.WalkLemmas.{covers_at, on_advance, on_await, on_hand}
 use Rattle.evc_engine.proofs.table.Table.of.Goals as goal
 
 pub returns-in-Advance : goal.returns-in-Advance
@@ -31,6 +31,15 @@ returns-in-Await c = λ groups t.
     subst (λ (a : Act). Covers groups a c.at-in-Await.result) (sym c.in-Await.is)
     (covers_at groups (Await e c.in-Await.field-1) (Read e) spans e c.at-in-Await.result (t.events e less)
     (subst (λ (n : ℕ). slice_get spans n ≡ Some c.at-in-Await.result) c.get-in-Await.ensures.value c.at-in-Await.ensures) (on_await e c.in-Await.field-1)))
+
+pub returns-in-Hand : goal.returns-in-Hand
+returns-in-Hand c = λ groups t.
+    (let e = c.in-Hand.event in
+    let spans = c.args.self.now.events in
+    let less : e < 32 = omega (arith, c.get-in-Hand.ensures.value, c.get-in-Hand.ensures.small) in
+    subst (λ (a : Act). Covers groups a c.at-in-Hand.result) (sym c.in-Hand.is)
+    (covers_at groups (Hand e c.in-Hand.field-1) (Read e) spans e c.at-in-Hand.result (t.events e less)
+    (subst (λ (n : ℕ). slice_get spans n ≡ Some c.at-in-Hand.result) c.get-in-Hand.ensures.value c.at-in-Hand.ensures) (on_hand e c.in-Hand.field-1)))
 
 pub returns-in-Ticket : goal.returns-in-Ticket
 returns-in-Ticket c = λ groups t.
