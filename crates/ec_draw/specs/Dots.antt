@@ -11,6 +11,16 @@ use Rattle.ec_draw.specs.declared.window.Window.{Window}
 use Rattle.ec_draw.specs.declared.dot.Dot.{Dot}
 use Rattle.ec_draw.specs.Windows.{shows}
 
+-- the act that began the call that a go goes on with
+abbrev pub gone_op : Option CallSoFar → Act
+gone_op None = Go
+gone_op (Some call) = call.op
+
+-- the act that began the call whose entry an act of w makes at the end of a past
+abbrev pub op_in : ℕ → List Entry → Act → Act
+op_in w past Go = gone_op (under_way w past)
+op_in w past act = act
+
 -- the component that a go of a call reads
 abbrev pub gone_component : Tables → Option CallSoFar → Option ℕ
 gone_component t None = None
@@ -44,7 +54,7 @@ number_in t w past act = None
 
 -- the dot of an entry at the end of a past; the entry's position is the length of its past
 abbrev pub dot_of : Tables → List Entry → Entry → Dot
-dot_of t past x = record { worker = x.worker; position = length past; component = component_in t x.worker past x.act; number = number_in t x.worker past x.act }
+dot_of t past x = record { worker = x.worker; op = op_in x.worker past x.act; position = length past; component = component_in t x.worker past x.act; number = number_in t x.worker past x.act }
 
 -- the dots of a past: of each entry that is shown, in order
 unfoldable pub dots_of : Tables → Window → List Entry → List Dot

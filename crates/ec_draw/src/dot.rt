@@ -3,21 +3,43 @@ ghost use Rattle.std.specs.Prelude.{◌≡◌, IfOk, List, length, option_and_th
 ghost use Rattle.ec_core.specs.declared.act.Entry.{Entry};
 ghost use Rattle.ec_core.specs.Rounds.{read_of};
 ghost use Rattle.ec_core.specs.Standing.{StandsFor};
-ghost use Rattle.ec_draw.specs.Dots.{component_in, dot_of, dots_of, held_in, number_in};
+ghost use Rattle.ec_draw.specs.Dots.{component_in, dot_of, dots_of, held_in, number_in, op_in};
 
 use crate::Window;
 use ec_core::{Act, Entry, Run, UnderWay, World};
 use ec_count::WorkerId;
 use std::alloc::{AllocError, Global};
 
-/// An entry: whose it is, where it stands, and the component that it read or raised, if it did.
+/// An entry: whose it is, of which call, where it stands, and the component that it read or raised, if it did.
 #[derive(Clone, Copy, Debug, PartialEq, Eq)]
 pub struct Dot {
     pub worker: WorkerId,
+    /// The act that began the call whose entry it is.
+    pub op: Act,
     pub position: usize,
     pub component: Option<usize>,
     /// What it read of the component.
     pub number: Option<u64>,
+}
+
+/// The act that began the call whose entry an act makes in a world.
+fn op_in(world: &World, worker: WorkerId, act: Act) -> Act
+    ensures { (h : List Entry) → StandsFor world.now h
+        → result ≡ op_in worker (reverse h) act }
+{
+    match act {
+        Act::Go => match world.under_way(worker) {
+            Some(call) => call.op(),
+            None => Act::Go,
+        },
+        Act::Advance(_)
+        | Act::Read(_)
+        | Act::Await(_, _)
+        | Act::Ticket(_)
+        | Act::Put(_, _)
+        | Act::Get(_)
+        | Act::Hand(_, _) => act,
+    }
 }
 
 /// The component that an act reads or raises in a world.
@@ -32,7 +54,7 @@ fn component_in(world: &World, worker: WorkerId, act: Act) -> Option<usize>
             Some(call) => Some(call.index()),
             None => None,
         },
-        Act::Ticket(_) | Act::Put(_, _) | Act::Get(_) => None,
+        Act::Ticket(_) | Act::Put(_, _) | Act::Get(_) | Act::Hand(_, _) => None,
     }
 }
 
@@ -43,7 +65,12 @@ fn gone_read(world: &World, call: &UnderWay) -> Option<u64>
 {
     match call.op() {
         Act::Read(event) | Act::Await(event, _) => world.component(event, call.index()),
-        Act::Advance(_) | Act::Go | Act::Ticket(_) | Act::Put(_, _) | Act::Get(_) => None,
+        Act::Advance(_)
+        | Act::Go
+        | Act::Ticket(_)
+        | Act::Put(_, _)
+        | Act::Get(_)
+        | Act::Hand(_, _) => None,
     }
 }
 
@@ -58,7 +85,7 @@ fn number_in(world: &World, worker: WorkerId, act: Act) -> Option<u64>
             Some(call) => gone_read(world, &call),
             None => None,
         },
-        Act::Advance(_) | Act::Ticket(_) | Act::Put(_, _) | Act::Get(_) => None,
+        Act::Advance(_) | Act::Ticket(_) | Act::Put(_, _) | Act::Get(_) | Act::Hand(_, _) => None,
     }
 }
 
@@ -69,6 +96,7 @@ fn dot_of(world: &World, position: usize, entry: &Entry) -> Dot
 {
     Dot {
         worker: entry.worker,
+        op: op_in(world, entry.worker, entry.act),
         position,
         component: component_in(world, entry.worker, entry.act),
         number: number_in(world, entry.worker, entry.act),

@@ -1,5 +1,5 @@
 -- The elements of a picture, as bytes.
-use Rattle.std.specs.Prelude.{ℕ, List, [], ◌++◌, length, Bool, nat_lt, codes, decimal, if◌then◌else◌}
+use Rattle.std.specs.Prelude.{ℕ, List, [], ◌++◌, length, nat_lt, codes, decimal, if◌then◌else◌}
 use Rattle.evc_draw.specs.declared.style.TheConstants.{BAR}
 
 -- two numbers, each behind its name
@@ -20,9 +20,17 @@ circle x y = pair (codes "<circle r='3' cx='") x (codes "' cy='") y ++ codes "'/
 unfoldable pub diamond : ℕ → ℕ → List ℕ
 diamond x y = pair (codes "<path class='mark' d='M ") x (codes " ") y ++ codes " m 0 -6 l 6 6 l -6 6 l -6 -6 z'/>\n"
 
--- a text of more than 13 letters is written small, and squeezed into its column where the viewer can
-abbrev pub squeeze : Bool → List ℕ
-squeeze is_long = if is_long then codes " long' textLength='78' lengthAdjust='spacingAndGlyphs" else []
+-- a text of so many letters is written small, so that it fits its column, which 13 letters fill, 16 small ones, and 24 tiny ones
+abbrev pub squeeze : ℕ → List ℕ
+squeeze n = if nat_lt 16 n then codes " tiny" else (if nat_lt 13 n then codes " long" else [])
+
+-- the same of a name before its row, where there is room for 17 letters and for 24 small ones
+abbrev pub squeeze_row : ℕ → List ℕ
+squeeze_row n = if nat_lt 17 n then codes " long" else []
+
+-- and of what stands between two dots, where there is room for 12 letters
+abbrev pub squeeze_dot : ℕ → List ℕ
+squeeze_dot n = if nat_lt 12 n then codes " tiny" else []
 
 unfoldable pub text_start : List ℕ → ℕ → ℕ → List ℕ
 text_start class x y = codes "<text class='" ++ class ++ pair (codes "' x='") x (codes "' y='") y ++ codes "'>"
@@ -38,4 +46,9 @@ name_text class x y name = text_start class x y ++ name ++ text_end
 
 unfoldable pub object_text : ℕ → ℕ → List ℕ → List ℕ
 object_text x y name =
-    codes "<text class='object" ++ squeeze (nat_lt 13 (length name)) ++ pair (codes "' x='") x (codes "' y='") y ++ codes "'>" ++ name ++ text_end
+    codes "<text class='object" ++ squeeze (length name) ++ pair (codes "' x='") x (codes "' y='") y ++ codes "'>" ++ name ++ text_end
+
+-- the name before a row
+unfoldable pub row_text : ℕ → ℕ → List ℕ → List ℕ
+row_text x y name =
+    codes "<text class='name" ++ squeeze_row (length name) ++ pair (codes "' x='") x (codes "' y='") y ++ codes "'>" ++ name ++ text_end

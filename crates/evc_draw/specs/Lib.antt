@@ -1,3 +1,4 @@
+pub mod Frames
 pub mod Places
 pub mod Elements
 pub mod Words

@@ -2,6 +2,7 @@
 use Rattle.std.specs.Prelude.{ℕ, ◌+◌, ◌-◌, ◌*◌, ◌/◌, min, max, List, length, slice_get, unwrap_or}
 use Rattle.ec_draw.specs.declared.window.Window.{Window}
 use Rattle.ec_draw.specs.Windows.{column, columns}
+use Rattle.evc_draw.specs.Frames.{Framed, rows_before}
 
 -- the left edge of the column of a moment
 abbrev pub edge : Window → ℕ → ℕ
@@ -11,24 +12,24 @@ edge w k = 136 + 84 * column w k
 abbrev pub centre : Window → ℕ → ℕ
 centre w k = 178 + 84 * column w k
 
--- the top of a worker's row
-abbrev pub row : ℕ → ℕ
-row n = 40 + 76 * n
+-- the top of the row of a worker, below those before it that are drawn
+abbrev pub row : Framed → ℕ → ℕ
+row f n = 40 + 76 * rows_before f n
 
--- where the rows of m workers end
+-- where r rows end
 abbrev pub below : ℕ → ℕ
-below m = 60 + 76 * m
+below r = 60 + 76 * r
 
--- the line of zero height of the i-th curve, below m workers
+-- the line of zero height of the i-th curve that is drawn, below r rows
 abbrev pub base : ℕ → ℕ → ℕ
-base m i = below m + 84 * min i 64 + 64
+base r i = below r + 84 * min i 64 + 64
 
 -- how wide and how high a picture is
 abbrev pub picture_width : Window → ℕ
 picture_width w = 200 + 84 * columns w
 
 abbrev pub picture_height : ℕ → ℕ → ℕ
-picture_height m n = below m + 84 * min n 64 + 30
+picture_height r n = below r + 84 * min n 64 + 30
 
 -- the least count of a curve, and how far it rises: counts don't fall
 abbrev pub low_of : List ℕ → ℕ
@@ -47,4 +48,4 @@ rise low high v = 52 * min (v - low) (span_of low high) / span_of low high
 
 -- the height at which count v of the i-th curve is drawn
 abbrev pub level : ℕ → ℕ → List ℕ → ℕ → ℕ
-level m i hs v = base m i - rise (low_of hs) (high_of hs) v
+level r i hs v = base r i - rise (low_of hs) (high_of hs) v

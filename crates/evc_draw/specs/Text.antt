@@ -10,6 +10,7 @@ use Rattle.ec_draw.specs.declared.open.Open.{Open}
 use Rattle.ec_draw.specs.declared.dot.Dot.{Dot}
 use Rattle.ec_draw.specs.Curves.{Line}
 use Rattle.ec_draw.specs.Pictures.{Shapes}
+use Rattle.evc_draw.specs.Frames.{Framed, draws, draws_worker, draws_object, draws_count}
 use Rattle.evc_draw.specs.Svg.{counted_word}
 use Rattle.evc_draw.specs.Words.{call_words, open_words}
 use Rattle.evc_draw.specs.declared.style.TheConstants.{BLANKS, DASHES}
@@ -29,18 +30,18 @@ unfoldable pub row_name : List ℕ → List ℕ
 row_name name = name ++ take (23 - length name) BLANKS.now
 
 -- whether a call of worker n is under way just before the entry at position k
-abbrev pub goes_through : ℕ → ℕ → Placed → Bool
-goes_through n k p = (p.call.worker == n && nat_lt p.call.first k) && nat_le k p.call.last
+abbrev pub goes_through : Framed → ℕ → ℕ → Placed → Bool
+goes_through f n k p = ((p.call.worker == n && nat_lt p.call.first k) && nat_le k p.call.last) && draws_object f p.call.op
 
-abbrev pub goes_on : ℕ → ℕ → Open → Bool
-goes_on n k o = o.worker == n && nat_lt o.first k
+abbrev pub goes_on : Framed → ℕ → ℕ → Open → Bool
+goes_on f n k o = (o.worker == n && nat_lt o.first k) && draws_object f o.op
 
-abbrev pub is_under_way : Shapes → ℕ → ℕ → Bool
-is_under_way p n k = list_any (goes_through n k) p.calls || list_any (goes_on n k) p.begun
+abbrev pub is_under_way : Framed → Shapes → ℕ → ℕ → Bool
+is_under_way f p n k = list_any (goes_through f n k) p.calls || list_any (goes_on f n k) p.begun
 
--- what fills the cell of an entry in the row of worker n: dashes, where its call goes on
-abbrev pub fill : Shapes → ℕ → ℕ → List ℕ
-fill p n k = if is_under_way p n k then DASHES.now else BLANKS.now
+-- what fills the cell of an entry in the row of worker n: dashes, where a call of its own goes on that is drawn
+abbrev pub fill : Framed → Shapes → ℕ → ℕ → List ℕ
+fill f p n k = if is_under_way f p n k then DASHES.now else BLANKS.now
 
 -- an entry: the component that it read or raised, and a star where it has none
 abbrev pub dot_word : Option ℕ → List ℕ
@@ -49,8 +50,8 @@ dot_word (Some c) = decimal c
 
 -- ROWS
 
-unfoldable pub dot_cell : Shapes → ℕ → Dot → List ℕ
-dot_cell p n d = padded (fill p n d.position) (cell_width p.window) (if d.worker == n then dot_word d.component else [])
+unfoldable pub dot_cell : Framed → Shapes → ℕ → Dot → List ℕ
+dot_cell f p n d = padded (fill f p n d.position) (cell_width f.window) (if d.worker == n && draws_object f d.op then dot_word d.component else [])
 
 unfoldable pub number_cell : Window → ℕ → List ℕ
 number_cell w n = padded BLANKS.now (cell_width w) (decimal n)
@@ -62,30 +63,36 @@ entry_cell w d = number_cell w d.position
 unfoldable pub entry_row : Window → List Dot → List ℕ
 entry_row w ds = row_name (codes "entry") ++ padded BLANKS.now (cell_width w) [] ++ flat_map (entry_cell w) ds ++ codes "\n"
 
-unfoldable pub worker_row : Named → Shapes → ℕ → List ℕ
-worker_row names p n =
-    row_name (word_of names (targets.Worker n)) ++ padded BLANKS.now (cell_width p.window) [] ++ flat_map (dot_cell p n) p.dots ++ codes "\n"
+unfoldable pub worker_cells : Named → Framed → Shapes → ℕ → List ℕ
+worker_cells names f p n =
+    row_name (word_of names (targets.Worker n)) ++ padded BLANKS.now (cell_width f.window) [] ++ flat_map (dot_cell f p n) p.dots ++ codes "\n"
 
--- the rows of the first n workers
-unfoldable pub worker_rows : Named → Shapes → ℕ → List ℕ
-worker_rows names p zero = []
-worker_rows names p (suc n) = worker_rows names p n ++ worker_row names p n
+abbrev pub worker_row : Named → Framed → Shapes → ℕ → List ℕ
+worker_row names f p n = if draws_worker f n then worker_cells names f p n else []
+
+-- the rows of the first n workers that are drawn
+unfoldable pub worker_rows : Named → Framed → Shapes → ℕ → List ℕ
+worker_rows names f p zero = []
+worker_rows names f p (suc n) = worker_rows names f p n ++ worker_row names f p n
 
 -- the count before the first entry, and after each
-unfoldable pub curve_row : Named → Window → Line → List ℕ
-curve_row names w l = row_name (counted_word names l.object) ++ flat_map (number_cell w) l.heights ++ codes "\n"
+unfoldable pub curve_cells : Named → Window → Line → List ℕ
+curve_cells names w l = row_name (counted_word names l.object) ++ flat_map (number_cell w) l.heights ++ codes "\n"
+
+abbrev pub curve_row : Named → Framed → Line → List ℕ
+curve_row names f l = if draws_count f l.object then curve_cells names f.window l else []
 
 -- THE WHOLE
 
-unfoldable pub call_line : Named → Placed → List ℕ
-call_line names p = call_words names p ++ codes "\n"
+abbrev pub call_line : Named → Framed → Placed → List ℕ
+call_line names f p = if draws f p.call.worker p.call.op then call_words names p ++ codes "\n" else []
 
-unfoldable pub open_line : Named → Open → List ℕ
-open_line names o = open_words names o ++ codes "\n"
+abbrev pub open_line : Named → Framed → Open → List ℕ
+open_line names f o = if draws f o.worker o.op then open_words names o ++ codes "\n" else []
 
-unfoldable pub rows : Named → ℕ → Shapes → List ℕ
-rows names m p = entry_row p.window p.dots ++ worker_rows names p m ++ flat_map (curve_row names p.window) p.curves
+unfoldable pub rows : Named → Framed → ℕ → Shapes → List ℕ
+rows names f m p = entry_row f.window p.dots ++ worker_rows names f p m ++ flat_map (curve_row names f) p.curves
 
--- the text of these shapes, where m workers are declared
-unfoldable pub text : Named → ℕ → Shapes → List ℕ
-text names m p = rows names m p ++ codes "\n" ++ flat_map (call_line names) p.calls ++ flat_map (open_line names) p.begun
+-- the text of these shapes in this frame, where m workers are declared
+unfoldable pub text : Named → Framed → ℕ → Shapes → List ℕ
+text names f m p = rows names f m p ++ codes "\n" ++ flat_map (call_line names f) p.calls ++ flat_map (open_line names f) p.begun

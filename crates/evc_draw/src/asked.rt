@@ -1,12 +1,12 @@
 //! What the command line asks for.
 
-use crate::document::Form;
-use crate::drawing::View;
+use crate::view::{Form, View};
 use ec_draw::Window;
 use ec_text::number;
+use std::alloc::{AllocError, Global};
 
 /// What the program is asked for.
-#[derive(Clone, Copy, Debug, PartialEq, Eq)]
+#[derive(Drop)]
 pub(crate) enum Asked {
     /// A picture.
     Draw(View),
@@ -14,32 +14,21 @@ pub(crate) enum Asked {
     Help,
     /// The version.
     Version,
+    /// Nothing that it does.
+    Wrong,
 }
 
-/// What is drawn where nothing is asked for: all entries, as SVG.
-const PLAIN: View = View {
-    window: Window {
-        from: 0,
-        to: usize::MAX,
-    },
-    form: Form::Svg,
-};
-
-/// The view that an option and its value ask for.
-fn with_option(view: View, name: &String, value: &String) -> Option<View> {
-    let n = number(value.as_bytes())? as usize;
-    let window = match name.as_str() {
-        "--from" => Window {
-            from: n,
-            ..view.window
+/// What is drawn where nothing is asked for: all entries, of all workers and objects, as SVG.
+fn plain(alloc: Global) -> View {
+    View {
+        window: Window {
+            from: 0,
+            to: usize::MAX,
         },
-        "--to" => Window {
-            to: n.saturating_add(1),
-            ..view.window
-        },
-        _ => return None,
-    };
-    Some(View { window, ..view })
+        form: Form::Svg,
+        workers: Vec::new(alloc),
+        objects: Vec::new(alloc),
+    }
 }
 
 /// What one word asks for that is no option of a picture.
@@ -51,14 +40,43 @@ fn one_word(word: &String) -> Option<Asked> {
     }
 }
 
-/// The view that options ask for; none where they are wrong.
-fn read_options(words: &[String]) -> Option<View> {
-    let mut view = PLAIN;
+/// The window with another end, where the value is a number.
+fn with_end(window: Window, is_first: bool, value: &String) -> Option<Window> {
+    let n = number(value.as_bytes())? as usize;
+    if is_first {
+        Some(Window { from: n, ..window })
+    } else {
+        let to = n.saturating_add(1);
+        Some(Window { to, ..window })
+    }
+}
+
+/// Takes an option with its value; whether there is such an option with such a value.
+fn take_option(view: &mut View, name: &String, value: &String) -> Result<bool, AllocError> {
+    match name.as_str() {
+        "--worker" => view.workers.push(value.clone()?)?,
+        "--object" => view.objects.push(value.clone()?)?,
+        "--from" | "--to" => {
+            let is_first = name.as_str() == "--from";
+            let Some(window) = with_end(view.window, is_first, value) else {
+                return Ok(false);
+            };
+            view.window = window;
+        }
+        _ => return Ok(false),
+    }
+    Ok(true)
+}
+
+/// Takes the options; whether they are right.
+fn take_options(view: &mut View, words: &[String]) -> Result<bool, AllocError> {
     let mut option: Option<&String> = None;
     for word in words {
         match option {
             Some(name) => {
-                view = with_option(view, name, word)?;
+                if !take_option(view, name, word)? {
+                    return Ok(false);
+                }
                 option = None;
             }
             None => {
@@ -70,19 +88,20 @@ fn read_options(words: &[String]) -> Option<View> {
             }
         }
     }
-    if option.is_some() {
-        return None;
-    }
-    Some(view)
+    Ok(option.is_none())
 }
 
-/// What the words behind the program's name ask for; none where they are wrong.
-pub(crate) fn read_words(words: &[String]) -> Option<Asked> {
+/// What the words behind the program's name ask for.
+pub(crate) fn read_words(alloc: Global, words: &[String]) -> Result<Asked, AllocError> {
     if let [word] = words {
         if let Some(asked) = one_word(word) {
-            return Some(asked);
+            return Ok(asked);
         }
     }
-    let view = read_options(words)?;
-    Some(Asked::Draw(view))
+    let mut view = plain(alloc);
+    if take_options(&mut view, words)? {
+        Ok(Asked::Draw(view))
+    } else {
+        Ok(Asked::Wrong)
+    }
 }

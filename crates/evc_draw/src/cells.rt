@@ -3,8 +3,10 @@ ghost use Rattle.std.specs.Prelude.{◌≡◌, ◌≤◌, [], decimal};
 ghost use Rattle.std.specs.List.{list_any};
 ghost use Rattle.ec_text.specs.Puts.{Puts};
 ghost use Rattle.ec_draw.specs.Pictures.{kept};
+ghost use Rattle.evc_draw.specs.Frames.{framed};
 ghost use Rattle.evc_draw.specs.Text.{cell_width, dot_cell, dot_word, fill, goes_on, goes_through, is_under_way, number_cell, padded, row_name};
 
+use crate::frame::Frame;
 use crate::style::{BLANKS, DASHES};
 use ec_draw::{Dot, Open, Picture, Window};
 use ec_order::Placed;
@@ -61,37 +63,40 @@ pub(crate) fn put_number_cell<W: Write>(out: &mut W, table: &mut Buffered, windo
     put_padded_number(out, table, BLANKS, cell_width(window), n);
 }
 
-/// Whether a finished call of a worker is under way just before an entry.
-fn any_goes_through(calls: &[Placed], worker: usize, position: usize) -> bool
-    ensures { result ≡ list_any (goes_through worker position) calls.now }
+/// Whether a finished call of a worker that is drawn is under way just before an entry.
+fn any_goes_through(frame: &Frame, calls: &[Placed], worker: usize, position: usize) -> bool
+    ensures { result ≡ list_any (goes_through (framed frame.now) worker position) calls.now }
 {
     calls.iter().any(|placed| {
         placed.call.worker.get() == worker
             && placed.call.first < position
             && position <= placed.call.last
+            && frame.draws_object(&placed.call.op)
     })
 }
 
-/// Whether a call of a worker that never ends is under way just before an entry.
-fn any_goes_on(calls: &[Open], worker: usize, position: usize) -> bool
-    ensures { result ≡ list_any (goes_on worker position) calls.now }
+/// Whether a call of a worker that never ends, and that is drawn, is under way just before an entry.
+fn any_goes_on(frame: &Frame, calls: &[Open], worker: usize, position: usize) -> bool
+    ensures { result ≡ list_any (goes_on (framed frame.now) worker position) calls.now }
 {
-    calls.iter().any(|begun| begun.worker.get() == worker && begun.first < position)
+    calls.iter().any(|begun| {
+        begun.worker.get() == worker && begun.first < position && frame.draws_object(&begun.op)
+    })
 }
 
-/// Whether a call of a worker is under way just before an entry.
-fn is_under_way(picture: &Picture, worker: usize, position: usize) -> bool
-    ensures { result ≡ is_under_way (kept picture.now) worker position }
+/// Whether a call of a worker that is drawn is under way just before an entry.
+fn is_under_way(frame: &Frame, picture: &Picture, worker: usize, position: usize) -> bool
+    ensures { result ≡ is_under_way (framed frame.now) (kept picture.now) worker position }
 {
-    any_goes_through(picture.calls.as_slice(), worker, position)
-        || any_goes_on(picture.begun.as_slice(), worker, position)
+    any_goes_through(frame, picture.calls.as_slice(), worker, position)
+        || any_goes_on(frame, picture.begun.as_slice(), worker, position)
 }
 
 /// What fills the cell of an entry in the row of a worker.
-fn fill(picture: &Picture, worker: usize, position: usize) -> &'static [u8]
-    ensures { result.now ≡ fill (kept picture.now) worker position }
+fn fill(frame: &Frame, picture: &Picture, worker: usize, position: usize) -> &'static [u8]
+    ensures { result.now ≡ fill (framed frame.now) (kept picture.now) worker position }
 {
-    if is_under_way(picture, worker, position) {
+    if is_under_way(frame, picture, worker, position) {
         DASHES
     } else {
         BLANKS
@@ -119,15 +124,16 @@ fn put_own_cell<W: Write>(
 pub(crate) fn put_dot_cell<W: Write>(
     out: &mut W,
     table: &mut Buffered,
+    frame: &Frame,
     picture: &Picture,
     worker: usize,
     dot: &Dot,
 )
-    ensures { Puts (W.contents out.old) table.old (W.contents out.new) table.new (dot_cell (kept picture.now) worker dot.now) }
+    ensures { Puts (W.contents out.old) table.old (W.contents out.new) table.new (dot_cell (framed frame.now) (kept picture.now) worker dot.now) }
 {
-    let width = cell_width(picture.window);
-    let fill = fill(picture, worker, dot.position);
-    if dot.worker.get() == worker {
+    let width = cell_width(frame.window);
+    let fill = fill(frame, picture, worker, dot.position);
+    if dot.worker.get() == worker && frame.draws_object(&dot.op) {
         put_own_cell(out, table, fill, width, dot.component);
     } else {
         put_padded(out, table, fill, width, b"");

@@ -4,22 +4,16 @@ ghost use Rattle.std.specs.Io.KnownBytes.{Appends};
 ghost use Rattle.ec_text.specs.Puts.{Puts, AppendsPrefix};
 ghost use Rattle.ec_draw.specs.Pictures.{kept};
 ghost use Rattle.evc_draw.specs.Documents.{document, document_for};
+ghost use Rattle.evc_draw.specs.Frames.{framed};
 
+use crate::frame::Frame;
 use crate::svg::put_svg;
 use crate::text::put_text;
+use crate::view::Form;
 use ec_draw::Picture;
 use ec_text::{Buffered, WriteFault, finish};
 use ec_trace::{Heading, Spellings};
 use std::io::Write;
-
-/// As what a picture is written.
-#[derive(Clone, Copy, Debug, PartialEq, Eq)]
-pub(crate) enum Form {
-    /// As SVG.
-    Svg,
-    /// As a text for a terminal.
-    Text,
-}
 
 /// Puts a picture.
 fn put_document<W: Write>(
@@ -27,15 +21,16 @@ fn put_document<W: Write>(
     table: &mut Buffered,
     form: Form,
     spellings: &Spellings<'_>,
+    frame: &Frame,
     workers: usize,
     picture: &Picture,
 )
     requires { workers ≤ 16 }
-    ensures { Puts (W.contents out.old) table.old (W.contents out.new) table.new (document form spellings.now workers (kept picture.now)) }
+    ensures { Puts (W.contents out.old) table.old (W.contents out.new) table.new (document form spellings.now (framed frame.now) workers (kept picture.now)) }
 {
     match form {
-        Form::Svg => put_svg(out, table, spellings, workers, picture),
-        Form::Text => put_text(out, table, spellings, workers, picture),
+        Form::Svg => put_svg(out, table, spellings, frame, workers, picture),
+        Form::Text => put_text(out, table, spellings, frame, workers, picture),
     }
 }
 
@@ -44,14 +39,15 @@ pub(crate) fn write_document<W: Write>(
     out: &mut W,
     form: Form,
     heading: &Heading,
+    frame: &Frame,
     picture: &Picture,
 ) -> Result<(), WriteFault>
-    ensures ok { OnOk result (Appends (W.contents out.old) (W.contents out.new) (document_for form heading.now (kept picture.now))) }
-    ensures err { OnErr result (AppendsPrefix (W.contents out.old) (W.contents out.new) (document_for form heading.now (kept picture.now))) }
+    ensures ok { OnOk result (Appends (W.contents out.old) (W.contents out.new) (document_for form heading.now (framed frame.now) (kept picture.now))) }
+    ensures err { OnErr result (AppendsPrefix (W.contents out.old) (W.contents out.new) (document_for form heading.now (framed frame.now) (kept picture.now))) }
 {
     let spellings = Spellings::new(heading.words());
     let workers = heading.setup().workers();
     let mut table = Buffered::new();
-    put_document(out, &mut table, form, &spellings, workers, picture);
+    put_document(out, &mut table, form, &spellings, frame, workers, picture);
     finish(out, table)
 }

@@ -1,22 +1,19 @@
 //! A trace in; a picture of it out.
-ghost use Rattle.std.specs.Prelude.{◌≡◌, IfSome};
+ghost use Rattle.std.specs.Prelude.{◌≡◌, false, IfOk, IfSome};
 ghost use Rattle.evc_engine.specs.Notes.{IsWrittenOut, fault_status};
-ghost use Rattle.evc_draw.specs.Draws.{Drawn, Draws, is_wide, window_on};
+ghost use Rattle.ec_draw.specs.Pictures.{kept, shapes};
+ghost use Rattle.evc_draw.specs.Frames.{drawn_targets, framed};
+ghost use Rattle.evc_draw.specs.Draws.{Drawn, Draws, frame_for, has_unknown, is_wide, window_of, window_on};
 
-use crate::document::{Form, write_document};
-use ec_draw::{COLUMNS_MAX, Window, picture_of};
+use crate::document::write_document;
+use crate::frame::{Frame, drawn_targets};
+use crate::unknown::{has_unknown, say_unknown};
+use crate::view::View;
+use ec_draw::{COLUMNS_MAX, Picture, Window, picture_of};
 use ec_trace::{TraceFault, Traced, read_trace};
 use evc_engine::{Notes, Status};
-use std::alloc::Global;
+use std::alloc::{AllocError, Global};
 use std::io::{Read, Write};
-
-/// What is to be drawn of a trace, and as what.
-#[derive(Clone, Copy, Debug, PartialEq, Eq)]
-pub(crate) struct View {
-    /// The entries that are shown.
-    pub(crate) window: Window,
-    pub(crate) form: Form,
-}
 
 /// How the program ends that could not read its trace.
 fn status_of(fault: &TraceFault) -> Status
@@ -50,30 +47,38 @@ fn is_wide(window: Window) -> bool
     window.to.saturating_sub(window.from) > COLUMNS_MAX
 }
 
-/// Writes the picture of a trace.
-fn write_drawn<W: Write, N: Write>(
+/// What is drawn of a trace through a window.
+fn frame_on(
     alloc: Global,
     traced: &Traced,
-    view: View,
+    view: &View,
+    window: Window,
+) -> Result<Frame, AllocError>
+    ensures { IfOk result (λ f. framed f ≡ record { window = window; shown = drawn_targets view.now traced.now.heading.words }) }
+{
+    let shown = drawn_targets(alloc, view, traced.heading().words())?;
+    Ok(Frame { window, shown })
+}
+
+/// Writes a picture of a trace in a frame.
+fn write_framed<W: Write, N: Write>(
+    traced: &Traced,
+    view: &View,
+    frame: &Frame,
+    picture: &Picture,
     out: &mut W,
     notes: &mut Notes<N>,
 ) -> Status
-    ensures ends { Drawn view traced.now result
+    requires frame { framed frame.now ≡ frame_for view.now traced.now }
+    requires picture { kept picture.now ≡ shapes traced.now.heading.setup (window_of view.now.window traced.now) traced.now.entries }
+    requires narrow { is_wide (window_of view.now.window traced.now) ≡ false }
+    requires known { has_unknown view.now traced.now.heading.words ≡ false }
+    ensures ends { Drawn view.now traced.now result
         (record { out = W.contents out.old; notes = N.contents notes.old.writer; held = notes.old.table })
         (record { out = W.contents out.new; notes = N.contents notes.new.writer; held = notes.new.table }) }
     ensures written { IsWrittenOut notes.old.table → IsWrittenOut notes.new.table }
 {
-    let run = traced.run();
-    let window = window_on(view.window, run.len());
-    if is_wide(window) {
-        notes.say(b"more than 400 entries: choose some by --from N --to M\n");
-        return Status::Refused;
-    }
-    let Ok(picture) = picture_of(alloc, run, window) else {
-        notes.say(b"no memory\n");
-        return Status::Memory;
-    };
-    match write_document(out, view.form, traced.heading(), &picture) {
+    match write_document(out, view.form, traced.heading(), frame, picture) {
         Ok(()) => Status::Done,
         Err(_) => {
             notes.say(b"write fault\n");
@@ -82,17 +87,52 @@ fn write_drawn<W: Write, N: Write>(
     }
 }
 
+/// Writes the picture of a trace.
+fn write_drawn<W: Write, N: Write>(
+    alloc: Global,
+    traced: &Traced,
+    view: &View,
+    out: &mut W,
+    notes: &mut Notes<N>,
+) -> Status
+    ensures ends { Drawn view.now traced.now result
+        (record { out = W.contents out.old; notes = N.contents notes.old.writer; held = notes.old.table })
+        (record { out = W.contents out.new; notes = N.contents notes.new.writer; held = notes.new.table }) }
+    ensures written { IsWrittenOut notes.old.table → IsWrittenOut notes.new.table }
+{
+    let words = traced.heading().words();
+    if has_unknown(words, view) {
+        say_unknown(words, view, notes);
+        return Status::Usage;
+    }
+    let run = traced.run();
+    let window = window_on(view.window, run.len());
+    if is_wide(window) {
+        notes.say(b"more than 400 entries: choose some by --from N --to M\n");
+        return Status::Refused;
+    }
+    let Ok(frame) = frame_on(alloc, traced, view, window) else {
+        notes.say(b"no memory\n");
+        return Status::Memory;
+    };
+    let Ok(picture) = picture_of(alloc, run, window) else {
+        notes.say(b"no memory\n");
+        return Status::Memory;
+    };
+    write_framed(traced, view, &frame, &picture, out, notes)
+}
+
 /// Reads a trace, and writes a picture of it; notes say what is wrong.
 ///
 /// Nothing is written to `out` before the trace was read to its end.
 pub(crate) fn draw<R: Read, W: Write, N: Write>(
     alloc: Global,
-    view: View,
+    view: &View,
     reader: &mut R,
     out: &mut W,
     notes: &mut Notes<N>,
 ) -> Status
-    ensures ends { IfSome (R.remaining reader.old) (λ bytes. Draws view bytes (R.remaining reader.new) result
+    ensures ends { IfSome (R.remaining reader.old) (λ bytes. Draws view.now bytes (R.remaining reader.new) result
         (record { out = W.contents out.old; notes = N.contents notes.old.writer; held = notes.old.table })
         (record { out = W.contents out.new; notes = N.contents notes.new.writer; held = notes.new.table })) }
     ensures written { IsWrittenOut notes.old.table → IsWrittenOut notes.new.table }

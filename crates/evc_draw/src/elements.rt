@@ -1,10 +1,11 @@
 //! The elements of a picture.
-ghost use Rattle.std.specs.Prelude.{◌≡◌, ◌++◌, length};
+ghost use Rattle.std.specs.Prelude.{◌≡◌, ◌≤◌, ◌++◌, decimal, length};
 ghost use Rattle.ec_text.specs.Puts.{Puts};
-ghost use Rattle.evc_draw.specs.Elements.{circle, diamond, line, name_text, number_text, object_text, pair, rect, squeeze, text_end, text_start};
+ghost use Rattle.evc_draw.specs.Elements.{circle, diamond, line, name_text, number_text, object_text, pair, rect, row_text, squeeze, squeeze_dot, squeeze_row, text_end, text_start};
 
 use crate::style::BAR;
 use ec_text::{Buffered, put, put_number};
+use itoa::Buffer;
 use std::io::Write;
 
 /// Puts two numbers, each behind its name.
@@ -134,17 +135,54 @@ pub(crate) fn put_name_text<W: Write>(
     end_text(out, table);
 }
 
-/// Puts what squeezes a long text into its column.
-pub(crate) fn put_squeeze<W: Write>(out: &mut W, table: &mut Buffered, is_long: bool)
-    ensures { Puts (W.contents out.old) table.old (W.contents out.new) table.new (squeeze is_long) }
+/// Puts what makes a text small that has so many letters, so that it fits its column.
+pub(crate) fn put_squeeze<W: Write>(out: &mut W, table: &mut Buffered, letters: usize)
+    ensures { Puts (W.contents out.old) table.old (W.contents out.new) table.new (squeeze letters) }
 {
-    if is_long {
-        put(
-            out,
-            table,
-            b" long' textLength='78' lengthAdjust='spacingAndGlyphs",
-        );
+    if letters > 16 {
+        put(out, table, b" tiny");
+    } else if letters > 13 {
+        put(out, table, b" long");
     }
+}
+
+/// Puts what makes a name small that has so many letters, so that it fits before its row.
+fn put_squeeze_row<W: Write>(out: &mut W, table: &mut Buffered, letters: usize)
+    ensures { Puts (W.contents out.old) table.old (W.contents out.new) table.new (squeeze_row letters) }
+{
+    if letters > 17 {
+        put(out, table, b" long");
+    }
+}
+
+/// Puts what makes a text small that has so many letters, so that it fits between two dots.
+pub(crate) fn put_squeeze_dot<W: Write>(out: &mut W, table: &mut Buffered, letters: usize)
+    ensures { Puts (W.contents out.old) table.old (W.contents out.new) table.new (squeeze_dot letters) }
+{
+    if letters > 12 {
+        put(out, table, b" tiny");
+    }
+}
+
+/// Puts the name before a row.
+#[tactic(auto, unfolding(crate::specs::Elements::row_text))]
+pub(crate) fn put_row_text<W: Write>(out: &mut W, table: &mut Buffered, at: Place, name: &[u8])
+    ensures { Puts (W.contents out.old) table.old (W.contents out.new) table.new (row_text at.x at.y name.now) }
+{
+    put(out, table, b"<text class='name");
+    put_squeeze_row(out, table, name.len());
+    put_pair(out, table, b"' x='", at.x, b"' y='", at.y);
+    put(out, table, b"'>");
+    put_name_end(out, table, name);
+}
+
+/// How many digits a number has.
+pub(crate) fn digits(n: u64) -> usize
+    ensures value { result ≡ length (decimal n) }
+    ensures few { result ≤ 20 }
+{
+    let mut digits = Buffer::new();
+    digits.format(n).len()
 }
 
 /// Puts the name of an object, squeezed into its column.
@@ -153,7 +191,7 @@ pub(crate) fn put_object_text<W: Write>(out: &mut W, table: &mut Buffered, at: P
     ensures { Puts (W.contents out.old) table.old (W.contents out.new) table.new (object_text at.x at.y name.now) }
 {
     put(out, table, b"<text class='object");
-    put_squeeze(out, table, name.len() > 13);
+    put_squeeze(out, table, name.len());
     put_pair(out, table, b"' x='", at.x, b"' y='", at.y);
     put(out, table, b"'>");
     put_name_end(out, table, name);

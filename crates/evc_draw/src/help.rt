@@ -1,17 +1,16 @@
 //! The texts of the command line.
 
 pub(crate) const VERSION: &[u8] = b"evc-draw 0.2
-proved and built with rattle-kit-13b
+proved and built with rattle-kit-13f
 ";
 
-pub(crate) const USAGE: &[u8] = b"usage: evc-draw [--from N] [--to M] < TRACE > PICTURE.svg
-       evc-draw --text [--from N] [--to M] < TRACE
+pub(crate) const USAGE: &[u8] =
+    b"usage: evc-draw [--text] [--from N] [--to M] [--worker NAME].. [--object NAME].. < TRACE > PICTURE
 ";
 
 pub(crate) const HELP: &[u8] = b"Draws a trace of eventcounts and sequencers as a picture (SVG)
 
-Usage: evc-draw [--from N] [--to M] < TRACE > PICTURE.svg
-       evc-draw --text [--from N] [--to M] < TRACE
+Usage: evc-draw [--text] [--from N] [--to M] [--worker NAME].. [--object NAME].. < TRACE > PICTURE
 
 The trace is read from standard input. A row for each worker has a bar for each call, from
 its first entry to its last, with a dot for each entry and the component that it read or
@@ -24,9 +23,13 @@ Options:
                  count, a column for each entry, and below them the calls
   --from N       the first entry that is shown, counted from 0
   --to M         the last entry that is shown
+  --worker NAME  only this worker; more than once: these
+  --object NAME  only the calls on this eventcount, sequencer, block of cells or group, and its
+                 counts; more than once: on these
   -h, --help     this help
   -V, --version  the version
 
 At most 400 entries are shown. Notes and exit status are those of `evc check`; a trace of
-more entries is refused with status 1 where the options don't choose fewer.
+more entries is refused with status 1 where the options don't choose fewer, and a name that
+the trace doesn't have with status 2.
 ";

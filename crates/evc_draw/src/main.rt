@@ -9,6 +9,7 @@ mod document;
 mod dots;
 mod drawing;
 mod elements;
+mod frame;
 mod help;
 mod marks;
 mod places;
@@ -16,6 +17,8 @@ mod style;
 mod svg;
 mod text;
 mod under_way;
+mod unknown;
+mod view;
 mod words;
 
 use crate::asked::{Asked, read_words};
@@ -56,11 +59,15 @@ fn main(rt: HostRuntime) -> ExitCode {
         notes.say(b"no memory\n");
         return ExitCode::from(Status::Memory.code());
     };
-    let status = match read_words(words.as_slice().get(1..).unwrap_or(&[])) {
-        Some(Asked::Draw(view)) => draw(alloc, view, &mut rt.stdin(), &mut rt.stdout(), &mut notes),
-        Some(Asked::Help) => tell(HELP, &mut rt.stdout(), &mut notes),
-        Some(Asked::Version) => tell(VERSION, &mut rt.stdout(), &mut notes),
-        None => {
+    let Ok(asked) = read_words(alloc, words.as_slice().get(1..).unwrap_or(&[])) else {
+        notes.say(b"no memory\n");
+        return ExitCode::from(Status::Memory.code());
+    };
+    let status = match asked {
+        Asked::Draw(view) => draw(alloc, &view, &mut rt.stdin(), &mut rt.stdout(), &mut notes),
+        Asked::Help => tell(HELP, &mut rt.stdout(), &mut notes),
+        Asked::Version => tell(VERSION, &mut rt.stdout(), &mut notes),
+        Asked::Wrong => {
             notes.say(USAGE);
             Status::Usage
         }

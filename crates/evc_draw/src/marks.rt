@@ -5,9 +5,11 @@ ghost use Rattle.ec_core.specs.Rounds.{read_of};
 ghost use Rattle.ec_order.specs.Calls.{number_of};
 ghost use Rattle.ec_text.specs.Puts.{Puts};
 ghost use Rattle.ec_draw.specs.Curves.{shown};
-ghost use Rattle.evc_draw.specs.Svg.{has_mark, mark_element, mark_place, tie, tie_to};
+ghost use Rattle.evc_draw.specs.Frames.{framed};
+ghost use Rattle.evc_draw.specs.Svg.{has_mark, mark_element, mark_group, mark_place, tie, tie_to};
 
 use crate::elements::{Place, put_diamond, put_line};
+use crate::frame::Frame;
 use crate::places::{centre, edge, level, row};
 use ec_core::{Act, Reply};
 use ec_draw::{Curve, Window};
@@ -21,7 +23,12 @@ fn read_of(act: &Act) -> Option<usize>
 {
     match *act {
         Act::Read(event) | Act::Await(event, _) => Some(event.get()),
-        Act::Advance(_) | Act::Go | Act::Ticket(_) | Act::Put(_, _) | Act::Get(_) => None,
+        Act::Advance(_)
+        | Act::Go
+        | Act::Ticket(_)
+        | Act::Put(_, _)
+        | Act::Get(_)
+        | Act::Hand(_, _) => None,
     }
 }
 
@@ -57,25 +64,25 @@ fn has_mark(window: Window, placed: &Placed) -> bool
 fn put_tie_to<W: Write>(
     out: &mut W,
     table: &mut Buffered,
-    window: Window,
-    workers: usize,
+    frame: &Frame,
+    rows: usize,
     placed: &Placed,
-    event: usize,
+    place: usize,
     curve: &Curve,
 )
-    requires { workers ≤ 16 }
-    ensures { Puts (W.contents out.old) table.old (W.contents out.new) table.new (tie_to window workers placed.now event (Some (shown curve.now))) }
+    requires { rows ≤ 16 }
+    ensures { Puts (W.contents out.old) table.old (W.contents out.new) table.new (tie_to (framed frame.now) rows placed.now place (Some (shown curve.now))) }
 {
-    let x = mark_place(window, placed);
+    let x = mark_place(frame.window, placed);
     let from = Place {
         x,
-        y: row(placed.call.worker.get()) + 43,
+        y: row(frame, placed.call.worker) + 43,
     };
     let to = Place {
         x,
         y: level(
-            workers,
-            event,
+            rows,
+            place,
             curve.heights.as_slice(),
             number_of(&placed.call.reply),
         ),
@@ -87,41 +94,57 @@ fn put_tie_to<W: Write>(
 fn put_tie<W: Write>(
     out: &mut W,
     table: &mut Buffered,
-    window: Window,
-    workers: usize,
+    frame: &Frame,
+    rows: usize,
     curves: &[Curve],
     placed: &Placed,
 )
-    requires { workers ≤ 16 }
-    ensures { Puts (W.contents out.old) table.old (W.contents out.new) table.new (tie window workers (map shown curves.now) placed.now (read_of placed.now.call.op)) }
+    requires { rows ≤ 16 }
+    ensures { Puts (W.contents out.old) table.old (W.contents out.new) table.new (tie (framed frame.now) rows (map shown curves.now) placed.now (read_of placed.now.call.op)) }
 {
     if let Some(event) = read_of(&placed.call.op) {
         if let Some(curve) = curves.get(event) {
-            put_tie_to(out, table, window, workers, placed, event, curve);
+            let place = frame.curves_before(curves, event);
+            put_tie_to(out, table, frame, rows, placed, place, curve);
         }
     }
 }
 
 /// Puts the mark of a call, with its tie.
-#[tactic(auto, unfolding(crate::specs::Svg::mark_element))]
-fn put_mark<W: Write>(
+#[tactic(auto, unfolding(crate::specs::Svg::mark_group))]
+fn put_mark_group<W: Write>(
     out: &mut W,
     table: &mut Buffered,
-    window: Window,
-    workers: usize,
+    frame: &Frame,
+    rows: usize,
     curves: &[Curve],
     placed: &Placed,
 )
-    requires { workers ≤ 16 }
-    ensures { Puts (W.contents out.old) table.old (W.contents out.new) table.new (mark_element window workers (map shown curves.now) placed.now) }
+    requires { rows ≤ 16 }
+    ensures { Puts (W.contents out.old) table.old (W.contents out.new) table.new (mark_group (framed frame.now) rows (map shown curves.now) placed.now) }
 {
-    if has_mark(window, placed) {
-        put_tie(out, table, window, workers, curves, placed);
-        let at = Place {
-            x: mark_place(window, placed),
-            y: row(placed.call.worker.get()) + 43,
-        };
-        put_diamond(out, table, at);
+    put_tie(out, table, frame, rows, curves, placed);
+    let at = Place {
+        x: mark_place(frame.window, placed),
+        y: row(frame, placed.call.worker) + 43,
+    };
+    put_diamond(out, table, at);
+}
+
+/// Puts the mark of a call, if the call is drawn and its point is within the window.
+fn put_mark<W: Write>(
+    out: &mut W,
+    table: &mut Buffered,
+    frame: &Frame,
+    rows: usize,
+    curves: &[Curve],
+    placed: &Placed,
+)
+    requires { rows ≤ 16 }
+    ensures { Puts (W.contents out.old) table.old (W.contents out.new) table.new (mark_element (framed frame.now) rows (map shown curves.now) placed.now) }
+{
+    if frame.draws(placed.call.worker, &placed.call.op) && has_mark(frame.window, placed) {
+        put_mark_group(out, table, frame, rows, curves, placed);
     }
 }
 
@@ -129,15 +152,15 @@ fn put_mark<W: Write>(
 pub(crate) fn put_marks<W: Write>(
     out: &mut W,
     table: &mut Buffered,
-    window: Window,
-    workers: usize,
+    frame: &Frame,
+    rows: usize,
     curves: &[Curve],
     calls: &[Placed],
 )
-    requires { workers ≤ 16 }
-    ensures { Puts (W.contents out.old) table.old (W.contents out.new) table.new (flat_map (mark_element window workers (map shown curves.now)) calls.now) }
+    requires { rows ≤ 16 }
+    ensures { Puts (W.contents out.old) table.old (W.contents out.new) table.new (flat_map (mark_element (framed frame.now) rows (map shown curves.now)) calls.now) }
 {
     for placed in calls {
-        put_mark(out, table, window, workers, curves, placed);
+        put_mark(out, table, frame, rows, curves, placed);
     }
 }

@@ -1,7 +1,10 @@
 //! Where things stand in a picture, in pixels.
 ghost use Rattle.std.specs.Prelude.{◌≡◌, ◌≤◌, ◌<◌, ◌+◌};
+ghost use Rattle.evc_draw.specs.Frames.{framed};
 ghost use Rattle.evc_draw.specs.Places.{base, below, centre, edge, high_of, level, low_of, picture_height, picture_width, rise, row, span_of};
 
+use crate::frame::Frame;
+use ec_count::WorkerId;
 use ec_draw::Window;
 
 /// The left edge of the column of a moment.
@@ -31,31 +34,30 @@ pub(crate) fn centre(window: Window, position: usize) -> u64
 }
 
 /// The top of a worker's row.
-pub(crate) fn row(worker: usize) -> u64
-    requires { worker < 16 }
-    ensures value { result ≡ row worker }
+pub(crate) fn row(frame: &Frame, worker: WorkerId) -> u64
+    ensures value { result ≡ row (framed frame.now) worker }
     ensures small { result ≤ 1180 }
 {
-    40 + 76 * worker as u64
+    40 + 76 * frame.rows_before(worker.get()) as u64
 }
 
-/// Where the rows of workers end.
-pub(crate) fn below(workers: usize) -> u64
-    requires { workers ≤ 16 }
-    ensures value { result ≡ below workers }
+/// Where the rows end.
+pub(crate) fn below(rows: usize) -> u64
+    requires { rows ≤ 16 }
+    ensures value { result ≡ below rows }
     ensures small { result ≤ 1276 }
 {
-    60 + 76 * workers as u64
+    60 + 76 * rows as u64
 }
 
 /// The line of zero height of a curve.
-pub(crate) fn base(workers: usize, curve: usize) -> u64
-    requires { workers ≤ 16 }
-    ensures value { result ≡ base workers curve }
+pub(crate) fn base(rows: usize, curve: usize) -> u64
+    requires { rows ≤ 16 }
+    ensures value { result ≡ base rows curve }
     ensures small { result ≤ 6716 }
     ensures high { 124 ≤ result }
 {
-    below(workers) + 84 * curve.min(64) as u64 + 64
+    below(rows) + 84 * curve.min(64) as u64 + 64
 }
 
 /// How wide a picture is.
@@ -67,11 +69,11 @@ pub(crate) fn picture_width(window: Window) -> u64
 }
 
 /// How high a picture is.
-pub(crate) fn picture_height(workers: usize, curves: usize) -> u64
-    requires { workers ≤ 16 }
-    ensures { result ≡ picture_height workers curves }
+pub(crate) fn picture_height(rows: usize, curves: usize) -> u64
+    requires { rows ≤ 16 }
+    ensures { result ≡ picture_height rows curves }
 {
-    below(workers) + 84 * curves.min(64) as u64 + 30
+    below(rows) + 84 * curves.min(64) as u64 + 30
 }
 
 /// The least count of a curve.
@@ -106,9 +108,9 @@ fn rise(low: u64, high: u64, count: u64) -> u64
 }
 
 /// The height at which a count of a curve is drawn.
-pub(crate) fn level(workers: usize, curve: usize, heights: &[u64], count: u64) -> u64
-    requires { workers ≤ 16 }
-    ensures { result ≡ level workers curve heights.now count }
+pub(crate) fn level(rows: usize, curve: usize, heights: &[u64], count: u64) -> u64
+    requires { rows ≤ 16 }
+    ensures { result ≡ level rows curve heights.now count }
 {
-    base(workers, curve).saturating_sub(rise(low_of(heights), high_of(heights), count))
+    base(rows, curve).saturating_sub(rise(low_of(heights), high_of(heights), count))
 }

@@ -14,6 +14,7 @@ text { font-family: 'DejaVu Sans Mono', monospace; font-size: 10px; fill: #1f293
 .reply { text-anchor: end; font-weight: bold; }
 .component { font-size: 9px; }
 .cell, .long { font-size: 8px; }
+.tiny { font-size: 5.5px; }
 .grid { stroke: #d5dae0; }
 .zero { stroke: #7b8794; }
 .round { stroke: #1f2933; stroke-dasharray: 2 2; }
@@ -28,6 +29,7 @@ rect { fill-opacity: 0.35; stroke-width: 1.5; }
 .ticket rect { fill: #e69f00; stroke: #e69f00; }
 .put rect { fill: #d55e00; stroke: #d55e00; }
 .get rect { fill: #56b4e9; stroke: #56b4e9; }
+.hand rect { fill: #f0e442; stroke: #f0e442; }
 .open rect { stroke-dasharray: 5 3; }
 @media (prefers-color-scheme: dark) {
 text, circle { fill: #e4e7eb; }

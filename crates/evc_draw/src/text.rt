@@ -5,13 +5,15 @@ ghost use Rattle.std.specs.Io.KnownBytes.{Appends};
 ghost use Rattle.ec_text.specs.Puts.{Puts, AppendsPrefix};
 ghost use Rattle.ec_draw.specs.Curves.{shown};
 ghost use Rattle.ec_draw.specs.Pictures.{kept};
-ghost use Rattle.evc_draw.specs.Text.{call_line, curve_row, dot_cell, entry_cell, entry_row, number_cell, open_line, rows, text, worker_row, worker_rows};
+ghost use Rattle.evc_draw.specs.Frames.{framed};
+ghost use Rattle.evc_draw.specs.Text.{call_line, curve_cells, curve_row, dot_cell, entry_cell, entry_row, number_cell, open_line, rows, text, worker_cells, worker_row, worker_rows};
 
 use crate::cells::{cell_width, put_dot_cell, put_number_cell, put_padded, put_row_name};
 use crate::curves::counted_word;
+use crate::frame::Frame;
 use crate::style::BLANKS;
-use crate::svg::worker_name;
 use crate::words::{put_call_words, put_open_words};
+use ec_count::WorkerId;
 use ec_draw::{Curve, Dot, Open, Picture, Window};
 use ec_order::Placed;
 use ec_text::{Buffered, WriteFault, finish, put};
@@ -50,48 +52,70 @@ fn put_entry_row<W: Write>(out: &mut W, table: &mut Buffered, window: Window, do
 fn put_dot_cells<W: Write>(
     out: &mut W,
     table: &mut Buffered,
+    frame: &Frame,
     picture: &Picture,
     worker: usize,
     dots: &[Dot],
 )
-    ensures { Puts (W.contents out.old) table.old (W.contents out.new) table.new (flat_map (dot_cell (kept picture.now) worker) dots.now) }
+    ensures { Puts (W.contents out.old) table.old (W.contents out.new) table.new (flat_map (dot_cell (framed frame.now) (kept picture.now) worker) dots.now) }
 {
     for dot in dots {
-        put_dot_cell(out, table, picture, worker, dot);
+        put_dot_cell(out, table, frame, picture, worker, dot);
     }
 }
 
 /// Puts the row of a worker.
-#[tactic(auto, unfolding(crate::specs::Text::worker_row))]
+#[tactic(auto, unfolding(crate::specs::Text::worker_cells))]
+fn put_worker_cells<W: Write>(
+    out: &mut W,
+    table: &mut Buffered,
+    spellings: &Spellings<'_>,
+    frame: &Frame,
+    picture: &Picture,
+    worker: WorkerId,
+)
+    ensures { Puts (W.contents out.old) table.old (W.contents out.new) table.new (worker_cells spellings.now (framed frame.now) (kept picture.now) worker) }
+{
+    let dots = picture.dots.as_slice();
+    put_row_name(out, table, spellings.worker(worker));
+    put_padded(out, table, BLANKS, cell_width(frame.window), b"");
+    put_dot_cells(out, table, frame, picture, worker.get(), dots);
+    put(out, table, b"\n");
+}
+
+/// Puts the row of a worker, if it is drawn.
 fn put_worker_row<W: Write>(
     out: &mut W,
     table: &mut Buffered,
     spellings: &Spellings<'_>,
+    frame: &Frame,
     picture: &Picture,
-    worker: usize,
+    number: usize,
 )
-    requires { worker < 16 }
-    ensures { Puts (W.contents out.old) table.old (W.contents out.new) table.new (worker_row spellings.now (kept picture.now) worker) }
+    requires { number < 16 }
+    ensures { Puts (W.contents out.old) table.old (W.contents out.new) table.new (worker_row spellings.now (framed frame.now) (kept picture.now) number) }
 {
-    put_row_name(out, table, worker_name(spellings, worker));
-    put_padded(out, table, BLANKS, cell_width(picture.window), b"");
-    put_dot_cells(out, table, picture, worker, picture.dots.as_slice());
-    put(out, table, b"\n");
+    if let Some(worker) = WorkerId::new(number) {
+        if frame.draws_worker(worker) {
+            put_worker_cells(out, table, spellings, frame, picture, worker);
+        }
+    }
 }
 
-/// Puts the rows of the workers.
+/// Puts the rows of the workers that are drawn.
 fn put_worker_rows<W: Write>(
     out: &mut W,
     table: &mut Buffered,
     spellings: &Spellings<'_>,
+    frame: &Frame,
     picture: &Picture,
     workers: usize,
 )
     requires { workers ≤ 16 }
-    ensures { Puts (W.contents out.old) table.old (W.contents out.new) table.new (worker_rows spellings.now (kept picture.now) workers) }
+    ensures { Puts (W.contents out.old) table.old (W.contents out.new) table.new (worker_rows spellings.now (framed frame.now) (kept picture.now) workers) }
 {
     for worker in 0..workers {
-        put_worker_row(out, table, spellings, picture, worker);
+        put_worker_row(out, table, spellings, frame, picture, worker);
     }
 }
 
@@ -105,33 +129,48 @@ fn put_heights<W: Write>(out: &mut W, table: &mut Buffered, window: Window, heig
 }
 
 /// Puts the row of a curve.
-#[tactic(auto, unfolding(crate::specs::Text::curve_row))]
-fn put_curve_row<W: Write>(
+#[tactic(auto, unfolding(crate::specs::Text::curve_cells))]
+fn put_curve_cells<W: Write>(
     out: &mut W,
     table: &mut Buffered,
     spellings: &Spellings<'_>,
     window: Window,
     curve: &Curve,
 )
-    ensures { Puts (W.contents out.old) table.old (W.contents out.new) table.new (curve_row spellings.now window (shown curve.now)) }
+    ensures { Puts (W.contents out.old) table.old (W.contents out.new) table.new (curve_cells spellings.now window (shown curve.now)) }
 {
     put_row_name(out, table, counted_word(spellings, &curve.object));
     put_heights(out, table, window, curve.heights.as_slice());
     put(out, table, b"\n");
 }
 
-/// Puts the rows of the curves.
+/// Puts the row of a curve, if it is drawn.
+fn put_curve_row<W: Write>(
+    out: &mut W,
+    table: &mut Buffered,
+    spellings: &Spellings<'_>,
+    frame: &Frame,
+    curve: &Curve,
+)
+    ensures { Puts (W.contents out.old) table.old (W.contents out.new) table.new (curve_row spellings.now (framed frame.now) (shown curve.now)) }
+{
+    if frame.draws_count(&curve.object) {
+        put_curve_cells(out, table, spellings, frame.window, curve);
+    }
+}
+
+/// Puts the rows of the curves that are drawn.
 fn put_curve_rows<W: Write>(
     out: &mut W,
     table: &mut Buffered,
     spellings: &Spellings<'_>,
-    window: Window,
+    frame: &Frame,
     curves: &[Curve],
 )
-    ensures { Puts (W.contents out.old) table.old (W.contents out.new) table.new (flat_map (curve_row spellings.now window) (map shown curves.now)) }
+    ensures { Puts (W.contents out.old) table.old (W.contents out.new) table.new (flat_map (curve_row spellings.now (framed frame.now)) (map shown curves.now)) }
 {
     for curve in curves {
-        put_curve_row(out, table, spellings, window, curve);
+        put_curve_row(out, table, spellings, frame, curve);
     }
 }
 
@@ -141,44 +180,49 @@ fn put_all_rows<W: Write>(
     out: &mut W,
     table: &mut Buffered,
     spellings: &Spellings<'_>,
+    frame: &Frame,
     workers: usize,
     picture: &Picture,
 )
     requires { workers ≤ 16 }
-    ensures { Puts (W.contents out.old) table.old (W.contents out.new) table.new (rows spellings.now workers (kept picture.now)) }
+    ensures { Puts (W.contents out.old) table.old (W.contents out.new) table.new (rows spellings.now (framed frame.now) workers (kept picture.now)) }
 {
-    put_entry_row(out, table, picture.window, picture.dots.as_slice());
-    put_worker_rows(out, table, spellings, picture, workers);
     let curves = picture.curves.as_slice();
-    put_curve_rows(out, table, spellings, picture.window, curves);
+    put_entry_row(out, table, frame.window, picture.dots.as_slice());
+    put_worker_rows(out, table, spellings, frame, picture, workers);
+    put_curve_rows(out, table, spellings, frame, curves);
 }
 
-/// Puts the line of a finished call.
-#[tactic(auto, unfolding(crate::specs::Text::call_line))]
+/// Puts the line of a finished call, if it is drawn.
 fn put_call_line<W: Write>(
     out: &mut W,
     table: &mut Buffered,
     spellings: &Spellings<'_>,
+    frame: &Frame,
     placed: &Placed,
 )
-    ensures { Puts (W.contents out.old) table.old (W.contents out.new) table.new (call_line spellings.now placed.now) }
+    ensures { Puts (W.contents out.old) table.old (W.contents out.new) table.new (call_line spellings.now (framed frame.now) placed.now) }
 {
-    put_call_words(out, table, spellings, placed);
-    put(out, table, b"\n");
+    if frame.draws(placed.call.worker, &placed.call.op) {
+        put_call_words(out, table, spellings, placed);
+        put(out, table, b"\n");
+    }
 }
 
-/// Puts the line of a call under way.
-#[tactic(auto, unfolding(crate::specs::Text::open_line))]
+/// Puts the line of a call under way, if it is drawn.
 fn put_open_line<W: Write>(
     out: &mut W,
     table: &mut Buffered,
     spellings: &Spellings<'_>,
+    frame: &Frame,
     begun: &Open,
 )
-    ensures { Puts (W.contents out.old) table.old (W.contents out.new) table.new (open_line spellings.now begun.now) }
+    ensures { Puts (W.contents out.old) table.old (W.contents out.new) table.new (open_line spellings.now (framed frame.now) begun.now) }
 {
-    put_open_words(out, table, spellings, begun);
-    put(out, table, b"\n");
+    if frame.draws(begun.worker, &begun.op) {
+        put_open_words(out, table, spellings, begun);
+        put(out, table, b"\n");
+    }
 }
 
 /// Puts the lines of the finished calls.
@@ -186,12 +230,13 @@ fn put_call_lines<W: Write>(
     out: &mut W,
     table: &mut Buffered,
     spellings: &Spellings<'_>,
+    frame: &Frame,
     calls: &[Placed],
 )
-    ensures { Puts (W.contents out.old) table.old (W.contents out.new) table.new (flat_map (call_line spellings.now) calls.now) }
+    ensures { Puts (W.contents out.old) table.old (W.contents out.new) table.new (flat_map (call_line spellings.now (framed frame.now)) calls.now) }
 {
     for placed in calls {
-        put_call_line(out, table, spellings, placed);
+        put_call_line(out, table, spellings, frame, placed);
     }
 }
 
@@ -200,12 +245,13 @@ fn put_open_lines<W: Write>(
     out: &mut W,
     table: &mut Buffered,
     spellings: &Spellings<'_>,
+    frame: &Frame,
     calls: &[Open],
 )
-    ensures { Puts (W.contents out.old) table.old (W.contents out.new) table.new (flat_map (open_line spellings.now) calls.now) }
+    ensures { Puts (W.contents out.old) table.old (W.contents out.new) table.new (flat_map (open_line spellings.now (framed frame.now)) calls.now) }
 {
     for begun in calls {
-        put_open_line(out, table, spellings, begun);
+        put_open_line(out, table, spellings, frame, begun);
     }
 }
 
@@ -215,14 +261,15 @@ pub(crate) fn put_text<W: Write>(
     out: &mut W,
     table: &mut Buffered,
     spellings: &Spellings<'_>,
+    frame: &Frame,
     workers: usize,
     picture: &Picture,
 )
     requires { workers ≤ 16 }
-    ensures { Puts (W.contents out.old) table.old (W.contents out.new) table.new (text spellings.now workers (kept picture.now)) }
+    ensures { Puts (W.contents out.old) table.old (W.contents out.new) table.new (text spellings.now (framed frame.now) workers (kept picture.now)) }
 {
-    put_all_rows(out, table, spellings, workers, picture);
+    put_all_rows(out, table, spellings, frame, workers, picture);
     put(out, table, b"\n");
-    put_call_lines(out, table, spellings, picture.calls.as_slice());
-    put_open_lines(out, table, spellings, picture.begun.as_slice());
+    put_call_lines(out, table, spellings, frame, picture.calls.as_slice());
+    put_open_lines(out, table, spellings, frame, picture.begun.as_slice());
 }

@@ -1,9 +1,10 @@
 use Rattle.std.proofs.Common.{take}
 use Rattle.std.specs.List.{flat_map}
+use Rattle.evc_draw.specs.Frames.{framed}
 use Rattle.ec_text.specs.Puts.{Puts}
 use Rattle.evc_draw.specs.Svg.{call_element}
 use Rattle.evc_draw.proofs.calls.put_calls.Given as goal
 
 -- the elements so far
 abbrev pub invariant-loop-placed : goal.invariant-loop-placed
-invariant-loop-placed g l = Puts (g.W.Write.contents l.initial.out) l.initial.table (g.W.Write.contents l.out) l.table (flat_map (call_element l.spellings l.window) (take l.placed-index l.calls))
+invariant-loop-placed g l = Puts (g.W.Write.contents l.initial.out) l.initial.table (g.W.Write.contents l.out) l.table (flat_map (call_element l.spellings (framed l.frame)) (take l.placed-index l.calls))

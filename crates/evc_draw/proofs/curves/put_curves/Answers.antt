@@ -1,5 +1,6 @@
 use Rattle.std.proofs.Common.{refl, map}
 use Rattle.ec_draw.specs.Curves.{shown}
+use Rattle.evc_draw.specs.Frames.{framed}
 use Rattle.evc_draw.specs.Svg.{curve_elements}
 use Rattle.evc_draw.proofs.Loops.{none_put, more_put}
 use Rattle.evc_draw.proofs.curves.put_curves.Goals as goal
@@ -10,4 +11,4 @@ loop-number-init g c = none_put _ _
 
 pub loop-number-preserved : goal.loop-number-preserved
 unfolding curve_elements
-loop-number-preserved g c = more_put _ _ _ _ _ _ (curve_elements c.args.spellings.now c.args.window c.args.workers (map shown c.args.curves.now)) c.loop-number.number _ refl c.loop-number.invariant c.put_curve_at.ensures
+loop-number-preserved g c = more_put _ _ _ _ _ _ (curve_elements c.args.spellings.now (framed c.args.frame.now) c.args.rows (map shown c.args.curves.now)) c.loop-number.number _ refl c.loop-number.invariant c.put_curve_at.ensures

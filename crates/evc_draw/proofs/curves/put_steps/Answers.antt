@@ -9,4 +9,4 @@ loop-moment-init g c = none_put _ _
 
 pub loop-moment-preserved : goal.loop-moment-preserved
 unfolding steps
-loop-moment-preserved g c = more_put _ _ _ _ _ _ (steps c.args.workers c.args.number c.args.heights.now) c.loop-moment.moment _ refl c.loop-moment.invariant c.put_step.ensures
+loop-moment-preserved g c = more_put _ _ _ _ _ _ (steps c.args.rows c.args.place c.args.heights.now) c.loop-moment.moment _ refl c.loop-moment.invariant c.put_step.ensures

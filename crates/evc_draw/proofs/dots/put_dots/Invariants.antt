@@ -1,9 +1,10 @@
 use Rattle.std.proofs.Common.{take}
 use Rattle.std.specs.List.{flat_map}
+use Rattle.evc_draw.specs.Frames.{framed}
 use Rattle.ec_text.specs.Puts.{Puts}
 use Rattle.evc_draw.specs.Svg.{dot_element}
 use Rattle.evc_draw.proofs.dots.put_dots.Given as goal
 
 -- the elements so far
 abbrev pub invariant-loop-dot : goal.invariant-loop-dot
-invariant-loop-dot g l = Puts (g.W.Write.contents l.initial.out) l.initial.table (g.W.Write.contents l.out) l.table (flat_map (dot_element l.window) (take l.dot-index l.dots))
+invariant-loop-dot g l = Puts (g.W.Write.contents l.initial.out) l.initial.table (g.W.Write.contents l.out) l.table (flat_map (dot_element (framed l.frame)) (take l.dot-index l.dots))

@@ -1,10 +1,11 @@
 use Rattle.std.proofs.Common.{take, map}
 use Rattle.std.specs.List.{flat_map}
 use Rattle.ec_draw.specs.Curves.{shown}
+use Rattle.evc_draw.specs.Frames.{framed}
 use Rattle.ec_text.specs.Puts.{Puts}
 use Rattle.evc_draw.specs.Svg.{mark_element}
 use Rattle.evc_draw.proofs.marks.put_marks.Given as goal
 
 -- the elements so far
 abbrev pub invariant-loop-placed : goal.invariant-loop-placed
-invariant-loop-placed g l = Puts (g.W.Write.contents l.initial.out) l.initial.table (g.W.Write.contents l.out) l.table (flat_map (mark_element l.window l.workers (map shown l.curves)) (take l.placed-index l.calls))
+invariant-loop-placed g l = Puts (g.W.Write.contents l.initial.out) l.initial.table (g.W.Write.contents l.out) l.table (flat_map (mark_element (framed l.frame) l.rows (map shown l.curves)) (take l.placed-index l.calls))

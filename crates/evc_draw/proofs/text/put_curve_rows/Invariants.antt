@@ -1,10 +1,11 @@
 use Rattle.std.proofs.Common.{take, map}
 use Rattle.std.specs.List.{flat_map}
 use Rattle.ec_draw.specs.Curves.{shown}
+use Rattle.evc_draw.specs.Frames.{framed}
 use Rattle.ec_text.specs.Puts.{Puts}
 use Rattle.evc_draw.specs.Text.{curve_row}
 use Rattle.evc_draw.proofs.text.put_curve_rows.Given as goal
 
 -- those so far
 abbrev pub invariant-loop-curve : goal.invariant-loop-curve
-invariant-loop-curve g l = Puts (g.W.Write.contents l.initial.out) l.initial.table (g.W.Write.contents l.out) l.table (flat_map (curve_row l.spellings l.window) (map shown (take l.curve-index l.curves)))
+invariant-loop-curve g l = Puts (g.W.Write.contents l.initial.out) l.initial.table (g.W.Write.contents l.out) l.table (flat_map (curve_row l.spellings (framed l.frame)) (map shown (take l.curve-index l.curves)))

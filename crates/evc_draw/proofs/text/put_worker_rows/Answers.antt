@@ -1,5 +1,6 @@
 use Rattle.std.proofs.Common.{refl}
 use Rattle.ec_draw.specs.Pictures.{kept}
+use Rattle.evc_draw.specs.Frames.{framed}
 use Rattle.evc_draw.specs.Text.{worker_rows}
 use Rattle.evc_draw.proofs.Loops.{none_put, more_put}
 use Rattle.evc_draw.proofs.text.put_worker_rows.Goals as goal
@@ -10,4 +11,4 @@ loop-worker-init g c = none_put _ _
 
 pub loop-worker-preserved : goal.loop-worker-preserved
 unfolding worker_rows
-loop-worker-preserved g c = more_put _ _ _ _ _ _ (worker_rows c.args.spellings.now (kept c.args.picture.now)) c.loop-worker.worker _ refl c.loop-worker.invariant c.put_worker_row.ensures
+loop-worker-preserved g c = more_put _ _ _ _ _ _ (worker_rows c.args.spellings.now (framed c.args.frame.now) (kept c.args.picture.now)) c.loop-worker.worker _ refl c.loop-worker.invariant c.put_worker_row.ensures

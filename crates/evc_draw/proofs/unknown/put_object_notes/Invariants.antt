@@ -1,0 +1,9 @@
+use Rattle.std.proofs.Common.{take}
+use Rattle.std.specs.List.{flat_map}
+use Rattle.ec_text.specs.Puts.{Puts}
+use Rattle.evc_draw.specs.Draws.{object_note}
+use Rattle.evc_draw.proofs.unknown.put_object_notes.Given as goal
+
+-- those so far
+abbrev pub invariant-loop-name : goal.invariant-loop-name
+invariant-loop-name g l = Puts (g.N.Write.contents l.initial.writer) l.initial.table (g.N.Write.contents l.writer) l.table (flat_map (object_note l.words) (take l.name-index l.names))

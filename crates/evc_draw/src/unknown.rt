@@ -1,0 +1,166 @@
+//! Names that were chosen, and that the trace doesn't have.
+ghost use Rattle.std.specs.Prelude.{◌≡◌};
+ghost use Rattle.std.specs.List.{flat_map, list_any};
+ghost use Rattle.ec_text.specs.Puts.{Puts};
+ghost use Rattle.evc_engine.specs.Notes.{IsWrittenOut};
+ghost use Rattle.evc_draw.specs.Draws.{has_unknown, is_object, is_worker, lacks_object, lacks_worker, object_note, unknown_note, unknown_notes, worker_note};
+
+use crate::view::View;
+use ec_count::{Target, Vocabulary};
+use ec_text::{Buffered, flush, put};
+use evc_engine::Notes;
+use std::io::Write;
+
+/// Whether a name stands for a worker.
+fn is_worker(target: Option<Target>) -> bool
+    ensures { result ≡ is_worker target }
+{
+    match target {
+        Some(Target::Worker(_)) => true,
+        Some(Target::Event(_)) => false,
+        Some(Target::Sequencer(_)) => false,
+        Some(Target::Cells(_, _)) => false,
+        Some(Target::Group(_)) => false,
+        None => false,
+    }
+}
+
+/// Whether a name stands for an object.
+fn is_object(target: Option<Target>) -> bool
+    ensures { result ≡ is_object target }
+{
+    match target {
+        Some(Target::Worker(_)) => false,
+        Some(Target::Event(_)) => true,
+        Some(Target::Sequencer(_)) => true,
+        Some(Target::Cells(_, _)) => true,
+        Some(Target::Group(_)) => true,
+        None => false,
+    }
+}
+
+/// Whether a name that was chosen among the workers stands for none.
+fn lacks_worker(words: &Vocabulary, name: &String) -> bool
+    ensures { result ≡ lacks_worker words.now name.now }
+{
+    !is_worker(words.find(name.as_bytes()))
+}
+
+/// Whether a name that was chosen among the objects stands for none.
+fn lacks_object(words: &Vocabulary, name: &String) -> bool
+    ensures { result ≡ lacks_object words.now name.now }
+{
+    !is_object(words.find(name.as_bytes()))
+}
+
+/// Whether some name among the workers stands for none.
+fn any_lacks_worker(words: &Vocabulary, names: &[String]) -> bool
+    ensures { result ≡ list_any (lacks_worker words.now) names.now }
+{
+    names.iter().any(|name| lacks_worker(words, name))
+}
+
+/// Whether some name among the objects stands for none.
+fn any_lacks_object(words: &Vocabulary, names: &[String]) -> bool
+    ensures { result ≡ list_any (lacks_object words.now) names.now }
+{
+    names.iter().any(|name| lacks_object(words, name))
+}
+
+/// Whether the trace doesn't have some name that was chosen.
+pub(crate) fn has_unknown(words: &Vocabulary, view: &View) -> bool
+    ensures { result ≡ has_unknown view.now words.now }
+{
+    any_lacks_worker(words, view.workers.as_slice())
+        || any_lacks_object(words, view.objects.as_slice())
+}
+
+/// Puts the note on a name.
+#[tactic(auto, unfolding(crate::specs::Draws::unknown_note))]
+fn put_unknown<N: Write>(writer: &mut N, table: &mut Buffered, what: &[u8], name: &[u8])
+    ensures { Puts (N.contents writer.old) table.old (N.contents writer.new) table.new (unknown_note what.now name.now) }
+{
+    put(writer, table, what);
+    put(writer, table, name);
+    put(writer, table, b" is declared\n");
+}
+
+/// Puts the note on a name among the workers, if there is none of that name.
+#[tactic(auto, unfolding(crate::specs::Draws::worker_note))]
+fn put_worker_note<N: Write>(
+    writer: &mut N,
+    table: &mut Buffered,
+    words: &Vocabulary,
+    name: &String,
+)
+    ensures { Puts (N.contents writer.old) table.old (N.contents writer.new) table.new (worker_note words.now name.now) }
+{
+    if lacks_worker(words, name) {
+        put_unknown(writer, table, b"no worker ", name.as_bytes());
+    }
+}
+
+/// Puts the note on a name among the objects, if there is none of that name.
+#[tactic(auto, unfolding(crate::specs::Draws::object_note))]
+fn put_object_note<N: Write>(
+    writer: &mut N,
+    table: &mut Buffered,
+    words: &Vocabulary,
+    name: &String,
+)
+    ensures { Puts (N.contents writer.old) table.old (N.contents writer.new) table.new (object_note words.now name.now) }
+{
+    if lacks_object(words, name) {
+        put_unknown(writer, table, b"no object ", name.as_bytes());
+    }
+}
+
+/// Puts the notes on the names among the workers.
+fn put_worker_notes<N: Write>(
+    writer: &mut N,
+    table: &mut Buffered,
+    words: &Vocabulary,
+    names: &[String],
+)
+    ensures { Puts (N.contents writer.old) table.old (N.contents writer.new) table.new (flat_map (worker_note words.now) names.now) }
+{
+    for name in names {
+        put_worker_note(writer, table, words, name);
+    }
+}
+
+/// Puts the notes on the names among the objects.
+fn put_object_notes<N: Write>(
+    writer: &mut N,
+    table: &mut Buffered,
+    words: &Vocabulary,
+    names: &[String],
+)
+    ensures { Puts (N.contents writer.old) table.old (N.contents writer.new) table.new (flat_map (object_note words.now) names.now) }
+{
+    for name in names {
+        put_object_note(writer, table, words, name);
+    }
+}
+
+/// Puts a note on each name that the trace doesn't have.
+fn put_unknown_notes<N: Write>(
+    writer: &mut N,
+    table: &mut Buffered,
+    words: &Vocabulary,
+    view: &View,
+)
+    ensures { Puts (N.contents writer.old) table.old (N.contents writer.new) table.new (unknown_notes view.now words.now) }
+{
+    put_worker_notes(writer, table, words, view.workers.as_slice());
+    put_object_notes(writer, table, words, view.objects.as_slice());
+}
+
+/// Writes a note on each name that the trace doesn't have.
+pub(crate) fn say_unknown<N: Write>(words: &Vocabulary, view: &View, notes: &mut Notes<N>)
+    ensures puts { Puts (N.contents notes.old.writer) notes.old.table (N.contents notes.new.writer) notes.new.table (unknown_notes view.now words.now) }
+    ensures written { IsWrittenOut notes.new.table }
+{
+    put_unknown_notes(&mut notes.writer, &mut notes.table, words, view);
+    flush(&mut notes.writer, &mut notes.table);
+}
