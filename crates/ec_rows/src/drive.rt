@@ -16,6 +16,7 @@ pub(crate) enum Ask {
     Ticket(usize),
     Put(usize, u64),
     Get(usize),
+    Hand(usize, usize),
 }
 
 /// The act that is asked for.
@@ -28,6 +29,7 @@ pub(crate) fn act_of(ask: Ask) -> Act {
         Ask::Ticket(q) => Act::Ticket(sequencer(q)),
         Ask::Put(x, value) => Act::Put(cell(x), value),
         Ask::Get(x) => Act::Get(cell(x)),
+        Ask::Hand(e, to) => Act::Hand(event(e), worker(to)),
     }
 }
 

@@ -15,6 +15,8 @@ mod drive;
 #[cfg(test)]
 mod example_tests;
 #[cfg(test)]
+mod hand_tests;
+#[cfg(test)]
 mod histories;
 #[cfg(test)]
 mod ids;

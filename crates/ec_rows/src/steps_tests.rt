@@ -346,7 +346,7 @@ fn a_world_alone(rt: HostRuntime) -> Result<(), Fail> {
     Ok(())
 }
 
-static REFUSALS: [(Refusal, u64, &str); 7] = [
+static REFUSALS: [(Refusal, u64, &str); 9] = [
     (Refusal::UnknownWorker, 1, "UnknownWorker"),
     (Refusal::Busy, 2, "Busy"),
     (Refusal::Idle, 3, "Idle"),
@@ -354,6 +354,8 @@ static REFUSALS: [(Refusal, u64, &str); 7] = [
     (Refusal::NoRight, 5, "NoRight"),
     (Refusal::ValueTooLarge, 6, "ValueTooLarge"),
     (Refusal::AtLimit, 7, "AtLimit"),
+    (Refusal::NotHandable, 8, "NotHandable"),
+    (Refusal::AlreadySignals, 9, "AlreadySignals"),
 ];
 
 #[test]

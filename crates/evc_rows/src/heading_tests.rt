@@ -206,6 +206,8 @@ fn limit_in(version: Version, n: u64) -> Option<u64> {
 fn each_version_has_its_limits(rt: HostRuntime) {
     assert!(rt; Version::One.greatest_limit() == 4_294_967_295);
     assert!(rt; Version::Two.greatest_limit() == 281_474_976_710_655);
+    assert!(rt; !Version::One.has_hand());
+    assert!(rt; Version::Two.has_hand());
     for (version, n, may) in &LIMITS_OF_VERSIONS {
         let right = if *may { Some(*n) } else { None };
         assert!(rt; limit_in(*version, *n) == right, "at {n}");

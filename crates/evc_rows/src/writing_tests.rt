@@ -120,6 +120,19 @@ fn an_entry_is_written_without_line_feed(rt: HostRuntime) -> Result<(), Fail> {
     Ok(())
 }
 
+/// Version 1 has no trace with a hand, but the entry is spelled all the same.
+#[test]
+fn a_hand_is_written_by_its_words(rt: HostRuntime) -> Result<(), Fail> {
+    let entry = Entry {
+        worker: worker(0),
+        act: Act::Hand(event(0), worker(1)),
+        reply: Reply::Done,
+    };
+    let line = line_written(rt.alloc(), &entry)?;
+    assert!(rt; line.as_slice() == b"a hand E c = done".as_slice());
+    Ok(())
+}
+
 /// Whether a trace cannot be written where a write of 7 bytes gives up, and the writer has the beginning of its text.
 fn gives_up(alloc: Global, traced: &Traced, trouble: Trouble, k: usize, text: &[u8]) -> bool {
     let mut out = Fickle::new(alloc, 7, trouble, k);

@@ -100,6 +100,104 @@ fn a_step_that_begins_the_second_segment(rt: HostRuntime) -> Result<(), Fail> {
     tell(&rt, way_behind(rt.alloc(), SEGMENT))
 }
 
+/// A run of so many advances by one of two workers, which then hands its component to the other.
+#[derive(Drop)]
+struct Handing {
+    run: Run,
+    many: usize,
+}
+
+/// Two workers, the first of which signals and observes an eventcount.
+fn two_workers() -> Option<Setup> {
+    let mut setup = one_worker()?;
+    setup.add_worker().ok()?;
+    Some(setup)
+}
+
+/// Whether a run has so many entries, as many advances, and this worker signals.
+fn is_signalled(run: &Run, entries: usize, advances: usize, signaller: usize) -> bool {
+    run.len() == entries
+        && run.world().total(event(0)) == Some(advances as u64)
+        && run.world().signaller(event(0), 0) == Some(worker(signaller))
+        && run
+            .world()
+            .component_of(event(0), worker(1 - signaller))
+            .is_none()
+}
+
+impl Call for Handing {
+    fn make(&mut self) -> Answer {
+        match self.run.step(worker(0), Act::Hand(event(0), worker(1))) {
+            Ok(Reply::Done) => {
+                let entries = self.many.saturating_add(1);
+                Answer::of(is_signalled(&self.run, entries, self.many, 1))
+            }
+            Err(StepFault::Memory) => Answer::Wants(Want::Memory),
+            Ok(_) | Err(StepFault::Refused(_)) => Answer::Wrong,
+        }
+    }
+
+    fn stands(&self) -> bool {
+        is_signalled(&self.run, self.many, self.many, 0)
+    }
+}
+
+/// A run of so many advances, unless there is no memory.
+fn handing_of(alloc: Global, many: usize) -> Option<Handing> {
+    let mut run = Run::open(alloc, two_workers()?).ok()?;
+    fill(&mut run, many)?;
+    Some(Handing { run, many })
+}
+
+/// The way of a hand behind so many advances.
+fn way_of_hand(alloc: Global, many: usize) -> Way {
+    match handing_of(alloc, many) {
+        Some(mut call) => way_of(&mut call),
+        None => Way::Unready,
+    }
+}
+
+#[test]
+fn a_hand_that_begins_the_second_segment(rt: HostRuntime) -> Result<(), Fail> {
+    tell(&rt, way_of_hand(rt.alloc(), SEGMENT))
+}
+
+/// Whether the declarations of a run with one more, a fixed eventcount, tell which may be handed over.
+fn tells_what_is_fixed(run: &Run) -> bool {
+    let mut setup = run.setup().copy();
+    let one = [worker(0)];
+    setup.add_fixed_event(&one, &one) == Ok(event(1))
+        && setup.may_hand(event(0))
+        && !setup.may_hand(event(1))
+}
+
+/// Whether a run of advances tells who signals its eventcount now, and so is not silent.
+fn tells_who_signals(run: &Run) -> bool {
+    let world = run.world();
+    world.signaller(event(0), 0) == Some(worker(0))
+        && world.component_of(event(0), worker(0)) == Some(0)
+        && !run.is_silent(worker(0))
+        && tells_what_is_fixed(run)
+}
+
+/// The way of a step behind so many, and of calls behind it that take no memory.
+fn way_behind_and_calls(alloc: Global, many: usize) -> Way {
+    let Some(mut call) = run_of(alloc, many) else {
+        return Way::Unready;
+    };
+    let way = way_of(&mut call);
+    match way {
+        Way::Wrong(why) => Way::Wrong(why),
+        _ if !tells_who_signals(&call.run) => Way::Wrong("who signals is told wrong"),
+        way => way,
+    }
+}
+
+#[test]
+fn a_step_that_begins_the_second_segment_and_who_signals_then(rt: HostRuntime) -> Result<(), Fail> {
+    tell(&rt, way_behind_and_calls(rt.alloc(), SEGMENT))
+}
+
 #[test]
 fn a_step_that_begins_the_third_segment(rt: HostRuntime) -> Result<(), Fail> {
     tell(&rt, way_behind(rt.alloc(), 2 * SEGMENT))

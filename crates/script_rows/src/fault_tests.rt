@@ -91,7 +91,7 @@ both use a b
 worker a
 ";
 
-static COMMANDS: [Row; 44] = [
+static COMMANDS: [Row; 47] = [
     ("advance E\n", (13, 12)),
     ("await E last\n", (12, 10)),
     ("read E\n", (12, 10)),
@@ -136,12 +136,61 @@ static COMMANDS: [Row; 44] = [
     ("schedule z\n", (12, 5)),
     ("eventcount F signal a\n", (12, 2)),
     ("go\n", (12, 2)),
+    ("hand E b\n", (12, 2)),
+    ("hand R.v z\n", (12, 2)),
+    ("end\nworker c\nadvance E\n", (14, 10)),
 ];
 
 /// A line that may stand there lacks an end in line 13.
 #[test]
 fn each_kind_of_a_command(rt: HostRuntime) -> Result<(), Fail> {
     have_faults(rt.alloc(), GROUPS, &COMMANDS)
+}
+
+/// The first line of a block of worker a in a script of version 2, with what is declared before it.
+const OF_VERSION_2: &str = "evc-script 2
+limit 281474976710655
+workers a b c
+eventcount E signal a observe b
+eventcount F signal b observe b
+sequencer T take b
+buffer B 2 produce a consume b
+semaphore S 1 use a b
+worker a
+";
+
+static HANDS: [Row; 24] = [
+    ("hand E b\n", (11, 12)),
+    ("hand E c\n", (11, 12)),
+    ("hand E a\n", (11, 12)),
+    ("hand F c\n", (11, 12)),
+    ("hand F b\n", (11, 12)),
+    ("advance F\n", (11, 12)),
+    ("read E\n", (10, 10)),
+    ("await E 1\n", (10, 10)),
+    ("ticket T\n", (10, 10)),
+    ("consume B\n", (10, 10)),
+    ("hand Z b\n", (10, 5)),
+    ("hand T b\n", (10, 5)),
+    ("hand b b\n", (10, 5)),
+    ("hand B b\n", (10, 5)),
+    ("hand E z\n", (10, 5)),
+    ("hand E F\n", (10, 5)),
+    ("hand B.in z\n", (10, 5)),
+    ("hand B.in b\n", (10, 8)),
+    ("hand S.v b\n", (10, 8)),
+    ("advance B.out\n", (10, 8)),
+    ("hand E\n", (10, 2)),
+    ("hand\n", (10, 2)),
+    ("hand E b c\n", (10, 2)),
+    ("end\nhand E b\n", (11, 2)),
+];
+
+/// A line that may stand there lacks an end in line 11. Who signals an eventcount shows when the
+/// program runs.
+#[test]
+fn each_kind_of_a_hand(rt: HostRuntime) -> Result<(), Fail> {
+    have_faults(rt.alloc(), OF_VERSION_2, &HANDS)
 }
 
 const ONE_SEMAPHORE: &str = "evc-script 1

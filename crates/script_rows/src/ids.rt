@@ -1,5 +1,5 @@
 //! Ids by their numbers. A number past the table gives the table's last id.
-use ec_count::{CellId, EventId, SeqId};
+use ec_count::{CellId, EventId, SeqId, WorkerId};
 
 /// The eventcount of a number.
 pub(crate) fn event(n: usize) -> EventId {
@@ -14,4 +14,9 @@ pub(crate) fn sequencer(n: usize) -> SeqId {
 /// The cell of a number.
 pub(crate) fn cell(n: usize) -> CellId {
     CellId::new(n.min(255)).unwrap()
+}
+
+/// The worker of a number.
+pub(crate) fn worker(n: usize) -> WorkerId {
+    WorkerId::new(n.min(15)).unwrap()
 }

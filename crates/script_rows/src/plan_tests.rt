@@ -85,9 +85,33 @@ schedule b a
 
 static OF_EACH_COMMAND: Sight = (3, 3, 5, &[0, 1, 0]);
 
-/// A script of each command.
+/// A script of each command of version 1.
 #[test]
 fn a_script_of_each_command(rt: HostRuntime) -> Result<(), Fail> {
     assert!(rt; shows(rt.alloc(), &EACH_COMMAND, &OF_EACH_COMMAND)?);
+    Ok(())
+}
+
+static HANDS: [&str; 1] = [
+    "evc-script 2
+limit 281474976710655
+workers a b
+eventcount E signal a observe a b
+eventcount F signal a observe b
+worker a
+repeat 2
+hand E b
+hand F a
+end
+end
+schedule b a
+",
+];
+
+static OF_HANDS: Sight = (2, 2, 0, &[1, 0]);
+
+#[test]
+fn a_script_of_version_2_with_hands(rt: HostRuntime) -> Result<(), Fail> {
+    assert!(rt; shows(rt.alloc(), &HANDS, &OF_HANDS)?);
     Ok(())
 }

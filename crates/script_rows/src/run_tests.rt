@@ -122,3 +122,23 @@ cells X 1 write a read a
 fn a_value_that_is_too_large(rt: HostRuntime) -> Result<(), Fail> {
     shows_often(&rt, rt.alloc(), &TOO_LARGE, 1)
 }
+
+static HANDED_OVER: Case = Case {
+    heading: "evc-script 2
+limit 281474976710655
+workers a b
+eventcount E signal a observe a b
+eventcount F signal a observe b
+",
+    blocks: &[
+        (&["a"], "advance E\nhand E b\nadvance F\nend\n"),
+        (&["b"], "await F 1\nadvance E\nread E\nend\n"),
+    ],
+    turns: 10_000,
+    sights: &[Sight::All(2, Outcome::Finished), Sight::Log(0, 3)],
+};
+
+#[test]
+fn a_component_that_is_handed_over(rt: HostRuntime) -> Result<(), Fail> {
+    shows_often(&rt, rt.alloc(), &HANDED_OVER, 20)
+}

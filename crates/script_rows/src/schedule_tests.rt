@@ -3,8 +3,8 @@ ghost use Rattle.ec_script.specs.Confined.{IsPlan};
 ghost use Rattle.ec_script.specs.Outcome.{shown_plan};
 
 use crate::drive::{A_ADVANCES, C_WAITS, Script, text_of};
-use crate::ids::{cell, event, sequencer};
-use crate::schedule_tests::Ask::{Advance, Await, Get, Go, Put, Read, Ticket};
+use crate::ids::{cell, event, sequencer, worker};
+use crate::schedule_tests::Ask::{Advance, Await, Get, Go, Hand, Put, Read, Ticket};
 use ec_core::Reply::{Done, Number, Pending};
 use ec_core::{Act, Entry, Refusal, Reply, Run};
 use ec_machine::Outcome;
@@ -24,6 +24,8 @@ enum Ask {
     Ticket(usize),
     Put(usize, u64),
     Get(usize),
+    /// An eventcount, and the worker to whom its component is handed.
+    Hand(usize, usize),
 }
 
 /// The act that is asked for.
@@ -36,6 +38,7 @@ fn act_of(ask: Ask) -> Act {
         Ticket(n) => Act::Ticket(sequencer(n)),
         Put(n, value) => Act::Put(cell(n), value),
         Get(n) => Act::Get(cell(n)),
+        Hand(n, to) => Act::Hand(event(n), worker(to)),
     }
 }
 
@@ -339,4 +342,83 @@ static AT_THE_LIMIT: [Row; 2] = [
 #[test]
 fn a_step_that_is_refused(rt: HostRuntime) -> Result<(), Fail> {
     show(rt.alloc(), &AT_THE_LIMIT)
+}
+
+/// A script of version 2 whose worker a hands its component of E to b, without the block of b.
+const HANDS_OVER: &str = "evc-script 2
+limit 281474976710655
+workers a b
+eventcount E signal a observe a b
+eventcount F signal a observe b
+worker a
+advance E
+hand E b
+advance F
+end
+worker b
+";
+
+const HANDED: [Step; 6] = [
+    (0, Advance(0), Done),
+    (0, Hand(0, 1), Done),
+    (0, Advance(1), Done),
+    (1, Await(1, 1), Number(1)),
+    (1, Advance(0), Done),
+    (1, Read(0), Number(2)),
+];
+
+const NO_RIGHT: Outcome = Outcome::Refused(Refusal::NoRight);
+
+static OVER: [Row; 2] = [
+    (
+        &[
+            HANDS_OVER,
+            "await F 1\nadvance E\nread E\nend\nschedule a a a b b b\n",
+        ],
+        Outcomes::Played(&HANDED, &[Finished, Finished]),
+    ),
+    (
+        &[HANDS_OVER, "advance E\nend\nschedule b\n"],
+        Outcomes::Played(&[], &[Running, NO_RIGHT]),
+    ),
+];
+
+/// The receiver goes on with the component; before the hand it is refused.
+#[test]
+fn a_component_handed_over(rt: HostRuntime) -> Result<(), Fail> {
+    show(rt.alloc(), &OVER)
+}
+
+const HANDS_AGAIN: &str = "evc-script 2
+limit 2
+workers a b
+eventcount E signal a observe b
+worker a
+hand E b
+hand E b
+end
+worker b
+hand E b
+end
+";
+
+const HANDED_ONCE: [Step; 1] = [(0, Hand(0, 1), Done)];
+
+const ALREADY: Outcome = Outcome::Refused(Refusal::AlreadySignals);
+
+static AGAIN: [Row; 2] = [
+    (
+        &[HANDS_AGAIN, "schedule a a\n"],
+        Outcomes::Played(&HANDED_ONCE, &[NO_RIGHT, Running]),
+    ),
+    (
+        &[HANDS_AGAIN, "schedule a b\n"],
+        Outcomes::Played(&HANDED_ONCE, &[Running, ALREADY]),
+    ),
+];
+
+/// Who has handed its component over has none to hand, and nobody hands one to itself.
+#[test]
+fn hands_that_are_refused(rt: HostRuntime) -> Result<(), Fail> {
+    show(rt.alloc(), &AGAIN)
 }
