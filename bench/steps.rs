@@ -45,6 +45,7 @@ fn setup() -> Setup {
         events: vec![Rights {
             signal: all.clone(),
             observe: all.clone(),
+            fixed: false,
         }],
         takers: vec![all],
         cells: Vec::new(),

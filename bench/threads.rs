@@ -452,6 +452,10 @@ fn write_act(out: &mut impl Write, kind: Kind, act: Act) -> io::Result<()> {
         Act::Ticket(_) => write_words(out, b"ticket ", sequencer),
         Act::Put(cell, value) => write!(out, "put C[{cell}] {value}"),
         Act::Get(cell) => write!(out, "get C[{cell}]"),
+        Act::Hand(_, to) => {
+            write_words(out, b"hand ", event)?;
+            write!(out, " w{to}")
+        }
     }
 }
 
@@ -565,6 +569,7 @@ impl Kind {
             events: vec![Rights {
                 signal: Members::new(&everybody),
                 observe,
+                fixed: false,
             }],
             takers,
             cells: Vec::new(),

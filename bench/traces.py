@@ -16,6 +16,7 @@ class Kernel:
     def __init__(self, workers, events, sequencers, groups=()):
         """`events` has for each eventcount its signallers and its observers, `sequencers` the takers of each.
         Where they are the objects of groups, `groups` has their lines."""
+        self.version = 1
         self.workers = workers
         self.events = events
         self.sequencers = sequencers
@@ -38,7 +39,7 @@ class Kernel:
 
     def heading(self):
         """The lines before the first entry."""
-        lines = ["evc-trace 1", f"limit {LIMIT}", "workers " + " ".join(self.workers)]
+        lines = [f"evc-trace {self.version}", f"limit {LIMIT}", "workers " + " ".join(self.workers)]
         if self.groups:
             return "".join(line + "\n" for line in [*lines, *self.groups, "run"])
         for event, (signal, observe) in self.events.items():
@@ -69,6 +70,11 @@ class Kernel:
         self.components[event][self.places[event, worker]] += 1
         self.finished += 1
         return f"{worker} advance {event} = done\n"
+
+    def hand(self, worker, event, receiver):
+        self.places[event, receiver] = self.places.pop((event, worker))
+        self.finished += 1
+        return f"{worker} hand {event} {receiver} = done\n"
 
     def put(self, worker, cell, value):
         self.cells[cell] = value
@@ -139,6 +145,34 @@ def interleaved(kernel, draw):
     while True:
         worker = draw(kernel.workers)
         yield kernel.go(worker) if worker in kernel.calls else draw(acts)(worker, "Events")
+
+
+def hands(kernel, draw):
+    """Entries of advances and reads of two components that are handed round: every eighth advance is a hand in its place."""
+    while True:
+        worker = draw(kernel.workers)
+        if worker in kernel.calls:
+            yield kernel.go(worker)
+        elif ("Events", worker) not in kernel.places:
+            yield kernel.read(worker, "Events")
+        elif draw(range(8)):
+            yield kernel.advance(worker, "Events")
+        else:
+            others = [it for it in kernel.workers if ("Events", it) not in kernel.places]
+            yield kernel.hand(worker, "Events", draw(others))
+
+
+def hands_kernel():
+    workers = ["alice", "bob", "carol", "dave"]
+    kernel = Kernel(workers, {"Events": (workers[:2], workers)}, {})
+    kernel.version = 2
+    return kernel
+
+
+def version_2_kernel():
+    kernel = ordinary_kernel()
+    kernel.version = 2
+    return kernel
 
 
 def ordinary_kernel():
@@ -287,7 +321,12 @@ SEMAPHORES = {f"{many} semaphores": (lambda many=many: semaphores_kernel(many), 
 AUDITED = {"buffer": (buffer_kernel, buffer), "snapshots": (snapshots_kernel, snapshots)}
 
 # The kinds of traces: the kernel of each, and what its workers do.
-KINDS = {"ordinary": (ordinary_kernel, ordinary), "interleaved": (interleaved_kernel, interleaved)}
+KINDS = {
+    "ordinary": (ordinary_kernel, ordinary),
+    "interleaved": (interleaved_kernel, interleaved),
+    "version 2": (version_2_kernel, ordinary),
+    "hands": (hands_kernel, hands),
+}
 
 
 def write_trace(path, kind, size, most=None):

@@ -33,12 +33,18 @@ impl Members {
     fn contains(&self, worker: u8) -> bool {
         self.workers().contains(&worker)
     }
+
+    fn replace(&mut self, place: usize, worker: u8) {
+        self.list[..self.len][place] = worker;
+    }
 }
 
 #[derive(Clone, PartialEq, Eq)]
 pub struct Rights {
     pub signal: Members,
     pub observe: Members,
+    /// Whether its components can't be handed over.
+    pub fixed: bool,
 }
 
 #[derive(Clone, PartialEq, Eq)]
@@ -66,6 +72,7 @@ pub enum Act {
     Ticket(u8),
     Put(u8, u64),
     Get(u8),
+    Hand(u8, u8),
 }
 
 #[derive(Clone, Copy, PartialEq, Eq)]
@@ -84,6 +91,8 @@ pub enum Refusal {
     NoRight,
     ValueTooLarge,
     AtLimit,
+    NotHandable,
+    AlreadySignals,
 }
 
 #[derive(Clone, Copy, PartialEq, Eq)]
@@ -164,13 +173,18 @@ impl World {
             Act::Go => false,
             Act::Ticket(sequencer) => sequencer as usize >= self.setup.takers.len(),
             Act::Put(cell, _) | Act::Get(cell) => cell as usize >= self.setup.cells.len(),
+            Act::Hand(event, to) => {
+                event as usize >= self.setup.events.len() || to as usize >= self.setup.workers
+            }
         }
     }
 
     fn has_right(&self, worker: u8, act: &Act) -> bool {
         let setup = &self.setup;
         match *act {
-            Act::Advance(event) => self.component_of(event, worker).is_some(),
+            Act::Advance(event) | Act::Hand(event, _) => {
+                self.component_of(event, worker).is_some()
+            }
             Act::Read(event) | Act::Await(event, _) => {
                 setup.events[event as usize].observe.contains(worker)
             }
@@ -217,6 +231,14 @@ impl World {
         if self.is_full_for(worker, act) {
             return Some(Refusal::AtLimit);
         }
+        if let Act::Hand(event, to) = *act {
+            if self.setup.events[event as usize].fixed {
+                return Some(Refusal::NotHandable);
+            }
+            if self.component_of(event, to).is_some() {
+                return Some(Refusal::AlreadySignals);
+            }
+        }
         None
     }
 
@@ -251,7 +273,7 @@ impl World {
 
     fn reply(&self, worker: u8, act: &Act) -> Reply {
         match *act {
-            Act::Advance(_) | Act::Put(_, _) => Reply::Done,
+            Act::Advance(_) | Act::Put(_, _) | Act::Hand(_, _) => Reply::Done,
             Act::Read(_) | Act::Await(_, _) => self.read_reply(&begun(*act)),
             Act::Go => match &self.calls[worker as usize] {
                 Some(call) => self.read_reply(call),
@@ -279,6 +301,11 @@ impl World {
             Act::Ticket(sequencer) => self.issued[sequencer as usize].advance(),
             Act::Put(cell, value) => self.cells[cell as usize] = value,
             Act::Get(_) => {}
+            Act::Hand(event, to) => {
+                if let Some(component) = self.component_of(event, worker) {
+                    self.signal[event as usize].replace(component, to);
+                }
+            }
         }
     }
 

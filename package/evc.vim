@@ -8,7 +8,7 @@ syntax match evcHead /\%1l^evc-\(trace\|script\) [12]$/
 syntax keyword evcDeclare limit workers eventcount sequencer cells buffer database semaphore both
 syntax keyword evcRight signal observe take use
 syntax keyword evcPart run end worker schedule repeat
-syntax keyword evcAct advance read await go ticket put get produce consume write snapshot p v pboth
+syntax keyword evcAct advance read await go ticket put get hand produce consume write snapshot p v pboth
 syntax keyword evcReply done pending last
 syntax match evcNumber /\<\d\+\>/
 highlight default link evcHead PreProc

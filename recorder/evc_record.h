@@ -105,13 +105,13 @@ static inline void evc_line_(evc_record *r, struct evc_text *text, char *line, i
     evc_put_(r, text, line, (size_t)length + 1);
 }
 
-/* Begins a record. The limit is that of each component and each sequencer, from 1 to 4294967295: the trace has version 1. */
+/* Begins a record. The limit is that of each component and each sequencer, from 1 to 281474976710655: the trace has version 2. */
 static inline void evc_open(evc_record *r, unsigned long long limit) {
     char digits[24];
     memset(r, 0, sizeof *r);
     pthread_mutex_init(&r->lock, NULL);
     r->limit = limit;
-    r->heading = strlen("evc-trace 1\nlimit \nworkers\nrun\nend\n");
+    r->heading = strlen("evc-trace 2\nlimit \nworkers\nrun\nend\n");
     r->heading += (size_t)snprintf(digits, sizeof digits, "%llu", limit);
 }
 
@@ -176,7 +176,7 @@ static inline void evc_step_(evc_record *r, int worker, const char *reply, const
 #define EVC_FORMAT_(at)
 #endif
 
-/* The step was an advance or a put. The act is a format, as in evc_done(&r, w, "put X[%d] %d", i, v). */
+/* The step was an advance, a put or a hand. The act is a format, as in evc_done(&r, w, "put X[%d] %d", i, v). */
 EVC_FORMAT_(3) static inline void evc_done(evc_record *r, int worker, const char *act, ...) {
     va_list more;
     va_start(more, act);
@@ -209,7 +209,7 @@ static inline enum evc_fault evc_finish_bytes(evc_record *r, const char **bytes,
     pthread_mutex_lock(&r->lock);
     if (!r->finished) {
         r->finished = 1;
-        snprintf(line, sizeof line, "evc-trace 1\nlimit %llu\nworkers", r->limit);
+        snprintf(line, sizeof line, "evc-trace 2\nlimit %llu\nworkers", r->limit);
         int fits = evc_put_(r, &r->whole, line, strlen(line));
         for (int i = 0; fits && i < r->workers; i++)
             fits = evc_put_(r, &r->whole, " ", 1) && evc_put_(r, &r->whole, r->names[i], strlen(r->names[i]));

@@ -29,7 +29,7 @@ const END: &[u8] = b"end\n";
 /// What a step was told.
 #[derive(Clone, Copy, Debug, PartialEq, Eq)]
 pub enum Reply {
-    /// The step was an advance or a put.
+    /// The step was an advance, a put or a hand.
     Done,
     /// The step did not end the read or await: a component is left, or the sum is below the threshold.
     Pending,
@@ -106,11 +106,11 @@ pub struct Record {
 }
 
 impl Record {
-    /// Begins a record: the limit of each component and each sequencer, from 1 to 4294967295 (the trace has
-    /// version 1); the workers; and the objects, each a line of docs/FORMATS.md, as "sequencer T take a b".
+    /// Begins a record: the limit of each component and each sequencer, from 1 to 281474976710655 (the trace
+    /// has version 2); the workers; and the objects, each a line of docs/FORMATS.md, as "sequencer T take a b".
     pub fn new(limit: u64, workers: &[&str], objects: &[&str]) -> Self {
         let mut text = Text { bytes: Vec::new(), fault: None };
-        text.line("evc-trace 1");
+        text.line("evc-trace 2");
         text.line(&format!("limit {limit}"));
         text.line(&format!("workers {}", workers.join(" ")));
         for object in objects {
