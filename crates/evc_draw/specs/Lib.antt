@@ -1,6 +1,8 @@
 pub mod Frames
 pub mod Places
 pub mod Elements
+pub mod Notes
+pub mod Inputs
 pub mod Words
 pub mod Svg
 pub mod Text
