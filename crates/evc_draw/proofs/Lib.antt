@@ -1,3 +1,2 @@
 mod Loops
 mod Drawn
-mod Inputs

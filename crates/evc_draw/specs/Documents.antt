@@ -6,15 +6,14 @@ use Rattle.ec_draw.specs.Pictures.{Shapes}
 use Rattle.evc_draw.specs.declared.view.Form.{Form}
 use Rattle.evc_draw.specs.declared.view.Form.TheVariants as forms
 use Rattle.evc_draw.specs.Frames.{Framed}
-use Rattle.evc_draw.specs.Notes.{Noted}
 use Rattle.evc_draw.specs.Svg.{svg}
 use Rattle.evc_draw.specs.Text.{text}
 
 -- the bytes of these shapes in this frame, where m workers are declared
-abbrev pub document : Form → Named → Framed → ℕ → Shapes → Noted → List ℕ
-document forms.Svg names f m p x = svg names f m p x
-document forms.Text names f m p x = text names f m p x
+abbrev pub document : Form → Named → Framed → ℕ → Shapes → List ℕ
+document forms.Svg names f m p = svg names f m p
+document forms.Text names f m p = text names f m p
 
 -- the same by the names and the workers of a heading
-abbrev pub document_for : Form → Headed → Framed → Shapes → Noted → List ℕ
-document_for form h f p x = document form h.words f h.setup.workers p x
+abbrev pub document_for : Form → Headed → Framed → Shapes → List ℕ
+document_for form h f p = document form h.words f h.setup.workers p

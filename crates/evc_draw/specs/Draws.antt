@@ -1,5 +1,5 @@
 -- What the program answered and wrote, for an input whose bytes are known and what was asked for.
-use Rattle.std.specs.Prelude.{◌≡◌, ◌⊎◌, ℕ, ◌+◌, ◌-◌, min, max, Bool, true, false, not, ◌||◌, nat_lt, List, [], ◌++◌, length, take, Option, Some, None, Ok, Err, String, string_bytes, codes, if◌then◌else◌}
+use Rattle.std.specs.Prelude.{◌≡◌, ◌⊎◌, ℕ, ◌-◌, min, Bool, true, false, not, ◌||◌, nat_lt, List, [], ◌++◌, length, Option, Some, None, String, string_bytes, codes, if◌then◌else◌}
 use Rattle.std.specs.Global.{Global}
 use Rattle.std.specs.List.{flat_map, list_any}
 use Rattle.std.specs.Io.KnownBytes.{Appends, Keeps}
@@ -9,9 +9,8 @@ use Rattle.ec_count.specs.declared.target.Target.{Target}
 use Rattle.ec_count.specs.declared.target.Target.TheVariants.{Worker, Event, Sequencer, Cells, Group}
 use Rattle.ec_heading.specs.Spelling.{Named}
 use Rattle.ec_trace.specs.Recounted.{Recounted}
-use Rattle.ec_trace.specs.Outcome.{outcome}
+use Rattle.ec_trace.specs.Outcome.{HasNoFault}
 use Rattle.ec_trace.specs.declared.fault.TraceFault.{TraceFault}
-use Rattle.ec_trace.specs.declared.fault.TraceFault.TheVariants.{Unfinished}
 use Rattle.ec_trace.specs.declared.read.TheConstants.{TRACE_MAX}
 use Rattle.ec_draw.specs.declared.window.Window.{Window}
 use Rattle.ec_draw.specs.declared.window.TheConstants.{COLUMNS_MAX}
@@ -22,8 +21,6 @@ use Rattle.evc_engine.specs.Notes.{fault_note}
 use Rattle.evc_engine.specs.Checks.{Outlets, Notes, KeepsNotes, ReadsAs, RefusedFor}
 use Rattle.evc_draw.specs.declared.view.View.{View}
 use Rattle.evc_draw.specs.Frames.{Framed, drawn_targets}
-use Rattle.evc_draw.specs.Inputs.{looked_at, IsCutOff}
-use Rattle.evc_draw.specs.Notes.{Noted, nothing_noted}
 use Rattle.evc_draw.specs.Documents.{document_for}
 
 -- the part of a window that a history of n entries has
@@ -44,7 +41,7 @@ frame_for v t = record { window = window_of v.window t; shown = drawn_targets v 
 
 -- the picture of a trace: the bytes of the shapes of its history, of which the frame says which are drawn
 abbrev pub picture_for : View → Recounted → List ℕ
-picture_for v t = document_for v.form t.heading (frame_for v t) (shapes t.heading.setup (window_of v.window t) t.entries) nothing_noted
+picture_for v t = document_for v.form t.heading (frame_for v t) (shapes t.heading.setup (window_of v.window t) t.entries)
 
 -- NAMES THAT THE TRACE DOESN'T HAVE
 
@@ -101,72 +98,17 @@ Drawn v t Memory old new = Keeps old.out new.out × Notes old new (codes "no mem
 Drawn v t Usage old new = (has_unknown v t.heading.words ≡ true) × Keeps old.out new.out × Notes old new (unknown_notes v t.heading.words)
 Drawn v t Stopped old new = ⊥
 
--- TRACES THAT ARE REFUSED
-
--- the window on a history of n entries before a faulty line: it has a column for that line, and where too many entries are asked
--- for it shows the last of them
-abbrev pub window_before : Window → ℕ → Window
-window_before w n = record { from = max (min w.from (n + 1)) (min w.to (n + 1) - COLUMNS_MAX); to = min w.to (n + 1) }
-
--- the picture of a history up to a faulty line, with what is said of the line
-abbrev pub story_picture : View → Recounted → Noted → List ℕ
-story_picture v t x =
-    document_for v.form t.heading (record { window = window_before v.window x.position; shown = drawn_targets v t.heading.words })
-    (shapes t.heading.setup (window_before v.window x.position) t.entries) x
-
--- a trace that was made of a front of a text, and what is said of the line behind that front; of this the picture, or a front of
--- it, was written
-pub record IsTold (v : View) (text : List ℕ) (old new : Option (List ℕ)) : Type 0 where
-  pub lines : ℕ
-  pub more : List ℕ
-  pub history : Recounted
-  pub note : Noted
-  pub reads : ReadsAs (take lines text ++ more) history
-  pub wrote : AppendsPrefix old new (story_picture v history note)
-
-abbrev pub Told : View → List ℕ → Option (List ℕ) → Option (List ℕ) → Type 0
-Told v text old new = Keeps old new ⊎ IsTold v text old new
-
--- the text is no trace, its first fault is told, and its history up to there is drawn, if a run had begun
-pub record Refuses (v : View) (text : List ℕ) (old new : Outlets) : Type 0 where
-  pub fault : TraceFault
-  pub refused : RefusedFor text fault
-  pub note : Notes old new (fault_note fault)
-  pub told : Told v text old.out new.out
-
--- no line of a text is at fault, as far as it goes
-abbrev pub HasNoFaultYet : List ℕ → Type 0
-HasNoFaultYet text = ((t : Recounted) × (outcome TRACE_MAX text ≡ Ok t)) ⊎ (outcome TRACE_MAX text ≡ Err Unfinished)
-
--- how the program ended: what was looked at of the input is a trace, and its picture was written, or it has too many entries, or
--- not the names that were chosen, and that is said; or it is none, and the note of the first fault was written, and the picture
--- of what came before; or a failed read is told, or a failed write or want of memory. Of an input with a failed read, what
--- the reader had given until then is judged by itself: only where no line of it is at fault the failed read is told
+-- how the program ended: the bytes are a trace, and its picture was written, or it has too many entries, or not the names that
+-- were chosen, and that is said; or they are none, and nothing was written but the note of the first fault; or a failed read is told, and what the reader had
+-- given until then has no fault; or a failed write or want of memory is told
 abbrev pub Draws : View → List ℕ → Option (List ℕ) → Status → Outlets → Outlets → Type 0
-Draws v bytes left Done old new = (t : Recounted) × ReadsAs (looked_at bytes) t × Drawn v t Done old new
+Draws v bytes left Done old new = (t : Recounted) × ReadsAs bytes t × Drawn v t Done old new
 Draws v bytes left Refused old new =
-    ((t : Recounted) × ReadsAs (looked_at bytes) t × Drawn v t Refused old new)
-    ⊎ (Refuses v (looked_at bytes) old new ⊎ ((text : List ℕ) × IsCutOff bytes left text × Refuses v text old new))
+    ((t : Recounted) × ReadsAs bytes t × Drawn v t Refused old new)
+    ⊎ ((fault : TraceFault) × RefusedFor bytes fault × Keeps old.out new.out × Notes old new (fault_note fault))
 Draws v bytes left InputOutput old new =
-    ((t : Recounted) × ReadsAs (looked_at bytes) t × Drawn v t InputOutput old new)
-    ⊎ ((text : List ℕ) × IsCutOff bytes left text × HasNoFaultYet text × Keeps old.out new.out × Notes old new (codes "read fault\n"))
+    ((t : Recounted) × ReadsAs bytes t × Drawn v t InputOutput old new)
+    ⊎ (HasNoFault TRACE_MAX bytes left × Keeps old.out new.out × Notes old new (codes "read fault\n"))
 Draws v bytes left Memory old new = Keeps old.out new.out × Notes old new (codes "no memory\n")
-Draws v bytes left Usage old new = (t : Recounted) × ReadsAs (looked_at bytes) t × Drawn v t Usage old new
+Draws v bytes left Usage old new = (t : Recounted) × ReadsAs bytes t × Drawn v t Usage old new
 Draws v bytes left Stopped old new = ⊥
-
--- the same of a text that is known
-abbrev pub DrawsText : View → List ℕ → Status → Outlets → Outlets → Type 0
-DrawsText v text Done old new = (t : Recounted) × ReadsAs text t × Drawn v t Done old new
-DrawsText v text Refused old new = ((t : Recounted) × ReadsAs text t × Drawn v t Refused old new) ⊎ Refuses v text old new
-DrawsText v text InputOutput old new = (t : Recounted) × ReadsAs text t × Drawn v t InputOutput old new
-DrawsText v text Memory old new = Keeps old.out new.out × Notes old new (codes "no memory\n")
-DrawsText v text Usage old new = (t : Recounted) × ReadsAs text t × Drawn v t Usage old new
-DrawsText v text Stopped old new = ⊥
-
-abbrev pub DrawsCutOff : View → List ℕ → Status → Outlets → Outlets → Type 0
-DrawsCutOff v text Done old new = ⊥
-DrawsCutOff v text Refused old new = Refuses v text old new
-DrawsCutOff v text InputOutput old new = HasNoFaultYet text × Keeps old.out new.out × Notes old new (codes "read fault\n")
-DrawsCutOff v text Memory old new = Keeps old.out new.out × Notes old new (codes "no memory\n")
-DrawsCutOff v text Usage old new = ⊥
-DrawsCutOff v text Stopped old new = ⊥

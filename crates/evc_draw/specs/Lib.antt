@@ -1,8 +1,6 @@
 pub mod Frames
 pub mod Places
 pub mod Elements
-pub mod Notes
-pub mod Inputs
 pub mod Words
 pub mod Svg
 pub mod Text

@@ -1,5 +1,5 @@
 -- The picture as bytes: a function of its shapes and of the names of the heading.
-use Rattle.std.specs.Prelude.{ℕ, ◌+◌, ◌-◌, ◌*◌, min, max, zero, suc, ◌==◌, ◌&&◌, nat_le, nat_lt, Bool, false, List, [], ◌++◌, length, Option, Some, None, slice_get, unwrap_or, codes, decimal, if◌then◌else◌}
+use Rattle.std.specs.Prelude.{ℕ, ◌+◌, ◌-◌, ◌*◌, min, zero, suc, ◌==◌, ◌&&◌, nat_le, nat_lt, Bool, List, [], ◌++◌, length, Option, Some, None, slice_get, unwrap_or, codes, decimal, if◌then◌else◌}
 use Rattle.std.specs.List.{flat_map}
 use Rattle.ec_count.specs.declared.target.Target.TheVariants as targets
 use Rattle.ec_core.specs.declared.act.Act.{Act}
@@ -20,8 +20,7 @@ use Rattle.ec_draw.specs.Curves.{Line}
 use Rattle.ec_draw.specs.Pictures.{Shapes}
 use Rattle.evc_draw.specs.Frames.{Framed, draws, draws_worker, draws_count, rows_before, curves_before}
 use Rattle.evc_draw.specs.Places.{low_of, high_of, edge, centre, row, below, base, level, picture_width, picture_height}
-use Rattle.evc_draw.specs.Notes.{Noted, note_element, note_height, note_width}
-use Rattle.evc_draw.specs.Elements.{pair, squeeze, squeeze_dot, row_text, line, rect, circle, diamond, number_text, name_text, object_text, text_start, text_end}
+use Rattle.evc_draw.specs.Elements.{pair, squeeze, squeeze_dot, row_text, line, rect, circle, diamond, number_text, name_text, object_text, text_end}
 use Rattle.evc_draw.specs.Words.{call_words, open_words}
 use Rattle.evc_draw.specs.declared.style.TheConstants.{OPENING, OPEN_GROUP, STYLE}
 
@@ -248,9 +247,9 @@ header width height =
     OPENING.now ++ pair (codes " width='") width (codes "' height='") height ++ pair (codes "' viewBox='0 0 ") width (codes " ") height ++ codes "'>\n" ++ STYLE.now
 
 -- what stands behind the calls: rows, columns and curves, where m workers are declared and r of them have a row
-unfoldable pub back : Named → Framed → ℕ → ℕ → Shapes → Noted → List ℕ
-back names f m r p x =
-    header (max (picture_width f.window) (note_width x)) (picture_height r (curves_before f p.curves (length p.curves)) + note_height x) ++ row_elements names f m
+unfoldable pub back : Named → Framed → ℕ → ℕ → Shapes → List ℕ
+back names f m r p =
+    header (picture_width f.window) (picture_height r (curves_before f p.curves (length p.curves))) ++ row_elements names f m
     ++ flat_map (column_element f.window (below r)) p.dots ++ curve_elements names f r p.curves (length p.curves)
 
 -- the calls
@@ -261,11 +260,7 @@ call_elements names f p = flat_map (call_element names f) p.calls ++ flat_map (o
 unfoldable pub mark_elements : Framed → ℕ → Shapes → List ℕ
 mark_elements f r p = flat_map (dot_element f) p.dots ++ flat_map (mark_element f r p.curves) p.calls
 
--- what is said of a faulty line, below r rows and the curves
-unfoldable pub note_below : Framed → ℕ → Shapes → Noted → List ℕ
-note_below f r p x = note_element f (below r) (picture_height r (curves_before f p.curves (length p.curves)) + 4) x
-
--- the picture of these shapes in this frame, where m workers are declared, with what is said of a faulty line
-unfoldable pub svg : Named → Framed → ℕ → Shapes → Noted → List ℕ
-svg names f m p x =
-    back names f m (rows_before f m) p x ++ call_elements names f p ++ mark_elements f (rows_before f m) p ++ note_below f (rows_before f m) p x ++ codes "</svg>\n"
+-- the picture of these shapes in this frame, where m workers are declared
+unfoldable pub svg : Named → Framed → ℕ → Shapes → List ℕ
+svg names f m p =
+    back names f m (rows_before f m) p ++ call_elements names f p ++ mark_elements f (rows_before f m) p ++ codes "</svg>\n"

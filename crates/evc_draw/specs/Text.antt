@@ -11,7 +11,6 @@ use Rattle.ec_draw.specs.declared.dot.Dot.{Dot}
 use Rattle.ec_draw.specs.Curves.{Line}
 use Rattle.ec_draw.specs.Pictures.{Shapes}
 use Rattle.evc_draw.specs.Frames.{Framed, draws, draws_worker, draws_object, draws_count}
-use Rattle.evc_draw.specs.Notes.{Noted, note_text}
 use Rattle.evc_draw.specs.Svg.{counted_word}
 use Rattle.evc_draw.specs.Words.{call_words, open_words}
 use Rattle.evc_draw.specs.declared.style.TheConstants.{BLANKS, DASHES}
@@ -94,6 +93,6 @@ open_line names f o = if draws f o.worker o.op then open_words names o ++ codes 
 unfoldable pub rows : Named → Framed → ℕ → Shapes → List ℕ
 rows names f m p = entry_row f.window p.dots ++ worker_rows names f p m ++ flat_map (curve_row names f) p.curves
 
--- the text of these shapes in this frame, where m workers are declared, with what is said of a faulty line
-unfoldable pub text : Named → Framed → ℕ → Shapes → Noted → List ℕ
-text names f m p x = rows names f m p ++ codes "\n" ++ flat_map (call_line names f) p.calls ++ flat_map (open_line names f) p.begun ++ note_text x
+-- the text of these shapes in this frame, where m workers are declared
+unfoldable pub text : Named → Framed → ℕ → Shapes → List ℕ
+text names f m p = rows names f m p ++ codes "\n" ++ flat_map (call_line names f) p.calls ++ flat_map (open_line names f) p.begun

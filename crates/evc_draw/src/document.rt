@@ -5,10 +5,8 @@ ghost use Rattle.ec_text.specs.Puts.{Puts, AppendsPrefix};
 ghost use Rattle.ec_draw.specs.Pictures.{kept};
 ghost use Rattle.evc_draw.specs.Documents.{document, document_for};
 ghost use Rattle.evc_draw.specs.Frames.{framed};
-ghost use Rattle.evc_draw.specs.Notes.{noted};
 
 use crate::frame::Frame;
-use crate::note::Note;
 use crate::svg::put_svg;
 use crate::text::put_text;
 use crate::view::Form;
@@ -26,14 +24,13 @@ fn put_document<W: Write>(
     frame: &Frame,
     workers: usize,
     picture: &Picture,
-    note: &Note,
 )
     requires { workers ≤ 16 }
-    ensures { Puts (W.contents out.old) table.old (W.contents out.new) table.new (document form spellings.now (framed frame.now) workers (kept picture.now) (noted note.now)) }
+    ensures { Puts (W.contents out.old) table.old (W.contents out.new) table.new (document form spellings.now (framed frame.now) workers (kept picture.now)) }
 {
     match form {
-        Form::Svg => put_svg(out, table, spellings, frame, workers, picture, note),
-        Form::Text => put_text(out, table, spellings, frame, workers, picture, note),
+        Form::Svg => put_svg(out, table, spellings, frame, workers, picture),
+        Form::Text => put_text(out, table, spellings, frame, workers, picture),
     }
 }
 
@@ -44,16 +41,13 @@ pub(crate) fn write_document<W: Write>(
     heading: &Heading,
     frame: &Frame,
     picture: &Picture,
-    note: &Note,
 ) -> Result<(), WriteFault>
-    ensures ok { OnOk result (Appends (W.contents out.old) (W.contents out.new) (document_for form heading.now (framed frame.now) (kept picture.now) (noted note.now))) }
-    ensures err { OnErr result (AppendsPrefix (W.contents out.old) (W.contents out.new) (document_for form heading.now (framed frame.now) (kept picture.now) (noted note.now))) }
+    ensures ok { OnOk result (Appends (W.contents out.old) (W.contents out.new) (document_for form heading.now (framed frame.now) (kept picture.now))) }
+    ensures err { OnErr result (AppendsPrefix (W.contents out.old) (W.contents out.new) (document_for form heading.now (framed frame.now) (kept picture.now))) }
 {
     let spellings = Spellings::new(heading.words());
     let workers = heading.setup().workers();
     let mut table = Buffered::new();
-    put_document(
-        out, &mut table, form, &spellings, frame, workers, picture, note,
-    );
+    put_document(out, &mut table, form, &spellings, frame, workers, picture);
     finish(out, table)
 }

@@ -1,20 +1,12 @@
 //! A trace in; a picture of it out.
-ghost use Rattle.std.specs.Prelude.{◌≡◌, ◌<◌, ◌^◌, false, IfOk, IfSome, OnErr, OnOk, codes};
-ghost use Rattle.std.specs.Io.KnownBytes.{Keeps};
-ghost use Rattle.ec_text.specs.Puts.{AppendsPrefix, Puts};
-ghost use Rattle.evc_engine.specs.declared.status.Status.TheVariants.{Memory, Refused};
-ghost use Rattle.evc_engine.specs.Checks.{RefusedFor};
-ghost use Rattle.evc_draw.specs.Notes.{noted};
-ghost use Rattle.evc_engine.specs.Notes.{IsWrittenOut};
+ghost use Rattle.std.specs.Prelude.{◌≡◌, false, IfOk, IfSome};
+ghost use Rattle.evc_engine.specs.Notes.{IsWrittenOut, fault_status};
 ghost use Rattle.ec_draw.specs.Pictures.{kept, shapes};
 ghost use Rattle.evc_draw.specs.Frames.{drawn_targets, framed};
-ghost use Rattle.evc_draw.specs.Draws.{Drawn, Draws, DrawsCutOff, DrawsText, Refuses, Told, frame_for, has_unknown, is_wide, story_picture, window_before, window_of, window_on};
+ghost use Rattle.evc_draw.specs.Draws.{Drawn, Draws, frame_for, has_unknown, is_wide, window_of, window_on};
 
 use crate::document::write_document;
-use crate::fault::{Story, story_of};
 use crate::frame::{Frame, drawn_targets};
-use crate::input::{Input, read_input};
-use crate::note::Note;
 use crate::unknown::{has_unknown, say_unknown};
 use crate::view::View;
 use ec_draw::{COLUMNS_MAX, Picture, Window, picture_of};
@@ -22,6 +14,21 @@ use ec_trace::{TraceFault, Traced, read_trace};
 use evc_engine::{Notes, Status};
 use std::alloc::{AllocError, Global};
 use std::io::{Read, Write};
+
+/// How the program ends that could not read its trace.
+fn status_of(fault: &TraceFault) -> Status
+    ensures { result ≡ fault_status fault.now }
+{
+    match *fault {
+        TraceFault::BadLine(_) => Status::Refused,
+        TraceFault::Refused(_, _) => Status::Refused,
+        TraceFault::WrongReply(_, _) => Status::Refused,
+        TraceFault::Unfinished => Status::Refused,
+        TraceFault::TooLarge => Status::Refused,
+        TraceFault::Read => Status::InputOutput,
+        TraceFault::Memory => Status::Memory,
+    }
+}
 
 /// The part of a window that a run of so many entries has.
 fn window_on(window: Window, entries: usize) -> Window
@@ -55,7 +62,6 @@ fn frame_on(
 
 /// Writes a picture of a trace in a frame.
 fn write_framed<W: Write, N: Write>(
-    alloc: Global,
     traced: &Traced,
     view: &View,
     frame: &Frame,
@@ -72,8 +78,7 @@ fn write_framed<W: Write, N: Write>(
         (record { out = W.contents out.new; notes = N.contents notes.new.writer; held = notes.new.table }) }
     ensures written { IsWrittenOut notes.old.table → IsWrittenOut notes.new.table }
 {
-    let none = Note::none(alloc);
-    match write_document(out, view.form, traced.heading(), frame, picture, &none) {
+    match write_document(out, view.form, traced.heading(), frame, picture) {
         Ok(()) => Status::Done,
         Err(_) => {
             notes.say(b"write fault\n");
@@ -114,139 +119,12 @@ fn write_drawn<W: Write, N: Write>(
         notes.say(b"no memory\n");
         return Status::Memory;
     };
-    write_framed(alloc, traced, view, &frame, &picture, out, notes)
-}
-
-/// The window on a trace that is refused: the last entries, where too many are asked for. It has a column for the faulty line.
-fn window_before(window: Window, position: usize) -> Window
-    requires { position < 2 ^ 63 }
-    ensures { result ≡ window_before window position }
-{
-    let to = window.to.min(position + 1);
-    Window {
-        from: window
-            .from
-            .min(position + 1)
-            .max(to.saturating_sub(COLUMNS_MAX)),
-        to,
-    }
-}
-
-/// Writes the picture of a history up to a faulty line.
-fn write_story<W: Write>(
-    alloc: Global,
-    view: &View,
-    story: &Story,
-    out: &mut W,
-) -> Result<(), AllocError>
-    ensures ok { OnOk result (AppendsPrefix (W.contents out.old) (W.contents out.new) (story_picture view.now story.now.traced (noted story.now.note))) }
-    ensures err { OnErr result (Keeps (W.contents out.old) (W.contents out.new)) }
-{
-    let traced = &story.traced;
-    let window = window_before(view.window, story.note.position);
-    let frame = frame_on(alloc, traced, view, window)?;
-    let picture = picture_of(alloc, traced.run(), window)?;
-    let _written = write_document(
-        out,
-        view.form,
-        traced.heading(),
-        &frame,
-        &picture,
-        &story.note,
-    );
-    Ok(())
-}
-
-/// Draws a text that is refused up to its fault, if a run had begun, and the names that were chosen are declared.
-fn tell_story<W: Write>(alloc: Global, view: &View, text: &[u8], fault: &TraceFault, out: &mut W)
-    ensures { Told view.now text.now (W.contents out.old) (W.contents out.new) }
-{
-    if let Ok(Some(story)) = story_of(alloc, text, fault) {
-        if !has_unknown(story.traced.heading().words(), view) {
-            let _told = write_story(alloc, view, &story, out);
-        }
-    }
-}
-
-/// Tells that a text is refused, and draws what came before its fault.
-fn refuse<W: Write, N: Write>(
-    alloc: Global,
-    view: &View,
-    text: &[u8],
-    fault: &TraceFault,
-    out: &mut W,
-    notes: &mut Notes<N>,
-) -> Status
-    requires told { RefusedFor text.now fault.now }
-    ensures refused { result ≡ Refused }
-    ensures ends { Refuses view.now text.now
-        (record { out = W.contents out.old; notes = N.contents notes.old.writer; held = notes.old.table })
-        (record { out = W.contents out.new; notes = N.contents notes.new.writer; held = notes.new.table }) }
-    ensures written { IsWrittenOut notes.old.table → IsWrittenOut notes.new.table }
-{
-    tell_story(alloc, view, text, fault, out);
-    notes.fault(fault);
-    Status::Refused
-}
-
-/// Tells that memory was refused.
-fn want<N: Write>(notes: &mut Notes<N>) -> Status
-    ensures memory { result ≡ Memory }
-    ensures puts { Puts (N.contents notes.old.writer) notes.old.table (N.contents notes.new.writer) notes.new.table (codes "no memory\n") }
-    ensures written { IsWrittenOut notes.new.table }
-{
-    notes.say(b"no memory\n");
-    Status::Memory
-}
-
-/// Draws a text that was read to its end. Its reading can't fail, but for want of memory.
-fn draw_whole<W: Write, N: Write>(
-    alloc: Global,
-    view: &View,
-    text: &[u8],
-    out: &mut W,
-    notes: &mut Notes<N>,
-) -> Status
-    ensures ends { DrawsText view.now text.now result
-        (record { out = W.contents out.old; notes = N.contents notes.old.writer; held = notes.old.table })
-        (record { out = W.contents out.new; notes = N.contents notes.new.writer; held = notes.new.table }) }
-    ensures written { IsWrittenOut notes.old.table → IsWrittenOut notes.new.table }
-{
-    let mut rest = text;
-    match read_trace(alloc, &mut rest) {
-        Ok(traced) => write_drawn(alloc, &traced, view, out, notes),
-        Err(TraceFault::Memory | TraceFault::Read) => want(notes),
-        Err(fault) => refuse(alloc, view, text, &fault, out, notes),
-    }
-}
-
-/// Draws a text whose reading failed behind it.
-fn draw_cut_off<W: Write, N: Write>(
-    alloc: Global,
-    view: &View,
-    text: &[u8],
-    out: &mut W,
-    notes: &mut Notes<N>,
-) -> Status
-    ensures ends { DrawsCutOff view.now text.now result
-        (record { out = W.contents out.old; notes = N.contents notes.old.writer; held = notes.old.table })
-        (record { out = W.contents out.new; notes = N.contents notes.new.writer; held = notes.new.table }) }
-    ensures written { IsWrittenOut notes.old.table → IsWrittenOut notes.new.table }
-{
-    let mut rest = text;
-    match read_trace(alloc, &mut rest) {
-        Ok(_) | Err(TraceFault::Unfinished) => {
-            notes.say(b"read fault\n");
-            Status::InputOutput
-        }
-        Err(TraceFault::Memory | TraceFault::Read) => want(notes),
-        Err(fault) => refuse(alloc, view, text, &fault, out, notes),
-    }
+    write_framed(traced, view, &frame, &picture, out, notes)
 }
 
 /// Reads a trace, and writes a picture of it; notes say what is wrong.
 ///
-/// Nothing is written to `out` before the input was read to its end.
+/// Nothing is written to `out` before the trace was read to its end.
 pub(crate) fn draw<R: Read, W: Write, N: Write>(
     alloc: Global,
     view: &View,
@@ -259,9 +137,11 @@ pub(crate) fn draw<R: Read, W: Write, N: Write>(
         (record { out = W.contents out.new; notes = N.contents notes.new.writer; held = notes.new.table })) }
     ensures written { IsWrittenOut notes.old.table → IsWrittenOut notes.new.table }
 {
-    match read_input(alloc, reader) {
-        Ok(Input::Whole(text)) => draw_whole(alloc, view, text.as_slice(), out, notes),
-        Ok(Input::CutOff(text)) => draw_cut_off(alloc, view, text.as_slice(), out, notes),
-        Err(AllocError) => want(notes),
+    match read_trace(alloc, reader) {
+        Ok(traced) => write_drawn(alloc, &traced, view, out, notes),
+        Err(fault) => {
+            notes.fault(&fault);
+            status_of(&fault)
+        }
     }
 }

@@ -29,9 +29,6 @@ Options:
   -h, --help     this help
   -V, --version  the version
 
-A trace that is refused for one of its entries is drawn up to there, with the faulty line in
-red and, below, what was right.
-
 At most 400 entries are shown. Notes and exit status are those of `evc check`; a trace of
 more entries is refused with status 1 where the options don't choose fewer, and a name that
 the trace doesn't have with status 2.

@@ -71,8 +71,7 @@ pub(crate) fn picture_width(window: Window) -> u64
 /// How high a picture is.
 pub(crate) fn picture_height(rows: usize, curves: usize) -> u64
     requires { rows ≤ 16 }
-    ensures value { result ≡ picture_height rows curves }
-    ensures small { result ≤ 6700 }
+    ensures { result ≡ picture_height rows curves }
 {
     below(rows) + 84 * curves.min(64) as u64 + 30
 }

@@ -31,15 +31,11 @@ rect { fill-opacity: 0.35; stroke-width: 1.5; }
 .get rect { fill: #56b4e9; stroke: #56b4e9; }
 .hand rect { fill: #f0e442; stroke: #f0e442; }
 .open rect { stroke-dasharray: 5 3; }
-.fault rect { fill: #d00000; stroke: #d00000; }
-line.fault { stroke: #d00000; stroke-width: 2; }
-text.fault { fill: #d00000; }
 @media (prefers-color-scheme: dark) {
 text, circle { fill: #e4e7eb; }
 .paper, .mark { fill: #14191f; }
 .grid { stroke: #323f4b; }
 .round, .tie, .mark { stroke: #e4e7eb; }
-text.fault { fill: #ff8080; }
 }
 </style>
 <path class='paper' d='M 0 0 H 100000 V 100000 H 0 z'/>

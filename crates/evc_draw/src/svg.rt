@@ -3,8 +3,7 @@ ghost use Rattle.std.specs.Prelude.{◌≡◌, ◌≤◌, ◌<◌};
 ghost use Rattle.ec_text.specs.Puts.{Puts};
 ghost use Rattle.ec_draw.specs.Pictures.{kept};
 ghost use Rattle.evc_draw.specs.Frames.{framed};
-ghost use Rattle.evc_draw.specs.Notes.{noted};
-ghost use Rattle.evc_draw.specs.Svg.{back, call_elements, header, mark_elements, note_below, row_element, row_elements, row_group, svg};
+ghost use Rattle.evc_draw.specs.Svg.{back, call_elements, header, mark_elements, row_element, row_elements, row_group, svg};
 
 use crate::calls::put_calls;
 use crate::curves::put_curves;
@@ -12,7 +11,6 @@ use crate::dots::{put_columns, put_dots};
 use crate::elements::{Place, put_line, put_name_text, put_pair};
 use crate::frame::Frame;
 use crate::marks::put_marks;
-use crate::note::{Note, note_height, note_width, put_note};
 use crate::places::{below, picture_height, picture_width, row};
 use crate::style::{OPENING, STYLE};
 use crate::under_way::put_opens;
@@ -100,19 +98,16 @@ fn put_back<W: Write>(
     workers: usize,
     rows: usize,
     picture: &Picture,
-    note: &Note,
 )
     requires workers { workers ≤ 16 }
     requires rows { rows ≤ 16 }
-    ensures { Puts (W.contents out.old) table.old (W.contents out.new) table.new (back spellings.now (framed frame.now) workers rows (kept picture.now) (noted note.now)) }
+    ensures { Puts (W.contents out.old) table.old (W.contents out.new) table.new (back spellings.now (framed frame.now) workers rows (kept picture.now)) }
 {
     let window = frame.window;
     let dots = picture.dots.as_slice();
     let curves = picture.curves.as_slice();
-    let height = picture_height(rows, frame.curves_before(curves, curves.len()))
-        + note_height(note);
-    let width = picture_width(window).max(note_width(note));
-    put_header(out, table, width, height);
+    let height = picture_height(rows, frame.curves_before(curves, curves.len()));
+    put_header(out, table, picture_width(window), height);
     put_rows(out, table, spellings, frame, workers);
     put_columns(out, table, window, below(rows), dots);
     put_curves(out, table, spellings, frame, rows, curves);
@@ -151,24 +146,6 @@ fn put_mark_elements<W: Write>(
     put_marks(out, table, frame, rows, curves, calls);
 }
 
-/// Puts what is said of a faulty line, below the rows and the curves.
-#[tactic(auto, unfolding(crate::specs::Svg::note_below))]
-fn put_note_below<W: Write>(
-    out: &mut W,
-    table: &mut Buffered,
-    frame: &Frame,
-    rows: usize,
-    picture: &Picture,
-    note: &Note,
-)
-    requires { rows ≤ 16 }
-    ensures { Puts (W.contents out.old) table.old (W.contents out.new) table.new (note_below (framed frame.now) rows (kept picture.now) (noted note.now)) }
-{
-    let curves = picture.curves.as_slice();
-    let top = picture_height(rows, frame.curves_before(curves, curves.len())) + 4;
-    put_note(out, table, frame, below(rows), top, note);
-}
-
 /// Puts a picture as SVG.
 #[tactic(auto, unfolding(crate::specs::Svg::svg))]
 pub(crate) fn put_svg<W: Write>(
@@ -178,15 +155,13 @@ pub(crate) fn put_svg<W: Write>(
     frame: &Frame,
     workers: usize,
     picture: &Picture,
-    note: &Note,
 )
     requires { workers ≤ 16 }
-    ensures { Puts (W.contents out.old) table.old (W.contents out.new) table.new (svg spellings.now (framed frame.now) workers (kept picture.now) (noted note.now)) }
+    ensures { Puts (W.contents out.old) table.old (W.contents out.new) table.new (svg spellings.now (framed frame.now) workers (kept picture.now)) }
 {
     let rows = frame.rows_before(workers);
-    put_back(out, table, spellings, frame, workers, rows, picture, note);
+    put_back(out, table, spellings, frame, workers, rows, picture);
     put_call_elements(out, table, spellings, frame, picture);
     put_mark_elements(out, table, frame, rows, picture);
-    put_note_below(out, table, frame, rows, picture, note);
     put(out, table, b"</svg>\n");
 }

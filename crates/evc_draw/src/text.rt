@@ -6,13 +6,11 @@ ghost use Rattle.ec_text.specs.Puts.{Puts, AppendsPrefix};
 ghost use Rattle.ec_draw.specs.Curves.{shown};
 ghost use Rattle.ec_draw.specs.Pictures.{kept};
 ghost use Rattle.evc_draw.specs.Frames.{framed};
-ghost use Rattle.evc_draw.specs.Notes.{note_line, note_text, noted};
 ghost use Rattle.evc_draw.specs.Text.{call_line, curve_cells, curve_row, dot_cell, entry_cell, entry_row, number_cell, open_line, rows, text, worker_cells, worker_row, worker_rows};
 
 use crate::cells::{cell_width, put_dot_cell, put_number_cell, put_padded, put_row_name};
 use crate::curves::counted_word;
 use crate::frame::Frame;
-use crate::note::Note;
 use crate::style::BLANKS;
 use crate::words::{put_call_words, put_open_words};
 use ec_count::WorkerId;
@@ -257,34 +255,6 @@ fn put_open_lines<W: Write>(
     }
 }
 
-/// Puts a line of what is said of a faulty line.
-#[tactic(auto, unfolding(crate::specs::Notes::note_line))]
-fn put_note_line<W: Write>(out: &mut W, table: &mut Buffered, line: &String)
-    ensures { Puts (W.contents out.old) table.old (W.contents out.new) table.new (note_line line.now) }
-{
-    put(out, table, line.as_bytes());
-    put(out, table, b"\n");
-}
-
-/// Puts the lines of what is said of a faulty line.
-fn put_note_lines<W: Write>(out: &mut W, table: &mut Buffered, lines: &[String])
-    ensures { Puts (W.contents out.old) table.old (W.contents out.new) table.new (flat_map note_line lines.now) }
-{
-    for line in lines {
-        put_note_line(out, table, line);
-    }
-}
-
-/// Puts what is said of a faulty line, if there is one.
-fn put_note_text<W: Write>(out: &mut W, table: &mut Buffered, note: &Note)
-    ensures { Puts (W.contents out.old) table.old (W.contents out.new) table.new (note_text (noted note.now)) }
-{
-    if !note.lines.is_empty() {
-        put(out, table, b"\n");
-        put_note_lines(out, table, note.lines.as_slice());
-    }
-}
-
 /// Puts the text of a picture.
 #[tactic(auto, unfolding(crate::specs::Text::text))]
 pub(crate) fn put_text<W: Write>(
@@ -294,14 +264,12 @@ pub(crate) fn put_text<W: Write>(
     frame: &Frame,
     workers: usize,
     picture: &Picture,
-    note: &Note,
 )
     requires { workers ≤ 16 }
-    ensures { Puts (W.contents out.old) table.old (W.contents out.new) table.new (text spellings.now (framed frame.now) workers (kept picture.now) (noted note.now)) }
+    ensures { Puts (W.contents out.old) table.old (W.contents out.new) table.new (text spellings.now (framed frame.now) workers (kept picture.now)) }
 {
     put_all_rows(out, table, spellings, frame, workers, picture);
     put(out, table, b"\n");
     put_call_lines(out, table, spellings, frame, picture.calls.as_slice());
     put_open_lines(out, table, spellings, frame, picture.begun.as_slice());
-    put_note_text(out, table, note);
 }
