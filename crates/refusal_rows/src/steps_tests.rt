@@ -121,7 +121,7 @@ fn is_signalled(run: &Run, entries: usize, advances: usize, signaller: usize) ->
         && run.world().signaller(event(0), 0) == Some(worker(signaller))
         && run
             .world()
-            .component_of(event(0), worker(1 - signaller))
+            .component_of(event(0), worker(1usize.saturating_sub(signaller)))
             .is_none()
 }
 
