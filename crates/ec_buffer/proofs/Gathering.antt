@@ -2,7 +2,7 @@
 use Rattle.std.proofs.Common.{◌≡◌, ℕ, zero, suc, ◌+◌, ◌-◌, ◌%◌, ◌<◌, ◌≤◌, Bool, true, false, List, [], ◌∷◌, ◌++◌, length, Option, Some, None, refl, ap, sym, ◌∙◌, arith, subst, cond, ◌==◌, nat_le, nat_lt, inl, inr, slice_get, reverse, get_or, slice_set}
 use Rattle.std.specs.Option.{option_map_or}
 use Rattle.std.proofs.lemmas.Bool.{eqb-true, eqb-false, ne_eqb, and_parts, leb-true, ltb-true}
-use Rattle.std.proofs.lemmas.List.{reverse-append, get_or-replicate, get_or-set_same, get_or-set_other, length-set, length-replicate}
+use Rattle.std.proofs.lemmas.List.{get_or-replicate, get_or-set_same, get_or-set_other, length-set, length-replicate}
 use Rattle.std.proofs.Math.Seq.{take-length}
 use Rattle.ec_count.specs.Tables.{Tables}
 use Rattle.ec_core.specs.declared.act.Act.{Act}
@@ -23,16 +23,6 @@ use Rattle.ec_buffer.specs.Collecting.{put_place, get_place, writers_after, list
 use Rattle.ec_buffer.proofs.Moves.{gets, Moved, standing}
 use Rattle.ec_buffer.proofs.Handing.{is_cell_at}
 use Rattle.ec_buffer.proofs.InTime.{gets_count, entry_at, get_told, get_next, finds}
-
--- ONE MORE ENTRY
-
-pub writers_next : (b : Buffer) (done : List Entry) (x : Entry) → writers_of b (reverse (done ++ x ∷ [])) ≡ writers_after (put_place b x.act) x.worker (writers_of b (reverse done))
-unfolding writers_of
-writers_next b done x = ap (writers_of b) (reverse-append done (x ∷ []))
-
-pub collected_next : (b : Buffer) (done : List Entry) (x : Entry) → collected b (reverse (done ++ x ∷ [])) ≡ list_after (get_place b x.act) x (writers_of b (reverse done)) (collected b (reverse done))
-unfolding collected
-collected_next b done x = ap (collected b) (reverse-append done (x ∷ []))
 
 -- WHO PUT WHAT STANDS IN A CELL
 

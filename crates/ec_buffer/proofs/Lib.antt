@@ -1,5 +1,6 @@
 pub mod shared
 pub mod Declaring
+pub mod Delivering
 pub mod Followed
 pub mod Gathering
 pub mod Handing

@@ -1,3 +1,4 @@
+pub mod Auditing
 pub mod CallLists
 pub mod Collecting
 pub mod Follows

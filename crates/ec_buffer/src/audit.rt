@@ -1,16 +1,18 @@
 //! The deliveries of a run.
-ghost use Rattle.std.specs.Prelude.{◌≡◌, ◌<◌, length, replicate, reverse, IfOk, IfErr, IfSome, OnOk};
+ghost use Rattle.std.specs.Prelude.{◌≡◌, ◌<◌, false, [], length, replicate, reverse, IfOk, IfErr, IfSome, OnOk};
 ghost use Rattle.ec_core.specs.Audits.{IsAuditFault};
 ghost use Rattle.ec_core.specs.CallLists.{number_of};
-ghost use Rattle.ec_buffer.specs.Collecting.{place_of, put_place, get_place, writers_after, list_after, collected};
+ghost use Rattle.ec_buffer.specs.Auditing.{IsDelivering};
+ghost use Rattle.ec_buffer.specs.Collecting.{place_of, put_place, get_place, writers_after, list_after};
 ghost use Rattle.ec_buffer.specs.Follows.{FollowsBuffer, buffer_rules};
 ghost use Rattle.ec_buffer.specs.Items.{AreDeliveries};
 
 use crate::lists::Lists;
 use crate::{BufferShape, Delivery};
-use ec_core::{Act, AuditFault, Entry, Reply, Run, followed};
-use ec_count::{CellId, WorkerId};
+use ec_core::{Act, Audit, AuditFault, Entry, Reply, Run, Tracker, walk};
+use ec_count::{CellId, Setup, WorkerId};
 use std::alloc::{AllocError, Global};
+use std::marker::Model;
 
 /// The place of a cell in the buffer, counted from 0.
 fn place_of(shape: &BufferShape, cell: CellId) -> Option<usize>
@@ -62,6 +64,14 @@ fn note_put(shape: &BufferShape, entry: &Entry, writers: &mut [WorkerId; 256])
     }
 }
 
+/// Before any put: each cell has the same writer, of whom nothing is said.
+fn no_writers() -> [WorkerId; 256]
+    ensures { result ≡ replicate 256 0 }
+{
+    let first = WorkerId::default();
+    [first; 256]
+}
+
 /// Adds the delivery of a get.
 fn add_get(
     shape: &BufferShape,
@@ -82,17 +92,94 @@ fn add_get(
     Ok(())
 }
 
-/// The deliveries of the gets of a run, in their order.
-fn collected(alloc: Global, run: &Run, shape: &BufferShape) -> Result<Vec<Delivery>, AllocError>
-    ensures { IfOk result (λ list. list.items ≡ collected shape.now (reverse run.now.entries)) }
+/// Adds the delivery of a get, unless there was no memory for an earlier one. The answer is whether
+/// one is lacking.
+fn lacks_after(
+    lacks: bool,
+    shape: &BufferShape,
+    entry: &Entry,
+    writers: &[WorkerId; 256],
+    list: &mut Vec<Delivery>,
+) -> bool
+    ensures before { result ≡ false → lacks ≡ false }
+    ensures added { result ≡ false → list.new.items ≡ list_after (get_place shape.now entry.now.act) entry.now writers.now list.old.items }
 {
-    let mut writers = [WorkerId::default(); 256];
-    let mut list = Vec::new(alloc);
-    for entry in run.entries() {
-        add_get(shape, &entry, &writers, &mut list)?;
-        note_put(shape, &entry, &mut writers);
+    lacks || add_get(shape, entry, writers, list).is_err()
+}
+
+/// The audit of a buffer in a walk over a run. An entry whose call is not on the buffer may be left
+/// out.
+#[derive(Drop)]
+pub struct DeliveryAudit<'a> {
+    lists: Lists<'a>,
+    tracker: Tracker,
+    writers: [WorkerId; 256],
+    list: Vec<Delivery>,
+    lacks: bool,
+}
+
+impl<'a> Model for DeliveryAudit<'a> {
+    ghost use Rattle.ec_buffer.specs.Auditing.{Delivering};
+
+    ghost Value = { Delivering };
+
+    ghost view = { λ s. record { shape = s.lists.shape.now; setup = s.lists.setup.now; tracked = s.tracker; writers = s.writers; list = s.list.items; lacks = s.lacks } };
+}
+
+impl<'a> Audit for DeliveryAudit<'a> {
+    ghost use Rattle.ec_buffer.specs.Auditing.{DeliversOn};
+
+    ghost stands = { DeliversOn };
+
+    fn take(&mut self, place: usize, op: &Act, entry: &Entry) {
+        let lists = self.lists;
+        let shape = lists.shape;
+        self.lacks = lacks_after(self.lacks, shape, entry, &self.writers, &mut self.list);
+        note_put(shape, entry, &mut self.writers);
+        self.tracker.take(&lists, place, op, entry);
     }
-    Ok(list)
+}
+
+impl<'a> DeliveryAudit<'a> {
+    /// Before the first entry of a run on this setup. It takes no memory.
+    pub fn new(alloc: Global, shape: &'a BufferShape, setup: &'a Setup) -> Self
+        ensures shape { result.shape ≡ shape.now }
+        ensures setup { result.setup ≡ setup.now }
+        ensures first { IsDelivering result [] }
+    {
+        let lists = Lists { shape, setup };
+        DeliveryAudit {
+            lists,
+            tracker: Tracker::new(&lists),
+            writers: no_writers(),
+            list: Vec::new(alloc),
+            lacks: false,
+        }
+    }
+
+    /// The deliveries after all entries of a run, as `deliveries` lists them.
+    pub fn deliveries(self, run: &Run) -> Result<Vec<Delivery>, AuditFault>
+        requires setup { self.setup ≡ run.now.setup }
+        requires stands { IsDelivering self (reverse run.now.entries) }
+        ensures followed { OnOk result (FollowsBuffer run.now.setup self.entry.shape (reverse run.now.entries)) }
+        ensures list { IfOk result (λ list. AreDeliveries run.now.setup self.entry.shape run.now.entries list.items) }
+        ensures err { IfErr result (IsAuditFault (buffer_rules run.now.setup self.entry.shape) run.now.entries) }
+    {
+        run.known();
+        let DeliveryAudit {
+            lists,
+            tracker,
+            list,
+            lacks,
+            ..
+        } = self;
+        lists.shape.known();
+        tracker.followed(&lists, run)?;
+        if lacks {
+            return Err(AuditFault::Memory);
+        }
+        Ok(list)
+    }
 }
 
 /// The deliveries of a buffer in a run, by number: one for each get that was made. Where the
@@ -107,12 +194,7 @@ pub fn deliveries(
     ensures list { IfOk result (λ list. AreDeliveries run.now.setup shape.now run.now.entries list.items) }
     ensures err { IfErr result (IsAuditFault (buffer_rules run.now.setup shape.now) run.now.entries) }
 {
-    run.known();
-    shape.known();
-    let setup = run.setup();
-    followed(run, &Lists { shape, setup })?;
-    let Ok(list) = collected(alloc, run, shape) else {
-        return Err(AuditFault::Memory);
-    };
-    Ok(list)
+    let mut audit = DeliveryAudit::new(alloc, shape, run.setup());
+    walk(run, &mut audit);
+    audit.deliveries(run)
 }

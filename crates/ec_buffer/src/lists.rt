@@ -14,7 +14,7 @@ use ec_core::{Act, Kept, Protocol, Reply, is_due};
 use ec_count::{EventId, SeqId, Setup, WorkerId};
 
 /// The call lists of a buffer.
-#[derive(Drop)]
+#[derive(Clone, Copy)]
 pub(crate) struct Lists<'a> {
     pub(crate) shape: &'a BufferShape,
     pub(crate) setup: &'a Setup,
@@ -33,7 +33,7 @@ fn is_sequencer(shape: &BufferShape, sequencer: SeqId) -> bool
 }
 
 /// Whether an act names an object of the buffer.
-fn is_on(shape: &BufferShape, act: &Act) -> bool
+pub fn is_on(shape: &BufferShape, act: &Act) -> bool
     ensures { result ≡ is_on shape.now act.now }
 {
     match act {

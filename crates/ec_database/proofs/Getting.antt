@@ -90,6 +90,17 @@ held_none d writers rows x past kept op at none h w lt role =
       | false ↦ λ e. subst P (sym (other_block (try_rule d) w x past e)) (h w lt role)
     ] refl
 
+-- nor does an entry whose call is not on the database
+pub held_off : (d : Database) (writers : ℕ → Bool) (rows : List (List ℕ)) (x : Entry) (past : List Entry) → is_on d (op_at x past) ≡ false → HoldsGot d writers rows past → HoldsGot d writers rows (x ∷ past)
+held_off d writers rows x past off h w lt role =
+    let P : List Told → Type 0 = λ calls. HasRow rows w (got_so_far calls) in
+    elim (x.worker == w) as (λ b. (x.worker == w) ≡ b → HasRow rows w (got_so_far (block (try_rule d) w (x ∷ past)))) [
+      | true ↦ λ e.
+          (let Q : ℕ → Type 0 = λ v. block (try_rule d) v (x ∷ past) ≡ block (try_rule d) v past in
+          subst P (sym (subst Q (eqb-true x.worker w e) (off_block (try_rule d) x past off))) (h w lt role))
+      | false ↦ λ e. subst P (sym (other_block (try_rule d) w x past e)) (h w lt role)
+    ] refl
+
 -- ROWS
 
 never : (b : Bool) → (b && false) ≡ false

@@ -16,5 +16,6 @@ pub mod Steady
 pub mod Trying
 pub mod Turns
 pub mod Undisturbed
+pub mod Versioning
 pub mod Writing
 pub mod Written

@@ -1,15 +1,18 @@
 -- The accepting tries are listed in the order of their last steps.
-use Rattle.std.proofs.Common.{◌≡◌, ℕ, Bool, List, [], ◌∷◌, ◌++◌, append_assoc, length, map, reverse, Option, Some, None, refl, ap, sym, ◌∙◌, arith, ◌⊎◌, inl, inr, slice_get}
+use Rattle.std.proofs.Common.{◌≡◌, ℕ, Bool, true, false, ◌||◌, cond, List, [], ◌∷◌, ◌++◌, append_assoc, length, map, reverse, Option, Some, None, refl, ap, sym, ◌∙◌, arith, ◌⊎◌, inl, inr, slice_get}
 use Rattle.std.specs.Prelude.{option_to_list}
 use Rattle.std.proofs.lemmas.List.{append-nil, map-append}
 use Rattle.std.specs.Option.{option_map}
 use Rattle.ec_count.specs.Tables.{Tables}
 use Rattle.ec_core.specs.declared.act.Entry.{Entry}
+use Rattle.ec_core.specs.Calls.{is_pending}
 use Rattle.ec_core.specs.Counts.{past_at}
+use Rattle.ec_core.specs.Following.{Told, block}
+use Rattle.ec_core.proofs.shared.Following.{op_at}
 use Rattle.ec_core.proofs.shared.Joining.{get_back}
 use Rattle.ec_database.specs.Shapes.{Database}
-use Rattle.ec_database.specs.Following.{writes}
-use Rattle.ec_database.specs.Tries.{AcceptedTry, ended_at, accepted_tries, ListsTries, AreUndisturbed}
+use Rattle.ec_database.specs.Following.{is_on, try_rule, writes}
+use Rattle.ec_database.specs.Tries.{AcceptedTry, accepted_of, ended_by, ended_at, accepted_tries, ListsTries, AreUndisturbed}
 use Rattle.ec_database.specs.Laws.{IsFollowed, TriesAreListed}
 use Rattle.ec_database.proofs.Readers.{last_get}
 use Rattle.ec_database.proofs.CallsStand.{entry_at}
@@ -94,6 +97,20 @@ next_tries f d writers x past list None h told =
     ap (map f) (append-nil list) ∙ h ∙ sym (append-nil (accepted_tries d writers past)) ∙ ap (λ z. accepted_tries d writers past ++ option_to_list z) told ∙ sym (tries_step d writers x past)
 next_tries f d writers x past list (Some a) h told =
     map-append f list (a ∷ []) ∙ ap (λ l. l ++ f a ∷ []) h ∙ ap (λ z. accepted_tries d writers past ++ option_to_list z) told ∙ sym (tries_step d writers x past)
+
+-- an entry whose call is not on the database ends no try
+none_ended : (d : Database) (writers : ℕ → Bool) (x : Entry) (past : List Entry) → is_on d (op_at x past) ≡ false → ended_at d writers x past ≡ None
+none_ended d writers x past off =
+    let calls = block (try_rule d) x.worker past in
+    let told : Told = record { op = op_at x past; reply = x.reply } in
+    elim (writers x.worker || is_pending x.reply) as (λ b. cond b None (ended_by d x.worker calls told) ≡ None) [
+      | true ↦ refl
+      | false ↦ ap (λ b. cond b (accepted_of d x.worker (calls ++ told ∷ [])) None) off
+    ]
+
+pub tries_off : (d : Database) (writers : ℕ → Bool) (x : Entry) (past : List Entry) → is_on d (op_at x past) ≡ false → accepted_tries d writers (x ∷ past) ≡ accepted_tries d writers past
+tries_off d writers x past off =
+    tries_step d writers x past ∙ ap (λ o. accepted_tries d writers past ++ option_to_list o) (none_ended d writers x past off) ∙ append-nil (accepted_tries d writers past)
 
 -- each try of the list is undisturbed
 pub all_undisturbed : (t : Tables) (d : Database) (h : List Entry) (list : List AcceptedTry) → IsFollowed t d h → ListsTries t d h list → AreUndisturbed t d h list

@@ -9,8 +9,13 @@ use Rattle.ec_core.specs.CallLists.{number_of}
 use Rattle.ec_database.specs.declared.audit.Accepted.{Accepted}
 use Rattle.ec_database.specs.declared.audit.ReaderCall.{ReaderCall}
 use Rattle.ec_database.specs.Shapes.{Database}
-use Rattle.ec_database.specs.Following.{is_on, try_rule}
-use Rattle.ec_database.specs.Tries.{AcceptedTry}
+use Rattle.ec_count.specs.Tables.{Tables}
+use Rattle.ec_core.specs.Calls.{under_way}
+use Rattle.ec_core.specs.Following.{opened}
+use Rattle.ec_core.specs.Scanning.{Tracked, IsTracked}
+use Rattle.ec_database.specs.Following.{is_on, try_rule, writes, database_rules}
+use Rattle.ec_database.specs.Places.{kept_of}
+use Rattle.ec_database.specs.Tries.{AcceptedTry, accepted_tries}
 
 -- the first n answers of a question about workers, each at its worker's place
 abbrev pub ArePlaced : (ℕ → Bool) → ℕ → List Bool → Type 0
@@ -52,3 +57,28 @@ pub record HasRow (rows : List (List ℕ)) (w : ℕ) (values : List ℕ) : Type 
 -- each reader's row begins with what it got in the try that it is in
 abbrev pub HoldsGot : Database → (ℕ → Bool) → List (List ℕ) → List Entry → Type 0
 HoldsGot d writers rows past = (w : ℕ) → w < 16 → writers w ≡ false → HasRow rows w (got_so_far (block (try_rule d) w past))
+
+-- what is kept of the list that an entry's worker is in, and the act that began the entry's call
+pub record ReadsOn (t : Tables) (d : Database) (k : Kept) (act : Act) (x : Entry) (past : List Entry) : Type 0 where
+  pub kept : k ≡ kept_of (block (database_rules t d x.worker) x.worker past)
+  pub op : act ≡ opened x.act (under_way x.worker past)
+
+-- what the audit of a database keeps in a walk: what its readers got in the tries that they are in, and the accepting
+-- tries, or that memory was refused for one
+pub record Versioning : Type 0 where
+  pub shape : Database
+  pub setup : Tables
+  pub tracked : Tracked
+  pub rows : List (List ℕ)
+  pub list : List AcceptedTry
+  pub lacks : Bool
+
+-- it is that after a past
+pub record IsVersioning (a : Versioning) (past : List Entry) : Type 0 where
+  pub tracked : IsTracked (database_rules a.setup a.shape) kept_of a.tracked past
+  pub held : a.lacks ≡ false → HoldsGot a.shape (writes a.setup a.shape) a.rows past
+  pub list : a.lacks ≡ false → a.list ≡ accepted_tries a.shape (writes a.setup a.shape) past
+
+-- of the same database, after a past
+abbrev pub VersionsOn : Versioning → Versioning → List Entry → Type 0
+VersionsOn start now past = (now.shape ≡ start.shape) × (now.setup ≡ start.setup) × IsVersioning now past

@@ -1,19 +1,18 @@
 //! The accepting tries of a run.
-ghost use Rattle.std.specs.Prelude.{◌≡◌, ◌<◌, ◌≤◌, ℕ, List, [], ◌∷◌, ◌++◌, option_to_list, length, map, take, reverse, slice_get, slice_set, Some, IfOk, OnOk, IfErr};
+ghost use Rattle.std.specs.Prelude.{◌≡◌, ◌<◌, ◌≤◌, ℕ, false, List, [], ◌∷◌, ◌++◌, option_to_list, length, map, take, reverse, slice_get, slice_set, Some, IfOk, OnOk, IfErr};
 ghost use Rattle.std.specs.Option.{option_map};
 ghost use Rattle.ec_core.specs.declared.act.Entry.{Entry};
-ghost use Rattle.ec_core.specs.Scanning.{IsScanned};
 ghost use Rattle.ec_core.specs.Audits.{IsAuditFault};
-ghost use Rattle.ec_database.specs.Following.{writes, rules, database_rules, FollowsDatabase};
-ghost use Rattle.ec_database.specs.Places.{kept_of};
+ghost use Rattle.ec_database.specs.Following.{writes, database_rules, FollowsDatabase};
 ghost use Rattle.ec_database.specs.Tries.{ended_at, accepted_tries, ListsTries, AreUndisturbed};
-ghost use Rattle.ec_database.specs.Auditing.{shown, finished_call, rows_after, try_ended, HasRow, HoldsGot};
+ghost use Rattle.ec_database.specs.Auditing.{shown, finished_call, rows_after, try_ended, HasRow, HoldsGot, ReadsOn, IsVersioning};
 
 use crate::DatabaseShape;
 use crate::lists::{Lists, is_on};
-use ec_core::{Act, AuditFault, Entry, Kept, Reply, Run, Scan, followed};
-use ec_count::WorkerId;
+use ec_core::{Act, Audit, AuditFault, Entry, Kept, Reply, Run, Tracker, walk};
+use ec_count::{Setup, WorkerId};
 use std::alloc::{AllocError, Global};
+use std::marker::Model;
 
 /// An accepting try: the two reads of its count of starts agree.
 #[derive(Debug, PartialEq, Eq, Drop)]
@@ -113,27 +112,25 @@ impl Got {
         }))
     }
 
-    /// Takes in the next entry of a run: the accepting try that it ends, if it ends one.
+    /// Takes in the next entry of a run, given what is kept of its worker's list and the act that
+    /// began its call: the accepting try that it ends, if it ends one.
     fn take(
         &mut self,
         alloc: Global,
         lists: &Lists,
-        scan: &Scan,
+        kept: &Kept,
+        op: &Act,
         entry: &Entry,
     ) -> Result<Option<Accepted>, AllocError>
-        ensures tries { IfOk result (λ o. (past : List Entry)
-            → IsScanned (rules lists.now.shape.now (writes lists.now.setup.now lists.now.shape.now)) kept_of scan.now past
+        ensures tries { IfOk result (λ o. (past : List Entry) → ReadsOn lists.now.setup.now lists.now.shape.now kept.now op.now entry.now past
             → HoldsGot lists.now.shape.now (writes lists.now.setup.now lists.now.shape.now) self.old.rows past
             → option_map shown o ≡ ended_at lists.now.shape.now (writes lists.now.setup.now lists.now.shape.now) entry.now past) }
-        ensures held { OnOk result ((past : List Entry)
-            → IsScanned (rules lists.now.shape.now (writes lists.now.setup.now lists.now.shape.now)) kept_of scan.now past
+        ensures held { OnOk result ((past : List Entry) → ReadsOn lists.now.setup.now lists.now.shape.now kept.now op.now entry.now past
             → HoldsGot lists.now.shape.now (writes lists.now.setup.now lists.now.shape.now) self.old.rows past
             → HoldsGot lists.now.shape.now (writes lists.now.setup.now lists.now.shape.now) self.new.rows (entry.now ∷ past)) }
     {
         let _reader = entry.worker.get();
-        let kept = scan.kept(entry.worker);
-        let op = scan.op(entry);
-        let Some(call) = finished_call(lists, &kept, &op, entry) else {
+        let Some(call) = finished_call(lists, kept, op, entry) else {
             return Ok(None);
         };
         let cells = lists.shape.cells();
@@ -152,19 +149,131 @@ fn add(list: &mut Vec<Accepted>, accepted: Option<Accepted>) -> Result<(), Alloc
     Ok(())
 }
 
-/// The accepting tries of a run, by their last steps.
-fn accepted_tries(alloc: Global, run: &Run, lists: &Lists) -> Result<Vec<Accepted>, AllocError>
-    ensures { IfOk result (λ list. map shown list.items ≡ accepted_tries lists.now.shape.now (writes lists.now.setup.now lists.now.shape.now) (reverse run.now.entries)) }
+/// The audit of a database in a walk over a run. An entry whose call is not on the database may be
+/// left out.
+#[derive(Drop)]
+pub struct VersionAudit<'a> {
+    lists: Lists<'a>,
+    tracker: Tracker,
+    got: Got,
+    list: Vec<Accepted>,
+    lacks: bool,
+}
+
+impl<'a> Model for VersionAudit<'a> {
+    ghost use Rattle.std.specs.Prelude.{map};
+    ghost use Rattle.ec_database.specs.Auditing.{shown, Versioning};
+
+    ghost Value = { Versioning };
+
+    ghost view = { λ s. record { shape = s.lists.shape.now; setup = s.lists.setup.now; tracked = s.tracker; rows = s.got.rows; list = map shown s.list.items; lacks = s.lacks } };
+}
+
+/// Takes in the next entry, and adds the accepting try that it ends.
+fn add_try(
+    lists: &Lists,
+    kept: &Kept,
+    op: &Act,
+    entry: &Entry,
+    got: &mut Got,
+    list: &mut Vec<Accepted>,
+) -> Result<(), AllocError>
+    ensures held { OnOk result ((past : List Entry) → ReadsOn lists.now.setup.now lists.now.shape.now kept.now op.now entry.now past
+        → HoldsGot lists.now.shape.now (writes lists.now.setup.now lists.now.shape.now) got.old.rows past
+        → HoldsGot lists.now.shape.now (writes lists.now.setup.now lists.now.shape.now) got.new.rows (entry.now ∷ past)) }
+    ensures tries { OnOk result ((past : List Entry) → ReadsOn lists.now.setup.now lists.now.shape.now kept.now op.now entry.now past
+        → HoldsGot lists.now.shape.now (writes lists.now.setup.now lists.now.shape.now) got.old.rows past
+        → map shown list.old.items ≡ accepted_tries lists.now.shape.now (writes lists.now.setup.now lists.now.shape.now) past
+        → map shown list.new.items ≡ accepted_tries lists.now.shape.now (writes lists.now.setup.now lists.now.shape.now) (entry.now ∷ past)) }
 {
-    let mut scan = Scan::new(lists);
-    let mut got = Got::new();
-    let mut list = Vec::new(alloc);
-    for entry in run.entries() {
-        let accepted = got.take(alloc, lists, &scan, &entry)?;
-        add(&mut list, accepted)?;
-        scan.take(lists, &entry);
+    let accepted = got.take(*list.allocator(), lists, kept, op, entry)?;
+    add(list, accepted)?;
+    Ok(())
+}
+
+/// The same, unless there was no memory for an earlier one. The answer is whether one is lacking.
+fn lacks_after(
+    lacks: bool,
+    lists: &Lists,
+    kept: &Kept,
+    op: &Act,
+    entry: &Entry,
+    got: &mut Got,
+    list: &mut Vec<Accepted>,
+) -> bool
+    ensures before { result ≡ false → lacks ≡ false }
+    ensures held { result ≡ false → (past : List Entry) → ReadsOn lists.now.setup.now lists.now.shape.now kept.now op.now entry.now past
+        → HoldsGot lists.now.shape.now (writes lists.now.setup.now lists.now.shape.now) got.old.rows past
+        → HoldsGot lists.now.shape.now (writes lists.now.setup.now lists.now.shape.now) got.new.rows (entry.now ∷ past) }
+    ensures tries { result ≡ false → (past : List Entry) → ReadsOn lists.now.setup.now lists.now.shape.now kept.now op.now entry.now past
+        → HoldsGot lists.now.shape.now (writes lists.now.setup.now lists.now.shape.now) got.old.rows past
+        → map shown list.old.items ≡ accepted_tries lists.now.shape.now (writes lists.now.setup.now lists.now.shape.now) past
+        → map shown list.new.items ≡ accepted_tries lists.now.shape.now (writes lists.now.setup.now lists.now.shape.now) (entry.now ∷ past) }
+{
+    lacks || add_try(lists, kept, op, entry, got, list).is_err()
+}
+
+impl<'a> Audit for VersionAudit<'a> {
+    ghost use Rattle.ec_database.specs.Auditing.{VersionsOn};
+
+    ghost stands = { VersionsOn };
+
+    fn take(&mut self, place: usize, op: &Act, entry: &Entry) {
+        let VersionAudit {
+            lists,
+            tracker,
+            got,
+            list,
+            lacks,
+        } = self;
+        let kept = tracker.kept(entry.worker);
+        *lacks = lacks_after(*lacks, lists, &kept, op, entry, got, list);
+        tracker.take(lists, place, op, entry);
     }
-    Ok(list)
+}
+
+impl<'a> VersionAudit<'a> {
+    /// Before the first entry of a run on this setup. It takes no memory.
+    pub fn new(alloc: Global, shape: &'a DatabaseShape, setup: &'a Setup) -> Self
+        ensures shape { result.shape ≡ shape.now }
+        ensures setup { result.setup ≡ setup.now }
+        ensures first { IsVersioning result [] }
+    {
+        let lists = Lists::new(shape, setup);
+        let tracker = Tracker::new(&lists);
+        VersionAudit {
+            lists,
+            tracker,
+            got: Got::new(),
+            list: Vec::new(alloc),
+            lacks: false,
+        }
+    }
+
+    /// The accepting tries after all entries of a run, as `versions` lists them.
+    pub fn versions(self, run: &Run) -> Result<Vec<Accepted>, AuditFault>
+        requires setup { self.setup ≡ run.now.setup }
+        requires stands { IsVersioning self (reverse run.now.entries) }
+        ensures followed { OnOk result (FollowsDatabase run.now.setup self.entry.shape (reverse run.now.entries)) }
+        ensures tries { IfOk result (λ list. ListsTries run.now.setup self.entry.shape run.now.entries (map shown list.items)) }
+        ensures undisturbed { IfOk result (λ list. AreUndisturbed run.now.setup self.entry.shape run.now.entries (map shown list.items)) }
+        ensures err { IfErr result (IsAuditFault (database_rules run.now.setup self.entry.shape) run.now.entries) }
+    {
+        run.known();
+        let VersionAudit {
+            lists,
+            tracker,
+            list,
+            lacks,
+            ..
+        } = self;
+        lists.shape.known();
+        tracker.followed(&lists, run)?;
+        if lacks {
+            return Err(AuditFault::Memory);
+        }
+        Ok(list)
+    }
 }
 
 /// The accepting tries of a database in a run, by their last steps. Where the workers don't follow
@@ -180,12 +289,7 @@ pub fn versions(
     ensures undisturbed { IfOk result (λ list. AreUndisturbed run.now.setup shape.now run.now.entries (map shown list.items)) }
     ensures err { IfErr result (IsAuditFault (database_rules run.now.setup shape.now) run.now.entries) }
 {
-    run.known();
-    shape.known();
-    let lists = Lists::new(shape, run.setup());
-    followed(run, &lists)?;
-    let Ok(list) = accepted_tries(alloc, run, &lists) else {
-        return Err(AuditFault::Memory);
-    };
-    Ok(list)
+    let mut audit = VersionAudit::new(alloc, shape, run.setup());
+    walk(run, &mut audit);
+    audit.versions(run)
 }

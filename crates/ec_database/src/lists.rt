@@ -43,7 +43,7 @@ fn is_cell(shape: &DatabaseShape, x: CellId) -> bool
 }
 
 /// Whether an act names an object of the database.
-pub(crate) fn is_on(shape: &DatabaseShape, act: &Act) -> bool
+pub fn is_on(shape: &DatabaseShape, act: &Act) -> bool
     ensures { result ≡ is_on shape.now act.now }
 {
     match act {

@@ -1,10 +1,18 @@
--- What the audit of a semaphore keeps in a walk over a run.
-use Rattle.std.specs.Prelude.{◌≡◌, ℕ, List}
+-- What the audits of a semaphore and of its guarded parts keep in a walk over a run.
+use Rattle.std.specs.Prelude.{◌≡◌, ℕ, Bool, false, List}
+use Rattle.ec_count.specs.Tables.{Tables, IsDeclared}
 use Rattle.ec_core.specs.declared.act.Entry.{Entry}
+use Rattle.ec_core.specs.Acceptance.{IsAccepted}
+use Rattle.ec_core.specs.Following.{Follow}
 use Rattle.ec_core.specs.Scanning.{Tracked, IsTracked}
+use Rattle.ec_semaphore.specs.declared.pair.Pair.{Pair}
+use Rattle.ec_semaphore.specs.declared.pairing.Drawn.{Drawn}
 use Rattle.ec_semaphore.specs.Shapes.{Semaphore}
 use Rattle.ec_semaphore.specs.Uses.{use_rules}
-use Rattle.ec_semaphore.specs.Keeping.{kept_of_use}
+use Rattle.ec_semaphore.specs.Keeping.{kept_of_use, kept_of_both}
+use Rattle.ec_semaphore.specs.Both.{is_line, both_rules}
+use Rattle.ec_semaphore.specs.Completing.{AreDrawn}
+use Rattle.ec_semaphore.specs.Pairs.{pairs_in}
 use Rattle.ec_semaphore.specs.Balances.{downs, ups}
 
 -- the semaphore, what is kept of its workers, and how many P and V are finished
@@ -23,3 +31,28 @@ pub record IsCounted (a : Balancing) (past : List Entry) : Type 0 where
 -- of the same semaphore, after a past
 abbrev pub BalancesOn : Balancing → Balancing → List Entry → Type 0
 BalancesOn start now past = (now.shape ≡ start.shape) × IsCounted now past
+
+-- the common semaphore and those that a guarded part may draw from, what is kept of the workers, the latest ticket of
+-- each, the pairs, and whether there was no memory for one
+pub record Pairing : Type 0 where
+  pub common : Semaphore
+  pub shapes : List Semaphore
+  pub tracked : Tracked
+  pub latest : List Drawn
+  pub pairs : List Pair
+  pub lacks : Bool
+
+-- the latest tickets and the pairs are those of a past
+pub record ArePaired (c : Semaphore) (lines : ℕ → Bool) (latest : List Drawn) (list : List Pair) (past : List Entry) : Type 0 where
+  pub drawn : AreDrawn c lines latest past
+  pub pairs : list ≡ pairs_in c lines past
+
+-- it is that after a past; the tickets and the pairs, where the past is one of a run and follows
+pub record IsPairing (a : Pairing) (past : List Entry) : Type 0 where
+  pub tracked : IsTracked (both_rules a.common (is_line a.common a.shapes)) kept_of_both a.tracked past
+  pub paired : a.lacks ≡ false → (t : Tables) → IsDeclared t → IsAccepted t past → Follow (both_rules a.common (is_line a.common a.shapes)) past
+      → ArePaired a.common (is_line a.common a.shapes) a.latest a.pairs past
+
+-- of the same semaphores, after a past
+abbrev pub PairsOn : Pairing → Pairing → List Entry → Type 0
+PairsOn start now past = (now.common ≡ start.common) × (now.shapes ≡ start.shapes) × IsPairing now past

@@ -25,7 +25,7 @@ pub use laws::{
     tickets_agree,
 };
 pub use pair::Pair;
-pub use pairing::pairs;
+pub use pairing::{PairAudit, pairs};
 pub use parts::Balance;
 pub use shape::{INITIAL_MAX, SemaphoreShape, declare_both, declare_semaphore};
 pub use up::Up;

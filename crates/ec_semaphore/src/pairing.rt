@@ -1,20 +1,26 @@
 //! The pairs of tickets that a run draws.
-ghost use Rattle.std.specs.Prelude.{◌≡◌, ◌↔◌, List, [], ◌∷◌, ◌++◌, length, option_to_list, reverse, IsOk, IfOk, OnOk, IfErr};
+ghost use Rattle.std.specs.Prelude.{◌≡◌, ℕ, Bool, false, List, [], ◌∷◌, ◌++◌, option_to_list, reverse, IsOk, IfOk, OnOk, IfErr};
 ghost use Rattle.std.specs.List.{AllPairs};
+ghost use Rattle.ec_count.specs.Tables.{Tables, IsDeclared};
+ghost use Rattle.ec_core.specs.declared.act.Entry.{Entry};
+ghost use Rattle.ec_core.specs.Acceptance.{IsAccepted};
 ghost use Rattle.ec_core.specs.Audits.{IsAuditFault};
-ghost use Rattle.ec_core.specs.Following.{Told, Follow};
+ghost use Rattle.ec_core.specs.Following.{Told, block, Follow};
 ghost use Rattle.ec_core.specs.CallLists.{number_of};
-ghost use Rattle.ec_semaphore.specs.Both.{is_line, both_rules};
-ghost use Rattle.ec_semaphore.specs.Completing.{IsDrawn, drawn_after};
+ghost use Rattle.ec_semaphore.specs.Auditing.{IsPairing};
+ghost use Rattle.ec_semaphore.specs.Both.{is_line, both_rule, both_rules};
+ghost use Rattle.ec_semaphore.specs.Completing.{IsDrawn, AreDrawn, drawn_after};
 ghost use Rattle.ec_semaphore.specs.InOrder.{ArePairs};
 ghost use Rattle.ec_semaphore.specs.Keeping.{kept_of_both};
 ghost use Rattle.ec_semaphore.specs.Pairs.{IsEarlier, pair_with, pairs_of};
+ghost use Rattle.ec_semaphore.specs.Shapes.{Semaphore};
 
 use crate::guarded::Guarded;
 use crate::{Pair, SemaphoreShape};
-use ec_core::{Act, AuditFault, Entry, Kept, Reply, Run, Scan, followed};
+use ec_core::{Act, Audit, AuditFault, Entry, Kept, Reply, Run, Tracker, walk};
 use ec_count::SeqId;
 use std::alloc::{AllocError, Global};
+use std::marker::Model;
 
 /// A ticket, and the sequencer that it was drawn from.
 #[derive(Clone, Copy, Debug)]
@@ -63,6 +69,19 @@ fn completed(kept: &Kept, latest: Drawn, entry: &Entry) -> Option<Pair>
     }
 }
 
+/// The pair that an entry completes, whose worker's latest ticket is then noted.
+fn note_drawn(kept: &Kept, entry: &Entry, latest: &mut [Drawn; 16]) -> Option<Pair>
+    ensures { (c : Semaphore) (lines : ℕ → Bool) (t : Tables) (past : List Entry)
+        → kept.now ≡ kept_of_both (block (both_rule c lines) entry.now.worker past) → IsDeclared t
+        → IsAccepted t (entry.now ∷ past) → Follow (both_rules c lines) (entry.now ∷ past) → AreDrawn c lines latest.old past
+        → (result ≡ pair_with (block (both_rule c lines) entry.now.worker past) entry.now) × AreDrawn c lines latest.new (entry.now ∷ past) }
+{
+    let worker = entry.worker.get();
+    let pair = completed(kept, latest[worker], entry);
+    latest[worker] = drawn_after(latest[worker], entry);
+    pair
+}
+
 /// Adds a pair, where there is one.
 fn add(pairs: &mut Vec<Pair>, pair: Option<Pair>) -> Result<(), AllocError>
     ensures { OnOk result (pairs.new.items ≡ pairs.old.items ++ option_to_list pair) }
@@ -73,26 +92,87 @@ fn add(pairs: &mut Vec<Pair>, pair: Option<Pair>) -> Result<(), AllocError>
     Ok(())
 }
 
-/// The pairs of a run whose workers follow the guarded parts.
-fn pairs_in(alloc: Global, run: &Run, guarded: &Guarded) -> Result<Vec<Pair>, AllocError>
-    requires { Follow (both_rules guarded.now.common (is_line guarded.now.common guarded.now.shapes.now)) (reverse run.now.entries) }
-    ensures { IfOk result (λ ps. ps.items ≡ pairs_of guarded.now.common guarded.now.shapes.now run.now.entries) }
+/// Adds a pair, where there is one, as long as the list could grow. Whether it could not, now or
+/// before.
+fn lacks_after(lacks: bool, pairs: &mut Vec<Pair>, pair: Option<Pair>) -> bool
+    ensures before { result ≡ false → lacks ≡ false }
+    ensures pairs { result ≡ false → pairs.new.items ≡ pairs.old.items ++ option_to_list pair }
 {
-    run.known();
-    let mut scan = Scan::new(guarded);
-    let mut latest = [Drawn {
-        line: SeqId::new(0).unwrap(),
-        number: 0,
-    }; 16];
-    let mut pairs = Vec::new(alloc);
-    for entry in run.entries() {
-        let place = entry.worker.get();
-        let pair = completed(&scan.kept(entry.worker), latest[place], &entry);
-        add(&mut pairs, pair)?;
-        latest[place] = drawn_after(latest[place], &entry);
-        scan.take(guarded, &entry);
+    lacks || add(pairs, pair).is_err()
+}
+
+/// The audit of the guarded parts of P on two of these semaphores, in a walk over a run. It takes
+/// each entry, since within a guarded part a worker makes no other call.
+#[derive(Drop)]
+pub struct PairAudit<'a> {
+    guarded: Guarded<'a>,
+    tracker: Tracker,
+    latest: [Drawn; 16],
+    pairs: Vec<Pair>,
+    lacks: bool,
+}
+
+impl<'a> Model for PairAudit<'a> {
+    ghost use Rattle.ec_semaphore.specs.Auditing.{Pairing};
+
+    ghost Value = { Pairing };
+
+    ghost view = { λ s. record { common = s.guarded.common; shapes = s.guarded.shapes.now; tracked = s.tracker; latest = s.latest; pairs = s.pairs.items; lacks = s.lacks } };
+}
+
+impl<'a> Audit for PairAudit<'a> {
+    ghost use Rattle.ec_semaphore.specs.Auditing.{PairsOn};
+
+    ghost stands = { PairsOn };
+
+    fn take(&mut self, place: usize, op: &Act, entry: &Entry) {
+        let kept = self.tracker.kept(entry.worker);
+        let pair = note_drawn(&kept, entry, &mut self.latest);
+        self.lacks = lacks_after(self.lacks, &mut self.pairs, pair);
+        self.tracker.take(&self.guarded, place, op, entry);
     }
-    Ok(pairs)
+}
+
+impl<'a> PairAudit<'a> {
+    /// Before the first entry.
+    pub fn new(alloc: Global, common: SemaphoreShape, shapes: &'a [SemaphoreShape]) -> Self
+        ensures common { result.common ≡ common }
+        ensures shapes { result.shapes ≡ shapes.now }
+        ensures first { IsPairing result [] }
+    {
+        let guarded = Guarded::new(common, shapes);
+        let tracker = Tracker::new(&guarded);
+        let none = Drawn {
+            line: SeqId::new(0).unwrap(),
+            number: 0,
+        };
+        let pairs = Vec::new(alloc);
+        PairAudit {
+            guarded,
+            tracker,
+            latest: [none; 16],
+            pairs,
+            lacks: false,
+        }
+    }
+
+    /// The pairs after all entries of a run whose workers follow the guarded parts. Where they
+    /// don't, the first entry that breaks the lists of calls is told.
+    pub fn pairs(self, run: &Run) -> Result<Vec<Pair>, AuditFault>
+        requires { IsPairing self (reverse run.now.entries) }
+        ensures followed { IsOk result → Follow (both_rules self.entry.common (is_line self.entry.common self.entry.shapes)) (reverse run.now.entries) }
+        ensures pairs { IfOk result (λ ps. ps.items ≡ pairs_of self.entry.common self.entry.shapes run.now.entries) }
+        ensures drawn { IfOk result (λ ps. ArePairs self.entry.common (is_line self.entry.common self.entry.shapes) run.now.entries ps.items) }
+        ensures ordered { IfOk result (λ ps. AllPairs IsEarlier ps.items) }
+        ensures err { IfErr result (IsAuditFault (both_rules self.entry.common (is_line self.entry.common self.entry.shapes)) run.now.entries) }
+    {
+        run.known();
+        self.tracker.followed(&self.guarded, run)?;
+        if self.lacks {
+            return Err(AuditFault::Memory);
+        }
+        Ok(self.pairs)
+    }
 }
 
 /// The pairs of tickets that the P on two of these semaphores draw in a run whose workers follow
@@ -115,13 +195,7 @@ pub fn pairs(
     ensures ordered { IfOk result (λ ps. AllPairs IsEarlier ps.items) }
     ensures err { IfErr result (IsAuditFault (both_rules common.now (is_line common.now shapes.now)) run.now.entries) }
 {
-    run.known();
-    let guarded = Guarded::new(*common, shapes);
-    if let Err(fault) = followed(run, &guarded) {
-        return Err(fault);
-    }
-    let Ok(pairs) = pairs_in(alloc, run, &guarded) else {
-        return Err(AuditFault::Memory);
-    };
-    Ok(pairs)
+    let mut audit = PairAudit::new(alloc, *common, shapes);
+    walk(run, &mut audit);
+    audit.pairs(run)
 }

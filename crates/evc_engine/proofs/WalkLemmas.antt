@@ -1,12 +1,10 @@
 -- Each entry is handed to the audit of the group that its call is on, and the others stand as they are.
-use Rattle.std.proofs.Common.{◌≡◌, ◌≢◌, ℕ, ◌+◌, ◌<◌, ◌≤◌, true, false, List, [], ◌∷◌, ◌++◌, length, Some, refl, ap, sym, ◌∙◌, subst, arith, true≢false, cond, ◌==◌, ◌⊎◌, inl, inr, slice_get, slice_set, get_or, below_more, length-append}
-use Rattle.std.specs.List.{list_all}
+use Rattle.std.proofs.Common.{◌≡◌, ◌≢◌, ℕ, suc, zero-add, add-zero, ◌+◌, ◌<◌, ◌≤◌, true, false, List, [], ◌∷◌, ◌++◌, length, Some, refl, ap, sym, ◌∙◌, subst, arith, true≢false, cond, ◌==◌, ◌⊎◌, inl, inr, slice_get, slice_set, below_more, length-append}
 use Rattle.std.proofs.lemmas.Bool.{eqb-true, eqb-false, eq-eqb}
-use Rattle.std.proofs.lemmas.List.Sums.{AllPass-from_list_all}
-use Rattle.std.proofs.lemmas.Option.{slice_get_within, slice_get-get_or}
+use Rattle.std.proofs.lemmas.Option.{slice_get_within}
 use Rattle.ec_count.proofs.shared.Keeping.{still_there}
 use Rattle.ec_core.specs.declared.act.Act.{Act}
-use Rattle.ec_core.specs.declared.act.Act.TheVariants.{Advance, Read, Await, Hand}
+use Rattle.ec_core.specs.declared.act.Act.TheVariants.{Advance, Read, Await, Put, Get, Hand}
 use Rattle.ec_core.specs.declared.act.Entry.{Entry}
 use Rattle.ec_core.specs.Calls.{under_way}
 use Rattle.ec_core.specs.Following.{opened}
@@ -14,6 +12,15 @@ use Rattle.ec_core.proofs.shared.Following.{op_at}
 use Rattle.ec_core.proofs.shared.Joining.{get_back}
 use Rattle.ec_core.proofs.shared.Places.{get_set}
 use Rattle.ec_order.proofs.shared.Matching.{at_index}
+use Rattle.ec_count.specs.Tables.{Tables}
+use Rattle.ec_buffer.specs.Auditing.{Delivering, DeliversOn}
+use Rattle.ec_buffer.specs.Follows as buffers
+use Rattle.ec_buffer.specs.Shapes.{Buffer}
+use Rattle.ec_buffer.proofs.shared.LeftOut.{delivering_off}
+use Rattle.ec_database.specs.Auditing.{Versioning, VersionsOn}
+use Rattle.ec_database.specs.Following as databases
+use Rattle.ec_database.specs.Shapes.{Database}
+use Rattle.ec_database.proofs.shared.LeftOut.{versioning_off}
 use Rattle.ec_semaphore.specs.Auditing.{Balancing, BalancesOn}
 use Rattle.ec_semaphore.specs.Shapes.{Semaphore}
 use Rattle.ec_semaphore.specs.Uses as semaphores
@@ -23,7 +30,7 @@ use Rattle.ec_heading.specs.declared.group.Group.TheVariants as groups
 use Rattle.evc_engine.specs.declared.table.Span.{Span}
 use Rattle.evc_engine.specs.declared.walked.Auditing.{Auditing}
 use Rattle.evc_engine.specs.declared.walked.Auditing.TheVariants as audits
-use Rattle.evc_engine.specs.Walks.{is_on, CoversFirst, Covers, CoversAt, is_alone, CountsFor, StandsFor, Hands, HandsTo, HandsAmong, EachStands}
+use Rattle.evc_engine.specs.Walks.{is_on, CoversFirst, Covers, CoversAt, DeliversFor, VersionsFor, CountsFor, StandsFor, Hands, HandsTo, HandsAmong, EachFrom, EachStands}
 
 -- THE TABLE
 
@@ -92,16 +99,38 @@ on_hand e b (groups.Database d) = refl
 on_hand e b (groups.Semaphore s) = refl
 on_hand e b (groups.Both s) = refl
 
+pub on_put : (y v : ℕ) (g : Group) → is_on g (Put y v) ≡ is_on g (Get y)
+on_put y v (groups.Buffer b) = refl
+on_put y v (groups.Database d) = refl
+on_put y v (groups.Semaphore s) = refl
+on_put y v (groups.Both s) = refl
+
 -- THE AUDITS
 
 module _ (place : ℕ) (op : Act) (x : Entry) where
+  pub hands_deliveries : (a b : Delivering)
+      → ((start : Delivering) (past : List Entry) → place ≡ length past → op ≡ opened x.act (under_way x.worker past) → DeliversOn start a past → DeliversOn start b (x ∷ past))
+      → Hands place op x (audits.Deliveries a) (audits.Deliveries b)
+  hands_deliveries a b take t (groups.Buffer s) past at is stands = (let k = take a past at is (refl, refl, stands.2) in (k.0 ∙ stands.0, k.1 ∙ stands.1, k.2))
+  hands_deliveries a b take t (groups.Database d) past at is stands = absurd stands
+  hands_deliveries a b take t (groups.Semaphore s) past at is stands = absurd stands
+  hands_deliveries a b take t (groups.Both s) past at is stands = absurd stands
+
+  pub hands_versions : (a b : Versioning)
+      → ((start : Versioning) (past : List Entry) → place ≡ length past → op ≡ opened x.act (under_way x.worker past) → VersionsOn start a past → VersionsOn start b (x ∷ past))
+      → Hands place op x (audits.Versions a) (audits.Versions b)
+  hands_versions a b take t (groups.Database d) past at is stands = (let k = take a past at is (refl, refl, stands.2) in (k.0 ∙ stands.0, k.1 ∙ stands.1, k.2))
+  hands_versions a b take t (groups.Buffer s) past at is stands = absurd stands
+  hands_versions a b take t (groups.Semaphore s) past at is stands = absurd stands
+  hands_versions a b take t (groups.Both s) past at is stands = absurd stands
+
   pub hands_balance : (a b : Balancing)
       → ((start : Balancing) (past : List Entry) → place ≡ length past → op ≡ opened x.act (under_way x.worker past) → BalancesOn start a past → BalancesOn start b (x ∷ past))
       → Hands place op x (audits.Balance a) (audits.Balance b)
-  hands_balance a b take (groups.Semaphore s) past at is stands = (let k = take a past at is (refl, stands.1) in (k.0 ∙ stands.0, k.1))
-  hands_balance a b take (groups.Both s) past at is stands = (let k = take a past at is (refl, stands.1) in (k.0 ∙ stands.0, k.1))
-  hands_balance a b take (groups.Buffer g) past at is stands = tt
-  hands_balance a b take (groups.Database d) past at is stands = tt
+  hands_balance a b take t (groups.Semaphore s) past at is stands = (let k = take a past at is (refl, stands.1) in (k.0 ∙ stands.0, k.1))
+  hands_balance a b take t (groups.Both s) past at is stands = (let k = take a past at is (refl, stands.1) in (k.0 ∙ stands.0, k.1))
+  hands_balance a b take t (groups.Buffer g) past at is stands = absurd stands
+  hands_balance a b take t (groups.Database d) past at is stands = absurd stands
 
   -- one audit has taken the entry in
   pub hands_one : (old : List Auditing) (n : ℕ) (a b : Auditing) → n < length old → slice_get old n ≡ Some a → Hands place op x a b → HandsTo n place op x old (slice_set old n b)
@@ -153,28 +182,41 @@ module _ (place : ℕ) (op : Act) (x : Entry) where
       go i a b (inr k) (c, got, inr s) = (let other : i ≢ n = s.1 in (c, got, inr (s.0 ∙ k.0, λ from before. k.1 from (omega arith))))
 
 -- an audit stands for its group also after an entry whose call is not on the group
+delivers_off : (t : Tables) (b : Buffer) (a : Auditing) (x : Entry) (past : List Entry) → buffers.is_on b (op_at x past) ≡ false → DeliversFor t b a past → DeliversFor t b a (x ∷ past)
+delivers_off t b (audits.Deliveries a) x past off stands =
+    (stands.0, stands.1, delivering_off a x past (subst (λ (z : Buffer). buffers.is_on z (op_at x past) ≡ false) (sym stands.0) off) stands.2)
+delivers_off t b (audits.Versions a) x past off stands = stands
+delivers_off t b (audits.Balance a) x past off stands = stands
+
+versions_off : (t : Tables) (d : Database) (a : Auditing) (x : Entry) (past : List Entry) → databases.is_on d (op_at x past) ≡ false → VersionsFor t d a past → VersionsFor t d a (x ∷ past)
+versions_off t d (audits.Versions a) x past off stands =
+    (stands.0, stands.1, versioning_off a x past (subst (λ (z : Database). databases.is_on z (op_at x past) ≡ false) (sym stands.0) off) stands.2)
+versions_off t d (audits.Deliveries a) x past off stands = stands
+versions_off t d (audits.Balance a) x past off stands = stands
+
 counts_off : (s : Semaphore) (a : Auditing) (x : Entry) (past : List Entry) → semaphores.is_on s (op_at x past) ≡ false → CountsFor s a past → CountsFor s a (x ∷ past)
 counts_off s (audits.Balance a) x past off stands =
     (stands.0, counted_off a x past (subst (λ (z : Semaphore). semaphores.is_on z (op_at x past) ≡ false) (sym stands.0) off) stands.1)
-counts_off s audits.Alone x past off stands = stands
+counts_off s (audits.Deliveries a) x past off stands = stands
+counts_off s (audits.Versions a) x past off stands = stands
 
-pub stands_off : (g : Group) (a : Auditing) (x : Entry) (past : List Entry) → is_on g (op_at x past) ≡ false → StandsFor g a past → StandsFor g a (x ∷ past)
-stands_off (groups.Semaphore s) a x past off stands = counts_off s a x past off stands
-stands_off (groups.Both s) a x past off stands = counts_off s a x past off stands
-stands_off (groups.Buffer b) a x past off stands = tt
-stands_off (groups.Database d) a x past off stands = tt
+pub stands_off : (t : Tables) (g : Group) (a : Auditing) (x : Entry) (past : List Entry) → is_on g (op_at x past) ≡ false → StandsFor t g a past → StandsFor t g a (x ∷ past)
+stands_off t (groups.Buffer b) a x past off stands = delivers_off t b a x past off stands
+stands_off t (groups.Database d) a x past off stands = versions_off t d a x past off stands
+stands_off t (groups.Semaphore s) a x past off stands = counts_off s a x past off stands
+stands_off t (groups.Both s) a x past off stands = counts_off s a x past off stands
 
 -- one more entry, handed to the audits of the groups that its call may be on
-pub each_taken : (gs : List Group) (span : Span) (place : ℕ) (op : Act) (x : Entry) (old new : List Auditing) (past : List Entry)
-    → place ≡ length past → op ≡ op_at x past → Covers gs op span → HandsAmong span place op x old new → EachStands gs old past → EachStands gs new (x ∷ past)
-each_taken gs span place op x old new past at is covers hands each = λ i g here.
+pub each_taken : (t : Tables) (gs : List Group) (span : Span) (place : ℕ) (op : Act) (x : Entry) (old new : List Auditing) (past : List Entry)
+    → place ≡ length past → op ≡ op_at x past → Covers gs op span → HandsAmong span place op x old new → EachStands t gs old past → EachStands t gs new (x ∷ past)
+each_taken t gs span place op x old new past at is covers hands each = λ i g here.
     (let was = each i g here in
     let now = hands i was.0 was.1 in (
       now.0,
       now.1,
       elim now.2 [
-        | inl k ↦ k g past at is was.2
-        | inr k ↦ subst (λ z. StandsFor g z (x ∷ past)) (sym k.0) (stands_off g was.0 x past (subst (λ o. is_on g o ≡ false) is (off i g here k.1)) was.2)
+        | inl k ↦ k t g past at is was.2
+        | inr k ↦ subst (λ z. StandsFor t g z (x ∷ past)) (sym k.0) (stands_off t g was.0 x past (subst (λ o. is_on g o ≡ false) is (off i g here k.1)) was.2)
       ],
     ))
   where
@@ -188,65 +230,46 @@ each_taken gs span place op x old new past at is covers hands each = λ i g here
 -- BEFORE THE FIRST ENTRY
 
 -- the first n groups have their audits
-abbrev pub StandsFirst : List Group → List Auditing → List Entry → ℕ → Type 0
-StandsFirst gs list past n = (i : ℕ) → i < n → (g : Group) → slice_get gs i ≡ Some g → (a : Auditing) × (slice_get list i ≡ Some a) × StandsFor g a past
+abbrev pub StandsFirst : Tables → List Group → List Auditing → List Entry → ℕ → Type 0
+StandsFirst t gs list past n = (i : ℕ) → i < n → (g : Group) → slice_get gs i ≡ Some g → (a : Auditing) × (slice_get list i ≡ Some a) × StandsFor t g a past
 
-pub stands_none : (gs : List Group) (list : List Auditing) (past : List Entry) → StandsFirst gs list past 0
-stands_none gs list past = λ i less g at. absurd (omega arith)
+pub stands_none : (t : Tables) (gs : List Group) (list : List Auditing) (past : List Entry) → StandsFirst t gs list past 0
+stands_none t gs list past = λ i less g at. absurd (omega arith)
 
-pub stands_more : (gs : List Group) (list more : List Auditing) (past : List Entry) (n : ℕ) (g : Group) (a : Auditing) → more ≡ list ++ a ∷ [] → length list ≡ n → slice_get gs n ≡ Some g
-    → StandsFirst gs list past n → StandsFor g a past → StandsFirst gs more past (n + 1)
-stands_more gs list more past n g a is long at each here =
-    subst (λ l. StandsFirst gs l past (n + 1)) (sym is)
-    (below_more (λ i. (f : Group) → slice_get gs i ≡ Some f → (b : Auditing) × (slice_get (list ++ a ∷ []) i ≡ Some b) × StandsFor f b past) n
+pub stands_more : (t : Tables) (gs : List Group) (list more : List Auditing) (past : List Entry) (n : ℕ) (g : Group) (a : Auditing) → more ≡ list ++ a ∷ [] → length list ≡ n → slice_get gs n ≡ Some g
+    → StandsFirst t gs list past n → StandsFor t g a past → StandsFirst t gs more past (n + 1)
+stands_more t gs list more past n g a is long at each here =
+    subst (λ l. StandsFirst t gs l past (n + 1)) (sym is)
+    (below_more (λ i. (f : Group) → slice_get gs i ≡ Some f → (b : Auditing) × (slice_get (list ++ a ∷ []) i ≡ Some b) × StandsFor t f b past) n
     (λ i less f got. (let was = each i less f got in (was.0, still_there list (a ∷ []) i was.0 was.1, was.2)))
     (λ f got.
     (let same : g ≡ f = cc in
-    (a, get_back list (a ∷ []) n 0 (omega arith), subst (λ z. StandsFor z a past) same here))))
+    (a, get_back list (a ∷ []) n 0 (omega arith), subst (λ z. StandsFor t z a past) same here))))
 
 pub one_longer : (list more : List Auditing) (a : Auditing) (n : ℕ) → more ≡ list ++ a ∷ [] → length list ≡ n → length more ≡ n + 1
 one_longer list more a n is long = ap length is ∙ length-append list (a ∷ []) ∙ ap (λ k. k + 1) long
 
-pub stands_all : (gs : List Group) (list : List Auditing) (past : List Entry) (n : ℕ) → length gs ≤ n → StandsFirst gs list past n → EachStands gs list past
-stands_all gs list past n all each = λ i g at. (let less : i < length gs = slice_get_within gs i g at in each i (omega arith) g at)
+pub stands_all : (t : Tables) (gs : List Group) (list : List Auditing) (past : List Entry) (n : ℕ) → length gs ≤ n → StandsFirst t gs list past n → EachStands t gs list past
+stands_all t gs list past n all each = λ i g at. (let less : i < length gs = slice_get_within gs i g at in each i (omega arith) g at)
 
--- WITHOUT A WALK
+-- where there are no groups
+pub stands_nowhere : (t : Tables) (gs : List Group) (list : List Auditing) (past : List Entry) → length gs ≡ 0 → EachStands t gs list past
+stands_nowhere t gs list past none = λ i g at. (let less : i < length gs = slice_get_within gs i g at in absurd (omega arith))
 
-alone_at : (list : List Auditing) (i : ℕ) (a : Auditing) → list_all is_alone list ≡ true → slice_get list i ≡ Some a → is_alone a ≡ true
-alone_at list i a all at =
-    (let less : i < length list = slice_get_within list i a at in
-    let got : slice_get list i ≡ Some (get_or list i a) = slice_get-get_or list i a less in
-    let same : get_or list i a ≡ a = cc in
-    sym (ap is_alone same) ∙ AllPass-from_list_all is_alone list all i a less)
+-- ONE GROUP AFTER ANOTHER
 
-alone_counts : (s : Semaphore) (a : Auditing) (past : List Entry) → is_alone a ≡ true → CountsFor s a [] → CountsFor s a past
-alone_counts s (audits.Balance a) past alone stands = absurd (true≢false (sym alone))
-alone_counts s audits.Alone past alone stands = absurd stands
+pub from_first : (t : Tables) (gs : List Group) (list : List Auditing) (past : List Entry) → EachStands t gs list past → EachFrom t gs 0 list past
+from_first t gs list past each = λ i g at. each i g (ap (slice_get gs) (sym (zero-add i)) ∙ at)
 
-alone_stands : (g : Group) (a : Auditing) (past : List Entry) → is_alone a ≡ true → StandsFor g a [] → StandsFor g a past
-alone_stands (groups.Semaphore s) a past alone stands = alone_counts s a past alone stands
-alone_stands (groups.Both s) a past alone stands = alone_counts s a past alone stands
-alone_stands (groups.Buffer b) a past alone stands = tt
-alone_stands (groups.Database d) a past alone stands = tt
+pub from_here : (t : Tables) (gs : List Group) (n : ℕ) (a : Auditing) (rest : List Auditing) (past : List Entry) (g : Group) → EachFrom t gs n (a ∷ rest) past → slice_get gs n ≡ Some g → StandsFor t g a past
+from_here t gs n a rest past g each at =
+    (let here = each 0 g (ap (slice_get gs) (add-zero n) ∙ at) in
+    let same : here.0 ≡ a = cc in
+    subst (λ z. StandsFor t g z past) same here.2)
 
--- audits that are made in walks of their own stand after any past as before the first entry
-pub each_alone : (gs : List Group) (list : List Auditing) (past : List Entry) → list_all is_alone list ≡ true → EachStands gs list [] → EachStands gs list past
-each_alone gs list past all each = λ i g at.
-    (let was = each i g at in (
-      was.0,
-      was.1,
-      alone_stands g was.0 past (alone_at list i was.0 all was.1) was.2,
-    ))
+pub from_next : (t : Tables) (gs : List Group) (n : ℕ) (a : Auditing) (rest : List Auditing) (past : List Entry) → EachFrom t gs n (a ∷ rest) past → EachFrom t gs (n + 1) rest past
+from_next t gs n a rest past each = λ i g at. each (suc i) g (ap (slice_get gs) (omega arith) ∙ at)
 
--- AFTER THE WALK
-
--- each group has an audit
-pub stands_long : (gs : List Group) (list : List Auditing) (past : List Entry) (i : ℕ) → EachStands gs list past → i < length gs → i < length list
-stands_long gs list past i each less = (let g = at_index gs i less in let got = each i g.0 g.1 in slice_get_within list i got.0 got.1)
-
-pub stands_at : (gs : List Group) (list : List Auditing) (past : List Entry) (i : ℕ) (g : Group) (a : Auditing) → EachStands gs list past → slice_get gs i ≡ Some g → slice_get list i ≡ Some a → StandsFor g a past
-stands_at gs list past i g a each at got =
-    (let its = each i g at in
-    let found : slice_get list i ≡ Some its.0 = its.1 in
-    let same : its.0 ≡ a = cc in
-    subst (λ z. StandsFor g z past) same its.2)
+-- there is one, where a group is left
+pub from_some : (t : Tables) (gs : List Group) (n : ℕ) (past : List Entry) (g : Group) → EachFrom t gs n [] past → slice_get gs n ≡ Some g → ⊥
+from_some t gs n past g each at = (let here = each 0 g (ap (slice_get gs) (add-zero n) ∙ at) in cc)

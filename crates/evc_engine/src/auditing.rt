@@ -1,13 +1,18 @@
 //! `audit`: a trace in; what the audits of its groups found out.
-ghost use Rattle.std.specs.Prelude.{◌≡◌, ◌↔◌, ℕ, ◌+◌, ◌^◌, ◌<◌, ◌≤◌, ◌++◌, ◌∷◌, [], IsOk, IfSome, IfOk, IfErr, OnOk, reverse};
+ghost use Rattle.std.specs.Prelude.{◌≡◌, ◌↔◌, ℕ, ◌+◌, ◌^◌, ◌<◌, ◌≤◌, ◌++◌, ◌∷◌, [], IsOk, IfSome, IfOk, IfErr, OnOk, map, reverse};
 ghost use Rattle.ec_core.specs.Audits.{IsAuditFault, IsFirstBreak};
 ghost use Rattle.ec_core.specs.Following.{Follow};
+ghost use Rattle.ec_buffer.specs.Follows.{FollowsBuffer, buffer_rules};
+ghost use Rattle.ec_buffer.specs.Items.{AreDeliveries};
+ghost use Rattle.ec_database.specs.Auditing.{shown};
+ghost use Rattle.ec_database.specs.Following.{FollowsDatabase, database_rules};
+ghost use Rattle.ec_database.specs.Tries.{ListsTries, AreUndisturbed};
 ghost use Rattle.ec_semaphore.specs.Balances.{parts_of};
 ghost use Rattle.ec_semaphore.specs.Uses.{use_rules};
 ghost use Rattle.ec_semaphore.specs.Both.{is_line, both_rules};
 ghost use Rattle.ec_heading.specs.Groups.{FitsGroup};
 ghost use Rattle.evc_engine.specs.AuditTexts.{now_of};
-ghost use Rattle.evc_engine.specs.Walks.{CountsFor, StandsFor};
+ghost use Rattle.evc_engine.specs.Walks.{DeliversFor, VersionsFor, CountsFor, StandsFor};
 ghost use Rattle.evc_engine.specs.Notes.{IsWrittenOut};
 ghost use Rattle.ec_heading.specs.Rules.{semaphores_of, group_rules};
 ghost use Rattle.evc_engine.specs.Audits.{IsPairsOf, IsAudited, AreAudited, IsStop, stop_status, stop_note, AuditEnds, Audits};
@@ -19,9 +24,9 @@ use crate::checking::status_of;
 use crate::notes::Notes;
 use crate::status::Status;
 use crate::walked::{Auditing, audits_of};
-use ec_buffer::deliveries;
+use ec_buffer::{BufferShape, Delivery};
 use ec_core::{AuditFault, Run};
-use ec_database::versions;
+use ec_database::{Accepted, DatabaseShape};
 use ec_semaphore::{Balance, SemaphoreShape, pairs};
 use ec_trace::{Group, Heading, Traced, read_trace};
 use std::alloc::{AllocError, Global};
@@ -61,8 +66,49 @@ fn semaphores_of(alloc: Global, groups: &[Group]) -> Result<Vec<SemaphoreShape>,
     Ok(list)
 }
 
+/// The deliveries of a buffer, from its audit in the walk over the whole run.
+fn deliveries_of(
+    run: &Run,
+    shape: &BufferShape,
+    auditing: Auditing<'_>,
+) -> Result<Vec<Delivery>, AuditFault>
+    requires { DeliversFor run.now.setup shape.now auditing (reverse run.now.entries) }
+    ensures followed { OnOk result (FollowsBuffer run.now.setup shape.now (reverse run.now.entries)) }
+    ensures list { IfOk result (λ list. AreDeliveries run.now.setup shape.now run.now.entries list.items) }
+    ensures err { IfErr result (IsAuditFault (buffer_rules run.now.setup shape.now) run.now.entries) }
+{
+    match auditing {
+        Auditing::Deliveries(audit) => audit.deliveries(run),
+        Auditing::Versions(_) => unreachable!(),
+        Auditing::Balance(_) => unreachable!(),
+    }
+}
+
+/// The accepting tries of a database, from its audit in the walk over the whole run.
+fn versions_of(
+    run: &Run,
+    shape: &DatabaseShape,
+    auditing: Auditing<'_>,
+) -> Result<Vec<Accepted>, AuditFault>
+    requires { VersionsFor run.now.setup shape.now auditing (reverse run.now.entries) }
+    ensures followed { OnOk result (FollowsDatabase run.now.setup shape.now (reverse run.now.entries)) }
+    ensures tries { IfOk result (λ list. ListsTries run.now.setup shape.now run.now.entries (map shown list.items)) }
+    ensures undisturbed { IfOk result (λ list. AreUndisturbed run.now.setup shape.now run.now.entries (map shown list.items)) }
+    ensures err { IfErr result (IsAuditFault (database_rules run.now.setup shape.now) run.now.entries) }
+{
+    match auditing {
+        Auditing::Deliveries(_) => unreachable!(),
+        Auditing::Versions(audit) => audit.versions(run),
+        Auditing::Balance(_) => unreachable!(),
+    }
+}
+
 /// The parts of a semaphore's balance, from its audit in the walk over the whole run.
-fn balance_of(run: &Run, shape: &SemaphoreShape, auditing: &Auditing) -> Result<Balance, AuditFault>
+fn balance_of(
+    run: &Run,
+    shape: &SemaphoreShape,
+    auditing: &Auditing<'_>,
+) -> Result<Balance, AuditFault>
     requires { CountsFor shape.now auditing.now (reverse run.now.entries) }
     ensures ok { IsOk result ↔ Follow (use_rules shape.now) (reverse run.now.entries) }
     ensures parts { IfOk result (λ b. b ≡ parts_of shape.now (reverse run.now.entries)) }
@@ -71,8 +117,9 @@ fn balance_of(run: &Run, shape: &SemaphoreShape, auditing: &Auditing) -> Result<
     ensures err { IfErr result (IsFirstBreak (use_rules shape.now) run.now.entries) }
 {
     match auditing {
+        Auditing::Deliveries(_) => unreachable!(),
+        Auditing::Versions(_) => unreachable!(),
         Auditing::Balance(audit) => audit.balance(run),
-        Auditing::Alone => unreachable!(),
     }
 }
 
@@ -80,7 +127,7 @@ fn balance_of(run: &Run, shape: &SemaphoreShape, auditing: &Auditing) -> Result<
 fn balance_now(
     run: &Run,
     shape: &SemaphoreShape,
-    auditing: &Auditing,
+    auditing: &Auditing<'_>,
 ) -> Result<(Balance, u64), AuditFault>
     requires { CountsFor shape.now auditing.now (reverse run.now.entries) }
     ensures ok { IsOk result ↔ Follow (use_rules shape.now) (reverse run.now.entries) }
@@ -99,7 +146,7 @@ fn audit_both(
     alloc: Global,
     run: &Run,
     shape: &SemaphoreShape,
-    auditing: &Auditing,
+    auditing: &Auditing<'_>,
     semaphores: &[SemaphoreShape],
 ) -> Result<Audited, AuditFault>
     requires one { shape.now.initial ≡ 1 }
@@ -122,23 +169,23 @@ fn audit_group(
     traced: &Traced,
     semaphores: &[SemaphoreShape],
     group: &Group,
-    auditing: &Auditing,
+    auditing: Auditing<'_>,
 ) -> Result<Audited, AuditFault>
     requires fits { FitsGroup traced.now.heading.setup group.now }
     requires all { semaphores.now ≡ semaphores_of traced.now.heading.groups }
-    requires stands { StandsFor group.now auditing.now (reverse traced.now.entries) }
+    requires stands { StandsFor traced.now.heading.setup group.now auditing (reverse traced.now.entries) }
     ensures ok { IfOk result (λ a. IsAudited traced.now.heading traced.now.entries group.now a) }
     ensures err { IfErr result (IsAuditFault (group_rules traced.now.heading.setup traced.now.heading.groups group.now) traced.now.entries) }
 {
     let run = traced.run();
     match group {
-        Group::Buffer(shape) => Ok(Audited::Deliveries(deliveries(alloc, run, shape)?)),
-        Group::Database(shape) => Ok(Audited::Versions(versions(alloc, run, shape)?)),
+        Group::Buffer(shape) => Ok(Audited::Deliveries(deliveries_of(run, shape, auditing)?)),
+        Group::Database(shape) => Ok(Audited::Versions(versions_of(run, shape, auditing)?)),
         Group::Semaphore(shape) => {
-            let (parts, now) = balance_now(run, shape, auditing)?;
+            let (parts, now) = balance_now(run, shape, &auditing)?;
             Ok(Audited::Balances(parts, now))
         }
-        Group::Both(shape) => audit_both(alloc, run, shape, auditing, semaphores),
+        Group::Both(shape) => audit_both(alloc, run, shape, &auditing, semaphores),
     }
 }
 
@@ -164,10 +211,15 @@ fn audit_groups(alloc: Global, traced: &Traced) -> Result<Vec<Audited>, Stop>
     let Ok(audits) = audits_of(alloc, traced.run(), groups) else {
         return Err(Stop { group: 0, fault });
     };
+    let mut rest = audits.into_iter();
     let mut found = Vec::new(alloc);
     for group in 0..groups.len() {
         let list = semaphores.as_slice();
-        let audited = match audit_group(alloc, traced, list, &groups[group], &audits[group]) {
+        let declared = &groups[group];
+        let Some(auditing) = rest.next() else {
+            unreachable!();
+        };
+        let audited = match audit_group(alloc, traced, list, declared, auditing) {
             Ok(audited) => audited,
             Err(fault) => return Err(Stop { group, fault }),
         };

@@ -1,11 +1,11 @@
 //! Which groups an act may be on, found by the object that it names.
 ghost use Rattle.std.specs.Prelude.{◌≡◌, ℕ, ◌+◌, ◌<◌, ◌≤◌, ◌^◌, List, length, Some, slice_get};
-ghost use Rattle.ec_core.specs.declared.act.Act.TheVariants.{Read, Ticket};
+ghost use Rattle.ec_core.specs.declared.act.Act.TheVariants.{Read, Ticket, Get};
 ghost use Rattle.ec_heading.specs.declared.group.Group.{Group};
 ghost use Rattle.evc_engine.specs.Walks.{is_on, CoversFirst, Covers, CoversAt, IsTable};
 
 use ec_core::Act;
-use ec_count::{EventId, SeqId};
+use ec_count::{CellId, EventId, SeqId};
 use ec_trace::Group;
 
 /// Groups whose numbers follow one another: from `first` on, before `end`.
@@ -21,21 +21,22 @@ const NOWHERE: Span = Span {
     end: 0,
 };
 
-/// The groups that each eventcount and each sequencer may be of, by its number. In a heading that
-/// is one group at most, since its groups share no object; cells are of no group in the walk.
+/// The groups that each eventcount, each sequencer and each cell may be of, by its number. In a
+/// heading that is one group at most, since its groups share no object.
 #[derive(Drop)]
 pub(crate) struct Table {
     events: [Span; 32],
     sequencers: [Span; 32],
+    cells: [Span; 256],
 }
 
-/// Whether an act names an object of a group whose audit is made in the walk.
+/// Whether an act names an object of a group. `both` is asked as the common semaphore that it has.
 fn is_on(group: &Group, act: &Act) -> bool
     ensures { result ≡ is_on group.now act.now }
 {
     match group {
-        Group::Buffer(_) => false,
-        Group::Database(_) => false,
+        Group::Buffer(shape) => ec_buffer::is_on(shape, act),
+        Group::Database(shape) => ec_database::is_on(shape, act),
         Group::Semaphore(shape) => ec_semaphore::is_on(shape, act),
         Group::Both(shape) => ec_semaphore::is_on(shape, act),
     }
@@ -126,9 +127,38 @@ fn sequencers_of(groups: &[Group]) -> [Span; 32]
     spans
 }
 
+/// The groups that a cell may be of.
+fn cell_span(groups: &[Group], number: usize) -> Span
+    requires { number < 256 }
+    ensures { Covers groups.now (Get number) result }
+{
+    match CellId::new(number) {
+        Some(cell) => span_of(groups, &Act::Get(cell)),
+        None => NOWHERE,
+    }
+}
+
+/// For each cell no group.
+fn nowhere() -> [Span; 256]
+    ensures { length result ≡ 256 }
+{
+    [NOWHERE; 256]
+}
+
+/// The groups that each cell may be of.
+fn cells_of(groups: &[Group]) -> [Span; 256]
+    ensures { (x : ℕ) → x < 256 → CoversAt groups.now (Get x) result x }
+{
+    let mut spans = nowhere();
+    for number in 0..256 {
+        spans[number] = cell_span(groups, number);
+    }
+    spans
+}
+
 /// What a table has at a place.
-fn at(spans: &[Span; 32], number: usize) -> Span
-    requires { number < 32 }
+fn at(spans: &[Span], number: usize) -> Span
+    requires { number < length spans.now }
     ensures { slice_get spans.now number ≡ Some result }
 {
     spans[number]
@@ -141,6 +171,7 @@ impl Table {
         Table {
             events: events_of(groups),
             sequencers: sequencers_of(groups),
+            cells: cells_of(groups),
         }
     }
 
@@ -154,8 +185,8 @@ impl Table {
             Act::Await(event, _) => at(&self.events, event.get()),
             Act::Go => NOWHERE,
             Act::Ticket(sequencer) => at(&self.sequencers, sequencer.get()),
-            Act::Put(_, _) => NOWHERE,
-            Act::Get(_) => NOWHERE,
+            Act::Put(cell, _) => at(&self.cells, cell.get()),
+            Act::Get(cell) => at(&self.cells, cell.get()),
             Act::Hand(event, _) => at(&self.events, event.get()),
         }
     }

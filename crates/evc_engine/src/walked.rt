@@ -1,41 +1,38 @@
 //! The audits of all groups, in one walk over the entries.
-ghost use Rattle.std.specs.Prelude.{◌≡◌, ◌+◌, ◌<◌, ◌^◌, [], reverse, IfOk};
-ghost use Rattle.std.specs.List.{list_all};
-ghost use Rattle.evc_engine.specs.Walks.{is_alone, StandsFor, Hands, HandsTo, HandsAmong, EachStands, IsWalked};
+ghost use Rattle.std.specs.Prelude.{◌≡◌, ◌+◌, ◌<◌, ◌^◌, [], length, reverse, IfOk};
+ghost use Rattle.evc_engine.specs.Walks.{StandsFor, Hands, HandsTo, HandsAmong, EachStands, IsWalked};
 
 use crate::table::{Span, Table};
+use ec_buffer::DeliveryAudit;
 use ec_core::{Act, Audit, Entry, Run, walk};
+use ec_count::Setup;
+use ec_database::VersionAudit;
 use ec_semaphore::BalanceAudit;
 use ec_trace::Group;
 use std::alloc::{AllocError, Global};
 
 /// The audit of a group.
 #[derive(Drop)]
-pub(crate) enum Auditing {
-    /// Of a semaphore, in the walk.
+pub(crate) enum Auditing<'a> {
+    /// Of a buffer.
+    Deliveries(DeliveryAudit<'a>),
+    /// Of a database.
+    Versions(VersionAudit<'a>),
+    /// Of a semaphore, and of the one that `both` has.
     Balance(BalanceAudit),
-    /// In walks of its own.
-    Alone,
 }
 
-impl Auditing {
-    /// Before the first entry.
-    fn new(group: &Group) -> Self
-        ensures { StandsFor group.now result [] }
+impl<'a> Auditing<'a> {
+    /// Before the first entry of a run on this setup.
+    fn new(alloc: Global, group: &'a Group, setup: &'a Setup) -> Self
+        ensures { StandsFor setup.now group.now result [] }
     {
         match group {
-            Group::Buffer(_) => Auditing::Alone,
-            Group::Database(_) => Auditing::Alone,
+            Group::Buffer(shape) => Auditing::Deliveries(DeliveryAudit::new(alloc, shape, setup)),
+            Group::Database(shape) => Auditing::Versions(VersionAudit::new(alloc, shape, setup)),
             Group::Semaphore(shape) => Auditing::Balance(BalanceAudit::new(*shape)),
             Group::Both(shape) => Auditing::Balance(BalanceAudit::new(*shape)),
         }
-    }
-
-    /// Whether it is made in walks of its own.
-    fn is_alone(&self) -> bool
-        ensures { result ≡ is_alone self.now }
-    {
-        matches!(self, Auditing::Alone)
     }
 
     /// Takes an entry in, given its place in the run and the act that began its call.
@@ -44,8 +41,9 @@ impl Auditing {
         ensures { Hands place op.now entry.now self.old self.new }
     {
         match self {
+            Auditing::Deliveries(audit) => audit.take(place, op, entry),
+            Auditing::Versions(audit) => audit.take(place, op, entry),
             Auditing::Balance(audit) => audit.take(place, op, entry),
-            Auditing::Alone => (),
         }
     }
 }
@@ -54,30 +52,28 @@ impl Auditing {
 #[derive(Drop)]
 struct Walked<'a> {
     groups: &'a [Group],
+    setup: &'a Setup,
     table: Table,
-    audits: Vec<Auditing>,
+    audits: Vec<Auditing<'a>>,
 }
 
 /// The audits of groups before the first entry.
-fn opened(alloc: Global, groups: &[Group]) -> Result<Vec<Auditing>, AllocError>
-    ensures { IfOk result (λ audits. EachStands groups.now audits.items []) }
+fn opened<'a>(
+    alloc: Global,
+    groups: &'a [Group],
+    setup: &'a Setup,
+) -> Result<Vec<Auditing<'a>>, AllocError>
+    ensures { IfOk result (λ audits. EachStands setup.now groups.now audits.items []) }
 {
     let mut audits = Vec::new(alloc);
     for number in 0..groups.len() {
-        audits.push(Auditing::new(&groups[number]))?;
+        audits.push(Auditing::new(alloc, &groups[number], setup))?;
     }
     Ok(audits)
 }
 
-/// Whether no audit is made in the walk.
-fn are_alone(audits: &[Auditing]) -> bool
-    ensures { result ≡ list_all is_alone audits.now }
-{
-    audits.iter().all(|audit| audit.is_alone())
-}
-
 /// Hands an entry to the audit with a number, if there is one.
-fn hand_to(audits: &mut [Auditing], number: usize, place: usize, op: &Act, entry: &Entry)
+fn hand_to(audits: &mut [Auditing<'_>], number: usize, place: usize, op: &Act, entry: &Entry)
     requires { place + 1 < 2 ^ 64 }
     ensures { HandsTo number place op.now entry.now audits.old audits.new }
 {
@@ -87,7 +83,7 @@ fn hand_to(audits: &mut [Auditing], number: usize, place: usize, op: &Act, entry
 }
 
 /// Hands an entry to the audits of some groups.
-fn hand(audits: &mut [Auditing], span: Span, place: usize, op: &Act, entry: &Entry)
+fn hand(audits: &mut [Auditing<'_>], span: Span, place: usize, op: &Act, entry: &Entry)
     requires { place + 1 < 2 ^ 64 }
     ensures { HandsAmong span place op.now entry.now audits.old audits.new }
 {
@@ -98,14 +94,16 @@ fn hand(audits: &mut [Auditing], span: Span, place: usize, op: &Act, entry: &Ent
 
 impl<'a> Walked<'a> {
     /// Before the first entry, with the groups' audits.
-    fn new(groups: &'a [Group], audits: Vec<Auditing>) -> Self
-        requires { EachStands groups.now audits.items [] }
+    fn new(groups: &'a [Group], setup: &'a Setup, audits: Vec<Auditing<'a>>) -> Self
+        requires { EachStands setup.now groups.now audits.items [] }
         ensures groups { result.groups.now ≡ groups.now }
+        ensures setup { result.setup.now ≡ setup.now }
         ensures first { IsWalked result [] }
     {
         let table = Table::new(groups);
         Walked {
             groups,
+            setup,
             table,
             audits,
         }
@@ -123,19 +121,20 @@ impl<'a> Audit for Walked<'a> {
     }
 }
 
-/// The audits of groups after all entries of a run, in one walk over them, where one is made in it.
-pub(crate) fn audits_of(
+/// The audits of groups after all entries of a run, in one walk over them, where there are groups.
+pub(crate) fn audits_of<'a>(
     alloc: Global,
-    run: &Run,
-    groups: &[Group],
-) -> Result<Vec<Auditing>, AllocError>
-    ensures { IfOk result (λ audits. EachStands groups.now audits.items (reverse run.now.entries)) }
+    run: &'a Run,
+    groups: &'a [Group],
+) -> Result<Vec<Auditing<'a>>, AllocError>
+    ensures { IfOk result (λ audits. EachStands run.now.setup groups.now audits.items (reverse run.now.entries)) }
 {
-    let audits = opened(alloc, groups)?;
-    if are_alone(&audits) {
+    let setup = run.setup();
+    let audits = opened(alloc, groups, setup)?;
+    if groups.is_empty() {
         return Ok(audits);
     }
-    let mut walked = Walked::new(groups, audits);
+    let mut walked = Walked::new(groups, setup, audits);
     walk(run, &mut walked);
     Ok(walked.audits)
 }

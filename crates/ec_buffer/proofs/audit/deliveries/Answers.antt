@@ -1,15 +1,26 @@
-use Rattle.std.proofs.Common.{refl, subst, sym, reverse}
-use Rattle.ec_count.specs.Tables.{Tables}
-use Rattle.ec_buffer.specs.Follows.{FollowsBuffer}
+use Rattle.std.proofs.Common.{subst, ◌∙◌, reverse}
+use Rattle.std.specs.Prelude.{IfOk, IfErr}
+use Rattle.std.specs.Result.{OnOk}
+use Rattle.ec_core.specs.Audits.{IsAuditFault}
+use Rattle.ec_buffer.specs.Follows.{FollowsBuffer, buffer_rules}
 use Rattle.ec_buffer.specs.Items.{AreDeliveries}
-use Rattle.ec_buffer.proofs.Gathering.{gathered}
+use Rattle.ec_buffer.specs.Shapes.{Buffer}
 use Rattle.ec_buffer.proofs.audit.deliveries.Goals as goal
+
+pub returns-clause-followed : goal.returns-clause-followed
+returns-clause-followed c =
+    let run = c.args.run.now in
+    let P : Buffer → Type 0 = λ b. OnOk c.deliveries.result (FollowsBuffer run.setup b (reverse run.entries)) in
+    subst P (c.walk.ensures.0 ∙ c.new-audit.ensures.shape) c.deliveries.ensures.followed
 
 pub returns-clause-list : goal.returns-clause-list
 returns-clause-list c =
-    let t = c.args.run.now.setup in
-    let b = c.args.shape.now in
-    let h = c.args.run.now.entries in
-    let follows = subst (λ (u : Tables). FollowsBuffer u b (reverse h)) c.setup-setup.ensures (c.in_ok-followed.ensures.ok.0 refl) in
-    subst (AreDeliveries t b h) (sym c.in-Ok.ensures)
-    (gathered t b h (record { declared = c.known.ensures.declared; shape = c.known-2.ensures; accepted = c.known.ensures.accepted; followed = follows }))
+    let run = c.args.run.now in
+    let P : Buffer → Type 0 = λ b. IfOk c.deliveries.result (λ list. AreDeliveries run.setup b run.entries list.items) in
+    subst P (c.walk.ensures.0 ∙ c.new-audit.ensures.shape) c.deliveries.ensures.list
+
+pub returns-clause-err : goal.returns-clause-err
+returns-clause-err c =
+    let run = c.args.run.now in
+    let P : Buffer → Type 0 = λ b. IfErr c.deliveries.result (IsAuditFault (buffer_rules run.setup b) run.entries) in
+    subst P (c.walk.ensures.0 ∙ c.new-audit.ensures.shape) c.deliveries.ensures.err

@@ -22,6 +22,3 @@ returns c =
       small = c.balance.ensures.small;
       err = subst (λ (s : Semaphore). IfErr c.balance.result (IsFirstBreak (use_rules s) c.args.run.now.entries)) of c.balance.ensures.err;
     }
-
-pub unreachable-requires : goal.unreachable-requires
-unreachable-requires c = subst (λ (a : Auditing). CountsFor c.args.shape.now a (reverse c.args.run.now.entries)) c.in-Alone.is c.requires

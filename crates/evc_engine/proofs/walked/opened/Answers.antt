@@ -10,9 +10,9 @@ loop-number-preserved c =
     let n = c.loop-number.number in
     record {
       long = one_longer items c.push.new.self.items c.new.result n c.in_ok-push.ensures.items was.long;
-      each = stands_more c.args.groups.now items c.push.new.self.items [] n c.index-groups-number.result c.new.result c.in_ok-push.ensures.items was.long
+      each = stands_more c.args.setup.now c.args.groups.now items c.push.new.self.items [] n c.index-groups-number.result c.new.result c.in_ok-push.ensures.items was.long
           (slice_get_read c.args.groups.now _ n c.index-groups-number.result refl c.loop-number-test.true c.index-groups-number.is) was.each c.new.ensures;
     }
 
 pub returns : goal.returns
-returns c = stands_all c.args.groups.now c.loop-number.audits.items [] c.loop-number.number (omega arith) c.loop-number.invariant.each
+returns c = stands_all c.args.setup.now c.args.groups.now c.loop-number.audits.items [] c.loop-number.number (omega arith) c.loop-number.invariant.each

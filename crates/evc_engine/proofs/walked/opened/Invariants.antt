@@ -6,5 +6,5 @@ use Rattle.evc_engine.proofs.walked.opened.Given as goal
 abbrev pub invariant-loop-number : goal.invariant-loop-number
 invariant-loop-number l = record {
   long : length l.audits.items ≡ l.number;
-  each : StandsFirst l.groups l.audits.items [] l.number;
+  each : StandsFirst l.setup l.groups l.audits.items [] l.number;
 }

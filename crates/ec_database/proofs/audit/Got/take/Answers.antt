@@ -2,21 +2,19 @@ use Rattle.std.proofs.Common.{◌≡◌, ℕ, ◌<◌, List, ◌∷◌, Option, 
 use Rattle.std.specs.Option.{option_map}
 use Rattle.std.proofs.lemmas.Result.{IfOk-weaker}
 use Rattle.ec_core.specs.declared.act.Entry.{Entry}
-use Rattle.ec_core.specs.Scanning.{IsScanned}
 use Rattle.ec_database.specs.declared.audit.Accepted.{Accepted}
-use Rattle.ec_database.specs.Following.{rules, writes}
-use Rattle.ec_database.specs.Places.{kept_of}
+use Rattle.ec_database.specs.Following.{writes}
 use Rattle.ec_database.specs.Tries.{ended_at}
-use Rattle.ec_database.specs.Auditing.{shown, rows_after, try_ended, HoldsGot}
+use Rattle.ec_database.specs.Auditing.{shown, rows_after, try_ended, HoldsGot, ReadsOn}
 use Rattle.ec_database.proofs.Getting.{held_none, held_some, ended_is}
 use Rattle.ec_database.proofs.audit.Got.take.Goals as goal
 
 pub returns-in_default-clause-held : goal.returns-in_default-clause-held
-returns-in_default-clause-held c past scanned held =
+returns-in_default-clause-held c past reads held =
     let d = c.args.lists.now.shape.now in
     let writers = writes c.args.lists.now.setup.now d in
-    held_none d writers c.args.self.now.rows c.args.entry.now past c.kept-kept.result c.op-op.result
-    (c.op-op.ensures (rules d writers) kept_of past scanned) (sym c.finished_call.ensures ∙ c.in_default.is) held
+    held_none d writers c.args.self.now.rows c.args.entry.now past c.args.kept.now c.args.op.now
+    reads.op (sym c.finished_call.ensures ∙ c.in_default.is) held
 
 pub returns-clause-tries : goal.returns-clause-tries
 returns-clause-tries c =
@@ -26,12 +24,12 @@ returns-clause-tries c =
     let call = c.in-Some.call in
     let cells = c.cells-cells.ensures.value in
     let P : Option Accepted → Type 0 = λ o. (row : List ℕ) → slice_get c.keep.new.self.rows call.worker ≡ Some row → option_map shown o ≡ try_ended c.cells-cells.result row call in
-    let Q : Option Accepted → Type 0 = λ o. (past : List Entry) → IsScanned (rules d writers) kept_of c.args.scan.now past → HoldsGot d writers c.args.self.now.rows past → option_map shown o ≡ ended_at d writers x past in
+    let Q : Option Accepted → Type 0 = λ o. (past : List Entry) → ReadsOn c.args.lists.now.setup.now d c.args.kept.now c.args.op.now x past → HoldsGot d writers c.args.self.now.rows past → option_map shown o ≡ ended_at d writers x past in
     IfOk-weaker c.ended.result P Q
-    (λ o told past scanned held.
-    ended_is d writers c.args.self.now.rows c.keep.new.self.rows x past c.kept-kept.result c.op-op.result call (option_map shown o)
+    (λ o told past reads held.
+    ended_is d writers c.args.self.now.rows c.keep.new.self.rows x past c.args.kept.now c.args.op.now call (option_map shown o)
     (subst (λ n. n < 16) c.get-reader.ensures.value c.get-reader.ensures.small)
-    (c.kept-kept.ensures (rules d writers) kept_of past scanned) (c.op-op.ensures (rules d writers) kept_of past scanned) (sym c.finished_call.ensures ∙ c.in-Some.is)
+    reads.kept reads.op (sym c.finished_call.ensures ∙ c.in-Some.is)
     (λ row is. c.keep.ensures row is ∙ ap (λ n. rows_after n c.args.self.now.rows row call) cells)
     (λ row is. told row is ∙ ap (λ n. try_ended n row call) cells)
     held)
@@ -45,13 +43,13 @@ returns-clause-held c =
     let call = c.in-Some.call in
     let cells = c.cells-cells.ensures.value in
     let P : Option Accepted → Type 0 = λ o. (row : List ℕ) → slice_get c.keep.new.self.rows call.worker ≡ Some row → option_map shown o ≡ try_ended c.cells-cells.result row call in
-    let Q : Option Accepted → Type 0 = λ o. (past : List Entry) → IsScanned (rules d writers) kept_of c.args.scan.now past → HoldsGot d writers c.args.self.now.rows past → HoldsGot d writers c.keep.new.self.rows (x ∷ past) in
+    let Q : Option Accepted → Type 0 = λ o. (past : List Entry) → ReadsOn c.args.lists.now.setup.now d c.args.kept.now c.args.op.now x past → HoldsGot d writers c.args.self.now.rows past → HoldsGot d writers c.keep.new.self.rows (x ∷ past) in
     IfOk-weaker c.ended.result P Q
-    (λ o told past scanned held.
-    held_some d writers c.args.self.now.rows c.keep.new.self.rows x past c.kept-kept.result c.op-op.result call
+    (λ o told past reads held.
+    held_some d writers c.args.self.now.rows c.keep.new.self.rows x past c.args.kept.now c.args.op.now call
     (let room = c.cells-cells.ensures.room in omega arith)
     (subst (λ n. n < 16) c.get-reader.ensures.value c.get-reader.ensures.small)
-    (c.kept-kept.ensures (rules d writers) kept_of past scanned) (c.op-op.ensures (rules d writers) kept_of past scanned) (sym c.finished_call.ensures ∙ c.in-Some.is)
+    reads.kept reads.op (sym c.finished_call.ensures ∙ c.in-Some.is)
     (λ row is. c.keep.ensures row is ∙ ap (λ n. rows_after n c.args.self.now.rows row call) cells)
     held)
     c.ended.ensures

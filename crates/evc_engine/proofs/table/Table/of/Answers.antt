@@ -1,8 +1,8 @@
 use Rattle.std.proofs.Common.{◌≡◌, ℕ, ◌<◌, Some, refl, sym, subst, arith, slice_get}
 use Rattle.ec_core.specs.declared.act.Act.{Act}
-use Rattle.ec_core.specs.declared.act.Act.TheVariants.{Advance, Read, Await, Ticket, Hand}
+use Rattle.ec_core.specs.declared.act.Act.TheVariants.{Advance, Read, Await, Ticket, Put, Get, Hand}
 use Rattle.evc_engine.specs.Walks.{Covers}
-use Rattle.evc_engine.proofs.WalkLemmas.{covers_at, on_advance, on_await, on_hand}
+use Rattle.evc_engine.proofs.WalkLemmas.{covers_at, on_advance, on_await, on_put, on_hand}
 use Rattle.evc_engine.proofs.table.Table.of.Goals as goal
 
 pub returns-in-Advance : goal.returns-in-Advance
@@ -49,3 +49,21 @@ returns-in-Ticket c = λ groups t.
     subst (λ (a : Act). Covers groups a c.at-in-Ticket.result) (sym c.in-Ticket.is)
     (covers_at groups (Ticket q) (Ticket q) spans q c.at-in-Ticket.result (t.sequencers q less)
     (subst (λ (n : ℕ). slice_get spans n ≡ Some c.at-in-Ticket.result) c.get-in-Ticket.ensures.value c.at-in-Ticket.ensures) (λ g. refl)))
+
+pub returns-in-Put : goal.returns-in-Put
+returns-in-Put c = λ groups t.
+    (let y = c.in-Put.cell in
+    let spans = c.args.self.now.cells in
+    let less : y < 256 = omega (arith, c.get-in-Put.ensures.value, c.get-in-Put.ensures.small) in
+    subst (λ (a : Act). Covers groups a c.at-in-Put.result) (sym c.in-Put.is)
+    (covers_at groups (Put y c.in-Put.field-1) (Get y) spans y c.at-in-Put.result (t.cells y less)
+    (subst (λ (n : ℕ). slice_get spans n ≡ Some c.at-in-Put.result) c.get-in-Put.ensures.value c.at-in-Put.ensures) (on_put y c.in-Put.field-1)))
+
+pub returns-in-Get : goal.returns-in-Get
+returns-in-Get c = λ groups t.
+    (let y = c.in-Get.cell in
+    let spans = c.args.self.now.cells in
+    let less : y < 256 = omega (arith, c.get-in-Get.ensures.value, c.get-in-Get.ensures.small) in
+    subst (λ (a : Act). Covers groups a c.at-in-Get.result) (sym c.in-Get.is)
+    (covers_at groups (Get y) (Get y) spans y c.at-in-Get.result (t.cells y less)
+    (subst (λ (n : ℕ). slice_get spans n ≡ Some c.at-in-Get.result) c.get-in-Get.ensures.value c.at-in-Get.ensures) (λ g. refl)))

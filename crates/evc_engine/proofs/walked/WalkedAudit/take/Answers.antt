@@ -14,10 +14,11 @@ returns c = λ start past at is s.
     let x = c.args.entry.now in
     let same : (with_items old new).items ≡ new = with_items_is old new (search (rules, places)) in
     let hands = subst (λ (l : List Auditing). HandsAmong c.of-span.result c.args.place c.args.op.now c.args.entry.now l c.hand.new.audits) c.as_mut_slice.ensures.value c.hand.ensures in
-    let each = each_taken gs c.of-span.result c.args.place c.args.op.now x old.items new past at is (c.of-span.ensures gs s.1.table) hands s.1.each in (
+    let each = each_taken c.args.self.now.setup.now gs c.of-span.result c.args.place c.args.op.now x old.items new past at is (c.of-span.ensures gs s.2.table) hands s.2.each in (
       s.0,
+      s.1,
       record {
-        table = s.1.table;
-        each = subst (λ (l : List Auditing). EachStands c.args.self.now.groups.now l (c.args.entry.now ∷ past)) (sym same) each;
+        table = s.2.table;
+        each = subst (λ (l : List Auditing). EachStands c.args.self.now.setup.now c.args.self.now.groups.now l (c.args.entry.now ∷ past)) (sym same) each;
       },
     ))
