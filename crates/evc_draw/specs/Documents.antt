@@ -3,10 +3,10 @@ use Rattle.std.specs.Prelude.{ℕ, List}
 use Rattle.ec_heading.specs.Headed.{Headed}
 use Rattle.ec_heading.specs.Spelling.{Named}
 use Rattle.ec_draw.specs.Pictures.{Shapes}
-use Rattle.evc_draw.specs.declared.view.Form.{Form}
-use Rattle.evc_draw.specs.declared.view.Form.TheVariants as forms
-use Rattle.evc_draw.specs.Frames.{Framed}
-use Rattle.evc_draw.specs.Svg.{svg}
+use Rattle.ec_frame.specs.declared.view.Form.{Form}
+use Rattle.ec_frame.specs.declared.view.Form.TheVariants as forms
+use Rattle.ec_frame.specs.Frames.{Framed}
+use Rattle.ec_svg.specs.Svg.{svg}
 use Rattle.evc_draw.specs.Text.{text}
 
 -- the bytes of these shapes in this frame, where m workers are declared

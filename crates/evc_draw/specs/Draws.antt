@@ -19,8 +19,8 @@ use Rattle.evc_engine.specs.declared.status.Status.{Status}
 use Rattle.evc_engine.specs.declared.status.Status.TheVariants.{Done, Refused, Usage, InputOutput, Memory, Stopped}
 use Rattle.evc_engine.specs.Notes.{fault_note}
 use Rattle.evc_engine.specs.Checks.{Outlets, Notes, KeepsNotes, ReadsAs, RefusedFor}
-use Rattle.evc_draw.specs.declared.view.View.{View}
-use Rattle.evc_draw.specs.Frames.{Framed, drawn_targets}
+use Rattle.ec_frame.specs.declared.view.View.{View}
+use Rattle.ec_frame.specs.Frames.{Framed, drawn_targets}
 use Rattle.evc_draw.specs.Documents.{document_for}
 
 -- the part of a window that a history of n entries has

@@ -10,9 +10,8 @@ use Rattle.ec_draw.specs.declared.open.Open.{Open}
 use Rattle.ec_draw.specs.declared.dot.Dot.{Dot}
 use Rattle.ec_draw.specs.Curves.{Line}
 use Rattle.ec_draw.specs.Pictures.{Shapes}
-use Rattle.evc_draw.specs.Frames.{Framed, draws, draws_worker, draws_object, draws_count}
-use Rattle.evc_draw.specs.Svg.{counted_word}
-use Rattle.evc_draw.specs.Words.{call_words, open_words}
+use Rattle.ec_frame.specs.Frames.{Framed, draws, draws_worker, draws_object, draws_count}
+use Rattle.ec_frame.specs.Words.{call_words, open_words, counted_word}
 use Rattle.evc_draw.specs.declared.style.TheConstants.{BLANKS, DASHES}
 
 -- CELLS

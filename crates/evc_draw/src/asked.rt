@@ -1,7 +1,7 @@
 //! What the command line asks for.
 
-use crate::view::{Form, View};
 use ec_draw::Window;
+use ec_frame::{Form, View};
 use ec_text::number;
 use std::alloc::{AllocError, Global};
 

@@ -3,12 +3,12 @@ ghost use Rattle.std.specs.Prelude.{◌≡◌, ◌≤◌, [], decimal};
 ghost use Rattle.std.specs.List.{list_any};
 ghost use Rattle.ec_text.specs.Puts.{Puts};
 ghost use Rattle.ec_draw.specs.Pictures.{kept};
-ghost use Rattle.evc_draw.specs.Frames.{framed};
+ghost use Rattle.ec_frame.specs.Frames.{framed};
 ghost use Rattle.evc_draw.specs.Text.{cell_width, dot_cell, dot_word, fill, goes_on, goes_through, is_under_way, number_cell, padded, row_name};
 
-use crate::frame::Frame;
 use crate::style::{BLANKS, DASHES};
 use ec_draw::{Dot, Open, Picture, Window};
+use ec_frame::Frame;
 use ec_order::Placed;
 use ec_text::{Buffered, put};
 use itoa::Buffer;

@@ -4,13 +4,12 @@ ghost use Rattle.std.specs.Io.KnownBytes.{Appends};
 ghost use Rattle.ec_text.specs.Puts.{Puts, AppendsPrefix};
 ghost use Rattle.ec_draw.specs.Pictures.{kept};
 ghost use Rattle.evc_draw.specs.Documents.{document, document_for};
-ghost use Rattle.evc_draw.specs.Frames.{framed};
+ghost use Rattle.ec_frame.specs.Frames.{framed};
 
-use crate::frame::Frame;
-use crate::svg::put_svg;
 use crate::text::put_text;
-use crate::view::Form;
 use ec_draw::Picture;
+use ec_frame::{Form, Frame};
+use ec_svg::put_svg;
 use ec_text::{Buffered, WriteFault, finish};
 use ec_trace::{Heading, Spellings};
 use std::io::Write;

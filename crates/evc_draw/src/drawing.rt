@@ -2,14 +2,13 @@
 ghost use Rattle.std.specs.Prelude.{◌≡◌, false, IfOk, IfSome};
 ghost use Rattle.evc_engine.specs.Notes.{IsWrittenOut, fault_status};
 ghost use Rattle.ec_draw.specs.Pictures.{kept, shapes};
-ghost use Rattle.evc_draw.specs.Frames.{drawn_targets, framed};
+ghost use Rattle.ec_frame.specs.Frames.{drawn_targets, framed};
 ghost use Rattle.evc_draw.specs.Draws.{Drawn, Draws, frame_for, has_unknown, is_wide, window_of, window_on};
 
 use crate::document::write_document;
-use crate::frame::{Frame, drawn_targets};
 use crate::unknown::{has_unknown, say_unknown};
-use crate::view::View;
 use ec_draw::{COLUMNS_MAX, Picture, Window, picture_of};
+use ec_frame::{Frame, View, drawn_targets};
 use ec_trace::{TraceFault, Traced, read_trace};
 use evc_engine::{Notes, Status};
 use std::alloc::{AllocError, Global};

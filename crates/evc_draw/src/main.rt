@@ -2,24 +2,13 @@
 #![tactic(auto)]
 
 mod asked;
-mod calls;
 mod cells;
-mod curves;
 mod document;
-mod dots;
 mod drawing;
-mod elements;
-mod frame;
 mod help;
-mod marks;
-mod places;
 mod style;
-mod svg;
 mod text;
-mod under_way;
 mod unknown;
-mod view;
-mod words;
 
 use crate::asked::{Asked, read_words};
 use crate::drawing::draw;

@@ -5,16 +5,14 @@ ghost use Rattle.std.specs.Io.KnownBytes.{Appends};
 ghost use Rattle.ec_text.specs.Puts.{Puts, AppendsPrefix};
 ghost use Rattle.ec_draw.specs.Curves.{shown};
 ghost use Rattle.ec_draw.specs.Pictures.{kept};
-ghost use Rattle.evc_draw.specs.Frames.{framed};
+ghost use Rattle.ec_frame.specs.Frames.{framed};
 ghost use Rattle.evc_draw.specs.Text.{call_line, curve_cells, curve_row, dot_cell, entry_cell, entry_row, number_cell, open_line, rows, text, worker_cells, worker_row, worker_rows};
 
 use crate::cells::{cell_width, put_dot_cell, put_number_cell, put_padded, put_row_name};
-use crate::curves::counted_word;
-use crate::frame::Frame;
 use crate::style::BLANKS;
-use crate::words::{put_call_words, put_open_words};
 use ec_count::WorkerId;
 use ec_draw::{Curve, Dot, Open, Picture, Window};
+use ec_frame::{Frame, counted_word, put_call_words, put_open_words};
 use ec_order::Placed;
 use ec_text::{Buffered, WriteFault, finish, put};
 use ec_trace::{Heading, Spellings};

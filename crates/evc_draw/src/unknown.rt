@@ -5,8 +5,8 @@ ghost use Rattle.ec_text.specs.Puts.{Puts};
 ghost use Rattle.evc_engine.specs.Notes.{IsWrittenOut};
 ghost use Rattle.evc_draw.specs.Draws.{has_unknown, is_object, is_worker, lacks_object, lacks_worker, object_note, unknown_note, unknown_notes, worker_note};
 
-use crate::view::View;
 use ec_count::{Target, Vocabulary};
+use ec_frame::View;
 use ec_text::{Buffered, flush, put};
 use evc_engine::Notes;
 use std::io::Write;

@@ -1,6 +1,6 @@
 use Rattle.std.proofs.Common.{take}
 use Rattle.std.specs.List.{flat_map}
-use Rattle.evc_draw.specs.Frames.{framed}
+use Rattle.ec_frame.specs.Frames.{framed}
 use Rattle.ec_text.specs.Puts.{Puts}
 use Rattle.evc_draw.specs.Text.{call_line}
 use Rattle.evc_draw.proofs.text.put_call_lines.Given as goal

@@ -1,7 +1,7 @@
 use Rattle.std.proofs.Common.{take, map}
 use Rattle.std.specs.List.{flat_map}
 use Rattle.ec_draw.specs.Curves.{shown}
-use Rattle.evc_draw.specs.Frames.{framed}
+use Rattle.ec_frame.specs.Frames.{framed}
 use Rattle.ec_text.specs.Puts.{Puts}
 use Rattle.evc_draw.specs.Text.{curve_row}
 use Rattle.evc_draw.proofs.text.put_curve_rows.Given as goal

@@ -1,7 +1,7 @@
 use Rattle.std.proofs.Common.{take}
 use Rattle.std.specs.List.{flat_map}
 use Rattle.ec_draw.specs.Pictures.{kept}
-use Rattle.evc_draw.specs.Frames.{framed}
+use Rattle.ec_frame.specs.Frames.{framed}
 use Rattle.ec_text.specs.Puts.{Puts}
 use Rattle.evc_draw.specs.Text.{dot_cell}
 use Rattle.evc_draw.proofs.text.put_dot_cells.Given as goal

@@ -1,8 +1,8 @@
 use Rattle.std.proofs.Common.{refl}
 use Rattle.ec_draw.specs.Pictures.{kept}
-use Rattle.evc_draw.specs.Frames.{framed}
+use Rattle.ec_frame.specs.Frames.{framed}
 use Rattle.evc_draw.specs.Text.{worker_rows}
-use Rattle.evc_draw.proofs.Loops.{none_put, more_put}
+use Rattle.ec_frame.proofs.shared.Loops.{none_put, more_put}
 use Rattle.evc_draw.proofs.text.put_worker_rows.Goals as goal
 
 pub loop-worker-init : goal.loop-worker-init

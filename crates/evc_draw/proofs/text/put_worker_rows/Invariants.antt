@@ -1,5 +1,5 @@
 use Rattle.ec_draw.specs.Pictures.{kept}
-use Rattle.evc_draw.specs.Frames.{framed}
+use Rattle.ec_frame.specs.Frames.{framed}
 use Rattle.ec_text.specs.Puts.{Puts}
 use Rattle.evc_draw.specs.Text.{worker_rows}
 use Rattle.evc_draw.proofs.text.put_worker_rows.Given as goal

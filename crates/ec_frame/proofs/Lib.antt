@@ -1,0 +1,2 @@
+mod Drawn
+pub mod shared

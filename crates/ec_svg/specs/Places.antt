@@ -1,0 +1,51 @@
+-- Where things stand in a picture, in pixels.
+use Rattle.std.specs.Prelude.{ℕ, ◌+◌, ◌-◌, ◌*◌, ◌/◌, min, max, List, length, slice_get, unwrap_or}
+use Rattle.ec_draw.specs.declared.window.Window.{Window}
+use Rattle.ec_draw.specs.Windows.{column, columns}
+use Rattle.ec_frame.specs.Frames.{Framed, rows_before}
+
+-- the left edge of the column of a moment
+abbrev pub edge : Window → ℕ → ℕ
+edge w k = 136 + 84 * column w k
+
+-- the middle of that column, where the entry stands that happens at that moment
+abbrev pub centre : Window → ℕ → ℕ
+centre w k = 178 + 84 * column w k
+
+-- the top of the row of a worker, below those before it that are drawn
+abbrev pub row : Framed → ℕ → ℕ
+row f n = 40 + 76 * rows_before f n
+
+-- where r rows end
+abbrev pub below : ℕ → ℕ
+below r = 60 + 76 * r
+
+-- the line of zero height of the i-th curve that is drawn, below r rows
+abbrev pub base : ℕ → ℕ → ℕ
+base r i = below r + 84 * min i 64 + 64
+
+-- how wide and how high a picture is
+abbrev pub picture_width : Window → ℕ
+picture_width w = 200 + 84 * columns w
+
+abbrev pub picture_height : ℕ → ℕ → ℕ
+picture_height r n = below r + 84 * min n 64 + 30
+
+-- the least count of a curve, and how far it rises: counts don't fall
+abbrev pub low_of : List ℕ → ℕ
+low_of hs = unwrap_or (slice_get hs 0) 0
+
+abbrev pub high_of : List ℕ → ℕ
+high_of hs = unwrap_or (slice_get hs (length hs - 1)) 0
+
+-- a rise by so much is drawn 52 pixels high; a picture has fewer than 1000 columns, so none rises further
+abbrev pub span_of : ℕ → ℕ → ℕ
+span_of low high = min (max (high - low) 1) 1000
+
+-- how high above the line a count is drawn
+abbrev pub rise : ℕ → ℕ → ℕ → ℕ
+rise low high v = 52 * min (v - low) (span_of low high) / span_of low high
+
+-- the height at which count v of the i-th curve is drawn
+abbrev pub level : ℕ → ℕ → List ℕ → ℕ → ℕ
+level r i hs v = base r i - rise (low_of hs) (high_of hs) v

@@ -1,0 +1,14 @@
+//! The picture of a run as SVG: its bytes, as a function of its shapes.
+#![tactic(auto)]
+
+mod calls;
+mod curves;
+mod dots;
+mod elements;
+mod marks;
+mod places;
+mod style;
+mod svg;
+mod under_way;
+
+pub use svg::put_svg;

@@ -1,0 +1,48 @@
+//! The texts of a picture that are always the same.
+
+/// The beginning of a picture.
+pub(crate) const OPENING: &[u8] = b"<svg xmlns='http://www.w3.org/2000/svg'";
+
+/// How it looks. The colours are those of M. Okabe and K. Ito, which people who don't see all colours can tell apart; a call
+/// under way is dashed too, and each bar has its word.
+pub(crate) const STYLE: &[u8] = b"<style>
+text { font-family: 'DejaVu Sans Mono', monospace; font-size: 10px; fill: #1f2933; }
+.paper { fill: #ffffff; }
+.name { font-size: 12px; font-weight: bold; text-anchor: end; }
+.count { text-anchor: end; }
+.entry { text-anchor: middle; }
+.reply { text-anchor: end; font-weight: bold; }
+.component { font-size: 9px; }
+.cell, .long { font-size: 8px; }
+.tiny { font-size: 5.5px; }
+.grid { stroke: #d5dae0; }
+.zero { stroke: #7b8794; }
+.round { stroke: #1f2933; stroke-dasharray: 2 2; }
+.tie { stroke: #1f2933; stroke-dasharray: 1 3; stroke-width: 1.4; }
+.mark { fill: #ffffff; stroke: #1f2933; stroke-width: 2; }
+.curve { fill: none; stroke: #009e73; stroke-width: 2; }
+circle { fill: #1f2933; }
+rect { fill-opacity: 0.35; stroke-width: 1.5; }
+.advance rect { fill: #009e73; stroke: #009e73; }
+.read rect { fill: #0072b2; stroke: #0072b2; }
+.await rect { fill: #cc79a7; stroke: #cc79a7; }
+.ticket rect { fill: #e69f00; stroke: #e69f00; }
+.put rect { fill: #d55e00; stroke: #d55e00; }
+.get rect { fill: #56b4e9; stroke: #56b4e9; }
+.hand rect { fill: #f0e442; stroke: #f0e442; }
+.open rect { stroke-dasharray: 5 3; }
+@media (prefers-color-scheme: dark) {
+text, circle { fill: #e4e7eb; }
+.paper, .mark { fill: #14191f; }
+.grid { stroke: #323f4b; }
+.round, .tie, .mark { stroke: #e4e7eb; }
+}
+</style>
+<path class='paper' d='M 0 0 H 100000 V 100000 H 0 z'/>
+";
+
+/// The beginning of the group of a call under way.
+pub(crate) const OPEN_GROUP: &[u8] = b"<g class='open ";
+
+/// The beginning of a bar.
+pub(crate) const BAR: &[u8] = b"<rect rx='6' x='";

@@ -1,0 +1,167 @@
+//! The whole picture.
+ghost use Rattle.std.specs.Prelude.{◌≡◌, ◌≤◌, ◌<◌};
+ghost use Rattle.ec_text.specs.Puts.{Puts};
+ghost use Rattle.ec_draw.specs.Pictures.{kept};
+ghost use Rattle.ec_frame.specs.Frames.{framed};
+ghost use Rattle.ec_svg.specs.Svg.{back, call_elements, header, mark_elements, row_element, row_elements, row_group, svg};
+
+use crate::calls::put_calls;
+use crate::curves::put_curves;
+use crate::dots::{put_columns, put_dots};
+use crate::elements::{Place, put_line, put_name_text, put_pair};
+use crate::marks::put_marks;
+use crate::places::{below, picture_height, picture_width, row};
+use crate::style::{OPENING, STYLE};
+use crate::under_way::put_opens;
+use ec_count::WorkerId;
+use ec_draw::Picture;
+use ec_frame::Frame;
+use ec_text::{Buffered, put};
+use ec_trace::Spellings;
+use std::io::Write;
+
+/// Puts the beginning of a picture.
+#[tactic(auto, unfolding(crate::specs::Svg::header))]
+fn put_header<W: Write>(out: &mut W, table: &mut Buffered, width: u64, height: u64)
+    ensures { Puts (W.contents out.old) table.old (W.contents out.new) table.new (header width height) }
+{
+    put(out, table, OPENING);
+    put_pair(out, table, b" width='", width, b"' height='", height);
+    put_pair(out, table, b"' viewBox='0 0 ", width, b" ", height);
+    put(out, table, b"'>\n");
+    put(out, table, STYLE);
+}
+
+/// Puts the row of a worker.
+#[tactic(auto, unfolding(crate::specs::Svg::row_group))]
+fn put_row_group<W: Write>(
+    out: &mut W,
+    table: &mut Buffered,
+    spellings: &Spellings<'_>,
+    frame: &Frame,
+    worker: WorkerId,
+)
+    ensures { Puts (W.contents out.old) table.old (W.contents out.new) table.new (row_group spellings.now (framed frame.now) worker) }
+{
+    let y = row(frame, worker);
+    let name = spellings.worker(worker);
+    put_name_text(out, table, b"name", Place { x: 124, y: y + 47 }, name);
+    let from = Place { x: 136, y: y + 43 };
+    let to = Place {
+        x: picture_width(frame.window),
+        y: y + 43,
+    };
+    put_line(out, table, b"zero", from, to);
+}
+
+/// Puts the row of a worker, if it is drawn.
+fn put_row<W: Write>(
+    out: &mut W,
+    table: &mut Buffered,
+    spellings: &Spellings<'_>,
+    frame: &Frame,
+    number: usize,
+)
+    requires { number < 16 }
+    ensures { Puts (W.contents out.old) table.old (W.contents out.new) table.new (row_element spellings.now (framed frame.now) number) }
+{
+    if let Some(worker) = WorkerId::new(number) {
+        if frame.draws_worker(worker) {
+            put_row_group(out, table, spellings, frame, worker);
+        }
+    }
+}
+
+/// Puts the rows of the workers that are drawn.
+fn put_rows<W: Write>(
+    out: &mut W,
+    table: &mut Buffered,
+    spellings: &Spellings<'_>,
+    frame: &Frame,
+    workers: usize,
+)
+    requires { workers ≤ 16 }
+    ensures { Puts (W.contents out.old) table.old (W.contents out.new) table.new (row_elements spellings.now (framed frame.now) workers) }
+{
+    for number in 0..workers {
+        put_row(out, table, spellings, frame, number);
+    }
+}
+
+/// Puts what stands behind the calls.
+#[tactic(auto, unfolding(crate::specs::Svg::back))]
+fn put_back<W: Write>(
+    out: &mut W,
+    table: &mut Buffered,
+    spellings: &Spellings<'_>,
+    frame: &Frame,
+    workers: usize,
+    rows: usize,
+    picture: &Picture,
+)
+    requires workers { workers ≤ 16 }
+    requires rows { rows ≤ 16 }
+    ensures { Puts (W.contents out.old) table.old (W.contents out.new) table.new (back spellings.now (framed frame.now) workers rows (kept picture.now)) }
+{
+    let window = frame.window;
+    let dots = picture.dots.as_slice();
+    let curves = picture.curves.as_slice();
+    let height = picture_height(rows, frame.curves_before(curves, curves.len()));
+    put_header(out, table, picture_width(window), height);
+    put_rows(out, table, spellings, frame, workers);
+    put_columns(out, table, window, below(rows), dots);
+    put_curves(out, table, spellings, frame, rows, curves);
+}
+
+/// Puts the calls.
+#[tactic(auto, unfolding(crate::specs::Svg::call_elements))]
+fn put_call_elements<W: Write>(
+    out: &mut W,
+    table: &mut Buffered,
+    spellings: &Spellings<'_>,
+    frame: &Frame,
+    picture: &Picture,
+)
+    ensures { Puts (W.contents out.old) table.old (W.contents out.new) table.new (call_elements spellings.now (framed frame.now) (kept picture.now)) }
+{
+    put_calls(out, table, spellings, frame, picture.calls.as_slice());
+    put_opens(out, table, spellings, frame, picture.begun.as_slice());
+}
+
+/// Puts the entries and the marks.
+#[tactic(auto, unfolding(crate::specs::Svg::mark_elements))]
+fn put_mark_elements<W: Write>(
+    out: &mut W,
+    table: &mut Buffered,
+    frame: &Frame,
+    rows: usize,
+    picture: &Picture,
+)
+    requires { rows ≤ 16 }
+    ensures { Puts (W.contents out.old) table.old (W.contents out.new) table.new (mark_elements (framed frame.now) rows (kept picture.now)) }
+{
+    let calls = picture.calls.as_slice();
+    let curves = picture.curves.as_slice();
+    put_dots(out, table, frame, picture.dots.as_slice());
+    put_marks(out, table, frame, rows, curves, calls);
+}
+
+/// Puts a picture as SVG.
+#[tactic(auto, unfolding(crate::specs::Svg::svg))]
+pub fn put_svg<W: Write>(
+    out: &mut W,
+    table: &mut Buffered,
+    spellings: &Spellings<'_>,
+    frame: &Frame,
+    workers: usize,
+    picture: &Picture,
+)
+    requires { workers ≤ 16 }
+    ensures { Puts (W.contents out.old) table.old (W.contents out.new) table.new (svg spellings.now (framed frame.now) workers (kept picture.now)) }
+{
+    let rows = frame.rows_before(workers);
+    put_back(out, table, spellings, frame, workers, rows, picture);
+    put_call_elements(out, table, spellings, frame, picture);
+    put_mark_elements(out, table, frame, rows, picture);
+    put(out, table, b"</svg>\n");
+}

@@ -1,2 +1,0 @@
-mod Loops
-mod Drawn
