@@ -1,2 +1,3 @@
 mod Drawn
+mod Rounds
 pub mod shared

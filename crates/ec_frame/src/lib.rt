@@ -2,9 +2,13 @@
 #![tactic(auto)]
 
 mod frame;
+mod note;
 mod view;
 mod words;
 
 pub use frame::{Frame, drawn_targets};
+pub use note::{
+    Note, Told, is_of_round, put_fault_told, put_line_told, put_read_told, put_total_told, told_of,
+};
 pub use view::{Form, View};
 pub use words::{counted_word, put_call_words, put_open_words};

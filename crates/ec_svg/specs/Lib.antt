@@ -1,3 +1,4 @@
 pub mod Places
 pub mod Elements
+pub mod Notes
 pub mod Svg

@@ -17,6 +17,8 @@ use Rattle.ec_draw.specs.declared.dot.Dot.{Dot}
 use Rattle.ec_draw.specs.Curves.{Line}
 use Rattle.ec_draw.specs.Pictures.{Shapes}
 use Rattle.ec_frame.specs.Frames.{Framed, draws, draws_worker, draws_count, rows_before, curves_before}
+use Rattle.ec_frame.specs.Notes.{Noted}
+use Rattle.ec_svg.specs.Notes.{paper_width, note_height, note_element}
 use Rattle.ec_svg.specs.Places.{low_of, high_of, edge, centre, row, below, base, level, picture_width, picture_height}
 use Rattle.ec_svg.specs.Elements.{pair, squeeze, squeeze_dot, row_text, line, rect, circle, diamond, number_text, name_text, object_text, text_end}
 use Rattle.ec_frame.specs.Words.{call_words, open_words, counted_word}
@@ -239,10 +241,14 @@ unfoldable pub header : ℕ → ℕ → List ℕ
 header width height =
     OPENING.now ++ pair (codes " width='") width (codes "' height='") height ++ pair (codes "' viewBox='0 0 ") width (codes " ") height ++ codes "'>\n" ++ STYLE.now
 
+-- how high a picture is without what is said of a faulty line, where r workers have a row
+abbrev pub shapes_height : Framed → ℕ → Shapes → ℕ
+shapes_height f r p = picture_height r (curves_before f p.curves (length p.curves))
+
 -- what stands behind the calls: rows, columns and curves, where m workers are declared and r of them have a row
-unfoldable pub back : Named → Framed → ℕ → ℕ → Shapes → List ℕ
-back names f m r p =
-    header (picture_width f.window) (picture_height r (curves_before f p.curves (length p.curves))) ++ row_elements names f m
+unfoldable pub back : Named → Framed → ℕ → ℕ → Shapes → Option Noted → List ℕ
+back names f m r p x =
+    header (paper_width f.window x) (shapes_height f r p + note_height x p.dots) ++ row_elements names f m
     ++ flat_map (column_element f.window (below r)) p.dots ++ curve_elements names f r p.curves (length p.curves)
 
 -- the calls
@@ -253,7 +259,11 @@ call_elements names f p = flat_map (call_element names f) p.calls ++ flat_map (o
 unfoldable pub mark_elements : Framed → ℕ → Shapes → List ℕ
 mark_elements f r p = flat_map (dot_element f) p.dots ++ flat_map (mark_element f r p.curves) p.calls
 
--- the picture of these shapes in this frame, where m workers are declared
-unfoldable pub svg : Named → Framed → ℕ → Shapes → List ℕ
-svg names f m p =
-    back names f m (rows_before f m) p ++ call_elements names f p ++ mark_elements f (rows_before f m) p ++ codes "</svg>\n"
+-- what is said of a faulty line, below all else, and the end
+unfoldable pub ending : Named → Framed → ℕ → Shapes → Option Noted → List ℕ
+ending names f r p x = note_element names f (below r) (shapes_height f r p) x p ++ codes "</svg>\n"
+
+-- the picture of these shapes in this frame, where m workers are declared, and of a faulty line, if there is one
+unfoldable pub svg : Named → Framed → ℕ → Shapes → Option Noted → List ℕ
+svg names f m p x =
+    back names f m (rows_before f m) p x ++ call_elements names f p ++ mark_elements f (rows_before f m) p ++ ending names f (rows_before f m) p x

@@ -6,6 +6,7 @@ mod curves;
 mod dots;
 mod elements;
 mod marks;
+mod note;
 mod places;
 mod style;
 mod svg;

@@ -71,7 +71,8 @@ pub(crate) fn picture_width(window: Window) -> u64
 /// How high a picture is.
 pub(crate) fn picture_height(rows: usize, curves: usize) -> u64
     requires { rows ≤ 16 }
-    ensures { result ≡ picture_height rows curves }
+    ensures value { result ≡ picture_height rows curves }
+    ensures small { result ≤ 7000 }
 {
     below(rows) + 84 * curves.min(64) as u64 + 30
 }

@@ -13,7 +13,8 @@ text { font-family: 'DejaVu Sans Mono', monospace; font-size: 10px; fill: #1f293
 .entry { text-anchor: middle; }
 .reply { text-anchor: end; font-weight: bold; }
 .component { font-size: 9px; }
-.cell, .long { font-size: 8px; }
+.cell { font-size: 6.4px; }
+.long { font-size: 8px; }
 .tiny { font-size: 5.5px; }
 .grid { stroke: #d5dae0; }
 .zero { stroke: #7b8794; }
@@ -31,11 +32,15 @@ rect { fill-opacity: 0.35; stroke-width: 1.5; }
 .get rect { fill: #56b4e9; stroke: #56b4e9; }
 .hand rect { fill: #f0e442; stroke: #f0e442; }
 .open rect { stroke-dasharray: 5 3; }
+.wrong { stroke: #c1121f; stroke-width: 84; stroke-opacity: 0.2; }
+.fault { font-size: 12px; fill: #c1121f; }
 @media (prefers-color-scheme: dark) {
 text, circle { fill: #e4e7eb; }
 .paper, .mark { fill: #14191f; }
 .grid { stroke: #323f4b; }
 .round, .tie, .mark { stroke: #e4e7eb; }
+.wrong { stroke: #ff8a80; }
+.fault { fill: #ff8a80; }
 }
 </style>
 <path class='paper' d='M 0 0 H 100000 V 100000 H 0 z'/>

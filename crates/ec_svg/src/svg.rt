@@ -3,19 +3,21 @@ ghost use Rattle.std.specs.Prelude.{◌≡◌, ◌≤◌, ◌<◌};
 ghost use Rattle.ec_text.specs.Puts.{Puts};
 ghost use Rattle.ec_draw.specs.Pictures.{kept};
 ghost use Rattle.ec_frame.specs.Frames.{framed};
-ghost use Rattle.ec_svg.specs.Svg.{back, call_elements, header, mark_elements, row_element, row_elements, row_group, svg};
+ghost use Rattle.ec_frame.specs.Notes.{noted_in};
+ghost use Rattle.ec_svg.specs.Svg.{back, call_elements, ending, header, mark_elements, row_element, row_elements, row_group, shapes_height, svg};
 
 use crate::calls::put_calls;
 use crate::curves::put_curves;
 use crate::dots::{put_columns, put_dots};
 use crate::elements::{Place, put_line, put_name_text, put_pair};
 use crate::marks::put_marks;
+use crate::note::{note_height, paper_width, put_note};
 use crate::places::{below, picture_height, picture_width, row};
 use crate::style::{OPENING, STYLE};
 use crate::under_way::put_opens;
 use ec_count::WorkerId;
 use ec_draw::Picture;
-use ec_frame::Frame;
+use ec_frame::{Frame, Note};
 use ec_text::{Buffered, put};
 use ec_trace::Spellings;
 use std::io::Write;
@@ -88,6 +90,16 @@ fn put_rows<W: Write>(
     }
 }
 
+/// How high a picture is without what is said of a faulty line.
+fn shapes_height(frame: &Frame, rows: usize, picture: &Picture) -> u64
+    requires { rows ≤ 16 }
+    ensures value { result ≡ shapes_height (framed frame.now) rows (kept picture.now) }
+    ensures small { result ≤ 7000 }
+{
+    let curves = picture.curves.as_slice();
+    picture_height(rows, frame.curves_before(curves, curves.len()))
+}
+
 /// Puts what stands behind the calls.
 #[tactic(auto, unfolding(crate::specs::Svg::back))]
 fn put_back<W: Write>(
@@ -98,16 +110,17 @@ fn put_back<W: Write>(
     workers: usize,
     rows: usize,
     picture: &Picture,
+    note: &Option<Note<'_>>,
 )
     requires workers { workers ≤ 16 }
     requires rows { rows ≤ 16 }
-    ensures { Puts (W.contents out.old) table.old (W.contents out.new) table.new (back spellings.now (framed frame.now) workers rows (kept picture.now)) }
+    ensures { Puts (W.contents out.old) table.old (W.contents out.new) table.new (back spellings.now (framed frame.now) workers rows (kept picture.now) (noted_in note.now)) }
 {
     let window = frame.window;
     let dots = picture.dots.as_slice();
     let curves = picture.curves.as_slice();
-    let height = picture_height(rows, frame.curves_before(curves, curves.len()));
-    put_header(out, table, picture_width(window), height);
+    let height = shapes_height(frame, rows, picture) + note_height(note, dots);
+    put_header(out, table, paper_width(window, note), height);
     put_rows(out, table, spellings, frame, workers);
     put_columns(out, table, window, below(rows), dots);
     put_curves(out, table, spellings, frame, rows, curves);
@@ -146,7 +159,35 @@ fn put_mark_elements<W: Write>(
     put_marks(out, table, frame, rows, curves, calls);
 }
 
-/// Puts a picture as SVG.
+/// Puts what is said of a faulty line, and the end.
+#[tactic(auto, unfolding(crate::specs::Svg::ending))]
+fn put_ending<W: Write>(
+    out: &mut W,
+    table: &mut Buffered,
+    spellings: &Spellings<'_>,
+    frame: &Frame,
+    rows: usize,
+    picture: &Picture,
+    note: &Option<Note<'_>>,
+)
+    requires { rows ≤ 16 }
+    ensures { Puts (W.contents out.old) table.old (W.contents out.new) table.new (ending spellings.now (framed frame.now) rows (kept picture.now) (noted_in note.now)) }
+{
+    let top = shapes_height(frame, rows, picture);
+    put_note(
+        out,
+        table,
+        spellings,
+        frame,
+        below(rows),
+        top,
+        note,
+        picture,
+    );
+    put(out, table, b"</svg>\n");
+}
+
+/// Puts a picture as SVG, with what is said of a faulty line, if there is one.
 #[tactic(auto, unfolding(crate::specs::Svg::svg))]
 pub fn put_svg<W: Write>(
     out: &mut W,
@@ -155,13 +196,14 @@ pub fn put_svg<W: Write>(
     frame: &Frame,
     workers: usize,
     picture: &Picture,
+    note: &Option<Note<'_>>,
 )
     requires { workers ≤ 16 }
-    ensures { Puts (W.contents out.old) table.old (W.contents out.new) table.new (svg spellings.now (framed frame.now) workers (kept picture.now)) }
+    ensures { Puts (W.contents out.old) table.old (W.contents out.new) table.new (svg spellings.now (framed frame.now) workers (kept picture.now) (noted_in note.now)) }
 {
     let rows = frame.rows_before(workers);
-    put_back(out, table, spellings, frame, workers, rows, picture);
+    put_back(out, table, spellings, frame, workers, rows, picture, note);
     put_call_elements(out, table, spellings, frame, picture);
     put_mark_elements(out, table, frame, rows, picture);
-    put(out, table, b"</svg>\n");
+    put_ending(out, table, spellings, frame, rows, picture, note);
 }

@@ -1,3 +1,5 @@
 pub mod Text
 pub mod Documents
+pub mod Inputs
+pub mod Faults
 pub mod Draws

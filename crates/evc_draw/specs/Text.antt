@@ -1,6 +1,6 @@
 -- The picture as a text for a terminal: a function of its shapes and of the names of the heading. A row for the entries, one for
 -- each worker and one for each curve; in each row a cell for each entry. Below stand the calls, a line each.
-use Rattle.std.specs.Prelude.{ℕ, ◌-◌, zero, suc, ◌==◌, ◌&&◌, ◌||◌, nat_le, nat_lt, Bool, List, [], ◌++◌, length, take, Option, Some, None, codes, decimal, if◌then◌else◌}
+use Rattle.std.specs.Prelude.{ℕ, ◌-◌, zero, suc, ◌==◌, ◌&&◌, ◌||◌, nat_le, nat_lt, Bool, List, [], ◌++◌, length, take, Option, Some, None, slice_get, codes, decimal, if◌then◌else◌}
 use Rattle.std.specs.List.{flat_map, list_any}
 use Rattle.ec_count.specs.declared.target.Target.TheVariants as targets
 use Rattle.ec_order.specs.declared.placed.Placed.{Placed}
@@ -11,6 +11,8 @@ use Rattle.ec_draw.specs.declared.dot.Dot.{Dot}
 use Rattle.ec_draw.specs.Curves.{Line}
 use Rattle.ec_draw.specs.Pictures.{Shapes}
 use Rattle.ec_frame.specs.Frames.{Framed, draws, draws_worker, draws_object, draws_count}
+use Rattle.ec_frame.specs.declared.note.Told.{Told}
+use Rattle.ec_frame.specs.Notes.{Noted, line_told, fault_told, total_told, read_told, told_of, is_of_round}
 use Rattle.ec_frame.specs.Words.{call_words, open_words, counted_word}
 use Rattle.evc_draw.specs.declared.style.TheConstants.{BLANKS, DASHES}
 
@@ -92,6 +94,46 @@ open_line names f o = if draws f o.worker o.op then open_words names o ++ codes 
 unfoldable pub rows : Named → Framed → ℕ → Shapes → List ℕ
 rows names f m p = entry_row f.window p.dots ++ worker_rows names f p m ++ flat_map (curve_row names f) p.curves
 
+-- A FAULTY LINE
+
+unfoldable pub total_words : Named → Window → Noted → Told → Line → List ℕ
+total_words names w x t l = total_told names w x t l ++ codes "\n"
+
+abbrev pub total_of : Named → Window → Noted → Told → Option Line → List ℕ
+total_of names w x t None = []
+total_of names w x t (Some l) = total_words names w x t l
+
+abbrev pub total_line : Named → Window → Noted → Told → List Line → List ℕ
+total_line names w x t ls = total_of names w x t (slice_get ls t.event)
+
+abbrev pub component_line : Noted → ℕ → Option ℕ → Option ℕ → List ℕ
+component_line x k None n = []
+component_line x k (Some c) None = []
+component_line x k (Some c) (Some n) = read_told x k c n ++ codes "\n"
+
+abbrev pub read_line : Noted → Told → Dot → List ℕ
+read_line x t d = if is_of_round t d then component_line x d.position d.component d.number else []
+
+-- what its call had read, if it is a read or an await
+abbrev pub told_lines : Named → Window → Noted → Option Told → Shapes → List ℕ
+told_lines names w x None p = []
+told_lines names w x (Some t) p = total_line names w x t p.curves ++ flat_map (read_line x t) p.dots
+
+-- the line, and what was right
+unfoldable pub note_front : Noted → List ℕ
+note_front x = codes "\n" ++ line_told x ++ codes "\n" ++ fault_told x.fault ++ codes "\n"
+
+abbrev pub note_lines : Named → Window → Noted → Shapes → List ℕ
+note_lines names w x p = note_front x ++ told_lines names w x (told_of x p.dots) p
+
+unfoldable pub note_text : Named → Window → Option Noted → Shapes → List ℕ
+note_text names w None p = []
+note_text names w (Some x) p = note_lines names w x p
+
 -- the text of these shapes in this frame, where m workers are declared
-unfoldable pub text : Named → Framed → ℕ → Shapes → List ℕ
-text names f m p = rows names f m p ++ codes "\n" ++ flat_map (call_line names f) p.calls ++ flat_map (open_line names f) p.begun
+unfoldable pub shapes_text : Named → Framed → ℕ → Shapes → List ℕ
+shapes_text names f m p = rows names f m p ++ codes "\n" ++ flat_map (call_line names f) p.calls ++ flat_map (open_line names f) p.begun
+
+-- and behind it what is said of a faulty line, if there is one
+unfoldable pub text : Named → Framed → ℕ → Shapes → Option Noted → List ℕ
+text names f m p x = shapes_text names f m p ++ note_text names f.window x p

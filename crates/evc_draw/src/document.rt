@@ -5,10 +5,11 @@ ghost use Rattle.ec_text.specs.Puts.{Puts, AppendsPrefix};
 ghost use Rattle.ec_draw.specs.Pictures.{kept};
 ghost use Rattle.evc_draw.specs.Documents.{document, document_for};
 ghost use Rattle.ec_frame.specs.Frames.{framed};
+ghost use Rattle.ec_frame.specs.Notes.{noted_in};
 
 use crate::text::put_text;
 use ec_draw::Picture;
-use ec_frame::{Form, Frame};
+use ec_frame::{Form, Frame, Note};
 use ec_svg::put_svg;
 use ec_text::{Buffered, WriteFault, finish};
 use ec_trace::{Heading, Spellings};
@@ -23,13 +24,14 @@ fn put_document<W: Write>(
     frame: &Frame,
     workers: usize,
     picture: &Picture,
+    note: &Option<Note<'_>>,
 )
     requires { workers ≤ 16 }
-    ensures { Puts (W.contents out.old) table.old (W.contents out.new) table.new (document form spellings.now (framed frame.now) workers (kept picture.now)) }
+    ensures { Puts (W.contents out.old) table.old (W.contents out.new) table.new (document form spellings.now (framed frame.now) workers (kept picture.now) (noted_in note.now)) }
 {
     match form {
-        Form::Svg => put_svg(out, table, spellings, frame, workers, picture),
-        Form::Text => put_text(out, table, spellings, frame, workers, picture),
+        Form::Svg => put_svg(out, table, spellings, frame, workers, picture, note),
+        Form::Text => put_text(out, table, spellings, frame, workers, picture, note),
     }
 }
 
@@ -40,13 +42,16 @@ pub(crate) fn write_document<W: Write>(
     heading: &Heading,
     frame: &Frame,
     picture: &Picture,
+    note: &Option<Note<'_>>,
 ) -> Result<(), WriteFault>
-    ensures ok { OnOk result (Appends (W.contents out.old) (W.contents out.new) (document_for form heading.now (framed frame.now) (kept picture.now))) }
-    ensures err { OnErr result (AppendsPrefix (W.contents out.old) (W.contents out.new) (document_for form heading.now (framed frame.now) (kept picture.now))) }
+    ensures ok { OnOk result (Appends (W.contents out.old) (W.contents out.new) (document_for form heading.now (framed frame.now) (kept picture.now) (noted_in note.now))) }
+    ensures err { OnErr result (AppendsPrefix (W.contents out.old) (W.contents out.new) (document_for form heading.now (framed frame.now) (kept picture.now) (noted_in note.now))) }
 {
     let spellings = Spellings::new(heading.words());
     let workers = heading.setup().workers();
     let mut table = Buffered::new();
-    put_document(out, &mut table, form, &spellings, frame, workers, picture);
+    put_document(
+        out, &mut table, form, &spellings, frame, workers, picture, note,
+    );
     finish(out, table)
 }

@@ -1,33 +1,25 @@
 //! A trace in; a picture of it out.
-ghost use Rattle.std.specs.Prelude.{◌≡◌, false, IfOk, IfSome};
-ghost use Rattle.evc_engine.specs.Notes.{IsWrittenOut, fault_status};
+ghost use Rattle.std.specs.Prelude.{◌≡◌, ◌+◌, Some, codes, false, IfOk, IfSome, length};
+ghost use Rattle.ec_text.specs.Puts.{Puts};
+ghost use Rattle.evc_engine.specs.declared.status.Status.TheVariants.{Memory};
+ghost use Rattle.evc_engine.specs.Checks.{RefusedFor};
+ghost use Rattle.ec_frame.specs.Notes.{noted};
+ghost use Rattle.evc_draw.specs.Faults.{right_of, position_in};
+ghost use Rattle.evc_engine.specs.Notes.{IsWrittenOut};
 ghost use Rattle.ec_draw.specs.Pictures.{kept, shapes};
 ghost use Rattle.ec_frame.specs.Frames.{drawn_targets, framed};
-ghost use Rattle.evc_draw.specs.Draws.{Drawn, Draws, frame_for, has_unknown, is_wide, window_of, window_on};
+ghost use Rattle.evc_draw.specs.Draws.{CutOffFault, Drawn, Draws, behind_at, DrawsCutOff, DrawsText, Refuses, TellsFault, frame_for, has_unknown, is_wide, story, story_frame, story_of, story_picture, window_before, window_of, window_on};
 
 use crate::document::write_document;
+use crate::fault::{fault_line, history, line_at, position_in, read_text, right_of};
+use crate::input::{Input, read_input};
 use crate::unknown::{has_unknown, say_unknown};
 use ec_draw::{COLUMNS_MAX, Picture, Window, picture_of};
-use ec_frame::{Frame, View, drawn_targets};
-use ec_trace::{TraceFault, Traced, read_trace};
+use ec_frame::{Frame, Note, View, drawn_targets};
+use ec_trace::{TraceFault, Traced};
 use evc_engine::{Notes, Status};
 use std::alloc::{AllocError, Global};
 use std::io::{Read, Write};
-
-/// How the program ends that could not read its trace.
-fn status_of(fault: &TraceFault) -> Status
-    ensures { result ≡ fault_status fault.now }
-{
-    match *fault {
-        TraceFault::BadLine(_) => Status::Refused,
-        TraceFault::Refused(_, _) => Status::Refused,
-        TraceFault::WrongReply(_, _) => Status::Refused,
-        TraceFault::Unfinished => Status::Refused,
-        TraceFault::TooLarge => Status::Refused,
-        TraceFault::Read => Status::InputOutput,
-        TraceFault::Memory => Status::Memory,
-    }
-}
 
 /// The part of a window that a run of so many entries has.
 fn window_on(window: Window, entries: usize) -> Window
@@ -77,7 +69,7 @@ fn write_framed<W: Write, N: Write>(
         (record { out = W.contents out.new; notes = N.contents notes.new.writer; held = notes.new.table }) }
     ensures written { IsWrittenOut notes.old.table → IsWrittenOut notes.new.table }
 {
-    match write_document(out, view.form, traced.heading(), frame, picture) {
+    match write_document(out, view.form, traced.heading(), frame, picture, &None) {
         Ok(()) => Status::Done,
         Err(_) => {
             notes.say(b"write fault\n");
@@ -121,9 +113,184 @@ fn write_drawn<W: Write, N: Write>(
     write_framed(traced, view, &frame, &picture, out, notes)
 }
 
-/// Reads a trace, and writes a picture of it; notes say what is wrong.
+/// A bound, or the place behind a position where the bound is above that.
+fn behind_at(bound: usize, position: usize) -> usize
+    ensures { result ≡ behind_at bound position }
+{
+    if position < bound {
+        position + 1
+    } else {
+        bound
+    }
+}
+
+/// The window on a history up to a faulty line at a position.
+fn window_before(window: Window, position: usize) -> Window
+    ensures { result ≡ window_before window position }
+{
+    let from = behind_at(window.from, position);
+    let to = behind_at(window.to, position);
+    Window {
+        from: from.max(to.saturating_sub(COLUMNS_MAX)),
+        to,
+    }
+}
+
+/// Tells that memory was refused.
+fn want<N: Write>(notes: &mut Notes<N>) -> Status
+    ensures memory { result ≡ Memory }
+    ensures puts { Puts (N.contents notes.old.writer) notes.old.table (N.contents notes.new.writer) notes.new.table (codes "no memory\n") }
+    ensures written { IsWrittenOut notes.new.table }
+{
+    notes.say(b"no memory\n");
+    Status::Memory
+}
+
+/// Writes the picture of a history up to a faulty line, and tells the fault.
+fn write_story<W: Write, N: Write>(
+    alloc: Global,
+    view: &View,
+    traced: &Traced,
+    note: &Note<'_>,
+    out: &mut W,
+    notes: &mut Notes<N>,
+) -> Status
+    ensures ends { TellsFault (Some (story_picture view.now traced.now (noted note.now))) note.now.fault result
+        (record { out = W.contents out.old; notes = N.contents notes.old.writer; held = notes.old.table })
+        (record { out = W.contents out.new; notes = N.contents notes.new.writer; held = notes.new.table }) }
+    ensures written { IsWrittenOut notes.old.table → IsWrittenOut notes.new.table }
+{
+    let window = window_before(view.window, note.position);
+    let Ok(frame) = frame_on(alloc, traced, view, window) else {
+        return want(notes);
+    };
+    let Ok(picture) = picture_of(alloc, traced.run(), window) else {
+        return want(notes);
+    };
+    let heading = traced.heading();
+    match write_document(out, view.form, heading, &frame, &picture, &Some(*note)) {
+        Ok(()) => {
+            notes.fault(&note.fault);
+            Status::Refused
+        }
+        Err(_) => {
+            notes.say(b"write fault\n");
+            Status::InputOutput
+        }
+    }
+}
+
+/// Writes that picture, if a run had begun, and tells the fault.
+fn tell_story<W: Write, N: Write>(
+    alloc: Global,
+    view: &View,
+    text: &[u8],
+    fault: &TraceFault,
+    number: u64,
+    traced: &Option<Traced>,
+    out: &mut W,
+    notes: &mut Notes<N>,
+) -> Status
+    ensures ends { TellsFault (story_of view.now text.now fault.now number traced.now) fault.now result
+        (record { out = W.contents out.old; notes = N.contents notes.old.writer; held = notes.old.table })
+        (record { out = W.contents out.new; notes = N.contents notes.new.writer; held = notes.new.table }) }
+    ensures written { IsWrittenOut notes.old.table → IsWrittenOut notes.new.table }
+{
+    let Some(traced) = traced else {
+        notes.fault(fault);
+        return Status::Refused;
+    };
+    let note = Note {
+        number,
+        line: line_at(number, text),
+        fault: *fault,
+        position: position_in(&right_of(fault), traced.run().len()),
+    };
+    write_story(alloc, view, traced, &note, out, notes)
+}
+
+/// Tells the fault of a text, and draws what came before.
+fn tell_fault<W: Write, N: Write>(
+    alloc: Global,
+    view: &View,
+    text: &[u8],
+    fault: &TraceFault,
+    out: &mut W,
+    notes: &mut Notes<N>,
+) -> Status
+    ensures ends { TellsFault (story view.now text.now fault.now) fault.now result
+        (record { out = W.contents out.old; notes = N.contents notes.old.writer; held = notes.old.table })
+        (record { out = W.contents out.new; notes = N.contents notes.new.writer; held = notes.new.table }) }
+    ensures written { IsWrittenOut notes.old.table → IsWrittenOut notes.new.table }
+{
+    let Some(number) = fault_line(fault) else {
+        notes.fault(fault);
+        return Status::Refused;
+    };
+    match history(alloc, number, &right_of(fault), text) {
+        Ok(traced) => tell_story(alloc, view, text, fault, number, &traced, out, notes),
+        Err(AllocError) => want(notes),
+    }
+}
+
+/// Draws a text that was read to its end.
+fn draw_whole<W: Write, N: Write>(
+    alloc: Global,
+    view: &View,
+    text: &[u8],
+    out: &mut W,
+    notes: &mut Notes<N>,
+) -> Status
+    ensures ends { DrawsText view.now text.now result
+        (record { out = W.contents out.old; notes = N.contents notes.old.writer; held = notes.old.table })
+        (record { out = W.contents out.new; notes = N.contents notes.new.writer; held = notes.new.table }) }
+    ensures written { IsWrittenOut notes.old.table → IsWrittenOut notes.new.table }
+{
+    match read_text(alloc, text) {
+        Ok(traced) => write_drawn(alloc, &traced, view, out, notes),
+        Err(TraceFault::Memory | TraceFault::Read) => want(notes),
+        Err(fault) => tell_fault(alloc, view, text, &fault, out, notes),
+    }
+}
+
+/// The first fault of a text behind which a read failed, if it has one.
+#[tactic(auto, using(crate::proofs::Whole::no_fault_read, crate::proofs::Whole::no_fault_unfinished))]
+fn cut_off_fault(alloc: Global, text: &[u8]) -> Option<TraceFault>
+    ensures { CutOffFault text.now result }
+{
+    match read_text(alloc, text) {
+        Ok(_traced) => None,
+        Err(TraceFault::Unfinished) => None,
+        Err(fault) => Some(fault),
+    }
+}
+
+/// Draws a text behind which a read failed.
+fn draw_cut_off<W: Write, N: Write>(
+    alloc: Global,
+    view: &View,
+    text: &[u8],
+    out: &mut W,
+    notes: &mut Notes<N>,
+) -> Status
+    ensures ends { DrawsCutOff view.now text.now result
+        (record { out = W.contents out.old; notes = N.contents notes.old.writer; held = notes.old.table })
+        (record { out = W.contents out.new; notes = N.contents notes.new.writer; held = notes.new.table }) }
+    ensures written { IsWrittenOut notes.old.table → IsWrittenOut notes.new.table }
+{
+    match cut_off_fault(alloc, text) {
+        None => {
+            notes.say(b"read fault\n");
+            Status::InputOutput
+        }
+        Some(TraceFault::Memory | TraceFault::Read) => want(notes),
+        Some(fault) => tell_fault(alloc, view, text, &fault, out, notes),
+    }
+}
+
+/// Reads a trace, and writes a picture of it, or of what came before its first fault; notes say what is wrong.
 ///
-/// Nothing is written to `out` before the trace was read to its end.
+/// Nothing is written to `out` before the input was read to its end.
 pub(crate) fn draw<R: Read, W: Write, N: Write>(
     alloc: Global,
     view: &View,
@@ -136,11 +303,9 @@ pub(crate) fn draw<R: Read, W: Write, N: Write>(
         (record { out = W.contents out.new; notes = N.contents notes.new.writer; held = notes.new.table })) }
     ensures written { IsWrittenOut notes.old.table → IsWrittenOut notes.new.table }
 {
-    match read_trace(alloc, reader) {
-        Ok(traced) => write_drawn(alloc, &traced, view, out, notes),
-        Err(fault) => {
-            notes.fault(&fault);
-            status_of(&fault)
-        }
+    match read_input(alloc, reader) {
+        Ok(Input::Whole(text)) => draw_whole(alloc, view, text.as_slice(), out, notes),
+        Ok(Input::CutOff(text)) => draw_cut_off(alloc, view, text.as_slice(), out, notes),
+        Err(AllocError) => want(notes),
     }
 }

@@ -29,6 +29,9 @@ Options:
   -h, --help     this help
   -V, --version  the version
 
+A trace that is refused for one of its lines is drawn up to there, with the line in red and
+below what was right; of more than 400 entries the last are shown.
+
 At most 400 entries are shown. Notes and exit status are those of `evc check`; a trace of
 more entries is refused with status 1 where the options don't choose fewer, and a name that
 the trace doesn't have with status 2.

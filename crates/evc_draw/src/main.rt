@@ -5,9 +5,12 @@ mod asked;
 mod cells;
 mod document;
 mod drawing;
+mod fault;
 mod help;
+mod input;
 mod style;
 mod text;
+mod told;
 mod unknown;
 
 use crate::asked::{Asked, read_words};

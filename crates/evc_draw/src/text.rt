@@ -6,13 +6,15 @@ ghost use Rattle.ec_text.specs.Puts.{Puts, AppendsPrefix};
 ghost use Rattle.ec_draw.specs.Curves.{shown};
 ghost use Rattle.ec_draw.specs.Pictures.{kept};
 ghost use Rattle.ec_frame.specs.Frames.{framed};
-ghost use Rattle.evc_draw.specs.Text.{call_line, curve_cells, curve_row, dot_cell, entry_cell, entry_row, number_cell, open_line, rows, text, worker_cells, worker_row, worker_rows};
+ghost use Rattle.ec_frame.specs.Notes.{noted_in};
+ghost use Rattle.evc_draw.specs.Text.{call_line, curve_cells, curve_row, dot_cell, entry_cell, entry_row, number_cell, open_line, rows, shapes_text, text, worker_cells, worker_row, worker_rows};
 
 use crate::cells::{cell_width, put_dot_cell, put_number_cell, put_padded, put_row_name};
 use crate::style::BLANKS;
+use crate::told::put_note;
 use ec_count::WorkerId;
 use ec_draw::{Curve, Dot, Open, Picture, Window};
-use ec_frame::{Frame, counted_word, put_call_words, put_open_words};
+use ec_frame::{Frame, Note, counted_word, put_call_words, put_open_words};
 use ec_order::Placed;
 use ec_text::{Buffered, WriteFault, finish, put};
 use ec_trace::{Heading, Spellings};
@@ -253,9 +255,9 @@ fn put_open_lines<W: Write>(
     }
 }
 
-/// Puts the text of a picture.
-#[tactic(auto, unfolding(crate::specs::Text::text))]
-pub(crate) fn put_text<W: Write>(
+/// Puts the text of the shapes.
+#[tactic(auto, unfolding(crate::specs::Text::shapes_text))]
+fn put_shapes<W: Write>(
     out: &mut W,
     table: &mut Buffered,
     spellings: &Spellings<'_>,
@@ -264,10 +266,28 @@ pub(crate) fn put_text<W: Write>(
     picture: &Picture,
 )
     requires { workers ≤ 16 }
-    ensures { Puts (W.contents out.old) table.old (W.contents out.new) table.new (text spellings.now (framed frame.now) workers (kept picture.now)) }
+    ensures { Puts (W.contents out.old) table.old (W.contents out.new) table.new (shapes_text spellings.now (framed frame.now) workers (kept picture.now)) }
 {
     put_all_rows(out, table, spellings, frame, workers, picture);
     put(out, table, b"\n");
     put_call_lines(out, table, spellings, frame, picture.calls.as_slice());
     put_open_lines(out, table, spellings, frame, picture.begun.as_slice());
+}
+
+/// Puts the text of a picture, with what is said of a faulty line, if there is one.
+#[tactic(auto, unfolding(crate::specs::Text::text))]
+pub(crate) fn put_text<W: Write>(
+    out: &mut W,
+    table: &mut Buffered,
+    spellings: &Spellings<'_>,
+    frame: &Frame,
+    workers: usize,
+    picture: &Picture,
+    note: &Option<Note<'_>>,
+)
+    requires { workers ≤ 16 }
+    ensures { Puts (W.contents out.old) table.old (W.contents out.new) table.new (text spellings.now (framed frame.now) workers (kept picture.now) (noted_in note.now)) }
+{
+    put_shapes(out, table, spellings, frame, workers, picture);
+    put_note(out, table, spellings, frame.window, note, picture);
 }

@@ -1,0 +1,86 @@
+-- What is drawn of a text that is refused for one of its lines: the trace of the lines before that line, and of the line itself
+-- with the right reply where its reply alone is wrong.
+use Rattle.std.specs.Prelude.{ℕ, ◌+◌, ◌-◌, zero, suc, ◌==◌, nat_lt, List, [], ◌++◌, length, take, drop, Option, Some, None, unwrap_or, Result, Ok, Err, codes, if◌then◌else◌}
+use Rattle.std.specs.List.{position_from}
+use Rattle.ec_core.specs.declared.act.Reply.{Reply}
+use Rattle.ec_heading.specs.Spelling.{reply_word}
+use Rattle.ec_trace.specs.Recounted.{Recounted}
+use Rattle.ec_trace.specs.Outcome.{outcome}
+use Rattle.ec_trace.specs.declared.fault.TraceFault.{TraceFault}
+use Rattle.ec_trace.specs.declared.fault.TraceFault.TheVariants.{BadLine, Refused, WrongReply, Unfinished, TooLarge, Read, Memory}
+use Rattle.ec_trace.specs.declared.read.TheConstants.{TRACE_MAX}
+
+-- THE LINES OF A TEXT
+
+-- where a sign stands first; behind the last byte where it doesn't
+abbrev pub place_of : ℕ → List ℕ → ℕ
+place_of sign xs = unwrap_or (position_from (λ b. b == sign) 0 xs) (length xs)
+
+-- what stands behind the first line, which ends with its LF
+abbrev pub behind_line : List ℕ → List ℕ
+behind_line xs = if nat_lt (place_of 10 xs) (length xs) then drop (place_of 10 xs + 1) xs else []
+
+-- what stands behind the first n lines
+unfoldable pub behind : ℕ → List ℕ → List ℕ
+behind zero xs = xs
+behind (suc n) xs = behind_line (behind n xs)
+
+-- the first line without its LF
+abbrev pub first_line : List ℕ → List ℕ
+first_line xs = take (place_of 10 xs) xs
+
+-- line n of a text, counted from 1, and all that stands before it
+abbrev pub line_at : ℕ → List ℕ → List ℕ
+line_at n xs = first_line (behind (n - 1) xs)
+
+abbrev pub before_line : ℕ → List ℕ → List ℕ
+before_line n xs = take (length xs - length (behind (n - 1) xs)) xs
+
+-- WHAT IS READ
+
+-- a line with another reply: the reply stands behind the sign of equality
+unfoldable pub with_reply : List ℕ → Reply → List ℕ
+with_reply line r = take (place_of 61 line) line ++ codes "= " ++ reply_word r ++ codes "\n"
+
+abbrev pub with_right : List ℕ → Option Reply → List ℕ
+with_right line None = []
+with_right line (Some r) = with_reply line r
+
+-- the text of the lines before a faulty one, and of that with its right reply if it has one, with the last line of a trace
+unfoldable pub mended : List ℕ → List ℕ → Option Reply → List ℕ
+mended before line right = before ++ with_right line right ++ codes "end\n"
+
+abbrev pub read_back : Result Recounted TraceFault → Option Recounted
+read_back (Ok t) = Some t
+read_back (Err e) = None
+
+-- the trace of that text; none where no run had begun before line n
+abbrev pub history : ℕ → Option Reply → List ℕ → Option Recounted
+history n right xs = read_back (outcome TRACE_MAX (mended (before_line n xs) (line_at n xs) right))
+
+-- THE FAULT
+
+-- the number of its line
+abbrev pub fault_line : TraceFault → Option ℕ
+fault_line (BadLine n) = Some n
+fault_line (Refused n r) = Some n
+fault_line (WrongReply n r) = Some n
+fault_line Unfinished = None
+fault_line TooLarge = None
+fault_line Read = None
+fault_line Memory = None
+
+-- the right reply, where the reply alone is wrong
+abbrev pub right_of : TraceFault → Option Reply
+right_of (BadLine n) = None
+right_of (Refused n r) = None
+right_of (WrongReply n r) = Some r
+right_of Unfinished = None
+right_of TooLarge = None
+right_of Read = None
+right_of Memory = None
+
+-- the position of the line's entry, where a history of k entries was read: behind them, or that of the last
+abbrev pub position_in : Option Reply → ℕ → ℕ
+position_in None k = k
+position_in (Some r) k = k - 1
