@@ -34,6 +34,7 @@ class Kernel:
         self.going = {}
         self.audited = []
         self.downs = {}
+        self.pairs = []
         self.calls = {}
         self.finished = 0
 
@@ -60,8 +61,9 @@ class Kernel:
         lines = [line for _, line in sorted(self.audited)]
         for name, downs in self.downs.items():
             ups = self.total(f"{name}.v")
-            lines.append(f"balance {name} {INITIAL} {downs} {ups} {INITIAL + ups - downs}")
-        return lines
+            initial = 1 if name == "both" else INITIAL
+            lines.append(f"balance {name} {initial} {downs} {ups} {initial + ups - downs}")
+        return lines + self.pairs
 
     def total(self, event):
         return sum(self.components[event])
@@ -189,7 +191,8 @@ def interleaved_kernel():
 
 
 # Workers of groups. Each is a generator of what it asks for next: a function that makes the entry. What it was told
-# stands in `kernel.told` when it goes on. `kernel.audited` gets the lines that `audit` has to write, each behind its place.
+# stands in `kernel.told` when it goes on. `kernel.audited` gets the lines that `audit` has to write,
+# each behind its place: those of a buffer come first, and then those of a database.
 
 CELLS = 8
 
@@ -212,7 +215,7 @@ def consumer(kernel, worker, makers):
         yield lambda: kernel.wait(worker, "B.out", turn)
         yield lambda: kernel.wait(worker, "B.in", turn + 1)
         yield lambda: kernel.get(worker, f"B[{turn % CELLS}]")
-        kernel.audited.append((turn, f"delivery B {turn} {makers.pop(turn)} {worker} {kernel.told[worker]}"))
+        kernel.audited.append(((0, turn), f"delivery B {turn} {makers.pop(turn)} {worker} {kernel.told[worker]}"))
         yield lambda: kernel.advance(worker, "B.out")
 
 
@@ -238,7 +241,7 @@ def reader(kernel, worker):
             values.append(kernel.told[worker])
         yield lambda: kernel.read(worker, "D.start")
         if kernel.told[worker] == version:
-            kernel.audited.append((kernel.ended[worker], f"version D {version} {worker} {' '.join(map(str, values))}"))
+            kernel.audited.append(((1, kernel.ended[worker]), f"version D {version} {worker} {' '.join(map(str, values))}"))
 
 
 def user(kernel, worker):
@@ -254,6 +257,27 @@ def user(kernel, worker):
 def entry_of(kernel, workers, worker):
     """The next entry of a worker, which goes on with what it is at."""
     return kernel.go(worker) if worker in kernel.calls else next(workers[worker])()
+
+
+def user_of_both(kernel, worker):
+    """P and then V on two semaphores at once, whose tickets are drawn under the guard of `both`."""
+    first, second = [name for name in kernel.downs if name != "both"][:2]
+    while True:
+        yield lambda: kernel.ticket(worker, "both.p")
+        turn = kernel.told[worker]
+        yield lambda: kernel.wait(worker, "both.v", turn)
+        kernel.downs["both"] += 1
+        tickets = []
+        for name in (first, second):
+            yield lambda: kernel.ticket(worker, f"{name}.p")
+            tickets.append(kernel.told[worker])
+        kernel.pairs.append(f"pair {worker} {first} {tickets[0]} {second} {tickets[1]}")
+        yield lambda: kernel.advance(worker, "both.v")
+        for name, ticket in zip((first, second), tickets):
+            yield lambda: kernel.wait(worker, f"{name}.v", max(0, ticket + 1 - INITIAL))
+            kernel.downs[name] += 1
+        for name in (first, second):
+            yield lambda: kernel.advance(worker, f"{name}.v")
 
 
 def buffer(kernel, draw):
@@ -279,6 +303,22 @@ def snapshots(kernel, draw):
 
 def semaphores(kernel, draw):
     workers = {it: user(kernel, it) for it in kernel.workers}
+    kernel.going = workers
+    while True:
+        yield entry_of(kernel, workers, draw(kernel.workers))
+
+
+def all_groups(kernel, draw):
+    put, take, write, read, one, other = kernel.workers
+    makers = {}
+    workers = {
+        put: producer(kernel, put, makers),
+        take: consumer(kernel, take, makers),
+        write: writer(kernel, write),
+        read: reader(kernel, read),
+        one: user_of_both(kernel, one),
+        other: user_of_both(kernel, other),
+    }
     kernel.going = workers
     while True:
         yield entry_of(kernel, workers, draw(kernel.workers))
@@ -312,13 +352,39 @@ def semaphores_kernel(many):
     return kernel
 
 
+def all_groups_kernel():
+    workers = ["alice", "bob", "carol", "dave", "erin", "frank"]
+    put, take, write, read, *users = workers
+    events = {
+        "B.in": ([put], [put, take]),
+        "B.out": ([take], [put, take]),
+        "D.start": ([write], [read]),
+        "D.done": ([write], [write, read]),
+        **{f"{name}.v": (users, users) for name in ("S00", "S01", "both")},
+    }
+    sequencers = {"B.put": [put], "B.take": [take], "D.turn": [write], **{f"{it}.p": users for it in ("S00", "S01", "both")}}
+    groups = [
+        f"buffer B {CELLS} produce {put} consume {take}",
+        f"database D {CELLS} write {write} read {read}",
+        *(f"semaphore {name} {INITIAL} use {' '.join(users)}" for name in ("S00", "S01")),
+        f"both use {' '.join(users)}",
+    ]
+    kernel = Kernel(workers, events, sequencers, groups)
+    kernel.downs = {"S00": 0, "S01": 0, "both": 0}
+    return kernel
+
+
 # The initial value of each semaphore, and how many of them a trace of semaphores has.
 INITIAL = 3
 MANY = (1, 8, 32)
 
 # The traces of so many semaphores, and the kinds of traces for `audit`, in the same form as those below.
 SEMAPHORES = {f"{many} semaphores": (lambda many=many: semaphores_kernel(many), semaphores) for many in MANY}
-AUDITED = {"buffer": (buffer_kernel, buffer), "snapshots": (snapshots_kernel, snapshots)}
+AUDITED = {
+    "buffer": (buffer_kernel, buffer),
+    "snapshots": (snapshots_kernel, snapshots),
+    "all groups": (all_groups_kernel, all_groups),
+}
 
 # The kinds of traces: the kernel of each, and what its workers do.
 KINDS = {
