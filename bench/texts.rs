@@ -133,8 +133,7 @@ impl Words {
         let keys: Vec<_> = words.iter().map(|(word, what)| (key_of(word), *what)).collect();
         let short: Vec<_> = keys.iter().filter(|(key, _)| bits_to_space(key[0]) < 64).map(|(key, what)| (key[0], *what)).collect();
         let places = (8 * short.len()).next_power_of_two().max(16);
-        let factors = (1..200u64).map(|it| it.wrapping_mul(0x9e37_79b9_7f4a_7c15) | 1);
-        let factor = factors.min_by_key(|it| crowding(&short, *it, places)).unwrap_or(1);
+        let factor = best_factor(&short, places);
         let mut table = Words { factor, short: vec![(0, UNKNOWN); places], long: vec![([0; 3], UNKNOWN); LONG_PLACES] };
         for (key, what) in keys {
             if bits_to_space(key[0]) < 64 {
@@ -202,10 +201,25 @@ fn key_of(word: &[u8]) -> [u64; 3] {
     [load(&bytes, 0), load(&bytes, 8), load(&bytes, 16)]
 }
 
+/// A factor by which few words, or none, fall on places of others.
+fn best_factor(short: &[(u64, u16)], places: usize) -> u64 {
+    let (mut best, mut least) = (1, usize::MAX);
+    for factor in (1..32u64).map(|it| it.wrapping_mul(0x9e37_79b9_7f4a_7c15) | 1) {
+        let crowded = crowding(short, factor, places);
+        if crowded < least {
+            (best, least) = (factor, crowded);
+        }
+        if least == 0 {
+            break;
+        }
+    }
+    best
+}
+
 /// How many words of a table fall on places of others.
 fn crowding(short: &[(u64, u16)], factor: u64, places: usize) -> usize {
-    let taken: HashSet<_> = short.iter().map(|(key, _)| spread(*key, factor) & (places - 1)).collect();
-    short.len() - taken.len()
+    let mut taken = vec![false; places];
+    short.iter().filter(|(key, _)| std::mem::replace(&mut taken[spread(*key, factor) & (places - 1)], true)).count()
 }
 
 // Declarations
@@ -505,7 +519,7 @@ impl Reader {
             return None;
         }
         let (call, at) = self.call(text, at + length, act)?;
-        if text[at] != b'=' || text[at + 1] != b' ' {
+        if text[at..at + 2] != *b"= " {
             return None;
         }
         let (reply, at) = reply_of(text, at + 2)?;

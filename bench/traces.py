@@ -374,6 +374,109 @@ def all_groups_kernel():
     return kernel
 
 
+# Traces for the yardstick in plain Rust (texts.rs): each with much of one sort of line, and one with all sorts.
+
+
+def sixteen():
+    return "alice bob carol dave erin frank grace heidi ivan judy kevin laura mike nina oscar peggy".split()
+
+
+def advances(kernel, draw):
+    events = list(kernel.events)
+    while True:
+        yield kernel.advance(draw(kernel.workers), draw(events))
+
+
+def advances_kernel():
+    workers = sixteen()
+    return Kernel(workers, {f"E{number:02}": (workers, workers) for number in range(32)}, {})
+
+
+def cells(kernel, draw):
+    names = [f"X[{number}]" for number in range(256)]
+    while True:
+        worker, cell = draw(kernel.workers), draw(names)
+        yield draw((kernel.get, lambda worker, cell: kernel.put(worker, cell, draw(VALUES))))(worker, cell)
+
+
+def cells_kernel():
+    workers = sixteen()
+    return Kernel(workers, {}, {}, [f"cells X 256 write {' '.join(workers)} read {' '.join(workers)}"])
+
+
+def reads(kernel, draw):
+    """Entries of reads of 16 components, one after another: each sixteenth call is an advance."""
+    while True:
+        worker = draw(kernel.workers)
+        yield draw([kernel.advance] + [kernel.read] * 15)(worker, "Events")
+        while worker in kernel.calls:
+            yield kernel.go(worker)
+
+
+def awaits(kernel, draw):
+    """Entries of four workers on two components, which two of them advance and two await, often one advance ahead."""
+    while True:
+        worker = draw(kernel.workers)
+        if worker in kernel.calls:
+            yield kernel.go(worker)
+        elif ("Events", worker) in kernel.places and draw(range(2)):
+            yield kernel.advance(worker, "Events")
+        else:
+            # (who advances awaits no more than there is, so that somebody goes on)
+            more = 0 if ("Events", worker) in kernel.places else draw(range(2))
+            yield kernel.wait(worker, "Events", kernel.total("Events") + more)
+
+
+def awaits_kernel():
+    workers = ["alice", "bob", "carol", "dave"]
+    return Kernel(workers, {"Events": (workers[:2], workers)}, {})
+
+
+def any_act(kernel, worker, draw):
+    while True:
+        yield draw((
+            lambda: kernel.advance(worker, "Events"),
+            lambda: kernel.read(worker, "Events"),
+            lambda: kernel.wait(worker, "Events", kernel.total("Events")),
+            lambda: kernel.ticket(worker, "Turns"),
+            lambda: kernel.put(worker, "X[3]", draw(VALUES)),
+            lambda: kernel.get(worker, "X[3]"),
+        ))
+
+
+def mixed(kernel, draw):
+    names, makers = kernel.workers, {}
+    workers = {it: producer(kernel, it, makers) for it in names[:2]}
+    workers.update({it: consumer(kernel, it, makers) for it in names[2:4]})
+    workers.update({names[4]: writer(kernel, names[4])}, **{it: reader(kernel, it) for it in names[5:7]})
+    workers.update({it: user(kernel, it) for it in names[7:11]}, **{it: any_act(kernel, it, draw) for it in names[11:]})
+    while True:
+        yield entry_of(kernel, workers, draw(names))
+
+
+def mixed_kernel():
+    workers = sixteen()
+    makers, takers, writers, readers, users, others = (
+        workers[begin:end] for begin, end in ((0, 2), (2, 4), (4, 5), (5, 7), (7, 11), (11, 16))
+    )
+    events = {"B.in": (makers, ()), "B.out": (takers, ()), "D.start": (writers, ()), "D.done": (writers, ())}
+    lines = [
+        f"buffer B {CELLS} produce {' '.join(makers)} consume {' '.join(takers)}",
+        f"database D {CELLS} write {' '.join(writers)} read {' '.join(readers)}",
+        f"semaphore S {INITIAL} use {' '.join(users)}",
+        f"eventcount Events signal {' '.join(others)} observe {' '.join(others)}",
+        f"sequencer Turns take {' '.join(others)}",
+        f"cells X 4 write {' '.join(others)} read {' '.join(others)}",
+    ]
+    sequencers = {"B.put": makers, "B.take": takers, "D.turn": writers, "S.p": users, "Turns": others}
+    kernel = Kernel(workers, {**events, "S.v": (users, ()), "Events": (others, ())}, sequencers, lines)
+    kernel.downs = {"S": 0}
+    return kernel
+
+
+# What is put into cells.
+VALUES = (0, 7, 10, 365, 1979, 65536, 1000000, 123456789)
+
 # The initial value of each semaphore, and how many of them a trace of semaphores has.
 INITIAL = 3
 MANY = (1, 8, 32)
@@ -384,6 +487,14 @@ AUDITED = {
     "buffer": (buffer_kernel, buffer),
     "snapshots": (snapshots_kernel, snapshots),
     "all groups": (all_groups_kernel, all_groups),
+}
+
+SORTS = {
+    "advances": (advances_kernel, advances),
+    "cells": (cells_kernel, cells),
+    "reads": (interleaved_kernel, reads),
+    "awaits": (awaits_kernel, awaits),
+    "mixed": (mixed_kernel, mixed),
 }
 
 # The kinds of traces: the kernel of each, and what its workers do.
@@ -397,7 +508,7 @@ KINDS = {
 
 def write_trace(path, kind, size, most=None):
     """Writes a trace of at most `size` bytes, as many entries as fit or `most`, and gives the kernel at its end."""
-    make_kernel, entries = {**KINDS, **AUDITED, **SEMAPHORES}[kind]
+    make_kernel, entries = {**KINDS, **AUDITED, **SEMAPHORES, **SORTS}[kind]
     kernel = make_kernel()
     with open(path, "w", encoding="ascii", newline="\n") as file:
         written = file.write(kernel.heading())
