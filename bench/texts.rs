@@ -997,23 +997,39 @@ struct Digits {
     length: usize,
 }
 
+const EIGHT_DIGITS: u64 = 100_000_000;
+
 impl Digits {
     #[inline(always)]
-    fn of(mut number: u64) -> Digits {
-        let mut last = [0; 24];
-        let mut begin = 24;
-        loop {
-            begin -= 1;
-            last[begin] = b'0' + (number % 10) as u8;
-            number /= 10;
-            if number == 0 {
-                break;
-            }
-        }
+    fn of(number: u64) -> Digits {
         let mut bytes = [0; 24];
-        bytes[..24 - begin].copy_from_slice(&last[begin..]);
-        Digits { bytes, length: 24 - begin }
+        if number >= EIGHT_DIGITS {
+            return Digits::of_long(number);
+        }
+        let digits = eight_digits(number);
+        let zeros = ((digits.trailing_zeros() & !7) / 8).min(7);
+        bytes[..8].copy_from_slice(&((digits | repeated(b'0')) >> (8 * zeros)).to_le_bytes());
+        Digits { bytes, length: 8 - zeros as usize }
     }
+
+    #[inline(never)]
+    fn of_long(number: u64) -> Digits {
+        let mut digits = Digits::of(number / EIGHT_DIGITS);
+        let last = (eight_digits(number % EIGHT_DIGITS) | repeated(b'0')).to_le_bytes();
+        digits.bytes[digits.length..digits.length + 8].copy_from_slice(&last);
+        digits.length += 8;
+        digits
+    }
+}
+
+/// The eight digits of a number, each in a byte, the first in the lowest.
+#[inline(always)]
+fn eight_digits(number: u64) -> u64 {
+    let fours = number / 10_000 | (number % 10_000) << 32;
+    let hundreds = (fours * 10_486 >> 20) & 0x0000_007f_0000_007f;
+    let twos = hundreds | (fours - 100 * hundreds) << 16;
+    let tens = (twos * 103 >> 10) & 0x000f_000f_000f_000f;
+    tens | (twos - 10 * tens) << 8
 }
 
 /// A count as it is written: of entries, tickets or advances, so of eight digits at most.
