@@ -1,4 +1,4 @@
--- What a scan over the entries of a run keeps of each worker.
+-- What a walk over the entries of a run keeps of each worker.
 use Rattle.std.specs.Prelude.{◌≡◌, ℕ, ◌<◌, List, Option, Some, None, slice_get, reverse}
 use Rattle.std.specs.Option.{option_map}
 use Rattle.ec_core.specs.declared.act.Act.{Act}
@@ -12,11 +12,6 @@ use Rattle.ec_core.specs.Audits.{IsFirstBreak}
 use Rattle.ec_core.specs.Calls.{CallSoFar, under_way}
 use Rattle.ec_core.specs.Following.{Told, Rule, block, Follow}
 
--- a scan, as a contract sees it: by worker, what is kept of its list, and the act that began its call under way
-pub record Scanned : Type 0 where
-  pub kept : List Kept
-  pub begun : List (Option Act)
-
 -- by worker, what is kept of its list after a past
 abbrev pub AreKept : (ℕ → Rule) → (List Told → Kept) → List Kept → List Entry → Type 0
 AreKept rules keeps kept past = (w : ℕ) → w < 16 → slice_get kept w ≡ Some (keeps (block (rules w) w past))
@@ -24,11 +19,6 @@ AreKept rules keeps kept past = (w : ℕ) → w < 16 → slice_get kept w ≡ So
 -- the acts that began the calls under way after a past, by worker
 abbrev pub AreBegun : List (Option Act) → List Entry → Type 0
 AreBegun begun past = (w : ℕ) → w < 16 → slice_get begun w ≡ Some (option_map (λ (c : CallSoFar). c.op) (under_way w past))
-
--- the scan is that after a past
-pub record IsScanned (rules : ℕ → Rule) (keeps : List Told → Kept) (scan : Scanned) (past : List Entry) : Type 0 where
-  pub lists : (w : ℕ) → w < 16 → slice_get scan.kept w ≡ Some (keeps (block (rules w) w past))
-  pub calls : (w : ℕ) → w < 16 → slice_get scan.begun w ≡ Some (option_map (λ (c : CallSoFar). c.op) (under_way w past))
 
 -- the act that began the call that an act is part of, given the one that began its worker's call under way
 abbrev pub opened_by : Act → Option Act → Act
@@ -42,8 +32,6 @@ open_after Go Pending o = o
 open_after act Pending o = Some act
 open_after act Done o = None
 open_after act (Number n) o = None
-
--- ONE WALK FOR MANY GROUPS
 
 -- what was found of a past: it follows, or this is the first entry that breaks the lists
 abbrev pub IsFinding : (ℕ → Rule) → Option AuditFault → List Entry → Type 0

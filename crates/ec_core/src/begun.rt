@@ -4,11 +4,10 @@ ghost use Rattle.std.specs.Option.{option_map};
 ghost use Rattle.ec_core.specs.declared.act.Entry.{Entry};
 ghost use Rattle.ec_core.specs.Calls.{under_way};
 ghost use Rattle.ec_core.specs.Following.{opened};
-ghost use Rattle.ec_core.specs.Scanning.{AreBegun};
+ghost use Rattle.ec_core.specs.Scanning.{AreBegun, opened_by, open_after};
 
 use crate::fields::all_alike;
-use crate::scan::{opened, still_open};
-use crate::{Act, Entry};
+use crate::{Act, Entry, Reply};
 use ec_count::WorkerId;
 use std::marker::Model;
 
@@ -59,5 +58,31 @@ impl Begun {
         let begun = self.begun(entry.worker);
         let place = entry.worker.get();
         self.acts[place] = still_open(&entry.act, entry.reply, &begun);
+    }
+}
+
+/// The act that began the call that an act is part of.
+fn opened(act: &Act, begun: &Option<Act>) -> Act
+    ensures { result ≡ opened_by act.now begun.now }
+{
+    match act {
+        Act::Go => match begun {
+            Some(op) => *op,
+            None => Act::Go,
+        },
+        other => *other,
+    }
+}
+
+/// The act that began the call under way after an entry.
+fn still_open(act: &Act, reply: Reply, begun: &Option<Act>) -> Option<Act>
+    ensures { result ≡ open_after act.now reply begun.now }
+{
+    match reply {
+        Reply::Pending => match act {
+            Act::Go => *begun,
+            other => Some(*other),
+        },
+        _ => None,
     }
 }

@@ -49,12 +49,6 @@ break_at rules h done others x k order at follow wrong =
       breaks = λ f. (let right = (subst (Follow rules) after f).0 in cc);
     }
 
--- the same in the words of a loop over the entries, which has done some of them
-pub break_next : (rules : ℕ → Rule) (h done left others : List Entry) (x : Entry) (k : ℕ) (b : Bool) → done ++ left ≡ h → left ≡ x ∷ others → k ≡ length done
-    → Follow rules (reverse done) → b ≡ is_right (rules x.worker) (block (rules x.worker) x.worker (reverse done)) x.act → b ≡ false → BreaksAt rules h x.worker k
-break_next rules h done left others x k b order next at follow is wrong =
-    break_at rules h done others x k (ap (λ (r : List Entry). done ++ r) (sym next) ∙ order) at follow (sym is ∙ wrong)
-
 -- one more entry: what was found stands, or the entry is right, or it is the first break
 abbrev FollowsUpTo : (ℕ → Rule) → List Entry → ℕ → Type 0
 FollowsUpTo rules h k = Follow rules (past_at k h) ⊎ ((w : ℕ) × (i : ℕ) × BreaksAt rules h w i)

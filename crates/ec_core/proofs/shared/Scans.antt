@@ -1,5 +1,5 @@
--- A scan keeps what it says it keeps.
-use Rattle.std.proofs.Common.{◌≡◌, ℕ, ◌<◌, true, false, List, [], ◌∷◌, Option, Some, None, refl, ap, sym, ◌∙◌, subst, cond, ◌==◌, slice_get, slice_set}
+-- What a walk keeps of a worker, with one more entry.
+use Rattle.std.proofs.Common.{◌≡◌, ℕ, ◌<◌, true, false, List, ◌∷◌, Option, Some, None, refl, ap, sym, ◌∙◌, subst, cond, ◌==◌, slice_get, slice_set}
 use Rattle.std.specs.Option.{option_map}
 use Rattle.std.proofs.lemmas.Bool.{eqb-true, eq-eqb}
 use Rattle.ec_core.specs.declared.act.Act.{Act}
@@ -10,13 +10,10 @@ use Rattle.ec_core.specs.declared.act.Entry.{Entry}
 use Rattle.ec_core.specs.declared.protocol.Kept.{Kept}
 use Rattle.ec_core.specs.Calls.{CallSoFar, under_way, gone_on, is_pending}
 use Rattle.ec_core.specs.Following.{Told, Rule, opened, block_after, block}
-use Rattle.ec_core.specs.Scanning.{Scanned, IsScanned, AreKept, AreBegun, opened_by, open_after}
+use Rattle.ec_core.specs.Scanning.{AreKept, AreBegun, opened_by, open_after}
 use Rattle.std.proofs.lemmas.Option.{slice_get_within}
 use Rattle.ec_core.proofs.shared.Places.{get_set}
 use Rattle.ec_core.proofs.shared.Following.{other_block, own_block}
-
-abbrev pub scanned : List Kept → List (Option Act) → Scanned
-scanned kept begun = record { kept = kept; begun = begun }
 
 abbrev pub op_of : CallSoFar → Act
 op_of call = call.op
@@ -101,35 +98,3 @@ begun_after begun x past o s lt eo =
     (λ h. (let P : ℕ → Type 0 = λ v. o ≡ option_map op_of (under_way v (x ∷ past)) in
     subst P (eqb-true x.worker w h) (eo ∙ after_same x.act x.reply past (under_way x.worker past) ∙ ap (option_map op_of) (sym (call_own x past)))))
     (λ h. ap (option_map op_of) (sym (call_other w x past h)))
-
--- with what is kept of its worker brought up to an entry, a scan is that of the past with the entry
-scanned_after : (rules : ℕ → Rule) (keeps : List Told → Kept) (kept : List Kept) (begun : List (Option Act)) (x : Entry) (past : List Entry) (k : Kept) (o : Option Act)
-    → IsScanned rules keeps (scanned kept begun) past → x.worker < 16
-    → k ≡ keeps (block_after (rules x.worker) (block (rules x.worker) x.worker past) (opened x.act (under_way x.worker past)) x.reply)
-    → o ≡ open_after x.act x.reply (option_map op_of (under_way x.worker past))
-    → IsScanned rules keeps (scanned (slice_set kept x.worker k) (slice_set begun x.worker o)) (x ∷ past)
-scanned_after rules keeps kept begun x past k o s lt ek eo = record {
-  lists = lists_after rules keeps kept x past k s.lists lt ek;
-  calls = begun_after begun x past o s.calls lt eo;
-}
-
--- the same in the words of the code
-pub scanned_take : (rules : ℕ → Rule) (keeps : List Told → Kept) (kept : List Kept) (begun : List (Option Act)) (x : Entry) (past : List Entry) (i : ℕ) (was k : Kept) (o b : Option Act) (op : Act)
-    → IsScanned rules keeps (scanned kept begun) past → i ≡ x.worker → i < 16
-    → was ≡ keeps (block (rules x.worker) x.worker past) → op ≡ opened x.act (under_way x.worker past) → b ≡ option_map op_of (under_way x.worker past)
-    → ((calls : List Told) → was ≡ keeps calls → k ≡ keeps (block_after (rules x.worker) calls op x.reply)) → o ≡ open_after x.act x.reply b
-    → IsScanned rules keeps (scanned (slice_set kept i k) (slice_set begun i o)) (x ∷ past)
-scanned_take rules keeps kept begun x past i was k o b op s at lt was_is op_is b_is list call =
-    let Small : ℕ → Type 0 = λ n. n < 16 in
-    let Q : ℕ → Type 0 = λ n. IsScanned rules keeps (scanned (slice_set kept n k) (slice_set begun n o)) (x ∷ past) in
-    subst Q (sym at)
-    (scanned_after rules keeps kept begun x past k o s (subst Small at lt)
-    (list (block (rules x.worker) x.worker past) was_is ∙ ap (λ a. keeps (block_after (rules x.worker) (block (rules x.worker) x.worker past) a x.reply)) op_is)
-    (call ∙ ap (open_after x.act x.reply) b_is))
-
--- ONE MORE ENTRY
-
-pub scanned_first : (rules : ℕ → Rule) (keeps : List Told → Kept) (kept : List Kept) (begun : List (Option Act)) (start : Kept) → start ≡ keeps []
-    → ((w : ℕ) → w < 16 → slice_get kept w ≡ Some start) → ((w : ℕ) → w < 16 → slice_get begun w ≡ Some None) → IsScanned rules keeps (scanned kept begun) []
-unfolding block under_way
-scanned_first rules keeps kept begun start e k b = record { lists = λ w lt. k w lt ∙ ap Some e; calls = λ w lt. b w lt }
