@@ -1,7 +1,7 @@
 # What bin/evc, bin/release and bin/test share. It is read by `.`, and not run; `top` is the folder above bin/.
 
 # The line of the Rattle kit that everything here is proved and built with.
-kit='rattle-kit-13f'
+kit='rattle-kit-13'
 
 # say TEXT..: writes a line to standard error, under the name of the command.
 say() {

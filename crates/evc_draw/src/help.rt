@@ -1,7 +1,7 @@
 //! The texts of the command line.
 
 pub(crate) const VERSION: &[u8] = b"evc-draw 0.2
-proved and built with rattle-kit-13f
+proved and built with rattle-kit-13
 ";
 
 pub(crate) const USAGE: &[u8] =

@@ -3,7 +3,7 @@
 // What stands behind `evc ` in the answer to `evc --version`: the number, which bin/package reads
 // here, and the line of the toolchain that everything is proved and built with.
 pub(crate) const VERSION: &str = "0.2
-proved and built with rattle-kit-13f";
+proved and built with rattle-kit-13";
 
 pub(crate) const ABOUT: &str =
     "Checks recorded runs of eventcounts and sequencers, and makes runs from scripts";
