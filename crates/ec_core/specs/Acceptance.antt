@@ -88,9 +88,9 @@ reply_of t past w (Put x v) = Done
 reply_of t past w (Get x) = Number (cell_value x past)
 reply_of t past w (Hand e b) = Done
 
-abbrev pub refused_or : Option Refusal → Reply → Result Reply Refusal
-refused_or None reply = Ok reply
-refused_or (Some r) reply = Err r
+abbrev pub refused_or : {X : Type 0} → Option Refusal → X → Result X Refusal
+refused_or None x = Ok x
+refused_or (Some r) x = Err r
 
 -- the refusal, else the right reply
 unfoldable pub answer_of : Tables → List Entry → ℕ → Act → Result Reply Refusal

@@ -1,5 +1,5 @@
 -- What a step does to the fields of a world: plain functions of them, below the definitions over a history.
-use Rattle.std.specs.Prelude.{ℕ, ◌+◌, ◌<◌, Bool, false, ◌==◌, nat_le, List, [], Option, Some, None, is_some, if◌then◌else◌, slice_get, slice_set, slice_index, Result, unwrap_or}
+use Rattle.std.specs.Prelude.{◌≡◌, ℕ, ◌+◌, ◌<◌, Bool, false, ◌==◌, nat_le, List, [], ◌∷◌, ◌++◌, reverse, Ok, Option, Some, None, is_some, if◌then◌else◌, slice_get, slice_set, slice_index, Result, unwrap_or}
 use Rattle.std.specs.Option.{option_map_or}
 use Rattle.ec_count.specs.Members.{place_of, is_member}
 use Rattle.ec_count.specs.Counted.{Counted, raised}
@@ -9,11 +9,16 @@ use Rattle.ec_core.specs.declared.act.Reply.{Reply}
 use Rattle.ec_core.specs.declared.act.Reply.TheVariants.{Done, Number, Pending}
 use Rattle.ec_core.specs.declared.act.Entry.{Entry}
 use Rattle.ec_core.specs.declared.act.Refusal.{Refusal}
+use Rattle.ec_core.specs.declared.effect.Effect.{Effect}
+use Rattle.ec_core.specs.declared.effect.Effect.TheVariants as effects
 use Rattle.ec_core.specs.Progress.{Progress}
 use Rattle.ec_core.specs.Counts.{replaced}
 use Rattle.ec_core.specs.Rounds.{event_or, width, round_reply}
-use Rattle.ec_core.specs.Acceptance.{refused_or, refusal_in, has_right}
-use Rattle.ec_core.specs.Standing.{State, count_at}
+use Rattle.ec_core.specs.declared.act.TheConstants.{VALUE_MAX}
+use Rattle.ec_core.specs.Acceptance.{refused_or, refusal_in, has_right, answer_of}
+use Rattle.ec_core.specs.Standing.{State, count_at, StandsFor}
+use Rattle.ec_core.specs.Values.{TellsAtMost}
+use Rattle.ec_core.specs.Procedures.{IsReply}
 
 abbrev pub is_full : Option Counted → Bool
 is_full None = false
@@ -54,70 +59,55 @@ abbrev pub value_of : Option Counted → ℕ
 value_of None = 0
 value_of (Some n) = n.value
 
--- the reply to one more read, and the call that it leaves under way
-abbrev pub one_read : Act → ℕ → ℕ → ℕ → Reply
-one_read op width index sum = if nat_le width (index + 1) then round_reply op sum else Pending
-
 abbrev pub after_round : Act → Reply → Option Progress
 after_round op Pending = Some (record { op = op; index = 0; sum = 0 })
 after_round op _ = None
 
-abbrev pub after_read : Act → ℕ → ℕ → ℕ → Option Progress
-after_read op width index sum =
-    if nat_le width (index + 1) then after_round op (round_reply op sum) else Some (record { op = op; index = index + 1; sum = sum })
-
--- the sum with the component that comes next
-abbrev pub next_sum : State → Progress → ℕ
-next_sum s u = value_of (count_at s.counts (event_or u.op) u.index) + u.sum
+-- what one more read comes to: the reply, and the call that it leaves under way
+abbrev pub one_read : Act → ℕ → ℕ → ℕ → Effect
+one_read op width index sum =
+    if nat_le width (index + 1)
+    then effects.Read (round_reply op sum) (after_round op (round_reply op sum))
+    else effects.Read Pending (Some (record { op = op; index = index + 1; sum = sum }))
 
 abbrev pub begun : Act → Progress
 begun op = record { op = op; index = 0; sum = 0 }
 
-abbrev pub next_reply : State → Progress → Reply
-next_reply s u = one_read u.op (width s.setup (event_or u.op)) u.index (next_sum s u)
+abbrev pub next_read : State → Progress → Effect
+next_read s u = one_read u.op (width s.setup (event_or u.op)) u.index (value_of (count_at s.counts (event_or u.op) u.index) + u.sum)
 
-abbrev pub go_on : State → Option Progress → Reply
-go_on s None = Pending
-go_on s (Some u) = next_reply s u
+-- what an act of w comes to where nothing refuses it
+abbrev pub effect_in : State → ℕ → Act → Effect
+effect_in s w (Advance e) = effects.Raise e (unwrap_or (component_in s e w) 0)
+effect_in s w (Read e) = next_read s (begun (Read e))
+effect_in s w (Await e v) = next_read s (begun (Await e v))
+effect_in s w Go = option_map_or (next_read s) (kept_call s w) (effects.Read Pending None)
+effect_in s w (Ticket q) = effects.Draw q (value_of (slice_get s.issued q))
+effect_in s w (Put x v) = effects.Put x v
+effect_in s w (Get x) = effects.Get (slice_index s.cells x)
+effect_in s w (Hand e b) = effects.Hand e b
 
-abbrev pub reply_in : State → ℕ → Act → Reply
-reply_in s w (Advance e) = Done
-reply_in s w (Read e) = next_reply s (begun (Read e))
-reply_in s w (Await e v) = next_reply s (begun (Await e v))
-reply_in s w Go = go_on s (kept_call s w)
-reply_in s w (Ticket q) = Number (value_of (slice_get s.issued q))
-reply_in s w (Put x v) = Done
-reply_in s w (Get x) = Number (slice_index s.cells x)
-reply_in s w (Hand e b) = Done
+-- the reply of it
+abbrev pub told : Effect → Reply
+told (effects.Raise e c) = Done
+told (effects.Read reply call) = reply
+told (effects.Draw q n) = Number n
+told (effects.Put x v) = Done
+told (effects.Get n) = Number n
+told (effects.Hand e b) = Done
 
 -- xs with f of the element at i
 abbrev pub changed_at : {X : Type 0} → (X → X) → List X → ℕ → List X
 changed_at f xs i = option_map_or (λ x. slice_set xs i (f x)) (slice_get xs i) xs
 
-abbrev pub next_progress : State → Progress → Option Progress
-next_progress s u = after_read u.op (width s.setup (event_or u.op)) u.index (next_sum s u)
-
-abbrev pub go_after : State → Option Progress → Option Progress
-go_after s None = None
-go_after s (Some u) = next_progress s u
-
-abbrev pub with_call : State → ℕ → Option Progress → State
-with_call s w way = record s { calls = slice_set s.calls w way }
-
-abbrev pub with_raised : State → ℕ → Option ℕ → State
-with_raised s e None = s
-with_raised s e (Some c) = record s { counts = changed_at (λ row. changed_at raised row c) s.counts e }
-
--- the state after an accepted act of w
-abbrev pub state_after : State → ℕ → Act → State
-state_after s w (Advance e) = with_raised s e (component_in s e w)
-state_after s w (Read e) = with_call s w (next_progress s (begun (Read e)))
-state_after s w (Await e v) = with_call s w (next_progress s (begun (Await e v)))
-state_after s w Go = with_call s w (go_after s (kept_call s w))
-state_after s w (Ticket q) = record s { issued = changed_at raised s.issued q }
-state_after s w (Put x v) = record s { cells = slice_set s.cells x v }
-state_after s w (Get x) = s
-state_after s w (Hand e b) = record s { signal = changed_at (λ ws. replaced_new (place_of w ws) b ws) s.signal e }
+-- the state after it
+abbrev pub changed : State → ℕ → Effect → State
+changed s w (effects.Raise e c) = record s { counts = changed_at (λ row. changed_at raised row c) s.counts e }
+changed s w (effects.Read reply call) = record s { calls = slice_set s.calls w call }
+changed s w (effects.Draw q n) = record s { issued = changed_at raised s.issued q }
+changed s w (effects.Put x v) = record s { cells = slice_set s.cells x v }
+changed s w (effects.Get n) = s
+changed s w (effects.Hand e b) = record s { signal = changed_at (λ ws. replaced_new (place_of w ws) b ws) s.signal e }
 
 -- what each act of the program names
 abbrev pub IsNamed : Act → Type 0
@@ -130,7 +120,15 @@ IsNamed (Put x v) = x < 256
 IsNamed (Get x) = x < 256
 IsNamed (Hand e b) = e < 32
 
--- the answer by what the fields say
-abbrev pub answer_in : State → List Entry → ℕ → Act → Result Reply Refusal
-answer_in s past w act =
-    refused_or (refusal_in s.setup w act (is_some (kept_call s w)) (right_in s past w act) (is_full_for s w act) (already_in s act)) (reply_in s w act)
+-- the refusal by what the fields say, else what the act comes to
+abbrev pub planned : State → List Entry → ℕ → Act → Result Effect Refusal
+planned s past w act =
+    refused_or (refusal_in s.setup w act (is_some (kept_call s w)) (right_in s past w act) (is_full_for s w act) (already_in s act)) (effect_in s w act)
+
+-- after a history it is the right step of w: what is told, how large and of what kind that is, and what the state after it
+-- stands for
+pub record IsRightStep (s : State) (h : List Entry) (w : ℕ) (act : Act) (e : Effect) : Type 0 where
+  pub answer : answer_of s.setup (reverse h) w act ≡ Ok (told e)
+  pub small : TellsAtMost VALUE_MAX (told e)
+  pub kind : IsReply act (told e)
+  pub after : StandsFor (changed s w e) (h ++ record { worker = w; act = act; reply = told e } ∷ [])

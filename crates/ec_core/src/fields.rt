@@ -3,7 +3,7 @@ ghost use Rattle.std.specs.Prelude.{◌≡◌, ℕ, false, ◌<◌, ◌≤◌, l
 ghost use Rattle.ec_count.specs.Counted.{raised};
 ghost use Rattle.ec_count.specs.Members.{place_of, is_member};
 ghost use Rattle.ec_count.specs.Tables.{signallers};
-ghost use Rattle.ec_core.specs.Acceptance.{names_unknown_object, is_too_large, is_not_handable};
+ghost use Rattle.ec_core.specs.Acceptance.{names_unknown_object, is_too_large};
 ghost use Rattle.ec_core.specs.Rounds.{event_or};
 ghost use Rattle.ec_core.specs.Counts.{replaced, sum_to};
 ghost use Rattle.ec_core.specs.Standing.{count_at};
@@ -93,16 +93,6 @@ pub(crate) fn names_unknown_object(setup: &Setup, act: &Act) -> bool
     }
 }
 
-/// Whether the act hands over a component of an eventcount that is fixed.
-pub(crate) fn is_not_handable(setup: &Setup, act: &Act) -> bool
-    ensures { result ≡ is_not_handable setup.now act.now }
-{
-    match *act {
-        Act::Hand(event, _) => !setup.may_hand(event),
-        _ => false,
-    }
-}
-
 /// Whether a put or a threshold is above the greatest value.
 pub(crate) fn is_too_large(act: &Act) -> bool
     ensures { result ≡ is_too_large act.now }
@@ -135,19 +125,19 @@ pub(crate) fn count_in(counts: &[[Count; 16]; 32], event: usize, component: usiz
     row[component]
 }
 
-/// One more at a place.
+/// One more at a place, if it is one.
 pub(crate) fn raise_at(counts: &mut [Count], place: usize)
-    requires { place < length counts.old }
     ensures { counts.new ≡ changed_at raised counts.old place }
 {
-    let count = &mut counts[place];
-    let _ = count.advance();
+    if place < counts.len() {
+        let count = &mut counts[place];
+        let _ = count.advance();
+    }
 }
 
 /// One more on component c of eventcount e.
 pub(crate) fn raise_in(counts: &mut [[Count; 16]; 32], event: usize, component: usize)
-    requires event { event < 32 }
-    requires component { component < 16 }
+    requires { event < 32 }
     ensures { counts.new ≡ changed_at (λ row. changed_at raised row component) counts.old event }
 {
     let row = &mut counts[event];

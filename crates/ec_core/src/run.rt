@@ -149,18 +149,6 @@ impl Run {
         self.entries.allocator()
     }
 
-    /// Takes in an entry whose reply is the one that the history so far gives to its act. For want of memory nothing changes.
-    #[inline(always)]
-    pub(crate) fn take_in(&mut self, entry: Entry) -> Result<(), AllocError>
-        requires { answer_of self.old.setup (reverse self.old.entries) entry.worker entry.act ≡ Ok entry.reply }
-        ensures ok { OnOk result (self.new ≡ record self.old { entries = self.old.entries ++ entry ∷ [] }) }
-        ensures err { OnErr result (self.new ≡ self.old) }
-    {
-        self.entries.push(entry)?;
-        self.world.take_in(&entry);
-        Ok(())
-    }
-
     /// One step, which adds its entry. It is refused as a step of its world is. Memory is wanted
     /// only where the step is right, and taken before anything is changed.
     #[inline(always)]
@@ -173,14 +161,16 @@ impl Run {
         ensures kind { IfOk result (IsReply act) }
         ensures err { OnErr result (self.new ≡ self.old) }
     {
-        let reply = match self.world.answer(worker, &act) {
-            Ok(reply) => reply,
+        let effect = match self.world.plan(worker, &act) {
+            Ok(effect) => effect,
             Err(refusal) => return Err(StepFault::Refused(refusal)),
         };
+        let reply = effect.reply();
         let entry = Entry { worker, act, reply };
-        match self.take_in(entry) {
-            Ok(()) => Ok(reply),
-            Err(_) => Err(StepFault::Memory),
+        if self.entries.push(entry).is_err() {
+            return Err(StepFault::Memory);
         }
+        self.world.apply(worker, &effect);
+        Ok(reply)
     }
 }

@@ -1,11 +1,23 @@
 //! Runs without their silent workers.
-ghost use Rattle.std.specs.Prelude.{◌≡◌, All, IfOk};
+ghost use Rattle.std.specs.Prelude.{◌≡◌, [], ◌∷◌, ◌++◌, reverse, All, Ok, IfOk, OnOk};
 ghost use Rattle.ec_count.specs.Members.{is_member};
+ghost use Rattle.ec_core.specs.Acceptance.{answer_of};
 ghost use Rattle.ec_core.specs.Silence.{IsSilent, without};
 
-use crate::Run;
+use crate::{Entry, Run};
 use ec_count::WorkerId;
 use std::alloc::AllocError;
+
+/// Makes the step of an entry, to which its reply is the answer.
+fn repeat(run: &mut Run, entry: Entry) -> Result<(), AllocError>
+    requires { answer_of run.old.setup (reverse run.old.entries) entry.worker entry.act ≡ Ok entry.reply }
+    ensures { OnOk result (run.new ≡ record run.old { entries = run.old.entries ++ entry ∷ [] }) }
+{
+    match run.step(entry.worker, entry.act) {
+        Ok(_) => Ok(()),
+        Err(_) => Err(AllocError),
+    }
+}
 
 /// The run with the entries of some silent workers struck out, on the same declarations. Being a
 /// run, it is accepted: what the others were told stands as it was. `Run::is_silent` tests who is
@@ -18,7 +30,7 @@ pub fn without(run: &Run, silent: &[WorkerId]) -> Result<Run, AllocError>
     run.known();
     for entry in run.entries() {
         if !silent.contains(&entry.worker) {
-            rest.take_in(entry)?;
+            repeat(&mut rest, entry)?;
         }
     }
     Ok(rest)

@@ -1,7 +1,8 @@
 //! Calls under way, as a world keeps them.
 ghost use Rattle.std.specs.Prelude.{◌≡◌, ◌+◌, ◌*◌, ◌^◌, ◌<◌, ◌≤◌};
-ghost use Rattle.ec_core.specs.Fields.{begun, one_read, after_read};
+ghost use Rattle.ec_core.specs.Fields.{begun, one_read};
 
+use crate::effect::Effect;
 use crate::{Act, Reply};
 use std::marker::Model;
 
@@ -10,7 +11,7 @@ use std::marker::Model;
 #[derive(Clone, Copy, Debug, PartialEq, Eq)]
 pub struct UnderWay {
     op: Act,
-    index: u8,
+    index: usize,
     sum: u64,
 }
 
@@ -51,7 +52,7 @@ impl UnderWay {
         ensures value { result ≡ self.now.index }
         ensures small { result < 16 }
     {
-        self.index as usize
+        self.index
     }
 
     /// The sum of the components that its round has read so far.
@@ -63,39 +64,26 @@ impl UnderWay {
         let _index = self.index;
         self.sum
     }
-}
 
-/// The reply to the read of one more component: pending, or the sum's where this component is the last (its index + 1 is
-/// the width).
-pub(crate) fn one_read(op: Act, width: usize, index: usize, sum: u64) -> Reply
-    requires { index < 16 }
-    ensures { result ≡ one_read op width index sum }
-{
-    if index + 1 < width {
-        return Reply::Pending;
-    }
-    match op {
-        Act::Await(_, threshold) if sum < threshold => Reply::Pending,
-        _ => Reply::Number(sum),
-    }
-}
-
-/// The call that one more read leaves under way.
-pub(crate) fn after_read(op: Act, width: usize, index: usize, sum: u64) -> Option<UnderWay>
-    requires width { width ≤ 16 }
-    requires index { index < 16 }
-    requires sum { sum ≤ (index + 1) * 2 ^ 48 }
-    ensures { result ≡ after_read op width index sum }
-{
-    if index + 1 < width {
-        return Some(UnderWay {
-            op,
-            index: (index + 1) as u8,
-            sum,
-        });
-    }
-    match op {
-        Act::Await(_, threshold) if sum < threshold => Some(UnderWay::begun(op)),
-        _ => None,
+    /// What a Go comes to that reads this value of its component, of so many: the call goes on until the component is the
+    /// last, and then the sum is told, unless it falls short of a threshold.
+    #[inline(always)]
+    pub(crate) fn read(&self, width: usize, value: u64) -> Effect
+        requires width { width ≤ 16 }
+        requires value { value < 2 ^ 48 }
+        ensures { result ≡ one_read self.now.op width self.now.index (value + self.now.sum) }
+    {
+        let op = self.op;
+        let index = self.index + 1;
+        let sum = value + self.sum;
+        if index < width {
+            return Effect::Read(Reply::Pending, Some(UnderWay { op, index, sum }));
+        }
+        match op {
+            Act::Await(_, threshold) if sum < threshold => {
+                Effect::Read(Reply::Pending, Some(UnderWay::begun(op)))
+            }
+            _ => Effect::Read(Reply::Number(sum), None),
+        }
     }
 }

@@ -1,22 +1,31 @@
 //! The state of a kernel.
-ghost use Rattle.std.specs.Prelude.{reverse, if◌then◌else◌, nat_lt, ◌≡◌, ◌+◌, ◌*◌, ◌^◌, ◌<◌, ◌≤◌, List, [], ◌∷◌, ◌++◌, length, Some, None, Ok, is_some, IfOk, IfSome, OnErr};
+ghost use Rattle.std.specs.Prelude.{reverse, true, false, if◌then◌else◌, nat_lt, ◌≡◌, ◌+◌, ◌*◌, ◌^◌, ◌<◌, ◌≤◌, List, [], ◌∷◌, ◌++◌, length, Some, None, Ok, Err, IfOk, IfSome, OnErr, MatchResult};
 ghost use Rattle.ec_core.specs.declared.act.Entry.{Entry};
-ghost use Rattle.ec_core.specs.Acceptance.{refusal_in, answer_of};
+ghost use Rattle.ec_core.specs.Acceptance.{answer_of, refused_or, refusal_in};
+ghost use Rattle.ec_core.specs.Calls.{is_go};
 ghost use Rattle.ec_core.specs.Rounds.{width};
 ghost use Rattle.ec_core.specs.Counts.{total, signaller_at, component_at, component_total, issued, cell_value};
 ghost use Rattle.ec_core.specs.Standing.{StandsFor, progress_of};
 ghost use Rattle.ec_core.specs.Values.{TellsAtMost};
 ghost use Rattle.ec_core.specs.Procedures.{IsReply};
-ghost use Rattle.ec_core.specs.Fields.{kept_call, component_in, right_in, already_in, is_full_for, next_sum, next_reply, reply_in, next_progress, state_after};
+ghost use Rattle.ec_core.specs.Fields.{kept_call, component_in, right_in, already_in, is_full_for, next_read, effect_in, planned, changed, IsRightStep};
 
+use crate::effect::Effect;
 use crate::fields::{
-    all_alike, count_in, count_of, declared, event_or, hand_in, is_not_handable, is_too_large,
-    named, names_unknown_object, place_in, raise_at, raise_in, same_again, signaller_in, sum_of,
+    all_alike, count_in, count_of, declared, event_or, hand_in, is_too_large, named,
+    names_unknown_object, place_in, raise_at, raise_in, same_again, signaller_in, sum_of,
 };
-use crate::under_way::{after_read, one_read};
 use crate::{Act, Entry, Refusal, Reply, UnderWay, VALUE_MAX};
 use ec_count::{CellId, Count, EventId, Members, SeqId, Setup, WorkerId};
 use std::marker::Model;
+
+/// The refusal, where the test holds.
+#[inline(always)]
+fn refuse_if(test: bool, refusal: Refusal) -> Result<(), Refusal>
+    ensures { MatchResult result (λ x. test ≡ false) (λ r. (test ≡ true) × (r ≡ refusal)) }
+{
+    if test { Err(refusal) } else { Ok(()) }
+}
 
 /// The state of a kernel: who signals now, its counts, cells and calls under way.
 #[derive(Drop)]
@@ -168,96 +177,6 @@ impl World {
         self.calls[worker.get()]
     }
 
-    #[inline(always)]
-    fn is_full_for(&self, worker: WorkerId, act: &Act) -> bool
-        ensures { result ≡ is_full_for self.now worker act.now }
-    {
-        match *act {
-            Act::Advance(event) => match self.own_component(event, worker) {
-                Some(component) => {
-                    let count = count_in(&self.counts, event.get(), component);
-                    count.is_full()
-                }
-                None => false,
-            },
-            Act::Ticket(sequencer) => {
-                let count = count_of(&self.issued, sequencer.get());
-                count.is_full()
-            }
-            Act::Read(_)
-            | Act::Await(_, _)
-            | Act::Go
-            | Act::Put(_, _)
-            | Act::Get(_)
-            | Act::Hand(_, _) => false,
-        }
-    }
-
-    /// Whether the worker has the right that the act needs.
-    #[inline(always)]
-    fn has_right(&self, worker: WorkerId, act: &Act) -> bool
-        ensures { (past : List Entry) → result ≡ right_in self.now past worker act.now }
-    {
-        match *act {
-            Act::Advance(event) | Act::Hand(event, _) => {
-                let component = self.own_component(event, worker);
-                component.is_some()
-            }
-            Act::Read(event) | Act::Await(event, _) => self.setup.may_observe(event, worker),
-            Act::Go => true,
-            Act::Ticket(sequencer) => self.setup.may_take(sequencer, worker),
-            Act::Put(cell, _) => self.setup.may_write(cell, worker),
-            Act::Get(cell) => self.setup.may_read(cell, worker),
-        }
-    }
-
-    /// Whether the worker that the act hands to signals the eventcount now.
-    #[inline(always)]
-    fn signals_already(&self, act: &Act) -> bool
-        ensures { result ≡ already_in self.now act.now }
-    {
-        match *act {
-            Act::Hand(event, to) => self.own_component(event, to).is_some(),
-            _ => false,
-        }
-    }
-
-    #[inline(always)]
-    fn refusal(&self, worker: WorkerId, act: &Act) -> Option<Refusal>
-        ensures { (past : List Entry) → result ≡ refusal_in self.now.setup worker act.now (is_some (kept_call self.now worker)) (right_in self.now past worker act.now) (is_full_for self.now worker act.now) (already_in self.now act.now) }
-    {
-        if worker.get() >= self.setup.workers() {
-            return Some(Refusal::UnknownWorker);
-        }
-        let is_go = *act == Act::Go;
-        let is_under_way = self.call(worker).is_some();
-        if is_under_way && !is_go {
-            return Some(Refusal::Busy);
-        }
-        if !is_under_way && is_go {
-            return Some(Refusal::Idle);
-        }
-        if names_unknown_object(&self.setup, act) {
-            return Some(Refusal::UnknownObject);
-        }
-        if !self.has_right(worker, act) {
-            return Some(Refusal::NoRight);
-        }
-        if is_too_large(act) {
-            return Some(Refusal::ValueTooLarge);
-        }
-        if self.is_full_for(worker, act) {
-            return Some(Refusal::AtLimit);
-        }
-        if is_not_handable(&self.setup, act) {
-            return Some(Refusal::NotHandable);
-        }
-        if self.signals_already(act) {
-            return Some(Refusal::AlreadySignals);
-        }
-        None
-    }
-
     fn width(&self, event: usize) -> usize
         requires { event < 32 }
         ensures value { result ≡ width self.now.setup event }
@@ -269,92 +188,107 @@ impl World {
         }
     }
 
-    fn next_sum(&self, call: &UnderWay) -> u64
-        ensures value { result ≡ next_sum self.now call.now }
-        ensures fits { result ≤ (call.now.index + 1) * 2 ^ 48 }
+    /// What a call comes to that reads its next component.
+    #[inline(always)]
+    fn read(&self, call: &UnderWay) -> Effect
+        ensures { result ≡ next_read self.now call.now }
     {
-        let count = count_in(&self.counts, event_or(call.op()), call.index());
-        count.value() + call.sum()
+        let event = event_or(call.op());
+        let count = count_in(&self.counts, event, call.index());
+        call.read(self.width(event), count.value())
     }
 
+    /// What an act comes to that begins a call, or the first refusal after those that ask for the worker and its call.
     #[inline(always)]
-    fn next_reply(&self, call: &UnderWay) -> Reply
-        ensures { result ≡ next_reply self.now call.now }
+    fn begin(&self, worker: WorkerId, act: &Act) -> Result<Effect, Refusal>
+        requires declared { worker < self.now.setup.workers }
+        requires begins { is_go act.now ≡ false }
+        ensures { (past : List Entry) → result ≡ refused_or (refusal_in self.now.setup worker act.now false (right_in self.now past worker act.now) (is_full_for self.now worker act.now) (already_in self.now act.now)) (effect_in self.now worker act.now) }
     {
-        let width = self.width(event_or(call.op()));
-        let sum = self.next_sum(call);
-        let index = call.index();
-        one_read(call.op(), width, index, sum)
-    }
-
-    #[inline(always)]
-    fn reply(&self, worker: WorkerId, act: &Act) -> Reply
-        ensures { result ≡ reply_in self.now worker act.now }
-    {
-        match *act {
-            Act::Advance(_) | Act::Put(_, _) | Act::Hand(_, _) => Reply::Done,
-            Act::Read(_) | Act::Await(_, _) => self.next_reply(&UnderWay::begun(*act)),
-            Act::Go => match self.call(worker) {
-                Some(call) => self.next_reply(&call),
-                None => Reply::Pending,
-            },
-            Act::Ticket(sequencer) => {
-                let count = count_of(&self.issued, sequencer.get());
-                Reply::Number(count.value())
-            },
-            Act::Get(cell) => Reply::Number(self.cells[cell.get()]),
-        }
-    }
-
-    #[inline(always)]
-    fn next_progress(&self, call: &UnderWay) -> Option<UnderWay>
-        ensures { result ≡ next_progress self.now call.now }
-    {
-        let width = self.width(event_or(call.op()));
-        let sum = self.next_sum(call);
-        let index = call.index();
-        after_read(call.op(), width, index, sum)
-    }
-
-    /// Takes in an accepted act.
-    #[inline(always)]
-    fn note(&mut self, worker: WorkerId, act: &Act)
-        ensures { self.new ≡ state_after self.old worker act.now }
-    {
+        refuse_if(
+            names_unknown_object(&self.setup, act),
+            Refusal::UnknownObject,
+        )?;
         match *act {
             Act::Advance(event) => {
-                if let Some(component) = self.own_component(event, worker) {
-                    raise_in(&mut self.counts, event.get(), component);
-                }
+                let own = self.own_component(event, worker);
+                let component = own.ok_or(Refusal::NoRight)?;
+                let count = count_in(&self.counts, event.get(), component);
+                refuse_if(count.is_full(), Refusal::AtLimit)?;
+                Ok(Effect::Raise(event, component))
             }
-            Act::Read(_) | Act::Await(_, _) => {
-                let way = self.next_progress(&UnderWay::begun(*act));
-                self.calls[worker.get()] = way;
+            Act::Read(event) | Act::Await(event, _) => {
+                refuse_if(!self.setup.may_observe(event, worker), Refusal::NoRight)?;
+                refuse_if(is_too_large(act), Refusal::ValueTooLarge)?;
+                Ok(self.read(&UnderWay::begun(*act)))
             }
-            Act::Go => {
-                let way = match self.call(worker) {
-                    Some(call) => self.next_progress(&call),
-                    None => None,
-                };
-                self.calls[worker.get()] = way;
+            Act::Go => Err(Refusal::Idle),
+            Act::Ticket(sequencer) => {
+                refuse_if(!self.setup.may_take(sequencer, worker), Refusal::NoRight)?;
+                let count = count_of(&self.issued, sequencer.get());
+                refuse_if(count.is_full(), Refusal::AtLimit)?;
+                Ok(Effect::Draw(sequencer, count.value()))
             }
-            Act::Ticket(sequencer) => raise_at(&mut self.issued, sequencer.get()),
-            Act::Put(cell, value) => self.cells[cell.get()] = value,
-            Act::Get(_) => {}
-            Act::Hand(event, to) => hand_in(&mut self.signal, event.get(), worker, to),
+            Act::Put(cell, value) => {
+                refuse_if(!self.setup.may_write(cell, worker), Refusal::NoRight)?;
+                refuse_if(is_too_large(act), Refusal::ValueTooLarge)?;
+                Ok(Effect::Put(cell, value))
+            }
+            Act::Get(cell) => {
+                refuse_if(!self.setup.may_read(cell, worker), Refusal::NoRight)?;
+                Ok(Effect::Get(self.cells[cell.get()]))
+            }
+            Act::Hand(event, to) => {
+                let own = self.own_component(event, worker);
+                refuse_if(own.is_none(), Refusal::NoRight)?;
+                refuse_if(!self.setup.may_hand(event), Refusal::NotHandable)?;
+                let other = self.own_component(event, to);
+                refuse_if(other.is_some(), Refusal::AlreadySignals)?;
+                Ok(Effect::Hand(event, to))
+            }
         }
     }
 
-    /// Takes in an entry whose reply is the one that the history so far gives to its act.
+    /// The first refusal that holds, else what the step comes to.
     #[inline(always)]
-    pub(crate) fn take_in(&mut self, entry: &Entry)
-        ensures history { (h : List Entry) → StandsFor self.old h → answer_of self.old.setup (reverse h) entry.now.worker entry.now.act ≡ Ok entry.now.reply
-            → StandsFor self.new (h ++ entry.now ∷ []) }
-        ensures setup { self.new.setup ≡ self.old.setup }
+    fn effect(&self, worker: WorkerId, act: &Act) -> Result<Effect, Refusal>
+        ensures { (past : List Entry) → result ≡ planned self.now past worker act.now }
     {
-        named(&entry.act);
-        let _worker = entry.worker.get();
-        self.note(entry.worker, &entry.act);
+        refuse_if(worker.get() >= self.setup.workers(), Refusal::UnknownWorker)?;
+        match (self.call(worker), *act) {
+            (Some(call), Act::Go) => Ok(self.read(&call)),
+            (Some(_), _) => Err(Refusal::Busy),
+            (None, Act::Go) => Err(Refusal::Idle),
+            (None, _) => self.begin(worker, act),
+        }
+    }
+
+    /// What a step of the worker comes to after the history: the first refusal that holds, or the reply and the change.
+    #[inline(always)]
+    pub(crate) fn plan(&self, worker: WorkerId, act: &Act) -> Result<Effect, Refusal>
+        ensures { (h : List Entry) → StandsFor self.now h
+            → MatchResult result (IsRightStep self.now h worker act.now) (λ r. answer_of self.now.setup (reverse h) worker act.now ≡ Err r) }
+    {
+        named(act);
+        let _worker = worker.get();
+        self.effect(worker, act)
+    }
+
+    /// Makes the change that a step of the worker comes to.
+    #[inline(always)]
+    pub(crate) fn apply(&mut self, worker: WorkerId, effect: &Effect)
+        ensures { self.new ≡ changed self.old worker effect.now }
+    {
+        match *effect {
+            Effect::Raise(event, component) => {
+                raise_in(&mut self.counts, event.get(), component);
+            }
+            Effect::Read(_, call) => self.calls[worker.get()] = call,
+            Effect::Draw(sequencer, _) => raise_at(&mut self.issued, sequencer.get()),
+            Effect::Put(cell, value) => self.cells[cell.get()] = value,
+            Effect::Get(_) => {}
+            Effect::Hand(event, to) => hand_in(&mut self.signal, event.get(), worker, to),
+        }
     }
 
     /// What `step` would answer, and no change.
@@ -364,12 +298,10 @@ impl World {
         ensures small { (h : List Entry) → StandsFor self.now h → IfOk result (TellsAtMost VALUE_MAX) }
         ensures kind { (h : List Entry) → StandsFor self.now h → IfOk result (IsReply act.now) }
     {
-        named(act);
-        let _worker = worker.get();
-        if let Some(refusal) = self.refusal(worker, act) {
-            return Err(refusal);
+        match self.plan(worker, act) {
+            Ok(effect) => Ok(effect.reply()),
+            Err(refusal) => Err(refusal),
         }
-        Ok(self.reply(worker, act))
     }
 
     /// One step: the first refusal that holds, and no change, or the right reply.
@@ -383,8 +315,8 @@ impl World {
         ensures setup { self.new.setup ≡ self.old.setup }
         ensures err { OnErr result (self.new ≡ self.old) }
     {
-        let reply = self.answer(worker, &act)?;
-        self.take_in(&Entry { worker, act, reply });
-        Ok(reply)
+        let effect = self.plan(worker, &act)?;
+        self.apply(worker, &effect);
+        Ok(effect.reply())
     }
 }

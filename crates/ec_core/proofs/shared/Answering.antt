@@ -14,13 +14,14 @@ use Rattle.ec_core.specs.declared.act.Reply.{Reply}
 use Rattle.ec_core.specs.declared.act.Reply.TheVariants.{Done, Number, Pending}
 use Rattle.ec_core.specs.declared.act.Entry.{Entry}
 use Rattle.ec_core.specs.declared.act.Refusal.{Refusal}
+use Rattle.ec_core.specs.declared.effect.Effect.TheVariants as effects
 use Rattle.ec_core.specs.Counts.{signallers_at, component_at, component_total}
 use Rattle.ec_core.specs.Calls.{CallSoFar, under_way, is_pending, gone_on}
 use Rattle.ec_core.specs.Rounds.{event_or, width, sum_read, next_component, round_reply, read_reply}
 use Rattle.ec_core.specs.Acceptance.{reply_of, answer_of, refusal_of, refused_or, has_right, is_at_limit, IsAccepted, names_unknown_object, is_too_large, is_not_handable, signals_already}
 use Rattle.ec_core.specs.Calls.{is_go}
 use Rattle.ec_core.specs.Standing.{State, Stands, count_at, shown, progress_of}
-use Rattle.ec_core.specs.Fields.{kept_call, component_in, right_in, already_in, is_full, is_full_for, value_of, one_read, after_round, next_reply, next_progress, IsNamed}
+use Rattle.ec_core.specs.Fields.{kept_call, component_in, right_in, already_in, is_full, is_full_for, value_of, one_read, after_round, next_read, IsNamed}
 use Rattle.ec_core.proofs.shared.Signalling.{signallers_length}
 
 -- a place is within the list
@@ -95,15 +96,6 @@ already_is s past Go st named = refl
 already_is s past (Ticket q) st named = refl
 already_is s past (Put x v) st named = refl
 already_is s past (Get x) st named = refl
-
--- one more read tells what the history says
-pub read_is : (s : State) (past : List Entry) (op : Act) (moments : List (List Entry)) → Stands s past → event_or op < 32
-    → next_component s.setup (event_or op) moments < 16
-    → next_reply s (shown s.setup (record { op = op; moments = moments })) ≡ read_reply s.setup op past moments
-unfolding read_reply sum_read
-read_is s past op moments st e c =
-    ap (λ o. one_read op (width s.setup (event_or op)) (next_component s.setup (event_or op) moments) (value_of o + sum_read s.setup (event_or op) (next_component s.setup (event_or op) moments) moments))
-    (st.counts (event_or op) (next_component s.setup (event_or op) moments) e c)
 
 -- the act is a read or an await of a declared eventcount
 abbrev pub IsReading : Tables → Act → Type 0
@@ -219,21 +211,22 @@ way_round op Done c f e z = refl
 way_round op (Number n) c f e z = refl
 
 way_on : (op : Act) (b : Bool) (next c total : ℕ) (f : ℕ → ℕ) → next ≡ cond b 0 (c + 1) → f 0 ≡ 0 → f (c + 1) ≡ total
-    → cond b (after_round op (round_reply op total)) (Some (record { op = op; index = c + 1; sum = total }))
-    ≡ cond (is_pending (cond b (round_reply op total) Pending)) (Some (record { op = op; index = next; sum = f next })) None
-way_on op true next c total f e z g = way_round op (round_reply op total) next f e z
+    → cond b (effects.Read (round_reply op total) (after_round op (round_reply op total))) (effects.Read Pending (Some (record { op = op; index = c + 1; sum = total })))
+    ≡ effects.Read (cond b (round_reply op total) Pending) (cond (is_pending (cond b (round_reply op total) Pending)) (Some (record { op = op; index = next; sum = f next })) None)
+way_on op true next c total f e z g = ap (effects.Read (round_reply op total)) (way_round op (round_reply op total) next f e z)
 way_on op false next c total f e z g = cc
 
--- the call that one more read leaves under way is the one of the history
-pub way_is : (s : State) (past : List Entry) (op : Act) (moments : List (List Entry)) → Stands s past → event_or op < 32
+-- one more read tells what the history says, and leaves the call of the history under way
+pub read_is : (s : State) (past : List Entry) (op : Act) (moments : List (List Entry)) → Stands s past → event_or op < 32
     → 0 < width s.setup (event_or op) → next_component s.setup (event_or op) moments < 16
-    → next_progress s (shown s.setup (record { op = op; moments = moments }))
-    ≡ cond (is_pending (read_reply s.setup op past moments)) (Some (shown s.setup (record { op = op; moments = past ∷ moments }))) None
+    → next_read s (shown s.setup (record { op = op; moments = moments }))
+    ≡ effects.Read (read_reply s.setup op past moments)
+    (cond (is_pending (read_reply s.setup op past moments)) (Some (shown s.setup (record { op = op; moments = past ∷ moments }))) None)
 unfolding read_reply sum_read
-way_is s past op moments st e some c =
+read_is s past op moments st e some c =
     let n = width s.setup (event_or op) in
     let i = next_component s.setup (event_or op) moments in
     let rest = sum_read s.setup (event_or op) i moments in
-    ap (λ o. cond (nat_le n (i + 1)) (after_round op (round_reply op (value_of o + rest))) (Some (record { op = op; index = i + 1; sum = value_of o + rest }))) (st.counts (event_or op) i e c)
+    ap (λ o. one_read op n i (value_of o + rest)) (st.counts (event_or op) i e c)
     ∙ way_on op (nat_le n (i + 1)) (suc (length moments) % n) i (component_total s.setup (event_or op) i past + rest) (λ j. sum_read s.setup (event_or op) j (past ∷ moments))
     (mod_next n (length moments) some) refl (ap (λ j. sum_read s.setup (event_or op) j (past ∷ moments)) (add-one i))

@@ -1,11 +1,10 @@
 -- A world that stands for a history stands, after a step, for that history with the step's entry.
-use Rattle.std.proofs.Common.{◌≡◌, ℕ, ◌+◌, ◌%◌, ◌<◌, Bool, true, false, ◌&&◌, List, [], ◌∷◌, ◌++◌, reverse, length, Option, Some, None, is_some, nat_le, unwrap_or, Ok, refl, ap, sym, ◌∙◌, arith, subst, cond, slice_get, slice_set, ◌==◌}
+use Rattle.std.proofs.Common.{◌≡◌, ℕ, ◌+◌, ◌%◌, ◌<◌, Bool, true, false, ◌&&◌, List, [], ◌∷◌, ◌++◌, reverse, length, Option, Some, None, is_some, nat_le, unwrap_or, not, Result, MatchResult, Ok, Err, refl, ap, sym, ◌∙◌, arith, subst, cond, slice_get, slice_set, ◌==◌}
 use Rattle.std.proofs.lemmas.List.{reverse-append}
 use Rattle.std.specs.Option.{option_map, option_map_or, option_and_then}
 use Rattle.std.proofs.lemmas.Option.{slice_get_within, get_or_from_slice_get}
 use Rattle.std.proofs.lemmas.Bool.{and_parts, eqb-true, leb-false}
 use Rattle.std.proofs.lemmas.Nat.{mod_below}
-use Rattle.std.proofs.Math.Bool.{and-false}
 use Rattle.std.proofs.Math.Nat.{zero-mod, zero-add}
 use Rattle.ec_count.specs.Tables.{Tables, IsDeclared, signallers}
 use Rattle.ec_count.specs.Members.{place_of, is_member}
@@ -13,16 +12,21 @@ use Rattle.ec_count.specs.Counted.{Counted, raised}
 use Rattle.ec_core.specs.declared.act.Act.{Act}
 use Rattle.ec_core.specs.declared.act.Act.TheVariants.{Advance, Read, Await, Go, Ticket, Put, Get, Hand}
 use Rattle.ec_core.specs.declared.act.Reply.{Reply}
-use Rattle.ec_core.specs.declared.act.Reply.TheVariants.{Done, Number}
+use Rattle.ec_core.specs.declared.act.Reply.TheVariants.{Done, Number, Pending}
 use Rattle.ec_core.specs.declared.act.Entry.{Entry}
+use Rattle.ec_core.specs.declared.act.Refusal.{Refusal}
+use Rattle.ec_core.specs.declared.effect.Effect.{Effect}
+use Rattle.ec_core.specs.declared.effect.Effect.TheVariants as effects
 use Rattle.ec_core.specs.Progress.{Progress}
 use Rattle.ec_core.specs.Counts.{replaced, signallers_at, handed, component_at, component_total, issued, cell_value, is_advance, is_ticket, put_in, is_place}
 use Rattle.ec_core.specs.Calls.{CallSoFar, under_way, is_pending, gone_on}
 use Rattle.ec_core.specs.Rounds.{event_or, width, sum_read, next_component, read_reply, go_reply}
-use Rattle.ec_core.specs.Acceptance.{reply_of, answer_of, refusal_in, refused_or, has_right, is_at_limit, signals_already}
+use Rattle.ec_core.specs.Acceptance.{reply_of, answer_of, refusal_of, refusal_in, refused_or, has_right, is_at_limit}
 use Rattle.ec_core.specs.Standing.{State, Stands, count_at, shown, progress_of, StandsFor}
-use Rattle.ec_core.specs.Fields.{kept_call, right_in, already_in, replaced_new, is_full_for, value_of, begun, next_reply, next_progress, go_on, go_after, reply_in, IsNamed, answer_in, state_after, with_raised, with_call}
-use Rattle.ec_core.proofs.shared.Answering.{width_few, width_some, kept_is, is_some_map, component_is, right_is, already_is, full_is, read_is, IsReadingCall, allowed, call_reads, reading_event, way_is}
+use Rattle.ec_core.specs.Fields.{component_in, right_in, already_in, replaced_new, is_full_for, value_of, begun, next_read, effect_in, told, changed, IsNamed, planned, IsRightStep}
+use Rattle.ec_core.proofs.shared.Answering.{width_few, width_some, kept_is, is_some_map, component_is, right_is, already_is, full_is, read_is, IsReadingCall, IsAllowed, allowed, call_reads, reading_event}
+use Rattle.ec_core.proofs.ReplyKinds.{kind_is}
+use Rattle.ec_core.proofs.shared.Bounds.{told_small}
 use Rattle.ec_core.proofs.shared.Handing.{new_signaller}
 use Rattle.ec_core.proofs.shared.Places.{get_set, get_changed, count_changed}
 
@@ -36,35 +40,14 @@ begun_is : (t : Tables) (op : Act) → shown t (record { op = op; moments = [] }
 unfolding sum_read
 begun_is t op = ap (λ i. (let w : Progress = record { op = op; index = i; sum = sum_read t (event_or op) i [] } in w)) (zero-mod (width t (event_or op)))
 
-go_is : (s : State) (past : List Entry) → Stands s past → (o : Option CallSoFar) → IsReadingCall s.setup o → go_on s (option_map (shown s.setup) o) ≡ go_reply s.setup past o
-go_is s past st None h = refl
-go_is s past st (Some call) h =
-    let known : event_or call.op < length s.setup.events = reading_event s.setup call.op h in
-    read_is s past call.op call.moments st (omega (arith, st.declared.few)) (next_small s.setup (event_or call.op) call.moments st.declared (width_some s.setup (event_or call.op) st.declared known))
-
-begin_is : (s : State) (past : List Entry) (op : Act) → Stands s past → event_or op < 32 → next_reply s (begun op) ≡ read_reply s.setup op past []
-begin_is s past op st lt = ap (next_reply s) (sym (begun_is s.setup op)) ∙ read_is s past op [] st lt (first_small (width s.setup (event_or op)))
-
--- the right reply
-reply_is : (s : State) (past : List Entry) (w : ℕ) (act : Act) → Stands s past → w < 16 → IsNamed act → reply_in s w act ≡ reply_of s.setup past w act
-reply_is s past w (Advance e) st lt named = refl
-reply_is s past w (Read e) st lt named = begin_is s past (Read e) st named
-reply_is s past w (Await e v) st lt named = begin_is s past (Await e v) st named
-reply_is s past w Go st lt named = ap (go_on s) (kept_is s past w st lt) ∙ go_is s past st (under_way w past) (call_reads s.setup past w st.accepted)
-reply_is s past w (Ticket q) st lt named = ap (λ o. Number (value_of o)) (st.issued q named)
-reply_is s past w (Put x v) st lt named = refl
-reply_is s past w (Get x) st lt named = ap Number (get_or_from_slice_get s.cells x (cell_value x past) 0 (st.cells x named))
-reply_is s past w (Hand e b) st lt named = refl
-
--- the refusal or the reply that the history asks for
-pub answer_is : (s : State) (past : List Entry) (w : ℕ) (act : Act) → Stands s past → w < 16 → IsNamed act → answer_in s past w act ≡ answer_of s.setup past w act
-unfolding answer_of
-answer_is s past w act st lt named =
-    ap (λ b. refused_or (refusal_in s.setup w act b (right_in s past w act) (is_full_for s w act) (already_in s act)) (reply_in s w act)) (ap is_some (kept_is s past w st lt) ∙ is_some_map s.setup (under_way w past))
-    ∙ ap (λ b. refused_or (refusal_in s.setup w act (is_some (under_way w past)) b (is_full_for s w act) (already_in s act)) (reply_in s w act)) (right_is s past w act st named)
-    ∙ ap (λ b. refused_or (refusal_in s.setup w act (is_some (under_way w past)) (has_right s.setup past w act) b (already_in s act)) (reply_in s w act)) (full_is s past w act st named)
-    ∙ ap (λ b. refused_or (refusal_in s.setup w act (is_some (under_way w past)) (has_right s.setup past w act) (is_at_limit s.setup past w act) b) (reply_in s w act)) (already_is s past act st named)
-    ∙ ap (refused_or (refusal_in s.setup w act (is_some (under_way w past)) (has_right s.setup past w act) (is_at_limit s.setup past w act) (signals_already s.setup past act))) (reply_is s past w act st lt named)
+-- the refusal that the history asks for, or what the act comes to
+planned_is : (s : State) (past : List Entry) (w : ℕ) (act : Act) → Stands s past → w < 16 → IsNamed act
+    → planned s past w act ≡ refused_or (refusal_of s.setup past w act) (effect_in s w act)
+planned_is s past w act st lt named =
+    ap (λ b. refused_or (refusal_in s.setup w act b (right_in s past w act) (is_full_for s w act) (already_in s act)) (effect_in s w act)) (ap is_some (kept_is s past w st lt) ∙ is_some_map s.setup (under_way w past))
+    ∙ ap (λ b. refused_or (refusal_in s.setup w act (is_some (under_way w past)) b (is_full_for s w act) (already_in s act)) (effect_in s w act)) (right_is s past w act st named)
+    ∙ ap (λ b. refused_or (refusal_in s.setup w act (is_some (under_way w past)) (has_right s.setup past w act) b (already_in s act)) (effect_in s w act)) (full_is s past w act st named)
+    ∙ ap (λ b. refused_or (refusal_in s.setup w act (is_some (under_way w past)) (has_right s.setup past w act) (is_at_limit s.setup past w act) b) (effect_in s w act)) (already_is s past act st named)
 
 -- COUNTS
 
@@ -120,22 +103,26 @@ shown_if : (t : Tables) (b : Bool) (call : CallSoFar) → cond b (Some (shown t 
 shown_if t true call = refl
 shown_if t false call = refl
 
--- the call that a first read leaves
-begin_way : (s : State) (past : List Entry) (op : Act) → Stands s past → event_or op < 32 → 0 < width s.setup (event_or op)
-    → next_progress s (begun op) ≡ option_map (shown s.setup) (cond (is_pending (read_reply s.setup op past [])) (Some (record { op = op; moments = past ∷ [] })) None)
-begin_way s past op st lt some =
-    ap (next_progress s) (sym (begun_is s.setup op)) ∙ way_is s past op [] st lt some (first_small (width s.setup (event_or op)))
-    ∙ shown_if s.setup (is_pending (read_reply s.setup op past [])) (record { op = op; moments = past ∷ [] })
+-- what a read comes to: the reply, and the call that it leaves
+abbrev reading : Tables → List Entry → Reply → Option CallSoFar → Effect
+reading t past reply call = effects.Read reply (option_map (shown t) (cond (is_pending reply) call None))
 
--- the call that a Go leaves
-go_way : (s : State) (past : List Entry) → Stands s past → (o : Option CallSoFar) → IsReadingCall s.setup o
-    → go_after s (option_map (shown s.setup) o) ≡ option_map (shown s.setup) (cond (is_pending (go_reply s.setup past o)) (gone_on Go past o) None)
-go_way s past st None h = refl
-go_way s past st (Some call) h =
+-- a first read
+begin_is : (s : State) (past : List Entry) (op : Act) → Stands s past → event_or op < 32 → 0 < width s.setup (event_or op)
+    → next_read s (begun op) ≡ reading s.setup past (read_reply s.setup op past []) (Some (record { op = op; moments = past ∷ [] }))
+begin_is s past op st lt some =
+    ap (next_read s) (sym (begun_is s.setup op)) ∙ read_is s past op [] st lt some (first_small (width s.setup (event_or op)))
+    ∙ ap (effects.Read (read_reply s.setup op past [])) (shown_if s.setup (is_pending (read_reply s.setup op past [])) (record { op = op; moments = past ∷ [] }))
+
+-- a Go
+go_is : (s : State) (past : List Entry) → Stands s past → (o : Option CallSoFar) → IsReadingCall s.setup o
+    → option_map_or (next_read s) (option_map (shown s.setup) o) (effects.Read Pending None) ≡ reading s.setup past (go_reply s.setup past o) (gone_on Go past o)
+go_is s past st None h = refl
+go_is s past st (Some call) h =
     let known : event_or call.op < length s.setup.events = reading_event s.setup call.op h in
     let some : 0 < width s.setup (event_or call.op) = width_some s.setup (event_or call.op) st.declared known in
-    way_is s past call.op call.moments st (omega (arith, st.declared.few)) some (next_small s.setup (event_or call.op) call.moments st.declared some)
-    ∙ shown_if s.setup (is_pending (read_reply s.setup call.op past call.moments)) (record { op = call.op; moments = past ∷ call.moments })
+    read_is s past call.op call.moments st (omega (arith, st.declared.few)) some (next_small s.setup (event_or call.op) call.moments st.declared some)
+    ∙ ap (effects.Read (read_reply s.setup call.op past call.moments)) (shown_if s.setup (is_pending (read_reply s.setup call.op past call.moments)) (record { op = call.op; moments = past ∷ call.moments }))
 
 -- ONE STEP
 
@@ -153,24 +140,11 @@ same_place t past e p q w o h =
 abbrev entry : ℕ → Act → Reply → Entry
 entry w act reply = record { worker = w; act = act; reply = reply }
 
-advance_stands : (s : State) (past : List Entry) (w e : ℕ) → Stands s past → answer_of s.setup past w (Advance e) ≡ Ok Done
-    → under_way w past ≡ None → (o : Option ℕ) → component_at s.setup e past w ≡ o → option_map_or (λ c. component_total s.setup e c past == s.setup.limit) o false ≡ false
-    → Stands (with_raised s e o) (entry w (Advance e) Done ∷ past)
+advance_stands : (s : State) (past : List Entry) (w e c : ℕ) → Stands s past → answer_of s.setup past w (Advance e) ≡ Ok Done
+    → under_way w past ≡ None → component_at s.setup e past w ≡ Some c → (component_total s.setup e c past == s.setup.limit) ≡ false
+    → Stands (changed s w (effects.Raise e c)) (entry w (Advance e) Done ∷ past)
 unfolding signallers_at component_total issued cell_value
-advance_stands s past w e st h free None is room = record {
-  declared = st.declared;
-  accepted = (h, st.accepted);
-  signal = st.signal;
-  counts = λ p q lp lq.
-      (let off : ((e == p) && is_place q (component_at s.setup p past w)) ≡ false = same_place s.setup past e p q w None is ∙ and-false (e == p) in
-      st.counts p q lp lq ∙ ap (λ v. (let x : Counted = record { value = v; limit = s.setup.limit } in Some x))
-      (let zero_more : component_total s.setup p q past ≡ 0 + component_total s.setup p q past = omega arith in
-      zero_more ∙ ap (λ b. cond b 1 0 + component_total s.setup p q past) (sym off)));
-  issued = λ q lq. st.issued q lq ∙ ap (λ v. (let x : Counted = record { value = v; limit = s.setup.limit } in Some x)) (sym (issued_quiet q (entry w (Advance e) Done) past refl));
-  cells = st.cells;
-  calls = calls_kept s past (entry w (Advance e) Done) st refl free;
-}
-advance_stands s past w e st h free (Some c) is room = record {
+advance_stands s past w e c st h free is room = record {
   declared = st.declared;
   accepted = (h, st.accepted);
   signal = st.signal;
@@ -197,20 +171,20 @@ issued_kept : (s : State) (past : List Entry) (x : Entry) → Stands s past → 
     → (q : ℕ) → q < 32 → slice_get s.issued q ≡ Some (record { value = issued q (x ∷ past); limit = s.setup.limit })
 issued_kept s past x st none_such q lq = st.issued q lq ∙ ap (λ v. (let y : Counted = record { value = v; limit = s.setup.limit } in Some y)) (sym (issued_quiet q x past (none_such q)))
 
-ticket_stands : (s : State) (past : List Entry) (w q : ℕ) (reply : Reply) → Stands s past → answer_of s.setup past w (Ticket q) ≡ Ok reply → is_pending reply ≡ false
-    → under_way w past ≡ None → (issued q past == s.setup.limit) ≡ false → Stands (state_after s w (Ticket q)) (entry w (Ticket q) reply ∷ past)
+ticket_stands : (s : State) (past : List Entry) (w q n : ℕ) → Stands s past → answer_of s.setup past w (Ticket q) ≡ Ok (Number n)
+    → under_way w past ≡ None → (issued q past == s.setup.limit) ≡ false → Stands (changed s w (effects.Draw q n)) (entry w (Ticket q) (Number n) ∷ past)
 unfolding signallers_at issued cell_value
-ticket_stands s past w q reply st h quiet free room = record {
+ticket_stands s past w q n st h free room = record {
   declared = st.declared;
   accepted = (h, st.accepted);
   signal = st.signal;
-  counts = counts_kept s past (entry w (Ticket q) reply) st (λ e. refl);
+  counts = counts_kept s past (entry w (Ticket q) (Number n)) st (λ e. refl);
   issued = λ p lp.
       (get_changed raised s.issued q p
       ∙ ap (λ o. cond (q == p) (option_map raised o) o) (st.issued p lp)
       ∙ counted (q == p) (issued p past) s.setup.limit (λ k. (let same : q ≡ p = eqb-true q p k in ap (λ v. issued v past == s.setup.limit) (sym same) ∙ room)));
   cells = st.cells;
-  calls = calls_kept s past (entry w (Ticket q) reply) st quiet free;
+  calls = calls_kept s past (entry w (Ticket q) (Number n)) st refl free;
 }
 
 put_value : (b : Bool) (v d : ℕ) → cond b (Some v) (Some d) ≡ Some (unwrap_or (cond b (Some v) None) d)
@@ -218,7 +192,7 @@ put_value true v d = refl
 put_value false v d = refl
 
 put_stands : (s : State) (past : List Entry) (w x v : ℕ) → Stands s past → x < 256 → answer_of s.setup past w (Put x v) ≡ Ok Done
-    → under_way w past ≡ None → Stands (state_after s w (Put x v)) (entry w (Put x v) Done ∷ past)
+    → under_way w past ≡ None → Stands (changed s w (effects.Put x v)) (entry w (Put x v) Done ∷ past)
 unfolding signallers_at issued cell_value
 put_stands s past w x v st lx h free = record {
   declared = st.declared;
@@ -232,24 +206,24 @@ put_stands s past w x v st lx h free = record {
   calls = calls_kept s past (entry w (Put x v) Done) st refl free;
 }
 
-get_stands : (s : State) (past : List Entry) (w x : ℕ) (reply : Reply) → Stands s past → answer_of s.setup past w (Get x) ≡ Ok reply → is_pending reply ≡ false
-    → under_way w past ≡ None → Stands s (entry w (Get x) reply ∷ past)
+get_stands : (s : State) (past : List Entry) (w x n : ℕ) → Stands s past → answer_of s.setup past w (Get x) ≡ Ok (Number n)
+    → under_way w past ≡ None → Stands s (entry w (Get x) (Number n) ∷ past)
 unfolding signallers_at issued cell_value
-get_stands s past w x reply st h quiet free = record {
+get_stands s past w x n st h free = record {
   declared = st.declared;
   accepted = (h, st.accepted);
   signal = st.signal;
-  counts = counts_kept s past (entry w (Get x) reply) st (λ e. refl);
-  issued = issued_kept s past (entry w (Get x) reply) st (λ q. refl);
+  counts = counts_kept s past (entry w (Get x) (Number n)) st (λ e. refl);
+  issued = issued_kept s past (entry w (Get x) (Number n)) st (λ q. refl);
   cells = st.cells;
-  calls = calls_kept s past (entry w (Get x) reply) st quiet free;
+  calls = calls_kept s past (entry w (Get x) (Number n)) st refl free;
 }
 
 read_stands : (s : State) (past : List Entry) (x : Entry) (way : Option Progress) → Stands s past → x.worker < 16 → answer_of s.setup past x.worker x.act ≡ Ok x.reply
     → ((e : ℕ) → is_advance e x.act ≡ false) → ((q : ℕ) → is_ticket q x.act ≡ false) → ((y : ℕ) → put_in y x.act ≡ None)
     → ((e : ℕ) (ws : List ℕ) → handed e x.worker x.act ws ≡ ws)
     → way ≡ option_map (shown s.setup) (cond (is_pending x.reply) (gone_on x.act past (under_way x.worker past)) None)
-    → Stands (with_call s x.worker way) (x ∷ past)
+    → Stands (changed s x.worker (effects.Read x.reply way)) (x ∷ past)
 unfolding signallers_at issued cell_value
 read_stands s past x way st small h no_advance no_ticket no_put no_hand is = record {
   declared = st.declared;
@@ -266,7 +240,7 @@ replaced_once b o ws new = ap (λ is. cond is ws (replaced o b ws)) new
 
 -- a hand changes the signallers of its eventcount alone
 hand_stands : (s : State) (past : List Entry) (w e b : ℕ) → Stands s past → answer_of s.setup past w (Hand e b) ≡ Ok Done
-    → under_way w past ≡ None → is_some (component_at s.setup e past b) ≡ false → Stands (state_after s w (Hand e b)) (entry w (Hand e b) Done ∷ past)
+    → under_way w past ≡ None → is_some (component_at s.setup e past b) ≡ false → Stands (changed s w (effects.Hand e b)) (entry w (Hand e b) Done ∷ past)
 unfolding signallers_at issued cell_value
 hand_stands s past w e b st h free fresh = record {
   declared = st.declared;
@@ -290,43 +264,46 @@ hand_stands s past w e b st h free fresh = record {
 known_below : (n e : ℕ) → nat_le n e ≡ false → e < n
 known_below n e h = leb-false n e h
 
--- the state after an accepted act stands for the history with its entry
-pub stands_after : (s : State) (past : List Entry) (w : ℕ) (act : Act) (reply : Reply) → Stands s past → w < 16 → IsNamed act
-    → answer_of s.setup past w act ≡ Ok reply → Stands (state_after s w act) (entry w act reply ∷ past)
-stands_after s past w (Advance e) reply st lt named h =
-    let k = allowed s.setup past w (Advance e) reply h in
-    let P : Reply → Type 0 = λ r. answer_of s.setup past w (Advance e) ≡ Ok r → Stands (state_after s w (Advance e)) (entry w (Advance e) r ∷ past) in
-    let Q : Option ℕ → Type 0 = λ o. Stands (with_raised s e o) (entry w (Advance e) Done ∷ past) in
-    subst P k.1 (λ h'. subst Q (sym (component_is s past e w st named)) (advance_stands s past w e st h' (none_of (under_way w past) k.0.free) (component_at s.setup e past w) refl k.0.room)) h
-stands_after s past w (Read e) reply st lt named h =
-    let k = allowed s.setup past w (Read e) reply h in
-    let some : 0 < width s.setup e = width_some s.setup e st.declared (known_below (length s.setup.events) e k.0.known) in
-    read_stands s past (entry w (Read e) reply) (next_progress s (begun (Read e))) st lt h (λ e. refl) (λ q. refl) (λ y. refl) (λ e ws. refl)
-    (begin_way s past (Read e) st named some ∙ ap (λ r. option_map (shown s.setup) (cond (is_pending r) (Some (record { op = Read e; moments = past ∷ [] })) None)) k.1)
-stands_after s past w (Await e v) reply st lt named h =
-    let k = allowed s.setup past w (Await e v) reply h in
-    let some : 0 < width s.setup e = width_some s.setup e st.declared (known_below (length s.setup.events) e k.0.known) in
-    read_stands s past (entry w (Await e v) reply) (next_progress s (begun (Await e v))) st lt h (λ e. refl) (λ q. refl) (λ y. refl) (λ e ws. refl)
-    (begin_way s past (Await e v) st named some ∙ ap (λ r. option_map (shown s.setup) (cond (is_pending r) (Some (record { op = Await e v; moments = past ∷ [] })) None)) k.1)
-stands_after s past w Go reply st lt named h =
-    let k = allowed s.setup past w Go reply h in
-    read_stands s past (entry w Go reply) (go_after s (kept_call s w)) st lt h (λ e. refl) (λ q. refl) (λ y. refl) (λ e ws. refl)
-    (ap (go_after s) (kept_is s past w st lt) ∙ go_way s past st (under_way w past) (call_reads s.setup past w st.accepted)
-    ∙ ap (λ r. option_map (shown s.setup) (cond (is_pending r) (gone_on Go past (under_way w past)) None)) k.1)
-stands_after s past w (Ticket q) reply st lt named h =
-    let k = allowed s.setup past w (Ticket q) reply h in
-    ticket_stands s past w q reply st h (ap is_pending (sym k.1)) (none_of (under_way w past) k.0.free) k.0.room
-stands_after s past w (Put x v) reply st lt named h =
-    let k = allowed s.setup past w (Put x v) reply h in
-    let P : Reply → Type 0 = λ r. answer_of s.setup past w (Put x v) ≡ Ok r → Stands (state_after s w (Put x v)) (entry w (Put x v) r ∷ past) in
-    subst P k.1 (λ h'. put_stands s past w x v st named h' (none_of (under_way w past) k.0.free)) h
-stands_after s past w (Get x) reply st lt named h =
-    let k = allowed s.setup past w (Get x) reply h in
-    get_stands s past w x reply st h (ap is_pending (sym k.1)) (none_of (under_way w past) k.0.free)
-stands_after s past w (Hand e b) reply st lt named h =
-    let k = allowed s.setup past w (Hand e b) reply h in
-    let P : Reply → Type 0 = λ r. answer_of s.setup past w (Hand e b) ≡ Ok r → Stands (state_after s w (Hand e b)) (entry w (Hand e b) r ∷ past) in
-    subst P k.1 (λ h'. hand_stands s past w e b st h' (none_of (under_way w past) k.0.free) k.0.fresh) h
+some_of : (o : Option ℕ) → not (is_some o) ≡ false → o ≡ Some (unwrap_or o 0)
+some_of None h = cc
+some_of (Some c) h = refl
+
+-- what an accepted act comes to is the right reply, and the state for the history with its entry
+abbrev IsRight : State → List Entry → ℕ → Act → Reply → Effect → Type 0
+IsRight s past w act reply e = (told e ≡ reply) × Stands (changed s w e) (entry w act reply ∷ past)
+
+read_step : (s : State) (past : List Entry) (w : ℕ) (act : Act) (reply : Reply) → Stands s past → w < 16 → answer_of s.setup past w act ≡ Ok reply
+    → ((e : ℕ) → is_advance e act ≡ false) → ((q : ℕ) → is_ticket q act ≡ false) → ((y : ℕ) → put_in y act ≡ None) → ((e : ℕ) (ws : List ℕ) → handed e w act ws ≡ ws)
+    → effect_in s w act ≡ reading s.setup past reply (gone_on act past (under_way w past)) → IsRight s past w act reply (effect_in s w act)
+read_step s past w act reply st lt h no_advance no_ticket no_put no_hand is =
+    let way : Option Progress = option_map (shown s.setup) (cond (is_pending reply) (gone_on act past (under_way w past)) None) in
+    subst (IsRight s past w act reply) (sym is) (refl, read_stands s past (entry w act reply) way st lt h no_advance no_ticket no_put no_hand refl)
+
+step_is : (s : State) (past : List Entry) (w : ℕ) (act : Act) → Stands s past → w < 16 → IsNamed act → IsAllowed s.setup past w act
+    → answer_of s.setup past w act ≡ Ok (reply_of s.setup past w act) → IsRight s past w act (reply_of s.setup past w act) (effect_in s w act)
+step_is s past w (Advance e) st lt named a h =
+    let is : component_in s e w ≡ component_at s.setup e past w = component_is s past e w st named in
+    let at : component_at s.setup e past w ≡ Some (unwrap_or (component_at s.setup e past w) 0) = some_of (component_at s.setup e past w) a.right in
+    let room : (component_total s.setup e (unwrap_or (component_at s.setup e past w) 0) past == s.setup.limit) ≡ false =
+    ap (λ o. option_map_or (λ c. component_total s.setup e c past == s.setup.limit) o false) (sym at) ∙ a.room in
+    subst (λ o. IsRight s past w (Advance e) Done (effects.Raise e (unwrap_or o 0))) (sym is)
+    (refl, advance_stands s past w e (unwrap_or (component_at s.setup e past w) 0) st h (none_of (under_way w past) a.free) at room)
+step_is s past w (Read e) st lt named a h =
+    read_step s past w (Read e) _ st lt h (λ e. refl) (λ q. refl) (λ y. refl) (λ e ws. refl)
+    (begin_is s past (Read e) st named (width_some s.setup e st.declared (known_below (length s.setup.events) e a.known)))
+step_is s past w (Await e v) st lt named a h =
+    read_step s past w (Await e v) _ st lt h (λ e. refl) (λ q. refl) (λ y. refl) (λ e ws. refl)
+    (begin_is s past (Await e v) st named (width_some s.setup e st.declared (known_below (length s.setup.events) e a.known)))
+step_is s past w Go st lt named a h =
+    read_step s past w Go _ st lt h (λ e. refl) (λ q. refl) (λ y. refl) (λ e ws. refl)
+    (ap (λ o. option_map_or (next_read s) o (effects.Read Pending None)) (kept_is s past w st lt) ∙ go_is s past st (under_way w past) (call_reads s.setup past w st.accepted))
+step_is s past w (Ticket q) st lt named a h =
+    subst (λ o. IsRight s past w (Ticket q) (Number (issued q past)) (effects.Draw q (value_of o))) (sym (st.issued q named))
+    (refl, ticket_stands s past w q (issued q past) st h (none_of (under_way w past) a.free) a.room)
+step_is s past w (Put x v) st lt named a h = (refl, put_stands s past w x v st named h (none_of (under_way w past) a.free))
+step_is s past w (Get x) st lt named a h =
+    (ap Number (get_or_from_slice_get s.cells x (cell_value x past) 0 (st.cells x named)), get_stands s past w x (cell_value x past) st h (none_of (under_way w past) a.free))
+step_is s past w (Hand e b) st lt named a h = (refl, hand_stands s past w e b st h (none_of (under_way w past) a.free) a.fresh)
 
 -- THE FIRST STATE
 
@@ -350,9 +327,25 @@ open_stands t signal zeros row tickets cells calls nought signal_is d is rows ro
 pub past_after : (h : List Entry) (x : Entry) → reverse (h ++ x ∷ []) ≡ x ∷ reverse h
 past_after h x = reverse-append h (x ∷ [])
 
--- the same of a history in order
-pub stands_for_after : (s new : State) (h : List Entry) (w : ℕ) (act : Act) (reply : Reply) → StandsFor s h → w < 16 → IsNamed act
-    → Ok reply ≡ answer_of s.setup (reverse h) w act → new ≡ state_after s w act
-    → StandsFor new (h ++ (record { worker = w; act = act; reply = reply }) ∷ [])
-stands_for_after s new h w act reply st lt named answered is =
-    rw (is, past_after h (entry w act reply)) (stands_after s (reverse h) w act reply st lt named (sym answered))
+plan_by : (s : State) (h : List Entry) (w : ℕ) (act : Act) → StandsFor s h → w < 16 → IsNamed act → (o : Option Refusal) → refusal_of s.setup (reverse h) w act ≡ o
+    → MatchResult (refused_or o (effect_in s w act)) (IsRightStep s h w act) (λ r. answer_of s.setup (reverse h) w act ≡ Err r)
+unfolding answer_of
+plan_by s h w act st lt named (Some r) is = ap (λ o. refused_or o (reply_of s.setup (reverse h) w act)) is
+plan_by s h w act st lt named None is =
+    let right : answer_of s.setup (reverse h) w act ≡ Ok (reply_of s.setup (reverse h) w act) = ap (λ o. refused_or o (reply_of s.setup (reverse h) w act)) is in
+    let k = step_is s (reverse h) w act st lt named (allowed s.setup (reverse h) w act (reply_of s.setup (reverse h) w act) right).0 right in
+    let e : Effect = effect_in s w act in
+    let answer : answer_of s.setup (reverse h) w act ≡ Ok (told e) = right ∙ ap Ok (sym k.0) in
+    record {
+      answer = answer;
+      small = told_small s.setup (reverse h) w act (told e) st.declared st.accepted answer;
+      kind = kind_is s.setup (reverse h) w act (told e) st.declared st.accepted answer;
+      after = rw (past_after h (entry w act (told e))) (subst (λ r. Stands (changed s w e) (entry w act r ∷ reverse h)) (sym k.0) k.1);
+    }
+
+-- what is planned by the fields of a world is right after its history
+pub plan_is : (s : State) (h : List Entry) (w : ℕ) (act : Act) (r : Result Effect Refusal) → StandsFor s h → w < 16 → IsNamed act → r ≡ planned s (reverse h) w act
+    → MatchResult r (IsRightStep s h w act) (λ r. answer_of s.setup (reverse h) w act ≡ Err r)
+plan_is s h w act r st lt named is =
+    subst (λ p. MatchResult p (IsRightStep s h w act) (λ r. answer_of s.setup (reverse h) w act ≡ Err r)) (sym (is ∙ planned_is s (reverse h) w act st lt named))
+    (plan_by s h w act st lt named (refusal_of s.setup (reverse h) w act) refl)

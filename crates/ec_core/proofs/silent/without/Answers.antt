@@ -6,8 +6,8 @@ use Rattle.ec_core.specs.Recorded.{Recorded}
 use Rattle.ec_core.proofs.Silences.{kept_answer, members_silent}
 use Rattle.ec_core.proofs.silent.without.Goals as goal
 
-pub take_in-requires : goal.take_in-requires
-take_in-requires c =
+pub repeat-requires : goal.repeat-requires
+repeat-requires c =
     let run = c.args.run.now in
     let ws = c.args.silent.now in
     let x = c.in-Some.entry in
