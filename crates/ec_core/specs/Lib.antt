@@ -20,6 +20,7 @@ pub mod Following
 pub mod CallLists
 pub mod Procedures
 pub mod JoinedLists
+pub mod Ongoing
 pub mod Scanning
 pub mod Audits
 pub mod FallenShort

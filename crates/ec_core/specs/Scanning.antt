@@ -1,37 +1,14 @@
 -- What a walk over the entries of a run keeps of each worker.
 use Rattle.std.specs.Prelude.{◌≡◌, ℕ, ◌<◌, List, Option, Some, None, slice_get, reverse}
-use Rattle.std.specs.Option.{option_map}
-use Rattle.ec_core.specs.declared.act.Act.{Act}
-use Rattle.ec_core.specs.declared.act.Act.TheVariants.{Go}
-use Rattle.ec_core.specs.declared.act.Reply.{Reply}
-use Rattle.ec_core.specs.declared.act.Reply.TheVariants.{Done, Number, Pending}
 use Rattle.ec_core.specs.declared.act.Entry.{Entry}
 use Rattle.ec_core.specs.declared.protocol.Kept.{Kept}
 use Rattle.ec_core.specs.declared.audit.AuditFault.{AuditFault}
 use Rattle.ec_core.specs.Audits.{IsFirstBreak}
-use Rattle.ec_core.specs.Calls.{CallSoFar, under_way}
 use Rattle.ec_core.specs.Following.{Told, Rule, block, Follow}
 
 -- by worker, what is kept of its list after a past
 abbrev pub AreKept : (ℕ → Rule) → (List Told → Kept) → List Kept → List Entry → Type 0
 AreKept rules keeps kept past = (w : ℕ) → w < 16 → slice_get kept w ≡ Some (keeps (block (rules w) w past))
-
--- the acts that began the calls under way after a past, by worker
-abbrev pub AreBegun : List (Option Act) → List Entry → Type 0
-AreBegun begun past = (w : ℕ) → w < 16 → slice_get begun w ≡ Some (option_map (λ (c : CallSoFar). c.op) (under_way w past))
-
--- the act that began the call that an act is part of, given the one that began its worker's call under way
-abbrev pub opened_by : Act → Option Act → Act
-opened_by Go None = Go
-opened_by Go (Some op) = op
-opened_by act o = act
-
--- the act that began the call under way after an act and its reply
-abbrev pub open_after : Act → Reply → Option Act → Option Act
-open_after Go Pending o = o
-open_after act Pending o = Some act
-open_after act Done o = None
-open_after act (Number n) o = None
 
 -- what was found of a past: it follows, or this is the first entry that breaks the lists
 abbrev pub IsFinding : (ℕ → Rule) → Option AuditFault → List Entry → Type 0

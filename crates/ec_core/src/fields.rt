@@ -4,7 +4,7 @@ ghost use Rattle.ec_count.specs.Counted.{raised};
 ghost use Rattle.ec_count.specs.Members.{place_of, is_member};
 ghost use Rattle.ec_count.specs.Tables.{signallers};
 ghost use Rattle.ec_core.specs.Acceptance.{names_unknown_object, is_too_large};
-ghost use Rattle.ec_core.specs.Rounds.{event_or};
+ghost use Rattle.ec_core.specs.Rounds.{event_or, width};
 ghost use Rattle.ec_core.specs.Counts.{replaced, sum_to};
 ghost use Rattle.ec_core.specs.Standing.{count_at};
 ghost use Rattle.ec_core.specs.Fields.{IsNamed, signallers_in, value_of, changed_at, replaced_new};
@@ -112,6 +112,18 @@ pub(crate) fn event_or(op: Act) -> usize
     match op {
         Act::Advance(event) | Act::Read(event) | Act::Await(event, _) => event.get(),
         Act::Go | Act::Ticket(_) | Act::Put(_, _) | Act::Get(_) | Act::Hand(_, _) => 0,
+    }
+}
+
+/// How many components the eventcount has; 0 where it is not declared.
+pub(crate) fn width(setup: &Setup, event: usize) -> usize
+    requires { event < 32 }
+    ensures value { result ≡ width setup.now event }
+    ensures few { result ≤ 16 }
+{
+    match EventId::new(event) {
+        Some(event) => setup.components(event).unwrap_or(0),
+        None => 0,
     }
 }
 

@@ -1,11 +1,11 @@
 //! One walk over the entries of a run, for one audit or for many.
 ghost use Rattle.std.specs.Prelude.{◌≡◌, ◌+◌, ◌<◌, ◌^◌, List, [], ◌∷◌, length, reverse};
+ghost use Rattle.std.specs.Option.{option_map_or};
 ghost use Rattle.ec_core.specs.declared.act.Entry.{Entry};
 ghost use Rattle.ec_core.specs.Calls.{under_way};
 ghost use Rattle.ec_core.specs.Following.{opened};
 
-use crate::begun::Begun;
-use crate::{Act, Entry, Run};
+use crate::{Act, Calls, Entry, Ongoing, Run};
 
 /// What is gathered in a walk over the entries of a run.
 pub trait Audit {
@@ -19,17 +19,27 @@ pub trait Audit {
             → stands start self.old past → stands start self.new (entry.now ∷ past) };
 }
 
+/// The act that began a call, and Go where there is none.
+fn op_of(call: Option<Ongoing>) -> Act
+    ensures { result ≡ option_map_or (λ c. c.op) call Act.Go }
+{
+    match call {
+        Some(call) => call.op,
+        None => Act::Go,
+    }
+}
+
 /// Hands each entry of a run to an audit, in order.
 pub fn walk<A: Audit>(run: &Run, audit: &mut A)
     requires { A.stands audit.old audit.old [] }
     ensures { A.stands audit.old audit.new (reverse run.now.entries) }
 {
-    let mut begun = Begun::new();
+    run.known();
+    let mut calls = Calls::new();
     let mut place = 0;
     for entry in run.entries() {
-        let op = begun.op(&entry);
+        let op = op_of(calls.take(run.setup(), place, &entry));
         audit.take(place, &op, &entry);
-        begun.take(&entry);
         place += 1;
     }
 }

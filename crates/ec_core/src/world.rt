@@ -13,7 +13,7 @@ ghost use Rattle.ec_core.specs.Fields.{kept_call, component_in, right_in, alread
 use crate::effect::Effect;
 use crate::fields::{
     all_alike, count_in, count_of, declared, event_or, hand_in, is_too_large, named,
-    names_unknown_object, place_in, raise_at, raise_in, same_again, signaller_in, sum_of,
+    names_unknown_object, place_in, raise_at, raise_in, same_again, signaller_in, sum_of, width,
 };
 use crate::{Act, Entry, Refusal, Reply, UnderWay, VALUE_MAX};
 use ec_count::{CellId, Count, EventId, Members, SeqId, Setup, WorkerId};
@@ -121,7 +121,7 @@ impl World {
             return None;
         }
         let event = event.get();
-        let width = self.width(event);
+        let width = width(&self.setup, event);
         Some(sum_of(&self.counts, event, width))
     }
 
@@ -132,7 +132,7 @@ impl World {
             → result ≡ (if nat_lt component (width self.now.setup event) then Some (component_total self.now.setup event component (reverse h)) else None) }
     {
         let event = event.get();
-        if component >= self.width(event) {
+        if component >= width(&self.setup, event) {
             return None;
         }
         let count = count_in(&self.counts, event, component);
@@ -177,17 +177,6 @@ impl World {
         self.calls[worker.get()]
     }
 
-    fn width(&self, event: usize) -> usize
-        requires { event < 32 }
-        ensures value { result ≡ width self.now.setup event }
-        ensures few { result ≤ 16 }
-    {
-        match EventId::new(event) {
-            Some(event) => self.setup.components(event).unwrap_or(0),
-            None => 0,
-        }
-    }
-
     /// What a call comes to that reads its next component.
     #[inline(always)]
     fn read(&self, call: &UnderWay) -> Effect
@@ -195,7 +184,7 @@ impl World {
     {
         let event = event_or(call.op());
         let count = count_in(&self.counts, event, call.index());
-        call.read(self.width(event), count.value())
+        call.read(width(&self.setup, event), count.value())
     }
 
     /// What an act comes to that begins a call, or the first refusal after those that ask for the worker and its call.

@@ -1,9 +1,9 @@
 -- The scan that gathers the finished reads and awaits by their points.
-use Rattle.std.proofs.Common.{◌≡◌, ℕ, zero, suc, ◌+◌, ◌-◌, ◌<◌, ◌≤◌, inl, inr, Bool, true, false, not, ◌&&◌, is_some, List, [], ◌∷◌, ◌++◌, length, map, Option, Some, None, refl, ap, sym, ◌∙◌, arith, cond, subst, ◌==◌, append-nil, reverse, take, take_all, slice_get, slice_set, Vec, Global}
+use Rattle.std.proofs.Common.{◌≡◌, ℕ, zero, suc, ◌+◌, ◌-◌, ◌<◌, ◌≤◌, inl, inr, Bool, true, false, not, ◌&&◌, is_some, List, [], ◌∷◌, ◌++◌, length, map, Option, Some, None, refl, ap, sym, ◌∙◌, arith, cond, subst, ◌==◌, append-nil, reverse, take, take_all, slice_get, Vec, Global}
 use Rattle.std.specs.Option.{option_map, option_to_list}
 use Rattle.std.specs.List.{All, Contains, filter}
 use Rattle.std.proofs.lemmas.Bool.{eqb-true}
-use Rattle.std.proofs.lemmas.List.{map-append, length-reverse, append_cancel_left}
+use Rattle.std.proofs.lemmas.List.{map-append, length-reverse}
 use Rattle.std.proofs.lemmas.List.Elements.{All-nil, All-cons, All-head, All-tail, All-contains, Contains-append_right, filter-append, filter_passes}
 use Rattle.std.proofs.lemmas.Option.{slice_get_within}
 use Rattle.ec_count.specs.Tables.{Tables, IsDeclared}
@@ -15,16 +15,16 @@ use Rattle.ec_core.specs.Acceptance.{IsAccepted}
 use Rattle.ec_core.proofs.shared.Answering.{allowed}
 use Rattle.ec_order.specs.declared.call.Call.{Call}
 use Rattle.ec_order.specs.declared.placed.Placed.{Placed}
-use Rattle.ec_order.specs.declared.begun.Begun.{Begun}
+use Rattle.ec_core.specs.declared.ongoing.Ongoing.{Ongoing}
 use Rattle.ec_order.specs.Calls.{call_of_entries, ended_by, finished_calls, is_reading, number_of}
 use Rattle.ec_order.specs.Points.{first_entries, first_moment, point_of, with_point, by_moments}
-use Rattle.ec_order.specs.Scan.{begun_after, begun_left, begun_at, begun_of, call_told, IsTable}
+use Rattle.ec_core.specs.Ongoing.{ongoing, AreCalls}
 use Rattle.ec_order.specs.Index.{point_in, IsIndex}
 use Rattle.ec_order.specs.Walk.{is_alone, reads, readings, readings_by_points, PutsIn}
 use Rattle.ec_order.proofs.Points.{first_next}
 use Rattle.ec_order.proofs.Ends.{Ends, ends}
 use Rattle.ec_order.proofs.Fits.{Fits, all_fit, point_bounds}
-use Rattle.ec_order.proofs.Scanning.{prefix_more, prefix_accepted, prefix_long, scanned}
+use Rattle.ec_order.proofs.Scanning.{prefix_more, prefix_accepted, prefix_long, Ending, ended_next}
 use Rattle.ec_order.proofs.Indexing.{IsIndexed}
 use Rattle.ec_order.proofs.Reaching.{placed_is}
 use Rattle.ec_order.proofs.Walking.{alone_from}
@@ -117,102 +117,74 @@ by_moments_none zero = refl
 by_moments_none (suc n) = ap (λ ps. ps ++ []) (by_moments_none n)
 
 -- what is so after the scan of the first i entries
-pub record IsGathered (t : Tables) (h : List Entry) (i : ℕ) (table : List (Option Begun)) (lists : List (Vec ℕ Global)) (ps : List Placed) : Type 0 where
-  pub kept : IsTable t (reverse (take i h)) table
-  pub long : length table ≡ 16
+pub record IsGathered (t : Tables) (h : List Entry) (i : ℕ) (calls : List (Option Ongoing)) (lists : List (Vec ℕ Global)) (ps : List Placed) : Type 0 where
+  pub kept : AreCalls t calls (reverse (take i h))
   pub index : IsIndexed h i lists
   pub gathered : ps ≡ by_moments (readings t (reverse (take i h))) (length h)
 
-pub gathered_start : (t : Tables) (h : List Entry) (table : List (Option Begun)) (lists : List (Vec ℕ Global)) → ((w : ℕ) → w < 16 → slice_get table w ≡ Some None) → length table ≡ 16
-    → IsIndexed h 0 lists → IsGathered t h 0 table lists []
-unfolding finished_calls under_way
-gathered_start t h table lists empty long index = record { kept = empty; long = long; index = index; gathered = sym (by_moments_none (length h)) }
+pub gathered_start : (t : Tables) (h : List Entry) (calls : List (Option Ongoing)) (lists : List (Vec ℕ Global)) → AreCalls t calls [] → IsIndexed h 0 lists → IsGathered t h 0 calls lists []
+unfolding finished_calls
+gathered_start t h calls lists empty index = record { kept = empty; index = index; gathered = sym (by_moments_none (length h)) }
 
 -- the scan of one call by itself
-pub gathered_alone : (t : Tables) (h : List Entry) (i : ℕ) (x : Entry) (table : List (Option Begun)) (lists lists' : List (Vec ℕ Global)) (ps : List Placed) → IsDeclared t → IsAccepted t (reverse h)
-    → Some x ≡ slice_get h i → is_alone x.act ≡ true → IsIndexed h (i + 1) lists' → IsGathered t h i table lists ps → IsGathered t h (i + 1) table lists' ps
-gathered_alone t h i x table lists lists' ps d acc at alone index s =
+pub gathered_alone : (t : Tables) (h : List Entry) (i : ℕ) (x : Entry) (calls : List (Option Ongoing)) (lists lists' : List (Vec ℕ Global)) (ps : List Placed) → IsDeclared t → IsAccepted t (reverse h)
+    → Some x ≡ slice_get h i → is_alone x.act ≡ true → IsIndexed h (i + 1) lists' → IsGathered t h i calls lists ps → IsGathered t h (i + 1) calls lists' ps
+gathered_alone t h i x calls lists lists' ps d acc at alone index s =
     let past = reverse (take i h) in
     let more : reverse (take (i + 1) h) ≡ x ∷ past = prefix_more h i x (sym at) in
     let acc' : IsAccepted t (x ∷ past) = subst (IsAccepted t) more (prefix_accepted t h (i + 1) acc) in
     let same : readings t (reverse (take (i + 1) h)) ≡ readings t past =
     ap (readings t) more ∙ added t x past d acc' ∙ ap (λ qs. readings t past ++ qs) (alone_adds t x past (x ∷ past) alone (ends t x past d acc')) ∙ append-nil (readings t past) in
     record {
-      kept = λ w lt. s.kept w lt ∙ ap (λ o. Some (option_map (begun_of t) o)) (sym (ap (under_way w) more ∙ alone_leaves t x past w d acc' alone));
-      long = s.long;
+      kept = λ w lt. s.kept w lt ∙ ap (λ o. Some (option_map (ongoing t) o)) (sym (ap (under_way w) more ∙ alone_leaves t x past w d acc' alone));
       index = index;
       gathered = s.gathered ∙ ap (λ qs. by_moments qs (length h)) (sym same);
     }
 
--- the scan of one entry of a read or an await
-record Goes (t : Tables) (h : List Entry) (i : ℕ) (x : Entry) (told : Option Call) (table' : List (Option Begun)) : Type 0 where
-  pub accepted : IsAccepted t (x ∷ reverse (take i h))
-  pub ended : ended_by t x (gone_on x.act (reverse (take i h)) (under_way x.worker (reverse (take i h)))) ≡ option_to_list told
-  pub kept : IsTable t (reverse (take (i + 1) h)) table'
-  pub long : length table' ≡ 16
-
-goes : (t u : Tables) (h : List Entry) (i : ℕ) (x : Entry) (told : Option Call) (table table' : List (Option Begun)) (lists : List (Vec ℕ Global)) (ps : List Placed) → IsDeclared t → IsAccepted t (reverse h)
-    → Some x ≡ slice_get h i → x.worker < 16 → IsGathered t h i table lists ps → u ≡ t
-    → told ≡ call_told x i (begun_after x.act (begun_at table x.worker) i) → table' ≡ slice_set table x.worker (begun_left u x.reply (begun_after x.act (begun_at table x.worker) i))
-    → Goes t h i x told table'
-unfolding finished_calls
-goes t u h i x told table table' lists ps d acc at small s same is left =
+-- the scan of one entry of a read or an await: where it ends none
+pub gathered_none : (t u : Tables) (h : List Entry) (i : ℕ) (x : Entry) (told : Option Call) (calls calls' : List (Option Ongoing)) (lists lists' : List (Vec ℕ Global)) (ps : List Placed) → IsDeclared t → IsAccepted t (reverse h)
+    → Some x ≡ slice_get h i → IsIndexed h (i + 1) lists' → IsGathered t h i calls lists ps → u ≡ t → Ending calls i x told calls' u → told ≡ None → IsGathered t h (i + 1) calls' lists' ps
+gathered_none t u h i x told calls calls' lists lists' ps d acc at index s same ending is =
     let past = reverse (take i h) in
     let more : reverse (take (i + 1) h) ≡ x ∷ past = prefix_more h i x (sym at) in
-    let k = scanned t u h i x told (finished_calls t past) (finished_calls t past ++ option_to_list told) table table' d acc at small (record { calls = refl; kept = s.kept; long = s.long }) same is left refl in
-    record {
-      accepted = subst (IsAccepted t) more (prefix_accepted t h (i + 1) acc);
-      ended = append_cancel_left (finished_calls t past) (ended_by t x (gone_on x.act past (under_way x.worker past))) (option_to_list told) (sym (ap (finished_calls t) more) ∙ sym k.calls);
-      kept = k.kept;
-      long = k.long;
-    }
-
--- where it ends none
-pub gathered_none : (t u : Tables) (h : List Entry) (i : ℕ) (x : Entry) (table table' : List (Option Begun)) (lists lists' : List (Vec ℕ Global)) (ps : List Placed) → IsDeclared t → IsAccepted t (reverse h)
-    → Some x ≡ slice_get h i → x.worker < 16 → IsIndexed h (i + 1) lists' → IsGathered t h i table lists ps → u ≡ t
-    → None ≡ call_told x i (begun_after x.act (begun_at table x.worker) i) → table' ≡ slice_set table x.worker (begun_left u x.reply (begun_after x.act (begun_at table x.worker) i))
-    → IsGathered t h (i + 1) table' lists' ps
-gathered_none t u h i x table table' lists lists' ps d acc at small index s same is left =
-    let past = reverse (take i h) in
-    let more : reverse (take (i + 1) h) ≡ x ∷ past = prefix_more h i x (sym at) in
-    let g = goes t u h i x None table table' lists ps d acc at small s same is left in
+    let acc' : IsAccepted t (x ∷ past) = subst (IsAccepted t) more (prefix_accepted t h (i + 1) acc) in
+    let next = ended_next t u h i x told calls calls' acc at s.kept same ending in
     let none : readings t (reverse (take (i + 1) h)) ≡ readings t past =
-    ap (readings t) more ∙ added t x past d g.accepted ∙ ap (λ cs. readings t past ++ filter reads (map (with_point (x ∷ past)) cs)) g.ended ∙ append-nil (readings t past) in
-    record { kept = g.kept; long = g.long; index = index; gathered = s.gathered ∙ ap (λ qs. by_moments qs (length h)) (sym none) }
+    ap (readings t) more ∙ added t x past d acc' ∙ ap (λ cs. readings t past ++ filter reads (map (with_point (x ∷ past)) cs)) (next.call ∙ ap option_to_list is) ∙ append-nil (readings t past) in
+    record { kept = subst (AreCalls t calls') (sym more) next.after; index = index; gathered = s.gathered ∙ ap (λ qs. by_moments qs (length h)) (sym none) }
 
 -- where it ends one
-pub gathered_one : (t u : Tables) (h : List Entry) (i : ℕ) (x : Entry) (c : Call) (table table' : List (Option Begun)) (lists lists' ls : List (Vec ℕ Global)) (k : ℕ) (ps ps' : List Placed) → IsDeclared t → IsAccepted t (reverse h)
-    → Some x ≡ slice_get h i → is_alone x.act ≡ false → x.worker < 16 → IsIndexed h (i + 1) lists' → IsGathered t h i table lists ps → u ≡ t
-    → Some c ≡ call_told x i (begun_after x.act (begun_at table x.worker) i) → table' ≡ slice_set table x.worker (begun_left u x.reply (begun_after x.act (begun_at table x.worker) i))
-    → ls ≡ lists' → k ≡ point_in ls c → PutsIn ps ps' (record { call = c; point = k }) → IsGathered t h (i + 1) table' lists' ps'
+pub gathered_one : (t u : Tables) (h : List Entry) (i : ℕ) (x : Entry) (c : Call) (calls calls' : List (Option Ongoing)) (lists lists' ls : List (Vec ℕ Global)) (k : ℕ) (ps ps' : List Placed) → IsDeclared t → IsAccepted t (reverse h)
+    → Some x ≡ slice_get h i → is_alone x.act ≡ false → IsIndexed h (i + 1) lists' → IsGathered t h i calls lists ps → u ≡ t → Ending calls i x (Some c) calls' u
+    → ls ≡ lists' → k ≡ point_in ls c → PutsIn ps ps' (record { call = c; point = k }) → IsGathered t h (i + 1) calls' lists' ps'
 unfolding finished_calls
-gathered_one t u h i x c table table' lists lists' ls k ps ps' d acc at other small index s same is left here there puts =
+gathered_one t u h i x c calls calls' lists lists' ls k ps ps' d acc at other index s same ending here there puts =
     let past = reverse (take i h) in
     let more : reverse (take (i + 1) h) ≡ x ∷ past = prefix_more h i x (sym at) in
-    let g = goes t u h i x (Some c) table table' lists ps d acc at small s same is left in
-    let reading : is_reading c.op ≡ true = All-head (λ (c : Call). is_reading c.op ≡ true) c [] (subst (All (λ (c : Call). is_reading c.op ≡ true)) g.ended (others_read t x past other (ends t x past d g.accepted))) in
+    let acc' : IsAccepted t (x ∷ past) = subst (IsAccepted t) more (prefix_accepted t h (i + 1) acc) in
+    let next = ended_next t u h i x (Some c) calls calls' acc at s.kept same ending in
+    let reading : is_reading c.op ≡ true = All-head (λ (c : Call). is_reading c.op ≡ true) c [] (subst (All (λ (c : Call). is_reading c.op ≡ true)) next.call (others_read t x past other (ends t x past d acc'))) in
     let known : Contains (finished_calls t (x ∷ past)) c =
-    Contains-append_right (finished_calls t past) (ended_by t x (gone_on x.act past (under_way x.worker past))) c (subst (λ cs. Contains cs c) (sym g.ended) (zero, omega arith, refl)) in
-    let fits : Fits (x ∷ past) c = All-contains (Fits (x ∷ past)) (finished_calls t (x ∷ past)) c (all_fit t (x ∷ past) d g.accepted) known in
+    Contains-append_right (finished_calls t past) (ended_by t x (gone_on x.act past (under_way x.worker past))) c (subst (λ cs. Contains cs c) (sym next.call) (zero, omega arith, refl)) in
+    let fits : Fits (x ∷ past) c = All-contains (Fits (x ∷ past)) (finished_calls t (x ∷ past)) c (all_fit t (x ∷ past) d acc') known in
     let p = with_point (x ∷ past) c in
     let one_at : ℕ → Placed = λ j. record { call = c; point = j } in
     let placed : one_at k ≡ p = ap one_at (there ∙ ap (λ zs. point_in zs c) here) ∙ placed_is (x ∷ past) lists' c (subst (λ q. IsIndex q lists') more index.index) fits in
     let one : readings t (reverse (take (i + 1) h)) ≡ readings t past ++ p ∷ [] =
-    ap (readings t) more ∙ added t x past d g.accepted ∙ ap (λ cs. readings t past ++ filter reads (map (with_point (x ∷ past)) cs)) g.ended ∙ ap (λ b. readings t past ++ cond b (p ∷ []) []) reading in
+    ap (readings t) more ∙ added t x past d acc' ∙ ap (λ cs. readings t past ++ filter reads (map (with_point (x ∷ past)) cs)) next.call ∙ ap (λ b. readings t past ++ cond b (p ∷ []) []) reading in
     let in' : i < length h = slice_get_within h i x (sym at) in
     let long : i ≡ length past = prefix_long h i x (sym at) in
     let low : p.point < length h = (let below : point_of (x ∷ past) c < suc (length past) = (point_bounds (x ∷ past) c fits).2 in omega arith) in
     let puts' : PutsIn ps ps' p = subst (PutsIn ps ps') placed puts in
     record {
-      kept = g.kept;
-      long = g.long;
+      kept = subst (AreCalls t calls') (sym more) next.after;
       index = index;
       gathered = puts'.is ∙ inserted (readings t past) ps p (length h) puts'.at (filter_passes reads (map (with_point past) (finished_calls t past))) reading low s.gathered puts'.place
           ∙ ap (λ qs. by_moments qs (length h)) (sym one);
     }
 
 -- at the end of the history
-pub gathered_all : (t : Tables) (h : List Entry) (i : ℕ) (table : List (Option Begun)) (lists : List (Vec ℕ Global)) (ps : List Placed) → IsGathered t h i table lists ps → length h ≤ i
+pub gathered_all : (t : Tables) (h : List Entry) (i : ℕ) (calls : List (Option Ongoing)) (lists : List (Vec ℕ Global)) (ps : List Placed) → IsGathered t h i calls lists ps → length h ≤ i
     → ps ≡ readings_by_points t (reverse h)
-gathered_all t h i table lists ps s le =
+gathered_all t h i calls lists ps s le =
     s.gathered ∙ ap (λ g. by_moments (readings t (reverse g)) (length h)) (take_all i h le) ∙ ap (by_moments (readings t (reverse h))) (sym (length-reverse h))

@@ -1,14 +1,17 @@
 -- Finished calls. A worker's entries are cut, in order, into calls: a read or an await goes on with that worker's
 -- following goes, up to its first entry whose reply is not Pending; every other act is a call of one entry. A call is
 -- finished where its last reply is not Pending. A past is the list of the entries before a moment, the newest first.
-use Rattle.std.specs.Prelude.{ℕ, ◌-◌, Bool, true, false, List, [], ◌∷◌, ◌++◌, length, Option, Some, None, if◌then◌else◌}
+use Rattle.std.specs.Prelude.{◌≡◌, ℕ, ◌-◌, Bool, true, false, List, [], ◌∷◌, ◌++◌, length, Option, Some, None, if◌then◌else◌}
+use Rattle.std.specs.Option.{option_map, option_to_list}
 use Rattle.ec_count.specs.Tables.{Tables}
 use Rattle.ec_core.specs.declared.act.Act.{Act}
 use Rattle.ec_core.specs.declared.act.Act.TheVariants.{Read, Await}
 use Rattle.ec_core.specs.declared.act.Reply.{Reply}
 use Rattle.ec_core.specs.declared.act.Reply.TheVariants.{Number}
 use Rattle.ec_core.specs.declared.act.Entry.{Entry}
-use Rattle.ec_core.specs.Calls.{CallSoFar, under_way, gone_on, is_pending}
+use Rattle.ec_core.specs.declared.ongoing.Ongoing.{Ongoing}
+use Rattle.ec_core.specs.Calls.{CallSoFar, under_way, gone_on, call_with, is_pending}
+use Rattle.ec_core.specs.Ongoing.{AreCalls}
 use Rattle.ec_core.specs.Rounds.{event_or, position_of, round_start}
 use Rattle.ec_order.specs.declared.call.Call.{Call}
 
@@ -44,3 +47,15 @@ ended_by t x (Some call) = if is_pending x.reply then [] else call_of_entries t 
 unfoldable pub finished_calls : Tables → List Entry → List Call
 finished_calls t [] = []
 finished_calls t (x ∷ past) = finished_calls t past ++ ended_by t x (gone_on x.act past (under_way x.worker past))
+
+-- the call that an entry at position i ends, if it ends one, given its call with it
+abbrev pub call_from : Entry → ℕ → Ongoing → Call
+call_from x i g = record { worker = x.worker; op = g.op; reply = x.reply; first = g.first; round = g.round; last = i }
+
+abbrev pub call_told : Entry → ℕ → Option Ongoing → Option Call
+call_told x i o = if is_pending x.reply then None else option_map (call_from x i) o
+
+-- what is told of an entry after a past is the call that it ends, if it ends one, and these are the calls after it
+pub record EndsCall (t : Tables) (past : List Entry) (x : Entry) (told : Option Call) (calls : List (Option Ongoing)) : Type 0 where
+  pub call : ended_by t x (call_with x past) ≡ option_to_list told
+  pub after : AreCalls t calls (x ∷ past)

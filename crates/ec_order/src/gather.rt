@@ -2,12 +2,10 @@
 ghost use Rattle.std.specs.Prelude.{◌≡◌, length, reverse, IfOk, OnOk};
 ghost use Rattle.ec_order.specs.Walk.{is_alone, readings_by_points, IsPlaceFor, PutsIn};
 
-use crate::begun::Begun;
 use crate::index::{no_moments, note, point};
-use crate::numbers::all_alike;
 use crate::scan::take_in;
 use crate::{Call, Placed};
-use ec_core::{Act, Run};
+use ec_core::{Act, Calls, Run};
 use std::alloc::{AllocError, Global};
 
 /// Whether an entry with this act is a whole call. A read or an await is none: it may go on by `go` entries.
@@ -48,14 +46,14 @@ pub(crate) fn readings_by_points(alloc: Global, run: &Run) -> Result<Vec<Placed>
     ensures { IfOk result (λ ps. ps.items ≡ readings_by_points run.now.setup (reverse run.now.entries)) }
 {
     run.known();
-    let mut table: [Option<Begun>; 16] = all_alike(None);
+    let mut under_way = Calls::new();
     let mut lists = no_moments(alloc, run)?;
     let mut readings = Vec::new(alloc);
     for i in 0..run.len() {
         if let Some(entry) = run.entry(i) {
             note(&mut lists, entry.act, i + 1)?;
             if !is_alone(entry.act) {
-                if let Some(call) = take_in(&mut table, run.setup(), &entry, i) {
+                if let Some(call) = take_in(&mut under_way, run.setup(), &entry, i) {
                     let point = point(&lists, &call);
                     put_in(&mut readings, call, point)?;
                 }

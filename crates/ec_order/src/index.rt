@@ -1,29 +1,12 @@
 //! Points by an index of the advances.
 ghost use Rattle.std.specs.Prelude.{◌≡◌, ℕ, ◌<◌, ◌+◌, [], ◌∷◌, ◌++◌, length, reverse, slice_set, slice_index_or, IfOk, OnOk, IfSome};
-ghost use Rattle.ec_core.specs.Rounds.{event_or};
-ghost use Rattle.ec_order.specs.Calls.{is_reading, number_of};
+ghost use Rattle.ec_order.specs.Calls.{number_of};
 ghost use Rattle.ec_order.specs.Index.{moment_of, moments_in, IsIndex, NotesAct, point_in, raised_by};
 
 use crate::Call;
-use crate::begun::event_or;
 use ec_core::{Act, Reply, Run};
 use ec_count::EventId;
 use std::alloc::{AllocError, Global};
-
-/// Whether an act is a read or an await.
-pub(crate) fn is_reading(op: Act) -> bool
-    ensures { result ≡ is_reading op }
-{
-    match op {
-        Act::Read(_) | Act::Await(_, _) => true,
-        Act::Advance(_)
-        | Act::Go
-        | Act::Ticket(_)
-        | Act::Put(_, _)
-        | Act::Get(_)
-        | Act::Hand(_, _) => false,
-    }
-}
 
 /// The number that a reply tells; 0 where it tells none.
 fn number_of(reply: Reply) -> u64
@@ -123,10 +106,16 @@ pub(crate) fn point(lists: &[Vec<usize>], call: &Call) -> usize
     requires { length lists.now ≡ 32 }
     ensures { result ≡ point_in lists.now call.now }
 {
-    if is_reading(call.op) {
-        let moments = &lists[event_or(call.op)];
-        call.round.max(moment_of(moments, number_of(call.reply)))
-    } else {
-        call.last
+    match call.op {
+        Act::Read(event) | Act::Await(event, _) => {
+            let moments = &lists[event.get()];
+            call.round.max(moment_of(moments, number_of(call.reply)))
+        }
+        Act::Advance(_)
+        | Act::Go
+        | Act::Ticket(_)
+        | Act::Put(_, _)
+        | Act::Get(_)
+        | Act::Hand(_, _) => call.last,
     }
 }

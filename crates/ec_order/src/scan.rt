@@ -1,56 +1,15 @@
 //! The finished calls of a run.
-ghost use Rattle.std.specs.Prelude.{◌≡◌, ◌<◌, not, count_by, reverse, slice_set, IfOk};
+ghost use Rattle.std.specs.Prelude.{◌≡◌, List, length, not, count_by, reverse, IfOk};
+ghost use Rattle.ec_core.specs.Acceptance.{IsAccepted};
 ghost use Rattle.ec_core.specs.Calls.{is_pending};
+ghost use Rattle.ec_core.specs.Ongoing.{AreCalls};
 ghost use Rattle.ec_core.specs.declared.act.Entry.{Entry};
-ghost use Rattle.ec_order.specs.Calls.{finished_calls};
-ghost use Rattle.ec_order.specs.Scan.{begun_after, begun_left, call_told, begun_at};
+ghost use Rattle.ec_order.specs.Calls.{finished_calls, call_told, EndsCall};
 
 use crate::Call;
-use crate::begun::{Begun, begun_after, read_on};
-use crate::numbers::all_alike;
-use ec_core::{Entry, Reply, Run};
+use ec_core::{Calls, Entry, Ongoing, Reply, Run};
 use ec_count::Setup;
 use std::alloc::{AllocError, Global};
-
-/// Takes in the entry at position i, which may end a call.
-pub(crate) fn take_in(
-    table: &mut [Option<Begun>; 16],
-    setup: &Setup,
-    entry: &Entry,
-    i: usize,
-) -> Option<Call>
-    ensures worker { entry.now.worker < 16 }
-    ensures table { table.new ≡ slice_set table.old entry.now.worker (begun_left setup.now entry.now.reply
-        (begun_after entry.now.act (begun_at table.old entry.now.worker) i)) }
-    ensures value { result ≡ call_told entry.now i
-        (begun_after entry.now.act (begun_at table.old entry.now.worker) i) }
-{
-    let worker = entry.worker.get();
-    let begun = begun_after(entry.act, table[worker], i);
-    match entry.reply {
-        Reply::Pending => {
-            table[worker] = match begun {
-                Some(begun) => Some(read_on(setup, begun)),
-                None => None,
-            };
-            None
-        }
-        reply => {
-            table[worker] = None;
-            match begun {
-                Some(begun) => Some(Call {
-                    worker: entry.worker,
-                    op: begun.op,
-                    reply,
-                    first: begun.first,
-                    round: begun.round,
-                    last: i,
-                }),
-                None => None,
-            }
-        }
-    }
-}
 
 /// Whether a reply ends a call.
 fn is_last(reply: Reply) -> bool
@@ -60,6 +19,34 @@ fn is_last(reply: Reply) -> bool
         Reply::Pending => false,
         Reply::Done | Reply::Number(_) => true,
     }
+}
+
+/// The call that the entry at position i ends, if it ends one, given its call up to it.
+fn ended(entry: &Entry, call: &Option<Ongoing>, i: usize) -> Option<Call>
+    ensures { result ≡ call_told entry.now i call.now }
+{
+    if !is_last(entry.reply) {
+        return None;
+    }
+    match call {
+        Some(call) => Some(Call {
+            worker: entry.worker,
+            op: call.op,
+            reply: entry.reply,
+            first: call.first,
+            round: call.round,
+            last: i,
+        }),
+        None => None,
+    }
+}
+
+/// Takes in the entry at position i, which may end a call.
+pub(crate) fn take_in(under_way: &mut Calls, setup: &Setup, entry: &Entry, i: usize) -> Option<Call>
+    ensures { (past : List Entry) → IsAccepted setup.now past → i ≡ length past → AreCalls setup.now under_way.old past
+        → EndsCall setup.now past entry.now result under_way.new }
+{
+    ended(entry, &under_way.take(setup, i, entry), i)
 }
 
 /// How many entries of a run end a call, as those do that are told more than Pending.
@@ -83,11 +70,12 @@ pub fn calls(alloc: Global, run: &Run) -> Result<Vec<Call>, AllocError>
         cs.items ≡ finished_calls run.now.setup (reverse run.now.entries)) }
 {
     run.known();
-    let mut table: [Option<Begun>; 16] = all_alike(None);
+    let mut under_way = Calls::new();
     let mut calls = Vec::with_capacity(alloc, finished_count(run))?;
     for i in 0..run.len() {
         if let Some(entry) = run.entry(i) {
-            if let Some(call) = take_in(&mut table, run.setup(), &entry, i) {
+            let _act = entry.act;
+            if let Some(call) = take_in(&mut under_way, run.setup(), &entry, i) {
                 calls.push(call)?;
             }
         }

@@ -1,6 +1,5 @@
 -- A walk keeps what it says it keeps, also where entries whose calls are not on a group are left out.
 use Rattle.std.proofs.Common.{◌≡◌, ℕ, zero, suc, ◌+◌, ◌<◌, Bool, true, false, not, ◌||◌, List, [], ◌∷◌, ◌++◌, Option, Some, None, refl, ap, sym, ◌∙◌, subst, ◌==◌, add-one, take, length, reverse, slice_get, slice_set}
-use Rattle.std.specs.Option.{option_map}
 use Rattle.std.proofs.lemmas.Bool.{eqb-true}
 use Rattle.std.proofs.lemmas.List.{reverse-append, reverse-reverse, length-reverse}
 use Rattle.ec_core.specs.declared.act.Act.{Act}
@@ -14,26 +13,11 @@ use Rattle.ec_core.specs.Calls.{CallSoFar, under_way}
 use Rattle.ec_core.specs.Counts.{past_at}
 use Rattle.ec_core.specs.Following.{Told, Rule, opened, block_after, block, is_right, Follow, BreaksAt}
 use Rattle.ec_core.specs.JoinedLists.{SpeaksOf}
-use Rattle.ec_core.specs.Scanning.{Tracked, AreKept, AreBegun, IsFinding, IsTracked, open_after}
+use Rattle.ec_core.specs.Scanning.{Tracked, AreKept, IsFinding, IsTracked}
 use Rattle.ec_core.proofs.shared.Breaks.{break_at, follow_or_break}
 use Rattle.ec_core.proofs.shared.Following.{op_at, off_block, other_block}
 use Rattle.ec_core.proofs.shared.Moments.{past_next}
-use Rattle.ec_core.proofs.shared.Scans.{op_of, lists_after, begun_after}
-
--- THE CALLS UNDER WAY
-
-pub begun_first : (begun : List (Option Act)) → ((w : ℕ) → w < 16 → slice_get begun w ≡ Some None) → AreBegun begun []
-unfolding under_way
-begun_first begun b = λ w lt. b w lt
-
--- one more entry, in the words of the code
-pub begun_take : (begun : List (Option Act)) (x : Entry) (past : List Entry) (i : ℕ) (o b : Option Act)
-    → AreBegun begun past → i ≡ x.worker → i < 16 → b ≡ option_map op_of (under_way x.worker past) → o ≡ open_after x.act x.reply b
-    → AreBegun (slice_set begun i o) (x ∷ past)
-begun_take begun x past i o b s at lt is next =
-    let Small : ℕ → Type 0 = λ n. n < 16 in
-    let Q : ℕ → Type 0 = λ n. AreBegun (slice_set begun n o) (x ∷ past) in
-    subst Q (sym at) (begun_after begun x past o s (subst Small at lt) (next ∙ ap (open_after x.act x.reply) is))
+use Rattle.ec_core.proofs.shared.Scans.{lists_after}
 
 -- WHAT WAS FOUND
 

@@ -1,11 +1,11 @@
 use Rattle.std.proofs.Common.{◌≡◌, ◌++◌, reverse, length}
-use Rattle.ec_core.specs.Scanning.{AreBegun}
+use Rattle.ec_core.specs.Ongoing.{AreCalls}
 use Rattle.ec_core.proofs.walking.walk.Given as goal
 
 abbrev pub invariant-loop-entry : goal.invariant-loop-entry
 invariant-loop-entry g l = record {
   place : l.place ≡ length l.yielded;
   order : l.yielded ++ l.entry-iterator ≡ l.run.entries;
-  begun : AreBegun l.begun (reverse l.yielded);
+  calls : AreCalls l.run.setup l.calls (reverse l.yielded);
   stands : g.A.Audit.stands l.initial.audit l.audit (reverse l.yielded);
 }

@@ -7,22 +7,22 @@ use Rattle.ec_order.proofs.gather.readings_by_points.Goals.{in-Some+in_ok-note+t
 
 pub loop-i-init : goal.loop-i-init
 loop-i-init c =
-    rw c.new-readings.ensures.items (gathered_start c.args.run.now.setup c.args.run.now.entries _ _ c.all_alike-table.ensures.at c.all_alike-table.ensures.long
+    rw c.new-readings.ensures.items (gathered_start c.args.run.now.setup c.args.run.now.entries _ _ (c.new-under_way.ensures c.args.run.now.setup)
     (indexed_start c.args.run.now.entries c.in_ok-lists.lists.items c.in_ok-lists.ensures.long c.in_ok-lists.ensures.value))
 
 pub loop-i-preserved : goal.loop-i-preserved
 loop-i-preserved c =
     elim c.match-entry.branch [
       | in-Some+in_ok-note+then-not-is_alone+in-Some-take_in+in_ok-put_in w ↦
-          rw (w.table-is, w.lists-is, w.readings-is) (gathered_one _ _ _ _ w.in-Some.entry w.in-Some-take_in.call _ _ _ _ _ _ _ _ c.known.ensures.declared c.known.ensures.accepted w.in-Some.ensures (sym w.is_alone.ensures ∙ w.if-not-is_alone.true) w.take_in.ensures.worker
+          rw (w.under_way-is, w.lists-is, w.readings-is) (gathered_one _ _ _ _ w.in-Some.entry w.in-Some-take_in.call _ _ _ _ _ _ _ _ c.known.ensures.declared c.known.ensures.accepted w.in-Some.ensures (sym w.is_alone.ensures ∙ w.if-not-is_alone.true)
           (indexed_more _ _ w.in-Some.entry _ _ w.in-Some.ensures c.loop-i.invariant.index w.in_ok-note.ensures) c.loop-i.invariant w.setup.ensures
-          w.in-Some-take_in.ensures.value w.take_in.ensures.table w.deref.ensures.value w.point-point.ensures w.in_ok-put_in.ensures)
+          w.in-Some-take_in.ensures w.deref.ensures.value w.point-point.ensures w.in_ok-put_in.ensures)
       | in-Some+in_ok-note+then-not-is_alone+in_default-take_in w ↦
-          rw (w.table-is, w.lists-is, w.readings-is) (gathered_none _ _ _ _ w.in-Some.entry _ _ _ _ _ c.known.ensures.declared c.known.ensures.accepted w.in-Some.ensures w.take_in.ensures.worker
+          rw (w.under_way-is, w.lists-is, w.readings-is) (gathered_none _ _ _ _ w.in-Some.entry w.take_in.result _ _ _ _ _ c.known.ensures.declared c.known.ensures.accepted w.in-Some.ensures
           (indexed_more _ _ w.in-Some.entry _ _ w.in-Some.ensures c.loop-i.invariant.index w.in_ok-note.ensures) c.loop-i.invariant w.setup.ensures
-          (sym w.in_default-take_in.is ∙ w.take_in.ensures.value) w.take_in.ensures.table)
+          w.take_in.ensures w.in_default-take_in.is)
       | in-Some+in_ok-note+else-not-is_alone w ↦
-          rw (w.table-is, w.lists-is, w.readings-is) (gathered_alone _ _ _ w.in-Some.entry _ _ _ _ c.known.ensures.declared c.known.ensures.accepted w.in-Some.ensures (sym w.is_alone.ensures ∙ w.if-not-is_alone.false)
+          rw (w.under_way-is, w.lists-is, w.readings-is) (gathered_alone _ _ _ w.in-Some.entry _ _ _ _ c.known.ensures.declared c.known.ensures.accepted w.in-Some.ensures (sym w.is_alone.ensures ∙ w.if-not-is_alone.false)
           (indexed_more _ _ w.in-Some.entry _ _ w.in-Some.ensures c.loop-i.invariant.index w.in_ok-note.ensures) c.loop-i.invariant)
       | in_default w ↦ absurd (none_past c.args.run.now.entries c.loop-i.i (sym w.in_default.is ∙ c.entry.ensures) (omega arith))
     ]

@@ -1,22 +1,22 @@
-use Rattle.std.proofs.Common.{arith, sym, ◌∙◌, Some, None, append-nil}
-use Rattle.ec_core.specs.Calls.{under_way}
+use Rattle.std.proofs.Common.{arith, ap, sym, ◌∙◌, ◌++◌, Some, append-nil}
+use Rattle.std.specs.Option.{option_to_list}
 use Rattle.ec_order.specs.Calls.{finished_calls}
 use Rattle.ec_order.proofs.Scanning.{scanned, none_past}
 use Rattle.ec_order.proofs.scan.calls.Goals as goal
 use Rattle.ec_order.proofs.scan.calls.Goals.{in-Some+in-Some-take_in+in_ok-push, in-Some+in_default-take_in, in_default}
 
 pub loop-i-init : goal.loop-i-init
-unfolding finished_calls under_way
-loop-i-init c = record { calls = c.in_ok-calls.ensures.items; kept = c.all_alike-table.ensures.at; long = c.all_alike-table.ensures.long }
+unfolding finished_calls
+loop-i-init c = record { finished = c.in_ok-calls.ensures.items; kept = c.new-under_way.ensures c.args.run.now.setup }
 
 pub loop-i-preserved : goal.loop-i-preserved
 loop-i-preserved c =
     elim c.match-entry.branch [
       | in-Some+in-Some-take_in+in_ok-push w ↦
-          rw (w.calls-is, w.table-is) (scanned _ _ _ _ w.in-Some.entry (Some w.in-Some-take_in.call) _ _ _ _ c.known.ensures.declared c.known.ensures.accepted w.in-Some.ensures w.take_in.ensures.worker c.loop-i.invariant w.setup.ensures
-          w.in-Some-take_in.ensures.value w.take_in.ensures.table w.in_ok-push.ensures.items)
+          rw (w.calls-is, w.under_way-is) (scanned _ _ _ _ w.in-Some.entry (Some w.in-Some-take_in.call) _ _ _ _ c.known.ensures.accepted w.in-Some.ensures c.loop-i.invariant w.setup.ensures
+          w.in-Some-take_in.ensures w.in_ok-push.ensures.items)
       | in-Some+in_default-take_in w ↦
-          rw (w.calls-is, w.table-is) (scanned _ _ _ _ w.in-Some.entry None _ _ _ _ c.known.ensures.declared c.known.ensures.accepted w.in-Some.ensures w.take_in.ensures.worker c.loop-i.invariant w.setup.ensures
-          (sym w.in_default-take_in.is ∙ w.take_in.ensures.value) w.take_in.ensures.table (sym (append-nil _)))
+          rw (w.calls-is, w.under_way-is) (scanned _ _ _ _ w.in-Some.entry w.take_in.result _ _ _ _ c.known.ensures.accepted w.in-Some.ensures c.loop-i.invariant w.setup.ensures
+          w.take_in.ensures (sym (append-nil _) ∙ ap (λ z. c.loop-i.calls.items ++ option_to_list z) (sym w.in_default-take_in.is)))
       | in_default w ↦ absurd (none_past c.args.run.now.entries c.loop-i.i (sym w.in_default.is ∙ c.entry.ensures) (omega arith))
     ]
