@@ -7,7 +7,7 @@ use crate::histories::{
     TOTAL_IN_THE_MIDDLE, TWO_READS,
 };
 use crate::ids::worker;
-use ec_core::Run;
+use ec_core::{Calls, Run};
 use ec_order::{Call, Placed, Verdict, calls, in_order, order, verify};
 use std::alloc::Global;
 use std::test::Fail;
@@ -107,6 +107,23 @@ fn comes_in_order(alloc: Global, run: &Run, lines: &[Line]) -> bool {
     placed.next().is_none()
 }
 
+/// Whether a walk over the entries tells that the call of the one at `last` began at `first`, and its round at `round`.
+fn begins_at(run: &Run, first: usize, round: usize, last: usize) -> bool {
+    let mut calls = Calls::new();
+    for place in 0..run.len() {
+        let Some(entry) = run.entry(place) else {
+            return false;
+        };
+        let Some(call) = calls.take(run.setup(), place, &entry) else {
+            return false;
+        };
+        if place == last {
+            return call.first == first && call.round == round;
+        }
+    }
+    false
+}
+
 /// Whether so many calls are finished, and this one is at this place.
 fn has_call(
     alloc: Global,
@@ -123,6 +140,7 @@ fn has_call(
         Some(call) => {
             found.len() == many
                 && (call.first, call.round, call.last) == places
+                && begins_at(run, places.0, places.1, places.2)
                 && is_call(call, right)
         }
         None => false,
