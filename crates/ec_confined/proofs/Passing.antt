@@ -28,7 +28,7 @@ use Rattle.evc_engine.specs.declared.status.Status.{Status}
 use Rattle.evc_engine.specs.declared.status.Status.TheVariants.{Done, Refused, Usage, InputOutput, Memory, Stopped}
 use Rattle.evc_engine.specs.Audits.{IsNotFollowed, Audits}
 use Rattle.evc_engine.specs.Checks.{Outlets, Checks}
-use Rattle.evc_scripts.specs.Inputs.{looked_at}
+use Rattle.ec_text.specs.Inputs.{looked_at}
 use Rattle.evc_scripts.specs.Runs.{HaveRun, IsTold, HasNoReport}
 use Rattle.evc_scripts.specs.Sims.{AreProgramsOf, IsTraceUnder, IsPlayed, SaysPlan}
 use Rattle.evc_scripts.proofs.shared.ReadAgain.{simulated_again, ran_again}

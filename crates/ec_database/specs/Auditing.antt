@@ -73,6 +73,10 @@ pub record Versioning : Type 0 where
   pub list : List AcceptedTry
   pub lacks : Bool
 
+-- how many accepting tries were found so far, where memory was not refused for one
+abbrev pub found_in : Versioning → Option ℕ
+found_in a = if a.lacks then None else Some (length a.list)
+
 -- it is that after a past
 pub record IsVersioning (a : Versioning) (past : List Entry) : Type 0 where
   pub tracked : IsTracked (database_rules a.setup a.shape) kept_of a.tracked past

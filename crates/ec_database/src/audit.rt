@@ -3,9 +3,10 @@ ghost use Rattle.std.specs.Prelude.{◌≡◌, ◌<◌, ◌≤◌, ℕ, false, L
 ghost use Rattle.std.specs.Option.{option_map};
 ghost use Rattle.ec_core.specs.declared.act.Entry.{Entry};
 ghost use Rattle.ec_core.specs.Audits.{IsAuditFault};
+ghost use Rattle.ec_core.specs.Following.{block};
 ghost use Rattle.ec_database.specs.Following.{writes, database_rules, FollowsDatabase};
 ghost use Rattle.ec_database.specs.Tries.{ended_at, accepted_tries, ListsTries, AreUndisturbed};
-ghost use Rattle.ec_database.specs.Auditing.{shown, finished_call, rows_after, try_ended, HasRow, HoldsGot, ReadsOn, IsVersioning};
+ghost use Rattle.ec_database.specs.Auditing.{shown, finished_call, found_in, rows_after, try_ended, HasRow, HoldsGot, ReadsOn, IsVersioning};
 
 use crate::DatabaseShape;
 use crate::lists::{Lists, is_on};
@@ -248,6 +249,32 @@ impl<'a> VersionAudit<'a> {
             list: Vec::new(alloc),
             lacks: false,
         }
+    }
+
+    /// How many calls of the list that it is in a worker has finished, after the entries so far.
+    pub fn finished(&self, worker: WorkerId) -> usize
+        ensures { (past : List Entry) → IsVersioning self.now past → result ≡ length (block (database_rules self.now.setup self.now.shape worker) worker past) }
+    {
+        let kept = self.tracker.kept(worker);
+        kept.at
+    }
+
+    /// How many accepting tries there are so far; None where memory was refused for one.
+    pub fn found(&self) -> Option<usize>
+        ensures { result ≡ found_in self.now }
+    {
+        if self.lacks {
+            None
+        } else {
+            Some(self.list.len())
+        }
+    }
+
+    /// The accepting try with this place among those so far, if there are so many.
+    pub fn accepted(&self, place: usize) -> Option<&Accepted>
+        ensures { option_map (λ a. shown a.now) result ≡ slice_get self.now.list place }
+    {
+        self.list.get(place)
     }
 
     /// The accepting tries after all entries of a run, as `versions` lists them.

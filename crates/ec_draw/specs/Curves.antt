@@ -1,4 +1,4 @@
--- The curves: of each eventcount its total, and of each sequencer its tickets, at each moment that is shown. The moment of
+-- The curves of counts: of each eventcount its total, and of each sequencer its tickets, at each moment that is shown. The moment of
 -- column j is moment from + j, at which so many of the history's entries have happened.
 use Rattle.std.specs.Prelude.{ℕ, ◌+◌, ◌-◌, zero, suc, Bool, List, [], ◌∷◌, ◌++◌, length}
 use Rattle.ec_count.specs.Tables.{Tables}
@@ -8,6 +8,8 @@ use Rattle.ec_core.specs.Counts.{past_at, total, issued, is_advance, is_ticket}
 use Rattle.ec_draw.specs.declared.window.Window.{Window}
 use Rattle.ec_draw.specs.declared.curve.Counted.{Counted}
 use Rattle.ec_draw.specs.declared.curve.Curve.{Curve}
+use Rattle.ec_draw.specs.declared.curve.Plotted.{Plotted}
+use Rattle.ec_draw.specs.declared.curve.Plotted.TheVariants.{Count}
 use Rattle.ec_draw.specs.declared.curve.Counted.TheVariants.{Event, Sequencer}
 
 -- the total of an eventcount, or the tickets of a sequencer, after a past
@@ -35,14 +37,14 @@ heights object w h = counts_from object h w.from (w.to - w.from + 1)
 
 -- a curve, as a contract sees it
 pub record Line : Type 0 where
-  pub object : Counted
+  pub object : Plotted
   pub heights : List ℕ
 
 abbrev pub shown : Curve → Line
 shown c = record { object = c.object; heights = c.heights.items }
 
 abbrev pub line_of : Window → List Entry → Counted → Line
-line_of w h object = record { object = object; heights = heights object w h }
+line_of w h object = record { object = Count object; heights = heights object w h }
 
 -- the curves of the first n eventcounts
 unfoldable pub event_lines : Window → List Entry → ℕ → List Line
@@ -54,6 +56,6 @@ unfoldable pub sequencer_lines : Window → List Entry → ℕ → List Line
 sequencer_lines w h zero = []
 sequencer_lines w h (suc n) = sequencer_lines w h n ++ line_of w h (Sequencer n) ∷ []
 
--- the curves of all that is declared: the eventcounts, and then the sequencers
+-- the curves of all that is counted: the eventcounts, and then the sequencers
 abbrev pub lines : Tables → Window → List Entry → List Line
 lines t w h = event_lines w h (length t.events) ++ sequencer_lines w h (length t.takers)

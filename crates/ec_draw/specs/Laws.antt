@@ -1,9 +1,19 @@
--- What bars and curves are, over the history in its natural order.
-use Rattle.std.specs.Prelude.{◌≡◌, ℕ, ◌+◌, ◌-◌, ◌≤◌, true, List, Some, slice_get, reverse}
+-- What bars, curves, shades and arrows are, over the history in its natural order.
+use Rattle.std.specs.Prelude.{◌≡◌, ◌↔◌, ℕ, ◌+◌, ◌-◌, ◌≤◌, true, List, Some, length, slice_get, reverse, pos}
 use Rattle.std.specs.List.{Contains}
 use Rattle.ec_count.specs.Tables.{Tables, IsDeclared}
 use Rattle.ec_core.specs.declared.act.Entry.{Entry}
 use Rattle.ec_core.specs.Acceptance.{IsAccepted}
+use Rattle.ec_core.specs.Counts.{past_at}
+use Rattle.ec_core.specs.Following.{Rule, Follow}
+use Rattle.ec_buffer.specs.Shapes.{Buffer}
+use Rattle.ec_buffer.specs.Items.{PutsItem, GetsItem, gets_made}
+use Rattle.ec_buffer.specs.Laws.{IsFollowed}
+use Rattle.ec_database.specs.Shapes.{Database}
+use Rattle.ec_database.specs.Tries.{EndsTry}
+use Rattle.ec_semaphore.specs.Shapes.{Semaphore}
+use Rattle.ec_semaphore.specs.Uses.{use_rules}
+use Rattle.ec_semaphore.specs.Balances.{balance_of}
 use Rattle.ec_order.specs.declared.placed.Placed.{Placed}
 use Rattle.ec_order.specs.Cuts.{IsFinishedCall}
 use Rattle.ec_order.specs.Points.{IsPoint}
@@ -11,6 +21,11 @@ use Rattle.ec_draw.specs.declared.window.Window.{Window}
 use Rattle.ec_draw.specs.declared.curve.Counted.{Counted}
 use Rattle.ec_draw.specs.Bars.{bars, is_shown}
 use Rattle.ec_draw.specs.Curves.{count_at, heights}
+use Rattle.ec_draw.specs.Following.{follows}
+use Rattle.ec_draw.specs.Balances.{left_of, lefts}
+use Rattle.ec_draw.specs.Shades.{Shaded, shades_in}
+use Rattle.ec_draw.specs.declared.arrow.Arrow.{Arrow}
+use Rattle.ec_draw.specs.Arrows.{arrows_in}
 
 -- the bars are exactly the finished calls that are shown, each with its point
 pub record AreBars (t : Tables) (w : Window) (h : List Entry) (ps : List Placed) : Type 0 where
@@ -23,3 +38,35 @@ BarsAreCalls = (t : Tables) (w : Window) (h : List Entry) → IsDeclared t → I
 -- the curve at column j is the count at moment from + j
 abbrev pub CurvesAreCounts : Type 0
 CurvesAreCounts = (object : Counted) (w : Window) (h : List Entry) (j : ℕ) → j ≤ w.to - w.from → slice_get (heights object w h) j ≡ Some (count_at object h (w.from + j))
+
+-- whether a past follows is answered as the word says
+abbrev pub FollowingIsAnswered : Type 0
+FollowingIsAnswered = (rules : ℕ → Rule) (past : List Entry) → follows rules past ≡ true ↔ Follow rules past
+
+-- the curve of a balance at column j is what is left at moment from + j, up to the last moment of the history
+abbrev pub BalanceCurvesAreLefts : Type 0
+BalanceCurvesAreLefts = (s : Semaphore) (w : Window) (h : List Entry) (j : ℕ) → w.from + j ≤ w.to → w.from + j ≤ length h
+    → slice_get (lefts s w (reverse h)) j ≡ Some (left_of s (past_at (w.from + j) h))
+
+-- and that is the balance, where the semaphore is followed
+abbrev pub LeftsAreBalances : Type 0
+LeftsAreBalances = (s : Semaphore) (t : Tables) (k : ℕ) (h : List Entry) → IsDeclared t → IsAccepted t (reverse h) → Follow (use_rules s) (reverse h)
+    → pos (left_of s (past_at k h)) ≡ balance_of s (past_at k h)
+
+-- each shade is that of an accepting try, which its last entry ends
+abbrev pub ShadesEndTries : Type 0
+ShadesEndTries = (t : Tables) (d : Database) (h : List Entry) (i : ℕ) (s : Shaded) → slice_get (shades_in t d (reverse h)) i ≡ Some s → EndsTry t d h s.span.last s.accepted
+
+-- the arrow is that of item n: its one end puts what its other end gets, by that number
+pub record IsArrow (t : Tables) (b : Buffer) (h : List Entry) (n : ℕ) (a : Arrow) : Type 0 where
+  pub number : a.delivery.number ≡ n
+  pub puts : PutsItem t b h a.put n a.delivery.producer a.delivery.item
+  pub gets : GetsItem t b h a.got n a.delivery.consumer a.delivery.item
+
+-- there is one arrow for each get, by number
+pub record AreArrows (t : Tables) (b : Buffer) (h : List Entry) (list : List Arrow) : Type 0 where
+  pub each_get : length list ≡ gets_made b h
+  pub numbered : (n : ℕ) (a : Arrow) → slice_get list n ≡ Some a → IsArrow t b h n a
+
+abbrev pub ArrowsAreDeliveries : Type 0
+ArrowsAreDeliveries = (t : Tables) (b : Buffer) (h : List Entry) → IsFollowed t b h → AreArrows t b h (arrows_in b (reverse h))

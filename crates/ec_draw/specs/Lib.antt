@@ -3,5 +3,9 @@ pub mod Bars
 pub mod Open
 pub mod Dots
 pub mod Curves
+pub mod Following
+pub mod Balances
+pub mod Shades
+pub mod Arrows
 pub mod Pictures
 pub mod Laws

@@ -1,7 +1,8 @@
 -- The shapes of a picture of a history.
-use Rattle.std.specs.Prelude.{List, map, reverse}
+use Rattle.std.specs.Prelude.{List, ◌++◌, map, reverse}
 use Rattle.ec_count.specs.Tables.{Tables}
 use Rattle.ec_core.specs.declared.act.Entry.{Entry}
+use Rattle.ec_heading.specs.declared.group.Group.{Group}
 use Rattle.ec_order.specs.declared.placed.Placed.{Placed}
 use Rattle.ec_draw.specs.declared.window.Window.{Window}
 use Rattle.ec_draw.specs.declared.open.Open.{Open}
@@ -10,27 +11,35 @@ use Rattle.ec_draw.specs.Bars.{bars}
 use Rattle.ec_draw.specs.Open.{open_bars}
 use Rattle.ec_draw.specs.Dots.{dots_of}
 use Rattle.ec_draw.specs.declared.picture.Picture.{Picture}
+use Rattle.ec_draw.specs.declared.arrow.Arrow.{Arrow}
 use Rattle.ec_draw.specs.Curves.{Line, lines, shown}
+use Rattle.ec_draw.specs.Balances.{balance_lines}
+use Rattle.ec_draw.specs.Shades.{Shaded, seen, shades}
+use Rattle.ec_draw.specs.Arrows.{arrows}
 
 -- a picture, as a contract sees it: the finished calls with their points, the calls under way, the entries with the
--- components that they read or raised, and the curves
+-- components that they read or raised, the curves of counts and of balances, the accepting tries, and the deliveries
 pub record Shapes : Type 0 where
   pub window : Window
   pub calls : List Placed
   pub begun : List Open
   pub dots : List Dot
   pub curves : List Line
+  pub shades : List Shaded
+  pub arrows : List Arrow
 
--- the picture of a history, on these declarations and through this window
-abbrev pub shapes : Tables → Window → List Entry → Shapes
-shapes t w h = record {
+-- the picture of a history, on these declarations, with these groups, and through this window
+abbrev pub shapes : Tables → List Group → Window → List Entry → Shapes
+shapes t gs w h = record {
   window = w;
   calls = bars t w h;
   begun = open_bars t w h;
   dots = dots_of t w (reverse h);
-  curves = lines t w h;
+  curves = lines t w h ++ balance_lines gs w h;
+  shades = shades t gs w h;
+  arrows = arrows t gs w h;
 }
 
 -- the shapes that a picture keeps
 abbrev pub kept : Picture → Shapes
-kept p = record { window = p.window; calls = p.calls.items; begun = p.begun.items; dots = p.dots.items; curves = map shown p.curves.items }
+kept p = record { window = p.window; calls = p.calls.items; begun = p.begun.items; dots = p.dots.items; curves = map shown p.curves.items; shades = map seen p.shades.items; arrows = p.arrows.items }

@@ -8,7 +8,7 @@ use ec_core::{Act, Run};
 use ec_count::{EventId, SeqId};
 use std::alloc::{AllocError, Global};
 
-/// What has a curve.
+/// What is counted.
 #[derive(Clone, Copy, Debug, PartialEq, Eq)]
 pub enum Counted {
     /// An eventcount, by its total.
@@ -17,10 +17,19 @@ pub enum Counted {
     Sequencer(SeqId),
 }
 
-/// A curve: the count at the moment before each entry that is shown, and after the last of them.
+/// What has a curve.
+#[derive(Clone, Copy, Debug, PartialEq, Eq)]
+pub enum Plotted {
+    /// A count.
+    Count(Counted),
+    /// The balance of the semaphore with this eventcount.
+    Balance(EventId),
+}
+
+/// A curve: the number at the moment before each entry that is shown, and after the last of them.
 #[derive(Drop)]
 pub struct Curve {
-    pub object: Counted,
+    pub object: Plotted,
     pub heights: Vec<u64>,
 }
 
@@ -92,7 +101,10 @@ pub fn curve_of(
     ensures { IfOk result (λ c. shown c ≡ line_of window run.now.entries object) }
 {
     let heights = heights(alloc, run, &object, window)?;
-    Ok(Curve { object, heights })
+    Ok(Curve {
+        object: Plotted::Count(object),
+        heights,
+    })
 }
 
 /// Adds the curve of an eventcount, by its number.
@@ -129,7 +141,7 @@ fn add_sequencer(
     Ok(())
 }
 
-/// The curves of all that a run declares: of the eventcounts, and then of the sequencers.
+/// The curves of all that a run counts: of the eventcounts, and then of the sequencers.
 pub fn curves(alloc: Global, run: &Run, window: Window) -> Result<Vec<Curve>, AllocError>
     ensures { IfOk result (λ cs. map shown cs.items ≡ lines run.now.setup window run.now.entries) }
 {

@@ -1,5 +1,5 @@
-//! Laws of bars and curves, each the contract of a function that does nothing.
-ghost use Rattle.ec_draw.specs.Laws.{BarsAreCalls, CurvesAreCounts};
+//! Laws of bars, curves, shades and arrows, each the contract of a function that does nothing.
+ghost use Rattle.ec_draw.specs.Laws.{ArrowsAreDeliveries, BalanceCurvesAreLefts, BarsAreCalls, CurvesAreCounts, FollowingIsAnswered, LeftsAreBalances, ShadesEndTries};
 
 use ec_order::order_by_points_ascends;
 
@@ -13,4 +13,26 @@ pub fn bars_are_calls()
 /// The curve of an eventcount or a sequencer at column j is its total, or its tickets, at moment from + j.
 pub fn curves_are_counts()
     ensures { CurvesAreCounts }
+{}
+
+/// Whether a past follows lists of calls is answered as `Follow` of `ec_core` says.
+pub fn following_is_answered()
+    ensures { FollowingIsAnswered }
+{}
+
+/// The curve of a balance at column j is what is left at moment from + j, and where the semaphore is followed that is its
+/// balance.
+pub fn balance_curves_are_balances()
+    ensures curve { BalanceCurvesAreLefts }
+    ensures balance { LeftsAreBalances }
+{}
+
+/// Each shade is that of an accepting try, which its last entry ends.
+pub fn shades_end_tries()
+    ensures { ShadesEndTries }
+{}
+
+/// Where a buffer is followed there is one arrow for each get, from the put of the same number.
+pub fn arrows_are_deliveries()
+    ensures { ArrowsAreDeliveries }
 {}

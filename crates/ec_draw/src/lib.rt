@@ -2,18 +2,27 @@
 //! of what is counted.
 #![tactic(auto)]
 
+mod arrow;
+mod balance;
 mod curve;
 mod dot;
 mod finished;
 mod laws;
 mod open;
 mod picture;
+mod shade;
 mod window;
 
-pub use curve::{Counted, Curve, curve_of, curves};
+pub use arrow::{Arrow, arrows};
+pub use balance::add_balances;
+pub use curve::{Counted, Curve, Plotted, curve_of, curves};
 pub use dot::{Dot, dots};
 pub use finished::bars;
-pub use laws::{bars_are_calls, curves_are_counts};
+pub use laws::{
+    arrows_are_deliveries, balance_curves_are_balances, bars_are_calls, curves_are_counts,
+    following_is_answered, shades_end_tries,
+};
 pub use open::{Open, open_bars};
 pub use picture::{Picture, picture_of};
+pub use shade::{Shade, Span, shades};
 pub use window::{COLUMNS_MAX, Window};

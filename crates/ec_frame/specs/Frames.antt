@@ -9,8 +9,11 @@ use Rattle.ec_core.specs.declared.act.Act.{Act}
 use Rattle.ec_core.specs.declared.act.Act.TheVariants as acts
 use Rattle.ec_heading.specs.Spelling.{Named, cell_in}
 use Rattle.ec_draw.specs.declared.window.Window.{Window}
-use Rattle.ec_draw.specs.declared.curve.Counted.{Counted}
+use Rattle.ec_draw.specs.declared.curve.Plotted.{Plotted}
+use Rattle.ec_draw.specs.declared.curve.Plotted.TheVariants as plotted
 use Rattle.ec_draw.specs.declared.curve.Counted.TheVariants as counted
+use Rattle.ec_draw.specs.declared.arrow.Arrow.{Arrow}
+use Rattle.ec_draw.specs.Shades.{Shaded}
 use Rattle.ec_draw.specs.Curves.{Line}
 use Rattle.ec_frame.specs.declared.view.View.{View}
 use Rattle.ec_frame.specs.declared.frame.Frame.{Frame}
@@ -86,10 +89,19 @@ draws_object f (acts.Hand e b) = draws_event f e
 abbrev pub draws : Framed → ℕ → Act → Bool
 draws f w act = draws_worker f w && draws_object f act
 
--- whether a curve is drawn
-abbrev pub draws_count : Framed → Counted → Bool
-draws_count f (counted.Event e) = draws_event f e
-draws_count f (counted.Sequencer q) = draws_sequencer f q
+-- whether a curve is drawn; that of a balance is where its semaphore's eventcount is
+abbrev pub draws_curve : Framed → Plotted → Bool
+draws_curve f (plotted.Count (counted.Event e)) = draws_event f e
+draws_curve f (plotted.Count (counted.Sequencer q)) = draws_sequencer f q
+draws_curve f (plotted.Balance e) = draws_event f e
+
+-- whether a shade is drawn: its reader is, and its database's eventcount of starts
+abbrev pub draws_shade : Framed → Shaded → Bool
+draws_shade f s = draws_worker f s.accepted.worker && draws_event f s.count
+
+-- whether an arrow is drawn: its producer and its consumer are, and its buffer's eventcount of puts
+abbrev pub draws_arrow : Framed → Arrow → Bool
+draws_arrow f a = (draws_worker f a.delivery.producer && draws_worker f a.delivery.consumer) && draws_event f a.count
 
 -- PLACES IN ORDER
 
@@ -103,7 +115,7 @@ rows_before f (suc n) = rows_before f n + one_row f n
 
 abbrev pub one_curve : Framed → Option Line → ℕ
 one_curve f None = 0
-one_curve f (Some l) = if draws_count f l.object then 1 else 0
+one_curve f (Some l) = if draws_curve f l.object then 1 else 0
 
 -- how many of the first n curves are drawn
 unfoldable pub curves_before : Framed → List Line → ℕ → ℕ

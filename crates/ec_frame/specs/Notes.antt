@@ -12,7 +12,7 @@ use Rattle.ec_draw.specs.declared.dot.Dot.{Dot}
 use Rattle.ec_draw.specs.Curves.{Line}
 use Rattle.ec_frame.specs.declared.note.Note.{Note}
 use Rattle.ec_frame.specs.declared.note.Told.{Told}
-use Rattle.ec_frame.specs.Words.{counted_word}
+use Rattle.ec_frame.specs.Words.{curve_word}
 
 -- a faulty line: its number in the text, its bytes, its fault, and the position in the history at which its entry stands
 pub record Noted : Type 0 where
@@ -106,7 +106,7 @@ begun_words w hs None = []
 begun_words w hs (Some k) = height_told w hs k ++ codes " when the round began, "
 
 unfoldable pub total_front : Named → Line → List ℕ
-total_front names l = codes "total of " ++ counted_word names l.object ++ codes ": "
+total_front names l = codes "total of " ++ curve_word names l.object ++ codes ": "
 
 -- the total of its eventcount when the round began, and at the entry
 unfoldable pub total_told : Named → Window → Noted → Told → Line → List ℕ

@@ -3,12 +3,13 @@ ghost use Rattle.std.specs.Prelude.{◌≡◌, ◌≤◌, ◌++◌, ◌∷◌, [
 ghost use Rattle.std.specs.List.{list_any};
 ghost use Rattle.ec_heading.specs.Spelling.{cell_in};
 ghost use Rattle.ec_draw.specs.Curves.{shown};
-ghost use Rattle.ec_frame.specs.Frames.{curves_before, draws, draws_cell, draws_count, draws_event, draws_object, draws_sequencer, draws_worker, drawn_targets, framed, is_chosen, is_drawn, is_named, one_curve, one_row, rows_before, stands_for};
+ghost use Rattle.ec_draw.specs.Shades.{seen};
+ghost use Rattle.ec_frame.specs.Frames.{curves_before, draws, draws_arrow, draws_cell, draws_curve, draws_event, draws_object, draws_sequencer, draws_shade, draws_worker, drawn_targets, framed, is_chosen, is_drawn, is_named, one_curve, one_row, rows_before, stands_for};
 
 use crate::view::View;
 use ec_core::Act;
 use ec_count::{CellId, EventId, SeqId, Target, Vocabulary, WorkerId};
-use ec_draw::{Counted, Curve, Window};
+use ec_draw::{Arrow, Counted, Curve, Plotted, Shade, Window};
 use std::alloc::{AllocError, Global};
 
 /// The entries that are drawn, and the workers and objects that are.
@@ -162,14 +163,30 @@ impl Frame {
         self.draws_worker(worker) && self.draws_object(act)
     }
 
-    /// Whether a curve is drawn.
-    pub fn draws_count(&self, object: &Counted) -> bool
-        ensures { result ≡ draws_count (framed self.now) object.now }
+    /// Whether a curve is drawn; that of a balance is where its semaphore's eventcount is.
+    pub fn draws_curve(&self, object: &Plotted) -> bool
+        ensures { result ≡ draws_curve (framed self.now) object.now }
     {
         match *object {
-            Counted::Event(event) => self.draws_event(event),
-            Counted::Sequencer(sequencer) => self.draws_sequencer(sequencer),
+            Plotted::Count(Counted::Event(event)) => self.draws_event(event),
+            Plotted::Count(Counted::Sequencer(sequencer)) => self.draws_sequencer(sequencer),
+            Plotted::Balance(event) => self.draws_event(event),
         }
+    }
+
+    /// Whether a shade is drawn: its reader is, and its database's eventcount of starts.
+    pub fn draws_shade(&self, shade: &Shade) -> bool
+        ensures { result ≡ draws_shade (framed self.now) (seen shade.now) }
+    {
+        self.draws_worker(shade.accepted.worker) && self.draws_event(shade.count)
+    }
+
+    /// Whether an arrow is drawn: its producer and its consumer are, and its buffer's eventcount of puts.
+    pub fn draws_arrow(&self, arrow: &Arrow) -> bool
+        ensures { result ≡ draws_arrow (framed self.now) arrow.now }
+    {
+        (self.draws_worker(arrow.delivery.producer) && self.draws_worker(arrow.delivery.consumer))
+            && self.draws_event(arrow.count)
     }
 
     /// One for a worker that has a row, nothing for others.
@@ -204,7 +221,7 @@ impl Frame {
     {
         match curves.get(number) {
             Some(curve) => {
-                if self.draws_count(&curve.object) {
+                if self.draws_curve(&curve.object) {
                     1
                 } else {
                     0

@@ -11,4 +11,6 @@ pub use note::{
     Note, Told, is_of_round, put_fault_told, put_line_told, put_read_told, put_total_told, told_of,
 };
 pub use view::{Form, View};
-pub use words::{counted_word, put_call_words, put_open_words};
+pub use words::{
+    curve_word, group_word, put_call_words, put_delivery_words, put_open_words, put_version_words,
+};

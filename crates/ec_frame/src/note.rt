@@ -6,11 +6,11 @@ ghost use Rattle.ec_core.specs.Rounds.{read_of};
 ghost use Rattle.ec_draw.specs.Curves.{shown};
 ghost use Rattle.ec_frame.specs.Notes.{begun_words, fault_told, height_at, height_told, is_first, is_of_round, line_of, line_told, noted, place_told, plain, plain_byte, read_told, round_after, round_from, told_by, told_of, total_front, total_told};
 
-use crate::words::counted_word;
+use crate::words::curve_word;
 use ec_core::Act;
 use ec_count::WorkerId;
 use ec_draw::{Curve, Dot, Window};
-use ec_text::{Buffered, put, put_number};
+use ec_text::Out;
 use ec_trace::{Spellings, TraceFault, put_reply};
 use std::io::Write;
 
@@ -49,50 +49,50 @@ fn plain(byte: u8) -> u8
 }
 
 /// Puts a byte as it is shown.
-fn put_plain<W: Write>(out: &mut W, table: &mut Buffered, byte: u8)
-    ensures { Puts (W.contents out.old) table.old (W.contents out.new) table.new (plain_byte byte) }
+fn put_plain<W: Write>(out: &mut Out<'_, W>, byte: u8)
+    ensures { Puts out.old out.new (plain_byte byte) }
 {
-    put(out, table, &[plain(byte)]);
+    out.put(&[plain(byte)]);
 }
 
 /// Puts bytes as they are shown.
-fn put_plain_bytes<W: Write>(out: &mut W, table: &mut Buffered, bytes: &[u8])
-    ensures { Puts (W.contents out.old) table.old (W.contents out.new) table.new (flat_map plain_byte bytes.now) }
+fn put_plain_bytes<W: Write>(out: &mut Out<'_, W>, bytes: &[u8])
+    ensures { Puts out.old out.new (flat_map plain_byte bytes.now) }
 {
     for byte in bytes {
-        put_plain(out, table, *byte);
+        put_plain(out, *byte);
     }
 }
 
 /// Puts the number of a faulty line, and its first bytes.
 #[tactic(auto, unfolding(crate::specs::Notes::line_told))]
-pub fn put_line_told<W: Write>(out: &mut W, table: &mut Buffered, note: &Note<'_>)
-    ensures { Puts (W.contents out.old) table.old (W.contents out.new) table.new (line_told (noted note.now)) }
+pub fn put_line_told<W: Write>(out: &mut Out<'_, W>, note: &Note<'_>)
+    ensures { Puts out.old out.new (line_told (noted note.now)) }
 {
-    put(out, table, b"line ");
-    put_number(out, table, note.number);
-    put(out, table, b": ");
-    put_plain_bytes(out, table, &note.line[..note.line.len().min(100)]);
+    out.put(b"line ");
+    out.put_number(note.number);
+    out.put(b": ");
+    put_plain_bytes(out, &note.line[..note.line.len().min(100)]);
 }
 
 /// Puts what is wrong with a line, and what was right.
-pub fn put_fault_told<W: Write>(out: &mut W, table: &mut Buffered, fault: &TraceFault)
-    ensures { Puts (W.contents out.old) table.old (W.contents out.new) table.new (fault_told fault.now) }
+pub fn put_fault_told<W: Write>(out: &mut Out<'_, W>, fault: &TraceFault)
+    ensures { Puts out.old out.new (fault_told fault.now) }
 {
     match *fault {
-        TraceFault::BadLine(_) => put(out, table, b"no line that can stand here"),
+        TraceFault::BadLine(_) => out.put(b"no line that can stand here"),
         TraceFault::Refused(_, refusal) => {
-            put(out, table, b"refused: ");
-            put(out, table, refusal.name().as_bytes());
+            out.put(b"refused: ");
+            out.put(refusal.name().as_bytes());
         }
         TraceFault::WrongReply(_, right) => {
-            put(out, table, b"the right reply is ");
-            put_reply(out, table, &right);
+            out.put(b"the right reply is ");
+            put_reply(out, &right);
         }
-        TraceFault::Unfinished => put(out, table, b"unfinished"),
-        TraceFault::TooLarge => put(out, table, b"too large"),
-        TraceFault::Read => put(out, table, b"a read failed"),
-        TraceFault::Memory => put(out, table, b"no memory"),
+        TraceFault::Unfinished => out.put(b"unfinished"),
+        TraceFault::TooLarge => out.put(b"too large"),
+        TraceFault::Read => out.put(b"a read failed"),
+        TraceFault::Memory => out.put(b"no memory"),
     }
 }
 
@@ -189,31 +189,30 @@ fn line_of(note: &Note<'_>, position: usize) -> u64
 
 /// Puts the line of an entry.
 #[tactic(auto, unfolding(crate::specs::Notes::place_told))]
-fn put_place_told<W: Write>(out: &mut W, table: &mut Buffered, note: &Note<'_>, position: usize)
-    ensures { Puts (W.contents out.old) table.old (W.contents out.new) table.new (place_told (noted note.now) position) }
+fn put_place_told<W: Write>(out: &mut Out<'_, W>, note: &Note<'_>, position: usize)
+    ensures { Puts out.old out.new (place_told (noted note.now) position) }
 {
-    put(out, table, b"line ");
-    put_number(out, table, line_of(note, position));
-    put(out, table, b": ");
+    out.put(b"line ");
+    out.put_number(line_of(note, position));
+    out.put(b": ");
 }
 
 /// Puts what an entry of a round read, and in which line.
 #[tactic(auto, unfolding(crate::specs::Notes::read_told))]
 pub fn put_read_told<W: Write>(
-    out: &mut W,
-    table: &mut Buffered,
+    out: &mut Out<'_, W>,
     note: &Note<'_>,
     position: usize,
     component: usize,
     number: u64,
 )
-    ensures { Puts (W.contents out.old) table.old (W.contents out.new) table.new (read_told (noted note.now) position component number) }
+    ensures { Puts out.old out.new (read_told (noted note.now) position component number) }
 {
-    put_place_told(out, table, note, position);
-    put(out, table, b"component ");
-    put_number(out, table, component as u64);
-    put(out, table, b" was ");
-    put_number(out, table, number);
+    put_place_told(out, note, position);
+    out.put(b"component ");
+    out.put_number(component as u64);
+    out.put(b" was ");
+    out.put_number(number);
 }
 
 /// The count at a moment.
@@ -230,65 +229,47 @@ fn height_at(window: Window, curve: &Curve, moment: usize) -> u64
 
 /// Puts the count at a moment.
 #[tactic(auto, unfolding(crate::specs::Notes::height_told))]
-fn put_height<W: Write>(
-    out: &mut W,
-    table: &mut Buffered,
-    window: Window,
-    curve: &Curve,
-    moment: usize,
-)
-    ensures { Puts (W.contents out.old) table.old (W.contents out.new) table.new (height_told window curve.now.heights.items moment) }
+fn put_height<W: Write>(out: &mut Out<'_, W>, window: Window, curve: &Curve, moment: usize)
+    ensures { Puts out.old out.new (height_told window curve.now.heights.items moment) }
 {
-    put_number(out, table, height_at(window, curve, moment));
+    out.put_number(height_at(window, curve, moment));
 }
 
 /// Puts the total when the round began.
 #[tactic(auto, unfolding(crate::specs::Notes::begun_words))]
-fn put_begun<W: Write>(
-    out: &mut W,
-    table: &mut Buffered,
-    window: Window,
-    curve: &Curve,
-    begun: Option<usize>,
-)
-    ensures { Puts (W.contents out.old) table.old (W.contents out.new) table.new (begun_words window curve.now.heights.items begun) }
+fn put_begun<W: Write>(out: &mut Out<'_, W>, window: Window, curve: &Curve, begun: Option<usize>)
+    ensures { Puts out.old out.new (begun_words window curve.now.heights.items begun) }
 {
     if let Some(moment) = begun {
-        put_height(out, table, window, curve, moment);
-        put(out, table, b" when the round began, ");
+        put_height(out, window, curve, moment);
+        out.put(b" when the round began, ");
     }
 }
 
 /// Puts whose totals follow.
 #[tactic(auto, unfolding(crate::specs::Notes::total_front))]
-fn put_total_front<W: Write>(
-    out: &mut W,
-    table: &mut Buffered,
-    spellings: &Spellings<'_>,
-    curve: &Curve,
-)
-    ensures { Puts (W.contents out.old) table.old (W.contents out.new) table.new (total_front spellings.now (shown curve.now)) }
+fn put_total_front<W: Write>(out: &mut Out<'_, W>, spellings: &Spellings<'_>, curve: &Curve)
+    ensures { Puts out.old out.new (total_front spellings.now (shown curve.now)) }
 {
-    put(out, table, b"total of ");
-    put(out, table, counted_word(spellings, &curve.object));
-    put(out, table, b": ");
+    out.put(b"total of ");
+    out.put(curve_word(spellings, &curve.object));
+    out.put(b": ");
 }
 
 /// Puts the total of an eventcount when the round of a faulty line began, and at the line's entry.
 #[tactic(auto, unfolding(crate::specs::Notes::total_told))]
 pub fn put_total_told<W: Write>(
-    out: &mut W,
-    table: &mut Buffered,
+    out: &mut Out<'_, W>,
     spellings: &Spellings<'_>,
     window: Window,
     note: &Note<'_>,
     told: &Told,
     curve: &Curve,
 )
-    ensures { Puts (W.contents out.old) table.old (W.contents out.new) table.new (total_told spellings.now window (noted note.now) told.now (shown curve.now)) }
+    ensures { Puts out.old out.new (total_told spellings.now window (noted note.now) told.now (shown curve.now)) }
 {
-    put_total_front(out, table, spellings, curve);
-    put_begun(out, table, window, curve, told.begun);
-    put_height(out, table, window, curve, note.position);
-    put(out, table, b" at this entry");
+    put_total_front(out, spellings, curve);
+    put_begun(out, window, curve, told.begun);
+    put_height(out, window, curve, note.position);
+    out.put(b" at this entry");
 }

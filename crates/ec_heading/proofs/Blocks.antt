@@ -4,7 +4,7 @@ use Rattle.std.proofs.lemmas.Bool.{ltb-false, or_parts, cond-true, true≢false}
 use Rattle.ec_count.specs.Names.{find_name}
 use Rattle.ec_count.specs.declared.target.Target.{Target}
 use Rattle.ec_count.specs.declared.target.Target.TheVariants.{Worker, Event, Sequencer, Cells, Group}
-use Rattle.ec_heading.specs.Sorts.{other}
+use Rattle.ec_heading.specs.Sorts.{second_opener}
 use Rattle.ec_heading.specs.Headed.{Headed}
 use Rattle.ec_heading.specs.Objects.{objects_of, spelled_objects}
 use Rattle.ec_heading.specs.Outline.{Declaration, AreDeclarable, opened, numbered, next_of, declared_by, declared_all, objects_fault, fits_form}
@@ -37,7 +37,7 @@ small_spelled : (name : List ℕ) (os : Named) → AreSmall os → AreSmall (spe
 small_spelled name [] h = tt
 small_spelled name (o ∷ os) h = (h.0, small_spelled name os h.1)
 
-objects_end : (s : Sort) (h : Headed) (n : ℕ) (first second : List ℕ) → fits_form (other s) second ≡ true → objects_fault s h.setup n first second ≡ None → AreSmall (objects_of s (next_of h) n)
+objects_end : (s : Sort) (h : Headed) (n : ℕ) (first second : List ℕ) → fits_form (second_opener s) second ≡ true → objects_fault s h.setup n first second ≡ None → AreSmall (objects_of s (next_of h) n)
 objects_end sorts.EventCount h n first second form taken = (zero-le, tt)
 objects_end sorts.Sequencer h n first second form taken = (zero-le, tt)
 objects_end sorts.Cells h n first second form taken = (ltb-false 256 (length h.setup.cells + n) (has_room sorts.Cells h.setup n first second form taken).room, tt)

@@ -11,7 +11,7 @@ use Rattle.ec_text.specs.Words.{is_number_form, has_form, number_of}
 use Rattle.ec_text.proofs.shared.WordLemmas.{literal_word}
 use Rattle.ec_text.proofs.shared.NumberLemmas.{number_again, own}
 use Rattle.ec_text.proofs.shared.DecimalLemmas.{at_most_20}
-use Rattle.ec_heading.specs.Sorts.{sort_word, has_name, has_number, opener, other, needs_other, is_called, is_in_range}
+use Rattle.ec_heading.specs.Sorts.{sort_word, has_name, has_number, opener, second_opener, needs_second, is_called, is_in_range}
 use Rattle.ec_heading.specs.declared.version.Version.{Version}
 use Rattle.ec_heading.specs.Headed.{Headed}
 use Rattle.ec_heading.specs.Outline.{Declaration, AreWorkers, IsDeclarable, opened, declared_by, declared_all, fits_form}
@@ -63,7 +63,7 @@ second_of ws (Some stop) [] = None
 second_of ws (Some stop) (i ∷ ids) = Some (list_words ws (i ∷ ids))
 
 spelled_by : List (List ℕ) → Declaration → Phrase
-spelled_by ws d = record { sort = d.sort; name = d.name; number = number_text d.sort d.number; first = list_words ws d.first; second = second_of ws (other d.sort) d.second }
+spelled_by ws d = record { sort = d.sort; name = d.name; number = number_text d.sort d.number; first = list_words ws d.first; second = second_of ws (second_opener d.sort) d.second }
 
 -- its words are the declaration's
 number_same : (s : Sort) (n : ℕ) → number_part s (number_text s n) ≡ number_words s n
@@ -76,11 +76,11 @@ second_same ws None ids = refl
 second_same ws (Some stop) [] = refl
 second_same ws (Some stop) (i ∷ ids) = refl
 
-words_same : (ws : List (List ℕ)) (d : Declaration) → declaration_words ws d ≡ sort_word d.sort ∷ (name_words d.sort d.name ++ behind_name d.sort (number_text d.sort d.number) (list_words ws d.first ++ second_part (other d.sort) (second_of ws (other d.sort) d.second)))
+words_same : (ws : List (List ℕ)) (d : Declaration) → declaration_words ws d ≡ sort_word d.sort ∷ (name_words d.sort d.name ++ behind_name d.sort (number_text d.sort d.number) (list_words ws d.first ++ second_part (second_opener d.sort) (second_of ws (second_opener d.sort) d.second)))
 words_same ws d =
-    append_assoc (sort_word d.sort ∷ name_words d.sort d.name ++ number_words d.sort d.number) (opener d.sort ∷ list_words ws d.first) (second_words ws (other d.sort) d.second)
-    ∙ append_assoc (sort_word d.sort ∷ name_words d.sort d.name) (number_words d.sort d.number) (opener d.sort ∷ (list_words ws d.first ++ second_words ws (other d.sort) d.second))
-    ∙ ap₂ (λ (m v : List (List ℕ)). sort_word d.sort ∷ (name_words d.sort d.name ++ (m ++ opener d.sort ∷ (list_words ws d.first ++ v)))) (sym (number_same d.sort d.number)) (sym (second_same ws (other d.sort) d.second))
+    append_assoc (sort_word d.sort ∷ name_words d.sort d.name ++ number_words d.sort d.number) (opener d.sort ∷ list_words ws d.first) (second_words ws (second_opener d.sort) d.second)
+    ∙ append_assoc (sort_word d.sort ∷ name_words d.sort d.name) (number_words d.sort d.number) (opener d.sort ∷ (list_words ws d.first ++ second_words ws (second_opener d.sort) d.second))
+    ∙ ap₂ (λ (m v : List (List ℕ)). sort_word d.sort ∷ (name_words d.sort d.name ++ (m ++ opener d.sort ∷ (list_words ws d.first ++ v)))) (sym (number_same d.sort d.number)) (sym (second_same ws (second_opener d.sort) d.second))
 
 -- and it is well formed
 form_decimal : (n : ℕ) → n ≤ 1000000 → is_number_form (decimal n) ≡ true
@@ -185,8 +185,8 @@ module _ (ws : List (List ℕ)) (are : AreWorkers ws) (h : Headed) (heads : Head
     name = name_fits d.sort d.name may.word;
     number = number_fits d.sort d.number may.range;
     first = some_words ws d.first room.some;
-    second = second_fits ws (needs_other d.sort) (other d.sort) d.second may.form room.needed;
-    apart = ends_right (other d.sort) (list_words ws d.first) (other_stop d.sort) named_first;
+    second = second_fits ws (needs_second d.sort) (second_opener d.sort) d.second may.form room.needed;
+    apart = ends_right (second_opener d.sort) (list_words ws d.first) (other_stop d.sort) named_first;
   }
 
   parts : parts_in (declaration_words ws d) ≡ Some (spelled_by ws d)
@@ -201,7 +201,7 @@ module _ (ws : List (List ℕ)) (are : AreWorkers ws) (h : Headed) (heads : Head
 
   second_is : second_list (spelled_by ws d) ≡ list_words ws d.second
   unfolding spelled_by
-  second_is = second_back ws (other d.sort) d.second may.form
+  second_is = second_back ws (second_opener d.sort) d.second may.form
 
   back : declaration_of h.words (spelled_by ws d) ≡ d
   unfolding spelled_by
@@ -287,20 +287,20 @@ module _ (ws : List (List ℕ)) (are : AreWorkers ws) (h : Headed) (heads : Head
 
   all_fit : AreFit (declaration_words ws d)
   all_fit =
-      fit-append (sort_word d.sort ∷ name_words d.sort d.name ++ number_words d.sort d.number ++ opener d.sort ∷ list_words ws d.first) (second_words ws (other d.sort) d.second)
+      fit-append (sort_word d.sort ∷ name_words d.sort d.name ++ number_words d.sort d.number ++ opener d.sort ∷ list_words ws d.first) (second_words ws (second_opener d.sort) d.second)
       (fit-append (sort_word d.sort ∷ name_words d.sort d.name ++ number_words d.sort d.number) (opener d.sort ∷ list_words ws d.first) front_fit middle_fit)
-      (second_fit (other d.sort) ws d.second (other_stop d.sort) named_b).0
+      (second_fit (second_opener d.sort) ws d.second (other_stop d.sort) named_b).0
 
   all_short : letters (declaration_words ws d) ≤ 8192
   all_short =
       let r : HasRoom d.sort h.setup d.number d.first d.second = room ws are h heads d may in
       let a : length d.first ≤ 16 = ltb-false 16 (length d.first) r.few_first in
       let b : length d.second ≤ 16 = ltb-false 16 (length d.second) r.few_second in
-      let l1 = letters-append (sort_word d.sort ∷ name_words d.sort d.name ++ number_words d.sort d.number ++ opener d.sort ∷ list_words ws d.first) (second_words ws (other d.sort) d.second) in
+      let l1 = letters-append (sort_word d.sort ∷ name_words d.sort d.name ++ number_words d.sort d.number ++ opener d.sort ∷ list_words ws d.first) (second_words ws (second_opener d.sort) d.second) in
       let l2 = letters-append (sort_word d.sort ∷ name_words d.sort d.name ++ number_words d.sort d.number) (opener d.sort ∷ list_words ws d.first) in
       let l3 = letters-append (sort_word d.sort ∷ name_words d.sort d.name) (number_words d.sort d.number) in
       let m1 = names_letters (list_words ws d.first) named_a in
-      let m2 = (second_fit (other d.sort) ws d.second (other_stop d.sort) named_b).1 in
+      let m2 = (second_fit (second_opener d.sort) ws d.second (other_stop d.sort) named_b).1 in
       let m3 = (number_fit d.sort d.number may.range).1 in
       let m4 = (name_fit d.sort d.name may.word).1 in
       let m5 = (text_fit (sort_word d.sort) (sort_literal d.sort)).1 in
@@ -312,7 +312,7 @@ module _ (ws : List (List ℕ)) (are : AreWorkers ws) (h : Headed) (heads : Head
 
   pub line_declared : head_step h (declaration_line ws d) ≡ Ok (declared_by h d)
   line_declared =
-      line_read h (sort_word d.sort) (name_words d.sort d.name ++ number_words d.sort d.number ++ opener d.sort ∷ list_words ws d.first ++ second_words ws (other d.sort) d.second) all_fit all_short
+      line_read h (sort_word d.sort) (name_words d.sort d.name ++ number_words d.sort d.number ++ opener d.sort ∷ list_words ws d.first ++ second_words ws (second_opener d.sort) d.second) all_fit all_short
       ∙ cond-false _ _ _ some_workers
       ∙ declared ws are h heads d may
 

@@ -5,7 +5,7 @@ use Rattle.std.proofs.lemmas.Bool.{true≢false, eqb-false, cond-false}
 use Rattle.ec_text.specs.Words.{words_of, number_of}
 use Rattle.ec_text.proofs.shared.WordLemmas.{split_join}
 use Rattle.ec_text.proofs.shared.NumberLemmas.{number_takes}
-use Rattle.ec_heading.specs.Sorts.{sort_word, has_number, opener, other, needs_other}
+use Rattle.ec_heading.specs.Sorts.{sort_word, has_number, opener, second_opener, needs_second}
 use Rattle.ec_heading.specs.declared.version.Version.{Version}
 use Rattle.ec_heading.specs.Headed.{Headed}
 use Rattle.ec_heading.specs.Outline.{Declaration, AreWorkers, IsDeclarable, opened, declared_by, declared_all}
@@ -97,10 +97,10 @@ module _ (ws : List (List ℕ)) (h : Headed) (heads : Heads ws h) where
       let c : IsClean h.setup h.words p (declaration_of h.words p) = clean h.setup h.words p (declaration_of h.words p) none in
       let number : number_words p.sort (size_in p) ≡ number_part p.sort p.number = number_spelled p.sort p.number is.number c.number in
       let first : list_words ws (ids_in h.words p.first) ≡ p.first = listed p.first c.known_first in
-      let second : second_words ws (other p.sort) (ids_in h.words (second_list p)) ≡ second_part (other p.sort) p.second = second_spelled (needs_other p.sort) (other p.sort) p.second is.second c.known_second in
+      let second : second_words ws (second_opener p.sort) (ids_in h.words (second_list p)) ≡ second_part (second_opener p.sort) p.second = second_spelled (needs_second p.sort) (second_opener p.sort) p.second is.second c.known_second in
       is.words
-      ∙ sym (append_assoc (sort_word p.sort ∷ name_words p.sort p.name ++ number_words p.sort (size_in p)) (opener p.sort ∷ list_words ws (ids_in h.words p.first)) (second_words ws (other p.sort) (ids_in h.words (second_list p)))
-      ∙ append_assoc (sort_word p.sort ∷ name_words p.sort p.name) (number_words p.sort (size_in p)) (opener p.sort ∷ (list_words ws (ids_in h.words p.first) ++ second_words ws (other p.sort) (ids_in h.words (second_list p))))
+      ∙ sym (append_assoc (sort_word p.sort ∷ name_words p.sort p.name ++ number_words p.sort (size_in p)) (opener p.sort ∷ list_words ws (ids_in h.words p.first)) (second_words ws (second_opener p.sort) (ids_in h.words (second_list p)))
+      ∙ append_assoc (sort_word p.sort ∷ name_words p.sort p.name) (number_words p.sort (size_in p)) (opener p.sort ∷ (list_words ws (ids_in h.words p.first) ++ second_words ws (second_opener p.sort) (ids_in h.words (second_list p))))
       ∙ ap₂ (λ (m v : List (List ℕ)). sort_word p.sort ∷ (name_words p.sort p.name ++ (m ++ opener p.sort ∷ v))) number (ap₂ ◌++◌ first second))
 
   declared : (words : List (List ℕ)) (after : Headed) (o : Option Phrase) → parts_in words ≡ o → declared_or h o ≡ Ok after → (d : Declaration) × IsDeclarable h d × (words ≡ declaration_words ws d) × (after ≡ declared_by h d)

@@ -6,7 +6,7 @@ use Rattle.std.proofs.lemmas.Option.{none-some}
 use Rattle.std.proofs.Math.Seq.{take-append-add, drop-append-add, take-append_seam, drop-append_seam, drop-length}
 use Rattle.ec_text.specs.Words.{words_of, IsWord}
 use Rattle.ec_text.proofs.shared.WordLemmas.{has_first, words_at, words_alone}
-use Rattle.ec_heading.specs.Sorts.{sort_word, sort_of, has_name, opener, other, needs_other}
+use Rattle.ec_heading.specs.Sorts.{sort_word, sort_of, has_name, opener, second_opener, needs_second}
 use Rattle.ec_heading.specs.Form.{TwoLists, split_words, StopsAt, front_words, behind_words, on_first, is_well, well_or, both_lists, phrase_of, listed_in, opened_in, called_in, numbered_in, sorted_in}
 use Rattle.ec_heading.specs.declared.sort.Sort.{Sort}
 use Rattle.ec_heading.specs.declared.sort.Sort.TheVariants as sorts
@@ -109,7 +109,7 @@ both_none None = refl
 both_none (Some stop) = split_none stop
 
 pub listed_none : (s : Sort) (name number : List ℕ) → listed_in s name number [] ≡ None
-listed_none s name number = ap (λ (l : TwoLists). phrase_of s name number (well_or (needs_other s) l)) (both_none (other s))
+listed_none s name number = ap (λ (l : TwoLists). phrase_of s name number (well_or (needs_second s) l)) (both_none (second_opener s))
 
 pub sorted_none : (o : Option Sort) → sorted_in o [] ≡ None
 sorted_none None = refl

@@ -1,7 +1,7 @@
 -- The form of a declaration, over the words of its line.
 use Rattle.std.specs.Prelude.{◌≡◌, ◌+◌, ◌≤◌, take, drop, zero, suc, ℕ, Bool, true, false, not, List, [], ◌∷◌, length, Option, Some, None, option_map, if◌then◌else◌, bytes_eq}
 use Rattle.ec_text.specs.Words.{words_of, is_number_form}
-use Rattle.ec_heading.specs.Sorts.{sort_of, sort_word, has_name, has_number, opener, other, needs_other}
+use Rattle.ec_heading.specs.Sorts.{sort_of, sort_word, has_name, has_number, opener, second_opener, needs_second}
 use Rattle.ec_heading.specs.declared.sort.Sort.{Sort}
 use Rattle.ec_heading.specs.declared.form.Parts.{Parts}
 use Rattle.ec_heading.specs.declared.form.Lists.{Lists}
@@ -48,7 +48,7 @@ abbrev pub phrase_of : Sort → List ℕ → List ℕ → Option TwoLists → Op
 phrase_of s name number p = option_map (λ (l : TwoLists). record { sort = s; name = name; number = number; first = l.0; second = l.1 }) p
 
 abbrev pub listed_in : Sort → List ℕ → List ℕ → List (List ℕ) → Option Phrase
-listed_in s name number ws = phrase_of s name number (well_or (needs_other s) (both_lists (other s) ws))
+listed_in s name number ws = phrase_of s name number (well_or (needs_second s) (both_lists (second_opener s) ws))
 
 abbrev pub opened_in : Sort → List ℕ → List ℕ → List (List ℕ) → Option Phrase
 opened_in s name number [] = None

@@ -13,7 +13,7 @@ use Rattle.ec_heading.specs.declared.sort.Sort.{Sort}
 use Rattle.ec_heading.specs.declared.sort.Sort.TheVariants as sorts
 use Rattle.ec_heading.specs.declared.heading.HeadFault.{HeadFault}
 use Rattle.ec_heading.specs.declared.heading.HeadFault.TheVariants as faults
-use Rattle.ec_heading.specs.Sorts.{has_number, keeps_apart, is_called, is_in_range}
+use Rattle.ec_heading.specs.Sorts.{has_number, needs_disjoint_lists, is_called, is_in_range}
 use Rattle.ec_heading.specs.Outline.{Declaration}
 use Rattle.ec_heading.specs.Form.{Phrase}
 use Rattle.ec_heading.specs.Lists.{ids_in, has_unknown, has_word_twice}
@@ -83,7 +83,7 @@ is_too_many t d = (nat_lt 16 (length d.first) || nat_lt 16 (length d.second)) ||
 
 -- whether a worker stands in both lists of a sort that keeps them apart
 abbrev pub has_two_roles : Declaration → Bool
-has_two_roles d = keeps_apart d.sort && list_any (λ w. is_member w d.second) d.first
+has_two_roles d = needs_disjoint_lists d.sort && list_any (λ w. is_member w d.second) d.first
 
 -- the least fault of a line of one of the forms
 abbrev pub kind_of : Tables → Named → Phrase → Declaration → Option HeadFault

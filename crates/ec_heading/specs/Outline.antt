@@ -13,7 +13,7 @@ use Rattle.ec_count.specs.declared.target.Target.{Target}
 use Rattle.ec_count.specs.declared.target.Target.TheVariants.{Worker}
 use Rattle.ec_heading.specs.declared.sort.Sort.{Sort}
 use Rattle.ec_heading.specs.declared.sort.Sort.TheVariants as sorts
-use Rattle.ec_heading.specs.Sorts.{has_name, other, is_called, is_in_range}
+use Rattle.ec_heading.specs.Sorts.{has_name, second_opener, is_called, is_in_range}
 use Rattle.ec_heading.specs.Objects.{Next, ids_after, objects_of, target_of, group_of, spelled_objects}
 use Rattle.ec_heading.specs.Headed.{Headed}
 use Rattle.ec_heading.specs.declared.version.Version.{Version}
@@ -107,7 +107,7 @@ pub record IsDeclarable (h : Headed) (d : Declaration) : Type 0 where
   pub word : is_called d.sort d.name ≡ true
   pub new : find_name d.name h.words ≡ None
   pub range : is_in_range d.sort d.number ≡ true
-  pub form : fits_form (other d.sort) d.second ≡ true
+  pub form : fits_form (second_opener d.sort) d.second ≡ true
   pub taken : objects_fault d.sort h.setup d.number d.first d.second ≡ None
 
 -- each may stand after those before it

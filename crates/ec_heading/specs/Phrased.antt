@@ -3,7 +3,7 @@ use Rattle.std.specs.Prelude.{◌≡◌, ℕ, Bool, true, false, List, [], ◌�
 use Rattle.ec_text.specs.Words.{is_number_form}
 use Rattle.ec_heading.specs.declared.sort.Sort.{Sort}
 use Rattle.ec_heading.specs.Form.{Phrase}
-use Rattle.ec_heading.specs.Sorts.{sort_word, has_name, has_number, opener, other, needs_other}
+use Rattle.ec_heading.specs.Sorts.{sort_word, has_name, has_number, opener, second_opener, needs_second}
 use Rattle.ec_heading.specs.Spelling.{name_words}
 
 -- a list of one word or more
@@ -47,9 +47,9 @@ HasNoStop (Some stop) (w ∷ ws) = (bytes_eq w stop ≡ false) × HasNoStop (Som
 -- the words are those of this phrase: its sort's word, its name and its number where its form has them, the word before its first
 -- list, that list, and the second one behind its word; each list has a word, and the first ends before the first such word
 pub record IsSpelled (ws : List (List ℕ)) (p : Phrase) : Type 0 where
-  pub words : ws ≡ sort_word p.sort ∷ (name_words p.sort p.name ++ behind_name p.sort p.number (p.first ++ second_part (other p.sort) p.second))
+  pub words : ws ≡ sort_word p.sort ∷ (name_words p.sort p.name ++ behind_name p.sort p.number (p.first ++ second_part (second_opener p.sort) p.second))
   pub name : NameFits p.sort p.name
   pub number : NumberFits p.sort p.number
   pub first : HasWords p.first
-  pub second : SecondFits (needs_other p.sort) (other p.sort) p.second
-  pub apart : HasNoStop (other p.sort) p.first
+  pub second : SecondFits (needs_second p.sort) (second_opener p.sort) p.second
+  pub apart : HasNoStop (second_opener p.sort) p.first

@@ -9,7 +9,7 @@ use Rattle.ec_core.specs.declared.act.Entry.{Entry}
 use Rattle.ec_heading.specs.declared.group.Group as kinds
 use Rattle.ec_heading.specs.declared.group.Group.TheVariants as groups
 use Rattle.ec_heading.specs.declared.sort.Sort.TheVariants as sorts
-use Rattle.ec_heading.specs.Sorts.{sort_word, opener, other}
+use Rattle.ec_heading.specs.Sorts.{sort_word, opener, second_opener}
 use Rattle.ec_heading.specs.Headed.{Headed}
 use Rattle.ec_heading.specs.Outline.{Declaration, Outline}
 use Rattle.ec_heading.specs.Spelling.{Named, word_of, name_words, number_words, limit_line, workers_line, trace_header, entry_line, text_of}
@@ -55,7 +55,7 @@ second_names names (Some word) [] = []
 second_names names (Some word) (i ∷ ids) = word ∷ names_of names (i ∷ ids)
 
 abbrev pub declared_words : Named → Declaration → List (List ℕ)
-declared_words names d = name_words d.sort d.name ++ number_words d.sort d.number ++ opener d.sort ∷ names_of names d.first ++ second_names names (other d.sort) d.second
+declared_words names d = name_words d.sort d.name ++ number_words d.sort d.number ++ opener d.sort ∷ names_of names d.first ++ second_names names (second_opener d.sort) d.second
 
 abbrev pub declared_line : Named → Declaration → List ℕ
 declared_line names d = sort_word d.sort ++ spaced (declared_words names d)

@@ -84,31 +84,31 @@ opener sorts.Semaphore = codes "use"
 opener sorts.Both = codes "use"
 
 -- the word before the second list
-abbrev pub other : Sort → Option (List ℕ)
-other sorts.EventCount = Some (codes "observe")
-other sorts.Sequencer = None
-other sorts.Cells = Some (codes "read")
-other sorts.Buffer = Some (codes "consume")
-other sorts.Database = Some (codes "read")
-other sorts.Semaphore = None
-other sorts.Both = None
+abbrev pub second_opener : Sort → Option (List ℕ)
+second_opener sorts.EventCount = Some (codes "observe")
+second_opener sorts.Sequencer = None
+second_opener sorts.Cells = Some (codes "read")
+second_opener sorts.Buffer = Some (codes "consume")
+second_opener sorts.Database = Some (codes "read")
+second_opener sorts.Semaphore = None
+second_opener sorts.Both = None
 
 -- whether the second list must be there
-abbrev pub needs_other : Sort → Bool
-needs_other sorts.EventCount = false
-needs_other sorts.Sequencer = false
-needs_other sorts.Cells = false
-needs_other sorts.Buffer = true
-needs_other sorts.Database = true
-needs_other sorts.Semaphore = false
-needs_other sorts.Both = false
+abbrev pub needs_second : Sort → Bool
+needs_second sorts.EventCount = false
+needs_second sorts.Sequencer = false
+needs_second sorts.Cells = false
+needs_second sorts.Buffer = true
+needs_second sorts.Database = true
+needs_second sorts.Semaphore = false
+needs_second sorts.Both = false
 
 -- whether no worker may stand in both lists
-abbrev pub keeps_apart : Sort → Bool
-keeps_apart sorts.EventCount = false
-keeps_apart sorts.Sequencer = false
-keeps_apart sorts.Cells = false
-keeps_apart sorts.Buffer = true
-keeps_apart sorts.Database = true
-keeps_apart sorts.Semaphore = false
-keeps_apart sorts.Both = false
+abbrev pub needs_disjoint_lists : Sort → Bool
+needs_disjoint_lists sorts.EventCount = false
+needs_disjoint_lists sorts.Sequencer = false
+needs_disjoint_lists sorts.Cells = false
+needs_disjoint_lists sorts.Buffer = true
+needs_disjoint_lists sorts.Database = true
+needs_disjoint_lists sorts.Semaphore = false
+needs_disjoint_lists sorts.Both = false

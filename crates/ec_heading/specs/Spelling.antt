@@ -10,7 +10,7 @@ use Rattle.ec_core.specs.declared.act.Reply.{Reply}
 use Rattle.ec_core.specs.declared.act.Reply.TheVariants.{Done, Number, Pending}
 use Rattle.ec_core.specs.declared.act.Entry.{Entry}
 use Rattle.ec_heading.specs.declared.sort.Sort.{Sort}
-use Rattle.ec_heading.specs.Sorts.{sort_word, has_name, has_number, opener, other}
+use Rattle.ec_heading.specs.Sorts.{sort_word, has_name, has_number, opener, second_opener}
 use Rattle.ec_heading.specs.declared.version.Version.{Version}
 use Rattle.ec_heading.specs.declared.version.Version.TheVariants.{One, Two}
 use Rattle.ec_heading.specs.Outline.{Declaration, Outline, headed}
@@ -45,7 +45,7 @@ second_words workers (Some word) (i ∷ ids) = word ∷ list_words workers (i �
 abbrev pub declaration_words : List (List ℕ) → Declaration → List (List ℕ)
 declaration_words workers d =
     sort_word d.sort ∷ name_words d.sort d.name ++ number_words d.sort d.number
-    ++ opener d.sort ∷ list_words workers d.first ++ second_words workers (other d.sort) d.second
+    ++ opener d.sort ∷ list_words workers d.first ++ second_words workers (second_opener d.sort) d.second
 
 abbrev pub declaration_line : List (List ℕ) → Declaration → List ℕ
 declaration_line workers d = join_with_byte 32 (declaration_words workers d)

@@ -1,7 +1,7 @@
 //! The form of a declaration.
 ghost use Rattle.std.specs.Prelude.{◌≡◌, None, option_map, IfNone, IfSome};
 ghost use Rattle.ec_text.specs.Words.{words_of};
-ghost use Rattle.ec_heading.specs.Sorts.{needs_other, other};
+ghost use Rattle.ec_heading.specs.Sorts.{needs_second, second_opener};
 ghost use Rattle.ec_heading.specs.Form.{parts_in, numbered_in, opened_in, split_words, both_lists, shown, shown_lists, well_or, StopsAt};
 
 use crate::lists::is_same;
@@ -84,11 +84,11 @@ fn split_lists<'a>(list: &'a [u8], stop: &[u8], needs: bool) -> Option<Lists<'a>
 
 /// The two lists of names of a declaration of this sort, where both are well formed.
 fn lists_of<'a>(sort: Sort, list: &'a [u8]) -> Option<Lists<'a>>
-    ensures { option_map shown_lists result ≡ well_or (needs_other sort) (both_lists (other sort) (words_of list.now)) }
+    ensures { option_map shown_lists result ≡ well_or (needs_second sort) (both_lists (second_opener sort) (words_of list.now)) }
 {
-    match sort.other() {
+    match sort.second_opener() {
         None => {
-            if sort.needs_other() {
+            if sort.needs_second() {
                 return None;
             }
             Some(Lists {
@@ -96,7 +96,7 @@ fn lists_of<'a>(sort: Sort, list: &'a [u8]) -> Option<Lists<'a>>
                 second: None,
             })
         }
-        Some(stop) => split_lists(list, stop, sort.needs_other()),
+        Some(stop) => split_lists(list, stop, sort.needs_second()),
     }
 }
 

@@ -33,6 +33,9 @@ use std::alloc::{AllocError, Global};
 use std::marker::Model;
 use thiserror::Error;
 
+/// The most bytes that a line may have without its LF, in a heading, a trace and a script.
+pub const LINE_MAX: usize = 8192;
+
 /// Why a line of a heading is refused: the least of these that holds of the line.
 #[derive(Clone, Copy, Debug, PartialEq, Eq, Error)]
 pub enum HeadFault {
@@ -198,7 +201,7 @@ impl Heading {
     pub fn line(&mut self, line: &[u8]) -> Result<(), HeadFault>
         ensures { Lines result self.old self.new line.now }
     {
-        if line.len() > 8192 || has_blank(line) {
+        if line.len() > LINE_MAX || has_blank(line) {
             return Err(HeadFault::BadLine);
         }
         if self.setup.workers() == 0 {

@@ -135,7 +135,7 @@ fn is_too_many(setup: &Setup, words: &Vocabulary, parts: &Parts<'_>) -> bool
 fn has_two_roles(words: &Vocabulary, parts: &Parts<'_>) -> bool
     ensures { result ≡ has_two_roles (declaration_of words.now (shown parts.now)) }
 {
-    if !parts.sort.keeps_apart() {
+    if !parts.sort.needs_disjoint_lists() {
         return false;
     }
     match parts.second {

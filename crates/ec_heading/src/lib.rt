@@ -12,11 +12,12 @@ mod sort;
 mod spelled;
 mod version;
 
-pub use group::Group;
-pub use heading::{HeadFault, Heading};
+pub use group::{Group, semaphores_of};
+pub use heading::{HeadFault, Heading, LINE_MAX};
 pub use laws::{
     lines_have_an_outline, outline_lines_lead, read_declaration_is_spelled,
     read_workers_are_spelled, spelled_declaration_is_read, spelled_workers_are_read,
 };
+pub use lists::{count_words, has_unknown};
 pub use sort::Sort;
 pub use version::Version;

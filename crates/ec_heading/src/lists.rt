@@ -16,8 +16,8 @@ pub(crate) fn is_same(word: &[u8], other: &[u8]) -> bool
     word == other
 }
 
-/// How many words there are.
-pub(crate) fn count_words(list: &[u8]) -> usize
+/// How many words a list has: one more than spaces.
+pub fn count_words(list: &[u8]) -> usize
     ensures count { result ≡ length (words_of list.now) }
     ensures few { result ≤ length list.now + 1 }
 {
@@ -69,8 +69,8 @@ pub(crate) fn worker_in(words: &Vocabulary, word: &[u8]) -> Option<WorkerId>
     worker_of(words.find(word)?)
 }
 
-/// Whether a word names no worker.
-pub(crate) fn has_unknown(words: &Vocabulary, list: &[u8]) -> bool
+/// Whether a word of the list names no worker.
+pub fn has_unknown(words: &Vocabulary, list: &[u8]) -> bool
     ensures { result ≡ has_unknown words.now (words_of list.now) }
 {
     let (word, rest) = cut_word(list);

@@ -1,6 +1,6 @@
 //! The sorts of declarations.
 ghost use Rattle.std.specs.Prelude.{◌≡◌, option_map};
-ghost use Rattle.ec_heading.specs.Sorts.{sort_word, sort_of, has_name, has_number, least, greatest, is_in_range, is_called, opener, other, needs_other, keeps_apart};
+ghost use Rattle.ec_heading.specs.Sorts.{sort_word, sort_of, has_name, has_number, least, greatest, is_in_range, is_called, opener, second_opener, needs_second, needs_disjoint_lists};
 
 use crate::lists::is_same;
 use ec_count::is_name;
@@ -139,8 +139,8 @@ impl Sort {
     }
 
     /// The word before the second list.
-    pub fn other(self) -> Option<&'static [u8]>
-        ensures { option_map (λ w. w.now) result ≡ other self }
+    pub fn second_opener(self) -> Option<&'static [u8]>
+        ensures { option_map (λ w. w.now) result ≡ second_opener self }
     {
         match self {
             Sort::EventCount => Some(b"observe".as_slice()),
@@ -151,8 +151,8 @@ impl Sort {
     }
 
     /// Whether the second list must be there.
-    pub fn needs_other(self) -> bool
-        ensures { result ≡ needs_other self }
+    pub fn needs_second(self) -> bool
+        ensures { result ≡ needs_second self }
     {
         match self {
             Sort::EventCount | Sort::Sequencer | Sort::Cells => false,
@@ -162,8 +162,8 @@ impl Sort {
     }
 
     /// Whether no worker may stand in both lists.
-    pub fn keeps_apart(self) -> bool
-        ensures { result ≡ keeps_apart self }
+    pub fn needs_disjoint_lists(self) -> bool
+        ensures { result ≡ needs_disjoint_lists self }
     {
         match self {
             Sort::EventCount | Sort::Sequencer | Sort::Cells => false,

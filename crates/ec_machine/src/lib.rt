@@ -19,6 +19,7 @@ mod values;
 pub use command::{Command, Value};
 pub use follow::follows;
 pub use laws::{beginnings_are_runs, own_steps_are_cut, runs_are_of_whole_lists};
+pub use limits::{COMMANDS_MAX, NESTING_MAX, TIMES_MAX, TRIES_MAX, are_apart};
 pub use machine::Machine;
 pub use outcome::Outcome;
 pub use program::Program;

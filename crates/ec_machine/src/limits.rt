@@ -9,16 +9,16 @@ use ec_core::VALUE_MAX;
 use ec_semaphore::SemaphoreShape;
 
 /// The greatest count of a repeat.
-const TIMES_MAX: u64 = 1_000_000;
+pub const TIMES_MAX: u64 = 1_000_000;
 
 /// How deep repeats may stand in one another.
-const NESTING_MAX: usize = 4;
+pub const NESTING_MAX: usize = 4;
 
-/// How many commands a program may have.
-const COMMANDS_MAX: usize = 4096;
+/// How many commands a program may have; a repeat is one, and each command of its block.
+pub const COMMANDS_MAX: usize = 4096;
 
 /// The greatest number of tries of a snapshot.
-const TRIES_MAX: usize = 1000;
+pub const TRIES_MAX: usize = 1000;
 
 /// Whether a program can be made of the commands.
 pub(crate) fn keeps_limits(commands: &[Command]) -> bool
@@ -127,8 +127,8 @@ fn is_same(one: &SemaphoreShape, other: &SemaphoreShape) -> bool
     one.count() == other.count() && one.line() == other.line() && one.initial() == other.initial()
 }
 
-/// Whether the common one has initial value 1 and the three are different.
-fn are_apart(common: &SemaphoreShape, one: &SemaphoreShape, other: &SemaphoreShape) -> bool
+/// Whether a P on both of two semaphores may be made under a common one: that has initial value 1, and the three are different.
+pub fn are_apart(common: &SemaphoreShape, one: &SemaphoreShape, other: &SemaphoreShape) -> bool
     ensures { result ≡ are_apart common.now one.now other.now }
 {
     common.initial() == 1

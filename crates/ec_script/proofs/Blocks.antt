@@ -28,7 +28,7 @@ use Rattle.ec_script.specs.Orders.{size_in, command_in}
 use Rattle.ec_script.specs.Verbs.{is_giving, is_outer}
 use Rattle.ec_script.specs.Drafted.{nothing_drafted, with_order}
 use Rattle.ec_script.specs.Scripted.{Scripted, Planned}
-use Rattle.ec_script.specs.Reading.{nest_of, seen, after, after_verb, commanded, ordered_in, is_declaring, script_step, step}
+use Rattle.ec_script.specs.Reading.{view_of_block, seen, after, after_verb, commanded, ordered_in, is_declaring, script_step, step}
 use Rattle.ec_script.specs.Outcome.{plan_in}
 use Rattle.ec_script.specs.Grammar.{Leads}
 use Rattle.ec_script.specs.Layout.{order_by, Says, Block, IsBlock, texts_of, orders_of, AreNested, commands_in, worker_line, block_lines, schedule_line, IsRow, joined, workers_of}
@@ -68,7 +68,7 @@ pub record Opened (h : Headed) (ws : List (List ℕ)) (named : List ℕ) (ps : L
   pub are : lines ≡ texts_of inside ++ codes "end" ∷ more
   pub each : AllByRecursion (λ (l : List ℕ × Order). Says h b.worker l.0 l.1) inside
   pub nested : AreNested b.draft.depth b.draft.is_empty (orders_of inside)
-  pub few : b.draft.many + commands_in (orders_of inside) ≤ 4096
+  pub few : b.draft.commands + commands_in (orders_of inside) ≤ 4096
   pub behind : Closed h ws named (slice_set ps b.worker (b.draft.orders ++ orders_of inside)) sc more p
 
 abbrev pub Rests : Headed → List (List ℕ) → List ℕ → List (List Order) → Option Open → List ℕ → List (List ℕ) → Planned → Type 0
@@ -78,7 +78,7 @@ Rests h ws named ps (Some b) sc lines p = Opened h ws named ps b sc lines p
 -- the numbers are within their bounds, and a block that is open began
 abbrev pub IsWithin : List ℕ → Option Open → List ℕ → Type 0
 IsWithin named None sc = length sc ≤ 65536
-IsWithin named (Some b) sc = (length sc ≤ 65536) × (b.draft.many ≤ 4096) × (0 < length named)
+IsWithin named (Some b) sc = (length sc ≤ 65536) × (b.draft.commands ≤ 4096) × (0 < length named)
 
 -- what is known of the lines that follow
 abbrev Others : Headed → List (List ℕ) → List (List ℕ) → Planned → Scripted → Type 0
@@ -261,22 +261,22 @@ block_ends h ws p line lines named ps b sc within is closed r = record {
 }
 
 command_goes : (h : Headed) (ws : List (List ℕ)) (p : Planned) (line : List ℕ) (lines : List (List ℕ)) (named : List ℕ) (ps : List (List Order)) (b : Open) (sc : List ℕ) (v : Verb) (w : List ℕ) (us : List (List ℕ))
-    → IsCommand v → IsWithin named (Some b) sc → Form line v w us → PassesIn (state h named ps (Some b) sc) v w us → is_outer v ≡ false → ((o : Object) → order_by v o us ≡ command_in v (is_giving v) o us) → nat_le 4096 b.draft.many ≡ false
+    → IsCommand v → IsWithin named (Some b) sc → Form line v w us → PassesIn (state h named ps (Some b) sc) v w us → is_outer v ≡ false → ((o : Object) → order_by v o us ≡ command_in v (is_giving v) o us) → nat_le 4096 b.draft.commands ≡ false
     → after (state h named ps (Some b) sc) (made v w us) ≡ commanded (state h named ps (Some b) sc) (command_in v (is_giving v) (or_nothing (object_for h v w us)) us)
     → Others h ws lines p (after (state h named ps (Some b) sc) (made v w us)) → Opened h ws named ps b sc (line ∷ lines) p
 command_goes h ws p line lines named ps b sc v w us command within form passes inner by room leads others =
     let x = some_object (object_for h v w us) passes.found in
     let d : Ordered v x.0 us = ordered_of h v w us x.0 command x.1 in
-    let says : Says h b.worker line d.order = said (seen (state h named ps (Some b) sc)) (nest_of b) line v w us x.0 d.order form.0 form.1 inner refl x.1 passes (by x.0 ∙ d.is) in
-    order_goes h ws p line lines named ps b sc d.order (after (state h named ps (Some b) sc) (made v w us)) within says (step_may b.draft d.order d.step (below 4096 b.draft.many room))
+    let says : Says h b.worker line d.order = said (seen (state h named ps (Some b) sc)) (view_of_block b) line v w us x.0 d.order form.0 form.1 inner refl x.1 passes (by x.0 ∙ d.is) in
+    order_goes h ws p line lines named ps b sc d.order (after (state h named ps (Some b) sc) (made v w us)) within says (step_may b.draft d.order d.step (below 4096 b.draft.commands room))
     (leads ∙ ap (λ y. commanded (state h named ps (Some b) sc) (command_in v (is_giving v) (or_nothing y) us)) x.1 ∙ ap (commanded (state h named ps (Some b) sc)) d.is) others
 
 repeat_goes : (h : Headed) (ws : List (List ℕ)) (p : Planned) (line : List ℕ) (lines : List (List ℕ)) (named : List ℕ) (ps : List (List Order)) (b : Open) (sc : List ℕ) (w : List ℕ) (us : List (List ℕ))
     → IsWithin named (Some b) sc → Form line verbs.Repeat w us → PassesIn (state h named ps (Some b) sc) verbs.Repeat w us
     → Others h ws lines p (after (state h named ps (Some b) sc) (made verbs.Repeat w us)) → Opened h ws named ps b sc (line ∷ lines) p
 repeat_goes h ws p line lines named ps b sc w us within form passes others =
-    let says : Says h b.worker line (Begin (size_in us)) = said (seen (state h named ps (Some b) sc)) (nest_of b) line verbs.Repeat w us Nothing (Begin (size_in us)) form.0 form.1 refl refl refl passes refl in
-    order_goes h ws p line lines named ps b sc (Begin (size_in us)) (after (state h named ps (Some b) sc) (made verbs.Repeat w us)) within says (below 4 b.draft.depth passes.nested, below 4096 b.draft.many passes.few) refl others
+    let says : Says h b.worker line (Begin (size_in us)) = said (seen (state h named ps (Some b) sc)) (view_of_block b) line verbs.Repeat w us Nothing (Begin (size_in us)) form.0 form.1 refl refl refl passes refl in
+    order_goes h ws p line lines named ps b sc (Begin (size_in us)) (after (state h named ps (Some b) sc) (made verbs.Repeat w us)) within says (below 4 b.draft.depth passes.nested, below 4096 b.draft.commands passes.few) refl others
 
 end_goes : (h : Headed) (ws : List (List ℕ)) (p : Planned) (line : List ℕ) (lines : List (List ℕ)) (named : List ℕ) (ps : List (List Order)) (b : Open) (sc : List ℕ) (w : List ℕ) (us : List (List ℕ))
     → IsWithin named (Some b) sc → Form line verbs.End w us → PassesIn (state h named ps (Some b) sc) verbs.End w us
@@ -293,7 +293,7 @@ end_goes h ws p line lines named ps b sc w us within form passes others =
           (others named (slice_set ps b.worker b.draft.orders) None sc within.0 (and_left _ _ past) (ap (λ t. cond t done inner) e))
       | false ↦ λ e.
           (let deep : 0 < b.draft.depth = omega (arith, eqb-false _ _ e) in
-          let says : Says h b.worker line End = said (seen (state h named ps (Some b) sc)) (nest_of b) line verbs.End w us Nothing End form.0 form.1 refl refl refl passes refl in
+          let says : Says h b.worker line End = said (seen (state h named ps (Some b) sc)) (view_of_block b) line verbs.End w us Nothing End form.0 form.1 refl refl refl passes refl in
           order_goes h ws p line lines named ps b sc End (after (state h named ps (Some b) sc) (made verbs.End w us)) within says (deep, end_inner b.draft.depth b.draft.is_empty passes.nested deep) (ap (λ t. cond t done inner) e) others)
     ]) refl
 

@@ -24,13 +24,13 @@ use Rattle.ec_heading.specs.Spelled.{event_in, sequencer_in, cell_in_word}
 use Rattle.ec_script.specs.declared.verb.Verb.{Verb}
 use Rattle.ec_script.specs.declared.verb.Verb.TheVariants as verbs
 use Rattle.ec_script.specs.declared.object.Object.{Object}
-use Rattle.ec_script.specs.declared.object.Object.TheVariants.{Nothing, Worker, Event, Sequencer, Cell, Handed, OfBuffer, OfDatabase, OfSemaphore, Three}
+use Rattle.ec_script.specs.declared.object.Object.TheVariants.{Nothing, Worker, Event, Sequencer, Cell, Handed, OfBuffer, OfDatabase, OfSemaphore, SemaphorePair}
 use Rattle.ec_script.specs.declared.order.Order.{Order}
 use Rattle.ec_script.specs.declared.order.Order.TheVariants.{Do}
 use Rattle.ec_heading.specs.Versions.{has_hand}
 use Rattle.ec_script.specs.Verbs.{has_verb}
 use Rattle.ec_script.specs.Forms.{only_in}
-use Rattle.ec_script.specs.Objects.{place_of, group_in, buffer_of, database_of, semaphore_of, semaphore_in, both_of, three_of, handed_of, object_for, is_owned}
+use Rattle.ec_script.specs.Objects.{place_of, group_in, buffer_of, database_of, semaphore_of, semaphore_in, both_of, pair_of, handed_of, object_for, is_owned}
 use Rattle.ec_script.specs.Kinds.{or_nothing, has_two_roles}
 use Rattle.ec_script.specs.Orders.{event_order, cell_order, buffer_order, database_order, semaphore_order, command_in, amount_in, size_in}
 use Rattle.ec_script.specs.Versioned.{has_command, HasOrder}
@@ -48,7 +48,7 @@ IsFit gs v (Handed e b) = (is_owned gs (Event e) ≡ false) × (has_hand v ≡ t
 IsFit gs v (OfBuffer b) = Contains gs (groups.Buffer b)
 IsFit gs v (OfDatabase d) = Contains gs (groups.Database d)
 IsFit gs v (OfSemaphore s) = Contains gs (groups.Semaphore s)
-IsFit gs v (Three common one other) = (both_of gs ≡ Some common) × Contains gs (groups.Semaphore one) × Contains gs (groups.Semaphore other) × (one.line ≢ other.line)
+IsFit gs v (SemaphorePair common one other) = (both_of gs ≡ Some common) × Contains gs (groups.Semaphore one) × Contains gs (groups.Semaphore other) × (one.line ≢ other.line)
 IsFit gs v (Worker w) = Unit {0}
 IsFit gs v Nothing = Unit {0}
 
@@ -121,7 +121,7 @@ lines_differ gs common one other apart a b differ = λ e.
     true≢false (sym (itself one) ∙ ap (is_same one) g ∙ not_true (is_same one other) p.1)
 
 three_fits : (gs : List Group) (v : Version) (c o u : Option Semaphore) → AreApart gs → both_of gs ≡ c → ((s : Semaphore) → o ≡ Some s → Contains gs (groups.Semaphore s)) → ((s : Semaphore) → u ≡ Some s → Contains gs (groups.Semaphore s))
-    → has_two_roles (or_nothing (three_of c o u)) ≡ false → IsFit gs v (or_nothing (three_of c o u))
+    → has_two_roles (or_nothing (pair_of c o u)) ≡ false → IsFit gs v (or_nothing (pair_of c o u))
 three_fits gs v (Some common) (Some one) (Some other) apart both first second roles =
     let a = first one refl in
     let b = second other refl in
@@ -197,6 +197,6 @@ command_proper gs ver v giving (Handed e b) ws fit = proper_of gs ver (layer.Han
 command_proper gs ver v giving (OfBuffer b) ws fit = buffer_proper gs ver giving b (amount_in ws) fit
 command_proper gs ver v giving (OfDatabase d) ws fit = database_proper gs ver v d ws fit
 command_proper gs ver v giving (OfSemaphore s) ws fit = semaphore_proper gs ver v s fit
-command_proper gs ver v giving (Three common one other) ws fit = proper_of gs ver (layer.DownBoth common one other) (commands.DownBoth common one other) (commands.rolls-DownBoth common one other) fit refl
+command_proper gs ver v giving (SemaphorePair common one other) ws fit = proper_of gs ver (layer.DownBoth common one other) (commands.DownBoth common one other) (commands.rolls-DownBoth common one other) fit refl
 command_proper gs ver v giving Nothing ws fit = tt
 command_proper gs ver v giving (Worker w) ws fit = tt

@@ -18,7 +18,7 @@ use Rattle.ec_buffer.specs.Shapes.{Buffer}
 use Rattle.ec_script.specs.declared.fault.Kind.{Kind}
 use Rattle.ec_script.specs.declared.fault.Kind.TheVariants as kinds
 use Rattle.ec_script.specs.declared.object.Object.{Object}
-use Rattle.ec_script.specs.declared.object.Object.TheVariants.{Nothing, Worker, Event, Sequencer, Cell, Handed, OfBuffer, OfDatabase, OfSemaphore, Three}
+use Rattle.ec_script.specs.declared.object.Object.TheVariants.{Nothing, Worker, Event, Sequencer, Cell, Handed, OfBuffer, OfDatabase, OfSemaphore, SemaphorePair}
 use Rattle.ec_script.specs.declared.order.Order.{Order}
 use Rattle.ec_script.specs.declared.order.Order.TheVariants.{Do, Write, Begin, End}
 use Rattle.ec_script.specs.declared.script.Block.{Block}
@@ -78,28 +78,28 @@ last_is os o t = same_Some o (Begin t.1) (sym (last_push os o) ∙ ap last_of t.
 
 counted_more : (d : Drafted) (o : Order) → IsCounted d → (o ≡ End → 0 < d.depth) → IsCounted (with_order d o)
 counted_more d (Do c) is deep = record {
-  many = omega (arith, is.many, commands_push d.orders (Do c));
+  commands = omega (arith, is.commands, commands_push d.orders (Do c));
   repeats = omega (arith, is.repeats, begins_push d.orders (Do c), ends_push d.orders (Do c));
   last = λ some. ((λ e. cc), λ t. (let e = last_is d.orders (Do c) t in cc));
 }
 counted_more d (Write b vs) is deep = record {
-  many = omega (arith, is.many, commands_push d.orders (Write b vs));
+  commands = omega (arith, is.commands, commands_push d.orders (Write b vs));
   repeats = omega (arith, is.repeats, begins_push d.orders (Write b vs), ends_push d.orders (Write b vs));
   last = λ some. ((λ e. cc), λ t. (let e = last_is d.orders (Write b vs) t in cc));
 }
 counted_more d (Begin n) is deep = record {
-  many = omega (arith, is.many, commands_push d.orders (Begin n));
+  commands = omega (arith, is.commands, commands_push d.orders (Begin n));
   repeats = omega (arith, is.repeats, begins_push d.orders (Begin n), ends_push d.orders (Begin n));
   last = λ some. ((λ e. (d.orders, n, refl)), λ t. refl);
 }
 counted_more d End is deep = record {
-  many = omega (arith, is.many, commands_push d.orders End);
+  commands = omega (arith, is.commands, commands_push d.orders End);
   repeats = omega (arith, is.repeats, begins_push d.orders End, ends_push d.orders End, deep refl);
   last = λ some. ((λ e. cc), λ t. (let e = last_is d.orders End t in cc));
 }
 
 none_counted : IsCounted nothing_drafted
-none_counted = record { many = refl; repeats = refl; last = λ some. absurd (omega (arith, some)) }
+none_counted = record { commands = refl; repeats = refl; last = λ some. absurd (omega (arith, some)) }
 
 -- COMMANDS BEGIN AND END NO REPEAT
 
@@ -133,7 +133,7 @@ command_steps v giving (Handed e b) ws = tt
 command_steps v giving (OfBuffer b) ws = buffer_steps giving b _
 command_steps v giving (OfDatabase d) ws = database_steps v d ws
 command_steps v giving (OfSemaphore s) ws = semaphore_steps v s
-command_steps v giving (Three common one other) ws = tt
+command_steps v giving (SemaphorePair common one other) ws = tt
 command_steps v giving Nothing ws = tt
 command_steps v giving (Worker w) ws = tt
 

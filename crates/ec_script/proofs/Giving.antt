@@ -26,12 +26,12 @@ use Rattle.ec_heading.specs.Spelled.{event_in, sequencer_in, cell_in_word}
 use Rattle.ec_script.specs.declared.verb.Verb.{Verb}
 use Rattle.ec_script.specs.declared.verb.Verb.TheVariants as verbs
 use Rattle.ec_script.specs.declared.object.Object.{Object}
-use Rattle.ec_script.specs.declared.object.Object.TheVariants.{Event, Sequencer, Cell, Handed, OfBuffer, OfDatabase, OfSemaphore, Three}
+use Rattle.ec_script.specs.declared.object.Object.TheVariants.{Event, Sequencer, Cell, Handed, OfBuffer, OfDatabase, OfSemaphore, SemaphorePair}
 use Rattle.ec_script.specs.declared.order.Order.{Order}
 use Rattle.ec_script.specs.declared.order.Order.TheVariants.{Do, Write, Begin, End}
 use Rattle.ec_script.specs.Verbs.{has_verb, tail_of, is_giving, is_outer}
 use Rattle.ec_script.specs.Forms.{more_in, last_plus, number_or_more, value_of, only_in, is_tail}
-use Rattle.ec_script.specs.Objects.{object_for, group_in, buffer_in, database_in, semaphore_in, both_of, three_of, handed_of, is_owned}
+use Rattle.ec_script.specs.Objects.{object_for, group_in, buffer_in, database_in, semaphore_in, both_of, pair_of, handed_of, is_owned}
 use Rattle.ec_script.specs.Kinds.{is_no_value, is_bad_tail, has_two_roles, has_right}
 use Rattle.ec_script.specs.Orders.{amount_of, amount_in, size_in}
 use Rattle.ec_script.specs.Versioned.{has_command}
@@ -141,8 +141,8 @@ pub case_semaphore : (P : Object → Type 0) (x : Option Semaphore) (o : Object)
 case_semaphore P None o f is = cc
 case_semaphore P (Some e) o f is = (let same : OfSemaphore e ≡ o = cc in subst P same (f e refl))
 
-pub case_three : (P : Object → Type 0) (x y z : Option Semaphore) (o : Object) → ((r s t : Semaphore) → x ≡ Some r → y ≡ Some s → z ≡ Some t → P (Three r s t)) → three_of x y z ≡ Some o → P o
-case_three P (Some r) (Some s) (Some t) o f is = (let same : Three r s t ≡ o = cc in subst P same (f r s t refl refl refl))
+pub case_three : (P : Object → Type 0) (x y z : Option Semaphore) (o : Object) → ((r s t : Semaphore) → x ≡ Some r → y ≡ Some s → z ≡ Some t → P (SemaphorePair r s t)) → pair_of x y z ≡ Some o → P o
+case_three P (Some r) (Some s) (Some t) o f is = (let same : SemaphorePair r s t ≡ o = cc in subst P same (f r s t refl refl refl))
 case_three P _ _ _ o f is = cc
 
 -- COMMANDS

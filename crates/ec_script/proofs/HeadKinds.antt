@@ -22,7 +22,7 @@ use Rattle.ec_heading.specs.Headed.{Headed}
 use Rattle.ec_heading.specs.Kinds.{workers_fault, declaration_fault, declaration_of, second_list, is_taken, has_unknown_word, is_bad_number, is_full_for, is_too_many, has_two_roles}
 use Rattle.ec_heading.specs.Lists.{worker_in, ids_in, has_unknown, has_word_twice}
 use Rattle.ec_heading.specs.Outline.{Declaration, with_objects}
-use Rattle.ec_heading.specs.Sorts.{has_number, keeps_apart, is_called, is_in_range, least as least_number, greatest}
+use Rattle.ec_heading.specs.Sorts.{has_number, needs_disjoint_lists, is_called, is_in_range, least as least_number, greatest}
 use Rattle.ec_heading.proofs.shared.AddedObjects.{Bounds}
 use Rattle.ec_script.specs.declared.fault.Kind.{Kind}
 use Rattle.ec_script.specs.declared.fault.Kind.TheVariants as kinds
@@ -133,11 +133,11 @@ number_decided s w =
     Decides-at (is_bad_number s (number_of w)) (has_number s && not (option_map_or (is_in_range s) (number_of w) false)) (bad_number s (number_of w))
     (Decides-and (has_number s) (not (option_map_or (is_in_range s) (number_of w) false)) (decides_itself (has_number s)) (decides_number (is_in_range s) (small_number s) w))
 
-roles_decided : (h : Headed) (p : headings.Phrase) → Decides (has_two_roles (declaration_of h.words p)) ((keeps_apart p.sort ≡ true) × SharesWorker h p)
+roles_decided : (h : Headed) (p : headings.Phrase) → Decides (has_two_roles (declaration_of h.words p)) ((needs_disjoint_lists p.sort ≡ true) × SharesWorker h p)
 roles_decided h p =
     let first : List ℕ = ids_in h.words p.first in
     let second : List ℕ = ids_in h.words (second_list p) in
-    Decides-and (keeps_apart p.sort) (list_any (λ w. is_member w second) first) (decides_itself (keeps_apart p.sort))
+    Decides-and (needs_disjoint_lists p.sort) (list_any (λ w. is_member w second) first) (decides_itself (needs_disjoint_lists p.sort))
     (Decides-like (list_any (λ w. is_member w second) first) (λ a. (a.1, (a.0, a.2, a.3), a.4)) (λ s. (s.1.0, s.0, s.1.1, s.1.2, s.2))
     (decides_any (λ w. is_member w second) (λ w. Contains second w) (λ w. decides_member w second) first))
 

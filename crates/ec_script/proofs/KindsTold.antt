@@ -45,7 +45,7 @@ use Rattle.ec_script.specs.Kinds.{is_allowed, phrase_fault}
 use Rattle.ec_script.specs.Objects.{object_in}
 use Rattle.ec_script.specs.Phrased.{Worded}
 use Rattle.ec_script.specs.Placed.{IsOfWords, IsLimitLine, IsWorkersLine, IsDeclaration, MayStand, IsOther}
-use Rattle.ec_script.specs.Reading.{nest_of, seen, after, fault_or, phrased, headed_on, is_declaring, opens_outer, script_step, limiting, limited, limit_digits, limit_or, limit_step, named_on, read_on, step}
+use Rattle.ec_script.specs.Reading.{view_of_block, seen, after, fault_or, phrased, headed_on, is_declaring, opens_outer, script_step, limiting, limited, limit_digits, limit_or, limit_step, named_on, read_on, step}
 use Rattle.ec_script.specs.Scripted.{Scripted}
 use Rattle.ec_heading.specs.Versions.{has_hand}
 use Rattle.ec_script.specs.Verbs.{has_verb, is_outer}
@@ -267,7 +267,7 @@ reading_tests s (inl p) k = declaration_tests s.heading p k
 reading_tests s (inr p) k = other_tests s p k
 
 abbrev allowed : Scripted → Phrase → Bool
-allowed s p = has_verb s.heading.version p.verb && is_allowed p.verb (is_some (option_map nest_of s.block)) (length s.schedule)
+allowed s p = has_verb s.heading.version p.verb && is_allowed p.verb (is_some (option_map view_of_block s.block)) (length s.schedule)
 
 abbrev declared_form : Option headings.Phrase → Option (headings.Phrase ⊎ Phrase)
 declared_form None = None
@@ -283,7 +283,7 @@ reading_form s line =
     (cond (is_no_line line) None (other_form s (phrase_in (words_of line))))
 
 -- where a line may stand
-block_is : (o : Option Block) → Decides (is_some (option_map nest_of o)) (o ≢ None)
+block_is : (o : Option Block) → Decides (is_some (option_map view_of_block o)) (o ≢ None)
 block_is None = ((λ e. cc), λ n. absurd (n refl))
 block_is (Some b) = ((λ e k. cc), λ n. refl)
 
@@ -295,10 +295,10 @@ two_is : (v : Version) → Decides (has_hand v) (v ≡ Two)
 two_is One = ((λ e. cc), λ e. cc)
 two_is Two = ((λ e. refl), λ e. refl)
 
-place_decided : (s : Scripted) (v : Verb) → Decides (has_verb s.heading.version v && is_allowed v (is_some (option_map nest_of s.block)) (length s.schedule)) (MayStand s v)
+place_decided : (s : Scripted) (v : Verb) → Decides (has_verb s.heading.version v && is_allowed v (is_some (option_map view_of_block s.block)) (length s.schedule)) (MayStand s v)
 place_decided s verbs.Schedule = ((λ e. tt), λ t. refl)
-place_decided s verbs.Worker = Decides-or (is_some (option_map nest_of s.block)) (length s.schedule == 0) (block_is s.block) (empty_is s.schedule)
-place_decided s verbs.Hand = Decides-and (has_hand s.heading.version) (is_some (option_map nest_of s.block)) (two_is s.heading.version) (block_is s.block)
+place_decided s verbs.Worker = Decides-or (is_some (option_map view_of_block s.block)) (length s.schedule == 0) (block_is s.block) (empty_is s.schedule)
+place_decided s verbs.Hand = Decides-and (has_hand s.heading.version) (is_some (option_map view_of_block s.block)) (two_is s.heading.version) (block_is s.block)
 place_decided s _ = block_is s.block
 
 -- a declaration opens with no word of the others

@@ -44,7 +44,7 @@ use Rattle.ec_script.specs.Kinds.{or_nothing, is_allowed, is_named_again, has_un
 use Rattle.ec_script.specs.Orders.{size_in, command_in}
 use Rattle.ec_script.specs.Drafted.{Drafted, nothing_drafted, with_order}
 use Rattle.ec_script.specs.Scripted.{Scripted, Planned}
-use Rattle.ec_script.specs.Reading.{nest_of, seen, after_verb, commanded, ordered_in, headed_on, phrased, opens_outer, script_step, limit_digits, limit_or, limited, limit_step, script_of, named_on, read_on, step}
+use Rattle.ec_script.specs.Reading.{view_of_block, seen, after_verb, commanded, ordered_in, headed_on, phrased, opens_outer, script_step, limit_digits, limit_or, limited, limit_step, script_of, named_on, read_on, step}
 use Rattle.ec_script.specs.Grammar.{Leads, IsScript, IsLine}
 use Rattle.ec_script.specs.Layout.{order_by, Says, Block, IsBlock, texts_of, orders_of, AreNested, commands_in, worker_line, block_lines, schedule_line, IsRow, joined, workers_of, layout_lines, program_of, IsLaidOut}
 use Rattle.ec_script.proofs.Declaring.{HeadKeeps, Grows, first_keeps, head_grows}
@@ -187,29 +187,29 @@ not_named h verbs.Repeat w us o order named inner is says = (let e : Nothing ≡
 not_named h verbs.End w us o order named inner is says = (let e : Nothing ≡ o = cc in subst (λ x. is_named_again named x ≡ false) e refl)
 not_named h v w us o order named inner is says = no_worker v o us order named says
 
-step_room : (d : Drafted) (o : Order) → IsStep o → MayNest d o → d.many < 4096
+step_room : (d : Drafted) (o : Order) → IsStep o → MayNest d o → d.commands < 4096
 step_room d (Do c) step may = may
 step_room d (Write b vs) step may = may
 step_room d (Begin n) step may = absurd step
 step_room d End step may = absurd step
 
-room_for : (d : Drafted) (h : Headed) (v : Verb) (w : List ℕ) (us : List (List ℕ)) (o : Object) (order : Order) → IsCommand v → object_for h v w us ≡ Some o → command_in v (is_giving v) o us ≡ Some order → MayNest d order → nat_le 4096 d.many ≡ false
+room_for : (d : Drafted) (h : Headed) (v : Verb) (w : List ℕ) (us : List (List ℕ)) (o : Object) (order : Order) → IsCommand v → object_for h v w us ≡ Some o → command_in v (is_giving v) o us ≡ Some order → MayNest d order → nat_le 4096 d.commands ≡ false
 room_for d h v w us o order command is says may =
     let r : Ordered v o us = ordered_of h v w us o command is in
     let same : Some r.order ≡ Some order = sym r.is ∙ says in
     let e : r.order ≡ order = cc in
-    lt-leb 4096 d.many (step_room d order (subst IsStep e r.step) may)
+    lt-leb 4096 d.commands (step_room d order (subst IsStep e r.step) may)
 
 few_in : (h : Headed) (b : Open) (v : Verb) (w : List ℕ) (us : List (List ℕ)) (o : Object) (order : Order) (n : ℕ) → is_outer v ≡ false → object_for h v w us ≡ Some o → order_by v o us ≡ Some order → MayNest b.draft order
-    → is_too_many v us (Some (nest_of b)) n ≡ false
+    → is_too_many v us (Some (view_of_block b)) n ≡ false
 few_in h b verbs.Worker w us o order n inner is says may = cc
 few_in h b verbs.Schedule w us o order n inner is says may = cc
-few_in h b verbs.Repeat w us o order n inner is says may = (let e : Begin (size_in us) ≡ order = cc in lt-leb 4096 b.draft.many (subst (MayNest b.draft) (sym e) may).1)
+few_in h b verbs.Repeat w us o order n inner is says may = (let e : Begin (size_in us) ≡ order = cc in lt-leb 4096 b.draft.commands (subst (MayNest b.draft) (sym e) may).1)
 few_in h b verbs.End w us o order n inner is says may = refl
 few_in h b v w us o order n inner is says may = room_for b.draft h v w us o order tt is says may
 
 nested_in : (h : Headed) (b : Open) (v : Verb) (w : List ℕ) (us : List (List ℕ)) (o : Object) (order : Order) → is_outer v ≡ false → order_by v o us ≡ Some order → MayNest b.draft order
-    → is_badly_nested v (Some (nest_of b)) ≡ false
+    → is_badly_nested v (Some (view_of_block b)) ≡ false
 nested_in h b verbs.Worker w us o order inner says may = cc
 nested_in h b verbs.Schedule w us o order inner says may = cc
 nested_in h b verbs.Repeat w us o order inner says may = (let e : Begin (size_in us) ≡ order = cc in lt-leb 4 b.draft.depth (subst (MayNest b.draft) (sym e) may).0)
@@ -280,16 +280,16 @@ end_leads h named ps b sc some closed =
 record Follows (d : Drafted) (o : Order) (os : List Order) : Type 0 where
   may : MayNest d o
   nested : AreNested (with_order d o).depth (with_order d o).is_empty os
-  few : (with_order d o).many + commands_in os ≤ 4096
+  few : (with_order d o).commands + commands_in os ≤ 4096
 
-follows : (d : Drafted) (o : Order) (os : List Order) → AreNested d.depth d.is_empty (o ∷ os) → d.many + commands_in (o ∷ os) ≤ 4096 → Follows d o os
+follows : (d : Drafted) (o : Order) (os : List Order) → AreNested d.depth d.is_empty (o ∷ os) → d.commands + commands_in (o ∷ os) ≤ 4096 → Follows d o os
 follows d (Do c) os nested few = record { may = omega (arith, few); nested = nested; few = omega (arith, few) }
 follows d (Write b vs) os nested few = record { may = omega (arith, few); nested = nested; few = omega (arith, few) }
 follows d (Begin n) os nested few = record { may = (nested.0, omega (arith, few)); nested = nested.1; few = omega (arith, few) }
 follows d End os nested few = record { may = (nested.0, nested.1); nested = nested.2; few = few }
 
 inside_leads : (h : Headed) (named : List ℕ) (ps : List (List Order)) (b : Open) (sc : List ℕ) (inside : List (List ℕ × Order)) (more : List (List ℕ)) (t : Stage)
-    → 0 < length named → AllByRecursion (λ (l : List ℕ × Order). Says h b.worker l.0 l.1) inside → AreNested b.draft.depth b.draft.is_empty (orders_of inside) → b.draft.many + commands_in (orders_of inside) ≤ 4096
+    → 0 < length named → AllByRecursion (λ (l : List ℕ × Order). Says h b.worker l.0 l.1) inside → AreNested b.draft.depth b.draft.is_empty (orders_of inside) → b.draft.commands + commands_in (orders_of inside) ≤ 4096
     → Leads (Reading (state h named (slice_set ps b.worker (b.draft.orders ++ orders_of inside)) None sc)) more t
     → Leads (Reading (state h named ps (Some b) sc)) (texts_of inside ++ codes "end" ∷ more) t
 inside_leads h named ps b sc [] more t some all nested few leads = (

@@ -33,12 +33,12 @@ use Rattle.ec_heading.proofs.shared.ReadHeadings.{sound}
 use Rattle.ec_script.specs.declared.verb.Verb.{Verb}
 use Rattle.ec_script.specs.declared.verb.Verb.TheVariants as verbs
 use Rattle.ec_script.specs.declared.object.Object.{Object}
-use Rattle.ec_script.specs.declared.object.Object.TheVariants.{Event, Sequencer, Cell, Handed, OfBuffer, OfDatabase, OfSemaphore, Three}
+use Rattle.ec_script.specs.declared.object.Object.TheVariants.{Event, Sequencer, Cell, Handed, OfBuffer, OfDatabase, OfSemaphore, SemaphorePair}
 use Rattle.ec_script.specs.declared.order.Order.{Order}
 use Rattle.ec_script.specs.declared.order.Order.TheVariants.{Do, Write, Begin, End}
 use Rattle.ec_script.specs.Verbs.{tail_of, has_object, is_outer}
 use Rattle.ec_script.specs.Forms.{more_in, last_plus, number_or_more, value_of, only_in, is_tail}
-use Rattle.ec_script.specs.Objects.{object_for, place_of, group_in, buffer_of, database_of, semaphore_of, buffer_in, database_in, semaphore_in, both_of, three_of, handed_of, owns}
+use Rattle.ec_script.specs.Objects.{object_for, place_of, group_in, buffer_of, database_of, semaphore_of, buffer_in, database_in, semaphore_in, both_of, pair_of, handed_of, owns}
 use Rattle.ec_script.specs.Kinds.{is_no_value, cells_of, is_count, is_bad_tail}
 use Rattle.ec_script.specs.Orders.{amount_of, amount_in, size_in}
 use Rattle.ec_script.specs.Grammar.{text_of}
@@ -227,8 +227,8 @@ of_semaphore h v w us o None at f is = cc
 of_semaphore h v w us o (Some e) at f is = let same : OfSemaphore e ≡ o = cc in subst (Spells h v w us) same (f e at)
 
 of_three : (h : Headed) (v : Verb) (w : List ℕ) (us : List (List ℕ)) (o : Object) (x y z : Option Semaphore) → semaphore_in h w ≡ y → option_and_then (semaphore_in h) (only_in us) ≡ z
-    → ((r s t : Semaphore) → semaphore_in h w ≡ Some s → option_and_then (semaphore_in h) (only_in us) ≡ Some t → Spells h v w us (Three r s t)) → three_of x y z ≡ Some o → Spells h v w us o
-of_three h v w us o (Some r) (Some s) (Some t) at too f is = let same : Three r s t ≡ o = cc in subst (Spells h v w us) same (f r s t at too)
+    → ((r s t : Semaphore) → semaphore_in h w ≡ Some s → option_and_then (semaphore_in h) (only_in us) ≡ Some t → Spells h v w us (SemaphorePair r s t)) → pair_of x y z ≡ Some o → Spells h v w us o
+of_three h v w us o (Some r) (Some s) (Some t) at too f is = let same : SemaphorePair r s t ≡ o = cc in subst (Spells h v w us) same (f r s t at too)
 of_three h v w us o _ _ _ at too f is = cc
 
 -- the second semaphore of the two

@@ -21,7 +21,7 @@ use Rattle.ec_heading.specs.Outlined.{IsHeading}
 use Rattle.ec_heading.proofs.shared.Phrases.{same_word}
 use Rattle.ec_script.specs.declared.fault.Kind.{Kind}
 use Rattle.ec_script.specs.declared.fault.Kind.TheVariants as kinds
-use Rattle.ec_script.specs.declared.kinds.Nest.{Nest}
+use Rattle.ec_script.specs.declared.kinds.BlockView.{BlockView}
 use Rattle.ec_script.specs.declared.object.Object.{Object}
 use Rattle.ec_script.specs.declared.object.Object.TheVariants.{Nothing, Worker, OfDatabase}
 use Rattle.ec_script.specs.declared.script.Block.{Block}
@@ -31,7 +31,7 @@ use Rattle.ec_script.specs.Forms.{Phrase, is_value_form, only_in, more_in, last_
 use Rattle.ec_script.specs.Holding.{About, IsBegun, IsNoValue, IsBadNumber, IsTooLong, IsMisplaced, OtherHas}
 use Rattle.ec_script.specs.Kinds.{is_no_value, cells_of, is_count, is_allowed, is_named_again, has_unknown_name, is_bad_tail, is_too_many, has_two_roles, has_right, lacks_right, is_badly_nested, or_nothing, phrase_fault}
 use Rattle.ec_script.specs.Objects.{object_for, object_in, database_in, owns, is_owned}
-use Rattle.ec_script.specs.Reading.{nest_of, seen}
+use Rattle.ec_script.specs.Reading.{view_of_block, seen}
 use Rattle.ec_script.specs.Scripted.{Scripted}
 use Rattle.ec_script.specs.Verbs.{has_verb, tail_of, is_giving, is_counted}
 use Rattle.ec_script.proofs.Deciding.{never, decides_none, decides_not, decides_itself, decides_any, decides_member, decides_number, decides_block}
@@ -150,24 +150,24 @@ one_more : (n : ℕ) → Decides (nat_le 4096 n) (4096 < n + 1)
 one_more n = ((λ e. (let le = leb-true 4096 n e in omega (arith, le))), λ lt. le-leb 4096 n (omega (arith, lt)))
 
 -- a line of a block
-block_many : (v : Verb) (n : ℕ) (o : Option Block) → Decides (option_map_or (λ (x : Nest). is_counted v && nat_le 4096 x.many) (option_map nest_of o) false) ((b : Block) × (o ≡ Some b) × ((is_counted v ≡ true) × (4096 < b.draft.many + 1)))
+block_many : (v : Verb) (n : ℕ) (o : Option Block) → Decides (option_map_or (λ (x : BlockView). is_counted v && nat_le 4096 x.commands) (option_map view_of_block o) false) ((b : Block) × (o ≡ Some b) × ((is_counted v ≡ true) × (4096 < b.draft.commands + 1)))
 block_many v n o =
-    decides_block o (λ x. option_map_or (λ (y : Nest). is_counted v && nat_le 4096 y.many) x false) (λ b. (is_counted v ≡ true) × (4096 < b.draft.many + 1)) refl
-    (λ b. Decides-and (is_counted v) (nat_le 4096 b.draft.many) (decides_itself (is_counted v)) (one_more b.draft.many))
+    decides_block o (λ x. option_map_or (λ (y : BlockView). is_counted v && nat_le 4096 y.commands) x false) (λ b. (is_counted v ≡ true) × (4096 < b.draft.commands + 1)) refl
+    (λ b. Decides-and (is_counted v) (nat_le 4096 b.draft.commands) (decides_itself (is_counted v)) (one_more b.draft.commands))
 
 -- the two cases of lines
-other_many : (v : Verb) (ws : List (List ℕ)) (o : Option Nest) (n : ℕ) → v ≢ verbs.Schedule → is_too_many v ws o n ≡ option_map_or (λ (x : Nest). is_counted v && nat_le 4096 x.many) o false
+other_many : (v : Verb) (ws : List (List ℕ)) (o : Option BlockView) (n : ℕ) → v ≢ verbs.Schedule → is_too_many v ws o n ≡ option_map_or (λ (x : BlockView). is_counted v && nat_le 4096 x.commands) o false
 other_many verbs.Schedule ws o n other = absurd (other refl)
 other_many v ws None n other = refl
 other_many v ws (Some x) n other = refl
 
-inner_many : (s : Scripted) (v : Verb) (w : List ℕ) (ws : List (List ℕ)) → v ≢ verbs.Schedule → Decides (is_too_many v ws (option_map nest_of s.block) (length s.schedule)) (IsTooLong s (record { verb = v; object = w; rest = ws }))
+inner_many : (s : Scripted) (v : Verb) (w : List ℕ) (ws : List (List ℕ)) → v ≢ verbs.Schedule → Decides (is_too_many v ws (option_map view_of_block s.block) (length s.schedule)) (IsTooLong s (record { verb = v; object = w; rest = ws }))
 inner_many s v w ws other =
-    Decides-at (is_too_many v ws (option_map nest_of s.block) (length s.schedule)) (option_map_or (λ (x : Nest). is_counted v && nat_le 4096 x.many) (option_map nest_of s.block) false)
-    (other_many v ws (option_map nest_of s.block) (length s.schedule) other)
-    (Decides-like (option_map_or (λ (x : Nest). is_counted v && nat_le 4096 x.many) (option_map nest_of s.block) false) inr (λ h. (elim h [ inl t ↦ absurd (other t.0) | inr t ↦ t ])) (block_many v 0 s.block))
+    Decides-at (is_too_many v ws (option_map view_of_block s.block) (length s.schedule)) (option_map_or (λ (x : BlockView). is_counted v && nat_le 4096 x.commands) (option_map view_of_block s.block) false)
+    (other_many v ws (option_map view_of_block s.block) (length s.schedule) other)
+    (Decides-like (option_map_or (λ (x : BlockView). is_counted v && nat_le 4096 x.commands) (option_map view_of_block s.block) false) inr (λ h. (elim h [ inl t ↦ absurd (other t.0) | inr t ↦ t ])) (block_many v 0 s.block))
 
-many_decided : (s : Scripted) (v : Verb) (w : List ℕ) (ws : List (List ℕ)) → Decides (is_too_many v ws (option_map nest_of s.block) (length s.schedule)) (IsTooLong s (record { verb = v; object = w; rest = ws }))
+many_decided : (s : Scripted) (v : Verb) (w : List ℕ) (ws : List (List ℕ)) → Decides (is_too_many v ws (option_map view_of_block s.block) (length s.schedule)) (IsTooLong s (record { verb = v; object = w; rest = ws }))
 many_decided s verbs.Schedule w ws =
     Decides-like (nat_lt 65536 (length s.schedule + length ws)) (λ lt. inl (refl, lt)) (λ h. (elim h [ inl t ↦ t.1 | inr t ↦ (let none = t.2.0 in absurd (true≢false (sym none))) ])) (Decides-ltb 65536 (length s.schedule + length ws))
 many_decided s v w ws = inner_many s v w ws (λ e. cc)
@@ -197,7 +197,7 @@ right_decided : (h : Headed) (v : Verb) (o : Option Object) (w : ℕ) → Decide
 right_decided h v o w =
     decides_object o (λ x. not (has_right h.version h.setup w (is_giving v) x)) (λ x. has_right h.version h.setup w (is_giving v) x ≡ false) refl (λ x. decides_not (has_right h.version h.setup w (is_giving v) x))
 
-misplaced_decided : (v : Verb) (b : Block) → Decides (is_badly_nested v (Some (nest_of b))) (IsMisplaced b v)
+misplaced_decided : (v : Verb) (b : Block) → Decides (is_badly_nested v (Some (view_of_block b))) (IsMisplaced b v)
 misplaced_decided verbs.Worker b = ((λ e. tt), λ t. refl)
 misplaced_decided verbs.Schedule b = ((λ e. tt), λ t. refl)
 misplaced_decided verbs.Repeat b = (leb-true 4 b.draft.depth, le-leb 4 b.draft.depth)
@@ -210,11 +210,11 @@ abbrev pub other_tests : Scripted → Phrase → Kind → Bool
 other_tests s p kinds.NameTaken = is_named_again s.named (or_nothing (object_in s.heading p))
 other_tests s p kinds.UnknownName = is_none (object_in s.heading p) || has_unknown_name s.heading p.verb p.rest
 other_tests s p kinds.BadNumber = is_bad_tail (tail_of p.verb) p.verb p.rest (or_nothing (object_in s.heading p))
-other_tests s p kinds.TooMany = is_too_many p.verb p.rest (option_map nest_of s.block) (length s.schedule)
+other_tests s p kinds.TooMany = is_too_many p.verb p.rest (option_map view_of_block s.block) (length s.schedule)
 other_tests s p kinds.Hidden = is_owned s.heading.groups (or_nothing (object_in s.heading p))
 other_tests s p kinds.TwoRoles = has_two_roles (or_nothing (object_in s.heading p))
-other_tests s p kinds.NoRight = lacks_right s.heading (option_map nest_of s.block) p.verb (or_nothing (object_in s.heading p))
-other_tests s p kinds.BadNesting = is_badly_nested p.verb (option_map nest_of s.block)
+other_tests s p kinds.NoRight = lacks_right s.heading (option_map view_of_block s.block) p.verb (or_nothing (object_in s.heading p))
+other_tests s p kinds.BadNesting = is_badly_nested p.verb (option_map view_of_block s.block)
 other_tests s p _ = false
 
 pub other_decided : (s : Scripted) (p : Phrase) (k : Kind) → IsHeading s.heading → is_tail (tail_of p.verb) p.rest ≡ true → Decides (other_tests s p k) (OtherHas s p k)
@@ -234,14 +234,14 @@ other_decided s p kinds.BadNesting is tail = decides_block s.block (is_badly_nes
 other_decided s p _ is tail = never (λ t. t)
 
 -- where such a line may stand, the first of these tests tells the fault
-pub other_least : (s : Scripted) (p : Phrase) → (has_verb s.heading.version p.verb && is_allowed p.verb (is_some (option_map nest_of s.block)) (length s.schedule)) ≡ true → phrase_fault (seen s) p (object_in s.heading p) ≡ first_that (
+pub other_least : (s : Scripted) (p : Phrase) → (has_verb s.heading.version p.verb && is_allowed p.verb (is_some (option_map view_of_block s.block)) (length s.schedule)) ≡ true → phrase_fault (seen s) p (object_in s.heading p) ≡ first_that (
     (is_named_again s.named (or_nothing (object_in s.heading p)), kinds.NameTaken)
     ∷ (is_none (object_in s.heading p) || has_unknown_name s.heading p.verb p.rest, kinds.UnknownName)
     ∷ (is_bad_tail (tail_of p.verb) p.verb p.rest (or_nothing (object_in s.heading p)), kinds.BadNumber)
-    ∷ (is_too_many p.verb p.rest (option_map nest_of s.block) (length s.schedule), kinds.TooMany)
+    ∷ (is_too_many p.verb p.rest (option_map view_of_block s.block) (length s.schedule), kinds.TooMany)
     ∷ (is_owned s.heading.groups (or_nothing (object_in s.heading p)), kinds.Hidden)
     ∷ (has_two_roles (or_nothing (object_in s.heading p)), kinds.TwoRoles)
-    ∷ (lacks_right s.heading (option_map nest_of s.block) p.verb (or_nothing (object_in s.heading p)), kinds.NoRight)
-    ∷ (is_badly_nested p.verb (option_map nest_of s.block), kinds.BadNesting)
+    ∷ (lacks_right s.heading (option_map view_of_block s.block) p.verb (or_nothing (object_in s.heading p)), kinds.NoRight)
+    ∷ (is_badly_nested p.verb (option_map view_of_block s.block), kinds.BadNesting)
     ∷ [])
 other_least s p allowed = rw allowed refl

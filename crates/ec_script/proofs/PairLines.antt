@@ -16,7 +16,7 @@ use Rattle.ec_script.specs.Forms.{Phrase, phrase_in}
 use Rattle.ec_script.specs.Objects.{object_in}
 use Rattle.ec_script.specs.Kinds.{phrase_fault}
 use Rattle.ec_script.specs.Scripted.{Scripted}
-use Rattle.ec_script.specs.Reading.{nest_of, seen, after, fault_or, phrased, headed_on, is_declaring, opens_outer, script_step, read_on, step}
+use Rattle.ec_script.specs.Reading.{view_of_block, seen, after, fault_or, phrased, headed_on, is_declaring, opens_outer, script_step, read_on, step}
 use Rattle.ec_script.specs.Pairs.{PairsOneName, LinesOfTwoRoles}
 use Rattle.ec_script.proofs.shared.Keeping.{Keeps, not_bare, leads_keeps}
 use Rattle.ec_script.proofs.LedHeadings.{lines_lead}
@@ -70,11 +70,11 @@ line_roles s line is told =
     ]) told
 
 -- a line in a block comes after a `worker` line
-some_block : (b : Option Block) → is_some (option_map nest_of b) ≡ true → (x : Block) × (b ≡ Some x)
+some_block : (b : Option Block) → is_some (option_map view_of_block b) ≡ true → (x : Block) × (b ≡ Some x)
 some_block None is = cc
 some_block (Some x) is = (x, refl)
 
-no_declaring : (s : Scripted) → Keeps s → is_some (seen s).nest ≡ true → is_declaring s ≡ false
+no_declaring : (s : Scripted) → Keeps s → is_some (seen s).block ≡ true → is_declaring s ≡ false
 no_declaring s keeps inside =
     let b = some_block s.block inside in
     false_from_ne_true (is_declaring s) (λ is.

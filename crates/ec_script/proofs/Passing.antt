@@ -20,16 +20,16 @@ use Rattle.ec_script.specs.Reading.{seen, after, fault_or, phrased, headed_on, i
 -- no test holds of the line
 pub record Passes (s : Seen) (p : Phrase) (o : Option Object) : Type 0 where
   pub version : has_verb s.heading.version p.verb ≡ true
-  pub allowed : is_allowed p.verb (is_some s.nest) s.scheduled ≡ true
+  pub allowed : is_allowed p.verb (is_some s.block) s.scheduled ≡ true
   pub new : is_named_again s.named (or_nothing o) ≡ false
   pub found : is_none o ≡ false
   pub known : has_unknown_name s.heading p.verb p.rest ≡ false
   pub range : is_bad_tail (tail_of p.verb) p.verb p.rest (or_nothing o) ≡ false
-  pub few : is_too_many p.verb p.rest s.nest s.scheduled ≡ false
+  pub few : is_too_many p.verb p.rest s.block s.scheduled ≡ false
   pub apart : is_owned s.heading.groups (or_nothing o) ≡ false
   pub differ : has_two_roles (or_nothing o) ≡ false
-  pub right : lacks_right s.heading s.nest p.verb (or_nothing o) ≡ false
-  pub nested : is_badly_nested p.verb s.nest ≡ false
+  pub right : lacks_right s.heading s.block p.verb (or_nothing o) ≡ false
+  pub nested : is_badly_nested p.verb s.block ≡ false
 
 record Nine (t1 t2 t3 t4 t5 t6 t7 t8 t9 : Bool) : Type 0 where
   f1 : t1 ≡ false
@@ -67,25 +67,25 @@ nine t1 t2 t3 t4 t5 t6 t7 t8 t9 is =
 
 pub passes : (s : Seen) (p : Phrase) (o : Option Object) → phrase_fault s p o ≡ None → Passes s p o
 passes s p o is =
-    let n = nine (not (has_verb s.heading.version p.verb && is_allowed p.verb (is_some s.nest) s.scheduled)) (is_named_again s.named (or_nothing o)) (is_none o || has_unknown_name s.heading p.verb p.rest)
-    (is_bad_tail (tail_of p.verb) p.verb p.rest (or_nothing o)) (is_too_many p.verb p.rest s.nest s.scheduled) (is_owned s.heading.groups (or_nothing o))
-    (has_two_roles (or_nothing o)) (lacks_right s.heading s.nest p.verb (or_nothing o)) (is_badly_nested p.verb s.nest) is in
-    let place = and_parts (has_verb s.heading.version p.verb) (is_allowed p.verb (is_some s.nest) s.scheduled) (not-false _ n.f1) in
+    let n = nine (not (has_verb s.heading.version p.verb && is_allowed p.verb (is_some s.block) s.scheduled)) (is_named_again s.named (or_nothing o)) (is_none o || has_unknown_name s.heading p.verb p.rest)
+    (is_bad_tail (tail_of p.verb) p.verb p.rest (or_nothing o)) (is_too_many p.verb p.rest s.block s.scheduled) (is_owned s.heading.groups (or_nothing o))
+    (has_two_roles (or_nothing o)) (lacks_right s.heading s.block p.verb (or_nothing o)) (is_badly_nested p.verb s.block) is in
+    let place = and_parts (has_verb s.heading.version p.verb) (is_allowed p.verb (is_some s.block) s.scheduled) (not-false _ n.f1) in
     let u = or_parts (is_none o) (has_unknown_name s.heading p.verb p.rest) n.f3 in
     record { version = place.0; allowed = place.1; new = n.f2; found = u.0; known = u.1; range = n.f4; few = n.f5; apart = n.f6; differ = n.f7; right = n.f8; nested = n.f9 }
 
 -- and where none holds there is no fault
 pub no_fault_of : (s : Seen) (p : Phrase) (o : Option Object) → Passes s p o → phrase_fault s p o ≡ None
 no_fault_of s p o h =
-    let t1 : Bool = not (has_verb s.heading.version p.verb && is_allowed p.verb (is_some s.nest) s.scheduled) in
+    let t1 : Bool = not (has_verb s.heading.version p.verb && is_allowed p.verb (is_some s.block) s.scheduled) in
     let t2 : Bool = is_named_again s.named (or_nothing o) in
     let t3 : Bool = is_none o || has_unknown_name s.heading p.verb p.rest in
     let t4 : Bool = is_bad_tail (tail_of p.verb) p.verb p.rest (or_nothing o) in
-    let t5 : Bool = is_too_many p.verb p.rest s.nest s.scheduled in
+    let t5 : Bool = is_too_many p.verb p.rest s.block s.scheduled in
     let t6 : Bool = is_owned s.heading.groups (or_nothing o) in
     let t7 : Bool = has_two_roles (or_nothing o) in
-    let t8 : Bool = lacks_right s.heading s.nest p.verb (or_nothing o) in
-    let t9 : Bool = is_badly_nested p.verb s.nest in
+    let t8 : Bool = lacks_right s.heading s.block p.verb (or_nothing o) in
+    let t9 : Bool = is_badly_nested p.verb s.block in
     let l9 : List (Bool × Kind) = (t9, kinds.BadNesting) ∷ [] in
     let l8 : List (Bool × Kind) = (t8, kinds.NoRight) ∷ l9 in
     let l7 : List (Bool × Kind) = (t7, kinds.TwoRoles) ∷ l8 in

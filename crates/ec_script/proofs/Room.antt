@@ -18,7 +18,7 @@ use Rattle.ec_script.specs.Objects.{is_owned}
 use Rattle.ec_script.specs.Kinds.{Seen, phrase_fault, or_nothing, is_allowed, is_named_again, has_unknown_name, is_bad_tail, is_too_many, has_two_roles, lacks_right, is_badly_nested}
 use Rattle.ec_script.specs.Orders.{IsSound, size_in}
 use Rattle.ec_script.specs.Scripted.{Scripted}
-use Rattle.ec_script.specs.Reading.{nest_of, seen}
+use Rattle.ec_script.specs.Reading.{view_of_block, seen}
 use Rattle.ec_script.specs.Rooms.{MayOrder, MayEnd, HasRoom}
 use Rattle.ec_script.proofs.Sizes.{count_range}
 
@@ -42,10 +42,10 @@ rest_none false k rest is = is
 pub record NoFault (s : Seen) (p : Phrase) (o : Option Object) : Type 0 where
   pub version : has_verb s.heading.version p.verb ≡ true
   pub number : is_bad_tail (tail_of p.verb) p.verb p.rest (or_nothing o) ≡ false
-  pub many : is_too_many p.verb p.rest s.nest s.scheduled ≡ false
+  pub commands : is_too_many p.verb p.rest s.block s.scheduled ≡ false
   pub owned : is_owned s.heading.groups (or_nothing o) ≡ false
   pub roles : has_two_roles (or_nothing o) ≡ false
-  pub nested : is_badly_nested p.verb s.nest ≡ false
+  pub nested : is_badly_nested p.verb s.block ≡ false
 
 -- of nine tests in order
 record Six (line number many owned roles nested : Bool) : Type 0 where
@@ -84,37 +84,37 @@ not_false false h = cc
 
 pub no_fault : (s : Seen) (p : Phrase) (o : Option Object) → phrase_fault s p o ≡ None → NoFault s p o
 no_fault s p o is =
-    let f = nine (not (has_verb s.heading.version p.verb && is_allowed p.verb (is_some s.nest) s.scheduled)) (is_named_again s.named (or_nothing o)) (is_none o || has_unknown_name s.heading p.verb p.rest)
-    (is_bad_tail (tail_of p.verb) p.verb p.rest (or_nothing o)) (is_too_many p.verb p.rest s.nest s.scheduled) (is_owned s.heading.groups (or_nothing o))
-    (has_two_roles (or_nothing o)) (lacks_right s.heading s.nest p.verb (or_nothing o)) (is_badly_nested p.verb s.nest) is in
-    let place = and_parts (has_verb s.heading.version p.verb) (is_allowed p.verb (is_some s.nest) s.scheduled) (not_false _ f.no_line) in
-    record { version = place.0; number = f.no_number; many = f.no_many; owned = f.no_owned; roles = f.no_roles; nested = f.no_nested }
+    let f = nine (not (has_verb s.heading.version p.verb && is_allowed p.verb (is_some s.block) s.scheduled)) (is_named_again s.named (or_nothing o)) (is_none o || has_unknown_name s.heading p.verb p.rest)
+    (is_bad_tail (tail_of p.verb) p.verb p.rest (or_nothing o)) (is_too_many p.verb p.rest s.block s.scheduled) (is_owned s.heading.groups (or_nothing o))
+    (has_two_roles (or_nothing o)) (lacks_right s.heading s.block p.verb (or_nothing o)) (is_badly_nested p.verb s.block) is in
+    let place = and_parts (has_verb s.heading.version p.verb) (is_allowed p.verb (is_some s.block) s.scheduled) (not_false _ f.no_line) in
+    record { version = place.0; number = f.no_number; commands = f.no_many; owned = f.no_owned; roles = f.no_roles; nested = f.no_nested }
 
 -- A BLOCK
 
 below : (m n : ℕ) → nat_le m n ≡ false → n < m
 below m n h = leb-false m n h
 
-pub room_for : (v : Verb) (ws : List (List ℕ)) (b : Option Block) (n : ℕ) → is_counted v ≡ true → is_too_many v ws (option_map nest_of b) n ≡ false → HasRoom b
+pub room_for : (v : Verb) (ws : List (List ℕ)) (b : Option Block) (n : ℕ) → is_counted v ≡ true → is_too_many v ws (option_map view_of_block b) n ≡ false → HasRoom b
 room_for v ws None n counted h = tt
 room_for verbs.Schedule ws (Some b) n counted h = cc
 room_for verbs.Worker ws (Some b) n counted h = cc
 room_for verbs.End ws (Some b) n counted h = cc
-room_for v ws (Some b) n counted h = below 4096 b.draft.many h
+room_for v ws (Some b) n counted h = below 4096 b.draft.commands h
 
 pub may_repeat : (ws : List (List ℕ)) (b : Option Block) (n : ℕ) (o : Object)
-    → is_bad_tail (tail_of verbs.Repeat) verbs.Repeat ws o ≡ false → is_too_many verbs.Repeat ws (option_map nest_of b) n ≡ false → is_badly_nested verbs.Repeat (option_map nest_of b) ≡ false
+    → is_bad_tail (tail_of verbs.Repeat) verbs.Repeat ws o ≡ false → is_too_many verbs.Repeat ws (option_map view_of_block b) n ≡ false → is_badly_nested verbs.Repeat (option_map view_of_block b) ≡ false
     → MayOrder b (Begin (size_in ws))
 may_repeat ws None n o number many nested = tt
 may_repeat ws (Some b) n o number many nested =
     let r = count_range 1000000 (option_and_then number_of (only_in ws)) (not_false _ number) in
-    (omega (arith, r.some), r.few, below 4 b.draft.depth nested, below 4096 b.draft.many many)
+    (omega (arith, r.some), r.few, below 4 b.draft.depth nested, below 4096 b.draft.commands many)
 
 end_deep : (d : ℕ) (e : Bool) → (nat_lt 0 d && e) ≡ false → 0 < d → e ≡ false
 end_deep d false h deep = refl
 end_deep d true h deep = let l : nat_lt 0 d ≡ true = lt-ltb 0 d deep in let g : (nat_lt 0 d && true) ≡ true = rw l refl in cc
 
-pub may_end : (b : Option Block) → is_badly_nested verbs.End (option_map nest_of b) ≡ false → MayEnd b
+pub may_end : (b : Option Block) → is_badly_nested verbs.End (option_map view_of_block b) ≡ false → MayEnd b
 may_end None nested = tt
 may_end (Some b) nested = λ deep. end_deep b.draft.depth b.draft.is_empty nested deep
 
@@ -127,7 +127,7 @@ made v object ws = record { verb = v; object = object; rest = ws }
 pub repeat_may : (s : Scripted) (v : Verb) (object : List ℕ) (ws : List (List ℕ)) (o : Option Object) → v ≡ verbs.Repeat → phrase_fault (seen s) (made v object ws) o ≡ None → MayOrder s.block (Begin (size_in ws))
 repeat_may s v object ws o is none =
     let f = no_fault (seen s) (made verbs.Repeat object ws) o (ap (λ w. phrase_fault (seen s) (made w object ws) o) (sym is) ∙ none) in
-    may_repeat ws s.block (length s.schedule) (or_nothing o) f.number f.many f.nested
+    may_repeat ws s.block (length s.schedule) (or_nothing o) f.number f.commands f.nested
 
 -- an `end` without fault
 pub end_may : (s : Scripted) (v : Verb) (object : List ℕ) (ws : List (List ℕ)) (o : Option Object) → v ≡ verbs.End → phrase_fault (seen s) (made v object ws) o ≡ None → MayEnd s.block
@@ -144,4 +144,4 @@ counted_else v a b c = refl
 -- a command without fault
 pub command_room : (s : Scripted) (v : Verb) (object : List ℕ) (ws : List (List ℕ)) (o : Option Object) → (v ≡ verbs.Worker → ⊥) → (v ≡ verbs.Schedule → ⊥) → (v ≡ verbs.End → ⊥) → phrase_fault (seen s) (made v object ws) o ≡ None → HasRoom s.block
 command_room s v object ws o a b c none =
-    room_for v ws s.block (length s.schedule) (counted_else v a b c) (no_fault (seen s) (made v object ws) o none).many
+    room_for v ws s.block (length s.schedule) (counted_else v a b c) (no_fault (seen s) (made v object ws) o none).commands

@@ -11,13 +11,13 @@ use Rattle.ec_heading.specs.Spelled.{event_in, sequencer_in, cell_in_word}
 use Rattle.ec_script.specs.declared.verb.Verb.{Verb}
 use Rattle.ec_script.specs.declared.verb.Verb.TheVariants as verbs
 use Rattle.ec_script.specs.declared.object.Object.{Object}
-use Rattle.ec_script.specs.declared.object.Object.TheVariants.{Event, Sequencer, Cell, Handed, OfBuffer, OfDatabase, OfSemaphore, Three}
+use Rattle.ec_script.specs.declared.object.Object.TheVariants.{Event, Sequencer, Cell, Handed, OfBuffer, OfDatabase, OfSemaphore, SemaphorePair}
 use Rattle.ec_script.specs.declared.order.Order.{Order}
 use Rattle.ec_script.specs.declared.order.Order.TheVariants.{Do, Write, Begin, End}
-use Rattle.ec_script.specs.declared.kinds.Nest.{Nest}
+use Rattle.ec_script.specs.declared.kinds.BlockView.{BlockView}
 use Rattle.ec_script.specs.Verbs.{is_giving, is_outer}
 use Rattle.ec_script.specs.Forms.{phrase_in}
-use Rattle.ec_script.specs.Objects.{object_for, buffer_in, database_in, semaphore_in, both_of, three_of, handed_of}
+use Rattle.ec_script.specs.Objects.{object_for, buffer_in, database_in, semaphore_in, both_of, pair_of, handed_of}
 use Rattle.ec_script.specs.Kinds.{Seen, lacks_right}
 use Rattle.ec_script.specs.Orders.{command_in}
 use Rattle.ec_script.specs.Drafted.{Drafted, with_order}
@@ -75,8 +75,8 @@ of_semaphore : (v : Verb) (ws : List (List ℕ)) (o : Object) (x : Option Semaph
 of_semaphore v ws o None f is = cc
 of_semaphore v ws o (Some e) f is = let same : OfSemaphore e ≡ o = cc in subst (λ x. Ordered v x ws) same (f e)
 
-of_three : (v : Verb) (ws : List (List ℕ)) (o : Object) (x y z : Option Semaphore) → ((r s t : Semaphore) → Ordered v (Three r s t) ws) → three_of x y z ≡ Some o → Ordered v o ws
-of_three v ws o (Some r) (Some s) (Some t) f is = let same : Three r s t ≡ o = cc in subst (λ x. Ordered v x ws) same (f r s t)
+of_three : (v : Verb) (ws : List (List ℕ)) (o : Object) (x y z : Option Semaphore) → ((r s t : Semaphore) → Ordered v (SemaphorePair r s t) ws) → pair_of x y z ≡ Some o → Ordered v o ws
+of_three v ws o (Some r) (Some s) (Some t) f is = let same : SemaphorePair r s t ≡ o = cc in subst (λ x. Ordered v x ws) same (f r s t)
 of_three v ws o _ _ _ f is = cc
 
 pub ordered_of : (h : Headed) (v : Verb) (w : List ℕ) (ws : List (List ℕ)) (o : Object) → IsCommand v → object_for h v w ws ≡ Some o → Ordered v o ws
@@ -105,7 +105,7 @@ pub some_object : (o : Option Object) → is_none o ≡ false → (x : Object) �
 some_object None is = cc
 some_object (Some x) is = (x, refl)
 
-pub said : (s : Seen) (n : Nest) (line : List ℕ) (v : Verb) (w : List ℕ) (ws : List (List ℕ)) (o : Object) (order : Order) → is_no_line line ≡ false → phrase_in (words_of line) ≡ Some (made v w ws) → is_outer v ≡ false → s.nest ≡ Some n
+pub said : (s : Seen) (n : BlockView) (line : List ℕ) (v : Verb) (w : List ℕ) (ws : List (List ℕ)) (o : Object) (order : Order) → is_no_line line ≡ false → phrase_in (words_of line) ≡ Some (made v w ws) → is_outer v ≡ false → s.block ≡ Some n
     → object_for s.heading v w ws ≡ Some o → Passes s (made v w ws) (object_for s.heading v w ws) → order_by v o ws ≡ Some order → Says s.heading n.worker line order
 said s n line v w ws o order whole form inner nest is h says =
     let g : Passes s (made v w ws) (Some o) = subst (Passes s (made v w ws)) is h in
@@ -128,12 +128,12 @@ said s n line v w ws o order whole form inner nest is h says =
 
 -- an order may go on with a draft
 abbrev pub MayNest : Drafted → Order → Type 0
-MayNest d (Do c) = d.many < 4096
-MayNest d (Write b vs) = d.many < 4096
-MayNest d (Begin n) = (d.depth < 4) × (d.many < 4096)
+MayNest d (Do c) = d.commands < 4096
+MayNest d (Write b vs) = d.commands < 4096
+MayNest d (Begin n) = (d.depth < 4) × (d.commands < 4096)
 MayNest d End = (0 < d.depth) × (d.is_empty ≡ false)
 
-pub step_may : (d : Drafted) (o : Order) → IsStep o → d.many < 4096 → MayNest d o
+pub step_may : (d : Drafted) (o : Order) → IsStep o → d.commands < 4096 → MayNest d o
 step_may d (Do c) step room = room
 step_may d (Write b vs) step room = room
 step_may d (Begin n) step room = absurd step
@@ -145,13 +145,13 @@ nested_more d (Write b vs) os may n = n
 nested_more d (Begin k) os may n = (may.0, n)
 nested_more d End os may n = (may.0, may.1, n)
 
-pub few_more : (d : Drafted) (o : Order) (os : List Order) → (with_order d o).many + commands_in os ≤ 4096 → d.many + commands_in (o ∷ os) ≤ 4096
+pub few_more : (d : Drafted) (o : Order) (os : List Order) → (with_order d o).commands + commands_in os ≤ 4096 → d.commands + commands_in (o ∷ os) ≤ 4096
 few_more d (Do c) os few = omega (arith, few)
 few_more d (Write b vs) os few = omega (arith, few)
 few_more d (Begin k) os few = omega (arith, few)
 few_more d End os few = few
 
-pub room_more : (d : Drafted) (o : Order) → MayNest d o → d.many ≤ 4096 → (with_order d o).many ≤ 4096
+pub room_more : (d : Drafted) (o : Order) → MayNest d o → d.commands ≤ 4096 → (with_order d o).commands ≤ 4096
 room_more d (Do c) may few = omega (arith, may)
 room_more d (Write b vs) may few = omega (arith, may)
 room_more d (Begin k) may few = omega (arith, may.1)

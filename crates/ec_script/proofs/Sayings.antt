@@ -39,12 +39,12 @@ use Rattle.ec_heading.proofs.shared.LineWords.{IsFit, AreFit}
 use Rattle.ec_script.specs.declared.verb.Verb.{Verb}
 use Rattle.ec_script.specs.declared.verb.Verb.TheVariants as verbs
 use Rattle.ec_script.specs.declared.object.Object.{Object}
-use Rattle.ec_script.specs.declared.object.Object.TheVariants.{Nothing, Event, Sequencer, Cell, Handed, OfBuffer, OfDatabase, OfSemaphore, Three}
+use Rattle.ec_script.specs.declared.object.Object.TheVariants.{Nothing, Event, Sequencer, Cell, Handed, OfBuffer, OfDatabase, OfSemaphore, SemaphorePair}
 use Rattle.ec_script.specs.declared.order.Order.{Order}
 use Rattle.ec_script.specs.declared.order.Order.TheVariants.{Do, Write, Begin, End}
 use Rattle.ec_script.specs.Verbs.{has_verb, tail_of, has_object, is_giving, is_outer}
 use Rattle.ec_script.specs.Forms.{more_in, last_plus, number_or_more, value_of, is_value_form, is_tail, objected_in, tailed_in, verbed_in, phrase_in}
-use Rattle.ec_script.specs.Objects.{object_for, buffer_of, database_of, semaphore_of, buffer_in, database_in, semaphore_in, three_of, handed_of, is_owned}
+use Rattle.ec_script.specs.Objects.{object_for, buffer_of, database_of, semaphore_of, buffer_in, database_in, semaphore_in, pair_of, handed_of, is_owned}
 use Rattle.ec_script.specs.Kinds.{is_no_value, is_count, is_bad_tail, has_two_roles, may_signal, are_declared, has_right}
 use Rattle.ec_script.specs.Orders.{amount_of}
 use Rattle.ec_script.specs.Versioned.{has_command}
@@ -401,16 +401,16 @@ says_layer h f n (layer.DownBoth r s t) uses may line has = λ short.
     let one = semaphore_again h f s uses.1 in
     let other = semaphore_again h f t uses.2 in
     subst (λ c. Says h n (join_with_byte 32 (command_words h (layer.DownBoth r s t))) (Do c)) (sym (commands.rolls-DownBoth r s t))
-    (say h n verbs.DownBoth (group_word h (Sequencer s.line)) (group_word h (Sequencer t.line) ∷ []) (Three r s t) (Do (commands.DownBoth r s t)) refl refl one.1
+    (say h n verbs.DownBoth (group_word h (Sequencer s.line)) (group_word h (Sequencer t.line) ∷ []) (SemaphorePair r s t) (Do (commands.DownBoth r s t)) refl refl one.1
     (record {
       version = refl;
       tail = refl;
       fit = (other.1, tt);
-      found = ap (λ x. three_of x (semaphore_in h (group_word h (Sequencer s.line))) (semaphore_in h (group_word h (Sequencer t.line)))) uses.0
-          ∙ ap (λ x. three_of (Some r) x (semaphore_in h (group_word h (Sequencer t.line)))) one.0
-          ∙ ap (λ x. three_of (Some r) (Some s) x) other.0;
+      found = ap (λ x. pair_of x (semaphore_in h (group_word h (Sequencer s.line))) (semaphore_in h (group_word h (Sequencer t.line)))) uses.0
+          ∙ ap (λ x. pair_of (Some r) x (semaphore_in h (group_word h (Sequencer t.line)))) one.0
+          ∙ ap (λ x. pair_of (Some r) (Some s) x) other.0;
       range = refl;
-      apart = none_owned h.groups (Three r s t) (λ g. refl);
+      apart = none_owned h.groups (SemaphorePair r s t) (λ g. refl);
       differ = not_from_true _ line;
       right = may;
       says = refl;

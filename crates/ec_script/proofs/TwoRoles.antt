@@ -13,14 +13,14 @@ use Rattle.ec_heading.specs.Spelled.{event_in, sequencer_in, cell_in_word}
 use Rattle.ec_heading.proofs.shared.Phrases.{same_word, is_itself}
 use Rattle.ec_script.specs.declared.fault.Kind.{Kind}
 use Rattle.ec_script.specs.declared.fault.Kind.TheVariants as kinds
-use Rattle.ec_script.specs.declared.kinds.Nest.{Nest}
+use Rattle.ec_script.specs.declared.kinds.BlockView.{BlockView}
 use Rattle.ec_script.specs.declared.verb.Verb.{Verb}
 use Rattle.ec_script.specs.declared.verb.Verb.TheVariants as verbs
 use Rattle.ec_script.specs.declared.object.Object.{Object}
-use Rattle.ec_script.specs.declared.object.Object.TheVariants.{Worker, Event, Sequencer, Cell, OfBuffer, OfDatabase, OfSemaphore, Three}
+use Rattle.ec_script.specs.declared.object.Object.TheVariants.{Worker, Event, Sequencer, Cell, OfBuffer, OfDatabase, OfSemaphore, SemaphorePair}
 use Rattle.ec_script.specs.Verbs.{has_verb}
 use Rattle.ec_script.specs.Forms.{Phrase, only_in}
-use Rattle.ec_script.specs.Objects.{buffer_in, database_in, semaphore_in, both_of, three_of, handed_of, object_for, object_in, is_owned}
+use Rattle.ec_script.specs.Objects.{buffer_in, database_in, semaphore_in, both_of, pair_of, handed_of, object_for, object_in, is_owned}
 use Rattle.ec_script.specs.Kinds.{Seen, is_allowed, is_named_again, is_too_many, has_two_roles, or_nothing, phrase_fault}
 use Rattle.ec_script.specs.Pairs.{TwoRolesAreOneName, NamesOneTwice, TwoRolesAreTold}
 use Rattle.ec_script.proofs.Commons.{common_starts, common_counts}
@@ -29,12 +29,12 @@ use Rattle.ec_script.proofs.OneName.{one_name}
 
 -- THE THREE SEMAPHORES OF A LINE
 
-three_parts : (a b c : Option Semaphore) (o : Object) → three_of a b c ≡ Some o
-    → (x y z : Semaphore) × (a ≡ Some x) × (b ≡ Some y) × (c ≡ Some z) × (o ≡ Three x y z)
+three_parts : (a b c : Option Semaphore) (o : Object) → pair_of a b c ≡ Some o
+    → (x y z : Semaphore) × (a ≡ Some x) × (b ≡ Some y) × (c ≡ Some z) × (o ≡ SemaphorePair x y z)
 three_parts None b c o is = cc
 three_parts (Some x) None c o is = cc
 three_parts (Some x) (Some y) None o is = cc
-three_parts (Some x) (Some y) (Some z) o is = (x, y, z, refl, refl, refl, sym (same_Some (Three x y z) o is))
+three_parts (Some x) (Some y) (Some z) o is = (x, y, z, refl, refl, refl, sym (same_Some (SemaphorePair x y z) o is))
 
 second_word : (h : Headed) (ws : List (List ℕ)) (z : Semaphore) → option_and_then (semaphore_in h) (only_in ws) ≡ Some z
     → (other : List ℕ) × (ws ≡ other ∷ []) × (semaphore_in h other ≡ Some z)
@@ -69,7 +69,7 @@ not_not : (b : Bool) → not (not b) ≡ b
 not_not true = refl
 not_not false = refl
 
-roles_are : (c s u : Semaphore) (b : Bool) → c.initial ≡ 1 → is_same c s ≡ false → is_same c u ≡ false → is_same s u ≡ b → has_two_roles (Three c s u) ≡ b
+roles_are : (c s u : Semaphore) (b : Bool) → c.initial ≡ 1 → is_same c s ≡ false → is_same c u ≡ false → is_same s u ≡ b → has_two_roles (SemaphorePair c s u) ≡ b
 roles_are c s u b first one other pair = rw (eq-eqb c.initial 1 first, one, other, pair) (not_not b)
 
 -- what a line is about, and how its words relate
@@ -79,8 +79,8 @@ record IsPair (h : Headed) (one : List ℕ) (ws : List (List ℕ)) (o : Object) 
   second : Semaphore
   other : List ℕ
   words : ws ≡ other ∷ []
-  is : o ≡ Three common first second
-  roles : has_two_roles (Three common first second) ≡ bytes_eq one other
+  is : o ≡ SemaphorePair common first second
+  roles : has_two_roles (SemaphorePair common first second) ≡ bytes_eq one other
 
 pair_found : (h : Headed) (one : List ℕ) (ws : List (List ℕ)) (o : Object) → IsHeading h → object_for h verbs.DownBoth one ws ≡ Some o → IsPair h one ws o
 pair_found h one ws o is found =
@@ -175,7 +175,7 @@ some_object : (o : Option Object) (more : Bool) → (is_none o || more) ≡ fals
 some_object None more known = cc
 some_object (Some x) more known = (x, refl)
 
-in_block : (n : Option Nest) → not (is_some n) ≡ false → is_some n ≡ true
+in_block : (n : Option BlockView) → not (is_some n) ≡ false → is_some n ≡ true
 in_block None off = cc
 in_block (Some n) off = refl
 
@@ -190,11 +190,11 @@ names_one s p is fault =
       verb = verb;
       twice = pair.1 ∙ ap (λ (w : List ℕ). w ∷ []) (sym (same_word p.object pair.0 same));
       declared = ap is_some x.1;
-      inside = in_block s.nest (subst (λ v. not (has_verb s.heading.version v && is_allowed v (is_some s.nest) s.scheduled) ≡ false) verb t.inside);
+      inside = in_block s.block (subst (λ v. not (has_verb s.heading.version v && is_allowed v (is_some s.block) s.scheduled) ≡ false) verb t.inside);
       room = t.room;
     }
 
-none_owned : (gs : List Group) (c s u : Semaphore) → is_owned gs (Three c s u) ≡ false
+none_owned : (gs : List Group) (c s u : Semaphore) → is_owned gs (SemaphorePair c s u) ≡ false
 none_owned [] c s u = refl
 none_owned (g ∷ gs) c s u = none_owned gs c s u
 
@@ -205,13 +205,13 @@ there_is (Some x) is = refl
 pub first_again : (w v : List ℕ) → w ∷ [] ≡ v ∷ [] → bytes_eq w v ≡ true
 first_again w v is = (let same : w ≡ v = cc in subst (λ x. bytes_eq w x ≡ true) same (is_itself w))
 
-two_told : (s : Seen) (w : List ℕ) → IsHeading s.heading → is_some (object_for s.heading verbs.DownBoth w (w ∷ [])) ≡ true → is_some s.nest ≡ true
-    → is_too_many verbs.DownBoth (w ∷ []) s.nest s.scheduled ≡ false
+two_told : (s : Seen) (w : List ℕ) → IsHeading s.heading → is_some (object_for s.heading verbs.DownBoth w (w ∷ [])) ≡ true → is_some s.block ≡ true
+    → is_too_many verbs.DownBoth (w ∷ []) s.block s.scheduled ≡ false
     → phrase_fault s (record { verb = verbs.DownBoth; object = w; rest = w ∷ [] }) (object_for s.heading verbs.DownBoth w (w ∷ [])) ≡ Some kinds.TwoRoles
 two_told s w is declared inside room =
     let x = some_object (object_for s.heading verbs.DownBoth w (w ∷ [])) false (there_is (object_for s.heading verbs.DownBoth w (w ∷ [])) declared) in
     let pair = pair_found s.heading w (w ∷ []) x.0 is x.1 in
-    let found : object_for s.heading verbs.DownBoth w (w ∷ []) ≡ Some (Three pair.common pair.first pair.second) = x.1 ∙ ap Some pair.is in
+    let found : object_for s.heading verbs.DownBoth w (w ∷ []) ≡ Some (SemaphorePair pair.common pair.first pair.second) = x.1 ∙ ap Some pair.is in
     tells _ _ _ _ _ _ _ _ _ (ap not inside)
     (ap (λ (o : Option Object). is_named_again s.named (or_nothing o)) found)
     (ap (λ (o : Option Object). is_none o || false) found)
@@ -223,7 +223,7 @@ two_told s w is declared inside room =
 pub is_told : (s : Seen) (p : Phrase) → IsHeading s.heading → NamesOneTwice s p → phrase_fault s p (object_in s.heading p) ≡ Some kinds.TwoRoles
 is_told s p is names =
     let P : Verb → List (List ℕ) → Type 0 = λ v ws.
-    IsHeading s.heading → is_some (object_for s.heading v p.object ws) ≡ true → is_some s.nest ≡ true → is_too_many v ws s.nest s.scheduled ≡ false
+    IsHeading s.heading → is_some (object_for s.heading v p.object ws) ≡ true → is_some s.block ≡ true → is_too_many v ws s.block s.scheduled ≡ false
     → phrase_fault s (record { verb = v; object = p.object; rest = ws }) (object_for s.heading v p.object ws) ≡ Some kinds.TwoRoles in
     subst (λ v. P v p.rest) (sym names.verb) (subst (P verbs.DownBoth) (sym names.twice) (two_told s p.object)) is names.declared names.inside names.room
 

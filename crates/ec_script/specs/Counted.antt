@@ -31,7 +31,7 @@ EndsInBegin os = (front : List Order) × (n : ℕ) × (os ≡ front ++ Begin n �
 -- there are as many commands as the lines say, the repeats that begin are those that end and those that are open, and where one is open
 -- it has no command yet exactly where the last line begins it
 pub record IsCounted (d : Drafted) : Type 0 where
-  pub many : d.many ≡ commands_in d.orders
+  pub commands : d.commands ≡ commands_in d.orders
   pub repeats : begins_in d.orders ≡ ends_in d.orders + d.depth
   pub last : 0 < d.depth → (d.is_empty ≡ true) ↔ EndsInBegin d.orders
 

@@ -11,20 +11,20 @@ pub record Drafted : Type 0 where
   pub orders : List Order
   pub depth : ℕ
   pub is_empty : Bool
-  pub many : ℕ
+  pub commands : ℕ
 
 abbrev pub nothing_drafted : Drafted
-nothing_drafted = record { orders = []; depth = 0; is_empty = true; many = 0 }
+nothing_drafted = record { orders = []; depth = 0; is_empty = true; commands = 0 }
 
 -- one more command, a repeat that opens, and one that ends
 abbrev pub added : Drafted → Order → Drafted
-added d o = record { orders = d.orders ++ o ∷ []; depth = d.depth; is_empty = false; many = d.many + 1 }
+added d o = record { orders = d.orders ++ o ∷ []; depth = d.depth; is_empty = false; commands = d.commands + 1 }
 
 abbrev pub opened : Drafted → ℕ → Drafted
-opened d n = record { orders = d.orders ++ Begin n ∷ []; depth = d.depth + 1; is_empty = true; many = d.many + 1 }
+opened d n = record { orders = d.orders ++ Begin n ∷ []; depth = d.depth + 1; is_empty = true; commands = d.commands + 1 }
 
 abbrev pub closed : Drafted → Drafted
-closed d = record { orders = d.orders ++ End ∷ []; depth = d.depth - 1; is_empty = false; many = d.many }
+closed d = record { orders = d.orders ++ End ∷ []; depth = d.depth - 1; is_empty = false; commands = d.commands }
 
 -- the block with one more line
 abbrev pub with_order : Drafted → Order → Drafted
@@ -35,7 +35,7 @@ with_order d End = closed d
 
 -- what a line must be that goes on with a block
 abbrev pub MayFollow : Drafted → Order → Type 0
-MayFollow d (Do c) = (is_plain c ≡ true) × (is_sound_one c ≡ true) × (d.many < 4096)
-MayFollow d (Write b vs) = ((length vs == b.cells) ≡ true) × (list_all is_value vs ≡ true) × (d.many < 4096)
-MayFollow d (Begin n) = (0 < n) × (n ≤ 1000000) × (d.depth < 4) × (d.many < 4096)
+MayFollow d (Do c) = (is_plain c ≡ true) × (is_sound_one c ≡ true) × (d.commands < 4096)
+MayFollow d (Write b vs) = ((length vs == b.cells) ≡ true) × (list_all is_value vs ≡ true) × (d.commands < 4096)
+MayFollow d (Begin n) = (0 < n) × (n ≤ 1000000) × (d.depth < 4) × (d.commands < 4096)
 MayFollow d End = (0 < d.depth) × (d.is_empty ≡ false)

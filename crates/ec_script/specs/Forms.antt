@@ -45,8 +45,8 @@ only_in (w ∷ v ∷ ws) = None
 -- whether these words are such a tail
 abbrev pub is_tail : Tail → List (List ℕ) → Bool
 is_tail tails.Nothing ws = length ws == 0
-is_tail tails.Amount ws = option_map_or is_value_form (only_in ws) false
-is_tail tails.Amounts ws = nat_le 1 (length ws) && list_all is_value_form ws
+is_tail tails.Value ws = option_map_or is_value_form (only_in ws) false
+is_tail tails.Values ws = nat_le 1 (length ws) && list_all is_value_form ws
 is_tail tails.Digits ws = option_map_or is_number_form (only_in ws) false
 is_tail tails.Word ws = is_some (only_in ws)
 is_tail tails.Words ws = nat_le 1 (length ws)

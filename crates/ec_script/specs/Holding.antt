@@ -15,7 +15,7 @@ use Rattle.ec_heading.specs.Headed.{Headed}
 use Rattle.ec_heading.specs.Kinds.{second_list, declaration_of}
 use Rattle.ec_heading.specs.Lists.{worker_in, ids_in}
 use Rattle.ec_heading.specs.Outline.{declared_by}
-use Rattle.ec_heading.specs.Sorts.{has_number, is_called, is_in_range, keeps_apart}
+use Rattle.ec_heading.specs.Sorts.{has_number, is_called, is_in_range, needs_disjoint_lists}
 use Rattle.ec_script.specs.Headers.{script_header}
 use Rattle.ec_script.specs.declared.fault.Kind.{Kind}
 use Rattle.ec_script.specs.declared.fault.Kind.TheVariants as kinds
@@ -86,7 +86,7 @@ DeclarationHas h p kinds.NameTaken = IsTaken h p
 DeclarationHas h p kinds.UnknownName = Any (λ w. worker_in h.words w ≡ None) p.first ⊎ Any (λ w. worker_in h.words w ≡ None) (second_list p)
 DeclarationHas h p kinds.BadNumber = (has_number p.sort ≡ true) × ((n : ℕ) → is_in_range p.sort n ≡ true → p.number ≢ decimal n)
 DeclarationHas h p kinds.TooMany = PassesBounds h p
-DeclarationHas h p kinds.TwoRoles = (keeps_apart p.sort ≡ true) × SharesWorker h p
+DeclarationHas h p kinds.TwoRoles = (needs_disjoint_lists p.sort ≡ true) × SharesWorker h p
 DeclarationHas h p _ = ⊥
 
 -- LINES BEHIND THE DECLARATIONS
@@ -109,8 +109,8 @@ IsNoValue w = (v : Value) → is_value v ≡ true → w ≢ value_word v
 
 -- a value is none; of `write`, or the database doesn't have as many cells; a count of tries or of a repeat is none in its range
 abbrev pub IsBadNumber : Tail → Headed → Phrase → Type 0
-IsBadNumber tails.Amount h p = (w : List ℕ) × (p.rest ≡ w ∷ []) × IsNoValue w
-IsBadNumber tails.Amounts h p = Any IsNoValue p.rest ⊎ ((d : Database) → object_in h p ≡ Some (OfDatabase d) → length p.rest ≢ d.cells)
+IsBadNumber tails.Value h p = (w : List ℕ) × (p.rest ≡ w ∷ []) × IsNoValue w
+IsBadNumber tails.Values h p = Any IsNoValue p.rest ⊎ ((d : Database) → object_in h p ≡ Some (OfDatabase d) → length p.rest ≢ d.cells)
 IsBadNumber tails.Digits h p = (n : ℕ) → 1 ≤ n → n ≤ greatest p.verb → p.rest ≢ decimal n ∷ []
 IsBadNumber _ h p = ⊥
 
@@ -118,7 +118,7 @@ IsBadNumber _ h p = ⊥
 abbrev pub IsTooLong : Scripted → Phrase → Type 0
 IsTooLong s p =
     ((p.verb ≡ verbs.Schedule) × (65536 < length s.schedule + length p.rest))
-    ⊎ InBlock s (λ b. (is_counted p.verb ≡ true) × (4096 < b.draft.many + 1))
+    ⊎ InBlock s (λ b. (is_counted p.verb ≡ true) × (4096 < b.draft.commands + 1))
 
 -- a `worker` or `schedule` line; a fifth repeat in the others; an `end` of a repeat without a command
 abbrev pub IsMisplaced : Block → Verb → Type 0

@@ -17,8 +17,8 @@ use Rattle.ec_script.specs.declared.verb.Verb.TheVariants as verbs
 use Rattle.ec_script.specs.declared.verb.Tail.{Tail}
 use Rattle.ec_script.specs.declared.verb.Tail.TheVariants as tails
 use Rattle.ec_script.specs.declared.object.Object.{Object}
-use Rattle.ec_script.specs.declared.object.Object.TheVariants.{Nothing, Worker, Event, Sequencer, Cell, Handed, OfBuffer, OfDatabase, OfSemaphore, Three}
-use Rattle.ec_script.specs.declared.kinds.Nest.{Nest}
+use Rattle.ec_script.specs.declared.object.Object.TheVariants.{Nothing, Worker, Event, Sequencer, Cell, Handed, OfBuffer, OfDatabase, OfSemaphore, SemaphorePair}
+use Rattle.ec_script.specs.declared.kinds.BlockView.{BlockView}
 use Rattle.ec_script.specs.declared.kinds.View.{View}
 use Rattle.ec_script.specs.Verbs.{has_verb, tail_of, is_giving, is_counted}
 use Rattle.ec_script.specs.Forms.{Phrase, only_in, value_of}
@@ -29,11 +29,11 @@ use Rattle.ec_script.specs.Objects.{is_owned}
 pub record Seen : Type 0 where
   pub heading : Headed
   pub named : List ℕ
-  pub nest : Option Nest
+  pub block : Option BlockView
   pub scheduled : ℕ
 
 abbrev pub seen_of : View → Seen
-seen_of v = record { heading = v.heading.now; named = v.named.now; nest = v.nest; scheduled = v.scheduled }
+seen_of v = record { heading = v.heading.now; named = v.named.now; block = v.block; scheduled = v.scheduled }
 
 -- BAD LINE
 
@@ -80,24 +80,24 @@ is_count most (Some n) = nat_le 1 n && nat_le n most
 
 -- whether a number is out of range, or the values are not as many as the cells
 abbrev pub is_bad_tail : Tail → Verb → List (List ℕ) → Object → Bool
-is_bad_tail tails.Amount v ws o = option_map_or is_no_value (only_in ws) false
-is_bad_tail tails.Amounts v ws o = list_any is_no_value ws || not (length ws == cells_of o)
+is_bad_tail tails.Value v ws o = option_map_or is_no_value (only_in ws) false
+is_bad_tail tails.Values v ws o = list_any is_no_value ws || not (length ws == cells_of o)
 is_bad_tail tails.Digits v ws o = not (is_count (greatest v) (option_and_then number_of (only_in ws)))
 is_bad_tail _ v ws o = false
 
 -- TOO MANY
 
 -- whether the commands of the block, or the names of the schedule, become too many
-abbrev pub is_too_many : Verb → List (List ℕ) → Option Nest → ℕ → Bool
-is_too_many verbs.Schedule ws nest scheduled = nat_lt 65536 (scheduled + length ws)
+abbrev pub is_too_many : Verb → List (List ℕ) → Option BlockView → ℕ → Bool
+is_too_many verbs.Schedule ws block scheduled = nat_lt 65536 (scheduled + length ws)
 is_too_many v ws None scheduled = false
-is_too_many v ws (Some n) scheduled = is_counted v && nat_le 4096 n.many
+is_too_many v ws (Some n) scheduled = is_counted v && nat_le 4096 n.commands
 
 -- TWO ROLES
 
 -- whether two of the three semaphores are one
 abbrev pub has_two_roles : Object → Bool
-has_two_roles (Three common one other) = not (are_apart common one other)
+has_two_roles (SemaphorePair common one other) = not (are_apart common one other)
 has_two_roles _ = false
 
 -- NO RIGHT
@@ -120,18 +120,18 @@ has_right v t w giving (Handed e b) = are_declared t e b
 has_right v t w giving (OfBuffer b) = may_take t (if giving then b.put_seq else b.take_seq) w
 has_right v t w giving (OfDatabase d) = if giving then may_take t d.turn w else may_observe t d.start w
 has_right v t w giving (OfSemaphore s) = may_take t s.line w
-has_right v t w giving (Three common one other) = may_take t common.line w && may_take t one.line w && may_take t other.line w
+has_right v t w giving (SemaphorePair common one other) = may_take t common.line w && may_take t one.line w && may_take t other.line w
 has_right v t w giving _ = true
 
 -- whether the worker of the block lacks the right to do such a thing with the object
-abbrev pub lacks_right : Headed → Option Nest → Verb → Object → Bool
+abbrev pub lacks_right : Headed → Option BlockView → Verb → Object → Bool
 lacks_right h None v o = false
 lacks_right h (Some n) v o = not (has_right h.version h.setup n.worker (is_giving v) o)
 
 -- BAD NESTING
 
 -- whether a line stands inside a block that must not, a fifth repeat in the others, or an `end` of a repeat without a command
-abbrev pub is_badly_nested : Verb → Option Nest → Bool
+abbrev pub is_badly_nested : Verb → Option BlockView → Bool
 is_badly_nested v None = false
 is_badly_nested verbs.Worker (Some n) = true
 is_badly_nested verbs.Schedule (Some n) = true
@@ -148,13 +148,13 @@ or_nothing o = unwrap_or o Nothing
 -- the least fault of a line of one of the forms, whose word for an object means this
 abbrev pub phrase_fault : Seen → Phrase → Option Object → Option Kind
 phrase_fault s p o = first_that (
-    (not (has_verb s.heading.version p.verb && is_allowed p.verb (is_some s.nest) s.scheduled), kinds.BadLine)
+    (not (has_verb s.heading.version p.verb && is_allowed p.verb (is_some s.block) s.scheduled), kinds.BadLine)
     ∷ (is_named_again s.named (or_nothing o), kinds.NameTaken)
     ∷ (is_none o || has_unknown_name s.heading p.verb p.rest, kinds.UnknownName)
     ∷ (is_bad_tail (tail_of p.verb) p.verb p.rest (or_nothing o), kinds.BadNumber)
-    ∷ (is_too_many p.verb p.rest s.nest s.scheduled, kinds.TooMany)
+    ∷ (is_too_many p.verb p.rest s.block s.scheduled, kinds.TooMany)
     ∷ (is_owned s.heading.groups (or_nothing o), kinds.Hidden)
     ∷ (has_two_roles (or_nothing o), kinds.TwoRoles)
-    ∷ (lacks_right s.heading s.nest p.verb (or_nothing o), kinds.NoRight)
-    ∷ (is_badly_nested p.verb s.nest, kinds.BadNesting)
+    ∷ (lacks_right s.heading s.block p.verb (or_nothing o), kinds.NoRight)
+    ∷ (is_badly_nested p.verb s.block, kinds.BadNesting)
     ∷ [])

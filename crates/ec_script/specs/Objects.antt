@@ -16,7 +16,7 @@ use Rattle.ec_heading.specs.Spelled.{event_in, sequencer_in, cell_in_word}
 use Rattle.ec_script.specs.declared.verb.Verb.{Verb}
 use Rattle.ec_script.specs.declared.verb.Verb.TheVariants as verbs
 use Rattle.ec_script.specs.declared.object.Object.{Object}
-use Rattle.ec_script.specs.declared.object.Object.TheVariants.{Nothing, Worker, Event, Sequencer, Cell, Handed, OfBuffer, OfDatabase, OfSemaphore, Three}
+use Rattle.ec_script.specs.declared.object.Object.TheVariants.{Nothing, Worker, Event, Sequencer, Cell, Handed, OfBuffer, OfDatabase, OfSemaphore, SemaphorePair}
 use Rattle.ec_script.specs.Forms.{Phrase, only_in}
 
 -- GROUPS BY NAME
@@ -59,9 +59,9 @@ both_of (g ∷ gs) = both_of gs
 
 -- THE OBJECT OF A LINE
 
-abbrev pub three_of : Option Semaphore → Option Semaphore → Option Semaphore → Option Object
-three_of (Some common) (Some one) (Some other) = Some (Three common one other)
-three_of _ _ _ = None
+abbrev pub pair_of : Option Semaphore → Option Semaphore → Option Semaphore → Option Object
+pair_of (Some common) (Some one) (Some other) = Some (SemaphorePair common one other)
+pair_of _ _ _ = None
 
 -- an eventcount, and the worker to whom its component is handed
 abbrev pub handed_of : Option ℕ → Option ℕ → Option Object
@@ -83,7 +83,7 @@ object_for h verbs.Write w ws = option_map OfDatabase (database_in h w)
 object_for h verbs.Snapshot w ws = option_map OfDatabase (database_in h w)
 object_for h verbs.Down w ws = option_map OfSemaphore (semaphore_in h w)
 object_for h verbs.Up w ws = option_map OfSemaphore (semaphore_in h w)
-object_for h verbs.DownBoth w ws = three_of (both_of h.groups) (semaphore_in h w) (option_and_then (semaphore_in h) (only_in ws))
+object_for h verbs.DownBoth w ws = pair_of (both_of h.groups) (semaphore_in h w) (option_and_then (semaphore_in h) (only_in ws))
 object_for h verbs.Worker w ws = option_map Worker (worker_in h.words w)
 object_for h verbs.Repeat w ws = Some Nothing
 object_for h verbs.End w ws = Some Nothing

@@ -16,7 +16,7 @@ use Rattle.ec_script.specs.declared.order.Order.TheVariants.{Do, Write, Begin, E
 use Rattle.ec_script.specs.declared.verb.Verb.{Verb}
 use Rattle.ec_script.specs.declared.verb.Verb.TheVariants as verbs
 use Rattle.ec_script.specs.declared.object.Object.{Object}
-use Rattle.ec_script.specs.declared.object.Object.TheVariants.{Nothing, Worker, Event, Sequencer, Cell, Handed, OfBuffer, OfDatabase, OfSemaphore, Three}
+use Rattle.ec_script.specs.declared.object.Object.TheVariants.{Nothing, Worker, Event, Sequencer, Cell, Handed, OfBuffer, OfDatabase, OfSemaphore, SemaphorePair}
 use Rattle.ec_script.specs.Forms.{only_in, value_of}
 
 -- the value that a word spells; it is `last` where the word spells none in its range, of which no command is made
@@ -63,7 +63,7 @@ command_in v giving (Handed e b) ws = Some (Do (commands.Hand e b))
 command_in v giving (OfBuffer b) ws = Some (buffer_order giving b (amount_in ws))
 command_in v giving (OfDatabase d) ws = database_order v d ws
 command_in v giving (OfSemaphore s) ws = Some (semaphore_order v s)
-command_in v giving (Three common one other) ws = Some (Do (commands.DownBoth common one other))
+command_in v giving (SemaphorePair common one other) ws = Some (Do (commands.DownBoth common one other))
 command_in v giving Nothing ws = None
 command_in v giving (Worker w) ws = None
 

@@ -27,8 +27,8 @@ pub record NamesOneTwice (s : Seen) (p : Phrase) : Type 0 where
   pub verb : p.verb ≡ verbs.DownBoth
   pub twice : p.rest ≡ p.object ∷ []
   pub declared : is_some (object_in s.heading p) ≡ true
-  pub inside : is_some s.nest ≡ true
-  pub room : is_too_many p.verb p.rest s.nest s.scheduled ≡ false
+  pub inside : is_some s.block ≡ true
+  pub room : is_too_many p.verb p.rest s.block s.scheduled ≡ false
 
 -- two roles are told of such a line of a block or of the schedule, and of no other
 abbrev pub TwoRolesAreTold : Type 0

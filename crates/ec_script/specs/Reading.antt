@@ -20,7 +20,7 @@ use Rattle.ec_script.specs.declared.object.Object.{Object}
 use Rattle.ec_script.specs.declared.object.Object.TheVariants.{Worker}
 use Rattle.ec_script.specs.declared.order.Order.{Order}
 use Rattle.ec_script.specs.declared.order.Order.TheVariants.{Begin, End}
-use Rattle.ec_script.specs.declared.kinds.Nest.{Nest}
+use Rattle.ec_script.specs.declared.kinds.BlockView.{BlockView}
 use Rattle.ec_script.specs.declared.script.Block.{Block}
 use Rattle.ec_script.specs.declared.stage.Stage.{Stage}
 use Rattle.ec_script.specs.declared.stage.Stage.TheVariants.{Opening, Limiting, Naming, Reading}
@@ -35,11 +35,11 @@ use Rattle.ec_script.specs.Scripted.{Scripted}
 
 -- WHAT IS SEEN OF A SCRIPT BY A LINE
 
-abbrev pub nest_of : Block → Nest
-nest_of b = record { worker = b.worker; depth = b.draft.depth; is_empty = b.draft.is_empty; many = b.draft.many }
+abbrev pub view_of_block : Block → BlockView
+view_of_block b = record { worker = b.worker; depth = b.draft.depth; is_empty = b.draft.is_empty; commands = b.draft.commands }
 
 abbrev pub seen : Scripted → Seen
-seen s = record { heading = s.heading; named = s.named; nest = option_map nest_of s.block; scheduled = length s.schedule }
+seen s = record { heading = s.heading; named = s.named; block = option_map view_of_block s.block; scheduled = length s.schedule }
 
 -- WHAT A LINE MAKES OF A SCRIPT
 

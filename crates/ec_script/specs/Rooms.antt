@@ -17,4 +17,4 @@ MayEnd (Some b) = 0 < b.draft.depth → b.draft.is_empty ≡ false
 -- the block has room for a command
 abbrev pub HasRoom : Option Block → Type 0
 HasRoom None = Unit {0}
-HasRoom (Some b) = b.draft.many < 4096
+HasRoom (Some b) = b.draft.commands < 4096

@@ -65,10 +65,10 @@ has_object _ = true
 
 -- what stands behind that
 abbrev pub tail_of : Verb → Tail
-tail_of verbs.Await = tails.Amount
-tail_of verbs.Put = tails.Amount
-tail_of verbs.Produce = tails.Amount
-tail_of verbs.Write = tails.Amounts
+tail_of verbs.Await = tails.Value
+tail_of verbs.Put = tails.Value
+tail_of verbs.Produce = tails.Value
+tail_of verbs.Write = tails.Values
 tail_of verbs.Snapshot = tails.Digits
 tail_of verbs.Repeat = tails.Digits
 tail_of verbs.DownBoth = tails.Word

@@ -168,7 +168,9 @@ pub(crate) fn command_in(
         Object::OfBuffer(shape) => buffer_order(giving, shape, value),
         Object::OfDatabase(shape) => return database_order(alloc, verb, shape, parts.rest),
         Object::OfSemaphore(shape) => semaphore_order(verb, shape),
-        Object::Three(common, one, other) => Order::Do(Command::DownBoth(common, one, other)),
+        Object::SemaphorePair(common, one, other) => Order::Do(Command::DownBoth(
+            common, one, other,
+        )),
         Object::Nothing | Object::Worker(_) => return Ok(None),
     };
     Ok(Some(order))

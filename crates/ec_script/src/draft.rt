@@ -25,7 +25,7 @@ pub(crate) struct Open {
 pub(crate) struct Draft {
     current: Vec<Command>,
     outer: Vec<Open>,
-    many: usize,
+    commands: usize,
     alloc: Global,
 }
 
@@ -42,9 +42,9 @@ impl Model for Draft {
 
     ghost coded = { Prim.hlevel (codes, command.the_row.coded, order.the_row.coded) };
 
-    ghost view = { λ d. record { orders = begun d.outer.items ++ flat d.current.items; depth = length d.outer.items; is_empty = length d.current.items == 0; many = d.many } };
+    ghost view = { λ d. record { orders = begun d.outer.items ++ flat d.current.items; depth = length d.outer.items; is_empty = length d.current.items == 0; commands = d.commands } };
 
-    ghost invariant = { λ d. IsDraft d.outer.items d.current.items d.many };
+    ghost invariant = { λ d. IsDraft d.outer.items d.current.items d.commands };
 }
 
 impl Draft {
@@ -55,7 +55,7 @@ impl Draft {
         Draft {
             current: Vec::new(alloc),
             outer: Vec::new(alloc),
-            many: 0,
+            commands: 0,
             alloc,
         }
     }
@@ -64,11 +64,11 @@ impl Draft {
     fn add(&mut self, command: Command) -> Result<(), AllocError>
         requires plain { is_plain command ≡ true }
         requires sound { is_sound_one command ≡ true }
-        requires room { self.old.many < 4096 }
+        requires room { self.old.commands < 4096 }
         ensures { OnOk result (self.new ≡ added self.old (Order.Do command)) }
     {
         self.current.push(command)?;
-        self.many += 1;
+        self.commands += 1;
         Ok(())
     }
 
@@ -76,12 +76,12 @@ impl Draft {
     fn add_write(&mut self, shape: DatabaseShape, values: Values) -> Result<(), AllocError>
         requires as_many { (length values == shape.cells) ≡ true }
         requires sound { list_all is_value values ≡ true }
-        requires room { self.old.many < 4096 }
+        requires room { self.old.commands < 4096 }
         ensures { OnOk result (self.new ≡ added self.old (Order.Write shape values)) }
     {
         let Values { items } = values;
         self.current.push(Command::WriteAll(shape, items))?;
-        self.many += 1;
+        self.commands += 1;
         Ok(())
     }
 
@@ -90,12 +90,12 @@ impl Draft {
         requires some { 0 < times }
         requires few { times ≤ 1000000 }
         requires depth { self.old.depth < 4 }
-        requires room { self.old.many < 4096 }
+        requires room { self.old.commands < 4096 }
         ensures { OnOk result (self.new ≡ opened self.old times) }
     {
         let before = mem::replace(&mut self.current, Vec::new(self.alloc));
         self.outer.push(Open { times, before })?;
-        self.many += 1;
+        self.commands += 1;
         Ok(())
     }
 
@@ -141,10 +141,10 @@ impl Draft {
     }
 
     /// How many commands there are.
-    pub(crate) fn many(&self) -> usize
-        ensures { result ≡ self.now.many }
+    pub(crate) fn commands(&self) -> usize
+        ensures { result ≡ self.now.commands }
     {
-        self.many
+        self.commands
     }
 }
 

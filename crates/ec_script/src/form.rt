@@ -90,11 +90,11 @@ fn is_tail(tail: Tail, rest: Option<&[u8]>) -> bool
 {
     match tail {
         Tail::Nothing => rest.is_none(),
-        Tail::Amount => match only_word(rest) {
+        Tail::Value => match only_word(rest) {
             Some(word) => is_value_form(word),
             None => false,
         },
-        Tail::Amounts => match rest {
+        Tail::Values => match rest {
             Some(rest) => are_value_forms(rest),
             None => false,
         },

@@ -4,29 +4,28 @@ ghost use Rattle.std.specs.Option.{option_and_then};
 ghost use Rattle.std.specs.List.{list_any};
 ghost use Rattle.ec_count.specs.Members.{is_member};
 ghost use Rattle.ec_text.specs.Words.{number_of};
-ghost use Rattle.ec_machine.specs.Limits.{is_same, are_apart};
 ghost use Rattle.ec_script.specs.Forms.{rest_words, shown};
 ghost use Rattle.ec_script.specs.Verbs.{tail_of};
 ghost use Rattle.ec_script.specs.Kinds.{seen_of, is_no_value, is_count, is_allowed, is_named_again, has_unknown_name, cells_of, greatest, is_bad_tail, is_too_many, has_two_roles, may_signal, are_declared, has_right, lacks_right, is_badly_nested, or_nothing, phrase_fault};
 
 use crate::fault::Kind;
 use crate::form::{Parts, only_word, value_of};
-use crate::lists::{count_words, has_no_value, has_unknown};
+use crate::lists::has_no_value;
 use crate::object::{Object, is_owned};
 use crate::verb::{Tail, Verb};
 use ec_count::{EventId, Setup, WorkerId};
-use ec_heading::{Heading, Version};
-use ec_semaphore::SemaphoreShape;
+use ec_heading::{Heading, Version, count_words, has_unknown};
+use ec_machine::{COMMANDS_MAX, NESTING_MAX, TIMES_MAX, TRIES_MAX, are_apart};
 use ec_text::number;
 
 /// The block that a line stands in: its worker, how many repeats are open there, whether the
 /// innermost has no command yet, and how many commands there are.
 #[derive(Clone, Copy)]
-pub(crate) struct Nest {
+pub(crate) struct BlockView {
     pub(crate) worker: WorkerId,
     pub(crate) depth: usize,
     pub(crate) is_empty: bool,
-    pub(crate) many: usize,
+    pub(crate) commands: usize,
 }
 
 /// Where a line stands.
@@ -34,15 +33,12 @@ pub(crate) struct Nest {
 pub(crate) struct View<'a> {
     pub(crate) heading: &'a Heading,
     pub(crate) named: &'a [WorkerId],
-    pub(crate) nest: Option<Nest>,
+    pub(crate) block: Option<BlockView>,
     pub(crate) scheduled: usize,
 }
 
 /// The greatest number of names in a schedule.
 const SCHEDULE_MAX: usize = 65536;
-
-/// The greatest number of commands of a worker.
-const COMMANDS_MAX: usize = 4096;
 
 /// Whether such a line may stand there.
 fn is_allowed(verb: Verb, in_block: bool, scheduled: usize) -> bool
@@ -77,7 +73,7 @@ fn has_unknown_name(heading: &Heading, parts: &Parts<'_>) -> bool
     ensures { result ≡ has_unknown_name heading.now parts.now.verb (rest_words parts.now.rest) }
 {
     match (parts.verb, parts.rest) {
-        (Verb::Schedule, Some(rest)) => has_unknown(heading, rest),
+        (Verb::Schedule, Some(rest)) => has_unknown(heading.words(), rest),
         _ => false,
     }
 }
@@ -97,8 +93,8 @@ fn greatest(verb: Verb) -> u64
     ensures { result ≡ greatest verb }
 {
     match verb {
-        Verb::Repeat => 1_000_000,
-        _ => 1000,
+        Verb::Repeat => TIMES_MAX,
+        _ => TRIES_MAX as u64,
     }
 }
 
@@ -137,11 +133,11 @@ fn is_bad_tail(parts: &Parts<'_>, object: &Object) -> bool
     ensures { result ≡ is_bad_tail (tail_of parts.now.verb) parts.now.verb (rest_words parts.now.rest) object.now }
 {
     match parts.verb.tail() {
-        Tail::Amount => match only_word(parts.rest) {
+        Tail::Value => match only_word(parts.rest) {
             Some(word) => is_no_value(word),
             None => false,
         },
-        Tail::Amounts => are_bad_values(parts.rest, cells_of(object)),
+        Tail::Values => are_bad_values(parts.rest, cells_of(object)),
         Tail::Digits => !is_count(greatest(parts.verb), only_word(parts.rest)),
         _ => false,
     }
@@ -165,30 +161,14 @@ fn is_over(scheduled: usize, more: usize) -> bool
 }
 
 /// Whether the commands of the block, or the names of the schedule, become too many.
-fn is_too_many(parts: &Parts<'_>, nest: Option<Nest>, scheduled: usize) -> bool
-    ensures { result ≡ is_too_many parts.now.verb (rest_words parts.now.rest) nest scheduled }
+fn is_too_many(parts: &Parts<'_>, block: Option<BlockView>, scheduled: usize) -> bool
+    ensures { result ≡ is_too_many parts.now.verb (rest_words parts.now.rest) block scheduled }
 {
-    match (parts.verb, nest) {
+    match (parts.verb, block) {
         (Verb::Schedule, _) => is_over(scheduled, count_rest(parts.rest)),
-        (verb, Some(nest)) => verb.is_counted() && nest.many >= COMMANDS_MAX,
+        (verb, Some(block)) => verb.is_counted() && block.commands >= COMMANDS_MAX,
         (_, None) => false,
     }
-}
-
-fn is_same(one: &SemaphoreShape, other: &SemaphoreShape) -> bool
-    ensures { result ≡ is_same one.now other.now }
-{
-    one.count() == other.count() && one.line() == other.line() && one.initial() == other.initial()
-}
-
-/// Whether the common one has initial value 1 and the three are different.
-fn are_apart(common: &SemaphoreShape, one: &SemaphoreShape, other: &SemaphoreShape) -> bool
-    ensures { result ≡ are_apart common.now one.now other.now }
-{
-    common.initial() == 1
-        && !is_same(common, one)
-        && !is_same(common, other)
-        && !is_same(one, other)
 }
 
 /// Whether two of the three semaphores are one.
@@ -196,7 +176,7 @@ fn has_two_roles(object: &Object) -> bool
     ensures { result ≡ has_two_roles object.now }
 {
     match object {
-        Object::Three(common, one, other) => !are_apart(common, one, other),
+        Object::SemaphorePair(common, one, other) => !are_apart(common, one, other),
         _ => false,
     }
 }
@@ -262,7 +242,7 @@ fn has_right(
             }
         }
         Object::OfSemaphore(shape) => setup.may_take(shape.line(), worker),
-        Object::Three(common, one, other) => {
+        Object::SemaphorePair(common, one, other) => {
             setup.may_take(common.line(), worker)
                 && setup.may_take(one.line(), worker)
                 && setup.may_take(other.line(), worker)
@@ -272,15 +252,15 @@ fn has_right(
 }
 
 /// Whether the worker of the block lacks the right to do such a thing with the object.
-fn lacks_right(heading: &Heading, nest: Option<Nest>, verb: Verb, object: &Object) -> bool
-    ensures { result ≡ lacks_right heading.now nest verb object.now }
+fn lacks_right(heading: &Heading, block: Option<BlockView>, verb: Verb, object: &Object) -> bool
+    ensures { result ≡ lacks_right heading.now block verb object.now }
 {
-    match nest {
+    match block {
         None => false,
-        Some(nest) => !has_right(
+        Some(block) => !has_right(
             heading.version(),
             heading.setup(),
-            nest.worker,
+            block.worker,
             verb.is_giving(),
             object,
         ),
@@ -289,16 +269,16 @@ fn lacks_right(heading: &Heading, nest: Option<Nest>, verb: Verb, object: &Objec
 
 /// Whether a line stands inside a block that must not, a fifth repeat in the others, or an `end` of
 /// a repeat without a command.
-fn is_badly_nested(verb: Verb, nest: Option<Nest>) -> bool
-    ensures { result ≡ is_badly_nested verb nest }
+fn is_badly_nested(verb: Verb, block: Option<BlockView>) -> bool
+    ensures { result ≡ is_badly_nested verb block }
 {
-    let Some(nest) = nest else {
+    let Some(block) = block else {
         return false;
     };
     match verb {
         Verb::Worker | Verb::Schedule => true,
-        Verb::Repeat => nest.depth >= 4,
-        Verb::End => nest.depth > 0 && nest.is_empty,
+        Verb::Repeat => block.depth >= NESTING_MAX,
+        Verb::End => block.depth > 0 && block.is_empty,
         _ => false,
     }
 }
@@ -323,7 +303,7 @@ pub(crate) fn phrase_fault(
 {
     let object = or_nothing(found);
     if !parts.verb.is_of(view.heading.version())
-        || !is_allowed(parts.verb, view.nest.is_some(), view.scheduled)
+        || !is_allowed(parts.verb, view.block.is_some(), view.scheduled)
     {
         return Some(Kind::BadLine);
     }
@@ -336,7 +316,7 @@ pub(crate) fn phrase_fault(
     if is_bad_tail(parts, &object) {
         return Some(Kind::BadNumber);
     }
-    if is_too_many(parts, view.nest, view.scheduled) {
+    if is_too_many(parts, view.block, view.scheduled) {
         return Some(Kind::TooMany);
     }
     if is_owned(view.heading.groups(), &object) {
@@ -345,10 +325,10 @@ pub(crate) fn phrase_fault(
     if has_two_roles(&object) {
         return Some(Kind::TwoRoles);
     }
-    if lacks_right(view.heading, view.nest, parts.verb, &object) {
+    if lacks_right(view.heading, view.block, parts.verb, &object) {
         return Some(Kind::NoRight);
     }
-    if is_badly_nested(parts.verb, view.nest) {
+    if is_badly_nested(parts.verb, view.block) {
         return Some(Kind::BadNesting);
     }
     None

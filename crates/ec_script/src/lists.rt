@@ -1,9 +1,9 @@
 //! Lists of words in a line.
-ghost use Rattle.std.specs.Prelude.{◌≡◌, ◌+◌, ◌++◌, ◌≤◌, length, map, true, OnOk};
+ghost use Rattle.std.specs.Prelude.{◌≡◌, ◌++◌, map, true, OnOk};
 ghost use Rattle.std.specs.List.{list_all, list_any};
 ghost use Rattle.ec_text.specs.Words.{words_of};
 ghost use Rattle.ec_machine.specs.Limits.{is_value};
-ghost use Rattle.ec_heading.specs.Lists.{ids_in, has_unknown};
+ghost use Rattle.ec_heading.specs.Lists.{ids_in};
 ghost use Rattle.ec_script.specs.Kinds.{is_no_value};
 ghost use Rattle.ec_script.specs.Orders.{amount_of};
 
@@ -13,32 +13,6 @@ use ec_heading::Heading;
 use ec_machine::Value;
 use ec_text::cut_word;
 use std::alloc::AllocError;
-
-/// How many words there are.
-pub(crate) fn count_words(list: &[u8]) -> usize
-    ensures count { result ≡ length (words_of list.now) }
-    ensures few { result ≤ length list.now + 1 }
-{
-    let (_, rest) = cut_word(list);
-    match rest {
-        None => 1,
-        Some(rest) => count_words(rest) + 1,
-    }
-}
-
-/// Whether a word names no worker.
-pub(crate) fn has_unknown(heading: &Heading, list: &[u8]) -> bool
-    ensures { result ≡ has_unknown heading.now.words (words_of list.now) }
-{
-    let (word, rest) = cut_word(list);
-    if heading.worker(word).is_none() {
-        return true;
-    }
-    match rest {
-        None => false,
-        Some(rest) => has_unknown(heading, rest),
-    }
-}
 
 /// Whether a word spells no value in its range.
 pub(crate) fn has_no_value(list: &[u8]) -> bool

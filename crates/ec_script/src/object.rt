@@ -4,7 +4,7 @@ ghost use Rattle.std.specs.Option.{option_and_then};
 ghost use Rattle.ec_heading.specs.Lists.{worker_in};
 ghost use Rattle.ec_heading.specs.Spelled.{event_in};
 ghost use Rattle.ec_script.specs.Forms.{only_in, rest_words, shown};
-ghost use Rattle.ec_script.specs.Objects.{group_in, buffer_of, database_of, semaphore_of, buffer_in, database_in, semaphore_in, both_of, three_of, handed_of, object_in, has_count, has_line, has_cell, owns, is_owned};
+ghost use Rattle.ec_script.specs.Objects.{group_in, buffer_of, database_of, semaphore_of, buffer_in, database_in, semaphore_in, both_of, pair_of, handed_of, object_in, has_count, has_line, has_cell, owns, is_owned};
 
 use crate::form::{Parts, only_word};
 use crate::verb::Verb;
@@ -28,7 +28,7 @@ pub(crate) enum Object {
     OfDatabase(DatabaseShape),
     OfSemaphore(SemaphoreShape),
     /// The common semaphore, and two others.
-    Three(SemaphoreShape, SemaphoreShape, SemaphoreShape),
+    SemaphorePair(SemaphoreShape, SemaphoreShape, SemaphoreShape),
 }
 
 /// The group of a name.
@@ -101,13 +101,13 @@ fn both_of(groups: &[Group]) -> Option<SemaphoreShape>
 }
 
 /// The common semaphore and the two that a line names.
-fn three_in(heading: &Heading, parts: &Parts<'_>) -> Option<Object>
-    ensures { result ≡ three_of (both_of heading.now.groups) (semaphore_in heading.now parts.now.object.now) (option_and_then (semaphore_in heading.now) (only_in (rest_words parts.now.rest))) }
+fn pair_in(heading: &Heading, parts: &Parts<'_>) -> Option<Object>
+    ensures { result ≡ pair_of (both_of heading.now.groups) (semaphore_in heading.now parts.now.object.now) (option_and_then (semaphore_in heading.now) (only_in (rest_words parts.now.rest))) }
 {
     let common = both_of(heading.groups())?;
     let one = semaphore_in(heading, parts.object)?;
     let other = semaphore_in(heading, only_word(parts.rest)?)?;
-    Some(Object::Three(common, one, other))
+    Some(Object::SemaphorePair(common, one, other))
 }
 
 /// The eventcount and the worker that a line names.
@@ -133,7 +133,7 @@ pub(crate) fn object_in(heading: &Heading, parts: &Parts<'_>) -> Option<Object>
         Verb::Produce | Verb::Consume => Some(Object::OfBuffer(buffer_in(heading, word)?)),
         Verb::Write | Verb::Snapshot => Some(Object::OfDatabase(database_in(heading, word)?)),
         Verb::Down | Verb::Up => Some(Object::OfSemaphore(semaphore_in(heading, word)?)),
-        Verb::DownBoth => three_in(heading, parts),
+        Verb::DownBoth => pair_in(heading, parts),
         Verb::Worker => Some(Object::Worker(heading.worker(word)?)),
         Verb::Repeat | Verb::End | Verb::Schedule => Some(Object::Nothing),
     }

@@ -8,7 +8,7 @@ ghost use Rattle.ec_script.specs.Forms.{rest_words, shown};
 ghost use Rattle.ec_script.specs.Kinds.{phrase_fault, or_nothing, is_bad_tail, has_two_roles};
 ghost use Rattle.ec_script.specs.Orders.{command_in};
 ghost use Rattle.ec_script.specs.Verbs.{is_giving, tail_of};
-ghost use Rattle.ec_script.specs.Reading.{nest_of, seen, began, ordered, commanded, ended_in, after_verb, phrased, headed_on, is_declaring, opens_outer, script_of, script_step, Steps};
+ghost use Rattle.ec_script.specs.Reading.{view_of_block, seen, began, ordered, commanded, ended_in, after_verb, phrased, headed_on, is_declaring, opens_outer, script_of, script_step, Steps};
 ghost use Rattle.ec_script.specs.Outcome.{plan_or, shown_plan};
 ghost use Rattle.ec_script.specs.Rooms.{MayOrder, MayEnd, HasRoom};
 
@@ -16,21 +16,18 @@ use crate::command::{command_in, size_in};
 use crate::draft::Draft;
 use crate::fault::{Kind, StageFault, stage_fault};
 use crate::form::{Parts, parts_of};
-use crate::kinds::{Nest, View, or_nothing, phrase_fault};
+use crate::kinds::{BlockView, View, or_nothing, phrase_fault};
 use crate::lists::push_ids;
 use crate::object::{Object, object_in};
 use crate::order::Order;
 use crate::plan::Plan;
 use crate::verb::{Verb, verb_of};
 use ec_count::WorkerId;
-use ec_heading::Heading;
+use ec_heading::{Heading, LINE_MAX};
 use ec_machine::Program;
 use ec_text::{cut_word, has_blank};
 use std::alloc::{AllocError, Global};
 use std::marker::Model;
-
-/// The most bytes that a line may have without its LF.
-const LINE_MAX: usize = 8192;
 
 /// The block of a worker that is being read.
 #[derive(Drop)]
@@ -41,14 +38,14 @@ pub(crate) struct Block {
 
 impl Block {
     /// What a line sees of it.
-    fn nest(&self) -> Nest
-        ensures { result ≡ nest_of self.now }
+    fn view(&self) -> BlockView
+        ensures { result ≡ view_of_block self.now }
     {
-        Nest {
+        BlockView {
             worker: self.worker,
             depth: self.draft.depth(),
             is_empty: self.draft.is_empty(),
-            many: self.draft.many(),
+            commands: self.draft.commands(),
         }
     }
 }
@@ -128,12 +125,12 @@ impl Script {
     }
 
     /// The block that a line stands in.
-    fn nest(&self) -> Option<Nest>
-        ensures { result ≡ option_map nest_of self.now.block }
+    fn block_view(&self) -> Option<BlockView>
+        ensures { result ≡ option_map view_of_block self.now.block }
     {
         match &self.block {
             None => None,
-            Some(block) => Some(block.nest()),
+            Some(block) => Some(block.view()),
         }
     }
 
@@ -151,7 +148,7 @@ impl Script {
         let view = View {
             heading: &self.heading,
             named: self.named.as_slice(),
-            nest: self.nest(),
+            block: self.block_view(),
             scheduled: self.scheduled(),
         };
         phrase_fault(&view, parts, *found)

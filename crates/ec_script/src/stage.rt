@@ -10,7 +10,7 @@ use crate::bound::Bound;
 use crate::fault::{Kind, StageFault, stage_fault};
 use crate::plan::Plan;
 use crate::script::Script;
-use ec_heading::Version;
+use ec_heading::{LINE_MAX, Version};
 use ec_text::{cut_word, is_number_form, number};
 use std::alloc::Global;
 
@@ -94,7 +94,7 @@ impl Stage {
         requires { self.old ≡ Stage.Limiting version }
         ensures { Steps result (step self.old line.now) self.new }
     {
-        if line.len() > 8192 {
+        if line.len() > LINE_MAX {
             return Err(StageFault::Of(Kind::BadLine));
         }
         match limit_of(version, line) {

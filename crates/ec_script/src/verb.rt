@@ -32,9 +32,9 @@ pub(crate) enum Verb {
 pub(crate) enum Tail {
     Nothing,
     /// One value.
-    Amount,
+    Value,
     /// Values, one at least.
-    Amounts,
+    Values,
     /// One number.
     Digits,
     /// One word.
@@ -157,8 +157,8 @@ impl Verb {
         ensures { result ≡ tail_of self }
     {
         match self {
-            Verb::Await | Verb::Put | Verb::Produce => Tail::Amount,
-            Verb::Write => Tail::Amounts,
+            Verb::Await | Verb::Put | Verb::Produce => Tail::Value,
+            Verb::Write => Tail::Values,
             Verb::Snapshot | Verb::Repeat => Tail::Digits,
             Verb::DownBoth | Verb::Hand => Tail::Word,
             Verb::Schedule => Tail::Words,

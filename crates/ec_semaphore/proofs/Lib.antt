@@ -4,6 +4,5 @@ pub mod Moments
 pub mod TicketOrder
 pub mod Drawing
 pub mod Counting
-pub mod Smallness
 pub mod Latest
 pub mod Written

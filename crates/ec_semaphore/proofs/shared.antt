@@ -3,3 +3,4 @@ pub mod Staying
 pub mod Implying
 pub mod Lines
 pub mod LeftOut
+pub mod Smallness

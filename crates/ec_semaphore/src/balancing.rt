@@ -91,6 +91,24 @@ impl BalanceAudit {
         }
     }
 
+    /// The parts of the balance after the entries so far, whether these follow the semaphore or not.
+    pub fn so_far(&self) -> Balance
+        ensures { result ≡ record { initial = self.now.shape.initial; downs = self.now.downs; ups = self.now.ups } }
+    {
+        let BalanceAudit {
+            uses,
+            downs,
+            ups,
+            ..
+        } = self;
+        let shape = uses.shape();
+        Balance {
+            initial: shape.initial(),
+            downs: *downs,
+            ups: *ups,
+        }
+    }
+
     /// The parts of the balance after all entries of a run whose workers follow the semaphore. Err is
     /// NotFollowed, with the first entry that breaks the lists of calls.
     pub fn balance(&self, run: &Run) -> Result<Balance, AuditFault>

@@ -1,4 +1,5 @@
 pub mod Places
 pub mod Elements
 pub mod Notes
+pub mod Findings
 pub mod Svg

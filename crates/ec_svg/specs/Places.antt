@@ -1,5 +1,5 @@
 -- Where things stand in a picture, in pixels.
-use Rattle.std.specs.Prelude.{ℕ, ◌+◌, ◌-◌, ◌*◌, ◌/◌, min, max, List, length, slice_get, unwrap_or}
+use Rattle.std.specs.Prelude.{ℕ, ◌+◌, ◌-◌, ◌*◌, ◌/◌, min, max, List, [], ◌∷◌, slice_get, unwrap_or}
 use Rattle.ec_draw.specs.declared.window.Window.{Window}
 use Rattle.ec_draw.specs.Windows.{column, columns}
 use Rattle.ec_frame.specs.Frames.{Framed, rows_before}
@@ -22,21 +22,30 @@ below r = 60 + 76 * r
 
 -- the line of zero height of the i-th curve that is drawn, below r rows
 abbrev pub base : ℕ → ℕ → ℕ
-base r i = below r + 84 * min i 64 + 64
+base r i = below r + 84 * min i 96 + 64
 
 -- how wide and how high a picture is
 abbrev pub picture_width : Window → ℕ
 picture_width w = 200 + 84 * columns w
 
 abbrev pub picture_height : ℕ → ℕ → ℕ
-picture_height r n = below r + 84 * min n 64 + 30
+picture_height r n = below r + 84 * min n 96 + 30
 
--- the least count of a curve, and how far it rises: counts don't fall
+-- the least of these numbers and of n, and the greatest
+unfoldable pub least_of : ℕ → List ℕ → ℕ
+least_of n [] = n
+least_of n (x ∷ xs) = least_of (min n x) xs
+
+unfoldable pub greatest_of : ℕ → List ℕ → ℕ
+greatest_of n [] = n
+greatest_of n (x ∷ xs) = greatest_of (max n x) xs
+
+-- the least and the greatest number of a curve, and how far it rises
 abbrev pub low_of : List ℕ → ℕ
-low_of hs = unwrap_or (slice_get hs 0) 0
+low_of hs = least_of (unwrap_or (slice_get hs 0) 0) hs
 
 abbrev pub high_of : List ℕ → ℕ
-high_of hs = unwrap_or (slice_get hs (length hs - 1)) 0
+high_of hs = greatest_of 0 hs
 
 -- a rise by so much is drawn 52 pixels high; a picture has fewer than 1000 columns, so none rises further
 abbrev pub span_of : ℕ → ℕ → ℕ

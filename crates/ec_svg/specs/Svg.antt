@@ -14,14 +14,17 @@ use Rattle.ec_heading.specs.Spelling.{Named, word_of, cell_word}
 use Rattle.ec_draw.specs.declared.window.Window.{Window}
 use Rattle.ec_draw.specs.declared.open.Open.{Open}
 use Rattle.ec_draw.specs.declared.dot.Dot.{Dot}
+use Rattle.ec_draw.specs.declared.curve.Plotted.{Plotted}
+use Rattle.ec_draw.specs.declared.curve.Plotted.TheVariants.{Count, Balance}
 use Rattle.ec_draw.specs.Curves.{Line}
 use Rattle.ec_draw.specs.Pictures.{Shapes}
-use Rattle.ec_frame.specs.Frames.{Framed, draws, draws_worker, draws_count, rows_before, curves_before}
+use Rattle.ec_frame.specs.Frames.{Framed, draws, draws_worker, draws_curve, rows_before, curves_before}
 use Rattle.ec_frame.specs.Notes.{Noted}
 use Rattle.ec_svg.specs.Notes.{paper_width, note_height, note_element}
+use Rattle.ec_svg.specs.Findings.{shade_element, arrow_element}
 use Rattle.ec_svg.specs.Places.{low_of, high_of, edge, centre, row, below, base, level, picture_width, picture_height}
 use Rattle.ec_svg.specs.Elements.{pair, squeeze, squeeze_dot, row_text, line, rect, circle, diamond, number_text, name_text, object_text, text_end}
-use Rattle.ec_frame.specs.Words.{call_words, open_words, counted_word}
+use Rattle.ec_frame.specs.Words.{call_words, open_words, curve_word}
 use Rattle.ec_svg.specs.declared.style.TheConstants.{OPENING, OPEN_GROUP, STYLE}
 
 -- LABELS
@@ -199,22 +202,27 @@ unfoldable pub steps : ℕ → ℕ → List ℕ → ℕ → List ℕ
 steps r i hs zero = []
 steps r i hs (suc n) = steps r i hs n ++ step r i hs n
 
-unfoldable pub curve_path : ℕ → ℕ → List ℕ → List ℕ
-curve_path r i hs = codes "<path class='curve' d='M 136 " ++ decimal (base r i) ++ steps r i hs (length hs) ++ codes "'/>\n"
+-- a balance looks different from a count
+abbrev pub curve_start : Plotted → List ℕ
+curve_start (Count object) = codes "<path class='curve' d='M 136 "
+curve_start (Balance e) = codes "<path class='balance' d='M 136 "
+
+unfoldable pub curve_path : ℕ → ℕ → Line → List ℕ
+curve_path r i l = curve_start l.object ++ decimal (base r i) ++ steps r i l.heights (length l.heights) ++ codes "'/>\n"
 
 -- the name of a curve, and its least and its greatest count
 unfoldable pub curve_words : Named → Window → ℕ → ℕ → Line → List ℕ
 curve_words names w r i l =
-    row_text 124 (base r i - 20) (counted_word names l.object) ++ number_text (codes "count") 124 (base r i) (low_of l.heights)
+    row_text 124 (base r i - 20) (curve_word names l.object) ++ number_text (codes "count") 124 (base r i) (low_of l.heights)
     ++ number_text (codes "count") 124 (base r i - 44) (high_of l.heights)
 
 unfoldable pub curve_element : Named → Window → ℕ → ℕ → Line → List ℕ
-curve_element names w r i l = line (codes "zero") 136 (base r i) (picture_width w) (base r i) ++ curve_words names w r i l ++ curve_path r i l.heights
+curve_element names w r i l = line (codes "zero") 136 (base r i) (picture_width w) (base r i) ++ curve_words names w r i l ++ curve_path r i l
 
 -- a curve, if there is one and it is drawn
 abbrev pub curve_at : Named → Framed → ℕ → ℕ → Option Line → List ℕ
 curve_at names f r i None = []
-curve_at names f r i (Some l) = if draws_count f l.object then curve_element names f.window r i l else []
+curve_at names f r i (Some l) = if draws_curve f l.object then curve_element names f.window r i l else []
 
 -- those of the first n curves that are drawn
 unfoldable pub curve_elements : Named → Framed → ℕ → List Line → ℕ → List ℕ
@@ -251,6 +259,10 @@ back names f m r p x =
     header (paper_width f.window x) (shapes_height f r p + note_height x p.dots) ++ row_elements names f m
     ++ flat_map (column_element f.window (below r)) p.dots ++ curve_elements names f r p.curves (length p.curves)
 
+-- what the audits of groups find
+unfoldable pub finding_elements : Named → Framed → Shapes → List ℕ
+finding_elements names f p = flat_map (shade_element names f) p.shades ++ flat_map (arrow_element names f) p.arrows
+
 -- the calls
 unfoldable pub call_elements : Named → Framed → Shapes → List ℕ
 call_elements names f p = flat_map (call_element names f) p.calls ++ flat_map (open_element names f) p.begun
@@ -266,4 +278,4 @@ ending names f r p x = note_element names f (below r) (shapes_height f r p) x p 
 -- the picture of these shapes in this frame, where m workers are declared, and of a faulty line, if there is one
 unfoldable pub svg : Named → Framed → ℕ → Shapes → Option Noted → List ℕ
 svg names f m p x =
-    back names f m (rows_before f m) p x ++ call_elements names f p ++ mark_elements f (rows_before f m) p ++ ending names f (rows_before f m) p x
+    back names f m (rows_before f m) p x ++ finding_elements names f p ++ call_elements names f p ++ mark_elements f (rows_before f m) p ++ ending names f (rows_before f m) p x

@@ -15,38 +15,38 @@ use ec_core::{Act, Reply};
 use ec_count::CellId;
 use ec_frame::{Frame, put_call_words};
 use ec_order::{Call, Placed};
-use ec_text::{Buffered, put, put_number};
+use ec_text::Out;
 use ec_trace::{Spellings, put_cell};
 use std::io::Write;
 
 /// Puts the word of an act.
-pub(crate) fn put_kind<W: Write>(out: &mut W, table: &mut Buffered, act: &Act)
-    ensures { Puts (W.contents out.old) table.old (W.contents out.new) table.new (kind_word act.now) }
+pub(crate) fn put_kind<W: Write>(out: &mut Out<'_, W>, act: &Act)
+    ensures { Puts out.old out.new (kind_word act.now) }
 {
     match *act {
-        Act::Advance(_) => put(out, table, b"advance"),
-        Act::Read(_) => put(out, table, b"read"),
-        Act::Await(_, _) => put(out, table, b"await"),
-        Act::Go => put(out, table, b"go"),
-        Act::Ticket(_) => put(out, table, b"ticket"),
-        Act::Put(_, _) => put(out, table, b"put"),
-        Act::Get(_) => put(out, table, b"get"),
-        Act::Hand(_, _) => put(out, table, b"hand"),
+        Act::Advance(_) => out.put(b"advance"),
+        Act::Read(_) => out.put(b"read"),
+        Act::Await(_, _) => out.put(b"await"),
+        Act::Go => out.put(b"go"),
+        Act::Ticket(_) => out.put(b"ticket"),
+        Act::Put(_, _) => out.put(b"put"),
+        Act::Get(_) => out.put(b"get"),
+        Act::Hand(_, _) => out.put(b"hand"),
     }
 }
 
 /// Puts the threshold of an await, the value of a put, or the worker that a hand is to.
-fn put_value<W: Write>(out: &mut W, table: &mut Buffered, spellings: &Spellings<'_>, act: &Act)
-    ensures { Puts (W.contents out.old) table.old (W.contents out.new) table.new (value_words spellings.now act.now) }
+fn put_value<W: Write>(out: &mut Out<'_, W>, spellings: &Spellings<'_>, act: &Act)
+    ensures { Puts out.old out.new (value_words spellings.now act.now) }
 {
     match *act {
         Act::Await(_, value) | Act::Put(_, value) => {
-            put(out, table, b" ");
-            put_number(out, table, value);
+            out.put(b" ");
+            out.put_number(value);
         }
         Act::Hand(_, to) => {
-            put(out, table, b" ");
-            put(out, table, spellings.worker(to));
+            out.put(b" ");
+            out.put(spellings.worker(to));
         }
         Act::Advance(_) | Act::Read(_) | Act::Go | Act::Ticket(_) | Act::Get(_) => {}
     }
@@ -66,74 +66,50 @@ fn letters(spellings: &Spellings<'_>, act: &Act) -> usize
 
 /// Puts the beginning of the text of an act.
 #[tactic(auto, unfolding(crate::specs::Svg::act_start))]
-fn put_act_start<W: Write>(
-    out: &mut W,
-    table: &mut Buffered,
-    spellings: &Spellings<'_>,
-    at: Place,
-    act: &Act,
-)
-    ensures { Puts (W.contents out.old) table.old (W.contents out.new) table.new (act_start spellings.now at.x at.y act.now) }
+fn put_act_start<W: Write>(out: &mut Out<'_, W>, spellings: &Spellings<'_>, at: Place, act: &Act)
+    ensures { Puts out.old out.new (act_start spellings.now at.x at.y act.now) }
 {
-    put(out, table, b"<text class='act");
-    put_squeeze(out, table, letters(spellings, act));
-    put_pair(out, table, b"' x='", at.x, b"' y='", at.y);
-    put(out, table, b"'>");
+    out.put(b"<text class='act");
+    put_squeeze(out, letters(spellings, act));
+    put_pair(out, b"' x='", at.x, b"' y='", at.y);
+    out.put(b"'>");
 }
 
 /// Puts what was asked for.
 #[tactic(auto, unfolding(crate::specs::Svg::act_text))]
-fn put_act_text<W: Write>(
-    out: &mut W,
-    table: &mut Buffered,
-    spellings: &Spellings<'_>,
-    at: Place,
-    act: &Act,
-)
-    ensures { Puts (W.contents out.old) table.old (W.contents out.new) table.new (act_text spellings.now at.x at.y act.now) }
+fn put_act_text<W: Write>(out: &mut Out<'_, W>, spellings: &Spellings<'_>, at: Place, act: &Act)
+    ensures { Puts out.old out.new (act_text spellings.now at.x at.y act.now) }
 {
-    put_act_start(out, table, spellings, at, act);
-    put_kind(out, table, act);
-    put_value(out, table, spellings, act);
-    end_text(out, table);
+    put_act_start(out, spellings, at, act);
+    put_kind(out, act);
+    put_value(out, spellings, act);
+    end_text(out);
 }
 
 /// Puts the name of a cell as a text.
 #[tactic(auto, unfolding(crate::specs::Elements::name_text))]
-fn put_cell_text<W: Write>(
-    out: &mut W,
-    table: &mut Buffered,
-    spellings: &Spellings<'_>,
-    at: Place,
-    cell: CellId,
-)
-    ensures { Puts (W.contents out.old) table.old (W.contents out.new) table.new (name_text (codes "cell") at.x at.y (cell_word spellings.now cell)) }
+fn put_cell_text<W: Write>(out: &mut Out<'_, W>, spellings: &Spellings<'_>, at: Place, cell: CellId)
+    ensures { Puts out.old out.new (name_text (codes "cell") at.x at.y (cell_word spellings.now cell)) }
 {
-    start_text(out, table, b"cell", at);
-    put_cell(out, table, spellings, cell);
-    end_text(out, table);
+    start_text(out, b"cell", at);
+    put_cell(out, spellings, cell);
+    end_text(out);
 }
 
 /// Puts the object that was asked for.
-fn put_object_label<W: Write>(
-    out: &mut W,
-    table: &mut Buffered,
-    spellings: &Spellings<'_>,
-    at: Place,
-    act: &Act,
-)
-    ensures { Puts (W.contents out.old) table.old (W.contents out.new) table.new (object_label spellings.now at.x at.y act.now) }
+fn put_object_label<W: Write>(out: &mut Out<'_, W>, spellings: &Spellings<'_>, at: Place, act: &Act)
+    ensures { Puts out.old out.new (object_label spellings.now at.x at.y act.now) }
 {
     match *act {
         Act::Advance(event) | Act::Read(event) | Act::Await(event, _) | Act::Hand(event, _) => {
-            put_object_text(out, table, at, spellings.event(event));
+            put_object_text(out, at, spellings.event(event));
         }
         Act::Go => {}
         Act::Ticket(sequencer) => {
-            put_object_text(out, table, at, spellings.sequencer(sequencer));
+            put_object_text(out, at, spellings.sequencer(sequencer));
         }
         Act::Put(cell, _) | Act::Get(cell) => {
-            put_cell_text(out, table, spellings, at, cell);
+            put_cell_text(out, spellings, at, cell);
         }
     }
 }
@@ -141,18 +117,17 @@ fn put_object_label<W: Write>(
 /// Puts the two lines above a bar.
 #[tactic(auto, unfolding(crate::specs::Svg::label))]
 pub(crate) fn put_label<W: Write>(
-    out: &mut W,
-    table: &mut Buffered,
+    out: &mut Out<'_, W>,
     spellings: &Spellings<'_>,
     at: Place,
     act: &Act,
 )
     requires { at.y ≤ 2000 }
-    ensures { Puts (W.contents out.old) table.old (W.contents out.new) table.new (label spellings.now at.x at.y act.now) }
+    ensures { Puts out.old out.new (label spellings.now at.x at.y act.now) }
 {
     let (x, y) = (at.x, at.y);
-    put_act_text(out, table, spellings, Place { x, y: y + 14 }, act);
-    put_object_label(out, table, spellings, Place { x, y: y + 26 }, act);
+    put_act_text(out, spellings, Place { x, y: y + 14 }, act);
+    put_object_label(out, spellings, Place { x, y: y + 26 }, act);
 }
 
 /// How many letters the words of a number have that was told.
@@ -164,61 +139,55 @@ fn told_letters(n: u64) -> usize
 
 /// Puts the beginning of a number that was told.
 #[tactic(auto, unfolding(crate::specs::Svg::reply_start))]
-fn put_reply_start<W: Write>(out: &mut W, table: &mut Buffered, at: Place, n: u64)
-    ensures { Puts (W.contents out.old) table.old (W.contents out.new) table.new (reply_start at.x at.y n) }
+fn put_reply_start<W: Write>(out: &mut Out<'_, W>, at: Place, n: u64)
+    ensures { Puts out.old out.new (reply_start at.x at.y n) }
 {
-    put(out, table, b"<text class='reply");
-    put_squeeze(out, table, told_letters(n));
-    put_pair(out, table, b"' x='", at.x, b"' y='", at.y);
-    put(out, table, b"'>= ");
+    out.put(b"<text class='reply");
+    put_squeeze(out, told_letters(n));
+    put_pair(out, b"' x='", at.x, b"' y='", at.y);
+    out.put(b"'>= ");
 }
 
 /// Puts a number that was told.
 #[tactic(auto, unfolding(crate::specs::Svg::reply_number))]
-fn put_reply_number<W: Write>(out: &mut W, table: &mut Buffered, at: Place, n: u64)
-    ensures { Puts (W.contents out.old) table.old (W.contents out.new) table.new (reply_number at.x at.y n) }
+fn put_reply_number<W: Write>(out: &mut Out<'_, W>, at: Place, n: u64)
+    ensures { Puts out.old out.new (reply_number at.x at.y n) }
 {
-    put_reply_start(out, table, at, n);
-    put_number(out, table, n);
-    end_text(out, table);
+    put_reply_start(out, at, n);
+    out.put_number(n);
+    end_text(out);
 }
 
 /// Puts the number that was told, if one was.
-fn put_reply_text<W: Write>(out: &mut W, table: &mut Buffered, at: Place, reply: &Reply)
-    ensures { Puts (W.contents out.old) table.old (W.contents out.new) table.new (reply_text at.x at.y reply.now) }
+fn put_reply_text<W: Write>(out: &mut Out<'_, W>, at: Place, reply: &Reply)
+    ensures { Puts out.old out.new (reply_text at.x at.y reply.now) }
 {
     match *reply {
-        Reply::Number(n) => put_reply_number(out, table, at, n),
+        Reply::Number(n) => put_reply_number(out, at, n),
         Reply::Done | Reply::Pending => {}
     }
 }
 
 /// Puts what is shown on hover.
 #[tactic(auto, unfolding(crate::specs::Svg::call_title))]
-fn put_call_title<W: Write>(
-    out: &mut W,
-    table: &mut Buffered,
-    spellings: &Spellings<'_>,
-    placed: &Placed,
-)
-    ensures { Puts (W.contents out.old) table.old (W.contents out.new) table.new (call_title spellings.now placed.now) }
+fn put_call_title<W: Write>(out: &mut Out<'_, W>, spellings: &Spellings<'_>, placed: &Placed)
+    ensures { Puts out.old out.new (call_title spellings.now placed.now) }
 {
-    put(out, table, b"<title>");
-    put_call_words(out, table, spellings, placed);
-    put(out, table, b"</title>\n");
+    out.put(b"<title>");
+    put_call_words(out, spellings, placed);
+    out.put(b"</title>\n");
 }
 
 /// Puts where the last round of an await began.
 #[tactic(auto, unfolding(crate::specs::Svg::round_line))]
-fn put_round<W: Write>(out: &mut W, table: &mut Buffered, frame: &Frame, call: &Call)
-    ensures { Puts (W.contents out.old) table.old (W.contents out.new) table.new (round_line (framed frame.now) call.now) }
+fn put_round<W: Write>(out: &mut Out<'_, W>, frame: &Frame, call: &Call)
+    ensures { Puts out.old out.new (round_line (framed frame.now) call.now) }
 {
     if call.first < call.round {
         let x = edge(frame.window, call.round);
         let y = row(frame, call.worker);
         put_line(
             out,
-            table,
             b"round",
             Place { x, y: y + 32 },
             Place { x, y: y + 54 },
@@ -228,8 +197,8 @@ fn put_round<W: Write>(out: &mut W, table: &mut Buffered, frame: &Frame, call: &
 
 /// Puts the bar of a call.
 #[tactic(auto, unfolding(crate::specs::Svg::call_bar))]
-fn put_call_bar<W: Write>(out: &mut W, table: &mut Buffered, frame: &Frame, call: &Call)
-    ensures { Puts (W.contents out.old) table.old (W.contents out.new) table.new (call_bar (framed frame.now) call.now) }
+fn put_call_bar<W: Write>(out: &mut Out<'_, W>, frame: &Frame, call: &Call)
+    ensures { Puts out.old out.new (call_bar (framed frame.now) call.now) }
 {
     let left = edge(frame.window, call.first);
     let right = end_of(frame.window, call.last);
@@ -237,75 +206,71 @@ fn put_call_bar<W: Write>(out: &mut W, table: &mut Buffered, frame: &Frame, call
         x: left + 3,
         y: row(frame, call.worker) + 32,
     };
-    put_rect(out, table, at, right.saturating_sub(left + 6), 22);
+    put_rect(out, at, right.saturating_sub(left + 6), 22);
 }
 
 /// Puts the beginning of a call's group: its class, its title and its bar.
 #[tactic(auto, unfolding(crate::specs::Svg::call_front))]
 fn put_call_front<W: Write>(
-    out: &mut W,
-    table: &mut Buffered,
+    out: &mut Out<'_, W>,
     spellings: &Spellings<'_>,
     frame: &Frame,
     placed: &Placed,
 )
-    ensures { Puts (W.contents out.old) table.old (W.contents out.new) table.new (call_front spellings.now (framed frame.now) placed.now) }
+    ensures { Puts out.old out.new (call_front spellings.now (framed frame.now) placed.now) }
 {
-    put(out, table, b"<g class='");
-    put_kind(out, table, &placed.call.op);
-    put(out, table, b"'>");
-    put_call_title(out, table, spellings, placed);
-    put_call_bar(out, table, frame, &placed.call);
+    out.put(b"<g class='");
+    put_kind(out, &placed.call.op);
+    out.put(b"'>");
+    put_call_title(out, spellings, placed);
+    put_call_bar(out, frame, &placed.call);
 }
 
 /// Puts all that is drawn of a call but its mark.
 #[tactic(auto, unfolding(crate::specs::Svg::call_group))]
 fn put_call_group<W: Write>(
-    out: &mut W,
-    table: &mut Buffered,
+    out: &mut Out<'_, W>,
     spellings: &Spellings<'_>,
     frame: &Frame,
     placed: &Placed,
 )
-    ensures { Puts (W.contents out.old) table.old (W.contents out.new) table.new (call_group spellings.now (framed frame.now) placed.now) }
+    ensures { Puts out.old out.new (call_group spellings.now (framed frame.now) placed.now) }
 {
     let call = &placed.call;
     let y = row(frame, call.worker);
     let x = edge(frame.window, call.first) + 3;
     let end = end_of(frame.window, call.last) - 3;
-    put_call_front(out, table, spellings, frame, placed);
-    put_label(out, table, spellings, Place { x, y }, &call.op);
-    put_round(out, table, frame, call);
-    put_reply_text(out, table, Place { x: end, y: y + 66 }, &call.reply);
-    put(out, table, b"</g>\n");
+    put_call_front(out, spellings, frame, placed);
+    put_label(out, spellings, Place { x, y }, &call.op);
+    put_round(out, frame, call);
+    put_reply_text(out, Place { x: end, y: y + 66 }, &call.reply);
+    out.put(b"</g>\n");
 }
 
 /// Puts a call, if it is drawn.
 fn put_call<W: Write>(
-    out: &mut W,
-    table: &mut Buffered,
+    out: &mut Out<'_, W>,
     spellings: &Spellings<'_>,
     frame: &Frame,
     placed: &Placed,
 )
-    ensures { Puts (W.contents out.old) table.old (W.contents out.new) table.new (call_element spellings.now (framed frame.now) placed.now) }
+    ensures { Puts out.old out.new (call_element spellings.now (framed frame.now) placed.now) }
 {
     if frame.draws(placed.call.worker, &placed.call.op) {
-        put_call_group(out, table, spellings, frame, placed);
+        put_call_group(out, spellings, frame, placed);
     }
 }
 
 /// Puts the finished calls that are drawn.
 pub(crate) fn put_calls<W: Write>(
-    out: &mut W,
-    table: &mut Buffered,
+    out: &mut Out<'_, W>,
     spellings: &Spellings<'_>,
     frame: &Frame,
     calls: &[Placed],
 )
-    ensures { Puts (W.contents out.old) table.old (W.contents out.new) table.new (flat_map (call_element spellings.now (framed frame.now)) calls.now) }
+    ensures { Puts out.old out.new (flat_map (call_element spellings.now (framed frame.now)) calls.now) }
 {
     for placed in calls {
-        put_call(out, table, spellings, frame, placed);
+        put_call(out, spellings, frame, placed);
     }
 }

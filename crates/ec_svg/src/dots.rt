@@ -11,16 +11,16 @@ use crate::elements::{
 use crate::places::{centre, edge, row};
 use ec_draw::{Dot, Window};
 use ec_frame::Frame;
-use ec_text::{Buffered, put, put_number};
+use ec_text::Out;
 use std::io::Write;
 
 /// Puts the number that was read.
-fn put_read<W: Write>(out: &mut W, table: &mut Buffered, number: Option<u64>)
-    ensures { Puts (W.contents out.old) table.old (W.contents out.new) table.new (read_words number) }
+fn put_read<W: Write>(out: &mut Out<'_, W>, number: Option<u64>)
+    ensures { Puts out.old out.new (read_words number) }
 {
     if let Some(n) = number {
-        put(out, table, b"=");
-        put_number(out, table, n);
+        out.put(b"=");
+        out.put_number(n);
     }
 }
 
@@ -37,53 +37,51 @@ fn read_letters(number: Option<u64>) -> usize
 
 /// Puts the beginning of the text beside a dot.
 #[tactic(auto, unfolding(crate::specs::Svg::component_start))]
-fn put_component_start<W: Write>(out: &mut W, table: &mut Buffered, at: Place, letters: usize)
-    ensures { Puts (W.contents out.old) table.old (W.contents out.new) table.new (component_start at.x at.y letters) }
+fn put_component_start<W: Write>(out: &mut Out<'_, W>, at: Place, letters: usize)
+    ensures { Puts out.old out.new (component_start at.x at.y letters) }
 {
-    put(out, table, b"<text class='component");
-    put_squeeze_dot(out, table, letters);
-    put_pair(out, table, b"' x='", at.x, b"' y='", at.y);
-    put(out, table, b"'>");
+    out.put(b"<text class='component");
+    put_squeeze_dot(out, letters);
+    put_pair(out, b"' x='", at.x, b"' y='", at.y);
+    out.put(b"'>");
 }
 
 /// Puts a component, and what was read of it.
 #[tactic(auto, unfolding(crate::specs::Svg::component_label))]
 fn put_component_label<W: Write>(
-    out: &mut W,
-    table: &mut Buffered,
+    out: &mut Out<'_, W>,
     at: Place,
     component: usize,
     number: Option<u64>,
 )
-    ensures { Puts (W.contents out.old) table.old (W.contents out.new) table.new (component_label at.x at.y component number) }
+    ensures { Puts out.old out.new (component_label at.x at.y component number) }
 {
     let letters = digits(component as u64) + read_letters(number);
-    put_component_start(out, table, at, letters);
-    put_number(out, table, component as u64);
-    put_read(out, table, number);
-    end_text(out, table);
+    put_component_start(out, at, letters);
+    out.put_number(component as u64);
+    put_read(out, number);
+    end_text(out);
 }
 
 /// Puts the component of a dot, if it has one.
-fn put_component<W: Write>(out: &mut W, table: &mut Buffered, at: Place, dot: &Dot)
-    ensures { Puts (W.contents out.old) table.old (W.contents out.new) table.new (component_text at.x at.y dot.now.component dot.now.number) }
+fn put_component<W: Write>(out: &mut Out<'_, W>, at: Place, dot: &Dot)
+    ensures { Puts out.old out.new (component_text at.x at.y dot.now.component dot.now.number) }
 {
     if let Some(component) = dot.component {
-        put_component_label(out, table, at, component, dot.number);
+        put_component_label(out, at, component, dot.number);
     }
 }
 
 /// Puts a dot, with the component that was read or raised, and what was read of it.
 #[tactic(auto, unfolding(crate::specs::Svg::dot_group))]
-fn put_dot_group<W: Write>(out: &mut W, table: &mut Buffered, frame: &Frame, dot: &Dot)
-    ensures { Puts (W.contents out.old) table.old (W.contents out.new) table.new (dot_group (framed frame.now) dot.now) }
+fn put_dot_group<W: Write>(out: &mut Out<'_, W>, frame: &Frame, dot: &Dot)
+    ensures { Puts out.old out.new (dot_group (framed frame.now) dot.now) }
 {
     let x = centre(frame.window, dot.position);
     let y = row(frame, dot.worker);
-    put_circle(out, table, Place { x, y: y + 43 });
+    put_circle(out, Place { x, y: y + 43 });
     put_component(
         out,
-        table,
         Place {
             x: x + 9,
             y: y + 47,
@@ -93,54 +91,42 @@ fn put_dot_group<W: Write>(out: &mut W, table: &mut Buffered, frame: &Frame, dot
 }
 
 /// Puts a dot, if its call is drawn.
-fn put_dot<W: Write>(out: &mut W, table: &mut Buffered, frame: &Frame, dot: &Dot)
-    ensures { Puts (W.contents out.old) table.old (W.contents out.new) table.new (dot_element (framed frame.now) dot.now) }
+fn put_dot<W: Write>(out: &mut Out<'_, W>, frame: &Frame, dot: &Dot)
+    ensures { Puts out.old out.new (dot_element (framed frame.now) dot.now) }
 {
     if frame.draws(dot.worker, &dot.op) {
-        put_dot_group(out, table, frame, dot);
+        put_dot_group(out, frame, dot);
     }
 }
 
 /// Puts the dots of calls that are drawn.
-pub(crate) fn put_dots<W: Write>(out: &mut W, table: &mut Buffered, frame: &Frame, dots: &[Dot])
-    ensures { Puts (W.contents out.old) table.old (W.contents out.new) table.new (flat_map (dot_element (framed frame.now)) dots.now) }
+pub(crate) fn put_dots<W: Write>(out: &mut Out<'_, W>, frame: &Frame, dots: &[Dot])
+    ensures { Puts out.old out.new (flat_map (dot_element (framed frame.now)) dots.now) }
 {
     for dot in dots {
-        put_dot(out, table, frame, dot);
+        put_dot(out, frame, dot);
     }
 }
 
 /// Puts the column of an entry.
 #[tactic(auto, unfolding(crate::specs::Svg::column_element))]
-fn put_column<W: Write>(out: &mut W, table: &mut Buffered, window: Window, bottom: u64, dot: &Dot)
-    ensures { Puts (W.contents out.old) table.old (W.contents out.new) table.new (column_element window bottom dot.now) }
+fn put_column<W: Write>(out: &mut Out<'_, W>, window: Window, bottom: u64, dot: &Dot)
+    ensures { Puts out.old out.new (column_element window bottom dot.now) }
 {
     let x = edge(window, dot.position);
-    put_line(
-        out,
-        table,
-        b"grid",
-        Place { x, y: 34 },
-        Place { x, y: bottom },
-    );
+    put_line(out, b"grid", Place { x, y: 34 }, Place { x, y: bottom });
     let at = Place {
         x: centre(window, dot.position),
         y: 30,
     };
-    put_number_text(out, table, b"entry", at, dot.position as u64);
+    put_number_text(out, b"entry", at, dot.position as u64);
 }
 
 /// Puts the columns.
-pub(crate) fn put_columns<W: Write>(
-    out: &mut W,
-    table: &mut Buffered,
-    window: Window,
-    bottom: u64,
-    dots: &[Dot],
-)
-    ensures { Puts (W.contents out.old) table.old (W.contents out.new) table.new (flat_map (column_element window bottom) dots.now) }
+pub(crate) fn put_columns<W: Write>(out: &mut Out<'_, W>, window: Window, bottom: u64, dots: &[Dot])
+    ensures { Puts out.old out.new (flat_map (column_element window bottom) dots.now) }
 {
     for dot in dots {
-        put_column(out, table, window, bottom, dot);
+        put_column(out, window, bottom, dot);
     }
 }

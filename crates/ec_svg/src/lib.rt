@@ -5,6 +5,7 @@ mod calls;
 mod curves;
 mod dots;
 mod elements;
+mod findings;
 mod marks;
 mod note;
 mod places;

@@ -14,7 +14,7 @@ use ec_core::{Act, Reply};
 use ec_draw::{Curve, Window};
 use ec_frame::Frame;
 use ec_order::Placed;
-use ec_text::Buffered;
+use ec_text::Out;
 use std::io::Write;
 
 /// The eventcount that a read or an await reads, by its number.
@@ -62,8 +62,7 @@ fn has_mark(window: Window, placed: &Placed) -> bool
 
 /// Puts the tie to a curve.
 fn put_tie_to<W: Write>(
-    out: &mut W,
-    table: &mut Buffered,
+    out: &mut Out<'_, W>,
     frame: &Frame,
     rows: usize,
     placed: &Placed,
@@ -71,7 +70,7 @@ fn put_tie_to<W: Write>(
     curve: &Curve,
 )
     requires { rows ≤ 16 }
-    ensures { Puts (W.contents out.old) table.old (W.contents out.new) table.new (tie_to (framed frame.now) rows placed.now place (Some (shown curve.now))) }
+    ensures { Puts out.old out.new (tie_to (framed frame.now) rows placed.now place (Some (shown curve.now))) }
 {
     let x = mark_place(frame.window, placed);
     let from = Place {
@@ -87,25 +86,24 @@ fn put_tie_to<W: Write>(
             number_of(&placed.call.reply),
         ),
     };
-    put_line(out, table, b"tie", from, to);
+    put_line(out, b"tie", from, to);
 }
 
 /// Puts the tie of a read or an await to the total that it was told.
 fn put_tie<W: Write>(
-    out: &mut W,
-    table: &mut Buffered,
+    out: &mut Out<'_, W>,
     frame: &Frame,
     rows: usize,
     curves: &[Curve],
     placed: &Placed,
 )
     requires { rows ≤ 16 }
-    ensures { Puts (W.contents out.old) table.old (W.contents out.new) table.new (tie (framed frame.now) rows (map shown curves.now) placed.now (read_of placed.now.call.op)) }
+    ensures { Puts out.old out.new (tie (framed frame.now) rows (map shown curves.now) placed.now (read_of placed.now.call.op)) }
 {
     if let Some(event) = read_of(&placed.call.op) {
         if let Some(curve) = curves.get(event) {
             let place = frame.curves_before(curves, event);
-            put_tie_to(out, table, frame, rows, placed, place, curve);
+            put_tie_to(out, frame, rows, placed, place, curve);
         }
     }
 }
@@ -113,54 +111,51 @@ fn put_tie<W: Write>(
 /// Puts the mark of a call, with its tie.
 #[tactic(auto, unfolding(crate::specs::Svg::mark_group))]
 fn put_mark_group<W: Write>(
-    out: &mut W,
-    table: &mut Buffered,
+    out: &mut Out<'_, W>,
     frame: &Frame,
     rows: usize,
     curves: &[Curve],
     placed: &Placed,
 )
     requires { rows ≤ 16 }
-    ensures { Puts (W.contents out.old) table.old (W.contents out.new) table.new (mark_group (framed frame.now) rows (map shown curves.now) placed.now) }
+    ensures { Puts out.old out.new (mark_group (framed frame.now) rows (map shown curves.now) placed.now) }
 {
-    put_tie(out, table, frame, rows, curves, placed);
+    put_tie(out, frame, rows, curves, placed);
     let at = Place {
         x: mark_place(frame.window, placed),
         y: row(frame, placed.call.worker) + 43,
     };
-    put_diamond(out, table, at);
+    put_diamond(out, at);
 }
 
 /// Puts the mark of a call, if the call is drawn and its point is within the window.
 fn put_mark<W: Write>(
-    out: &mut W,
-    table: &mut Buffered,
+    out: &mut Out<'_, W>,
     frame: &Frame,
     rows: usize,
     curves: &[Curve],
     placed: &Placed,
 )
     requires { rows ≤ 16 }
-    ensures { Puts (W.contents out.old) table.old (W.contents out.new) table.new (mark_element (framed frame.now) rows (map shown curves.now) placed.now) }
+    ensures { Puts out.old out.new (mark_element (framed frame.now) rows (map shown curves.now) placed.now) }
 {
     if frame.draws(placed.call.worker, &placed.call.op) && has_mark(frame.window, placed) {
-        put_mark_group(out, table, frame, rows, curves, placed);
+        put_mark_group(out, frame, rows, curves, placed);
     }
 }
 
 /// Puts the marks.
 pub(crate) fn put_marks<W: Write>(
-    out: &mut W,
-    table: &mut Buffered,
+    out: &mut Out<'_, W>,
     frame: &Frame,
     rows: usize,
     curves: &[Curve],
     calls: &[Placed],
 )
     requires { rows ≤ 16 }
-    ensures { Puts (W.contents out.old) table.old (W.contents out.new) table.new (flat_map (mark_element (framed frame.now) rows (map shown curves.now)) calls.now) }
+    ensures { Puts out.old out.new (flat_map (mark_element (framed frame.now) rows (map shown curves.now)) calls.now) }
 {
     for placed in calls {
-        put_mark(out, table, frame, rows, curves, placed);
+        put_mark(out, frame, rows, curves, placed);
     }
 }

@@ -15,7 +15,7 @@ use ec_frame::{
     Frame, Note, Told, is_of_round, put_fault_told, put_line_told, put_read_told, put_total_told,
     told_of,
 };
-use ec_text::Buffered;
+use ec_text::Out;
 use ec_trace::Spellings;
 use std::io::Write;
 
@@ -52,52 +52,39 @@ pub(crate) fn note_height(note: &Option<Note<'_>>, dots: &[Dot]) -> u64
 }
 
 /// Puts a band over the column of a faulty line, if it is shown.
-fn put_band<W: Write>(
-    out: &mut W,
-    table: &mut Buffered,
-    window: Window,
-    bottom: u64,
-    position: usize,
-)
-    ensures { Puts (W.contents out.old) table.old (W.contents out.new) table.new (band window bottom position) }
+fn put_band<W: Write>(out: &mut Out<'_, W>, window: Window, bottom: u64, position: usize)
+    ensures { Puts out.old out.new (band window bottom position) }
 {
     if window.shows(position) {
         let x = centre(window, position);
-        put_line(
-            out,
-            table,
-            b"wrong",
-            Place { x, y: 34 },
-            Place { x, y: bottom },
-        );
+        put_line(out, b"wrong", Place { x, y: 34 }, Place { x, y: bottom });
     }
 }
 
 /// Puts the faulty line.
 #[tactic(auto, unfolding(crate::specs::Notes::line_text))]
-fn put_line_text<W: Write>(out: &mut W, table: &mut Buffered, y: u64, note: &Note<'_>)
-    ensures { Puts (W.contents out.old) table.old (W.contents out.new) table.new (line_text y (noted note.now)) }
+fn put_line_text<W: Write>(out: &mut Out<'_, W>, y: u64, note: &Note<'_>)
+    ensures { Puts out.old out.new (line_text y (noted note.now)) }
 {
-    start_text(out, table, b"fault", Place { x: 16, y });
-    put_line_told(out, table, note);
-    end_text(out, table);
+    start_text(out, b"fault", Place { x: 16, y });
+    put_line_told(out, note);
+    end_text(out);
 }
 
 /// Puts what is wrong with it, and what was right.
 #[tactic(auto, unfolding(crate::specs::Notes::fault_text))]
-fn put_fault_text<W: Write>(out: &mut W, table: &mut Buffered, y: u64, note: &Note<'_>)
-    ensures { Puts (W.contents out.old) table.old (W.contents out.new) table.new (fault_text y (noted note.now)) }
+fn put_fault_text<W: Write>(out: &mut Out<'_, W>, y: u64, note: &Note<'_>)
+    ensures { Puts out.old out.new (fault_text y (noted note.now)) }
 {
-    start_text(out, table, b"fault", Place { x: 16, y });
-    put_fault_told(out, table, &note.fault);
-    end_text(out, table);
+    start_text(out, b"fault", Place { x: 16, y });
+    put_fault_told(out, &note.fault);
+    end_text(out);
 }
 
 /// Puts the totals of the eventcount that its call reads.
 #[tactic(auto, unfolding(crate::specs::Notes::total_text))]
 fn put_total_text<W: Write>(
-    out: &mut W,
-    table: &mut Buffered,
+    out: &mut Out<'_, W>,
     spellings: &Spellings<'_>,
     window: Window,
     y: u64,
@@ -105,17 +92,16 @@ fn put_total_text<W: Write>(
     told: &Told,
     curve: &Curve,
 )
-    ensures { Puts (W.contents out.old) table.old (W.contents out.new) table.new (total_text spellings.now window y (noted note.now) told.now (shown curve.now)) }
+    ensures { Puts out.old out.new (total_text spellings.now window y (noted note.now) told.now (shown curve.now)) }
 {
-    start_text(out, table, b"fault", Place { x: 16, y });
-    put_total_told(out, table, spellings, window, note, told, curve);
-    end_text(out, table);
+    start_text(out, b"fault", Place { x: 16, y });
+    put_total_told(out, spellings, window, note, told, curve);
+    end_text(out);
 }
 
 /// Puts these totals, if the eventcount has a curve.
 fn put_total_at<W: Write>(
-    out: &mut W,
-    table: &mut Buffered,
+    out: &mut Out<'_, W>,
     spellings: &Spellings<'_>,
     window: Window,
     y: u64,
@@ -123,18 +109,17 @@ fn put_total_at<W: Write>(
     told: &Told,
     curves: &[Curve],
 )
-    ensures { Puts (W.contents out.old) table.old (W.contents out.new) table.new (total_at spellings.now window y (noted note.now) told.now (map shown curves.now)) }
+    ensures { Puts out.old out.new (total_at spellings.now window y (noted note.now) told.now (map shown curves.now)) }
 {
     if let Some(curve) = curves.get(told.event) {
-        put_total_text(out, table, spellings, window, y, note, told, curve);
+        put_total_text(out, spellings, window, y, note, told, curve);
     }
 }
 
 /// Puts what an entry of the round read.
 #[tactic(auto, unfolding(crate::specs::Notes::read_text))]
 fn put_read_text<W: Write>(
-    out: &mut W,
-    table: &mut Buffered,
+    out: &mut Out<'_, W>,
     top: u64,
     note: &Note<'_>,
     position: usize,
@@ -142,56 +127,41 @@ fn put_read_text<W: Write>(
     number: u64,
 )
     requires { top ≤ 10000 }
-    ensures { Puts (W.contents out.old) table.old (W.contents out.new) table.new (read_text top (noted note.now) position component number) }
+    ensures { Puts out.old out.new (read_text top (noted note.now) position component number) }
 {
     let y = top + 42 + 14 * component.min(15) as u64;
-    start_text(out, table, b"fault", Place { x: 16, y });
-    put_read_told(out, table, note, position, component, number);
-    end_text(out, table);
+    start_text(out, b"fault", Place { x: 16, y });
+    put_read_told(out, note, position, component, number);
+    end_text(out);
 }
 
 /// Puts what an entry read, if it is one of the round.
-fn put_read<W: Write>(
-    out: &mut W,
-    table: &mut Buffered,
-    top: u64,
-    note: &Note<'_>,
-    told: &Told,
-    dot: &Dot,
-)
+fn put_read<W: Write>(out: &mut Out<'_, W>, top: u64, note: &Note<'_>, told: &Told, dot: &Dot)
     requires { top ≤ 10000 }
-    ensures { Puts (W.contents out.old) table.old (W.contents out.new) table.new (read_element top (noted note.now) told.now dot.now) }
+    ensures { Puts out.old out.new (read_element top (noted note.now) told.now dot.now) }
 {
     if is_of_round(told, dot) {
         if let Some(component) = dot.component {
             if let Some(number) = dot.number {
-                put_read_text(out, table, top, note, dot.position, component, number);
+                put_read_text(out, top, note, dot.position, component, number);
             }
         }
     }
 }
 
 /// Puts what the entries of the round read.
-fn put_reads<W: Write>(
-    out: &mut W,
-    table: &mut Buffered,
-    top: u64,
-    note: &Note<'_>,
-    told: &Told,
-    dots: &[Dot],
-)
+fn put_reads<W: Write>(out: &mut Out<'_, W>, top: u64, note: &Note<'_>, told: &Told, dots: &[Dot])
     requires { top ≤ 10000 }
-    ensures { Puts (W.contents out.old) table.old (W.contents out.new) table.new (flat_map (read_element top (noted note.now) told.now) dots.now) }
+    ensures { Puts out.old out.new (flat_map (read_element top (noted note.now) told.now) dots.now) }
 {
     for dot in dots {
-        put_read(out, table, top, note, told, dot);
+        put_read(out, top, note, told, dot);
     }
 }
 
 /// Puts what the call of a faulty line had read, if it is a read or an await.
 fn put_told_texts<W: Write>(
-    out: &mut W,
-    table: &mut Buffered,
+    out: &mut Out<'_, W>,
     spellings: &Spellings<'_>,
     window: Window,
     top: u64,
@@ -200,20 +170,19 @@ fn put_told_texts<W: Write>(
     picture: &Picture,
 )
     requires { top ≤ 10000 }
-    ensures { Puts (W.contents out.old) table.old (W.contents out.new) table.new (told_texts spellings.now window top (noted note.now) told.now (kept picture.now)) }
+    ensures { Puts out.old out.new (told_texts spellings.now window top (noted note.now) told.now (kept picture.now)) }
 {
     if let Some(told) = told {
         let curves = picture.curves.as_slice();
-        put_total_at(out, table, spellings, window, top + 28, note, told, curves);
-        put_reads(out, table, top, note, told, picture.dots.as_slice());
+        put_total_at(out, spellings, window, top + 28, note, told, curves);
+        put_reads(out, top, note, told, picture.dots.as_slice());
     }
 }
 
 /// Puts all that is said of a faulty line.
 #[tactic(auto, unfolding(crate::specs::Notes::note_group))]
 fn put_note_group<W: Write>(
-    out: &mut W,
-    table: &mut Buffered,
+    out: &mut Out<'_, W>,
     spellings: &Spellings<'_>,
     window: Window,
     bottom: u64,
@@ -222,19 +191,18 @@ fn put_note_group<W: Write>(
     picture: &Picture,
 )
     requires { top ≤ 10000 }
-    ensures { Puts (W.contents out.old) table.old (W.contents out.new) table.new (note_group spellings.now window bottom top (noted note.now) (kept picture.now)) }
+    ensures { Puts out.old out.new (note_group spellings.now window bottom top (noted note.now) (kept picture.now)) }
 {
     let told = told_of(note, picture.dots.as_slice());
-    put_band(out, table, window, bottom, note.position);
-    put_line_text(out, table, top, note);
-    put_fault_text(out, table, top + 14, note);
-    put_told_texts(out, table, spellings, window, top, note, &told, picture);
+    put_band(out, window, bottom, note.position);
+    put_line_text(out, top, note);
+    put_fault_text(out, top + 14, note);
+    put_told_texts(out, spellings, window, top, note, &told, picture);
 }
 
 /// Puts what is said of a faulty line, if there is one.
 pub(crate) fn put_note<W: Write>(
-    out: &mut W,
-    table: &mut Buffered,
+    out: &mut Out<'_, W>,
     spellings: &Spellings<'_>,
     frame: &Frame,
     bottom: u64,
@@ -243,18 +211,9 @@ pub(crate) fn put_note<W: Write>(
     picture: &Picture,
 )
     requires { top ≤ 10000 }
-    ensures { Puts (W.contents out.old) table.old (W.contents out.new) table.new (note_element spellings.now (framed frame.now) bottom top (noted_in note.now) (kept picture.now)) }
+    ensures { Puts out.old out.new (note_element spellings.now (framed frame.now) bottom top (noted_in note.now) (kept picture.now)) }
 {
     if let Some(note) = note {
-        put_note_group(
-            out,
-            table,
-            spellings,
-            frame.window,
-            bottom,
-            top,
-            note,
-            picture,
-        );
+        put_note_group(out, spellings, frame.window, bottom, top, note, picture);
     }
 }

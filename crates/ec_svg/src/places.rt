@@ -1,5 +1,5 @@
 //! Where things stand in a picture, in pixels.
-ghost use Rattle.std.specs.Prelude.{◌≡◌, ◌≤◌, ◌<◌, ◌+◌};
+ghost use Rattle.std.specs.Prelude.{◌≡◌, ◌≤◌, ◌<◌, ◌+◌, max};
 ghost use Rattle.ec_frame.specs.Frames.{framed};
 ghost use Rattle.ec_svg.specs.Places.{base, below, centre, edge, high_of, level, low_of, picture_height, picture_width, rise, row, span_of};
 
@@ -54,10 +54,10 @@ pub(crate) fn below(rows: usize) -> u64
 pub(crate) fn base(rows: usize, curve: usize) -> u64
     requires { rows ≤ 16 }
     ensures value { result ≡ base rows curve }
-    ensures small { result ≤ 6716 }
+    ensures small { result ≤ 9404 }
     ensures high { 124 ≤ result }
 {
-    below(rows) + 84 * curve.min(64) as u64 + 64
+    below(rows) + 84 * curve.min(96) as u64 + 64
 }
 
 /// How wide a picture is.
@@ -72,23 +72,38 @@ pub(crate) fn picture_width(window: Window) -> u64
 pub(crate) fn picture_height(rows: usize, curves: usize) -> u64
     requires { rows ≤ 16 }
     ensures value { result ≡ picture_height rows curves }
-    ensures small { result ≤ 7000 }
+    ensures small { result ≤ 9400 }
 {
-    below(rows) + 84 * curves.min(64) as u64 + 30
+    below(rows) + 84 * curves.min(96) as u64 + 30
 }
 
-/// The least count of a curve.
+/// The least number of a curve.
 pub(crate) fn low_of(heights: &[u64]) -> u64
     ensures { result ≡ low_of heights.now }
 {
-    heights.first().copied().unwrap_or(0)
+    let mut least = heights.first().copied().unwrap_or(0);
+    for height in heights {
+        least = least.min(*height);
+    }
+    least
 }
 
-/// The greatest count of a curve.
+/// The greater of two numbers.
+fn greater(a: u64, b: u64) -> u64
+    ensures { result ≡ max a b }
+{
+    a.max(b)
+}
+
+/// The greatest number of a curve.
 pub(crate) fn high_of(heights: &[u64]) -> u64
     ensures { result ≡ high_of heights.now }
 {
-    heights.last().copied().unwrap_or(0)
+    let mut greatest = 0;
+    for height in heights {
+        greatest = greater(greatest, *height);
+    }
+    greatest
 }
 
 /// By how much a curve rises, at least 1.

@@ -22,6 +22,7 @@ text { font-family: 'DejaVu Sans Mono', monospace; font-size: 10px; fill: #1f293
 .tie { stroke: #1f2933; stroke-dasharray: 1 3; stroke-width: 1.4; }
 .mark { fill: #ffffff; stroke: #1f2933; stroke-width: 2; }
 .curve { fill: none; stroke: #009e73; stroke-width: 2; }
+.balance { fill: none; stroke: #d55e00; stroke-width: 3; stroke-dasharray: 8 2; }
 circle { fill: #1f2933; }
 rect { fill-opacity: 0.35; stroke-width: 1.5; }
 .advance rect { fill: #009e73; stroke: #009e73; }
@@ -32,22 +33,32 @@ rect { fill-opacity: 0.35; stroke-width: 1.5; }
 .get rect { fill: #56b4e9; stroke: #56b4e9; }
 .hand rect { fill: #f0e442; stroke: #f0e442; }
 .open rect { stroke-dasharray: 5 3; }
+.version rect { fill: #7b8794; fill-opacity: 0.22; }
+.arrow { fill: none; stroke: #1f2933; stroke-width: 1.5; marker-end: url(#tip); }
+.tip { fill: #1f2933; }
 .wrong { stroke: #c1121f; stroke-width: 84; stroke-opacity: 0.2; }
 .fault { font-size: 12px; fill: #c1121f; }
 @media (prefers-color-scheme: dark) {
-text, circle { fill: #e4e7eb; }
+text, circle, .tip { fill: #e4e7eb; }
 .paper, .mark { fill: #14191f; }
 .grid { stroke: #323f4b; }
-.round, .tie, .mark { stroke: #e4e7eb; }
+.round, .tie, .mark, .arrow { stroke: #e4e7eb; }
 .wrong { stroke: #ff8a80; }
 .fault { fill: #ff8a80; }
 }
 </style>
+<marker id='tip' markerUnits='userSpaceOnUse' markerWidth='10' markerHeight='10' refX='9' refY='4' orient='auto'><path class='tip' d='M 0 0 L 9 4 L 0 8 z'/></marker>
 <path class='paper' d='M 0 0 H 100000 V 100000 H 0 z'/>
 ";
 
 /// The beginning of the group of a call under way.
 pub(crate) const OPEN_GROUP: &[u8] = b"<g class='open ";
+
+/// The beginning of the group of a shade.
+pub(crate) const VERSION_GROUP: &[u8] = b"<g class='version'>";
+
+/// The beginning of the group of an arrow.
+pub(crate) const DELIVERY_GROUP: &[u8] = b"<g class='delivery'>";
 
 /// The beginning of a bar.
 pub(crate) const BAR: &[u8] = b"<rect rx='6' x='";

@@ -1,3 +1,4 @@
 pub mod shared
 pub mod AppendLemmas
 pub mod LineCuts
+mod InputLemmas

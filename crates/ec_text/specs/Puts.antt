@@ -2,16 +2,28 @@
 use Rattle.std.specs.Prelude.{◌≡◌, ◌<◌, [], ℕ, List, ◌++◌, length, Option, Some, None, Bool, true, false, ⊤}
 use Rattle.std.specs.Io.KnownBytes.{Appends}
 
--- bytes that wait for the writer, and whether a write has failed
-pub record Held : Type 0 where
-  pub bytes : List ℕ
+-- bytes on their way: the writer, by the name of the reference to it; what it holds, where that is known; the bytes that wait for it; and
+-- whether a write has failed
+pub record Outgoing : Type 0 where
+  pub writer : ℕ
+  pub contents : Option (List ℕ)
+  pub waiting : List ℕ
   pub failed : Bool
 
-abbrev pub nothing_held : Held
-nothing_held = record { bytes = []; failed = false }
+-- a writer that holds this, before which nothing waits
+abbrev pub at_first : ℕ → Option (List ℕ) → Outgoing
+at_first writer contents = record { writer = writer; contents = contents; waiting = []; failed = false }
 
-abbrev pub with_bytes : Held → List ℕ → Held
-with_bytes held bs = record { bytes = held.bytes ++ bs; failed = held.failed }
+-- no byte waits, and no write has failed
+abbrev pub IsFresh : Outgoing → Type 0
+IsFresh out = (out.waiting ≡ []) × (out.failed ≡ false)
+
+-- no byte waits: all were written, or a write has failed
+abbrev pub IsWrittenOut : Outgoing → Type 0
+IsWrittenOut out = out.failed ≡ false → out.waiting ≡ []
+
+abbrev pub with_bytes : Outgoing → List ℕ → Outgoing
+with_bytes out bs = record out { waiting = out.waiting ++ bs }
 
 -- known bytes stay at the front, and a proper front of bs follows: not the whole of it
 abbrev pub AppendsPrefix : Option (List ℕ) → Option (List ℕ) → List ℕ → Type 0
@@ -25,10 +37,11 @@ abbrev pub HoldsAs : Option (List ℕ) → Option (List ℕ) → Bool → List �
 HoldsAs start now false waiting all = (written : List ℕ) × (all ≡ written ++ waiting) × Appends start now written
 HoldsAs start now true waiting all = AppendsPrefix start now all
 
--- The same of a table. It does not unfold by itself, so that callers' proofs stay short: what they need are the clauses alone.
-unfoldable pub Holds : Option (List ℕ) → Option (List ℕ) → Held → List ℕ → Type 0
-Holds start now held all = HoldsAs start now held.failed held.bytes all
+-- The same of a writer before which nothing waited first. It does not unfold by itself, so that callers' proofs stay short: what they
+-- need are the clauses alone.
+unfoldable pub Holds : Outgoing → Outgoing → List ℕ → Type 0
+Holds first out all = (out.writer ≡ first.writer) × HoldsAs first.contents out.contents out.failed out.waiting all
 
 -- The bytes were put, whatever had been put before.
-abbrev pub Puts : Option (List ℕ) → Held → Option (List ℕ) → Held → List ℕ → Type 0
-Puts old held new held' bs = (start : Option (List ℕ)) (all : List ℕ) → Holds start old held all → Holds start new held' (all ++ bs)
+abbrev pub Puts : Outgoing → Outgoing → List ℕ → Type 0
+Puts old new bs = (first : Outgoing) (all : List ℕ) → Holds first old all → Holds first new (all ++ bs)

@@ -1,19 +1,21 @@
-//! Texts: lines, the words of a line, numbers and their digits, and bytes on their way to a writer.
+//! Texts: the bytes of an input, lines, the words of a line, numbers and their digits, and bytes on their way to a writer.
 #![tactic(auto)]
 
-mod buffered;
+mod input;
 mod laws;
 mod lines;
 mod numbers;
+mod output;
 mod words;
 mod writing;
 
-pub use buffered::{Buffered, finish, flush, put, put_all, put_byte, put_number};
+pub use input::{Input, read_piece, read_up_to};
 pub use laws::{
     join_is_undone, number_has_one_spelling, number_is_read_back, numbers_are_short_forms,
     split_is_undone, words_have_no_space,
 };
 pub use lines::cut_line;
 pub use numbers::{is_number_form, number};
+pub use output::Out;
 pub use words::{cut_word, has_blank};
 pub use writing::{WriteFault, write_out};

@@ -18,7 +18,7 @@ use Rattle.ec_heading.specs.Headed.{Headed}
 use Rattle.ec_heading.specs.Outline.{Declaration, Outline, IsOutline, IsDeclarable, AreDeclarable, declared_by}
 use Rattle.ec_heading.specs.declared.sort.Sort.{Sort}
 use Rattle.ec_heading.specs.declared.heading.HeadFault.TheVariants as faults
-use Rattle.ec_heading.specs.Sorts.{sort_word, has_name, has_number, opener, other, is_called}
+use Rattle.ec_heading.specs.Sorts.{sort_word, has_name, has_number, opener, second_opener, is_called}
 use Rattle.ec_heading.specs.Spelling.{word_of, cell_word, act_words, reply_word, entry_words, entry_line, limit_line, declaration_line, declaration_words, list_words, name_words, number_words, second_words}
 use Rattle.ec_heading.specs.Spelled.{Named}
 use Rattle.ec_heading.specs.Heading.{head_step, is_no_line, words_step}
@@ -104,12 +104,12 @@ small_number h d may = omega (arith, number_small d.sort d.number may.range)
 declaration_clean : (workers : List (List ℕ)) (h : Headed) (d : Declaration) → AllByRecursion Lacks workers → IsDeclarable h d → Lacks (declaration_line workers d)
 declaration_clean workers h d all may =
     lacks_join (declaration_words workers d)
-    (each_append Lacks (sort_word d.sort ∷ name_words d.sort d.name ++ number_words d.sort d.number ++ opener d.sort ∷ list_words workers d.first) (second_words workers (other d.sort) d.second)
+    (each_append Lacks (sort_word d.sort ∷ name_words d.sort d.name ++ number_words d.sort d.number ++ opener d.sort ∷ list_words workers d.first) (second_words workers (second_opener d.sort) d.second)
     (each_append Lacks (sort_word d.sort ∷ name_words d.sort d.name ++ number_words d.sort d.number) (opener d.sort ∷ list_words workers d.first)
     (each_append Lacks (sort_word d.sort ∷ name_words d.sort d.name) (number_words d.sort d.number)
     (text_clean (sort_word d.sort) (sort_literal d.sort), name_words_clean d.sort d.name may.word) (number_words_clean d.sort d.number (small_number h d may)))
     (text_clean (opener d.sort) (opener_literal d.sort), list_clean workers d.first all))
-    (second_clean (other d.sort) workers d.second (other_stop d.sort) all))
+    (second_clean (second_opener d.sort) workers d.second (other_stop d.sort) all))
 
 declarations_clean : (workers : List (List ℕ)) (h : Headed) (ds : List Declaration) → AllByRecursion Lacks workers → AreDeclarable h ds → AllByRecursion Lacks (map (declaration_line workers) ds)
 declarations_clean workers h [] all may = tt

@@ -2,7 +2,7 @@
 use Rattle.std.proofs.Common.{◌≡◌, ℕ, List, [], ◌∷◌, ◌++◌, map, Option, Some, None, refl, sym, ap, ◌∙◌, append_assoc, codes}
 use Rattle.std.specs.List.{join_with_byte}
 use Rattle.ec_core.specs.declared.act.Entry.{Entry}
-use Rattle.ec_heading.specs.Sorts.{sort_word, opener, other}
+use Rattle.ec_heading.specs.Sorts.{sort_word, opener, second_opener}
 use Rattle.ec_heading.specs.Outline.{Declaration, Outline, IsOutline, headed}
 use Rattle.ec_heading.specs.Spelling.{Named, list_words, second_words, name_words, number_words, declaration_line, limit_line, workers_line, trace_header, entry_line, heading_lines, text_of, trace_text}
 use Rattle.ec_heading.specs.Recalled.{names_of, second_names, declared_words, declared_line, declarations_of, worker_names, opening_text, written_text}
@@ -22,8 +22,8 @@ second_same ws names (Some word) (i ∷ ids) h = ap (λ (r : List (List ℕ)). w
 line_same : (ws : List (List ℕ)) (names : Named) (d : Declaration) → ((is : List ℕ) → names_of names is ≡ list_words ws is) → declared_line names d ≡ declaration_line ws d
 line_same ws names d h =
     sym (join_spaced (sort_word d.sort) (declared_words names d))
-    ∙ ap (λ (r : List (List ℕ)). join_with_byte 32 (sort_word d.sort ∷ (name_words d.sort d.name ++ number_words d.sort d.number ++ opener d.sort ∷ r) ++ second_names names (other d.sort) d.second)) (h d.first)
-    ∙ ap (λ (r : List (List ℕ)). join_with_byte 32 (sort_word d.sort ∷ (name_words d.sort d.name ++ number_words d.sort d.number ++ opener d.sort ∷ list_words ws d.first) ++ r)) (second_same ws names (other d.sort) d.second h)
+    ∙ ap (λ (r : List (List ℕ)). join_with_byte 32 (sort_word d.sort ∷ (name_words d.sort d.name ++ number_words d.sort d.number ++ opener d.sort ∷ r) ++ second_names names (second_opener d.sort) d.second)) (h d.first)
+    ∙ ap (λ (r : List (List ℕ)). join_with_byte 32 (sort_word d.sort ∷ (name_words d.sort d.name ++ number_words d.sort d.number ++ opener d.sort ∷ list_words ws d.first) ++ r)) (second_same ws names (second_opener d.sort) d.second h)
 
 lines_same : (ws : List (List ℕ)) (names : Named) (ds : List Declaration) → ((is : List ℕ) → names_of names is ≡ list_words ws is) → map (declared_line names) ds ≡ map (declaration_line ws) ds
 lines_same ws names [] h = refl

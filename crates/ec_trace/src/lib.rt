@@ -14,12 +14,11 @@ mod write;
 mod write_heading;
 
 pub use ec_heading::{
-    Group, HeadFault, Heading, Sort, Version, lines_have_an_outline, outline_lines_lead,
-    read_declaration_is_spelled, read_workers_are_spelled, spelled_declaration_is_read,
-    spelled_workers_are_read,
+    Group, HeadFault, Heading, LINE_MAX, Sort, Version, lines_have_an_outline, outline_lines_lead,
+    read_declaration_is_spelled, read_workers_are_spelled, semaphores_of,
+    spelled_declaration_is_read, spelled_workers_are_read,
 };
 pub use fault::TraceFault;
-pub use progress::LINE_MAX;
 pub use read::{TRACE_MAX, read_trace};
 pub use reading_laws::{
     entries_are_spelled, failed_read_has_no_fault, fault_of_the_whole, faults_of_entries,

@@ -6,12 +6,10 @@ use crate::fault::{LineFault, StageFault, TraceFault};
 use crate::stage::Stage;
 use crate::traced::Traced;
 use arrayvec::ArrayVec;
+use ec_heading::LINE_MAX;
 use ec_text::cut_line;
 use std::alloc::Global;
 use std::marker::Model;
-
-/// The most bytes that a line may have without its LF.
-pub const LINE_MAX: usize = 8192;
 
 /// The fault of a line, with its number.
 fn fault_at(number: u64, fault: StageFault) -> TraceFault

@@ -1,7 +1,5 @@
 //! A whole trace, from a reader.
 ghost use Rattle.std.specs.Prelude.{◌≡◌, ◌≤◌, ◌<◌, ◌+◌, ◌^◌, IfSome, IfOk, IfErr, length, take};
-ghost use Rattle.std.specs.Io.KnownBytes.{ReadConsumes};
-ghost use Rattle.std.specs.Io.{ReadsAtMost};
 ghost use Rattle.ec_trace.specs.Outcome.{Arrives, Moves, Tells, start};
 ghost use Rattle.ec_trace.specs.ReadingLaws.{IsTraceOf, Refuses};
 
@@ -9,21 +7,12 @@ use crate::fault::TraceFault;
 use crate::progress::Progress;
 use crate::traced::Traced;
 use arrayvec::ArrayVec;
+use ec_text::read_piece;
 use std::alloc::Global;
-use std::io;
 use std::io::Read;
 
 /// The most bytes that a trace may have.
 pub const TRACE_MAX: usize = 67_108_864;
-
-/// Reads the next piece into the front of the table, which stays full.
-fn read_piece<R: Read>(reader: &mut R, table: &mut ArrayVec<u8, 8192>) -> io::Result<usize>
-    ensures len { length table.new.items ≡ length table.old.items }
-    ensures bound { ReadsAtMost result table.new.items }
-    ensures bytes { ReadConsumes (R.remaining reader.old) (R.remaining reader.new) result table.new.items }
-{
-    reader.read(table.as_mut_slice())
-}
 
 /// Takes the front of the table.
 fn feed_front(

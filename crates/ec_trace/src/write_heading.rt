@@ -3,13 +3,13 @@ ghost use Rattle.std.specs.Prelude.{◌≡◌, ◌≤◌, ◌∷◌, ◌++◌, [
 ghost use Rattle.std.specs.List.{range_with_len};
 ghost use Rattle.ec_text.specs.Puts.{Puts};
 ghost use Rattle.ec_heading.specs.Spelling.{trace_header, word_of, name_words, number_words, limit_line, workers_line, text_of};
-ghost use Rattle.ec_heading.specs.Sorts.{sort_word, opener, other};
+ghost use Rattle.ec_heading.specs.Sorts.{sort_word, opener, second_opener};
 ghost use Rattle.ec_heading.specs.Recalled.{names_of, worker_names, declared_group, declaration_of, declarations_of, declared_line, declared_text, opening_text, second_names, spaced};
 
 use crate::spell::Spellings;
 use ec_count::{Setup, Target, WorkerId};
 use ec_heading::{Group, Heading, Sort, Version};
-use ec_text::{Buffered, put, put_byte, put_number};
+use ec_text::Out;
 use std::io::Write;
 use std::marker::Model;
 
@@ -114,128 +114,106 @@ fn line_of(heading: &Heading, target: Target) -> Option<Line<'_>>
 }
 
 /// Puts a word with a space before it.
-fn put_word<W: Write>(writer: &mut W, buffered: &mut Buffered, word: &[u8])
-    ensures { Puts (W.contents writer.old) buffered.old (W.contents writer.new) buffered.new (32 ∷ word.now) }
+fn put_word<W: Write>(out: &mut Out<'_, W>, word: &[u8])
+    ensures { Puts out.old out.new (32 ∷ word.now) }
 {
-    put_byte(writer, buffered, b' ');
-    put(writer, buffered, word);
+    out.put_byte(b' ');
+    out.put(word);
 }
 
 /// Puts the names of workers, each with a space before it.
-fn put_names<W: Write>(
-    writer: &mut W,
-    buffered: &mut Buffered,
-    spellings: &Spellings<'_>,
-    workers: &[WorkerId],
-)
-    ensures { Puts (W.contents writer.old) buffered.old (W.contents writer.new) buffered.new (spaced (names_of spellings.now workers.now)) }
+fn put_names<W: Write>(out: &mut Out<'_, W>, spellings: &Spellings<'_>, workers: &[WorkerId])
+    ensures { Puts out.old out.new (spaced (names_of spellings.now workers.now)) }
 {
     for worker in workers {
-        put_word(writer, buffered, spellings.worker(*worker));
+        put_word(out, spellings.worker(*worker));
     }
 }
 
 /// Puts a name with a space before it, where such a declaration has one.
-fn put_name<W: Write>(writer: &mut W, buffered: &mut Buffered, sort: Sort, name: &[u8])
-    ensures { Puts (W.contents writer.old) buffered.old (W.contents writer.new) buffered.new (spaced (name_words sort name.now)) }
+fn put_name<W: Write>(out: &mut Out<'_, W>, sort: Sort, name: &[u8])
+    ensures { Puts out.old out.new (spaced (name_words sort name.now)) }
 {
     if sort.has_name() {
-        put_word(writer, buffered, name);
+        put_word(out, name);
     }
 }
 
 /// Puts a number with a space before it, where such a declaration has one.
-fn put_amount<W: Write>(writer: &mut W, buffered: &mut Buffered, sort: Sort, number: usize)
-    ensures { Puts (W.contents writer.old) buffered.old (W.contents writer.new) buffered.new (spaced (number_words sort number)) }
+fn put_amount<W: Write>(out: &mut Out<'_, W>, sort: Sort, number: usize)
+    ensures { Puts out.old out.new (spaced (number_words sort number)) }
 {
     if sort.has_number() {
-        put_byte(writer, buffered, b' ');
-        put_number(writer, buffered, number as u64);
+        out.put_byte(b' ');
+        out.put_number(number as u64);
     }
 }
 
 /// Puts the second list with the word before it, nothing where the list is empty.
 fn put_second<W: Write>(
-    writer: &mut W,
-    buffered: &mut Buffered,
+    out: &mut Out<'_, W>,
     spellings: &Spellings<'_>,
     sort: Sort,
     workers: &[WorkerId],
 )
-    ensures { Puts (W.contents writer.old) buffered.old (W.contents writer.new) buffered.new (spaced (second_names spellings.now (other sort) workers.now)) }
+    ensures { Puts out.old out.new (spaced (second_names spellings.now (second_opener sort) workers.now)) }
 {
-    if let Some(word) = sort.other() {
+    if let Some(word) = sort.second_opener() {
         if !workers.is_empty() {
-            put_word(writer, buffered, word);
-            put_names(writer, buffered, spellings, workers);
+            put_word(out, word);
+            put_names(out, spellings, workers);
         }
     }
 }
 
 /// Puts the line of a declaration, without LF.
 #[tactic(auto, using(crate::proofs::shared::LineParts::line_parts))]
-fn put_line<W: Write>(
-    writer: &mut W,
-    buffered: &mut Buffered,
-    spellings: &Spellings<'_>,
-    line: &Line<'_>,
-)
-    ensures { Puts (W.contents writer.old) buffered.old (W.contents writer.new) buffered.new (declared_line spellings.now line.now) }
+fn put_line<W: Write>(out: &mut Out<'_, W>, spellings: &Spellings<'_>, line: &Line<'_>)
+    ensures { Puts out.old out.new (declared_line spellings.now line.now) }
 {
-    put(writer, buffered, line.sort.word());
-    put_name(writer, buffered, line.sort, line.name);
-    put_amount(writer, buffered, line.sort, line.number);
-    put_word(writer, buffered, line.sort.opener());
-    put_names(writer, buffered, spellings, line.first);
-    put_second(writer, buffered, spellings, line.sort, line.second);
+    out.put(line.sort.word());
+    put_name(out, line.sort, line.name);
+    put_amount(out, line.sort, line.number);
+    put_word(out, line.sort.opener());
+    put_names(out, spellings, line.first);
+    put_second(out, spellings, line.sort, line.second);
 }
 
 /// Puts the names of the first workers, each with a space before it.
 #[tactic(auto, using(crate::proofs::shared::LineParts::one_more_worker))]
-fn put_workers<W: Write>(
-    writer: &mut W,
-    buffered: &mut Buffered,
-    spellings: &Spellings<'_>,
-    count: usize,
-)
+fn put_workers<W: Write>(out: &mut Out<'_, W>, spellings: &Spellings<'_>, count: usize)
     requires { count ≤ 16 }
-    ensures { Puts (W.contents writer.old) buffered.old (W.contents writer.new) buffered.new (spaced (names_of spellings.now (range_with_len 0 count))) }
+    ensures { Puts out.old out.new (spaced (names_of spellings.now (range_with_len 0 count))) }
 {
     for number in 0..count {
         if let Some(worker) = WorkerId::new(number) {
-            put_word(writer, buffered, spellings.worker(worker));
+            put_word(out, spellings.worker(worker));
         }
     }
 }
 
 /// Puts the line of what was declared for a target.
 fn put_target<W: Write>(
-    writer: &mut W,
-    buffered: &mut Buffered,
+    out: &mut Out<'_, W>,
     spellings: &Spellings<'_>,
     heading: &Heading,
     target: Target,
 )
-    ensures { Puts (W.contents writer.old) buffered.old (W.contents writer.new) buffered.new (declared_text spellings.now (declaration_of heading.now target)) }
+    ensures { Puts out.old out.new (declared_text spellings.now (declaration_of heading.now target)) }
 {
     if let Some(line) = line_of(heading, target) {
-        put_line(writer, buffered, spellings, &line);
-        put_byte(writer, buffered, b'\n');
+        put_line(out, spellings, &line);
+        out.put_byte(b'\n');
     }
 }
 
 /// Puts the lines of the declarations.
 #[tactic(auto, using(crate::proofs::shared::LineParts::one_more_target))]
-fn put_targets<W: Write>(
-    writer: &mut W,
-    buffered: &mut Buffered,
-    spellings: &Spellings<'_>,
-    heading: &Heading,
-)
-    ensures { Puts (W.contents writer.old) buffered.old (W.contents writer.new) buffered.new (text_of (map (declared_line spellings.now) (declarations_of heading.now))) }
+fn put_targets<W: Write>(out: &mut Out<'_, W>, spellings: &Spellings<'_>, heading: &Heading)
+    ensures { Puts out.old out.new (text_of (map (declared_line spellings.now) (declarations_of heading.now))) }
 {
     for target in heading.declarations() {
-        put_target(writer, buffered, spellings, heading, *target);
+        put_target(out, spellings, heading, *target);
     }
 }
 
@@ -250,29 +228,28 @@ pub(crate) fn first_line(version: Version) -> &'static [u8]
 }
 
 /// Puts the first line, without LF.
-fn put_first<W: Write>(writer: &mut W, buffered: &mut Buffered, version: Version)
-    ensures { Puts (W.contents writer.old) buffered.old (W.contents writer.new) buffered.new (trace_header version) }
+fn put_first<W: Write>(out: &mut Out<'_, W>, version: Version)
+    ensures { Puts out.old out.new (trace_header version) }
 {
-    put(writer, buffered, first_line(version));
+    out.put(first_line(version));
 }
 
 /// Puts the lines before the entries.
 #[tactic(auto, using(crate::proofs::shared::LineParts::opening_parts))]
 pub(crate) fn put_opening<W: Write>(
-    writer: &mut W,
-    buffered: &mut Buffered,
+    out: &mut Out<'_, W>,
     spellings: &Spellings<'_>,
     heading: &Heading,
 )
-    ensures { Puts (W.contents writer.old) buffered.old (W.contents writer.new) buffered.new (opening_text spellings.now heading.now) }
+    ensures { Puts out.old out.new (opening_text spellings.now heading.now) }
 {
     let setup = heading.setup();
-    put_first(writer, buffered, heading.version());
-    put(writer, buffered, b"\nlimit ");
-    put_number(writer, buffered, setup.limit().get());
-    put(writer, buffered, b"\nworkers");
-    put_workers(writer, buffered, spellings, setup.workers());
-    put_byte(writer, buffered, b'\n');
-    put_targets(writer, buffered, spellings, heading);
-    put(writer, buffered, b"run\n");
+    put_first(out, heading.version());
+    out.put(b"\nlimit ");
+    out.put_number(setup.limit().get());
+    out.put(b"\nworkers");
+    put_workers(out, spellings, setup.workers());
+    out.put_byte(b'\n');
+    put_targets(out, spellings, heading);
+    out.put(b"run\n");
 }

@@ -1,7 +1,8 @@
 //! `evc`: a tool for histories of eventcounts and sequencers.
 #![tactic(auto)]
 
-use evc_engine::{Notes, Status};
+use ec_text::Out;
+use evc_engine::Status;
 use evc_scripts::engine;
 use evc_task::{status_of, task};
 use std::alloc::AllocError;
@@ -11,7 +12,8 @@ use std::process::ExitCode;
 
 fn main(rt: HostRuntime) -> ExitCode {
     let alloc = rt.alloc();
-    let mut notes = Notes::new(rt.stderr());
+    let mut stderr = rt.stderr();
+    let mut notes = Out::new(&mut stderr);
     let words: Result<Vec<String>, AllocError> = match env::args(&rt) {
         Ok(args) => args.collect(alloc),
         Err(error) => {

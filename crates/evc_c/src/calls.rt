@@ -1,6 +1,5 @@
 //! The calls.
-ghost use Rattle.std.specs.Prelude.{◌≡◌, ◌≤◌, [], length, take, drop};
-ghost use Rattle.ec_text.specs.Puts.{nothing_held};
+ghost use Rattle.std.specs.Prelude.{◌≡◌, ◌≤◌, length, take, drop};
 ghost use Rattle.evc_engine.specs.Checks.{Checks};
 ghost use Rattle.evc_engine.specs.Audits.{Audits};
 ghost use Rattle.evc_engine.specs.Upgrades.{Upgrades};
@@ -10,12 +9,13 @@ ghost use Rattle.evc_c.specs.Rooms.{Fills};
 
 use crate::room::{Room, put_at};
 use arrayvec::ArrayVec;
-use evc_engine::{Notes, Status, audit, check, upgrade};
+use ec_text::Out;
+use evc_engine::{Status, audit, check, upgrade};
 use evc_scripts::sim;
 use std::alloc::Global;
 
 /// The notes of a call, of which there are less than a thousand bytes.
-type Noted = Notes<ArrayVec<u8, 1024>>;
+type Noted = ArrayVec<u8, 1024>;
 
 /// How many bytes were written of the text and of the notes.
 #[repr(C)]
@@ -29,21 +29,24 @@ fn hand_out(out: &Room<'_>, told: &Noted, notes: &mut [u8], written: &mut EvcWri
     ensures text { written.new.text ≡ out.now.len }
     ensures within { written.new.notes ≤ length notes.new }
     ensures long { length notes.new ≡ length notes.old }
-    ensures notes { take written.new.notes notes.new ≡ take (length notes.old) told.now.writer.items }
+    ensures notes { take written.new.notes notes.new ≡ take (length notes.old) told.now.items }
     ensures rest { drop written.new.notes notes.new ≡ drop written.new.notes notes.old }
 {
     written.text = out.len;
-    written.notes = put_at(notes, 0, told.writer.as_slice());
+    written.notes = put_at(notes, 0, told.as_slice());
 }
 
 /// `check`, of bytes and into a room.
 #[tactic(auto, using(crate::proofs::Grown::check_grows, crate::proofs::Grown::fills))]
-fn check_bytes(alloc: Global, trace: &[u8], out: &mut Room<'_>, notes: &mut Noted) -> Status
-    requires out { out.old.len ≡ 0 }
-    requires notes { notes.old.writer.items ≡ [] }
-    requires table { notes.old.table ≡ nothing_held }
+fn check_bytes(
+    alloc: Global,
+    trace: &[u8],
+    out: &mut Room<'_>,
+    notes: &mut Out<'_, Noted>,
+) -> Status
+    requires { out.old.len ≡ 0 }
     ensures same { out.new.bytes.ghost_name ≡ out.old.bytes.ghost_name }
-    ensures fills { Fills Checks trace.now result out.old out.new notes.new.writer.items }
+    ensures fills { Fills Checks trace.now result out.old out.new notes.old notes.new }
 {
     let mut reader = trace;
     check(alloc, &mut reader, out, notes)
@@ -67,20 +70,24 @@ pub extern "C" fn evc_check(
     ensures rest { drop written.new.notes notes.new ≡ drop written.new.notes notes.old }
 {
     let mut out = Room::new(text);
-    let mut told = Notes::new(ArrayVec::new());
+    let mut bytes = Noted::new();
+    let mut told = Out::new(&mut bytes);
     let status = check_bytes(alloc, trace, &mut out, &mut told);
-    hand_out(&out, &told, notes, written);
+    hand_out(&out, told.into_writer(), notes, written);
     status.code()
 }
 
 /// `audit`, of bytes and into a room.
 #[tactic(auto, using(crate::proofs::Grown::audit_grows, crate::proofs::Grown::fills))]
-fn audit_bytes(alloc: Global, trace: &[u8], out: &mut Room<'_>, notes: &mut Noted) -> Status
-    requires out { out.old.len ≡ 0 }
-    requires notes { notes.old.writer.items ≡ [] }
-    requires table { notes.old.table ≡ nothing_held }
+fn audit_bytes(
+    alloc: Global,
+    trace: &[u8],
+    out: &mut Room<'_>,
+    notes: &mut Out<'_, Noted>,
+) -> Status
+    requires { out.old.len ≡ 0 }
     ensures same { out.new.bytes.ghost_name ≡ out.old.bytes.ghost_name }
-    ensures fills { Fills Audits trace.now result out.old out.new notes.new.writer.items }
+    ensures fills { Fills Audits trace.now result out.old out.new notes.old notes.new }
 {
     let mut reader = trace;
     audit(alloc, &mut reader, out, notes)
@@ -102,20 +109,24 @@ pub extern "C" fn evc_audit(
     ensures rest { drop written.new.notes notes.new ≡ drop written.new.notes notes.old }
 {
     let mut out = Room::new(text);
-    let mut told = Notes::new(ArrayVec::new());
+    let mut bytes = Noted::new();
+    let mut told = Out::new(&mut bytes);
     let status = audit_bytes(alloc, trace, &mut out, &mut told);
-    hand_out(&out, &told, notes, written);
+    hand_out(&out, told.into_writer(), notes, written);
     status.code()
 }
 
 /// `upgrade`, of bytes and into a room.
 #[tactic(auto, using(crate::proofs::Grown::upgrade_grows, crate::proofs::Grown::fills))]
-fn upgrade_bytes(alloc: Global, trace: &[u8], out: &mut Room<'_>, notes: &mut Noted) -> Status
-    requires out { out.old.len ≡ 0 }
-    requires notes { notes.old.writer.items ≡ [] }
-    requires table { notes.old.table ≡ nothing_held }
+fn upgrade_bytes(
+    alloc: Global,
+    trace: &[u8],
+    out: &mut Room<'_>,
+    notes: &mut Out<'_, Noted>,
+) -> Status
+    requires { out.old.len ≡ 0 }
     ensures same { out.new.bytes.ghost_name ≡ out.old.bytes.ghost_name }
-    ensures fills { Fills Upgrades trace.now result out.old out.new notes.new.writer.items }
+    ensures fills { Fills Upgrades trace.now result out.old out.new notes.old notes.new }
 {
     let mut reader = trace;
     upgrade(alloc, &mut reader, out, notes)
@@ -137,20 +148,19 @@ pub extern "C" fn evc_upgrade(
     ensures rest { drop written.new.notes notes.new ≡ drop written.new.notes notes.old }
 {
     let mut out = Room::new(text);
-    let mut told = Notes::new(ArrayVec::new());
+    let mut bytes = Noted::new();
+    let mut told = Out::new(&mut bytes);
     let status = upgrade_bytes(alloc, trace, &mut out, &mut told);
-    hand_out(&out, &told, notes, written);
+    hand_out(&out, told.into_writer(), notes, written);
     status.code()
 }
 
 /// `sim`, of bytes and into a room.
 #[tactic(auto, using(crate::proofs::Grown::sim_grows, crate::proofs::Grown::fills))]
-fn sim_bytes(alloc: Global, script: &[u8], out: &mut Room<'_>, notes: &mut Noted) -> Status
-    requires out { out.old.len ≡ 0 }
-    requires notes { notes.old.writer.items ≡ [] }
-    requires table { notes.old.table ≡ nothing_held }
+fn sim_bytes(alloc: Global, script: &[u8], out: &mut Room<'_>, notes: &mut Out<'_, Noted>) -> Status
+    requires { out.old.len ≡ 0 }
     ensures same { out.new.bytes.ghost_name ≡ out.old.bytes.ghost_name }
-    ensures fills { Fills Sims script.now result out.old out.new notes.new.writer.items }
+    ensures fills { Fills Sims script.now result out.old out.new notes.old notes.new }
 {
     let mut reader = script;
     sim(alloc, &mut reader, out, notes)
@@ -172,9 +182,10 @@ pub extern "C" fn evc_sim(
     ensures rest { drop written.new.notes notes.new ≡ drop written.new.notes notes.old }
 {
     let mut out = Room::new(text);
-    let mut told = Notes::new(ArrayVec::new());
+    let mut bytes = Noted::new();
+    let mut told = Out::new(&mut bytes);
     let status = sim_bytes(alloc, script, &mut out, &mut told);
-    hand_out(&out, &told, notes, written);
+    hand_out(&out, told.into_writer(), notes, written);
     status.code()
 }
 

@@ -1,3 +1,2 @@
-mod Inputs
 mod Fronts
 mod Whole

@@ -3,17 +3,18 @@ use Rattle.std.proofs.Common.{◌≡◌, ℕ, List, Option, Some, None, IfSome, 
 use Rattle.evc_engine.specs.declared.status.Status.{Status}
 use Rattle.evc_engine.specs.declared.status.Status.TheVariants.{Memory}
 use Rattle.ec_trace.specs.Recounted.{Recounted}
+use Rattle.ec_trace.specs.declared.read.TheConstants.{TRACE_MAX}
 use Rattle.ec_trace.specs.declared.fault.TraceFault.TheVariants.{Unfinished}
 use Rattle.evc_engine.specs.Checks.{Outlets, ReadsAs, RefusedFor}
 use Rattle.ec_frame.specs.declared.view.View.{View}
-use Rattle.evc_draw.specs.Inputs.{looked_at, IsCutOff}
+use Rattle.ec_text.specs.Inputs.{looked_at, IsReadUp, IsCutOff}
 use Rattle.evc_draw.specs.Draws.{Draws, DrawsText, DrawsCutOff, HasNoFaultYet, Wants}
 
-pub whole_drawn : (v : View) (old left : Option (List ℕ)) (text : List ℕ) (status : Status) (before after : Outlets) → IfSome old (λ bytes. text ≡ looked_at bytes) → DrawsText v text status before after → IfSome old (λ bytes. Draws v bytes left status before after)
+pub whole_drawn : (v : View) (old left : Option (List ℕ)) (text : List ℕ) (status : Status) (before after : Outlets) → IfSome old (λ bytes. (text ≡ looked_at TRACE_MAX bytes) × IsReadUp TRACE_MAX bytes left) → DrawsText v text status before after → IfSome old (λ bytes. Draws v bytes left status before after)
 whole_drawn v None left text status before after is told = tt
-whole_drawn v (Some bytes) left text status before after is told = inr (inl (subst (λ t. DrawsText v t status before after) is told))
+whole_drawn v (Some bytes) left text status before after is told = inr (inl (subst (λ t. DrawsText v t status before after) is.0 told))
 
-pub cut_off_drawn : (v : View) (old left : Option (List ℕ)) (text : List ℕ) (status : Status) (before after : Outlets) → IfSome old (λ bytes. IsCutOff bytes left text) → DrawsCutOff v text status before after → IfSome old (λ bytes. Draws v bytes left status before after)
+pub cut_off_drawn : (v : View) (old left : Option (List ℕ)) (text : List ℕ) (status : Status) (before after : Outlets) → IfSome old (λ bytes. IsCutOff TRACE_MAX bytes left text) → DrawsCutOff v text status before after → IfSome old (λ bytes. Draws v bytes left status before after)
 cut_off_drawn v None left text status before after is told = tt
 cut_off_drawn v (Some bytes) left text status before after is told = inr (inr (text, is, told))
 

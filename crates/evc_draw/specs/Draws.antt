@@ -23,7 +23,7 @@ use Rattle.evc_engine.specs.Checks.{Outlets, Notes, KeepsNotes, ReadsAs, Refused
 use Rattle.ec_frame.specs.declared.view.View.{View}
 use Rattle.ec_frame.specs.Frames.{Framed, drawn_targets}
 use Rattle.ec_frame.specs.Notes.{Noted}
-use Rattle.evc_draw.specs.Inputs.{looked_at, IsCutOff}
+use Rattle.ec_text.specs.Inputs.{looked_at, IsCutOff}
 use Rattle.evc_draw.specs.Faults.{history, line_at, fault_line, right_of, position_in}
 use Rattle.evc_draw.specs.Documents.{document_for}
 
@@ -45,7 +45,7 @@ frame_for v t = record { window = window_of v.window t; shown = drawn_targets v 
 
 -- the picture of a trace: the bytes of the shapes of its history, of which the frame says which are drawn
 abbrev pub picture_for : View → Recounted → List ℕ
-picture_for v t = document_for v.form t.heading (frame_for v t) (shapes t.heading.setup (window_of v.window t) t.entries) None
+picture_for v t = document_for v.form t.heading (frame_for v t) (shapes t.heading.setup t.heading.groups (window_of v.window t) t.entries) None
 
 -- NAMES THAT THE TRACE DOESN'T HAVE
 
@@ -119,7 +119,7 @@ story_frame v t x = record { window = window_before v.window x.position; shown =
 
 -- the picture of a history up to a faulty line, with what is said of the line
 abbrev pub story_picture : View → Recounted → Noted → List ℕ
-story_picture v t x = document_for v.form t.heading (story_frame v t x) (shapes t.heading.setup (window_before v.window x.position) t.entries) (Some x)
+story_picture v t x = document_for v.form t.heading (story_frame v t x) (shapes t.heading.setup t.heading.groups (window_before v.window x.position) t.entries) (Some x)
 
 -- what is said of the line of a fault
 abbrev pub note_on : List ℕ → TraceFault → ℕ → Recounted → Noted
@@ -201,4 +201,4 @@ DrawsCutOff v text status old new = ((status ≡ Memory) × Wants old new) ⊎ (
 -- reader gave before a failed read; or memory was refused before
 abbrev pub Draws : View → List ℕ → Option (List ℕ) → Status → Outlets → Outlets → Type 0
 Draws v bytes left status old new =
-    ((status ≡ Memory) × Wants old new) ⊎ (DrawsText v (looked_at bytes) status old new ⊎ ((text : List ℕ) × IsCutOff bytes left text × DrawsCutOff v text status old new))
+    ((status ≡ Memory) × Wants old new) ⊎ (DrawsText v (looked_at TRACE_MAX bytes) status old new ⊎ ((text : List ℕ) × IsCutOff TRACE_MAX bytes left text × DrawsCutOff v text status old new))

@@ -8,12 +8,14 @@ use Rattle.ec_heading.specs.Spelling.{Named, word_of}
 use Rattle.ec_draw.specs.declared.window.Window.{Window}
 use Rattle.ec_draw.specs.declared.open.Open.{Open}
 use Rattle.ec_draw.specs.declared.dot.Dot.{Dot}
+use Rattle.ec_draw.specs.declared.arrow.Arrow.{Arrow}
+use Rattle.ec_draw.specs.Shades.{Shaded}
 use Rattle.ec_draw.specs.Curves.{Line}
 use Rattle.ec_draw.specs.Pictures.{Shapes}
-use Rattle.ec_frame.specs.Frames.{Framed, draws, draws_worker, draws_object, draws_count}
+use Rattle.ec_frame.specs.Frames.{Framed, draws, draws_worker, draws_object, draws_curve, draws_shade, draws_arrow}
 use Rattle.ec_frame.specs.declared.note.Told.{Told}
 use Rattle.ec_frame.specs.Notes.{Noted, line_told, fault_told, total_told, read_told, told_of, is_of_round}
-use Rattle.ec_frame.specs.Words.{call_words, open_words, counted_word}
+use Rattle.ec_frame.specs.Words.{call_words, open_words, curve_word, version_words, delivery_words}
 use Rattle.evc_draw.specs.declared.style.TheConstants.{BLANKS, DASHES}
 
 -- CELLS
@@ -76,12 +78,12 @@ unfoldable pub worker_rows : Named → Framed → Shapes → ℕ → List ℕ
 worker_rows names f p zero = []
 worker_rows names f p (suc n) = worker_rows names f p n ++ worker_row names f p n
 
--- the count before the first entry, and after each
+-- the number before the first entry, and after each
 unfoldable pub curve_cells : Named → Window → Line → List ℕ
-curve_cells names w l = row_name (counted_word names l.object) ++ flat_map (number_cell w) l.heights ++ codes "\n"
+curve_cells names w l = row_name (curve_word names l.object) ++ flat_map (number_cell w) l.heights ++ codes "\n"
 
 abbrev pub curve_row : Named → Framed → Line → List ℕ
-curve_row names f l = if draws_count f l.object then curve_cells names f.window l else []
+curve_row names f l = if draws_curve f l.object then curve_cells names f.window l else []
 
 -- THE WHOLE
 
@@ -90,6 +92,19 @@ call_line names f p = if draws f p.call.worker p.call.op then call_words names p
 
 abbrev pub open_line : Named → Framed → Open → List ℕ
 open_line names f o = if draws f o.worker o.op then open_words names o ++ codes "\n" else []
+
+-- WHAT THE AUDITS OF GROUPS FIND
+
+abbrev pub delivery_line : Named → Framed → Arrow → List ℕ
+delivery_line names f a = if draws_arrow f a then delivery_words names a ++ codes "\n" else []
+
+abbrev pub version_line : Named → Framed → Shaded → List ℕ
+version_line names f s = if draws_shade f s then version_words names s ++ codes "\n" else []
+
+unfoldable pub findings : Named → Framed → Shapes → List ℕ
+findings names f p = flat_map (delivery_line names f) p.arrows ++ flat_map (version_line names f) p.shades
+
+-- ROWS
 
 unfoldable pub rows : Named → Framed → ℕ → Shapes → List ℕ
 rows names f m p = entry_row f.window p.dots ++ worker_rows names f p m ++ flat_map (curve_row names f) p.curves
@@ -132,7 +147,8 @@ note_text names w (Some x) p = note_lines names w x p
 
 -- the text of these shapes in this frame, where m workers are declared
 unfoldable pub shapes_text : Named → Framed → ℕ → Shapes → List ℕ
-shapes_text names f m p = rows names f m p ++ codes "\n" ++ flat_map (call_line names f) p.calls ++ flat_map (open_line names f) p.begun
+shapes_text names f m p =
+    rows names f m p ++ codes "\n" ++ flat_map (call_line names f) p.calls ++ flat_map (open_line names f) p.begun ++ findings names f p
 
 -- and behind it what is said of a faulty line, if there is one
 unfoldable pub text : Named → Framed → ℕ → Shapes → Option Noted → List ℕ

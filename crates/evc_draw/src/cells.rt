@@ -10,24 +10,18 @@ use crate::style::{BLANKS, DASHES};
 use ec_draw::{Dot, Open, Picture, Window};
 use ec_frame::Frame;
 use ec_order::Placed;
-use ec_text::{Buffered, put};
+use ec_text::Out;
 use itoa::Buffer;
 use std::io::Write;
 
 /// Puts a word at the right end of a cell.
 #[tactic(auto, unfolding(crate::specs::Text::padded))]
-pub(crate) fn put_padded<W: Write>(
-    out: &mut W,
-    table: &mut Buffered,
-    fill: &[u8],
-    width: usize,
-    word: &[u8],
-)
-    ensures { Puts (W.contents out.old) table.old (W.contents out.new) table.new (padded fill.now width word.now) }
+pub(crate) fn put_padded<W: Write>(out: &mut Out<'_, W>, fill: &[u8], width: usize, word: &[u8])
+    ensures { Puts out.old out.new (padded fill.now width word.now) }
 {
     let room = width.saturating_sub(word.len()).min(fill.len());
-    put(out, table, &fill[..room]);
-    put(out, table, word);
+    out.put(&fill[..room]);
+    out.put(word);
 }
 
 /// How wide a cell is.
@@ -39,28 +33,28 @@ pub(crate) fn cell_width(window: Window) -> usize
 
 /// Puts the name of a row.
 #[tactic(auto, unfolding(crate::specs::Text::row_name))]
-pub(crate) fn put_row_name<W: Write>(out: &mut W, table: &mut Buffered, name: &[u8])
-    ensures { Puts (W.contents out.old) table.old (W.contents out.new) table.new (row_name name.now) }
+pub(crate) fn put_row_name<W: Write>(out: &mut Out<'_, W>, name: &[u8])
+    ensures { Puts out.old out.new (row_name name.now) }
 {
     let room = 23usize.saturating_sub(name.len());
-    put(out, table, name);
-    put(out, table, &BLANKS[..room]);
+    out.put(name);
+    out.put(&BLANKS[..room]);
 }
 
 /// Puts a number at the right end of a cell.
-fn put_padded_number<W: Write>(out: &mut W, table: &mut Buffered, fill: &[u8], width: usize, n: u64)
-    ensures { Puts (W.contents out.old) table.old (W.contents out.new) table.new (padded fill.now width (decimal n)) }
+fn put_padded_number<W: Write>(out: &mut Out<'_, W>, fill: &[u8], width: usize, n: u64)
+    ensures { Puts out.old out.new (padded fill.now width (decimal n)) }
 {
     let mut digits = Buffer::new();
-    put_padded(out, table, fill, width, digits.format(n).as_bytes());
+    put_padded(out, fill, width, digits.format(n).as_bytes());
 }
 
 /// Puts a cell with a number.
 #[tactic(auto, unfolding(crate::specs::Text::number_cell))]
-pub(crate) fn put_number_cell<W: Write>(out: &mut W, table: &mut Buffered, window: Window, n: u64)
-    ensures { Puts (W.contents out.old) table.old (W.contents out.new) table.new (number_cell window n) }
+pub(crate) fn put_number_cell<W: Write>(out: &mut Out<'_, W>, window: Window, n: u64)
+    ensures { Puts out.old out.new (number_cell window n) }
 {
-    put_padded_number(out, table, BLANKS, cell_width(window), n);
+    put_padded_number(out, BLANKS, cell_width(window), n);
 }
 
 /// Whether a finished call of a worker that is drawn is under way just before an entry.
@@ -104,38 +98,31 @@ fn fill(frame: &Frame, picture: &Picture, worker: usize, position: usize) -> &'s
 }
 
 /// Puts the cell of an entry in the row of its worker.
-fn put_own_cell<W: Write>(
-    out: &mut W,
-    table: &mut Buffered,
-    fill: &[u8],
-    width: usize,
-    component: Option<usize>,
-)
-    ensures { Puts (W.contents out.old) table.old (W.contents out.new) table.new (padded fill.now width (dot_word component)) }
+fn put_own_cell<W: Write>(out: &mut Out<'_, W>, fill: &[u8], width: usize, component: Option<usize>)
+    ensures { Puts out.old out.new (padded fill.now width (dot_word component)) }
 {
     match component {
-        Some(number) => put_padded_number(out, table, fill, width, number as u64),
-        None => put_padded(out, table, fill, width, b"*"),
+        Some(number) => put_padded_number(out, fill, width, number as u64),
+        None => put_padded(out, fill, width, b"*"),
     }
 }
 
 /// Puts the cell of an entry in the row of a worker.
 #[tactic(auto, unfolding(crate::specs::Text::dot_cell))]
 pub(crate) fn put_dot_cell<W: Write>(
-    out: &mut W,
-    table: &mut Buffered,
+    out: &mut Out<'_, W>,
     frame: &Frame,
     picture: &Picture,
     worker: usize,
     dot: &Dot,
 )
-    ensures { Puts (W.contents out.old) table.old (W.contents out.new) table.new (dot_cell (framed frame.now) (kept picture.now) worker dot.now) }
+    ensures { Puts out.old out.new (dot_cell (framed frame.now) (kept picture.now) worker dot.now) }
 {
     let width = cell_width(frame.window);
     let fill = fill(frame, picture, worker, dot.position);
     if dot.worker.get() == worker && frame.draws_object(&dot.op) {
-        put_own_cell(out, table, fill, width, dot.component);
+        put_own_cell(out, fill, width, dot.component);
     } else {
-        put_padded(out, table, fill, width, b"");
+        put_padded(out, fill, width, b"");
     }
 }

@@ -11,14 +11,13 @@ use crate::text::put_text;
 use ec_draw::Picture;
 use ec_frame::{Form, Frame, Note};
 use ec_svg::put_svg;
-use ec_text::{Buffered, WriteFault, finish};
+use ec_text::{Out, WriteFault};
 use ec_trace::{Heading, Spellings};
 use std::io::Write;
 
 /// Puts a picture.
 fn put_document<W: Write>(
-    out: &mut W,
-    table: &mut Buffered,
+    out: &mut Out<'_, W>,
     form: Form,
     spellings: &Spellings<'_>,
     frame: &Frame,
@@ -27,11 +26,11 @@ fn put_document<W: Write>(
     note: &Option<Note<'_>>,
 )
     requires { workers ≤ 16 }
-    ensures { Puts (W.contents out.old) table.old (W.contents out.new) table.new (document form spellings.now (framed frame.now) workers (kept picture.now) (noted_in note.now)) }
+    ensures { Puts out.old out.new (document form spellings.now (framed frame.now) workers (kept picture.now) (noted_in note.now)) }
 {
     match form {
-        Form::Svg => put_svg(out, table, spellings, frame, workers, picture, note),
-        Form::Text => put_text(out, table, spellings, frame, workers, picture, note),
+        Form::Svg => put_svg(out, spellings, frame, workers, picture, note),
+        Form::Text => put_text(out, spellings, frame, workers, picture, note),
     }
 }
 
@@ -49,9 +48,9 @@ pub(crate) fn write_document<W: Write>(
 {
     let spellings = Spellings::new(heading.words());
     let workers = heading.setup().workers();
-    let mut table = Buffered::new();
-    put_document(
-        out, &mut table, form, &spellings, frame, workers, picture, note,
-    );
-    finish(out, table)
+    let mut text = Out::new(out);
+    put_document(&mut text, form, &spellings, frame, workers, picture, note);
+    let done = text.finish();
+    text.into_writer();
+    done
 }

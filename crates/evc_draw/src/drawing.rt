@@ -1,23 +1,22 @@
 //! A trace in; a picture of it out.
 ghost use Rattle.std.specs.Prelude.{◌≡◌, ◌+◌, Some, codes, false, IfOk, IfSome, length};
-ghost use Rattle.ec_text.specs.Puts.{Puts};
+ghost use Rattle.ec_text.specs.Puts.{Puts, IsWrittenOut};
 ghost use Rattle.evc_engine.specs.declared.status.Status.TheVariants.{Memory};
 ghost use Rattle.evc_engine.specs.Checks.{RefusedFor};
 ghost use Rattle.ec_frame.specs.Notes.{noted};
 ghost use Rattle.evc_draw.specs.Faults.{right_of, position_in};
-ghost use Rattle.evc_engine.specs.Notes.{IsWrittenOut};
 ghost use Rattle.ec_draw.specs.Pictures.{kept, shapes};
 ghost use Rattle.ec_frame.specs.Frames.{drawn_targets, framed};
-ghost use Rattle.evc_draw.specs.Draws.{CutOffFault, Drawn, Draws, behind_at, DrawsCutOff, DrawsText, Refuses, TellsFault, frame_for, has_unknown, is_wide, story, story_frame, story_of, story_picture, window_before, window_of, window_on};
+ghost use Rattle.evc_draw.specs.Draws.{CutOffFault, Drawn, Draws, behind_at, DrawsCutOff, DrawsText, Refuses, TellsFault, frame_for, has_unknown, is_wide, note_on, story, story_frame, story_of, story_picture, window_before, window_of, window_on};
 
 use crate::document::write_document;
 use crate::fault::{fault_line, history, line_at, position_in, read_text, right_of};
-use crate::input::{Input, read_input};
 use crate::unknown::{has_unknown, say_unknown};
 use ec_draw::{COLUMNS_MAX, Picture, Window, picture_of};
 use ec_frame::{Frame, Note, View, drawn_targets};
-use ec_trace::{TraceFault, Traced};
-use evc_engine::{Notes, Status};
+use ec_text::{Input, Out, read_up_to};
+use ec_trace::{TRACE_MAX, TraceFault, Traced};
+use evc_engine::{Status, say_fault};
 use std::alloc::{AllocError, Global};
 use std::io::{Read, Write};
 
@@ -58,16 +57,16 @@ fn write_framed<W: Write, N: Write>(
     frame: &Frame,
     picture: &Picture,
     out: &mut W,
-    notes: &mut Notes<N>,
+    notes: &mut Out<'_, N>,
 ) -> Status
     requires frame { framed frame.now ≡ frame_for view.now traced.now }
-    requires picture { kept picture.now ≡ shapes traced.now.heading.setup (window_of view.now.window traced.now) traced.now.entries }
+    requires picture { kept picture.now ≡ shapes traced.now.heading.setup traced.now.heading.groups (window_of view.now.window traced.now) traced.now.entries }
     requires narrow { is_wide (window_of view.now.window traced.now) ≡ false }
     requires known { has_unknown view.now traced.now.heading.words ≡ false }
     ensures ends { Drawn view.now traced.now result
-        (record { out = W.contents out.old; notes = N.contents notes.old.writer; held = notes.old.table })
-        (record { out = W.contents out.new; notes = N.contents notes.new.writer; held = notes.new.table }) }
-    ensures written { IsWrittenOut notes.old.table → IsWrittenOut notes.new.table }
+        (record { out = W.contents out.old; notes = notes.old })
+        (record { out = W.contents out.new; notes = notes.new }) }
+    ensures written { IsWrittenOut notes.old → IsWrittenOut notes.new }
 {
     match write_document(out, view.form, traced.heading(), frame, picture, &None) {
         Ok(()) => Status::Done,
@@ -84,12 +83,12 @@ fn write_drawn<W: Write, N: Write>(
     traced: &Traced,
     view: &View,
     out: &mut W,
-    notes: &mut Notes<N>,
+    notes: &mut Out<'_, N>,
 ) -> Status
     ensures ends { Drawn view.now traced.now result
-        (record { out = W.contents out.old; notes = N.contents notes.old.writer; held = notes.old.table })
-        (record { out = W.contents out.new; notes = N.contents notes.new.writer; held = notes.new.table }) }
-    ensures written { IsWrittenOut notes.old.table → IsWrittenOut notes.new.table }
+        (record { out = W.contents out.old; notes = notes.old })
+        (record { out = W.contents out.new; notes = notes.new }) }
+    ensures written { IsWrittenOut notes.old → IsWrittenOut notes.new }
 {
     let words = traced.heading().words();
     if has_unknown(words, view) {
@@ -106,7 +105,8 @@ fn write_drawn<W: Write, N: Write>(
         notes.say(b"no memory\n");
         return Status::Memory;
     };
-    let Ok(picture) = picture_of(alloc, run, window) else {
+    let groups = traced.heading().groups();
+    let Ok(picture) = picture_of(alloc, run, groups, window) else {
         notes.say(b"no memory\n");
         return Status::Memory;
     };
@@ -137,13 +137,49 @@ fn window_before(window: Window, position: usize) -> Window
 }
 
 /// Tells that memory was refused.
-fn want<N: Write>(notes: &mut Notes<N>) -> Status
+fn want<N: Write>(notes: &mut Out<'_, N>) -> Status
     ensures memory { result ≡ Memory }
-    ensures puts { Puts (N.contents notes.old.writer) notes.old.table (N.contents notes.new.writer) notes.new.table (codes "no memory\n") }
-    ensures written { IsWrittenOut notes.new.table }
+    ensures puts { Puts notes.old notes.new (codes "no memory\n") }
+    ensures written { IsWrittenOut notes.new }
 {
     notes.say(b"no memory\n");
     Status::Memory
+}
+
+/// Writes the picture of a history up to a faulty line in this frame, and tells the fault.
+fn write_noted<W: Write, N: Write>(
+    traced: &Traced,
+    view: &View,
+    frame: &Frame,
+    picture: &Picture,
+    note: &Note<'_>,
+    out: &mut W,
+    notes: &mut Out<'_, N>,
+) -> Status
+    requires frame { framed frame.now ≡ story_frame view.now traced.now (noted note.now) }
+    requires picture { kept picture.now ≡ shapes traced.now.heading.setup traced.now.heading.groups (window_before view.now.window note.now.position) traced.now.entries }
+    ensures ends { TellsFault (Some (story_picture view.now traced.now (noted note.now))) note.now.fault result
+        (record { out = W.contents out.old; notes = notes.old })
+        (record { out = W.contents out.new; notes = notes.new }) }
+    ensures written { IsWrittenOut notes.old → IsWrittenOut notes.new }
+{
+    match write_document(
+        out,
+        view.form,
+        traced.heading(),
+        frame,
+        picture,
+        &Some(*note),
+    ) {
+        Ok(()) => {
+            say_fault(notes, &note.fault);
+            Status::Refused
+        }
+        Err(_) => {
+            notes.say(b"write fault\n");
+            Status::InputOutput
+        }
+    }
 }
 
 /// Writes the picture of a history up to a faulty line, and tells the fault.
@@ -153,30 +189,34 @@ fn write_story<W: Write, N: Write>(
     traced: &Traced,
     note: &Note<'_>,
     out: &mut W,
-    notes: &mut Notes<N>,
+    notes: &mut Out<'_, N>,
 ) -> Status
     ensures ends { TellsFault (Some (story_picture view.now traced.now (noted note.now))) note.now.fault result
-        (record { out = W.contents out.old; notes = N.contents notes.old.writer; held = notes.old.table })
-        (record { out = W.contents out.new; notes = N.contents notes.new.writer; held = notes.new.table }) }
-    ensures written { IsWrittenOut notes.old.table → IsWrittenOut notes.new.table }
+        (record { out = W.contents out.old; notes = notes.old })
+        (record { out = W.contents out.new; notes = notes.new }) }
+    ensures written { IsWrittenOut notes.old → IsWrittenOut notes.new }
 {
     let window = window_before(view.window, note.position);
     let Ok(frame) = frame_on(alloc, traced, view, window) else {
         return want(notes);
     };
-    let Ok(picture) = picture_of(alloc, traced.run(), window) else {
+    let groups = traced.heading().groups();
+    let Ok(picture) = picture_of(alloc, traced.run(), groups, window) else {
         return want(notes);
     };
-    let heading = traced.heading();
-    match write_document(out, view.form, heading, &frame, &picture, &Some(*note)) {
-        Ok(()) => {
-            notes.fault(&note.fault);
-            Status::Refused
-        }
-        Err(_) => {
-            notes.say(b"write fault\n");
-            Status::InputOutput
-        }
+    write_noted(traced, view, &frame, &picture, note, out, notes)
+}
+
+/// What is said of the line of a fault.
+fn note_on<'a>(text: &'a [u8], fault: &TraceFault, number: u64, traced: &Traced) -> Note<'a>
+    ensures note { noted result ≡ note_on text.now fault.now number traced.now }
+    ensures fault { result.fault ≡ fault.now }
+{
+    Note {
+        number,
+        line: line_at(number, text),
+        fault: *fault,
+        position: position_in(&right_of(fault), traced.run().len()),
     }
 }
 
@@ -189,23 +229,18 @@ fn tell_story<W: Write, N: Write>(
     number: u64,
     traced: &Option<Traced>,
     out: &mut W,
-    notes: &mut Notes<N>,
+    notes: &mut Out<'_, N>,
 ) -> Status
     ensures ends { TellsFault (story_of view.now text.now fault.now number traced.now) fault.now result
-        (record { out = W.contents out.old; notes = N.contents notes.old.writer; held = notes.old.table })
-        (record { out = W.contents out.new; notes = N.contents notes.new.writer; held = notes.new.table }) }
-    ensures written { IsWrittenOut notes.old.table → IsWrittenOut notes.new.table }
+        (record { out = W.contents out.old; notes = notes.old })
+        (record { out = W.contents out.new; notes = notes.new }) }
+    ensures written { IsWrittenOut notes.old → IsWrittenOut notes.new }
 {
     let Some(traced) = traced else {
-        notes.fault(fault);
+        say_fault(notes, fault);
         return Status::Refused;
     };
-    let note = Note {
-        number,
-        line: line_at(number, text),
-        fault: *fault,
-        position: position_in(&right_of(fault), traced.run().len()),
-    };
+    let note = note_on(text, fault, number, traced);
     write_story(alloc, view, traced, &note, out, notes)
 }
 
@@ -216,15 +251,15 @@ fn tell_fault<W: Write, N: Write>(
     text: &[u8],
     fault: &TraceFault,
     out: &mut W,
-    notes: &mut Notes<N>,
+    notes: &mut Out<'_, N>,
 ) -> Status
     ensures ends { TellsFault (story view.now text.now fault.now) fault.now result
-        (record { out = W.contents out.old; notes = N.contents notes.old.writer; held = notes.old.table })
-        (record { out = W.contents out.new; notes = N.contents notes.new.writer; held = notes.new.table }) }
-    ensures written { IsWrittenOut notes.old.table → IsWrittenOut notes.new.table }
+        (record { out = W.contents out.old; notes = notes.old })
+        (record { out = W.contents out.new; notes = notes.new }) }
+    ensures written { IsWrittenOut notes.old → IsWrittenOut notes.new }
 {
     let Some(number) = fault_line(fault) else {
-        notes.fault(fault);
+        say_fault(notes, fault);
         return Status::Refused;
     };
     match history(alloc, number, &right_of(fault), text) {
@@ -239,12 +274,12 @@ fn draw_whole<W: Write, N: Write>(
     view: &View,
     text: &[u8],
     out: &mut W,
-    notes: &mut Notes<N>,
+    notes: &mut Out<'_, N>,
 ) -> Status
     ensures ends { DrawsText view.now text.now result
-        (record { out = W.contents out.old; notes = N.contents notes.old.writer; held = notes.old.table })
-        (record { out = W.contents out.new; notes = N.contents notes.new.writer; held = notes.new.table }) }
-    ensures written { IsWrittenOut notes.old.table → IsWrittenOut notes.new.table }
+        (record { out = W.contents out.old; notes = notes.old })
+        (record { out = W.contents out.new; notes = notes.new }) }
+    ensures written { IsWrittenOut notes.old → IsWrittenOut notes.new }
 {
     match read_text(alloc, text) {
         Ok(traced) => write_drawn(alloc, &traced, view, out, notes),
@@ -271,12 +306,12 @@ fn draw_cut_off<W: Write, N: Write>(
     view: &View,
     text: &[u8],
     out: &mut W,
-    notes: &mut Notes<N>,
+    notes: &mut Out<'_, N>,
 ) -> Status
     ensures ends { DrawsCutOff view.now text.now result
-        (record { out = W.contents out.old; notes = N.contents notes.old.writer; held = notes.old.table })
-        (record { out = W.contents out.new; notes = N.contents notes.new.writer; held = notes.new.table }) }
-    ensures written { IsWrittenOut notes.old.table → IsWrittenOut notes.new.table }
+        (record { out = W.contents out.old; notes = notes.old })
+        (record { out = W.contents out.new; notes = notes.new }) }
+    ensures written { IsWrittenOut notes.old → IsWrittenOut notes.new }
 {
     match cut_off_fault(alloc, text) {
         None => {
@@ -296,14 +331,14 @@ pub(crate) fn draw<R: Read, W: Write, N: Write>(
     view: &View,
     reader: &mut R,
     out: &mut W,
-    notes: &mut Notes<N>,
+    notes: &mut Out<'_, N>,
 ) -> Status
     ensures ends { IfSome (R.remaining reader.old) (λ bytes. Draws view.now bytes (R.remaining reader.new) result
-        (record { out = W.contents out.old; notes = N.contents notes.old.writer; held = notes.old.table })
-        (record { out = W.contents out.new; notes = N.contents notes.new.writer; held = notes.new.table })) }
-    ensures written { IsWrittenOut notes.old.table → IsWrittenOut notes.new.table }
+        (record { out = W.contents out.old; notes = notes.old })
+        (record { out = W.contents out.new; notes = notes.new })) }
+    ensures written { IsWrittenOut notes.old → IsWrittenOut notes.new }
 {
-    match read_input(alloc, reader) {
+    match read_up_to(alloc, reader, TRACE_MAX) {
         Ok(Input::Whole(text)) => draw_whole(alloc, view, text.as_slice(), out, notes),
         Ok(Input::CutOff(text)) => draw_cut_off(alloc, view, text.as_slice(), out, notes),
         Err(AllocError) => want(notes),

@@ -16,7 +16,9 @@ The trace is read from standard input. A row for each worker has a bar for each 
 its first entry to its last, with a dot for each entry and the component that it read or
 raised; a call under way is dashed and goes on behind the last entry. A diamond marks the
 point of a call, and a dotted line ties that of a read or an await to the curve of its
-eventcount's total below.
+eventcount's total below. Of each buffer, database and semaphore whose workers keep to its
+lists of calls, what `evc audit` finds is drawn: an arrow from the put of an item to its get,
+a shade over an accepted try of a snapshot, and the balance as a dashed curve.
 
 Options:
   --text         a text for a terminal in place of a picture: a row for each worker and each

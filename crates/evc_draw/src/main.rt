@@ -6,8 +6,8 @@ mod cells;
 mod document;
 mod drawing;
 mod fault;
+mod found;
 mod help;
-mod input;
 mod style;
 mod text;
 mod told;
@@ -16,15 +16,15 @@ mod unknown;
 use crate::asked::{Asked, read_words};
 use crate::drawing::draw;
 use crate::help::{HELP, USAGE, VERSION};
-use ec_text::write_out;
-use evc_engine::{Notes, Status};
+use ec_text::{Out, write_out};
+use evc_engine::Status;
 use std::alloc::AllocError;
 use std::env;
 use std::io::{ErrorKind, Write};
 use std::process::ExitCode;
 
 /// Writes a text that was asked for.
-fn tell<W: Write, N: Write>(text: &[u8], out: &mut W, notes: &mut Notes<N>) -> Status {
+fn tell<W: Write, N: Write>(text: &[u8], out: &mut W, notes: &mut Out<'_, N>) -> Status {
     match write_out(out, text) {
         Ok(()) => Status::Done,
         Err(_) => {
@@ -36,7 +36,8 @@ fn tell<W: Write, N: Write>(text: &[u8], out: &mut W, notes: &mut Notes<N>) -> S
 
 fn main(rt: HostRuntime) -> ExitCode {
     let alloc = rt.alloc();
-    let mut notes = Notes::new(rt.stderr());
+    let mut stderr = rt.stderr();
+    let mut notes = Out::new(&mut stderr);
     let words: Result<Vec<String>, AllocError> = match env::args(&rt) {
         Ok(args) => args.collect(alloc),
         Err(error) => {

@@ -1,14 +1,12 @@
 //! Names that were chosen, and that the trace doesn't have.
 ghost use Rattle.std.specs.Prelude.{◌≡◌};
 ghost use Rattle.std.specs.List.{flat_map, list_any};
-ghost use Rattle.ec_text.specs.Puts.{Puts};
-ghost use Rattle.evc_engine.specs.Notes.{IsWrittenOut};
+ghost use Rattle.ec_text.specs.Puts.{Puts, IsWrittenOut};
 ghost use Rattle.evc_draw.specs.Draws.{has_unknown, is_object, is_worker, lacks_object, lacks_worker, object_note, unknown_note, unknown_notes, worker_note};
 
 use ec_count::{Target, Vocabulary};
 use ec_frame::View;
-use ec_text::{Buffered, flush, put};
-use evc_engine::Notes;
+use ec_text::Out;
 use std::io::Write;
 
 /// Whether a name stands for a worker.
@@ -77,90 +75,65 @@ pub(crate) fn has_unknown(words: &Vocabulary, view: &View) -> bool
 
 /// Puts the note on a name.
 #[tactic(auto, unfolding(crate::specs::Draws::unknown_note))]
-fn put_unknown<N: Write>(writer: &mut N, table: &mut Buffered, what: &[u8], name: &[u8])
-    ensures { Puts (N.contents writer.old) table.old (N.contents writer.new) table.new (unknown_note what.now name.now) }
+fn put_unknown<N: Write>(out: &mut Out<'_, N>, what: &[u8], name: &[u8])
+    ensures { Puts out.old out.new (unknown_note what.now name.now) }
 {
-    put(writer, table, what);
-    put(writer, table, name);
-    put(writer, table, b" is declared\n");
+    out.put(what);
+    out.put(name);
+    out.put(b" is declared\n");
 }
 
 /// Puts the note on a name among the workers, if there is none of that name.
 #[tactic(auto, unfolding(crate::specs::Draws::worker_note))]
-fn put_worker_note<N: Write>(
-    writer: &mut N,
-    table: &mut Buffered,
-    words: &Vocabulary,
-    name: &String,
-)
-    ensures { Puts (N.contents writer.old) table.old (N.contents writer.new) table.new (worker_note words.now name.now) }
+fn put_worker_note<N: Write>(out: &mut Out<'_, N>, words: &Vocabulary, name: &String)
+    ensures { Puts out.old out.new (worker_note words.now name.now) }
 {
     if lacks_worker(words, name) {
-        put_unknown(writer, table, b"no worker ", name.as_bytes());
+        put_unknown(out, b"no worker ", name.as_bytes());
     }
 }
 
 /// Puts the note on a name among the objects, if there is none of that name.
 #[tactic(auto, unfolding(crate::specs::Draws::object_note))]
-fn put_object_note<N: Write>(
-    writer: &mut N,
-    table: &mut Buffered,
-    words: &Vocabulary,
-    name: &String,
-)
-    ensures { Puts (N.contents writer.old) table.old (N.contents writer.new) table.new (object_note words.now name.now) }
+fn put_object_note<N: Write>(out: &mut Out<'_, N>, words: &Vocabulary, name: &String)
+    ensures { Puts out.old out.new (object_note words.now name.now) }
 {
     if lacks_object(words, name) {
-        put_unknown(writer, table, b"no object ", name.as_bytes());
+        put_unknown(out, b"no object ", name.as_bytes());
     }
 }
 
 /// Puts the notes on the names among the workers.
-fn put_worker_notes<N: Write>(
-    writer: &mut N,
-    table: &mut Buffered,
-    words: &Vocabulary,
-    names: &[String],
-)
-    ensures { Puts (N.contents writer.old) table.old (N.contents writer.new) table.new (flat_map (worker_note words.now) names.now) }
+fn put_worker_notes<N: Write>(out: &mut Out<'_, N>, words: &Vocabulary, names: &[String])
+    ensures { Puts out.old out.new (flat_map (worker_note words.now) names.now) }
 {
     for name in names {
-        put_worker_note(writer, table, words, name);
+        put_worker_note(out, words, name);
     }
 }
 
 /// Puts the notes on the names among the objects.
-fn put_object_notes<N: Write>(
-    writer: &mut N,
-    table: &mut Buffered,
-    words: &Vocabulary,
-    names: &[String],
-)
-    ensures { Puts (N.contents writer.old) table.old (N.contents writer.new) table.new (flat_map (object_note words.now) names.now) }
+fn put_object_notes<N: Write>(out: &mut Out<'_, N>, words: &Vocabulary, names: &[String])
+    ensures { Puts out.old out.new (flat_map (object_note words.now) names.now) }
 {
     for name in names {
-        put_object_note(writer, table, words, name);
+        put_object_note(out, words, name);
     }
 }
 
 /// Puts a note on each name that the trace doesn't have.
-fn put_unknown_notes<N: Write>(
-    writer: &mut N,
-    table: &mut Buffered,
-    words: &Vocabulary,
-    view: &View,
-)
-    ensures { Puts (N.contents writer.old) table.old (N.contents writer.new) table.new (unknown_notes view.now words.now) }
+fn put_unknown_notes<N: Write>(out: &mut Out<'_, N>, words: &Vocabulary, view: &View)
+    ensures { Puts out.old out.new (unknown_notes view.now words.now) }
 {
-    put_worker_notes(writer, table, words, view.workers.as_slice());
-    put_object_notes(writer, table, words, view.objects.as_slice());
+    put_worker_notes(out, words, view.workers.as_slice());
+    put_object_notes(out, words, view.objects.as_slice());
 }
 
 /// Writes a note on each name that the trace doesn't have.
-pub(crate) fn say_unknown<N: Write>(words: &Vocabulary, view: &View, notes: &mut Notes<N>)
-    ensures puts { Puts (N.contents notes.old.writer) notes.old.table (N.contents notes.new.writer) notes.new.table (unknown_notes view.now words.now) }
-    ensures written { IsWrittenOut notes.new.table }
+pub(crate) fn say_unknown<N: Write>(words: &Vocabulary, view: &View, notes: &mut Out<'_, N>)
+    ensures puts { Puts notes.old notes.new (unknown_notes view.now words.now) }
+    ensures written { IsWrittenOut notes.new }
 {
-    put_unknown_notes(&mut notes.writer, &mut notes.table, words, view);
-    flush(&mut notes.writer, &mut notes.table);
+    put_unknown_notes(notes, words, view);
+    notes.flush();
 }

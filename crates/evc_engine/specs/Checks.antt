@@ -1,7 +1,7 @@
 -- What `check` answered and wrote, for an input whose bytes are known.
 use Rattle.std.specs.Prelude.{◌≡◌, ◌⊎◌, ℕ, List, reverse, Option, Ok, Err, codes}
 use Rattle.std.specs.Io.KnownBytes.{Appends, Keeps}
-use Rattle.ec_text.specs.Puts.{Held, Puts, AppendsPrefix}
+use Rattle.ec_text.specs.Puts.{Outgoing, Puts, AppendsPrefix, IsWrittenOut}
 use Rattle.ec_order.specs.declared.placed.Placed.{Placed}
 use Rattle.ec_order.specs.Verdicts.{IsGood}
 use Rattle.ec_heading.specs.Spelling.{text_of}
@@ -12,23 +12,21 @@ use Rattle.ec_trace.specs.declared.fault.TraceFault.{TraceFault}
 use Rattle.ec_trace.specs.declared.read.TheConstants.{TRACE_MAX}
 use Rattle.evc_engine.specs.declared.status.Status.{Status}
 use Rattle.evc_engine.specs.declared.status.Status.TheVariants.{Done, Refused, Usage, InputOutput, Memory, Stopped}
-use Rattle.evc_engine.specs.Notes.{IsWrittenOut, fault_note}
+use Rattle.evc_engine.specs.Notes.{fault_note}
 use Rattle.evc_engine.specs.Texts.{check_lines, check_text}
 
--- where the text and the notes go: what the writer of the text holds, what the writer of the notes holds, and the
--- notes that wait for it
+-- where the text and the notes go: what the writer of the text holds, and the notes on their way
 pub record Outlets : Type 0 where
   pub out : Option (List ℕ)
-  pub notes : Option (List ℕ)
-  pub held : Held
+  pub notes : Outgoing
 
 -- the note was put, and nothing else; and it doesn't wait: it was written, or the table stands as failed
 abbrev pub Notes : Outlets → Outlets → List ℕ → Type 0
-Notes old new note = Puts old.notes old.held new.notes new.held note × IsWrittenOut new.held
+Notes old new note = Puts old.notes new.notes note × IsWrittenOut new.notes
 
--- no note was put: the writer holds what it held, and the same notes wait
+-- no note was put: their writer holds what it held, and the same notes wait
 abbrev pub KeepsNotes : Outlets → Outlets → Type 0
-KeepsNotes old new = (new.notes ≡ old.notes) × (new.held ≡ old.held)
+KeepsNotes old new = new.notes ≡ old.notes
 
 -- the text of a trace that was read
 abbrev pub text_for : Recounted → List ℕ

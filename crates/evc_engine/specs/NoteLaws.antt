@@ -1,15 +1,15 @@
 -- What the notes are: each leaves its table, and what is refused has one.
 use Rattle.std.specs.Prelude.{◌≡◌, ℕ, false, true, List, Option}
 use Rattle.std.specs.Io.KnownBytes.{Appends, Keeps}
-use Rattle.ec_text.specs.Puts.{AppendsPrefix, nothing_held}
+use Rattle.ec_text.specs.Puts.{AppendsPrefix, IsFresh}
 use Rattle.evc_engine.specs.declared.status.Status.TheVariants.{Refused}
 use Rattle.evc_engine.specs.Checks.{Outlets, Notes, Checks}
 use Rattle.evc_engine.specs.Audits.{Audits}
 
 -- where none waited before, the writer has the whole note, or a proper front of it where a write has failed
 abbrev pub NotesLeaveTheTable : Type 0
-NotesLeaveTheTable = (old new : Outlets) (note : List ℕ) → old.held ≡ nothing_held → Notes old new note
-    → (new.held.failed ≡ false → Appends old.notes new.notes note) × (new.held.failed ≡ true → AppendsPrefix old.notes new.notes note)
+NotesLeaveTheTable = (old new : Outlets) (note : List ℕ) → IsFresh old.notes → Notes old new note
+    → (new.notes.failed ≡ false → Appends old.notes.contents new.notes.contents note) × (new.notes.failed ≡ true → AppendsPrefix old.notes.contents new.notes.contents note)
 
 -- nothing was written but this note, both times
 abbrev pub BothSay : (old new before after : Outlets) → List ℕ → Type 0

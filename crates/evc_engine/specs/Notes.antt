@@ -1,18 +1,13 @@
 -- The notes.
-use Rattle.std.specs.Prelude.{◌≡◌, ℕ, false, List, ◌++◌, codes, decimal}
+use Rattle.std.specs.Prelude.{ℕ, List, ◌++◌, codes, decimal}
 use Rattle.ec_core.specs.declared.act.Refusal.{Refusal}
 use Rattle.ec_core.specs.declared.act.Reply.{Reply}
 use Rattle.ec_core.specs.Refusals.{refusal_number, refusal_name}
-use Rattle.ec_text.specs.Puts.{Held, nothing_held}
 use Rattle.ec_heading.specs.Spelling.{reply_word}
 use Rattle.ec_trace.specs.declared.fault.TraceFault.{TraceFault}
 use Rattle.ec_trace.specs.declared.fault.TraceFault.TheVariants.{BadLine, Refused, WrongReply, Unfinished, TooLarge, Read, Memory}
 use Rattle.evc_engine.specs.declared.status.Status.{Status}
 use Rattle.evc_engine.specs.declared.status.Status.TheVariants as statuses
-
--- no note waits in the table: all that were put have been written, or the table stands as failed
-abbrev pub IsWrittenOut : Held → Type 0
-IsWrittenOut held = held.failed ≡ false → held ≡ nothing_held
 
 abbrev pub line_words : ℕ → List ℕ
 line_words n = codes "line " ++ decimal n ++ codes ": "

@@ -11,129 +11,111 @@ use ec_buffer::Delivery;
 use ec_count::{Names, SeqId, Target};
 use ec_database::Accepted;
 use ec_semaphore::{Balance, Pair};
-use ec_text::{Buffered, WriteFault, finish, put, put_number};
+use ec_text::{Out, WriteFault};
 use ec_trace::{Group, Heading, Spellings};
 use std::io::Write;
 
 /// Puts a word behind a space.
-fn put_spaced<W: Write>(out: &mut W, table: &mut Buffered, word: &[u8])
-    ensures { Puts (W.contents out.old) table.old (W.contents out.new) table.new (spaced word.now) }
+fn put_spaced<W: Write>(out: &mut Out<'_, W>, word: &[u8])
+    ensures { Puts out.old out.new (spaced word.now) }
 {
-    put(out, table, b" ");
-    put(out, table, word);
+    out.put(b" ");
+    out.put(word);
 }
 
 /// Puts a number behind a space.
-fn put_spaced_number<W: Write>(out: &mut W, table: &mut Buffered, n: u64)
-    ensures { Puts (W.contents out.old) table.old (W.contents out.new) table.new (spaced (decimal n)) }
+fn put_spaced_number<W: Write>(out: &mut Out<'_, W>, n: u64)
+    ensures { Puts out.old out.new (spaced (decimal n)) }
 {
-    put(out, table, b" ");
-    put_number(out, table, n);
+    out.put(b" ");
+    out.put_number(n);
 }
 
 /// Puts what follows the name in the line of a delivery.
-fn put_delivered<W: Write>(
-    out: &mut W,
-    table: &mut Buffered,
-    spellings: &Spellings<'_>,
-    delivery: &Delivery,
-)
-    ensures { Puts (W.contents out.old) table.old (W.contents out.new) table.new (delivered_words spellings.now delivery.now) }
+fn put_delivered<W: Write>(out: &mut Out<'_, W>, spellings: &Spellings<'_>, delivery: &Delivery)
+    ensures { Puts out.old out.new (delivered_words spellings.now delivery.now) }
 {
-    put_spaced_number(out, table, delivery.number);
-    put_spaced(out, table, spellings.worker(delivery.producer));
-    put_spaced(out, table, spellings.worker(delivery.consumer));
-    put_spaced_number(out, table, delivery.item);
+    put_spaced_number(out, delivery.number);
+    put_spaced(out, spellings.worker(delivery.producer));
+    put_spaced(out, spellings.worker(delivery.consumer));
+    put_spaced_number(out, delivery.item);
 }
 
 /// Puts the line of a delivery.
 fn put_delivery<W: Write>(
-    out: &mut W,
-    table: &mut Buffered,
+    out: &mut Out<'_, W>,
     spellings: &Spellings<'_>,
     name: &[u8],
     delivery: &Delivery,
 )
-    ensures { Puts (W.contents out.old) table.old (W.contents out.new) table.new (delivery_line spellings.now name.now delivery.now ++ 10 ∷ []) }
+    ensures { Puts out.old out.new (delivery_line spellings.now name.now delivery.now ++ 10 ∷ []) }
 {
-    put(out, table, b"delivery ");
-    put(out, table, name);
-    put_delivered(out, table, spellings, delivery);
-    put(out, table, b"\n");
+    out.put(b"delivery ");
+    out.put(name);
+    put_delivered(out, spellings, delivery);
+    out.put(b"\n");
 }
 
 /// Puts numbers, each behind a space.
-fn put_spaced_numbers<W: Write>(out: &mut W, table: &mut Buffered, numbers: &[u64])
-    ensures { Puts (W.contents out.old) table.old (W.contents out.new) table.new (spaced_numbers numbers.now) }
+fn put_spaced_numbers<W: Write>(out: &mut Out<'_, W>, numbers: &[u64])
+    ensures { Puts out.old out.new (spaced_numbers numbers.now) }
 {
     if let [first, rest @ ..] = numbers {
-        put_spaced_number(out, table, *first);
-        put_spaced_numbers(out, table, rest);
+        put_spaced_number(out, *first);
+        put_spaced_numbers(out, rest);
     }
 }
 
 /// Puts the line of an accepting try.
 fn put_version<W: Write>(
-    out: &mut W,
-    table: &mut Buffered,
+    out: &mut Out<'_, W>,
     spellings: &Spellings<'_>,
     name: &[u8],
     accepted: &Accepted,
 )
-    ensures { Puts (W.contents out.old) table.old (W.contents out.new) table.new (version_line spellings.now name.now (shown accepted.now) ++ 10 ∷ []) }
+    ensures { Puts out.old out.new (version_line spellings.now name.now (shown accepted.now) ++ 10 ∷ []) }
 {
-    put(out, table, b"version ");
-    put(out, table, name);
-    put_accepted(out, table, spellings, accepted);
-    put(out, table, b"\n");
+    out.put(b"version ");
+    out.put(name);
+    put_accepted(out, spellings, accepted);
+    out.put(b"\n");
 }
 
 /// Puts what follows the name in the line of an accepting try.
-fn put_accepted<W: Write>(
-    out: &mut W,
-    table: &mut Buffered,
-    spellings: &Spellings<'_>,
-    accepted: &Accepted,
-)
-    ensures { Puts (W.contents out.old) table.old (W.contents out.new) table.new (version_words spellings.now (shown accepted.now)) }
+fn put_accepted<W: Write>(out: &mut Out<'_, W>, spellings: &Spellings<'_>, accepted: &Accepted)
+    ensures { Puts out.old out.new (version_words spellings.now (shown accepted.now)) }
 {
-    put_spaced_number(out, table, accepted.version);
-    put_spaced(out, table, spellings.worker(accepted.worker));
-    put_spaced_numbers(out, table, accepted.values.as_slice());
+    put_spaced_number(out, accepted.version);
+    put_spaced(out, spellings.worker(accepted.worker));
+    put_spaced_numbers(out, accepted.values.as_slice());
 }
 
 /// Puts what follows the name in the line of a balance.
-fn put_parts<W: Write>(out: &mut W, table: &mut Buffered, balance: &Balance, now: u64)
-    ensures { Puts (W.contents out.old) table.old (W.contents out.new) table.new (balance_words balance.now now) }
+fn put_parts<W: Write>(out: &mut Out<'_, W>, balance: &Balance, now: u64)
+    ensures { Puts out.old out.new (balance_words balance.now now) }
 {
-    put_spaced_number(out, table, balance.initial);
-    put_spaced_number(out, table, balance.downs);
-    put_spaced_number(out, table, balance.ups);
-    put_spaced_number(out, table, now);
+    put_spaced_number(out, balance.initial);
+    put_spaced_number(out, balance.downs);
+    put_spaced_number(out, balance.ups);
+    put_spaced_number(out, now);
 }
 
 /// Puts the line of a balance.
-fn put_balance<W: Write>(
-    out: &mut W,
-    table: &mut Buffered,
-    name: &[u8],
-    balance: &Balance,
-    now: u64,
-)
-    ensures { Puts (W.contents out.old) table.old (W.contents out.new) table.new (balance_line name.now balance.now now ++ 10 ∷ []) }
+fn put_balance<W: Write>(out: &mut Out<'_, W>, name: &[u8], balance: &Balance, now: u64)
+    ensures { Puts out.old out.new (balance_line name.now balance.now now ++ 10 ∷ []) }
 {
-    put(out, table, b"balance ");
-    put(out, table, name);
-    put_parts(out, table, balance, now);
-    put(out, table, b"\n");
+    out.put(b"balance ");
+    out.put(name);
+    put_parts(out, balance, now);
+    out.put(b"\n");
 }
 
 /// Puts a ticket behind the name of its semaphore.
-fn put_ticket<W: Write>(out: &mut W, table: &mut Buffered, semaphore: &[u8], ticket: u64)
-    ensures { Puts (W.contents out.old) table.old (W.contents out.new) table.new (ticket_words semaphore.now ticket) }
+fn put_ticket<W: Write>(out: &mut Out<'_, W>, semaphore: &[u8], ticket: u64)
+    ensures { Puts out.old out.new (ticket_words semaphore.now ticket) }
 {
-    put_spaced(out, table, semaphore);
-    put_spaced_number(out, table, ticket);
+    put_spaced(out, semaphore);
+    put_spaced_number(out, ticket);
 }
 
 /// The name of a group; the one without a name is `both`.
@@ -174,118 +156,112 @@ fn semaphore_word<'a>(names: &'a Names, from: usize, groups: &[Group], sequencer
 
 /// Puts the line of a pair of tickets.
 fn put_pair<W: Write>(
-    out: &mut W,
-    table: &mut Buffered,
+    out: &mut Out<'_, W>,
     heading: &Heading,
     spellings: &Spellings<'_>,
     pair: &Pair,
 )
-    ensures { Puts (W.contents out.old) table.old (W.contents out.new) table.new (pair_line spellings.now (semaphore_word heading.now.names 0 heading.now.groups) pair.now ++ 10 ∷ []) }
+    ensures { Puts out.old out.new (pair_line spellings.now (semaphore_word heading.now.names 0 heading.now.groups) pair.now ++ 10 ∷ []) }
 {
     let first = semaphore_word(heading.names(), 0, heading.groups(), pair.first);
     let second = semaphore_word(heading.names(), 0, heading.groups(), pair.second);
-    put(out, table, b"pair");
-    put_spaced(out, table, spellings.worker(pair.worker));
-    put_ticket(out, table, first, pair.first_ticket);
-    put_ticket(out, table, second, pair.second_ticket);
-    put(out, table, b"\n");
+    out.put(b"pair");
+    put_spaced(out, spellings.worker(pair.worker));
+    put_ticket(out, first, pair.first_ticket);
+    put_ticket(out, second, pair.second_ticket);
+    out.put(b"\n");
 }
 
 /// Puts the lines of deliveries.
 fn put_deliveries<W: Write>(
-    out: &mut W,
-    table: &mut Buffered,
+    out: &mut Out<'_, W>,
     spellings: &Spellings<'_>,
     name: &[u8],
     list: &[Delivery],
 )
-    ensures { Puts (W.contents out.old) table.old (W.contents out.new) table.new (text_of (map (delivery_line spellings.now name.now) list.now)) }
+    ensures { Puts out.old out.new (text_of (map (delivery_line spellings.now name.now) list.now)) }
 {
     for delivery in list {
-        put_delivery(out, table, spellings, name, delivery);
+        put_delivery(out, spellings, name, delivery);
     }
 }
 
 /// Puts the lines of accepting tries.
 fn put_versions<W: Write>(
-    out: &mut W,
-    table: &mut Buffered,
+    out: &mut Out<'_, W>,
     spellings: &Spellings<'_>,
     name: &[u8],
     list: &[Accepted],
 )
-    ensures { Puts (W.contents out.old) table.old (W.contents out.new) table.new (text_of (map (λ a. version_line spellings.now name.now (shown a)) list.now)) }
+    ensures { Puts out.old out.new (text_of (map (λ a. version_line spellings.now name.now (shown a)) list.now)) }
 {
     for accepted in list {
-        put_version(out, table, spellings, name, accepted);
+        put_version(out, spellings, name, accepted);
     }
 }
 
 /// Puts the lines of pairs.
 fn put_pairs<W: Write>(
-    out: &mut W,
-    table: &mut Buffered,
+    out: &mut Out<'_, W>,
     heading: &Heading,
     spellings: &Spellings<'_>,
     list: &[Pair],
 )
-    ensures { Puts (W.contents out.old) table.old (W.contents out.new) table.new (text_of (map (pair_line spellings.now (semaphore_word heading.now.names 0 heading.now.groups)) list.now)) }
+    ensures { Puts out.old out.new (text_of (map (pair_line spellings.now (semaphore_word heading.now.names 0 heading.now.groups)) list.now)) }
 {
     for pair in list {
-        put_pair(out, table, heading, spellings, pair);
+        put_pair(out, heading, spellings, pair);
     }
 }
 
 /// Puts the lines of what the audit of a group found.
 fn put_audited<W: Write>(
-    out: &mut W,
-    table: &mut Buffered,
+    out: &mut Out<'_, W>,
     heading: &Heading,
     spellings: &Spellings<'_>,
     name: &[u8],
     audited: &Audited,
 )
     requires { spellings.now ≡ heading.now.words }
-    ensures { Puts (W.contents out.old) table.old (W.contents out.new) table.new (text_of (audited_lines heading.now name.now audited.now)) }
+    ensures { Puts out.old out.new (text_of (audited_lines heading.now name.now audited.now)) }
 {
     match audited {
         Audited::Deliveries(list) => {
-            put_deliveries(out, table, spellings, name, list.as_slice());
+            put_deliveries(out, spellings, name, list.as_slice());
         }
-        Audited::Versions(list) => put_versions(out, table, spellings, name, list.as_slice()),
-        Audited::Balances(balance, now) => put_balance(out, table, name, balance, *now),
+        Audited::Versions(list) => put_versions(out, spellings, name, list.as_slice()),
+        Audited::Balances(balance, now) => put_balance(out, name, balance, *now),
         Audited::Pairs(balance, now, list) => {
-            put_balance(out, table, name, balance, *now);
-            put_pairs(out, table, heading, spellings, list.as_slice());
+            put_balance(out, name, balance, *now);
+            put_pairs(out, heading, spellings, list.as_slice());
         }
     }
 }
 
 /// Puts what the audits of the groups found, in order.
 fn put_groups<W: Write>(
-    out: &mut W,
-    table: &mut Buffered,
+    out: &mut Out<'_, W>,
     heading: &Heading,
     spellings: &Spellings<'_>,
     found: &[Audited],
 )
     requires { spellings.now ≡ heading.now.words }
-    ensures { Puts (W.contents out.old) table.old (W.contents out.new) table.new (text_of (groups_lines heading.now 0 found.now)) }
+    ensures { Puts out.old out.new (text_of (groups_lines heading.now 0 found.now)) }
 {
     for i in 0..found.len() {
         let name = group_word(heading.names(), i);
-        put_audited(out, table, heading, spellings, name, &found[i]);
+        put_audited(out, heading, spellings, name, &found[i]);
     }
 }
 
 /// Puts the whole text.
-fn put_audit<W: Write>(out: &mut W, table: &mut Buffered, heading: &Heading, found: &[Audited])
-    ensures { Puts (W.contents out.old) table.old (W.contents out.new) table.new (audit_text heading.now found.now) }
+fn put_audit<W: Write>(out: &mut Out<'_, W>, heading: &Heading, found: &[Audited])
+    ensures { Puts out.old out.new (audit_text heading.now found.now) }
 {
     let spellings = Spellings::new(heading.words());
-    put(out, table, b"evc-audit 1\n");
-    put_groups(out, table, heading, &spellings, found);
-    put(out, table, b"end\n");
+    out.put(b"evc-audit 1\n");
+    put_groups(out, heading, &spellings, found);
+    out.put(b"end\n");
 }
 
 /// Writes the text, or a front of it.
@@ -297,7 +273,9 @@ pub fn write_audit<W: Write>(
     ensures ok { OnOk result (Appends (W.contents out.old) (W.contents out.new) (audit_text heading.now found.now)) }
     ensures err { OnErr result (AppendsPrefix (W.contents out.old) (W.contents out.new) (audit_text heading.now found.now)) }
 {
-    let mut table = Buffered::new();
-    put_audit(out, &mut table, heading, found);
-    finish(out, table)
+    let mut text = Out::new(out);
+    put_audit(&mut text, heading, found);
+    let done = text.finish();
+    text.into_writer();
+    done
 }

@@ -13,22 +13,22 @@ ghost use Rattle.ec_semaphore.specs.Both.{is_line, both_rules};
 ghost use Rattle.ec_heading.specs.Groups.{FitsGroup};
 ghost use Rattle.evc_engine.specs.AuditTexts.{now_of};
 ghost use Rattle.evc_engine.specs.Walks.{DeliversFor, VersionsFor, CountsFor, StandsFor};
-ghost use Rattle.evc_engine.specs.Notes.{IsWrittenOut};
 ghost use Rattle.ec_heading.specs.Rules.{semaphores_of, group_rules};
 ghost use Rattle.evc_engine.specs.Audits.{IsPairsOf, IsAudited, AreAudited, IsStop, stop_status, stop_note, AuditEnds, Audits};
-ghost use Rattle.ec_text.specs.Puts.{Puts};
+ghost use Rattle.ec_text.specs.Puts.{Puts, IsWrittenOut};
 
 use crate::audit_text::write_audit;
 use crate::audited::Audited;
 use crate::checking::status_of;
-use crate::notes::Notes;
+use crate::notes::{say_fault, say_not_followed};
 use crate::status::Status;
 use crate::walked::{Auditing, audits_of};
 use ec_buffer::{BufferShape, Delivery};
 use ec_core::{AuditFault, Run};
 use ec_database::{Accepted, DatabaseShape};
 use ec_semaphore::{Balance, SemaphoreShape, pairs};
-use ec_trace::{Group, Heading, Traced, read_trace};
+use ec_text::Out;
+use ec_trace::{Group, Heading, Traced, read_trace, semaphores_of};
 use std::alloc::{AllocError, Global};
 use std::io::{Read, Write};
 
@@ -37,33 +37,6 @@ use std::io::{Read, Write};
 struct Stop {
     group: usize,
     fault: AuditFault,
-}
-
-/// Adds the semaphores among groups, the one named `both` not among them.
-fn push_semaphores(list: &mut Vec<SemaphoreShape>, groups: &[Group]) -> Result<(), AllocError>
-    ensures { OnOk result (list.new.items ≡ list.old.items ++ semaphores_of groups.now) }
-{
-    let [group, rest @ ..] = groups else {
-        return Ok(());
-    };
-    match group {
-        Group::Semaphore(shape) => {
-            list.push(*shape)?;
-            push_semaphores(list, rest)
-        }
-        Group::Buffer(_) => push_semaphores(list, rest),
-        Group::Database(_) => push_semaphores(list, rest),
-        Group::Both(_) => push_semaphores(list, rest),
-    }
-}
-
-/// The semaphores among groups, the one named `both` not among them.
-fn semaphores_of(alloc: Global, groups: &[Group]) -> Result<Vec<SemaphoreShape>, AllocError>
-    ensures { IfOk result (λ list. list.items ≡ semaphores_of groups.now) }
-{
-    let mut list = Vec::new(alloc);
-    push_semaphores(&mut list, groups)?;
-    Ok(list)
 }
 
 /// The deliveries of a buffer, from its audit in the walk over the whole run.
@@ -231,14 +204,14 @@ fn audit_groups(alloc: Global, traced: &Traced) -> Result<Vec<Audited>, Stop>
 }
 
 /// Notes why there is no text.
-fn note_stop<N: Write>(heading: &Heading, stop: Stop, notes: &mut Notes<N>) -> Status
+fn note_stop<N: Write>(heading: &Heading, stop: Stop, notes: &mut Out<'_, N>) -> Status
     ensures status { result ≡ stop_status stop.fault }
-    ensures note { Puts (N.contents notes.old.writer) notes.old.table (N.contents notes.new.writer) notes.new.table (stop_note heading.now stop.group stop.fault) }
-    ensures written { IsWrittenOut notes.new.table }
+    ensures note { Puts notes.old notes.new (stop_note heading.now stop.group stop.fault) }
+    ensures written { IsWrittenOut notes.new }
 {
     match &stop.fault {
         AuditFault::NotFollowed { worker, entry } => {
-            notes.not_followed(heading, stop.group, *worker, *entry);
+            say_not_followed(notes, heading, stop.group, *worker, *entry);
             Status::Refused
         }
         AuditFault::Memory => {
@@ -253,12 +226,12 @@ fn write_audited<W: Write, N: Write>(
     alloc: Global,
     traced: &Traced,
     out: &mut W,
-    notes: &mut Notes<N>,
+    notes: &mut Out<'_, N>,
 ) -> Status
     ensures ends { AuditEnds traced.now result
-        (record { out = W.contents out.old; notes = N.contents notes.old.writer; held = notes.old.table })
-        (record { out = W.contents out.new; notes = N.contents notes.new.writer; held = notes.new.table }) }
-    ensures written { IsWrittenOut notes.old.table → IsWrittenOut notes.new.table }
+        (record { out = W.contents out.old; notes = notes.old })
+        (record { out = W.contents out.new; notes = notes.new }) }
+    ensures written { IsWrittenOut notes.old → IsWrittenOut notes.new }
 {
     let found = match audit_groups(alloc, traced) {
         Ok(found) => found,
@@ -281,17 +254,17 @@ pub fn audit<R: Read, W: Write, N: Write>(
     alloc: Global,
     reader: &mut R,
     out: &mut W,
-    notes: &mut Notes<N>,
+    notes: &mut Out<'_, N>,
 ) -> Status
     ensures ends { IfSome (R.remaining reader.old) (λ bytes. Audits bytes (R.remaining reader.new) result
-        (record { out = W.contents out.old; notes = N.contents notes.old.writer; held = notes.old.table })
-        (record { out = W.contents out.new; notes = N.contents notes.new.writer; held = notes.new.table })) }
-    ensures written { IsWrittenOut notes.old.table → IsWrittenOut notes.new.table }
+        (record { out = W.contents out.old; notes = notes.old })
+        (record { out = W.contents out.new; notes = notes.new })) }
+    ensures written { IsWrittenOut notes.old → IsWrittenOut notes.new }
 {
     match read_trace(alloc, reader) {
         Ok(traced) => write_audited(alloc, &traced, out, notes),
         Err(fault) => {
-            notes.fault(&fault);
+            say_fault(notes, &fault);
             status_of(&fault)
         }
     }

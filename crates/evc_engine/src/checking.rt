@@ -1,13 +1,14 @@
 //! `check`: a trace in; the order of its calls and the totals out.
 ghost use Rattle.std.specs.Prelude.{◌≡◌, [], IfSome, Ok, Err};
-ghost use Rattle.ec_text.specs.Puts.{Puts};
+ghost use Rattle.ec_text.specs.Puts.{Puts, IsWrittenOut};
 ghost use Rattle.evc_engine.specs.Checks.{Checks, Writes};
-ghost use Rattle.evc_engine.specs.Notes.{IsWrittenOut, fault_status};
+ghost use Rattle.evc_engine.specs.Notes.{fault_status};
 
-use crate::notes::Notes;
+use crate::notes::say_fault;
 use crate::status::Status;
 use crate::text::write_text;
 use ec_order::in_order;
+use ec_text::Out;
 use ec_trace::{TraceFault, Traced, read_trace};
 use std::alloc::Global;
 use std::io::{Read, Write};
@@ -32,12 +33,12 @@ fn write_checked<W: Write, N: Write>(
     alloc: Global,
     traced: &Traced,
     out: &mut W,
-    notes: &mut Notes<N>,
+    notes: &mut Out<'_, N>,
 ) -> Status
     ensures ends { Writes traced.now result
-        (record { out = W.contents out.old; notes = N.contents notes.old.writer; held = notes.old.table })
-        (record { out = W.contents out.new; notes = N.contents notes.new.writer; held = notes.new.table }) }
-    ensures written { IsWrittenOut notes.old.table → IsWrittenOut notes.new.table }
+        (record { out = W.contents out.old; notes = notes.old })
+        (record { out = W.contents out.new; notes = notes.new }) }
+    ensures written { IsWrittenOut notes.old → IsWrittenOut notes.new }
 {
     let run = traced.run();
     let Ok(order) = in_order(alloc, run) else {
@@ -60,17 +61,17 @@ pub fn check<R: Read, W: Write, N: Write>(
     alloc: Global,
     reader: &mut R,
     out: &mut W,
-    notes: &mut Notes<N>,
+    notes: &mut Out<'_, N>,
 ) -> Status
     ensures ends { IfSome (R.remaining reader.old) (λ bytes. Checks bytes (R.remaining reader.new) result
-        (record { out = W.contents out.old; notes = N.contents notes.old.writer; held = notes.old.table })
-        (record { out = W.contents out.new; notes = N.contents notes.new.writer; held = notes.new.table })) }
-    ensures written { IsWrittenOut notes.old.table → IsWrittenOut notes.new.table }
+        (record { out = W.contents out.old; notes = notes.old })
+        (record { out = W.contents out.new; notes = notes.new })) }
+    ensures written { IsWrittenOut notes.old → IsWrittenOut notes.new }
 {
     match read_trace(alloc, reader) {
         Ok(traced) => write_checked(alloc, &traced, out, notes),
         Err(fault) => {
-            notes.fault(&fault);
+            say_fault(notes, &fault);
             status_of(&fault)
         }
     }

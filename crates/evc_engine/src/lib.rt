@@ -21,6 +21,6 @@ pub use laws::{
     notes_leave_the_table, refused_audits_have_one_note, refused_checks_have_one_note,
     texts_have_no_version,
 };
-pub use notes::{Notes, put_line, put_refused};
+pub use notes::{put_line, put_refused, say_fault};
 pub use status::Status;
 pub use upgrading::upgrade;

@@ -1,154 +1,121 @@
-//! The notes, on their way to their writer.
-ghost use Rattle.std.specs.Prelude.{◌≡◌, [], codes};
-ghost use Rattle.ec_text.specs.Puts.{Puts, nothing_held};
-ghost use Rattle.evc_engine.specs.Notes.{IsWrittenOut, fault_note, refused_words, wrong_words, line_words, broken_words, breaker_words, break_note};
+//! The notes. A write of notes that fails is not told, and none is tried after it.
+ghost use Rattle.ec_text.specs.Puts.{Puts, IsWrittenOut};
+ghost use Rattle.evc_engine.specs.Notes.{fault_note, refused_words, wrong_words, line_words, broken_words, breaker_words, break_note};
 ghost use Rattle.evc_engine.specs.Audits.{not_followed_note};
 
 use crate::audit_text::group_word;
 use ec_core::{Refusal, Reply};
 use ec_count::WorkerId;
-use ec_text::{Buffered, flush, put, put_number};
+use ec_text::Out;
 use ec_trace::{Heading, Spellings, TraceFault, put_reply};
 use std::io::Write;
 
-/// A writer of notes, and the notes that wait for it. A write of notes that fails is not told, and none is tried after it.
-#[derive(Drop)]
-pub struct Notes<W> {
-    pub writer: W,
-    pub table: Buffered,
-}
-
-impl<W: Write> Notes<W> {
-    /// No notes yet.
-    pub fn new(writer: W) -> Self
-        ensures writer { result.writer ≡ writer }
-        ensures table { result.table ≡ nothing_held }
-    {
-        Notes {
-            writer,
-            table: Buffered::new(),
-        }
-    }
-
-    /// Puts a note, and writes it.
-    pub fn say(&mut self, note: &[u8])
-        ensures puts { Puts (W.contents self.old.writer) self.old.table (W.contents self.new.writer) self.new.table note.now }
-        ensures written { IsWrittenOut self.new.table }
-    {
-        put(&mut self.writer, &mut self.table, note);
-        flush(&mut self.writer, &mut self.table);
-    }
-}
-
 /// Puts what a note says of a refused act.
-pub fn put_refused<W: Write>(writer: &mut W, table: &mut Buffered, refusal: Refusal)
-    ensures { Puts (W.contents writer.old) table.old (W.contents writer.new) table.new (refused_words refusal) }
+pub fn put_refused<W: Write>(out: &mut Out<'_, W>, refusal: Refusal)
+    ensures { Puts out.old out.new (refused_words refusal) }
 {
-    put(writer, table, b"refused ");
-    put_number(writer, table, refusal.number());
-    put(writer, table, b" ");
-    put(writer, table, refusal.name().as_bytes());
+    out.put(b"refused ");
+    out.put_number(refusal.number());
+    out.put(b" ");
+    out.put(refusal.name().as_bytes());
 }
 
 /// Puts what a note says of a wrong reply.
-fn put_wrong<W: Write>(writer: &mut W, table: &mut Buffered, right: &Reply)
-    ensures { Puts (W.contents writer.old) table.old (W.contents writer.new) table.new (wrong_words right.now) }
+fn put_wrong<W: Write>(out: &mut Out<'_, W>, right: &Reply)
+    ensures { Puts out.old out.new (wrong_words right.now) }
 {
-    put(writer, table, b"wrong reply, right is ");
-    put_reply(writer, table, right);
+    out.put(b"wrong reply, right is ");
+    put_reply(out, right);
 }
 
 /// Puts the beginning of a note on a line.
-pub fn put_line<W: Write>(writer: &mut W, table: &mut Buffered, line: u64)
-    ensures { Puts (W.contents writer.old) table.old (W.contents writer.new) table.new (line_words line) }
+pub fn put_line<W: Write>(out: &mut Out<'_, W>, line: u64)
+    ensures { Puts out.old out.new (line_words line) }
 {
-    put(writer, table, b"line ");
-    put_number(writer, table, line);
-    put(writer, table, b": ");
+    out.put(b"line ");
+    out.put_number(line);
+    out.put(b": ");
 }
 
 /// Puts the note on a fault of a trace.
-fn put_fault<W: Write>(writer: &mut W, table: &mut Buffered, fault: &TraceFault)
-    ensures { Puts (W.contents writer.old) table.old (W.contents writer.new) table.new (fault_note fault.now) }
+fn put_fault<W: Write>(out: &mut Out<'_, W>, fault: &TraceFault)
+    ensures { Puts out.old out.new (fault_note fault.now) }
 {
     match *fault {
         TraceFault::BadLine(line) => {
-            put_line(writer, table, line);
-            put(writer, table, b"bad line\n");
+            put_line(out, line);
+            out.put(b"bad line\n");
         }
         TraceFault::Refused(line, refusal) => {
-            put_line(writer, table, line);
-            put_refused(writer, table, refusal);
-            put(writer, table, b"\n");
+            put_line(out, line);
+            put_refused(out, refusal);
+            out.put(b"\n");
         }
         TraceFault::WrongReply(line, right) => {
-            put_line(writer, table, line);
-            put_wrong(writer, table, &right);
-            put(writer, table, b"\n");
+            put_line(out, line);
+            put_wrong(out, &right);
+            out.put(b"\n");
         }
-        TraceFault::Unfinished => put(writer, table, b"unfinished\n"),
-        TraceFault::TooLarge => put(writer, table, b"too large\n"),
-        TraceFault::Read => put(writer, table, b"read fault\n"),
-        TraceFault::Memory => put(writer, table, b"no memory\n"),
+        TraceFault::Unfinished => out.put(b"unfinished\n"),
+        TraceFault::TooLarge => out.put(b"too large\n"),
+        TraceFault::Read => out.put(b"read fault\n"),
+        TraceFault::Memory => out.put(b"no memory\n"),
     }
 }
 
 /// Puts the note on an entry that breaks a group.
-fn put_break<W: Write>(
-    writer: &mut W,
-    table: &mut Buffered,
-    group: &[u8],
-    worker: &[u8],
-    entry: u64,
-)
-    ensures { Puts (W.contents writer.old) table.old (W.contents writer.new) table.new (break_note group.now worker.now entry) }
+fn put_break<W: Write>(out: &mut Out<'_, W>, group: &[u8], worker: &[u8], entry: u64)
+    ensures { Puts out.old out.new (break_note group.now worker.now entry) }
 {
-    put_broken(writer, table, group);
-    put_breaker(writer, table, worker, entry);
+    put_broken(out, group);
+    put_breaker(out, worker, entry);
 }
 
 /// Puts the beginning of that note: the group.
-fn put_broken<W: Write>(writer: &mut W, table: &mut Buffered, group: &[u8])
-    ensures { Puts (W.contents writer.old) table.old (W.contents writer.new) table.new (broken_words group.now) }
+fn put_broken<W: Write>(out: &mut Out<'_, W>, group: &[u8])
+    ensures { Puts out.old out.new (broken_words group.now) }
 {
-    put(writer, table, group);
-    put(writer, table, b" not followed: worker ");
+    out.put(group);
+    out.put(b" not followed: worker ");
 }
 
 /// Puts the end of that note: the entry and its worker.
-fn put_breaker<W: Write>(writer: &mut W, table: &mut Buffered, worker: &[u8], entry: u64)
-    ensures { Puts (W.contents writer.old) table.old (W.contents writer.new) table.new (breaker_words worker.now entry) }
+fn put_breaker<W: Write>(out: &mut Out<'_, W>, worker: &[u8], entry: u64)
+    ensures { Puts out.old out.new (breaker_words worker.now entry) }
 {
-    put(writer, table, worker);
-    put(writer, table, b" entry ");
-    put_number(writer, table, entry);
-    put(writer, table, b"\n");
+    out.put(worker);
+    out.put(b" entry ");
+    out.put_number(entry);
+    out.put(b"\n");
 }
 
-impl<W: Write> Notes<W> {
-    /// Puts the note on a fault of a trace, and writes it.
-    pub fn fault(&mut self, fault: &TraceFault)
-        ensures puts { Puts (W.contents self.old.writer) self.old.table (W.contents self.new.writer) self.new.table (fault_note fault.now) }
-        ensures written { IsWrittenOut self.new.table }
-    {
-        put_fault(&mut self.writer, &mut self.table, fault);
-        flush(&mut self.writer, &mut self.table);
-    }
+/// Says a fault of a trace: the note is put and written.
+pub fn say_fault<W: Write>(notes: &mut Out<'_, W>, fault: &TraceFault)
+    ensures puts { Puts notes.old notes.new (fault_note fault.now) }
+    ensures written { IsWrittenOut notes.new }
+{
+    put_fault(notes, fault);
+    notes.flush();
+}
 
-    /// Puts the note on a group that is not followed, and writes it: the group's number, and the
-    /// first entry that breaks its rule, with that entry's worker.
-    pub fn not_followed(&mut self, heading: &Heading, group: usize, worker: WorkerId, entry: usize)
-        ensures puts { Puts (W.contents self.old.writer) self.old.table (W.contents self.new.writer) self.new.table (not_followed_note heading.now group worker entry) }
-        ensures written { IsWrittenOut self.new.table }
-    {
-        let spellings = Spellings::new(heading.words());
-        put_break(
-            &mut self.writer,
-            &mut self.table,
-            group_word(heading.names(), group),
-            spellings.worker(worker),
-            entry as u64,
-        );
-        flush(&mut self.writer, &mut self.table);
-    }
+/// Says that a group is not followed: the note has its number, and the first entry that breaks its
+/// rule, with that entry's worker.
+pub(crate) fn say_not_followed<W: Write>(
+    notes: &mut Out<'_, W>,
+    heading: &Heading,
+    group: usize,
+    worker: WorkerId,
+    entry: usize,
+)
+    ensures puts { Puts notes.old notes.new (not_followed_note heading.now group worker entry) }
+    ensures written { IsWrittenOut notes.new }
+{
+    let spellings = Spellings::new(heading.words());
+    put_break(
+        notes,
+        group_word(heading.names(), group),
+        spellings.worker(worker),
+        entry as u64,
+    );
+    notes.flush();
 }

@@ -8,60 +8,44 @@ ghost use Rattle.evc_engine.specs.Texts.{placed_line, check_lines};
 use crate::totals::put_totals;
 use ec_core::{Entry, Run};
 use ec_order::{InOrder, Placed};
-use ec_text::{Buffered, WriteFault, finish, put, put_number};
+use ec_text::{Out, WriteFault};
 use ec_trace::{Heading, Spellings, put_entry};
 use std::io::Write;
 
 /// Puts the line of a placed call.
-fn put_placed<W: Write>(
-    out: &mut W,
-    table: &mut Buffered,
-    spellings: &Spellings<'_>,
-    placed: &Placed,
-)
-    ensures { Puts (W.contents out.old) table.old (W.contents out.new) table.new (placed_line spellings.now placed.now ++ 10 ∷ []) }
+fn put_placed<W: Write>(out: &mut Out<'_, W>, spellings: &Spellings<'_>, placed: &Placed)
+    ensures { Puts out.old out.new (placed_line spellings.now placed.now ++ 10 ∷ []) }
 {
     let entry = Entry {
         worker: placed.call.worker,
         act: placed.call.op,
         reply: placed.call.reply,
     };
-    put_number(out, table, placed.point as u64);
-    put(out, table, b" ");
-    put_entry(out, table, spellings, &entry);
-    put(out, table, b"\n");
+    out.put_number(placed.point as u64);
+    out.put(b" ");
+    put_entry(out, spellings, &entry);
+    out.put(b"\n");
 }
 
 /// Puts the lines of the placed calls, in order.
-fn put_order<W: Write>(
-    out: &mut W,
-    table: &mut Buffered,
-    spellings: &Spellings<'_>,
-    order: InOrder<'_>,
-)
-    ensures { Puts (W.contents out.old) table.old (W.contents out.new) table.new (text_of (map (placed_line spellings.now) order.entry)) }
+fn put_order<W: Write>(out: &mut Out<'_, W>, spellings: &Spellings<'_>, order: InOrder<'_>)
+    ensures { Puts out.old out.new (text_of (map (placed_line spellings.now) order.entry)) }
 {
     for placed in order {
-        put_placed(out, table, spellings, &placed);
+        put_placed(out, spellings, &placed);
     }
 }
 
 /// Puts the whole text.
-fn put_text<W: Write>(
-    out: &mut W,
-    table: &mut Buffered,
-    heading: &Heading,
-    run: &Run,
-    order: InOrder<'_>,
-)
-    ensures { Puts (W.contents out.old) table.old (W.contents out.new) table.new (text_of (check_lines heading.now run.now.entries order.entry)) }
+fn put_text<W: Write>(out: &mut Out<'_, W>, heading: &Heading, run: &Run, order: InOrder<'_>)
+    ensures { Puts out.old out.new (text_of (check_lines heading.now run.now.entries order.entry)) }
 {
     let spellings = Spellings::new(heading.words());
-    put(out, table, b"evc-order 1\n");
-    put_order(out, table, &spellings, order);
-    put(out, table, b"totals\n");
-    put_totals(out, table, heading, run.world());
-    put(out, table, b"end\n");
+    out.put(b"evc-order 1\n");
+    put_order(out, &spellings, order);
+    out.put(b"totals\n");
+    put_totals(out, heading, run.world());
+    out.put(b"end\n");
 }
 
 /// Writes the text, or a front of it.
@@ -74,7 +58,9 @@ pub fn write_text<W: Write>(
     ensures ok { OnOk result (Appends (W.contents out.old) (W.contents out.new) (text_of (check_lines heading.now run.now.entries order.entry))) }
     ensures err { OnErr result (AppendsPrefix (W.contents out.old) (W.contents out.new) (text_of (check_lines heading.now run.now.entries order.entry))) }
 {
-    let mut table = Buffered::new();
-    put_text(out, &mut table, heading, run, order);
-    finish(out, table)
+    let mut text = Out::new(out);
+    put_text(&mut text, heading, run, order);
+    let done = text.finish();
+    text.into_writer();
+    done
 }

@@ -9,7 +9,7 @@ ghost use Rattle.evc_engine.specs.Texts.{totals_of, totals_at, cell_lines, cell_
 
 use ec_core::World;
 use ec_count::{CellId, EventId, SeqId, Target, Vocabulary};
-use ec_text::{Buffered, put, put_number};
+use ec_text::Out;
 use ec_trace::Heading;
 use std::io::Write;
 
@@ -38,35 +38,35 @@ fn cell_or_zero(world: &World, cell: CellId) -> u64
 }
 
 /// Puts the line of one count.
-fn put_count<W: Write>(out: &mut W, table: &mut Buffered, sort: &[u8], name: &[u8], count: u64)
-    ensures { Puts (W.contents out.old) table.old (W.contents out.new) table.new (count_line sort.now name.now count ++ 10 ∷ []) }
+fn put_count<W: Write>(out: &mut Out<'_, W>, sort: &[u8], name: &[u8], count: u64)
+    ensures { Puts out.old out.new (count_line sort.now name.now count ++ 10 ∷ []) }
 {
-    put(out, table, sort);
-    put(out, table, name);
-    put(out, table, b" ");
-    put_number(out, table, count);
-    put(out, table, b"\n");
+    out.put(sort);
+    out.put(name);
+    out.put(b" ");
+    out.put_number(count);
+    out.put(b"\n");
 }
 
 /// Puts the spelling of one cell of a block.
-fn put_spot<W: Write>(out: &mut W, table: &mut Buffered, name: &[u8], place: u64)
-    ensures { Puts (W.contents out.old) table.old (W.contents out.new) table.new (name.now ++ codes "[" ++ decimal place ++ codes "]") }
+fn put_spot<W: Write>(out: &mut Out<'_, W>, name: &[u8], place: u64)
+    ensures { Puts out.old out.new (name.now ++ codes "[" ++ decimal place ++ codes "]") }
 {
-    put(out, table, name);
-    put(out, table, b"[");
-    put_number(out, table, place);
-    put(out, table, b"]");
+    out.put(name);
+    out.put(b"[");
+    out.put_number(place);
+    out.put(b"]");
 }
 
 /// Puts the line of one cell.
-fn put_cell<W: Write>(out: &mut W, table: &mut Buffered, name: &[u8], place: u64, value: u64)
-    ensures { Puts (W.contents out.old) table.old (W.contents out.new) table.new (cell_line name.now place value ++ 10 ∷ []) }
+fn put_cell<W: Write>(out: &mut Out<'_, W>, name: &[u8], place: u64, value: u64)
+    ensures { Puts out.old out.new (cell_line name.now place value ++ 10 ∷ []) }
 {
-    put(out, table, b"cell ");
-    put_spot(out, table, name, place);
-    put(out, table, b" ");
-    put_number(out, table, value);
-    put(out, table, b"\n");
+    out.put(b"cell ");
+    put_spot(out, name, place);
+    out.put(b" ");
+    out.put_number(value);
+    out.put(b"\n");
 }
 
 /// The value of the cell at a place of a block, 0 where it is not declared.
@@ -84,78 +84,53 @@ fn value_at(world: &World, first: CellId, place: usize) -> u64
 }
 
 /// Puts the lines of the cells of a block.
-fn put_cells<W: Write>(
-    out: &mut W,
-    table: &mut Buffered,
-    world: &World,
-    name: &[u8],
-    first: CellId,
-    n: usize,
-)
+fn put_cells<W: Write>(out: &mut Out<'_, W>, world: &World, name: &[u8], first: CellId, n: usize)
     ensures { (h : List Entry) → StandsFor world.now h
-        → Puts (W.contents out.old) table.old (W.contents out.new) table.new (text_of (cell_lines name.now (reverse h) first 0 n)) }
+        → Puts out.old out.new (text_of (cell_lines name.now (reverse h) first 0 n)) }
 {
     for place in 0..n {
-        put_cell(
-            out,
-            table,
-            name,
-            place as u64,
-            value_at(world, first, place),
-        );
+        put_cell(out, name, place as u64, value_at(world, first, place));
     }
 }
 
 /// Puts the totals of what a word spells.
-fn put_target<W: Write>(
-    out: &mut W,
-    table: &mut Buffered,
-    world: &World,
-    word: &[u8],
-    target: &Target,
-)
+fn put_target<W: Write>(out: &mut Out<'_, W>, world: &World, word: &[u8], target: &Target)
     ensures { (h : List Entry) → StandsFor world.now h
-        → Puts (W.contents out.old) table.old (W.contents out.new) table.new (text_of (totals_of (reverse h) word.now target.now)) }
+        → Puts out.old out.new (text_of (totals_of (reverse h) word.now target.now)) }
 {
     match *target {
         Target::Event(event) => {
             let total = total_or_zero(world, event);
-            put_count(out, table, b"eventcount ", word, total);
+            put_count(out, b"eventcount ", word, total);
         }
         Target::Sequencer(sequencer) => {
             let issued = issued_or_zero(world, sequencer);
-            put_count(out, table, b"sequencer ", word, issued);
+            put_count(out, b"sequencer ", word, issued);
         }
-        Target::Cells(first, n) => put_cells(out, table, world, word, first, n),
+        Target::Cells(first, n) => put_cells(out, world, word, first, n),
         Target::Worker(_) => {}
         Target::Group(_) => {}
     }
 }
 
 /// Puts the totals of what the word at a place spells, if there is one.
-fn put_place<W: Write>(
-    out: &mut W,
-    table: &mut Buffered,
-    world: &World,
-    words: &Vocabulary,
-    place: usize,
-)
+fn put_place<W: Write>(out: &mut Out<'_, W>, world: &World, words: &Vocabulary, place: usize)
     ensures { (h : List Entry) → StandsFor world.now h
-        → Puts (W.contents out.old) table.old (W.contents out.new) table.new (text_of (totals_at (reverse h) (slice_get words.now place))) }
+        → Puts out.old out.new (text_of (totals_at (reverse h) (slice_get words.now place))) }
 {
     if let Some((word, target)) = words.at(place) {
-        put_target(out, table, world, word, &target);
+        put_target(out, world, word, &target);
     }
 }
 
 /// Puts the totals of all that a heading declares: in the order of the declarations, and of the
 /// objects of each.
-pub fn put_totals<W: Write>(out: &mut W, table: &mut Buffered, heading: &Heading, world: &World)
+pub fn put_totals<W: Write>(out: &mut Out<'_, W>, heading: &Heading, world: &World)
     ensures { (h : List Entry) → StandsFor world.now h
-        → Puts (W.contents out.old) table.old (W.contents out.new) table.new (text_of (totals_lines heading.now (reverse h))) }
+        → Puts out.old out.new (text_of (totals_lines heading.now (reverse h))) }
 {
     let words = heading.words();
     for place in 0..words.len() {
-        put_place(out, table, world, words, place);
+        put_place(out, world, words, place);
     }
 }

@@ -1,21 +1,22 @@
 //! `upgrade`: a trace in; the same trace in version 2 out.
 ghost use Rattle.std.specs.Prelude.{◌≡◌, IfSome};
-ghost use Rattle.evc_engine.specs.Notes.{IsWrittenOut};
 ghost use Rattle.evc_engine.specs.Upgrades.{Rewrites, Upgrades};
+ghost use Rattle.ec_text.specs.Puts.{IsWrittenOut};
 
 use crate::checking::status_of;
-use crate::notes::Notes;
+use crate::notes::say_fault;
 use crate::status::Status;
+use ec_text::Out;
 use ec_trace::{Traced, read_trace, write_trace};
 use std::alloc::Global;
 use std::io::{Read, Write};
 
 /// Writes a trace in version 2.
-fn write_upgraded<W: Write, N: Write>(traced: Traced, out: &mut W, notes: &mut Notes<N>) -> Status
+fn write_upgraded<W: Write, N: Write>(traced: Traced, out: &mut W, notes: &mut Out<'_, N>) -> Status
     ensures ends { Rewrites traced result
-        (record { out = W.contents out.old; notes = N.contents notes.old.writer; held = notes.old.table })
-        (record { out = W.contents out.new; notes = N.contents notes.new.writer; held = notes.new.table }) }
-    ensures written { IsWrittenOut notes.old.table → IsWrittenOut notes.new.table }
+        (record { out = W.contents out.old; notes = notes.old })
+        (record { out = W.contents out.new; notes = notes.new }) }
+    ensures written { IsWrittenOut notes.old → IsWrittenOut notes.new }
 {
     let traced = traced.upgrade();
     match write_trace(traced.run(), traced.heading(), out) {
@@ -36,17 +37,17 @@ pub fn upgrade<R: Read, W: Write, N: Write>(
     alloc: Global,
     reader: &mut R,
     out: &mut W,
-    notes: &mut Notes<N>,
+    notes: &mut Out<'_, N>,
 ) -> Status
     ensures ends { IfSome (R.remaining reader.old) (λ bytes. Upgrades bytes (R.remaining reader.new) result
-        (record { out = W.contents out.old; notes = N.contents notes.old.writer; held = notes.old.table })
-        (record { out = W.contents out.new; notes = N.contents notes.new.writer; held = notes.new.table })) }
-    ensures written { IsWrittenOut notes.old.table → IsWrittenOut notes.new.table }
+        (record { out = W.contents out.old; notes = notes.old })
+        (record { out = W.contents out.new; notes = notes.new })) }
+    ensures written { IsWrittenOut notes.old → IsWrittenOut notes.new }
 {
     match read_trace(alloc, reader) {
         Ok(traced) => write_upgraded(traced, out, notes),
         Err(fault) => {
-            notes.fault(&fault);
+            say_fault(notes, &fault);
             status_of(&fault)
         }
     }

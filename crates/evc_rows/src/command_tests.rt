@@ -5,7 +5,8 @@ use crate::commands::{
     commanded_into,
 };
 use crate::fakes::{Fickle, Pieces, Trouble};
-use evc_engine::{Notes, Status};
+use ec_text::Out;
+use evc_engine::Status;
 use evc_scripts::engine_without_threads;
 use evc_task::Task;
 use std::alloc::Global;
@@ -241,7 +242,8 @@ fn a_run_is_left_to_threads(rt: HostRuntime) {
     let text = RUN_OF_TICKETS.text.as_bytes();
     let mut reader = text;
     let mut out = Vec::<u8>::new(rt.alloc());
-    let mut notes = Notes::new(Vec::<u8>::new(rt.alloc()));
+    let mut told = Vec::<u8>::new(rt.alloc());
+    let mut notes = Out::new(&mut told);
     let left = engine_without_threads(rt.alloc(), Task::Run(7), &mut reader, &mut out, &mut notes);
-    assert!(rt; left == Err(7) && reader == text && out.is_empty() && notes.writer.is_empty());
+    assert!(rt; left == Err(7) && reader == text && out.is_empty() && told.is_empty());
 }

@@ -2,7 +2,8 @@
 use crate::group_texts::BUFFER;
 use crate::outcome::{Ending, checked_into, ends};
 use crate::texts::{OVERTAKEN_READ, OVERTAKEN_READ_ORDER, UNDER_WAY, UNDER_WAY_IN_TWO};
-use evc_engine::{Notes, Status};
+use ec_text::Out;
+use evc_engine::Status;
 use evc_scripts::engine;
 use evc_task::Task;
 use std::alloc::Global;
@@ -100,9 +101,9 @@ pub(crate) fn commanded_into<H: Threads + Wait + Sync, R: Read, W: Write>(
     reader: &mut R,
     out: &mut W,
 ) -> (Status, Vec<u8>) {
-    let mut notes = Notes::new(Vec::new(alloc));
-    let status = engine(rt, alloc, task, reader, out, &mut notes);
-    (status, notes.writer)
+    let mut told = Vec::new(alloc);
+    let status = engine(rt, alloc, task, reader, out, &mut Out::new(&mut told));
+    (status, told)
 }
 
 /// The texts that are right.

@@ -3,7 +3,8 @@ use crate::broken_texts::IDLE;
 use crate::fakes::{Fickle, Pieces, Trouble};
 use crate::outcome::{Ending, Frame, audit_ends, checked_into, ends, framed};
 use crate::texts::THREE_ADVANCES;
-use evc_engine::{Notes, Status, check};
+use ec_text::Out;
+use evc_engine::{Status, check};
 use std::alloc::Global;
 use std::test::Fail;
 
@@ -88,9 +89,10 @@ fn a_writer_that_takes_5_bytes_and_fails(rt: HostRuntime) {
 /// Whether a trace is refused and nothing is written, where a writer of notes fails at a write and has these bytes.
 fn notes_end_behind(alloc: Global, text: &str, at: usize, bytes: &[u8]) -> bool {
     let mut out = Vec::<u8>::new(alloc);
-    let mut notes = Notes::new(Fickle::new(alloc, 1, Trouble::Fails, at));
+    let mut told = Fickle::new(alloc, 1, Trouble::Fails, at);
+    let mut notes = Out::new(&mut told);
     let status = check(alloc, &mut text.as_bytes(), &mut out, &mut notes);
-    status == Status::Refused && out.is_empty() && notes.writer.bytes.as_slice() == bytes
+    status == Status::Refused && out.is_empty() && told.bytes.as_slice() == bytes
 }
 
 #[test]

@@ -367,6 +367,6 @@ fn forms_of_the_sorts(rt: HostRuntime) {
     }
     assert!(rt; Sort::Semaphore.is_in_range(1_000_000));
     assert!(rt; Sort::Buffer.is_in_range(256) && !Sort::Database.is_in_range(257));
-    assert!(rt; Sort::Buffer.needs_other() && !Sort::Semaphore.needs_other());
-    assert!(rt; Sort::Database.keeps_apart() && !Sort::Cells.keeps_apart());
+    assert!(rt; Sort::Buffer.needs_second() && !Sort::Semaphore.needs_second());
+    assert!(rt; Sort::Database.needs_disjoint_lists() && !Sort::Cells.needs_disjoint_lists());
 }

@@ -3,14 +3,18 @@ use crate::fakes::{Fickle, Trouble};
 use crate::ids::worker;
 use crate::texts::OVERTAKEN_READ;
 use crate::written::read;
-use evc_engine::Notes;
+use ec_text::Out;
 use evc_scripts::note_mismatch;
 use std::alloc::Global;
 use std::io::Write;
 use std::test::Fail;
 
 /// Notes a mismatch of the worker of each number, by the names of a worked trace.
-fn note_each<N: Write>(alloc: Global, notes: &mut Notes<N>, numbers: &[usize]) -> Result<(), Fail> {
+fn note_each<N: Write>(
+    alloc: Global,
+    notes: &mut Out<'_, N>,
+    numbers: &[usize],
+) -> Result<(), Fail> {
     let traced = read(alloc, OVERTAKEN_READ)?;
     for n in numbers {
         note_mismatch(notes, traced.heading(), worker(*n));
@@ -20,16 +24,16 @@ fn note_each<N: Write>(alloc: Global, notes: &mut Notes<N>, numbers: &[usize]) -
 
 #[test]
 fn a_mismatch_is_noted(rt: HostRuntime) -> Result<(), Fail> {
-    let mut notes = Notes::new(Vec::new(rt.alloc()));
-    note_each(rt.alloc(), &mut notes, &[1])?;
-    assert!(rt; notes.writer.as_slice() == b"mismatch b\n".as_slice());
+    let mut told = Vec::new(rt.alloc());
+    note_each(rt.alloc(), &mut Out::new(&mut told), &[1])?;
+    assert!(rt; told.as_slice() == b"mismatch b\n".as_slice());
     Ok(())
 }
 
 #[test]
 fn a_mismatch_is_noted_up_to_a_failed_write(rt: HostRuntime) -> Result<(), Fail> {
-    let mut notes = Notes::new(Fickle::new(rt.alloc(), 1, Trouble::Fails, 4));
-    note_each(rt.alloc(), &mut notes, &[1, 2])?;
-    assert!(rt; notes.writer.bytes.as_slice() == b"mism".as_slice());
+    let mut told = Fickle::new(rt.alloc(), 1, Trouble::Fails, 4);
+    note_each(rt.alloc(), &mut Out::new(&mut told), &[1, 2])?;
+    assert!(rt; told.bytes.as_slice() == b"mism".as_slice());
     Ok(())
 }

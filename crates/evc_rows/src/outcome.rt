@@ -1,5 +1,6 @@
 //! Texts with how `check` ends on them, as tables.
-use evc_engine::{Notes, Status, audit, check};
+use ec_text::Out;
+use evc_engine::{Status, audit, check};
 use std::alloc::{AllocError, Global};
 use std::io::{Read, Write};
 use std::test::Fail;
@@ -45,9 +46,9 @@ pub(crate) fn checked_into<R: Read, W: Write>(
     reader: &mut R,
     out: &mut W,
 ) -> (Status, Vec<u8>) {
-    let mut notes = Notes::new(Vec::new(alloc));
-    let status = check(alloc, reader, out, &mut notes);
-    (status, notes.writer)
+    let mut told = Vec::new(alloc);
+    let status = check(alloc, reader, out, &mut Out::new(&mut told));
+    (status, told)
 }
 
 /// Whether a command that ended with this status and wrote these bytes and notes has ended so.
@@ -65,9 +66,9 @@ pub(crate) fn ends<R: Read>(alloc: Global, reader: &mut R, right: Ending) -> boo
 /// Whether `audit` ends so with the bytes of a reader.
 pub(crate) fn audit_ends<R: Read>(alloc: Global, reader: &mut R, right: Ending) -> bool {
     let mut out = Vec::new(alloc);
-    let mut notes = Notes::new(Vec::new(alloc));
-    let status = audit(alloc, reader, &mut out, &mut notes);
-    is_ending(status, out.as_slice(), notes.writer.as_slice(), right)
+    let mut told = Vec::new(alloc);
+    let status = audit(alloc, reader, &mut out, &mut Out::new(&mut told));
+    is_ending(status, out.as_slice(), told.as_slice(), right)
 }
 
 /// A text, and how `check` ends on it.

@@ -1,5 +1,4 @@
 pub mod shared
-pub mod InputLemmas
 pub mod WrittenLines
 pub mod SameLines
 pub mod OneRun

@@ -6,7 +6,7 @@ use Rattle.ec_script.specs.Outcome.{Parsed, outcome}
 use Rattle.ec_script.specs.Scripted.{Planned}
 use Rattle.evc_engine.specs.declared.status.Status.TheVariants.{Refused}
 use Rattle.evc_engine.specs.Checks.{Outlets}
-use Rattle.evc_scripts.specs.Inputs.{looked_at}
+use Rattle.ec_text.specs.Inputs.{looked_at}
 use Rattle.evc_scripts.specs.OutcomeNotes.{script_note, ended_note}
 use Rattle.evc_scripts.specs.Runs.{Says}
 use Rattle.evc_scripts.specs.SimLaws.{RefusedScriptsHaveOneFault, RefusedSimsHaveOneNote, RefusedRunsHaveOneNote, RefusalsAreAlike}

@@ -22,7 +22,7 @@ use Rattle.ec_script.proofs.shared.WrittenOut.{had_lines}
 use Rattle.evc_engine.specs.declared.status.Status.{Status}
 use Rattle.evc_engine.specs.declared.status.Status.TheVariants.{Done, Refused, Usage, InputOutput, Memory, Stopped}
 use Rattle.evc_engine.specs.Checks.{Outlets, Notes}
-use Rattle.evc_scripts.specs.Inputs.{looked_at, IsReadUp}
+use Rattle.ec_text.specs.Inputs.{looked_at, IsReadUp}
 use Rattle.evc_scripts.specs.OutcomeNotes.{outcomes_note}
 use Rattle.evc_scripts.specs.Runs.{HaveRun, IsTold, HasNoReport, Says, RunEnds, TextRuns, Runs, status_for, is_memory, is_cut_short, run_fault_status, run_fault_note}
 use Rattle.evc_scripts.proofs.PlainActs.{report_spelled}
@@ -89,7 +89,6 @@ runs bytes left turns Memory old new r (inr e) = inr e
 runs bytes left turns Stopped old new r e = (e.0, says bytes e.0 e.1, e.2, r)
 runs bytes left turns Usage old new r e = absurd e.2
 
-pub text_runs : (known left : Option (List ℕ)) (text : List ℕ) (turns : ℕ) (status : Status) (old new : Outlets) → IfSome known (λ bytes. text ≡ looked_at SCRIPT_MAX bytes)
-    → IfSome known (λ bytes. IsReadUp SCRIPT_MAX bytes left) → TextRuns text turns status old new → IfSome known (λ bytes. Runs turns bytes left status old new)
-text_runs None left text turns status old new is r e = tt
-text_runs (Some bytes) left text turns status old new is r e = runs bytes left turns status old new r (subst (λ (t : List ℕ). TextRuns t turns status old new) is e)
+pub text_runs : (known left : Option (List ℕ)) (text : List ℕ) (turns : ℕ) (status : Status) (old new : Outlets) → IfSome known (λ bytes. (text ≡ looked_at SCRIPT_MAX bytes) × IsReadUp SCRIPT_MAX bytes left) → TextRuns text turns status old new → IfSome known (λ bytes. Runs turns bytes left status old new)
+text_runs None left text turns status old new is e = tt
+text_runs (Some bytes) left text turns status old new is e = runs bytes left turns status old new is.1 (subst (λ (t : List ℕ). TextRuns t turns status old new) is.0 e)

@@ -22,7 +22,7 @@ use Rattle.ec_script.proofs.shared.WrittenOut.{had_lines}
 use Rattle.evc_engine.specs.declared.status.Status.{Status}
 use Rattle.evc_engine.specs.declared.status.Status.TheVariants.{Done, Refused, Usage, InputOutput, Memory, Stopped}
 use Rattle.evc_engine.specs.Checks.{Outlets}
-use Rattle.evc_scripts.specs.Inputs.{looked_at, IsReadUp}
+use Rattle.ec_text.specs.Inputs.{looked_at, IsReadUp}
 use Rattle.evc_scripts.specs.OutcomeNotes.{outcomes_note}
 use Rattle.evc_scripts.specs.Sims.{IsPlayed, TextEnds, SaysPlan, RefusedAt, Sims}
 use Rattle.evc_scripts.proofs.PlainActs.{turns_spelled}
@@ -82,10 +82,9 @@ sims bytes left Memory old new r e = e
 sims bytes left Usage old new r e = e.2
 sims bytes left Stopped old new r e = e.2
 
-pub text_sims : (known left : Option (List ℕ)) (text : List ℕ) (status : Status) (old new : Outlets) → IfSome known (λ bytes. text ≡ looked_at SCRIPT_MAX bytes)
-    → IfSome known (λ bytes. IsReadUp SCRIPT_MAX bytes left) → TextEnds text status old new → IfSome known (λ bytes. Sims bytes left status old new)
-text_sims None left text status old new is r e = tt
-text_sims (Some bytes) left text status old new is r e = sims bytes left status old new r (subst (λ (t : List ℕ). TextEnds t status old new) is e)
+pub text_sims : (known left : Option (List ℕ)) (text : List ℕ) (status : Status) (old new : Outlets) → IfSome known (λ bytes. (text ≡ looked_at SCRIPT_MAX bytes) × IsReadUp SCRIPT_MAX bytes left) → TextEnds text status old new → IfSome known (λ bytes. Sims bytes left status old new)
+text_sims None left text status old new is e = tt
+text_sims (Some bytes) left text status old new is e = sims bytes left status old new is.1 (subst (λ (t : List ℕ). TextEnds t status old new) is.0 e)
 
 -- there are as few outcomes as workers
 pub few_outcomes : (plan : Plan) (report : Report) (os : List Outcome) → os ≡ report.outcomes.items → IsReport plan.heading.setup plan.programs.items plan.schedule.items report → report.run.setup.workers ≤ 16

@@ -1,4 +1,3 @@
-pub mod Inputs
 pub mod OutcomeNotes
 pub mod Sims
 pub mod SimLaws

@@ -21,7 +21,7 @@ use Rattle.evc_engine.specs.declared.status.Status.{Status}
 use Rattle.evc_engine.specs.declared.status.Status.TheVariants.{Done, Refused, Usage, InputOutput, Memory, Stopped}
 use Rattle.evc_engine.specs.AuditTexts.{worker_word}
 use Rattle.evc_engine.specs.Checks.{Outlets, Notes}
-use Rattle.evc_scripts.specs.Inputs.{IsReadUp, IsCutOff}
+use Rattle.ec_text.specs.Inputs.{IsReadUp, IsCutShort}
 use Rattle.evc_scripts.specs.OutcomeNotes.{outcomes_note, script_note}
 use Rattle.evc_scripts.specs.Sims.{AreProgramsOf, IsTraceUnder, SaysPlan, RefusedAt}
 
@@ -110,7 +110,7 @@ abbrev pub Runs : ℕ → List ℕ → Option (List ℕ) → Status → Outlets 
 Runs turns bytes left Refused old new = (n : ℕ) × (kind : Kind) × RefusedAt bytes n kind × Says old new (script_note n kind) × IsReadUp SCRIPT_MAX bytes left
 Runs turns bytes left InputOutput old new =
     ((p : Planned) × SaysPlan bytes p × RunEnds p turns InputOutput old new × IsReadUp SCRIPT_MAX bytes left)
-    ⊎ (Says old new (codes "read fault\n") × IsCutOff SCRIPT_MAX bytes left)
+    ⊎ (Says old new (codes "read fault\n") × IsCutShort SCRIPT_MAX bytes left)
 Runs turns bytes left Memory old new =
     ((p : Planned) × SaysPlan bytes p × RunEnds p turns Memory old new × IsReadUp SCRIPT_MAX bytes left) ⊎ Says old new (codes "no memory\n")
 Runs turns bytes left status old new = (p : Planned) × SaysPlan bytes p × RunEnds p turns status old new × IsReadUp SCRIPT_MAX bytes left

@@ -23,7 +23,7 @@ use Rattle.ec_runner.specs.Schedules.{Turn, Plays, HasEnded, entries_of}
 use Rattle.evc_engine.specs.declared.status.Status.{Status}
 use Rattle.evc_engine.specs.declared.status.Status.TheVariants.{Done, Refused, Usage, InputOutput, Memory, Stopped}
 use Rattle.evc_engine.specs.Checks.{Outlets, Notes}
-use Rattle.evc_scripts.specs.Inputs.{looked_at, IsReadUp, IsCutOff}
+use Rattle.ec_text.specs.Inputs.{looked_at, IsReadUp, IsCutShort}
 use Rattle.evc_scripts.specs.OutcomeNotes.{outcomes_note, script_note, ended_note}
 
 -- PLANS
@@ -111,7 +111,7 @@ Sims bytes left Refused old new =
     ⊎ ((n : ℕ) × (kind : Kind) × RefusedAt bytes n kind × Keeps old.out new.out × Notes old new (script_note n kind) × IsReadUp SCRIPT_MAX bytes left)
 Sims bytes left InputOutput old new =
     ((p : Planned) × SaysPlan bytes p × PlanEnds p InputOutput old new × IsReadUp SCRIPT_MAX bytes left)
-    ⊎ (Keeps old.out new.out × Notes old new (codes "read fault\n") × IsCutOff SCRIPT_MAX bytes left)
+    ⊎ (Keeps old.out new.out × Notes old new (codes "read fault\n") × IsCutShort SCRIPT_MAX bytes left)
 Sims bytes left Memory old new = Keeps old.out new.out × Notes old new (codes "no memory\n")
 Sims bytes left Usage old new = ⊥
 Sims bytes left Stopped old new = ⊥

@@ -1,7 +1,6 @@
 //! What the commands on scripts do: texts out as a function of bytes in.
 #![tactic(auto)]
 
-mod input;
 mod laws;
 mod outcomes;
 mod running;

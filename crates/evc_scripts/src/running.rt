@@ -2,21 +2,20 @@
 //! worker's program has ended.
 ghost use Rattle.std.specs.Prelude.{◌≡◌, ℕ, IfSome, length};
 ghost use Rattle.std.specs.List.{list_any};
-ghost use Rattle.ec_text.specs.Puts.{Puts};
+ghost use Rattle.ec_text.specs.Puts.{Puts, IsWrittenOut};
 ghost use Rattle.ec_script.specs.Outcome.{shown_plan};
 ghost use Rattle.ec_script.specs.Confined.{IsPlan};
 ghost use Rattle.ec_runner.specs.RunReports.{IsReportOf};
-ghost use Rattle.evc_engine.specs.Notes.{IsWrittenOut};
 ghost use Rattle.evc_scripts.specs.Runs.{RunEnds, TextRuns, Runs, status_for, is_memory, is_cut_short, run_fault_status, run_fault_note};
 
-use crate::input::{InputFault, read_script};
 use crate::outcomes::{note_kind, note_mismatch};
 use crate::writing::write_run;
 use ec_machine::Outcome;
 use ec_runner::{OpenGate, Report, RunFault, run_workers};
-use ec_script::{Plan, ScriptFault, parse};
+use ec_script::{Plan, SCRIPT_MAX, ScriptFault, parse};
+use ec_text::{Input, Out, read_up_to};
 use ec_trace::Heading;
-use evc_engine::{Notes, Status};
+use evc_engine::Status;
 use std::alloc::Global;
 use std::io::{Read, Write};
 use std::sync::Wait;
@@ -48,10 +47,10 @@ fn status_for(outcomes: &[Outcome]) -> Status
 }
 
 /// Notes why there is no report of the workers.
-fn note_fault<N: Write>(heading: &Heading, fault: RunFault, notes: &mut Notes<N>) -> Status
+fn note_fault<N: Write>(heading: &Heading, fault: RunFault, notes: &mut Out<'_, N>) -> Status
     ensures status { result ≡ run_fault_status fault }
-    ensures note { Puts (N.contents notes.old.writer) notes.old.table (N.contents notes.new.writer) notes.new.table (run_fault_note heading.now fault) }
-    ensures written { IsWrittenOut notes.new.table }
+    ensures note { Puts notes.old notes.new (run_fault_note heading.now fault) }
+    ensures written { IsWrittenOut notes.new }
 {
     match fault {
         RunFault::Mismatch(worker) => {
@@ -74,14 +73,14 @@ fn write_report<W: Write, N: Write>(
     plan: &Plan,
     report: &Report,
     out: &mut W,
-    notes: &mut Notes<N>,
+    notes: &mut Out<'_, N>,
 ) -> Status
     requires plan { IsPlan (shown_plan plan.now) }
     requires few { length report.now.outcomes.items ≡ plan.now.heading.setup.workers }
     ensures ends { (turns : ℕ) → IsReportOf plan.now.heading.setup plan.now.programs.items turns report.now → RunEnds (shown_plan plan.now) turns result
-        (record { out = W.contents out.old; notes = N.contents notes.old.writer; held = notes.old.table })
-        (record { out = W.contents out.new; notes = N.contents notes.new.writer; held = notes.new.table }) }
-    ensures written { IsWrittenOut notes.new.table }
+        (record { out = W.contents out.old; notes = notes.old })
+        (record { out = W.contents out.new; notes = notes.new }) }
+    ensures written { IsWrittenOut notes.new }
 {
     plan.heading.known();
     plan.heading.setup().known();
@@ -101,13 +100,13 @@ fn run_plan<H: Threads + Wait + Sync, W: Write, N: Write>(
     turns: u64,
     plan: &Plan,
     out: &mut W,
-    notes: &mut Notes<N>,
+    notes: &mut Out<'_, N>,
 ) -> Status
     requires { IsPlan (shown_plan plan.now) }
     ensures ends { RunEnds (shown_plan plan.now) turns result
-        (record { out = W.contents out.old; notes = N.contents notes.old.writer; held = notes.old.table })
-        (record { out = W.contents out.new; notes = N.contents notes.new.writer; held = notes.new.table }) }
-    ensures written { IsWrittenOut notes.new.table }
+        (record { out = W.contents out.old; notes = notes.old })
+        (record { out = W.contents out.new; notes = notes.new }) }
+    ensures written { IsWrittenOut notes.new }
 {
     match run_workers(rt, alloc, plan, &OpenGate, turns) {
         Ok(report) => write_report(plan, &report, out, notes),
@@ -122,12 +121,12 @@ fn run_text<H: Threads + Wait + Sync, W: Write, N: Write>(
     turns: u64,
     text: &[u8],
     out: &mut W,
-    notes: &mut Notes<N>,
+    notes: &mut Out<'_, N>,
 ) -> Status
     ensures ends { TextRuns text.now turns result
-        (record { out = W.contents out.old; notes = N.contents notes.old.writer; held = notes.old.table })
-        (record { out = W.contents out.new; notes = N.contents notes.new.writer; held = notes.new.table }) }
-    ensures written { IsWrittenOut notes.new.table }
+        (record { out = W.contents out.old; notes = notes.old })
+        (record { out = W.contents out.new; notes = notes.new }) }
+    ensures written { IsWrittenOut notes.new }
 {
     match parse(alloc, text) {
         Ok(plan) => run_plan(rt, alloc, turns, &plan, out, notes),
@@ -153,20 +152,20 @@ pub fn run<H: Threads + Wait + Sync, R: Read, W: Write, N: Write>(
     turns: u64,
     reader: &mut R,
     out: &mut W,
-    notes: &mut Notes<N>,
+    notes: &mut Out<'_, N>,
 ) -> Status
     ensures ends { IfSome (R.remaining reader.old) (λ bytes. Runs turns bytes (R.remaining reader.new) result
-        (record { out = W.contents out.old; notes = N.contents notes.old.writer; held = notes.old.table })
-        (record { out = W.contents out.new; notes = N.contents notes.new.writer; held = notes.new.table })) }
-    ensures written { IsWrittenOut notes.new.table }
+        (record { out = W.contents out.old; notes = notes.old })
+        (record { out = W.contents out.new; notes = notes.new })) }
+    ensures written { IsWrittenOut notes.new }
 {
-    match read_script(alloc, reader) {
-        Ok(text) => run_text(rt, alloc, turns, text.as_slice(), out, notes),
-        Err(InputFault::Read) => {
+    match read_up_to(alloc, reader, SCRIPT_MAX) {
+        Ok(Input::Whole(text)) => run_text(rt, alloc, turns, text.as_slice(), out, notes),
+        Ok(Input::CutOff(_)) => {
             notes.say(b"read fault\n");
             Status::InputOutput
         }
-        Err(InputFault::Memory) => {
+        Err(_) => {
             notes.say(b"no memory\n");
             Status::Memory
         }

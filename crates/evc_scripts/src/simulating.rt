@@ -1,20 +1,19 @@
 //! `sim`: a script in; the trace of its schedule out, and in the notes how each worker's program has
 //! ended.
 ghost use Rattle.std.specs.Prelude.{◌≡◌, IfSome};
-ghost use Rattle.ec_text.specs.Puts.{Puts};
+ghost use Rattle.ec_text.specs.Puts.{Puts, IsWrittenOut};
 ghost use Rattle.ec_runner.specs.Reported.{IsReport};
 ghost use Rattle.ec_script.specs.Confined.{IsPlan};
 ghost use Rattle.ec_script.specs.Outcome.{shown_plan};
-ghost use Rattle.evc_engine.specs.Notes.{IsWrittenOut};
 ghost use Rattle.evc_scripts.specs.Sims.{PlanEnds, TextEnds, Sims, fault_status, sim_fault_note};
 
-use crate::input::{InputFault, read_script};
 use crate::outcomes::{note_ended, note_kind};
 use crate::writing::write_run;
 use ec_runner::{Report, SimFault, simulate};
-use ec_script::{Plan, ScriptFault, parse};
+use ec_script::{Plan, SCRIPT_MAX, ScriptFault, parse};
+use ec_text::{Input, Out, read_up_to};
 use ec_trace::Heading;
-use evc_engine::{Notes, Status};
+use evc_engine::Status;
 use std::alloc::Global;
 use std::io::{Read, Write};
 
@@ -23,14 +22,14 @@ fn write_report<W: Write, N: Write>(
     plan: &Plan,
     report: &Report,
     out: &mut W,
-    notes: &mut Notes<N>,
+    notes: &mut Out<'_, N>,
 ) -> Status
     requires plan { IsPlan (shown_plan plan.now) }
     requires report { IsReport plan.now.heading.setup plan.now.programs.items plan.now.schedule.items report.now }
     ensures ends { PlanEnds (shown_plan plan.now) result
-        (record { out = W.contents out.old; notes = N.contents notes.old.writer; held = notes.old.table })
-        (record { out = W.contents out.new; notes = N.contents notes.new.writer; held = notes.new.table }) }
-    ensures written { IsWrittenOut notes.new.table }
+        (record { out = W.contents out.old; notes = notes.old })
+        (record { out = W.contents out.new; notes = notes.new }) }
+    ensures written { IsWrittenOut notes.new }
 {
     plan.heading.known();
     report.run.known();
@@ -43,10 +42,10 @@ fn write_report<W: Write, N: Write>(
 }
 
 /// Notes why a plan's schedule was not played.
-fn note_fault<N: Write>(heading: &Heading, fault: SimFault, notes: &mut Notes<N>) -> Status
+fn note_fault<N: Write>(heading: &Heading, fault: SimFault, notes: &mut Out<'_, N>) -> Status
     ensures status { result ≡ fault_status fault }
-    ensures note { Puts (N.contents notes.old.writer) notes.old.table (N.contents notes.new.writer) notes.new.table (sim_fault_note heading.now fault) }
-    ensures written { IsWrittenOut notes.new.table }
+    ensures note { Puts notes.old notes.new (sim_fault_note heading.now fault) }
+    ensures written { IsWrittenOut notes.new }
 {
     match fault {
         SimFault::Ended { place, worker } => {
@@ -65,13 +64,13 @@ fn sim_plan<W: Write, N: Write>(
     alloc: Global,
     plan: &Plan,
     out: &mut W,
-    notes: &mut Notes<N>,
+    notes: &mut Out<'_, N>,
 ) -> Status
     requires { IsPlan (shown_plan plan.now) }
     ensures ends { PlanEnds (shown_plan plan.now) result
-        (record { out = W.contents out.old; notes = N.contents notes.old.writer; held = notes.old.table })
-        (record { out = W.contents out.new; notes = N.contents notes.new.writer; held = notes.new.table }) }
-    ensures written { IsWrittenOut notes.new.table }
+        (record { out = W.contents out.old; notes = notes.old })
+        (record { out = W.contents out.new; notes = notes.new }) }
+    ensures written { IsWrittenOut notes.new }
 {
     match simulate(alloc, plan) {
         Ok(report) => write_report(plan, &report, out, notes),
@@ -84,12 +83,12 @@ fn sim_text<W: Write, N: Write>(
     alloc: Global,
     text: &[u8],
     out: &mut W,
-    notes: &mut Notes<N>,
+    notes: &mut Out<'_, N>,
 ) -> Status
     ensures ends { TextEnds text.now result
-        (record { out = W.contents out.old; notes = N.contents notes.old.writer; held = notes.old.table })
-        (record { out = W.contents out.new; notes = N.contents notes.new.writer; held = notes.new.table }) }
-    ensures written { IsWrittenOut notes.new.table }
+        (record { out = W.contents out.old; notes = notes.old })
+        (record { out = W.contents out.new; notes = notes.new }) }
+    ensures written { IsWrittenOut notes.new }
 {
     match parse(alloc, text) {
         Ok(plan) => sim_plan(alloc, &plan, out, notes),
@@ -112,20 +111,20 @@ pub fn sim<R: Read, W: Write, N: Write>(
     alloc: Global,
     reader: &mut R,
     out: &mut W,
-    notes: &mut Notes<N>,
+    notes: &mut Out<'_, N>,
 ) -> Status
     ensures ends { IfSome (R.remaining reader.old) (λ bytes. Sims bytes (R.remaining reader.new) result
-        (record { out = W.contents out.old; notes = N.contents notes.old.writer; held = notes.old.table })
-        (record { out = W.contents out.new; notes = N.contents notes.new.writer; held = notes.new.table })) }
-    ensures written { IsWrittenOut notes.new.table }
+        (record { out = W.contents out.old; notes = notes.old })
+        (record { out = W.contents out.new; notes = notes.new })) }
+    ensures written { IsWrittenOut notes.new }
 {
-    match read_script(alloc, reader) {
-        Ok(text) => sim_text(alloc, text.as_slice(), out, notes),
-        Err(InputFault::Read) => {
+    match read_up_to(alloc, reader, SCRIPT_MAX) {
+        Ok(Input::Whole(text)) => sim_text(alloc, text.as_slice(), out, notes),
+        Ok(Input::CutOff(_)) => {
             notes.say(b"read fault\n");
             Status::InputOutput
         }
-        Err(InputFault::Memory) => {
+        Err(_) => {
             notes.say(b"no memory\n");
             Status::Memory
         }

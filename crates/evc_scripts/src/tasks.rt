@@ -1,13 +1,14 @@
 //! What a task of the command line does.
 ghost use Rattle.std.specs.Prelude.{◌≡◌, IfErr, IfOk, IfSome, ℕ};
 ghost use Rattle.evc_engine.specs.Checks.{Checks};
-ghost use Rattle.evc_engine.specs.Notes.{IsWrittenOut};
 ghost use Rattle.evc_task.specs.declared.choice.Task.TheVariants.{Run};
 ghost use Rattle.evc_scripts.specs.Tasks.{Does};
+ghost use Rattle.ec_text.specs.Puts.{IsWrittenOut};
 
 use crate::running::run;
 use crate::simulating::sim;
-use evc_engine::{Notes, Status, audit, check, upgrade};
+use ec_text::Out;
+use evc_engine::{Status, audit, check, upgrade};
 use evc_task::Task;
 use std::alloc::Global;
 use std::io::{Read, Write};
@@ -23,12 +24,12 @@ pub fn engine_without_threads<R: Read, W: Write, N: Write>(
     task: Task,
     reader: &mut R,
     out: &mut W,
-    notes: &mut Notes<N>,
+    notes: &mut Out<'_, N>,
 ) -> Result<Status, u64>
     ensures ends { IfOk result (λ status. IfSome (R.remaining reader.old) (λ bytes. Does task bytes (R.remaining reader.new) status
-        (record { out = W.contents out.old; notes = N.contents notes.old.writer; held = notes.old.table })
-        (record { out = W.contents out.new; notes = N.contents notes.new.writer; held = notes.new.table }))) }
-    ensures written { IsWrittenOut notes.old.table → IsWrittenOut notes.new.table }
+        (record { out = W.contents out.old; notes = notes.old })
+        (record { out = W.contents out.new; notes = notes.new }))) }
+    ensures written { IsWrittenOut notes.old → IsWrittenOut notes.new }
     ensures run { IfErr result (λ turns. task ≡ Run turns) }
     ensures others { IfOk result (λ _. (turns : ℕ) → task ≡ Run turns → ⊥) }
     ensures kept { IfErr result (λ _. (reader.new ≡ reader.old) × (out.new ≡ out.old) × (notes.new ≡ notes.old)) }
@@ -52,12 +53,12 @@ pub fn engine<H: Threads + Wait + Sync, R: Read, W: Write, N: Write>(
     task: Task,
     reader: &mut R,
     out: &mut W,
-    notes: &mut Notes<N>,
+    notes: &mut Out<'_, N>,
 ) -> Status
     ensures ends { IfSome (R.remaining reader.old) (λ bytes. Does task bytes (R.remaining reader.new) result
-        (record { out = W.contents out.old; notes = N.contents notes.old.writer; held = notes.old.table })
-        (record { out = W.contents out.new; notes = N.contents notes.new.writer; held = notes.new.table })) }
-    ensures written { IsWrittenOut notes.old.table → IsWrittenOut notes.new.table }
+        (record { out = W.contents out.old; notes = notes.old })
+        (record { out = W.contents out.new; notes = notes.new })) }
+    ensures written { IsWrittenOut notes.old → IsWrittenOut notes.new }
 {
     match engine_without_threads(alloc, task, reader, out, notes) {
         Ok(status) => status,

@@ -1,17 +1,16 @@
 //! What the commands on scripts write: a trace, and how the workers have ended.
 ghost use Rattle.std.specs.Prelude.{◌≡◌, ◌≤◌, true, false, length, codes, if◌then◌else◌};
 ghost use Rattle.std.specs.Io.KnownBytes.{Appends};
-ghost use Rattle.ec_text.specs.Puts.{Puts, AppendsPrefix};
+ghost use Rattle.ec_text.specs.Puts.{Puts, AppendsPrefix, IsWrittenOut};
 ghost use Rattle.ec_heading.specs.Outline.{Outline, IsOutline, headed};
 ghost use Rattle.ec_heading.specs.Spelling.{trace_text};
-ghost use Rattle.evc_engine.specs.Notes.{IsWrittenOut};
 ghost use Rattle.evc_scripts.specs.OutcomeNotes.{outcomes_note};
 
 use crate::outcomes::note_outcomes;
 use ec_core::Run;
 use ec_machine::Outcome;
+use ec_text::Out;
 use ec_trace::{Heading, write_trace};
-use evc_engine::Notes;
 use std::io::Write;
 
 /// Writes the trace of a run, and then notes how the workers have ended; where a write fails, notes
@@ -21,13 +20,13 @@ pub(crate) fn write_run<W: Write, N: Write>(
     run: &Run,
     outcomes: &[Outcome],
     out: &mut W,
-    notes: &mut Notes<N>,
+    notes: &mut Out<'_, N>,
 ) -> bool
     requires { length outcomes.now ≤ 16 }
     ensures all { (o : Outline) → IsOutline o → headed o ≡ heading.now → result ≡ true → Appends (W.contents out.old) (W.contents out.new) (trace_text o run.now.entries) }
     ensures front { (o : Outline) → IsOutline o → headed o ≡ heading.now → result ≡ false → AppendsPrefix (W.contents out.old) (W.contents out.new) (trace_text o run.now.entries) }
-    ensures noted { Puts (N.contents notes.old.writer) notes.old.table (N.contents notes.new.writer) notes.new.table (if result then outcomes_note heading.now outcomes.now else codes "write fault\n") }
-    ensures written { IsWrittenOut notes.new.table }
+    ensures noted { Puts notes.old notes.new (if result then outcomes_note heading.now outcomes.now else codes "write fault\n") }
+    ensures written { IsWrittenOut notes.new }
 {
     match write_trace(run, heading, out) {
         Ok(()) => {

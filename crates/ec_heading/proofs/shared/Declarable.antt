@@ -10,7 +10,7 @@ use Rattle.ec_count.specs.Roles.{roles_fault}
 use Rattle.ec_semaphore.specs.Shapes.{semaphore_fault}
 use Rattle.ec_semaphore.specs.declared.shape.TheConstants.{INITIAL_MAX}
 use Rattle.ec_text.specs.Words.{number_of}
-use Rattle.ec_heading.specs.Sorts.{has_number, other, keeps_apart, needs_other, is_called, is_in_range}
+use Rattle.ec_heading.specs.Sorts.{has_number, second_opener, needs_disjoint_lists, needs_second, is_called, is_in_range}
 use Rattle.ec_heading.specs.Objects.{Next, objects_of, spelled_objects}
 use Rattle.ec_heading.specs.declared.version.Version.{Version}
 use Rattle.ec_heading.specs.Headed.{Headed}
@@ -107,8 +107,8 @@ pub record HasRoom (s : Sort) (t : Tables) (n : ℕ) (first second : List ℕ) :
   pub once_first : has_repeat first ≡ false
   pub once_second : has_repeat second ≡ false
   pub some : eqb (length first) 0 ≡ false
-  pub needed : (needs_other s && eqb (length second) 0) ≡ false
-  pub apart : (keeps_apart s && shares first second) ≡ false
+  pub needed : (needs_second s && eqb (length second) 0) ≡ false
+  pub apart : (needs_disjoint_lists s && shares first second) ≡ false
 
 full_32 : (n : ℕ) → ltb 31 n ≡ false → leb 32 n ≡ false
 full_32 n e = lt-leb 32 n (omega (arith, ltb-false 31 n e))
@@ -151,7 +151,7 @@ abbrev empty : List ℕ → Bool
 empty ws = eqb (length ws) 0
 
 -- two lists with roles of their own
-roles_taken : (s : Sort) (t : Tables) (n : ℕ) (first second : List ℕ) → needs_other s ≡ true → keeps_apart s ≡ true → eqb n 0 ≡ false → HasRoom s t n first second → roles_fault t (is_full_for s t n) first second (eqb n 0) ≡ None
+roles_taken : (s : Sort) (t : Tables) (n : ℕ) (first second : List ℕ) → needs_second s ≡ true → needs_disjoint_lists s ≡ true → eqb n 0 ≡ false → HasRoom s t n first second → roles_fault t (is_full_for s t n) first second (eqb n 0) ≡ None
 roles_taken s t n first second needs keeps more h =
     let other : empty second ≡ false = ap (λ (b : Bool). b && empty second) (sym needs) ∙ h.needed in
     let apart : shares first second ≡ false = ap (λ (b : Bool). b && shares first second) (sym keeps) ∙ h.apart in
@@ -194,7 +194,7 @@ users_taken s t n initial users second small room h =
     h.once_first
     h.some
 
-users_room : (s : Sort) (t : Tables) (n initial : ℕ) (users second : List ℕ) → second ≡ [] → needs_other s ≡ false → keeps_apart s ≡ false → ((nat_lt 31 (length t.events) || nat_lt 31 (length t.takers)) ≡ false → is_full_for s t n ≡ false) → semaphore_fault t initial users ≡ None → HasRoom s t n users second
+users_room : (s : Sort) (t : Tables) (n initial : ℕ) (users second : List ℕ) → second ≡ [] → needs_second s ≡ false → needs_disjoint_lists s ≡ false → ((nat_lt 31 (length t.events) || nat_lt 31 (length t.takers)) ≡ false → is_full_for s t n ≡ false) → semaphore_fault t initial users ≡ None → HasRoom s t n users second
 users_room s t n initial users second none needs keeps room e =
     let p = from_four (nat_lt INITIAL_MAX initial || nat_le 32 (length t.events) || nat_le 32 (length t.takers) || long users) (unknown t users) (has_repeat users) (empty users) setups.TooMany setups.UnknownWorker setups.Repeated setups.Empty e in
     let a = or_parts (nat_lt INITIAL_MAX initial || nat_le 32 (length t.events) || nat_le 32 (length t.takers)) (long users) p.0 in
@@ -246,7 +246,7 @@ none_listed : (ids : List ℕ) → eqb (length ids) 0 ≡ true → ids ≡ []
 none_listed [] e = refl
 none_listed (i ∷ ids) e = absurd (omega (arith, eqb-true (length (i ∷ ids)) 0 e))
 
-pub has_room : (s : Sort) (t : Tables) (n : ℕ) (first second : List ℕ) → fits_form (other s) second ≡ true → objects_fault s t n first second ≡ None → HasRoom s t n first second
+pub has_room : (s : Sort) (t : Tables) (n : ℕ) (first second : List ℕ) → fits_form (second_opener s) second ≡ true → objects_fault s t n first second ≡ None → HasRoom s t n first second
 has_room sorts.EventCount t n first second form e =
     let p = from_four (nat_le 32 (length t.events) || long first || long second) (unknown t first || unknown t second) (has_repeat first || has_repeat second) (empty first) setups.TooMany setups.UnknownWorker setups.Repeated setups.Empty e in
     let a = or_parts (nat_le 32 (length t.events) || long first) (long second) p.0 in
@@ -413,7 +413,7 @@ may_declare ws h words p heads is none =
       word = c.word;
       new = c.new;
       range = range;
-      form = second_form (needs_other p.sort) (other p.sort) h.words p.second is.second;
+      form = second_form (needs_second p.sort) (second_opener p.sort) h.words p.second is.second;
       taken = objects_taken p.sort h.setup (size_in p) (ids_in h.words p.first) (ids_in h.words (second_list p)) range (record {
         room = c.room;
         few_first = c.few_first;
@@ -423,7 +423,7 @@ may_declare ws h words p heads is none =
         once_first = c.once_first;
         once_second = c.once_second;
         some = first_some h.words p.first is.first c.known_first;
-        needed = second_some (needs_other p.sort) (other p.sort) h.words p.second is.second c.known_second;
+        needed = second_some (needs_second p.sort) (second_opener p.sort) h.words p.second is.second c.known_second;
         apart = c.apart;
       });
     }

@@ -10,7 +10,7 @@ use Rattle.ec_count.specs.declared.setup.Access.{Access}
 use Rattle.ec_count.specs.declared.target.Target.TheVariants.{Worker, Group}
 use Rattle.ec_heading.specs.declared.sort.Sort.{Sort}
 use Rattle.ec_heading.specs.declared.sort.Sort.TheVariants as sorts
-use Rattle.ec_heading.specs.Sorts.{has_name, other, is_called, is_in_range}
+use Rattle.ec_heading.specs.Sorts.{has_name, second_opener, is_called, is_in_range}
 use Rattle.ec_heading.specs.Objects.{target_of, group_of}
 use Rattle.ec_buffer.specs.Shapes.{next_buffer}
 use Rattle.ec_database.specs.Shapes.{next_database}
@@ -59,7 +59,7 @@ group_told h l g d groups is =
 
 -- what a declaration of this sort left in a later heading is told of again
 told : (s : Sort) (h l : Headed) (name : List ℕ) (n : ℕ) (ws vs : List ℕ) → TablesGrow (with_objects s h.setup n ws vs) l.setup → Grows (h.groups ++ cons_option (group_of s h.setup n) []) l.groups
-    → is_in_range s n ≡ true → fits_form (other s) vs ≡ true → is_called s name ≡ true → (has_name s ≡ true → word_of l.names (target_of s (next_of h) n) ≡ name)
+    → is_in_range s n ≡ true → fits_form (second_opener s) vs ≡ true → is_called s name ≡ true → (has_name s ≡ true → word_of l.names (target_of s (next_of h) n) ≡ name)
     → declaration_of l (target_of s (next_of h) n) ≡ Some (record { sort = s; name = name; number = n; first = ws; second = vs })
 told sorts.EventCount h l name n ws vs g groups range form called named =
     let at = g.keeps.events _ _ (found_at h.setup.events (record { signal = ws; observe = vs; fixed = false }) []) in

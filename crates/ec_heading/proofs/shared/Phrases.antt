@@ -3,7 +3,7 @@ use Rattle.std.proofs.Common.{◌≡◌, ℕ, List, [], ◌∷◌, ◌++◌, Boo
 use Rattle.std.proofs.lemmas.Slice.Eq.{bytes_eq-Decides}
 use Rattle.std.proofs.lemmas.Bool.{true≢false, not-true}
 use Rattle.ec_text.specs.Words.{is_number_form}
-use Rattle.ec_heading.specs.Sorts.{sort_of, sort_word, has_name, has_number, opener, other, needs_other}
+use Rattle.ec_heading.specs.Sorts.{sort_of, sort_word, has_name, has_number, opener, second_opener, needs_second}
 use Rattle.ec_heading.specs.Spelling.{name_words}
 use Rattle.ec_heading.specs.Form.{Phrase, TwoLists, split_words, on_first, both_lists, is_well, well_or, phrase_of, listed_in, opened_in, numbered_in, called_in, named_in, sorted_in, parts_in}
 use Rattle.ec_heading.specs.Phrased.{HasWords, NameFits, number_part, NumberFits, second_part, SecondFits, behind_name, HasNoStop, IsSpelled}
@@ -107,18 +107,18 @@ headed s name ws = sort_word s ∷ (name_words s name ++ ws)
 
 listed : (s : Sort) (name number : List ℕ) (ws : List (List ℕ)) (p : Phrase) → NameFits s name → NumberFits s number → listed_in s name number ws ≡ Some p → IsSpelled (headed s name (behind_name s number ws)) p
 listed s name number ws p called fits e =
-    let P : Bool → Type 0 = λ b. is_well (needs_other s) (both_lists (other s) ws) ≡ b → phrase_of s name number (cond b (Some (both_lists (other s) ws)) None) ≡ Some p → IsSpelled (headed s name (behind_name s number ws)) p in
-    let go : P (is_well (needs_other s) (both_lists (other s) ws)) = elim (is_well (needs_other s) (both_lists (other s) ws)) as P [
+    let P : Bool → Type 0 = λ b. is_well (needs_second s) (both_lists (second_opener s) ws) ≡ b → phrase_of s name number (cond b (Some (both_lists (second_opener s) ws)) None) ≡ Some p → IsSpelled (headed s name (behind_name s number ws)) p in
+    let go : P (is_well (needs_second s) (both_lists (second_opener s) ws)) = elim (is_well (needs_second s) (both_lists (second_opener s) ws)) as P [
       | true ↦ λ w f.
-          let q : Phrase = record { sort = s; name = name; number = number; first = (both_lists (other s) ws).0; second = (both_lists (other s) ws).1 } in
+          let q : Phrase = record { sort = s; name = name; number = number; first = (both_lists (second_opener s) ws).0; second = (both_lists (second_opener s) ws).1 } in
           let same : q ≡ p = cc in
           let is : IsSpelled (headed s name (behind_name s number ws)) q = record {
-            words = ap (λ (vs : List (List ℕ)). headed s name (behind_name s number vs)) (sym (lists_join (other s) ws));
+            words = ap (λ (vs : List (List ℕ)). headed s name (behind_name s number vs)) (sym (lists_join (second_opener s) ws));
             name = called;
             number = fits;
-            first = well_first (needs_other s) (both_lists (other s) ws) w;
-            second = well_second (needs_other s) (other s) ws (both_lists (other s) ws).1 refl w;
-            apart = lists_stop (other s) ws;
+            first = well_first (needs_second s) (both_lists (second_opener s) ws) w;
+            second = well_second (needs_second s) (second_opener s) ws (both_lists (second_opener s) ws).1 refl w;
+            apart = lists_stop (second_opener s) ws;
           } in
           subst (IsSpelled (headed s name (behind_name s number ws))) same is
       | false ↦ λ w f. (cc)
@@ -208,11 +208,11 @@ sort_again sorts.Database = refl
 sort_again sorts.Semaphore = refl
 sort_again sorts.Both = refl
 
-listed_again : (s : Sort) (name number : List ℕ) (ws : List (List ℕ)) (q : Option (List (List ℕ))) → HasWords ws → HasNoStop (other s) ws → SecondFits (needs_other s) (other s) q
-    → listed_in s name number (ws ++ second_part (other s) q) ≡ Some (record { sort = s; name = name; number = number; first = ws; second = q })
+listed_again : (s : Sort) (name number : List ℕ) (ws : List (List ℕ)) (q : Option (List (List ℕ))) → HasWords ws → HasNoStop (second_opener s) ws → SecondFits (needs_second s) (second_opener s) q
+    → listed_in s name number (ws ++ second_part (second_opener s) q) ≡ Some (record { sort = s; name = name; number = number; first = ws; second = q })
 listed_again s name number ws q some apart fits =
-    ap (λ (l : TwoLists). phrase_of s name number (well_or (needs_other s) l)) (lists_again (needs_other s) (other s) ws q apart fits)
-    ∙ ap (λ (b : Bool). phrase_of s name number (if b then Some (ws, q) else None)) (well_again (needs_other s) (other s) ws q some fits)
+    ap (λ (l : TwoLists). phrase_of s name number (well_or (needs_second s) l)) (lists_again (needs_second s) (second_opener s) ws q apart fits)
+    ∙ ap (λ (b : Bool). phrase_of s name number (if b then Some (ws, q) else None)) (well_again (needs_second s) (second_opener s) ws q some fits)
 
 opened_again : (s : Sort) (name number : List ℕ) (vs : List (List ℕ)) (o : Option Phrase) → listed_in s name number vs ≡ o → opened_in s name number (opener s ∷ vs) ≡ o
 opened_again s name number vs o is = rw (is_itself (opener s)) is
@@ -239,8 +239,8 @@ named_again s name ws o fits is =
 pub spelled_parts : (ws : List (List ℕ)) (p : Phrase) → IsSpelled ws p → parts_in ws ≡ Some p
 unfolding parts_in
 spelled_parts ws p is =
-    let lists : List (List ℕ) = p.first ++ second_part (other p.sort) p.second in
-    let whole : listed_in p.sort p.name p.number (p.first ++ second_part (other p.sort) p.second) ≡ Some p = listed_again p.sort p.name p.number p.first p.second is.first is.apart is.second in
+    let lists : List (List ℕ) = p.first ++ second_part (second_opener p.sort) p.second in
+    let whole : listed_in p.sort p.name p.number (p.first ++ second_part (second_opener p.sort) p.second) ≡ Some p = listed_again p.sort p.name p.number p.first p.second is.first is.apart is.second in
     ap parts_in is.words
     ∙ ap (λ (o : Option Sort). sorted_in o (name_words p.sort p.name ++ behind_name p.sort p.number lists)) (sort_again p.sort)
     ∙ named_again p.sort p.name (behind_name p.sort p.number lists) (Some p) is.name (numbered_again p.sort p.name p.number lists (Some p) is.number whole)

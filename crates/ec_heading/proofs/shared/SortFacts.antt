@@ -6,7 +6,7 @@ use Rattle.std.proofs.lemmas.Bool.Decides.{nat_tests}
 use Rattle.std.proofs.lemmas.Slice.Eq.{bytes_eq-Decides}
 use Rattle.std.specs.Char.{is_ascii_alphabetic}
 use Rattle.ec_count.specs.Reserved.{is_name, is_name_byte, is_reserved}
-use Rattle.ec_heading.specs.Sorts.{sort_word, has_name, has_number, least, greatest, is_in_range, is_called, opener, other}
+use Rattle.ec_heading.specs.Sorts.{sort_word, has_name, has_number, least, greatest, is_in_range, is_called, opener, second_opener}
 use Rattle.ec_heading.specs.declared.sort.Sort.{Sort}
 use Rattle.ec_heading.specs.declared.sort.Sort.TheVariants as sorts
 
@@ -44,7 +44,7 @@ is_stop None = true
 is_stop (Some w) = is_literal w && is_reserved w
 
 -- the word before the second list, where there is one, is 1 to 10 small letters, and no name
-pub other_stop : (s : Sort) → is_stop (other s) ≡ true
+pub other_stop : (s : Sort) → is_stop (second_opener s) ≡ true
 other_stop sorts.EventCount = refl
 other_stop sorts.Sequencer = refl
 other_stop sorts.Cells = refl

@@ -6,7 +6,7 @@ use Rattle.std.proofs.lemmas.Option.{slice_get-get_or}
 use Rattle.std.proofs.lemmas.List.Concat.{flat_map-append}
 use Rattle.std.proofs.lemmas.List.Elements.{filter_map-append}
 use Rattle.std.proofs.lemmas.List.FromFn.{map-range_with_len_more}
-use Rattle.ec_heading.specs.Sorts.{sort_word, opener, other}
+use Rattle.ec_heading.specs.Sorts.{sort_word, opener, second_opener}
 use Rattle.ec_heading.specs.Outline.{Declaration}
 use Rattle.ec_heading.specs.Headed.{Headed}
 use Rattle.ec_count.specs.declared.target.Target.{Target}
@@ -32,12 +32,12 @@ after : (all s x n o a b : List ℕ) → all ++ (s ++ ((((x ++ n) ++ o) ++ a) ++
 after all s x n o a b = simp append_assoc
 
 pub line_parts : (names : Named) (d : Declaration) (all : List ℕ)
-    → all ++ declared_line names d ≡ (((((all ++ sort_word d.sort) ++ spaced (name_words d.sort d.name)) ++ spaced (number_words d.sort d.number)) ++ 32 ∷ opener d.sort) ++ spaced (names_of names d.first)) ++ spaced (second_names names (other d.sort) d.second)
+    → all ++ declared_line names d ≡ (((((all ++ sort_word d.sort) ++ spaced (name_words d.sort d.name)) ++ spaced (number_words d.sort d.number)) ++ 32 ∷ opener d.sort) ++ spaced (names_of names d.first)) ++ spaced (second_names names (second_opener d.sort) d.second)
 line_parts names d all =
     let x = name_words d.sort d.name in
     let n = number_words d.sort d.number in
     let a = names_of names d.first in
-    let b = second_names names (other d.sort) d.second in
+    let b = second_names names (second_opener d.sort) d.second in
     ap (λ (r : List ℕ). all ++ (sort_word d.sort ++ r)) (spaced_parts x n (opener d.sort) a b)
     ∙ after all (sort_word d.sort) (spaced x) (spaced n) (32 ∷ opener d.sort) (spaced a) (spaced b)
 

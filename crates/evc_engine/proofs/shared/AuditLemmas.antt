@@ -2,7 +2,7 @@
 use Rattle.std.proofs.Common.{◌≡◌, ℕ, zero, suc, ◌+◌, ◌<◌, List, [], ◌∷◌, ◌++◌, length, Option, Some, None, Ok, refl, sym, ap, ◌∙◌, subst, arith, slice_get, ◌⊎◌, inl, inr, take, map, codes, append_assoc, append-nil, length-append}
 use Rattle.std.specs.Prelude.{IfSome}
 use Rattle.std.proofs.lemmas.List.Concat.{flat_map-append}
-use Rattle.ec_text.specs.Puts.{Puts, Held}
+use Rattle.ec_text.specs.Puts.{Puts, Outgoing}
 use Rattle.ec_text.proofs.shared.PutLemmas.{puts_then}
 use Rattle.ec_heading.specs.Spelling.{text_of, ended_line}
 use Rattle.evc_engine.specs.AuditTexts.{group_word, audited_lines, groups_lines, audit_text}
@@ -68,9 +68,9 @@ audited_length found a more is = ap length is ∙ length-append found (a ∷ [])
 -- PIECES OF A TEXT
 
 -- one more line at the end
-pub line_at : {P : Type 0} (a b c : Option (List ℕ)) (x y z : Held) (f : P → List ℕ) (ps : List P) (k : ℕ) (p : P) → slice_get ps k ≡ Some p
-    → Puts a x b y (text_of (map f (take k ps))) → Puts b y c z (f p ++ 10 ∷ []) → Puts a x c z (text_of (map f (take (k + 1) ps)))
-line_at a b c x y z f ps k p is before now = subst (λ l. Puts a x c z (text_of (map f l))) (sym (take_next ps k p is)) (line_put a b c x y z f (take k ps) p before now)
+pub line_at : {P : Type 0} (a b c : Outgoing) (f : P → List ℕ) (ps : List P) (k : ℕ) (p : P) → slice_get ps k ≡ Some p
+    → Puts a b (text_of (map f (take k ps))) → Puts b c (f p ++ 10 ∷ []) → Puts a c (text_of (map f (take (k + 1) ps)))
+line_at a b c f ps k p is before now = subst (λ l. Puts a c (text_of (map f l))) (sym (take_next ps k p is)) (line_put a b c f (take k ps) p before now)
 
 -- before a place of a list stand as many elements as its number says
 pub taken_length : {A : Type 0} (xs : List A) (k : ℕ) (x : A) → slice_get xs k ≡ Some x → length (take k xs) ≡ k
@@ -92,19 +92,19 @@ groups_next h i (f ∷ found) a =
     ∙ sym (append_assoc (text_of (audited_lines h (group_word h.names i) f)) (text_of (groups_lines h (i + 1) found)) _)
     ∙ ap (λ t. t ++ text_of (audited_lines h (group_word h.names (i + 1 + length found)) a)) (sym (flat_map-append ended_line (audited_lines h (group_word h.names i) f) (groups_lines h (i + 1) found)))))
 
-pub group_put : (a b c : Option (List ℕ)) (x y z : Held) (h : Headed) (found : List Audited) (k : ℕ) (e : Audited) → slice_get found k ≡ Some e → length (take k found) ≡ k
-    → Puts a x b y (text_of (groups_lines h 0 (take k found))) → Puts b y c z (text_of (audited_lines h (group_word h.names k) e))
-    → Puts a x c z (text_of (groups_lines h 0 (take (k + 1) found)))
-group_put a b c x y z h found k e is long before now =
+pub group_put : (a b c : Outgoing) (h : Headed) (found : List Audited) (k : ℕ) (e : Audited) → slice_get found k ≡ Some e → length (take k found) ≡ k
+    → Puts a b (text_of (groups_lines h 0 (take k found))) → Puts b c (text_of (audited_lines h (group_word h.names k) e))
+    → Puts a c (text_of (groups_lines h 0 (take (k + 1) found)))
+group_put a b c h found k e is long before now =
     (let at : 0 + length (take k found) ≡ k = omega arith in
-    subst (Puts a x c z)
+    subst (Puts a c)
     (sym (ap (λ l. text_of (groups_lines h 0 l)) (take_next found k e is) ∙ groups_next h 0 (take k found) e
     ∙ ap (λ n. text_of (groups_lines h 0 (take k found)) ++ text_of (audited_lines h (group_word h.names n) e)) at))
-    (puts_then a b c x y z _ _ before now))
+    (puts_then a b c _ _ before now))
 
-pub no_groups_put : (now : Option (List ℕ)) (held : Held) (h : Headed) → Puts now held now held (text_of (groups_lines h 0 []))
+pub no_groups_put : (now : Outgoing) (h : Headed) → Puts now now (text_of (groups_lines h 0 []))
 unfolding groups_lines
-no_groups_put now held h = λ start all e. rw append-nil e
+no_groups_put now h = λ first all e. rw append-nil e
 
 -- the whole text, by its parts
 pub audit_parts : (h : Headed) (found : List Audited) → audit_text h found ≡ (ended_line (codes "evc-audit 1") ++ text_of (groups_lines h 0 found)) ++ ended_line (codes "end")

@@ -5,7 +5,7 @@ use Rattle.ec_count.specs.declared.target.Target.{Target}
 use Rattle.ec_count.specs.declared.target.Target.TheVariants.{Event, Sequencer, Cells}
 use Rattle.ec_core.specs.declared.act.Entry.{Entry}
 use Rattle.ec_core.specs.Counts.{total, issued, cell_value}
-use Rattle.ec_text.specs.Puts.{Puts, Held}
+use Rattle.ec_text.specs.Puts.{Puts, Outgoing}
 use Rattle.ec_text.proofs.shared.PutLemmas.{puts_then}
 use Rattle.ec_heading.specs.Headed.{Headed}
 use Rattle.std.proofs.lemmas.List.{take_all, map-append}
@@ -33,48 +33,48 @@ cells_next name past first i (suc n) =
     rw same (ap (λ t. ended_line (cell_line name i (cell_value (first + i) past)) ++ t) (cells_next name past first (i + 1) n)
     ∙ sym (append_assoc (ended_line (cell_line name i (cell_value (first + i) past))) (text_of (cell_lines name past first (i + 1) n)) _)))
 
-pub none_put : (now : Option (List ℕ)) (held : Held) (name : List ℕ) (past : List Entry) (first : ℕ) → Puts now held now held (text_of (cell_lines name past first 0 0))
+pub none_put : (now : Outgoing) (name : List ℕ) (past : List Entry) (first : ℕ) → Puts now now (text_of (cell_lines name past first 0 0))
 unfolding cell_lines
-none_put now held name past first = λ start all h. rw append-nil h
+none_put now name past first = λ first all h. rw append-nil h
 
-pub cell_put : (a b c : Option (List ℕ)) (x y z : Held) (name : List ℕ) (past : List Entry) (first n value : ℕ)
-    → Puts a x b y (text_of (cell_lines name past first 0 n)) → value ≡ cell_value (first + n) past → Puts b y c z (cell_line name n value ++ 10 ∷ [])
-    → Puts a x c z (text_of (cell_lines name past first 0 (n + 1)))
-cell_put a b c x y z name past first n value before is now =
+pub cell_put : (a b c : Outgoing) (name : List ℕ) (past : List Entry) (first n value : ℕ)
+    → Puts a b (text_of (cell_lines name past first 0 n)) → value ≡ cell_value (first + n) past → Puts b c (cell_line name n value ++ 10 ∷ [])
+    → Puts a c (text_of (cell_lines name past first 0 (n + 1)))
+cell_put a b c name past first n value before is now =
     (let at : 0 + n ≡ n = omega arith in
     let next : text_of (cell_lines name past first 0 (n + 1)) ≡ text_of (cell_lines name past first 0 n) ++ ended_line (cell_line name n value)
     = ap (λ k. text_of (cell_lines name past first 0 k)) (add-one n) ∙ cells_next name past first 0 n
     ∙ ap (λ k. text_of (cell_lines name past first 0 n) ++ ended_line (cell_line name k (cell_value (first + k) past))) at
     ∙ ap (λ v. text_of (cell_lines name past first 0 n) ++ ended_line (cell_line name n v)) (sym is) in
-    subst (Puts a x c z) (sym next) (puts_then a b c x y z _ _ before now))
+    subst (Puts a c) (sym next) (puts_then a b c _ _ before now))
 
 -- the one line of a word
-pub one_put : (a b : Option (List ℕ)) (x y : Held) (past : List Entry) (word : List ℕ) (target : Target) (line : List ℕ) → totals_of past word target ≡ line ∷ []
-    → Puts a x b y (line ++ 10 ∷ []) → Puts a x b y (text_of (totals_of past word target))
-one_put a b x y past word target line is put =
-    subst (Puts a x b y) (sym (ap text_of is ∙ append-nil (ended_line line))) put
+pub one_put : (a b : Outgoing) (past : List Entry) (word : List ℕ) (target : Target) (line : List ℕ) → totals_of past word target ≡ line ∷ []
+    → Puts a b (line ++ 10 ∷ []) → Puts a b (text_of (totals_of past word target))
+one_put a b past word target line is put =
+    subst (Puts a b) (sym (ap text_of is ∙ append-nil (ended_line line))) put
 
-pub event_put : (a b : Option (List ℕ)) (x y : Held) (past : List Entry) (word : List ℕ) (target : Target) (e n : ℕ) → target ≡ Event e → n ≡ total e past
-    → Puts a x b y (count_line (codes "eventcount ") word n ++ 10 ∷ []) → Puts a x b y (text_of (totals_of past word target))
-event_put a b x y past word target e n at is put =
-    one_put a b x y past word target (count_line (codes "eventcount ") word n)
+pub event_put : (a b : Outgoing) (past : List Entry) (word : List ℕ) (target : Target) (e n : ℕ) → target ≡ Event e → n ≡ total e past
+    → Puts a b (count_line (codes "eventcount ") word n ++ 10 ∷ []) → Puts a b (text_of (totals_of past word target))
+event_put a b past word target e n at is put =
+    one_put a b past word target (count_line (codes "eventcount ") word n)
     (ap (totals_of past word) at ∙ ap (λ k. count_line (codes "eventcount ") word k ∷ []) (sym is)) put
 
-pub sequencer_put : (a b : Option (List ℕ)) (x y : Held) (past : List Entry) (word : List ℕ) (target : Target) (q n : ℕ) → target ≡ Sequencer q → n ≡ issued q past
-    → Puts a x b y (count_line (codes "sequencer ") word n ++ 10 ∷ []) → Puts a x b y (text_of (totals_of past word target))
-sequencer_put a b x y past word target q n at is put =
-    one_put a b x y past word target (count_line (codes "sequencer ") word n)
+pub sequencer_put : (a b : Outgoing) (past : List Entry) (word : List ℕ) (target : Target) (q n : ℕ) → target ≡ Sequencer q → n ≡ issued q past
+    → Puts a b (count_line (codes "sequencer ") word n ++ 10 ∷ []) → Puts a b (text_of (totals_of past word target))
+sequencer_put a b past word target q n at is put =
+    one_put a b past word target (count_line (codes "sequencer ") word n)
     (ap (totals_of past word) at ∙ ap (λ k. count_line (codes "sequencer ") word k ∷ []) (sym is)) put
 
-pub cells_put : (a b : Option (List ℕ)) (x y : Held) (past : List Entry) (word : List ℕ) (target : Target) (first n : ℕ) → target ≡ Cells first n
-    → Puts a x b y (text_of (cell_lines word past first 0 n)) → Puts a x b y (text_of (totals_of past word target))
-cells_put a b x y past word target first n at put = subst (Puts a x b y) (ap (λ t. text_of (totals_of past word t)) (sym at)) put
+pub cells_put : (a b : Outgoing) (past : List Entry) (word : List ℕ) (target : Target) (first n : ℕ) → target ≡ Cells first n
+    → Puts a b (text_of (cell_lines word past first 0 n)) → Puts a b (text_of (totals_of past word target))
+cells_put a b past word target first n at put = subst (Puts a b) (ap (λ t. text_of (totals_of past word t)) (sym at)) put
 
-nothing_put : (now : Option (List ℕ)) (held : Held) → Puts now held now held []
-nothing_put now held = λ start all h. rw append-nil h
+nothing_put : (now : Outgoing) → Puts now now []
+nothing_put now = λ first all h. rw append-nil h
 
-pub nothing_put_for : (now : Option (List ℕ)) (held : Held) (lines : List (List ℕ)) → lines ≡ [] → Puts now held now held (text_of lines)
-nothing_put_for now held lines none = subst (λ ls. Puts now held now held (text_of ls)) (sym none) (nothing_put now held)
+pub nothing_put_for : (now : Outgoing) (lines : List (List ℕ)) → lines ≡ [] → Puts now now (text_of lines)
+nothing_put_for now lines none = subst (λ ls. Puts now now (text_of ls)) (sym none) (nothing_put now)
 
 take_past : {A : Type 0} (xs : List A) (k : ℕ) → slice_get xs k ≡ None → take (suc k) xs ≡ take k xs
 take_past [] zero h = refl
@@ -92,24 +92,24 @@ one_more past words k = elim (slice_get words k) as (λ o. slice_get words k ≡
       ∙ ap (λ t. totals_by past (take k words) ++ t) (append-nil (totals_of past e.0 e.1))
 ] refl
 
-pub totals_put : (a b c : Option (List ℕ)) (x y z : Held) (past : List Entry) (words : Named) (k : ℕ)
-    → Puts a x b y (text_of (totals_by past (take k words))) → Puts b y c z (text_of (totals_at past (slice_get words k)))
-    → Puts a x c z (text_of (totals_by past (take (k + 1) words)))
-totals_put a b c x y z past words k before now =
+pub totals_put : (a b c : Outgoing) (past : List Entry) (words : Named) (k : ℕ)
+    → Puts a b (text_of (totals_by past (take k words))) → Puts b c (text_of (totals_at past (slice_get words k)))
+    → Puts a c (text_of (totals_by past (take (k + 1) words)))
+totals_put a b c past words k before now =
     (let text : text_of (totals_by past (take (k + 1) words)) ≡ text_of (totals_by past (take k words)) ++ text_of (totals_at past (slice_get words k))
     = ap text_of (one_more past words k) ∙ flat_map-append ended_line (totals_by past (take k words)) (totals_at past (slice_get words k)) in
-    subst (Puts a x c z) (sym text) (puts_then a b c x y z _ _ before now))
+    subst (Puts a c) (sym text) (puts_then a b c _ _ before now))
 
 -- where each word has had its lines, all lines of totals are put
-pub totals_all : (a b : Option (List ℕ)) (x y : Held) (past : List Entry) (words : Named) (k : ℕ) (heading : Headed) → length words ≤ k → words ≡ heading.words
-    → Puts a x b y (text_of (totals_by past (take k words))) → Puts a x b y (text_of (totals_lines heading past))
-totals_all a b x y past words k heading far all put =
-    subst (Puts a x b y) (ap (λ ws. text_of (totals_by past ws)) (take_all k words far ∙ all)) put
+pub totals_all : (a b : Outgoing) (past : List Entry) (words : Named) (k : ℕ) (heading : Headed) → length words ≤ k → words ≡ heading.words
+    → Puts a b (text_of (totals_by past (take k words))) → Puts a b (text_of (totals_lines heading past))
+totals_all a b past words k heading far all put =
+    subst (Puts a b) (ap (λ ws. text_of (totals_by past ws)) (take_all k words far ∙ all)) put
 
 -- one more line of a list
-pub line_put : {P : Type 0} (a b c : Option (List ℕ)) (x y z : Held) (f : P → List ℕ) (ps : List P) (p : P)
-    → Puts a x b y (text_of (map f ps)) → Puts b y c z (f p ++ 10 ∷ []) → Puts a x c z (text_of (map f (ps ++ p ∷ [])))
-line_put {P} a b c x y z f ps p before now =
+pub line_put : {P : Type 0} (a b c : Outgoing) (f : P → List ℕ) (ps : List P) (p : P)
+    → Puts a b (text_of (map f ps)) → Puts b c (f p ++ 10 ∷ []) → Puts a c (text_of (map f (ps ++ p ∷ [])))
+line_put {P} a b c f ps p before now =
     (let text : text_of (map f (ps ++ p ∷ [])) ≡ text_of (map f ps) ++ (f p ++ 10 ∷ [])
     = ap text_of (map-append f ps (p ∷ [])) ∙ flat_map-append ended_line (map f ps) (f p ∷ []) ∙ ap (λ t. text_of (map f ps) ++ t) (append-nil (ended_line (f p))) in
-    subst (Puts a x c z) (sym text) (puts_then a b c x y z _ _ before now))
+    subst (Puts a c) (sym text) (puts_then a b c _ _ before now))

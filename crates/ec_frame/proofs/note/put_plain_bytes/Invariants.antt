@@ -6,4 +6,4 @@ use Rattle.ec_frame.proofs.note.put_plain_bytes.Given as goal
 
 -- those so far
 abbrev pub invariant-loop-byte : goal.invariant-loop-byte
-invariant-loop-byte g l = Puts (g.W.Write.contents l.initial.out) l.initial.table (g.W.Write.contents l.out) l.table (flat_map plain_byte (take l.byte-index l.bytes))
+invariant-loop-byte g l = Puts l.initial.out l.out (flat_map plain_byte (take l.byte-index l.bytes))

@@ -7,4 +7,4 @@ use Rattle.ec_svg.proofs.calls.put_calls.Given as goal
 
 -- the elements so far
 abbrev pub invariant-loop-placed : goal.invariant-loop-placed
-invariant-loop-placed g l = Puts (g.W.Write.contents l.initial.out) l.initial.table (g.W.Write.contents l.out) l.table (flat_map (call_element l.spellings (framed l.frame)) (take l.placed-index l.calls))
+invariant-loop-placed g l = Puts l.initial.out l.out (flat_map (call_element l.spellings (framed l.frame)) (take l.placed-index l.calls))

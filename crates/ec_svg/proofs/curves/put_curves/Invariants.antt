@@ -7,4 +7,4 @@ use Rattle.ec_svg.proofs.curves.put_curves.Given as goal
 
 -- those so far
 abbrev pub invariant-loop-number : goal.invariant-loop-number
-invariant-loop-number g l = Puts (g.W.Write.contents l.initial.out) l.initial.table (g.W.Write.contents l.out) l.table (curve_elements l.spellings (framed l.frame) l.rows (map shown l.curves) l.number)
+invariant-loop-number g l = Puts l.initial.out l.out (curve_elements l.spellings (framed l.frame) l.rows (map shown l.curves) l.number)

@@ -4,4 +4,4 @@ use Rattle.ec_svg.proofs.curves.put_steps.Given as goal
 
 -- those so far
 abbrev pub invariant-loop-moment : goal.invariant-loop-moment
-invariant-loop-moment g l = Puts (g.W.Write.contents l.initial.out) l.initial.table (g.W.Write.contents l.out) l.table (steps l.rows l.place l.heights l.moment)
+invariant-loop-moment g l = Puts l.initial.out l.out (steps l.rows l.place l.heights l.moment)

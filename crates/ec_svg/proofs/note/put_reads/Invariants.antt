@@ -7,4 +7,4 @@ use Rattle.ec_svg.proofs.note.put_reads.Given as goal
 
 -- those so far
 abbrev pub invariant-loop-dot : goal.invariant-loop-dot
-invariant-loop-dot g l = Puts (g.W.Write.contents l.initial.out) l.initial.table (g.W.Write.contents l.out) l.table (flat_map (read_element l.top (noted l.note) l.told) (take l.dot-index l.dots))
+invariant-loop-dot g l = Puts l.initial.out l.out (flat_map (read_element l.top (noted l.note) l.told) (take l.dot-index l.dots))

@@ -5,4 +5,4 @@ use Rattle.ec_svg.proofs.svg.put_rows.Given as goal
 
 -- those so far
 abbrev pub invariant-loop-number : goal.invariant-loop-number
-invariant-loop-number g l = Puts (g.W.Write.contents l.initial.out) l.initial.table (g.W.Write.contents l.out) l.table (row_elements l.spellings (framed l.frame) l.number)
+invariant-loop-number g l = Puts l.initial.out l.out (row_elements l.spellings (framed l.frame) l.number)

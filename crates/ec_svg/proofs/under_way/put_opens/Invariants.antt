@@ -7,4 +7,4 @@ use Rattle.ec_svg.proofs.under_way.put_opens.Given as goal
 
 -- the elements so far
 abbrev pub invariant-loop-begun : goal.invariant-loop-begun
-invariant-loop-begun g l = Puts (g.W.Write.contents l.initial.out) l.initial.table (g.W.Write.contents l.out) l.table (flat_map (open_element l.spellings (framed l.frame)) (take l.begun-index l.calls))
+invariant-loop-begun g l = Puts l.initial.out l.out (flat_map (open_element l.spellings (framed l.frame)) (take l.begun-index l.calls))

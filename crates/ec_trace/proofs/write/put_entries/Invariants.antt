@@ -5,4 +5,4 @@ use Rattle.ec_trace.proofs.write.put_entries.Given as goal
 
 abbrev pub invariant-loop-place : goal.invariant-loop-place
 invariant-loop-place g l =
-    Puts (g.W.Write.contents l.initial.writer) l.initial.buffered (g.W.Write.contents l.writer) l.buffered (text_of (map (entry_line l.spellings) (take l.place l.run.entries)))
+    Puts l.initial.out l.out (text_of (map (entry_line l.spellings) (take l.place l.run.entries)))

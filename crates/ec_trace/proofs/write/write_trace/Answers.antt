@@ -1,4 +1,4 @@
-use Rattle.std.proofs.Common.{◌∙◌, ap}
+use Rattle.std.proofs.Common.{◌∙◌, ap, rules}
 use Rattle.ec_heading.specs.Headed.{Headed}
 use Rattle.ec_heading.specs.Recalled.{written_text}
 use Rattle.ec_trace.proofs.TraceText.{text_found}
@@ -8,12 +8,14 @@ pub returns-clause-ok : goal.returns-clause-ok
 returns-clause-ok g c = λ o is e.
     let entries = c.args.run.now.entries in
     let same = ap (λ (h : Headed). written_text h.words h entries) e in
-    let puts = rw (c.new-spellings.ensures ∙ c.words.ensures, c.new-buffered.ensures) at c.put_trace.ensures in
-    c.finish.ensures.ok _ _ (rw (← same, text_found o entries is) at puts)
+    let puts = rw (c.new-spellings.ensures ∙ c.words.ensures) at c.put_trace.ensures in
+    let holds = (rw (← same, text_found o entries is) at puts) _ _ c.new-text.ensures.none in
+    search (c.finish-done.ensures.same _ _ holds, c.finish-done.ensures.ok _ _ holds, rules)
 
 pub returns-clause-err : goal.returns-clause-err
 returns-clause-err g c = λ o is e.
     let entries = c.args.run.now.entries in
     let same = ap (λ (h : Headed). written_text h.words h entries) e in
-    let puts = rw (c.new-spellings.ensures ∙ c.words.ensures, c.new-buffered.ensures) at c.put_trace.ensures in
-    c.finish.ensures.err _ _ (rw (← same, text_found o entries is) at puts)
+    let puts = rw (c.new-spellings.ensures ∙ c.words.ensures) at c.put_trace.ensures in
+    let holds = (rw (← same, text_found o entries is) at puts) _ _ c.new-text.ensures.none in
+    search (c.finish-done.ensures.same _ _ holds, c.finish-done.ensures.err _ _ holds, rules)

@@ -5,4 +5,4 @@ use Rattle.ec_trace.proofs.write_heading.put_names.Given as goal
 
 abbrev pub invariant-loop-worker : goal.invariant-loop-worker
 invariant-loop-worker g l =
-    Puts (g.W.Write.contents l.initial.writer) l.initial.buffered (g.W.Write.contents l.writer) l.buffered (spaced (names_of l.spellings (take l.worker-index l.workers)))
+    Puts l.initial.out l.out (spaced (names_of l.spellings (take l.worker-index l.workers)))

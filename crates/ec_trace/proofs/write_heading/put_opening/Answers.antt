@@ -13,20 +13,20 @@ pub returns : goal.returns
 returns g c =
     let limit : c.get.result ≡ c.args.heading.now.setup.limit = c.get.ensures.value ∙ c.limit.ensures ∙ ap (λ (t : Tables). t.limit) c.setup-setup.ensures in
     let workers : c.workers.result ≡ c.args.heading.now.setup.workers = c.workers.ensures.value ∙ ap (λ (t : Tables). t.workers) c.setup-setup.ensures in
-    subst (Puts (g.W.Write.contents c.args.writer.now) c.args.buffered.now (g.W.Write.contents c.put-3.new.writer) c.put-3.new.buffered)
+    subst (Puts c.args.out.now c.put-3.new.self)
     (sym (opening_parts c.args.spellings.now c.args.heading.now []))
-    (puts_then _ _ _ _ _ _ _ _
-    (puts_then _ _ _ _ _ _ _ _
-    (puts_then _ _ _ _ _ _ _ _
-    (puts_then _ _ _ _ _ _ _ _
-    (puts_then _ _ _ _ _ _ _ _
-    (puts_then _ _ _ _ _ _ _ _
-    (puts_then _ _ _ _ _ _ _ _
-    (subst (λ (v : Version). Puts (g.W.Write.contents c.args.writer.now) c.args.buffered.now (g.W.Write.contents c.put_first.new.writer) c.put_first.new.buffered (trace_header v)) c.version.ensures c.put_first.ensures)
+    (puts_then _ _ _ _ _
+    (puts_then _ _ _ _ _
+    (puts_then _ _ _ _ _
+    (puts_then _ _ _ _ _
+    (puts_then _ _ _ _ _
+    (puts_then _ _ _ _ _
+    (puts_then _ _ _ _ _
+    (subst (λ (v : Version). Puts c.args.out.now c.put_first.new.out (trace_header v)) c.version.ensures c.put_first.ensures)
     c.put.ensures.puts)
-    (subst (λ (n : ℕ). Puts (g.W.Write.contents c.put.new.writer) c.put.new.buffered (g.W.Write.contents c.put_number.new.writer) c.put_number.new.buffered (decimal n)) limit c.put_number.ensures.puts))
+    (subst (λ (n : ℕ). Puts c.put.new.self c.put_number.new.self (decimal n)) limit c.put_number.ensures.puts))
     c.put-2.ensures.puts)
-    (subst (λ (n : ℕ). Puts (g.W.Write.contents c.put-2.new.writer) c.put-2.new.buffered (g.W.Write.contents c.put_workers.new.writer) c.put_workers.new.buffered (spaced (names_of c.args.spellings.now (range_with_len 0 n)))) workers c.put_workers.ensures))
+    (subst (λ (n : ℕ). Puts c.put-2.new.self c.put_workers.new.out (spaced (names_of c.args.spellings.now (range_with_len 0 n)))) workers c.put_workers.ensures))
     c.put_byte.ensures.puts)
     c.put_targets.ensures)
     c.put-3.ensures.puts)

@@ -7,4 +7,4 @@ use Rattle.ec_trace.proofs.write_heading.put_targets.Given as goal
 
 abbrev pub invariant-loop-target : goal.invariant-loop-target
 invariant-loop-target g l =
-    Puts (g.W.Write.contents l.initial.writer) l.initial.buffered (g.W.Write.contents l.writer) l.buffered (text_of (map (declared_line l.spellings) (filter_map (declaration_of l.heading) (take l.target-index l.target-items))))
+    Puts l.initial.out l.out (text_of (map (declared_line l.spellings) (filter_map (declaration_of l.heading) (take l.target-index l.target-items))))

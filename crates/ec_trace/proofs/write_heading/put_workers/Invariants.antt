@@ -5,4 +5,4 @@ use Rattle.ec_trace.proofs.write_heading.put_workers.Given as goal
 
 abbrev pub invariant-loop-number : goal.invariant-loop-number
 invariant-loop-number g l =
-    Puts (g.W.Write.contents l.initial.writer) l.initial.buffered (g.W.Write.contents l.writer) l.buffered (spaced (names_of l.spellings (range_with_len 0 l.number)))
+    Puts l.initial.out l.out (spaced (names_of l.spellings (range_with_len 0 l.number)))

@@ -7,4 +7,4 @@ use Rattle.evc_draw.proofs.text.put_open_lines.Given as goal
 
 -- those so far
 abbrev pub invariant-loop-begun : goal.invariant-loop-begun
-invariant-loop-begun g l = Puts (g.W.Write.contents l.initial.out) l.initial.table (g.W.Write.contents l.out) l.table (flat_map (open_line l.spellings (framed l.frame)) (take l.begun-index l.calls))
+invariant-loop-begun g l = Puts l.initial.out l.out (flat_map (open_line l.spellings (framed l.frame)) (take l.begun-index l.calls))

@@ -6,4 +6,4 @@ use Rattle.evc_draw.proofs.unknown.put_object_notes.Given as goal
 
 -- those so far
 abbrev pub invariant-loop-name : goal.invariant-loop-name
-invariant-loop-name g l = Puts (g.N.Write.contents l.initial.writer) l.initial.table (g.N.Write.contents l.writer) l.table (flat_map (object_note l.words) (take l.name-index l.names))
+invariant-loop-name g l = Puts l.initial.out l.out (flat_map (object_note l.words) (take l.name-index l.names))

@@ -6,6 +6,6 @@ use Rattle.evc_engine.proofs.audit_text.put_audit.Goals as goal
 
 pub returns : goal.returns
 returns g c =
-    subst (Puts (g.W.Write.contents c.args.out.now) c.args.table.now (g.W.Write.contents c.put-2.new.writer) c.put-2.new.buffered)
+    subst (Puts c.args.out.now c.put-2.new.self)
     (sym (audit_parts c.args.heading.now c.args.found.now))
-    (puts_then _ _ _ _ _ _ _ _ (puts_then _ _ _ _ _ _ _ _ c.put.ensures.puts c.put_groups.ensures) c.put-2.ensures.puts)
+    (puts_then _ _ _ _ _ (puts_then _ _ _ _ _ c.put.ensures.puts c.put_groups.ensures) c.put-2.ensures.puts)

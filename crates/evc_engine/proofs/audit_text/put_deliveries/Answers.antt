@@ -9,11 +9,11 @@ use Rattle.evc_engine.proofs.audit_text.put_deliveries.Goals as goal
 
 pub loop-delivery-preserved : goal.loop-delivery-preserved
 loop-delivery-preserved g c =
-    line_at _ _ _ _ _ _ (delivery_line c.args.spellings.now c.args.name.now) c.args.list.now c.loop-delivery.delivery-index c.delivery-item.result
+    line_at _ _ _ (delivery_line c.args.spellings.now c.args.name.now) c.args.list.now c.loop-delivery.delivery-index c.delivery-item.result
     (slice_get_read c.args.list.now _ c.loop-delivery.delivery-index c.delivery-item.result refl c.loop-delivery-test.true c.delivery-item.is)
     c.loop-delivery.invariant c.put_delivery.ensures
 
 pub returns : goal.returns
 returns g c =
-    subst (λ xs. Puts (g.W.Write.contents c.args.out.now) c.args.table.now (g.W.Write.contents c.loop-delivery.out) c.loop-delivery.table (text_of (map (delivery_line c.args.spellings.now c.args.name.now) xs)))
+    subst (λ xs. Puts c.args.out.now c.loop-delivery.out (text_of (map (delivery_line c.args.spellings.now c.args.name.now) xs)))
     (take_all c.loop-delivery.delivery-index c.args.list.now c.loop-delivery-test.false) c.loop-delivery.invariant

@@ -7,4 +7,4 @@ use Rattle.evc_engine.proofs.audit_text.put_deliveries.Given as goal
 -- the lines so far
 abbrev pub invariant-loop-delivery : goal.invariant-loop-delivery
 invariant-loop-delivery g l =
-    Puts (g.W.Write.contents l.initial.out) l.initial.table (g.W.Write.contents l.out) l.table (text_of (map (delivery_line l.spellings l.name) (take l.delivery-index l.list)))
+    Puts l.initial.out l.out (text_of (map (delivery_line l.spellings l.name) (take l.delivery-index l.list)))

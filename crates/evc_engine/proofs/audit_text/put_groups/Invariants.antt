@@ -7,4 +7,4 @@ use Rattle.evc_engine.proofs.audit_text.put_groups.Given as goal
 -- the lines so far
 abbrev pub invariant-loop-i : goal.invariant-loop-i
 invariant-loop-i g l =
-    Puts (g.W.Write.contents l.initial.out) l.initial.table (g.W.Write.contents l.out) l.table (text_of (groups_lines l.heading 0 (take l.i l.found)))
+    Puts l.initial.out l.out (text_of (groups_lines l.heading 0 (take l.i l.found)))

@@ -9,11 +9,11 @@ use Rattle.evc_engine.proofs.audit_text.put_pairs.Goals as goal
 
 pub loop-pair-preserved : goal.loop-pair-preserved
 loop-pair-preserved g c =
-    line_at _ _ _ _ _ _ (pair_line c.args.spellings.now (semaphore_word c.args.heading.now.names 0 c.args.heading.now.groups)) c.args.list.now c.loop-pair.pair-index c.pair-item.result
+    line_at _ _ _ (pair_line c.args.spellings.now (semaphore_word c.args.heading.now.names 0 c.args.heading.now.groups)) c.args.list.now c.loop-pair.pair-index c.pair-item.result
     (slice_get_read c.args.list.now _ c.loop-pair.pair-index c.pair-item.result refl c.loop-pair-test.true c.pair-item.is)
     c.loop-pair.invariant c.put_pair.ensures
 
 pub returns : goal.returns
 returns g c =
-    subst (λ xs. Puts (g.W.Write.contents c.args.out.now) c.args.table.now (g.W.Write.contents c.loop-pair.out) c.loop-pair.table (text_of (map (pair_line c.args.spellings.now (semaphore_word c.args.heading.now.names 0 c.args.heading.now.groups)) xs)))
+    subst (λ xs. Puts c.args.out.now c.loop-pair.out (text_of (map (pair_line c.args.spellings.now (semaphore_word c.args.heading.now.names 0 c.args.heading.now.groups)) xs)))
     (take_all c.loop-pair.pair-index c.args.list.now c.loop-pair-test.false) c.loop-pair.invariant

@@ -7,4 +7,4 @@ use Rattle.evc_engine.proofs.audit_text.put_pairs.Given as goal
 -- the lines so far
 abbrev pub invariant-loop-pair : goal.invariant-loop-pair
 invariant-loop-pair g l =
-    Puts (g.W.Write.contents l.initial.out) l.initial.table (g.W.Write.contents l.out) l.table (text_of (map (pair_line l.spellings (semaphore_word l.heading.names 0 l.heading.groups)) (take l.pair-index l.list)))
+    Puts l.initial.out l.out (text_of (map (pair_line l.spellings (semaphore_word l.heading.names 0 l.heading.groups)) (take l.pair-index l.list)))

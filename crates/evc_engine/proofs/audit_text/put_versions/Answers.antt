@@ -10,11 +10,11 @@ use Rattle.evc_engine.proofs.audit_text.put_versions.Goals as goal
 
 pub loop-accepted-preserved : goal.loop-accepted-preserved
 loop-accepted-preserved g c =
-    line_at _ _ _ _ _ _ (λ a. version_line c.args.spellings.now c.args.name.now (shown a)) c.args.list.now c.loop-accepted.accepted-index c.accepted-item.result
+    line_at _ _ _ (λ a. version_line c.args.spellings.now c.args.name.now (shown a)) c.args.list.now c.loop-accepted.accepted-index c.accepted-item.result
     (slice_get_read c.args.list.now _ c.loop-accepted.accepted-index c.accepted-item.result refl c.loop-accepted-test.true c.accepted-item.is)
     c.loop-accepted.invariant c.put_version.ensures
 
 pub returns : goal.returns
 returns g c =
-    subst (λ xs. Puts (g.W.Write.contents c.args.out.now) c.args.table.now (g.W.Write.contents c.loop-accepted.out) c.loop-accepted.table (text_of (map (λ a. version_line c.args.spellings.now c.args.name.now (shown a)) xs)))
+    subst (λ xs. Puts c.args.out.now c.loop-accepted.out (text_of (map (λ a. version_line c.args.spellings.now c.args.name.now (shown a)) xs)))
     (take_all c.loop-accepted.accepted-index c.args.list.now c.loop-accepted-test.false) c.loop-accepted.invariant

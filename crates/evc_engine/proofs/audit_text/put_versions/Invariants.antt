@@ -8,4 +8,4 @@ use Rattle.evc_engine.proofs.audit_text.put_versions.Given as goal
 -- the lines so far
 abbrev pub invariant-loop-accepted : goal.invariant-loop-accepted
 invariant-loop-accepted g l =
-    Puts (g.W.Write.contents l.initial.out) l.initial.table (g.W.Write.contents l.out) l.table (text_of (map (λ a. version_line l.spellings l.name (shown a)) (take l.accepted-index l.list)))
+    Puts l.initial.out l.out (text_of (map (λ a. version_line l.spellings l.name (shown a)) (take l.accepted-index l.list)))

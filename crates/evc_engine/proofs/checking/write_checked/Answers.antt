@@ -6,7 +6,7 @@ pub returns-in-Ok-write_text-clause-ends : goal.returns-in-Ok-write_text-clause-
 returns-in-Ok-write_text-clause-ends g c = (
   text_written _ _ c.args.traced.now c.heading.result.now c.run-run.result.now c.in-Ok.order c.heading.ensures c.run-run.ensures c.in-Ok.ensures.value c.in-Ok-write_text.ensures.ok,
   good_told c.args.traced.now c.run-run.result.now c.in-Ok.order c.run-run.ensures c.in-Ok.ensures.value c.in-Ok.ensures.good,
-  (refl, refl),
+  refl,
 )
 
 pub returns-in-Err-clause-ends : goal.returns-in-Err-clause-ends

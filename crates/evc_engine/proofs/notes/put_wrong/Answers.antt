@@ -2,4 +2,4 @@ use Rattle.ec_text.proofs.shared.PutLemmas.{puts_then}
 use Rattle.evc_engine.proofs.notes.put_wrong.Goals as goal
 
 pub returns : goal.returns
-returns g c = puts_then _ _ _ _ _ _ _ _ c.put.ensures.puts c.put_reply.ensures
+returns g c = puts_then _ _ _ _ _ c.put.ensures.puts c.put_reply.ensures

@@ -7,6 +7,6 @@ use Rattle.evc_engine.proofs.text.put_order.Given as goal
 -- the lines so far
 abbrev pub invariant-loop-placed : goal.invariant-loop-placed
 invariant-loop-placed g l = record {
-  put : Puts (g.W.Write.contents l.initial.out) l.initial.table (g.W.Write.contents l.out) l.table (text_of (map (placed_line l.spellings) l.yielded));
+  put : Puts l.initial.out l.out (text_of (map (placed_line l.spellings) l.yielded));
   order : l.yielded ++ l.placed-iterator ≡ l.fn.order;
 }

@@ -8,13 +8,13 @@ use Rattle.evc_engine.proofs.text.put_text.Goals as goal
 
 pub returns : goal.returns
 returns g c =
-    subst (Puts (g.W.Write.contents c.args.out.now) c.args.table.now (g.W.Write.contents c.put-3.new.writer) c.put-3.new.buffered)
+    subst (Puts c.args.out.now c.put-3.new.self)
     (sym (text_parts (codes "evc-order 1") (codes "totals") (codes "end") (map (placed_line c.args.heading.now.words) c.args.order) (totals_lines c.args.heading.now (reverse c.args.run.now.entries))))
-    (puts_then _ _ _ _ _ _ _ _
-    (puts_then _ _ _ _ _ _ _ _
-    (puts_then _ _ _ _ _ _ _ _
-    (puts_then _ _ _ _ _ _ _ _ c.put.ensures.puts
-    (subst (λ (ns : Named). Puts (g.W.Write.contents c.put.new.writer) c.put.new.buffered (g.W.Write.contents c.put_order.new.out) c.put_order.new.table (text_of (map (placed_line ns) c.args.order)))
+    (puts_then _ _ _ _ _
+    (puts_then _ _ _ _ _
+    (puts_then _ _ _ _ _
+    (puts_then _ _ _ _ _ c.put.ensures.puts
+    (subst (λ (ns : Named). Puts c.put.new.self c.put_order.new.out (text_of (map (placed_line ns) c.args.order)))
     (c.new-spellings.ensures ∙ c.words.ensures) c.put_order.ensures))
     c.put-2.ensures.puts)
     (c.put_totals.ensures c.args.run.now.entries c.world.ensures.stands))

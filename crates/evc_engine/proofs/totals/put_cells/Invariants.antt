@@ -9,4 +9,4 @@ use Rattle.evc_engine.proofs.totals.put_cells.Given as goal
 -- the lines so far
 abbrev pub invariant-loop-place : goal.invariant-loop-place
 invariant-loop-place g l = (h : List Entry) → StandsFor l.world h
-    → Puts (g.W.Write.contents l.initial.out) l.initial.table (g.W.Write.contents l.out) l.table (text_of (cell_lines l.name (reverse h) l.first 0 l.place))
+    → Puts l.initial.out l.out (text_of (cell_lines l.name (reverse h) l.first 0 l.place))

@@ -4,16 +4,16 @@ use Rattle.evc_engine.proofs.shared.TotalLemmas.{event_put, sequencer_put, cells
 use Rattle.evc_engine.proofs.totals.put_target.Goals as goal
 
 pub returns-in-Event : goal.returns-in-Event
-returns-in-Event g c = λ h st. event_put _ _ _ _ (reverse h) _ _ _ _ c.in-Event.is (c.total_or_zero-total.ensures h st) c.put_count.ensures
+returns-in-Event g c = λ h st. event_put _ _ (reverse h) _ _ _ _ c.in-Event.is (c.total_or_zero-total.ensures h st) c.put_count.ensures
 
 pub returns-in-Sequencer : goal.returns-in-Sequencer
-returns-in-Sequencer g c = λ h st. sequencer_put _ _ _ _ (reverse h) _ _ _ _ c.in-Sequencer.is (c.issued_or_zero-issued.ensures h st) c.put_count-in-Sequencer.ensures
+returns-in-Sequencer g c = λ h st. sequencer_put _ _ (reverse h) _ _ _ _ c.in-Sequencer.is (c.issued_or_zero-issued.ensures h st) c.put_count-in-Sequencer.ensures
 
 pub returns-in-Cells : goal.returns-in-Cells
-returns-in-Cells g c = λ h st. cells_put _ _ _ _ (reverse h) _ _ _ _ c.in-Cells.is (c.put_cells.ensures h st)
+returns-in-Cells g c = λ h st. cells_put _ _ (reverse h) _ _ _ _ c.in-Cells.is (c.put_cells.ensures h st)
 
 pub returns-in-Worker : goal.returns-in-Worker
-returns-in-Worker g c = λ h st. nothing_put_for _ _ _ (ap (totals_of (reverse h) c.args.word.now) c.in-Worker.is)
+returns-in-Worker g c = λ h st. nothing_put_for _ _ (ap (totals_of (reverse h) c.args.word.now) c.in-Worker.is)
 
 pub returns-in-Group : goal.returns-in-Group
-returns-in-Group g c = λ h st. nothing_put_for _ _ _ (ap (totals_of (reverse h) c.args.word.now) c.in-Group.is)
+returns-in-Group g c = λ h st. nothing_put_for _ _ (ap (totals_of (reverse h) c.args.word.now) c.in-Group.is)

@@ -9,4 +9,4 @@ use Rattle.evc_engine.proofs.totals.put_totals.Given as goal
 -- the totals so far
 abbrev pub invariant-loop-place : goal.invariant-loop-place
 invariant-loop-place g l = (h : List Entry) → StandsFor l.world h
-    → Puts (g.W.Write.contents l.initial.out) l.initial.table (g.W.Write.contents l.out) l.table (text_of (totals_by (reverse h) (take l.place l.words)))
+    → Puts l.initial.out l.out (text_of (totals_by (reverse h) (take l.place l.words)))

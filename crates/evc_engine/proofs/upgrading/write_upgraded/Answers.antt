@@ -16,7 +16,7 @@ returns-in-Ok-clause-ends g c =
     let heading = c.heading.ensures ∙ ap (λ (t : Recounted). t.heading) c.upgrade-traced.ensures in (
       λ o is e. subst (λ (es : List Entry). Appends (g.W.Write.contents c.args.out.now) (g.W.Write.contents c.write_trace.new.writer) (trace_text (upgraded_outline o) es)) entries
           (c.in-Ok.ensures.ok (upgraded_outline o) (upgraded_is o is) (headed_so o _ e ∙ sym heading)),
-      (refl, refl),
+      refl,
     )
 
 pub returns-clause-ends : goal.returns-clause-ends

@@ -7,4 +7,4 @@ use Rattle.evc_scripts.proofs.outcomes.put_outcomes.Given as goal
 -- the lines so far
 abbrev pub invariant-loop-place : goal.invariant-loop-place
 invariant-loop-place g l =
-    Puts (g.W.Write.contents l.initial.writer) l.initial.table (g.W.Write.contents l.writer) l.table (text_of (outcome_lines l.spellings 0 (take l.place l.outcomes)))
+    Puts l.initial.out l.out (text_of (outcome_lines l.spellings 0 (take l.place l.outcomes)))

@@ -14,7 +14,7 @@ returns-then-write_run-clause-ends g c =
       is_played c.args.plan.now c.args.report.now h c.requires.plan.version c.requires.report,
       c.if-write_run.ensures.all h.outline h.is h.declares refl,
       (
-        subst (λ (os : List Outcome). Puts (g.N.Write.contents c.args.notes.now.writer) c.args.notes.now.table (g.N.Write.contents c.write_run.new.notes.writer) c.write_run.new.notes.table (outcomes_note c.args.plan.now.heading os))
+        subst (λ (os : List Outcome). Puts c.args.notes.now c.write_run.new.notes (outcomes_note c.args.plan.now.heading os))
             c.as_slice-outcomes.ensures.value c.if-write_run.ensures.noted,
         c.if-write_run.ensures.written,
       ),

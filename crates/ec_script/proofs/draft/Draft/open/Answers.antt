@@ -11,12 +11,12 @@ invariant_of-self-2 c =
     let e = ap (λ (v : Vec Command). v.items) c.replace-before.ensures.after ∙ c.new.ensures.items in
     let f = ap (λ (v : Vec Command). v.items) c.replace-before.ensures.value in
     let k = ap (λ (d : Drafted). d.depth) c.self.view_is in
-    let n = ap (λ (d : Drafted). d.many) c.self.view_is in
-    subst (λ cs. IsDraft c.push.new.self.items cs (c.self.inside.many + 1)) (sym e)
-    (opened_fits _ _ _ c.self.inside.many _ c.in_ok-push.ensures.items f c.requires.some c.requires.few (omega (arith, k, c.requires.depth)) (omega (arith, n, c.requires.room)) c.self.invariant)
+    let n = ap (λ (d : Drafted). d.commands) c.self.view_is in
+    subst (λ cs. IsDraft c.push.new.self.items cs (c.self.inside.commands + 1)) (sym e)
+    (opened_fits _ _ _ c.self.inside.commands _ c.in_ok-push.ensures.items f c.requires.some c.requires.few (omega (arith, k, c.requires.depth)) (omega (arith, n, c.requires.room)) c.self.invariant)
 
 pub returns : goal.returns
 returns c =
     let e = ap (λ (v : Vec Command). v.items) c.replace-before.ensures.after ∙ c.new.ensures.items in
     let f = ap (λ (v : Vec Command). v.items) c.replace-before.ensures.value in
-    ap (λ cs. view_of c.push.new.self.items cs (c.self.inside.many + 1)) e ∙ opened_is _ _ _ c.self.inside.many _ c.in_ok-push.ensures.items f ∙ ap (λ d. opened d c.args.times) c.self.view_is
+    ap (λ cs. view_of c.push.new.self.items cs (c.self.inside.commands + 1)) e ∙ opened_is _ _ _ c.self.inside.commands _ c.in_ok-push.ensures.items f ∙ ap (λ d. opened d c.args.times) c.self.view_is

@@ -5,7 +5,7 @@ use Rattle.ec_semaphore.specs.Shapes.{Semaphore}
 use Rattle.ec_semaphore.specs.Uses.{use_rules}
 use Rattle.ec_semaphore.proofs.NeverNegative.{downs_few}
 use Rattle.ec_semaphore.proofs.Moments.{never_negative}
-use Rattle.ec_semaphore.proofs.Smallness.{total_small}
+use Rattle.ec_semaphore.proofs.shared.Smallness.{total_small}
 use Rattle.ec_semaphore.proofs.balancing.BalanceAudit.balance.Goals as goal
 
 pub returns-clause-never_negative : goal.returns-clause-never_negative

@@ -1,0 +1,52 @@
+-- Puts, gets and deliveries, entry by entry.
+use Rattle.std.proofs.Common.{◌≡◌, ℕ, ◌+◌, true, false, List, [], ◌∷◌, ◌++◌, length, map, Some, refl, ap, sym, ◌∙◌, cond, reverse, slice_get, append-nil}
+use Rattle.std.specs.List.{filter}
+use Rattle.ec_count.specs.Tables.{Tables}
+use Rattle.ec_core.specs.declared.act.Entry.{Entry}
+use Rattle.ec_core.specs.Counts.{past_at}
+use Rattle.ec_buffer.specs.declared.delivery.Delivery.{Delivery}
+use Rattle.ec_buffer.specs.Shapes.{Buffer}
+use Rattle.ec_buffer.specs.Collecting.{collected}
+use Rattle.ec_buffer.specs.Follows.{buffer_rules}
+use Rattle.ec_buffer.specs.Items.{AreDeliveries}
+use Rattle.ec_buffer.specs.Laws.{IsFollowed}
+use Rattle.ec_buffer.proofs.Gathering.{gathered}
+use Rattle.ec_buffer.proofs.shared.OneList.{determined}
+use Rattle.ec_heading.specs.declared.group.Group.TheVariants as groups
+use Rattle.ec_draw.specs.declared.window.Window.{Window}
+use Rattle.ec_draw.specs.declared.arrow.Move.{Move}
+use Rattle.ec_draw.specs.declared.arrow.Move.TheVariants as moves
+use Rattle.ec_draw.specs.Following.{follows}
+use Rattle.ec_draw.specs.Arrows.{arrow_of, arrows_in, group_arrows, is_in, is_move, places}
+use Rattle.ec_draw.proofs.Stepping.{long_past, next_past}
+use Rattle.ec_draw.proofs.Balancing.{follow_yes}
+
+pub places_first : (m : Move) (b : Buffer) (h : List Entry) → [] ≡ places m b (past_at 0 h)
+unfolding places
+places_first m b h = refl
+
+-- one entry more
+pub places_yes : (m : Move) (b : Buffer) (h : List Entry) (k : ℕ) (x : Entry) (ks : List ℕ) → slice_get h k ≡ Some x → is_move m b x.act ≡ true → ks ≡ places m b (past_at k h) → ks ++ k ∷ [] ≡ places m b (past_at (k + 1) h)
+unfolding places
+places_yes m b h k x ks at moves was =
+    let p = past_at k h in
+    ap (λ z. z ++ k ∷ []) was
+    ∙ sym (ap (places m b) (next_past h k x at) ∙ ap (λ c. places m b p ++ cond c (length p ∷ []) []) moves ∙ ap (λ n. places m b p ++ n ∷ []) (long_past h k x at))
+
+pub places_no : (m : Move) (b : Buffer) (h : List Entry) (k : ℕ) (x : Entry) (ks : List ℕ) → slice_get h k ≡ Some x → is_move m b x.act ≡ false → ks ≡ places m b (past_at k h) → ks ≡ places m b (past_at (k + 1) h)
+unfolding places
+places_no m b h k x ks at moves was =
+    let p = past_at k h in
+    was ∙ sym (ap (places m b) (next_past h k x at) ∙ ap (λ c. places m b p ++ cond c (length p ∷ []) []) moves ∙ append-nil (places m b p))
+
+-- the arrows of a buffer that is followed, and of one that isn't
+pub arrows_are : (t : Tables) (b : Buffer) (w : Window) (h : List Entry) (puts gets : List ℕ) (list : List Delivery) → IsFollowed t b h → AreDeliveries t b h list
+    → puts ≡ places moves.Put b (reverse h) → gets ≡ places moves.Get b (reverse h) → filter (is_in w) (map (arrow_of b puts gets) list) ≡ group_arrows t w h (groups.Buffer b)
+arrows_are t b w h puts gets list f are put got =
+    ap (λ l. filter (is_in w) (map (arrow_of b puts gets) l)) (determined t b h f list (collected b (reverse h)) are (gathered t b h f))
+    ∙ ap (λ ks. filter (is_in w) (map (arrow_of b ks gets) (collected b (reverse h)))) put
+    ∙ ap (λ ks. filter (is_in w) (map (arrow_of b (places moves.Put b (reverse h)) ks) (collected b (reverse h)))) got
+    ∙ sym (ap (λ c. cond c (filter (is_in w) (arrows_in b (reverse h))) []) (follow_yes (buffer_rules t b) (reverse h) f.followed))
+
+pub arrows_none : (t : Tables) (b : Buffer) (w : Window) (h : List Entry) → false ≡ follows (buffer_rules t b) (reverse h) → [] ≡ group_arrows t w h (groups.Buffer b)
+arrows_none t b w h off = ap (λ c. cond c (filter (is_in w) (arrows_in b (reverse h))) []) off

@@ -1,0 +1,18 @@
+use Rattle.std.proofs.Common.{refl, ap, sym, subst, ◌∙◌}
+use Rattle.ec_draw.specs.Balances.{Course, IsCourse}
+use Rattle.ec_draw.proofs.Balancing.{lefts_next}
+use Rattle.ec_draw.proofs.balance.CourseAudit.take.Goals as goal
+
+pub returns : goal.returns
+returns c = λ start past at op was.
+    (let P : Course → Type 0 = λ z. IsCourse z past in
+    let inside = subst P (sym c.self.view_is) was.2 in
+    let counted = c.take.ensures c.self.inside.audit past at op (refl, inside.counted) in
+    let added = c.lacks_after.ensures in (
+      ap (λ (z : Course). z.window) c.self.view_is ∙ was.0,
+      counted.0 ∙ ap (λ (z : Course). z.audit.shape) c.self.view_is ∙ was.1,
+      record {
+        counted = counted.1;
+        heights = λ ok small. lefts_next c.self.inside.audit c.take.new.self c.self.inside.window c.args.entry.now past c.args.place c.self.inside.heights.items _ counted.0 counted.1 at (inside.heights (added.before ok)) small (added.added ok);
+      },
+    ))

@@ -1,0 +1,62 @@
+-- The arrows: of each buffer that is followed, its deliveries, each from the put of an item to the get of the same number.
+use Rattle.std.specs.Prelude.{ℕ, Bool, ◌||◌, List, [], ◌∷◌, ◌++◌, length, map, reverse, is_some, slice_get, unwrap_or, if◌then◌else◌}
+use Rattle.std.specs.List.{filter, flat_map}
+use Rattle.ec_count.specs.Tables.{Tables}
+use Rattle.ec_core.specs.declared.act.Act.{Act}
+use Rattle.ec_core.specs.declared.act.Entry.{Entry}
+use Rattle.ec_buffer.specs.declared.delivery.Delivery.{Delivery}
+use Rattle.ec_buffer.specs.Shapes.{Buffer}
+use Rattle.ec_buffer.specs.Follows.{buffer_rules}
+use Rattle.ec_buffer.specs.Items.{put_on, is_get_on}
+use Rattle.ec_buffer.specs.Collecting.{collected}
+use Rattle.ec_heading.specs.declared.group.Group.{Group}
+use Rattle.ec_heading.specs.declared.group.Group.TheVariants as groups
+use Rattle.ec_draw.specs.declared.window.Window.{Window}
+use Rattle.ec_draw.specs.declared.arrow.Arrow.{Arrow}
+use Rattle.ec_draw.specs.declared.arrow.Move.{Move}
+use Rattle.ec_draw.specs.declared.arrow.Move.TheVariants as moves
+use Rattle.ec_draw.specs.Windows.{shows}
+use Rattle.ec_draw.specs.Following.{follows}
+
+-- whether an act puts into the buffer, or gets from it
+abbrev pub is_move : Move → Buffer → Act → Bool
+is_move moves.Put b act = is_some (put_on b act)
+is_move moves.Get b act = is_get_on b act
+
+-- the positions of the entries of a past that do so, in order
+unfoldable pub places : Move → Buffer → List Entry → List ℕ
+places m b [] = []
+places m b (x ∷ past) = places m b past ++ (if is_move m b x.act then length past ∷ [] else [])
+
+-- the position of the n-th of them
+abbrev pub place_of : List ℕ → ℕ → ℕ
+place_of ks n = unwrap_or (slice_get ks n) 0
+
+-- the arrow of a delivery, where these are the positions of the puts and of the gets: item n is put by put n and got by get n,
+-- counted from 0. Its buffer is told by the eventcount of the puts
+abbrev pub arrow_of : Buffer → List ℕ → List ℕ → Delivery → Arrow
+arrow_of b puts gets d = record {
+  count = b.in_count;
+  delivery = d;
+  put = place_of puts d.number;
+  got = place_of gets d.number;
+}
+
+-- those of all deliveries of a past, by number
+abbrev pub arrows_in : Buffer → List Entry → List Arrow
+arrows_in b past = map (arrow_of b (places moves.Put b past) (places moves.Get b past)) (collected b past)
+
+-- whether an arrow is shown: one of its ends is
+abbrev pub is_in : Window → Arrow → Bool
+is_in w a = shows w a.put || shows w a.got
+
+-- those of a group, where it is a buffer and is followed
+abbrev pub group_arrows : Tables → Window → List Entry → Group → List Arrow
+group_arrows t w h (groups.Buffer b) = if follows (buffer_rules t b) (reverse h) then filter (is_in w) (arrows_in b (reverse h)) else []
+group_arrows t w h (groups.Database d) = []
+group_arrows t w h (groups.Semaphore s) = []
+group_arrows t w h (groups.Both c) = []
+
+-- those of all groups
+abbrev pub arrows : Tables → List Group → Window → List Entry → List Arrow
+arrows t gs w h = flat_map (group_arrows t w h) gs

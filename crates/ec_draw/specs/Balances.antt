@@ -1,0 +1,77 @@
+-- The curves of balances: of each semaphore that is followed, how many it has left at each moment that is shown.
+use Rattle.std.specs.Prelude.{◌≡◌, ℕ, ◌+◌, ◌-◌, ◌<◌, ◌^◌, Bool, false, ◌&&◌, nat_le, List, [], ◌∷◌, ◌++◌, length, reverse, if◌then◌else◌}
+use Rattle.std.specs.List.{flat_map}
+use Rattle.ec_core.specs.declared.act.Entry.{Entry}
+use Rattle.ec_semaphore.specs.Shapes.{Semaphore}
+use Rattle.ec_semaphore.specs.Uses.{use_rules}
+use Rattle.ec_semaphore.specs.Both.{is_line, both_rules}
+use Rattle.ec_semaphore.specs.Balances.{downs, ups}
+use Rattle.ec_semaphore.specs.Auditing.{Balancing, IsCounted}
+use Rattle.ec_heading.specs.declared.group.Group.{Group}
+use Rattle.ec_heading.specs.declared.group.Group.TheVariants as groups
+use Rattle.ec_heading.specs.Rules.{semaphores_of}
+use Rattle.ec_draw.specs.declared.window.Window.{Window}
+use Rattle.ec_draw.specs.declared.curve.Plotted.TheVariants.{Balance}
+use Rattle.ec_draw.specs.Following.{follows}
+use Rattle.ec_draw.specs.Curves.{Line}
+
+-- WHAT IS LEFT
+
+-- how many a semaphore has left after a past: those at first and those given back, without those taken. Where it is
+-- followed this is its balance
+abbrev pub left_of : Semaphore → List Entry → ℕ
+left_of s past = s.initial + ups s past - downs s past
+
+-- whether moment k is shown: that before an entry that is shown, or the one after the last
+abbrev pub has_moment : Window → ℕ → Bool
+has_moment w k = nat_le w.from k && nat_le k w.to
+
+abbrev pub told_at : Window → ℕ → ℕ → List ℕ
+told_at w k n = if has_moment w k then n ∷ [] else []
+
+-- what is left at each moment of a past that is shown, in order
+unfoldable pub lefts : Semaphore → Window → List Entry → List ℕ
+lefts s w [] = told_at w 0 (left_of s [])
+lefts s w (x ∷ past) = lefts s w past ++ told_at w (length past + 1) (left_of s (x ∷ past))
+
+-- CURVES
+
+-- the curve of a semaphore's balance. A semaphore is told by its eventcount
+abbrev pub balance_line : Window → List Entry → Semaphore → Line
+balance_line w h s = record { object = Balance s.count; heights = lefts s w (reverse h) }
+
+abbrev pub line_if : Bool → Line → List Line
+line_if b l = if b then l ∷ [] else []
+
+-- that of a group, where it is a semaphore, or `both`, and is followed; these are all the semaphores
+abbrev pub group_line : List Semaphore → Window → List Entry → Group → List Line
+group_line all w h (groups.Buffer b) = []
+group_line all w h (groups.Database d) = []
+group_line all w h (groups.Semaphore s) = line_if (follows (use_rules s) (reverse h)) (balance_line w h s)
+group_line all w h (groups.Both c) = line_if (follows (both_rules c (is_line c all)) (reverse h)) (balance_line w h c)
+
+-- those of all groups
+abbrev pub balance_lines : List Group → Window → List Entry → List Line
+balance_lines gs w h = flat_map (group_line (semaphores_of gs) w h) gs
+
+-- A WALK
+
+-- what a walk keeps of a semaphore: its audit, and what was left at the moments that are shown, or that memory was refused
+pub record Course : Type 0 where
+  pub audit : Balancing
+  pub window : Window
+  pub heights : List ℕ
+  pub lacks : Bool
+
+-- no count of the semaphore is too large for the code after a past
+abbrev pub IsSmall : Semaphore → List Entry → Type 0
+IsSmall s past = s.initial + ups s past < 2 ^ 64
+
+-- it is that after a past
+pub record IsCourse (c : Course) (past : List Entry) : Type 0 where
+  pub counted : IsCounted c.audit past
+  pub heights : c.lacks ≡ false → IsSmall c.audit.shape past → c.heights ≡ lefts c.audit.shape c.window past
+
+-- of the same semaphore, after a past
+abbrev pub CoursesOn : Course → Course → List Entry → Type 0
+CoursesOn start now past = (now.window ≡ start.window) × (now.audit.shape ≡ start.audit.shape) × IsCourse now past

@@ -1,0 +1,271 @@
+//! The shades over accepting tries.
+ghost use Rattle.std.specs.Prelude.{◌≡◌, ◌<◌, ◌++◌, ◌∷◌, [], false, ℕ, IfOk, OnOk, Some, map, option_to_list, reverse, slice_get};
+ghost use Rattle.std.specs.List.{filter, flat_map};
+ghost use Rattle.std.specs.Option.{option_map};
+ghost use Rattle.ec_core.specs.Calls.{is_go};
+ghost use Rattle.ec_draw.specs.Shades.{AddsNewest, IsTrying, group_shades, is_in, seen, shaded, shades, starts_after};
+ghost use Rattle.ec_heading.specs.declared.group.Group.TheVariants as groups;
+
+use crate::Window;
+use ec_core::{Act, Audit, AuditFault, Entry, Run, walk};
+use ec_count::{EventId, Setup};
+use ec_database::{Accepted, DatabaseShape, VersionAudit, is_on};
+use ec_heading::Group;
+use std::alloc::{AllocError, Global};
+use std::marker::Model;
+
+/// From an entry to a later one, by their positions.
+#[derive(Clone, Copy, Debug, PartialEq, Eq)]
+pub struct Span {
+    pub first: usize,
+    pub last: usize,
+}
+
+/// An accepting try of a database, and where it stands: from the first entry of its first call to its last entry.
+#[derive(Drop)]
+pub struct Shade {
+    /// The eventcount of the database's starts.
+    pub count: EventId,
+    pub span: Span,
+    pub accepted: Accepted,
+}
+
+/// Whether an act goes on with a call.
+fn is_go(act: &Act) -> bool
+    ensures { result ≡ is_go act.now }
+{
+    match act {
+        Act::Go => true,
+        Act::Advance(_)
+        | Act::Read(_)
+        | Act::Await(_, _)
+        | Act::Ticket(_)
+        | Act::Put(_, _)
+        | Act::Get(_)
+        | Act::Hand(_, _) => false,
+    }
+}
+
+/// Before the first entry no list has begun.
+fn no_starts() -> [usize; 16]
+    ensures { (w : ℕ) → w < 16 → slice_get result w ≡ Some 0 }
+{
+    [0; 16]
+}
+
+/// Notes where the list of a worker begins, if an entry begins it.
+fn note_start(
+    shape: &DatabaseShape,
+    finished: usize,
+    place: usize,
+    entry: &Entry,
+    starts: &mut [usize; 16],
+)
+    ensures { starts.new ≡ starts_after shape.now finished place entry.now starts.old }
+{
+    if finished == 0 && !is_go(&entry.act) && is_on(shape, &entry.act) {
+        starts[entry.worker.get()] = place;
+    }
+}
+
+/// Adds a shade, if it is shown.
+fn add_shade(
+    shades: &mut Vec<Shade>,
+    accepted: &Accepted,
+    count: EventId,
+    window: Window,
+    span: Span,
+) -> Result<(), AllocError>
+    ensures { OnOk result (map seen shades.new.items ≡ map seen shades.old.items ++ filter (is_in window) (seen (record { count = count; span = span; accepted = accepted.now }) ∷ [])) }
+{
+    if window.meets(span.first, span.last) {
+        let values = Vec::from_slice(*shades.allocator(), accepted.values.as_slice())?;
+        let accepted = Accepted {
+            worker: accepted.worker,
+            version: accepted.version,
+            values,
+        };
+        shades.push(Shade {
+            count,
+            span,
+            accepted,
+        })?;
+    }
+    Ok(())
+}
+
+/// Adds the shade of the try that was found since there were so many, if one was.
+fn add_newest(
+    shades: &mut Vec<Shade>,
+    audit: &VersionAudit<'_>,
+    before: Option<usize>,
+    count: EventId,
+    window: Window,
+    span: Span,
+) -> Result<(), AllocError>
+    ensures { OnOk result (AddsNewest count window span before audit.now (map seen shades.old.items) (map seen shades.new.items)) }
+{
+    let Some(place) = before else {
+        return Err(AllocError);
+    };
+    if audit.found().is_none() {
+        return Err(AllocError);
+    }
+    if let Some(accepted) = audit.accepted(place) {
+        add_shade(shades, accepted, count, window, span)?;
+    }
+    Ok(())
+}
+
+/// The same, unless there was no memory for an earlier one. The answer is whether one is lacking.
+fn lacks_after(
+    lacks: bool,
+    shades: &mut Vec<Shade>,
+    audit: &VersionAudit<'_>,
+    before: Option<usize>,
+    count: EventId,
+    window: Window,
+    span: Span,
+) -> bool
+    ensures before { result ≡ false → lacks ≡ false }
+    ensures added { result ≡ false → AddsNewest count window span before audit.now (map seen shades.old.items) (map seen shades.new.items) }
+{
+    lacks || add_newest(shades, audit, before, count, window, span).is_err()
+}
+
+/// The audit of a database in a walk over a run, where the list began that each worker is in, and the shades so far.
+#[derive(Drop)]
+struct Tries<'a> {
+    audit: VersionAudit<'a>,
+    shape: &'a DatabaseShape,
+    window: Window,
+    starts: [usize; 16],
+    shades: Vec<Shade>,
+    lacks: bool,
+}
+
+impl<'a> Model for Tries<'a> {
+    ghost use Rattle.std.specs.Prelude.{map};
+    ghost use Rattle.ec_draw.specs.Shades.{Trying, seen};
+
+    ghost Value = { Trying };
+
+    ghost view = { λ s. record { audit = s.audit; shape = s.shape.now; window = s.window; starts = s.starts; shades = map seen s.shades.items; lacks = s.lacks } };
+}
+
+impl<'a> Audit for Tries<'a> {
+    ghost use Rattle.ec_draw.specs.Shades.{TriesOn};
+
+    ghost stands = { TriesOn };
+
+    fn take(&mut self, place: usize, op: &Act, entry: &Entry) {
+        let Tries {
+            audit,
+            shape,
+            window,
+            starts,
+            shades,
+            lacks,
+        } = self;
+        let first = starts[entry.worker.get()];
+        let span = Span { first, last: place };
+        let before = audit.found();
+        let finished = audit.finished(entry.worker);
+        note_start(shape, finished, place, entry, starts);
+        audit.take(place, op, entry);
+        *lacks = lacks_after(*lacks, shades, audit, before, shape.start(), *window, span);
+    }
+}
+
+impl<'a> Tries<'a> {
+    /// Before the first entry of a run on this setup.
+    fn new(alloc: Global, shape: &'a DatabaseShape, setup: &'a Setup, window: Window) -> Self
+        ensures shape { result.shape ≡ shape.now }
+        ensures setup { result.audit.setup ≡ setup.now }
+        ensures window { result.window ≡ window }
+        ensures first { IsTrying result [] }
+    {
+        Tries {
+            audit: VersionAudit::new(alloc, shape, setup),
+            shape,
+            window,
+            starts: no_starts(),
+            shades: Vec::new(alloc),
+            lacks: false,
+        }
+    }
+}
+
+/// Adds some shades.
+fn add_all(shades: &mut Vec<Shade>, list: Vec<Shade>) -> Result<(), AllocError>
+    ensures { OnOk result (map seen shades.new.items ≡ map seen shades.old.items ++ map seen list.items) }
+{
+    for shade in list {
+        shades.push(shade)?;
+    }
+    Ok(())
+}
+
+/// Adds the shades of a database, if its workers follow it.
+fn add_database(
+    shades: &mut Vec<Shade>,
+    alloc: Global,
+    run: &Run,
+    shape: &DatabaseShape,
+    window: Window,
+) -> Result<(), AllocError>
+    ensures { OnOk result (map seen shades.new.items ≡ map seen shades.old.items ++ group_shades run.now.setup window run.now.entries (groups.Database shape.now)) }
+{
+    let mut tries = Tries::new(alloc, shape, run.setup(), window);
+    walk(run, &mut tries);
+    let Tries {
+        audit,
+        shades: list,
+        lacks,
+        ..
+    } = tries;
+    match audit.versions(run) {
+        Ok(_accepted) => {
+            if lacks {
+                return Err(AllocError);
+            }
+            add_all(shades, list)
+        }
+        Err(AuditFault::NotFollowed { .. }) => Ok(()),
+        Err(AuditFault::Memory) => Err(AllocError),
+    }
+}
+
+/// Adds the shades of a group, if it has some.
+fn add_group(
+    shades: &mut Vec<Shade>,
+    alloc: Global,
+    run: &Run,
+    group: &Group,
+    window: Window,
+) -> Result<(), AllocError>
+    ensures { OnOk result (map seen shades.new.items ≡ map seen shades.old.items ++ group_shades run.now.setup window run.now.entries group.now) }
+{
+    match group {
+        Group::Buffer(_) => Ok(()),
+        Group::Database(shape) => add_database(shades, alloc, run, shape, window),
+        Group::Semaphore(_) => Ok(()),
+        Group::Both(_) => Ok(()),
+    }
+}
+
+/// The accepting tries that are shown, of those databases whose workers follow them.
+pub fn shades(
+    alloc: Global,
+    run: &Run,
+    groups: &[Group],
+    window: Window,
+) -> Result<Vec<Shade>, AllocError>
+    ensures { IfOk result (λ list. map seen list.items ≡ shades run.now.setup groups.now window run.now.entries) }
+{
+    let mut shades = Vec::new(alloc);
+    for group in groups {
+        add_group(&mut shades, alloc, run, group, window)?;
+    }
+    Ok(shades)
+}

@@ -1,0 +1,190 @@
+//! A writer with a table of bytes before it.
+ghost use Rattle.std.specs.Prelude.{◌≡◌, ◌∷◌, [], List, ℕ, false, true, IsOk, IsErr, OnOk, OnErr, IsTrue, decimal, length, ◌+◌, ◌≤◌};
+ghost use Rattle.std.specs.List.{flat_map};
+ghost use Rattle.std.specs.Io.KnownBytes.{Appends};
+ghost use Rattle.ec_text.specs.Puts.{Outgoing, Holds, Puts, AppendsPrefix, IsFresh, IsWrittenOut, at_first, with_bytes};
+
+use crate::writing::{WriteFault, write_out};
+use arrayvec::ArrayVec;
+use itoa::Buffer;
+use std::io::Write;
+use std::marker::Model;
+
+/// A writer, and at most 8192 bytes that wait for it.
+///
+/// After a write that failed or took no byte nothing more is written, so that what the writer has is a front of what was put.
+/// A caller makes an `Out`, puts, and ends with `finish`. The prover adds up the clauses `puts` of the calls between by
+/// itself, up to about five in one function.
+#[derive(Drop)]
+pub struct Out<'a, W: Write> {
+    writer: &'a mut W,
+    bytes: ArrayVec<u8, 8192>,
+    failed: bool,
+}
+
+impl<'a, W: Write> Model for Out<'a, W> {
+    ghost use Rattle.ec_text.specs.Puts.{Outgoing};
+
+    ghost Value = { Outgoing };
+
+    ghost view = { λ o. record { writer = o.writer.ghost_name; contents = W.contents o.writer.now; waiting = o.bytes.items; failed = o.failed } };
+}
+
+impl<'a, W: Write> Out<'a, W> {
+    /// A writer before which nothing waits.
+    #[tactic(auto, using(crate::proofs::shared::PutLemmas::begins))]
+    pub fn new(writer: &'a mut W) -> Self
+        ensures value { result ≡ at_first writer.entry.ghost_name (W.contents writer.old) }
+        ensures none { Holds (at_first writer.entry.ghost_name (W.contents writer.old)) result [] }
+    {
+        Out {
+            writer,
+            bytes: ArrayVec::new(),
+            failed: false,
+        }
+    }
+
+    /// Whether a write has failed.
+    pub fn has_failed(&self) -> bool
+        ensures { result ≡ self.now.failed }
+    {
+        self.failed
+    }
+
+    /// Takes the bytes in where there is room for all of them, and lets them go after a failure: else they must be written.
+    #[inline(always)]
+    fn take_in(&mut self, bytes: &[u8]) -> bool
+        ensures puts { IsTrue result → Puts self.old self.new bytes.now }
+        ensures full { result ≡ false → (self.new ≡ self.old) × (self.old.failed ≡ false) }
+        ensures stays { self.old.failed ≡ true → (result ≡ true) × (self.new ≡ self.old) }
+        ensures room { self.old.failed ≡ false → length self.old.waiting + length bytes.now ≤ 8192
+            → (result ≡ true) × (self.new ≡ with_bytes self.old bytes.now) }
+    {
+        self.has_failed() || self.bytes.try_extend_from_slice(bytes).is_ok()
+    }
+
+    /// Writes what waits, and nothing waits then. It doesn't call the writer's own `flush`. A failure shows at `finish`.
+    pub fn flush(&mut self)
+        ensures puts { Puts self.old self.new [] }
+        ensures written { IsWrittenOut self.new }
+        ensures nothing { self.old.waiting ≡ [] → self.new ≡ self.old }
+        ensures stays { self.old.failed ≡ true → self.new ≡ self.old }
+    {
+        if self.failed {
+            return;
+        }
+        let done = write_out(self.writer, self.bytes.as_slice());
+        self.failed = done.is_err();
+        self.bytes.clear();
+    }
+
+    /// Puts bytes behind those that wait. A failure shows at `finish`.
+    #[inline(always)]
+    pub fn put(&mut self, bytes: &[u8])
+        ensures puts { Puts self.old self.new bytes.now }
+        ensures room { self.old.failed ≡ false → length self.old.waiting + length bytes.now ≤ 8192
+            → self.new ≡ with_bytes self.old bytes.now }
+        ensures stays { self.old.failed ≡ true → self.new ≡ self.old }
+    {
+        if self.take_in(bytes) {
+            return;
+        }
+        self.put_behind(bytes);
+    }
+
+    /// Puts bytes for which the table has no room beside those that wait.
+    #[cold]
+    #[inline(never)]
+    fn put_behind(&mut self, bytes: &[u8])
+        ensures { Puts self.old self.new bytes.now }
+    {
+        self.flush();
+        if self.take_in(bytes) {
+            return;
+        }
+        self.put_long(bytes);
+    }
+
+    /// Writes bytes for which the empty table has no room.
+    fn put_long(&mut self, bytes: &[u8])
+        requires { IsFresh self.old }
+        ensures { Puts self.old self.new bytes.now }
+    {
+        self.failed = write_out(self.writer, bytes).is_err();
+    }
+
+    /// Puts one byte.
+    #[inline(always)]
+    pub fn put_byte(&mut self, byte: u8)
+        ensures puts { Puts self.old self.new (byte ∷ []) }
+        ensures room { self.old.failed ≡ false → length self.old.waiting + 1 ≤ 8192
+            → self.new ≡ with_bytes self.old (byte ∷ []) }
+        ensures stays { self.old.failed ≡ true → self.new ≡ self.old }
+    {
+        self.put(&[byte]);
+    }
+
+    /// Puts the decimal digits of a number.
+    pub fn put_number(&mut self, n: u64)
+        ensures puts { Puts self.old self.new (decimal n) }
+        ensures room { self.old.failed ≡ false → length self.old.waiting + length (decimal n) ≤ 8192
+            → self.new ≡ with_bytes self.old (decimal n) }
+        ensures stays { self.old.failed ≡ true → self.new ≡ self.old }
+    {
+        let mut digits = Buffer::new();
+        self.put(digits.format(n).as_bytes());
+    }
+
+    /// Puts pieces, one behind the other.
+    pub fn put_all(&mut self, pieces: &[&[u8]])
+        ensures puts { Puts self.old self.new (flat_map (λ p. p.now) pieces.now) }
+        ensures room { self.old.failed ≡ false → length self.old.waiting + length (flat_map (λ p. p.now) pieces.now) ≤ 8192
+            → self.new ≡ with_bytes self.old (flat_map (λ p. p.now) pieces.now) }
+        ensures stays { self.old.failed ≡ true → self.new ≡ self.old }
+    {
+        for piece in pieces {
+            self.put(piece);
+        }
+    }
+
+    /// Puts bytes, and writes them and all that waited.
+    pub fn say(&mut self, bytes: &[u8])
+        ensures puts { Puts self.old self.new bytes.now }
+        ensures written { IsWrittenOut self.new }
+    {
+        self.put(bytes);
+        self.flush();
+    }
+
+    /// Writes what waits. With `Ok` all that was put since `new` stands in the writer, with an error a front of it.
+    pub fn finish(&mut self) -> Result<(), WriteFault>
+        ensures same { (first : Outgoing) (all : List ℕ) → Holds first self.old all → self.new.writer ≡ first.writer }
+        ensures ok { (first : Outgoing) (all : List ℕ) → Holds first self.old all → OnOk result (Appends first.contents self.new.contents all) }
+        ensures err { (first : Outgoing) (all : List ℕ) → Holds first self.old all → OnErr result (AppendsPrefix first.contents self.new.contents all) }
+        ensures nothing { IsFresh self.old → IsOk result × (self.new ≡ self.old) }
+        ensures failed { self.old.failed ≡ true → IsErr result × (self.new ≡ self.old) }
+        ensures puts { Puts self.old self.new [] }
+        ensures written { IsWrittenOut self.new }
+    {
+        self.flush();
+        if self.has_failed() {
+            Err(WriteFault)
+        } else {
+            Ok(())
+        }
+    }
+
+    /// Gives the writer back; what waits is let go. Whoever was lent a writer ends with this call, so that its contract can
+    /// tell what the writer has then.
+    pub fn into_writer(self) -> &'a mut W
+        ensures same { result.ghost_name ≡ self.entry.writer }
+        ensures contents { W.contents result.now ≡ self.entry.contents }
+    {
+        let Out {
+            writer,
+            bytes: _,
+            failed: _,
+        } = self;
+        writer
+    }
+}
