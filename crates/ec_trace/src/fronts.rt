@@ -3,7 +3,7 @@
 //! The front of an entry is its line up to the space before the reply. But for the values in them, the entries of a
 //! trace have few different fronts, so that one which was read lately is found again by its bytes: then the reply alone
 //! is read anew, and the value of an await or a put.
-ghost use Rattle.std.specs.Prelude.{◌≡◌, ◌+◌, ◌≤◌, ℕ, List, Some, ◌++◌, ◌∷◌, IfSome, IsTrue, length, take};
+ghost use Rattle.std.specs.Prelude.{◌≡◌, ◌+◌, ◌≤◌, ℕ, List, Some, ◌++◌, ◌∷◌, IfOk, IfSome, IsTrue, length, take};
 ghost use Rattle.ec_text.specs.Words.{IsWord};
 ghost use Rattle.ec_trace.specs.Entries.{entry_of};
 ghost use Rattle.ec_trace.specs.Fronts.{HasFront, HasValue, EndsIn, Tells, TellsWhole, TellsValued, AreKept, is_valued, with_value, with_both};
@@ -14,6 +14,14 @@ use ec_core::{Act, Entry, Reply};
 use ec_count::WorkerId;
 use ec_heading::Heading;
 use ec_text::number;
+use std::alloc::{AllocError, Global};
+use std::marker::Model;
+
+/// How many places fronts have at first. Where these are too few, they get four times as many, up to the greatest number:
+/// that is enough for the puts and gets of 16 workers on 256 cells.
+const PLACES: usize = 512;
+
+const PLACES_MAX: usize = 32768;
 
 /// A front of at most 32 bytes, and the worker and the act of each entry with this front. Of an await or a put it is what
 /// stands before the value, and the act has any value.
@@ -54,29 +62,109 @@ impl Front {
         let len = self.len as usize;
         len <= 32 && &self.bytes[..len] == bytes
     }
+
+    /// The mark of its bytes.
+    fn mark(&self) -> usize {
+        let len = self.len as usize;
+        match self.bytes.get(..len) {
+            Some(bytes) => mark(bytes),
+            None => 0,
+        }
+    }
 }
 
-/// The fronts that were read lately, each at one of two places that its bytes give.
+/// No fronts at so many places.
+#[tactic(auto, using(crate::proofs::FrontLemmas::none_kept))]
+fn none_at(alloc: Global, places: usize) -> Result<Vec<Option<Front>>, AllocError>
+    ensures { (names : Named) → IfOk result (λ v. AreKept names v.items) }
+{
+    let mut slots = Vec::with_capacity(alloc, places)?;
+    slots.resize(places, None)?;
+    Ok(slots)
+}
+
+/// The place of a mark among so many, of which there are 2, 4, 8 and so on.
+#[inline(always)]
+fn place_of(mark: usize, places: usize) -> usize {
+    mark & places.wrapping_sub(1)
+}
+
+/// Puts a front at one of its two places: at the first where that is free, else at the second.
+#[tactic(auto, using(crate::proofs::FrontLemmas::kept))]
+fn put(slots: &mut Vec<Option<Front>>, mark: usize, known: Front)
+    ensures { (names : Named) → AreKept names slots.old.items → Tells names (take known.len known.bytes) known.worker known.act → AreKept names slots.new.items }
+{
+    let first = place_of(mark, slots.len());
+    let place = match slots.get(first) {
+        Some(Some(_)) => first ^ 1,
+        _ => first,
+    };
+    if place < slots.len() {
+        slots[place] = Some(known);
+    }
+}
+
+/// Puts the front at a place of some among others, if there is one.
+fn put_again(slots: &mut Vec<Option<Front>>, place: usize, from: &[Option<Front>])
+    ensures { (names : Named) → AreKept names slots.old.items → AreKept names from.now → AreKept names slots.new.items }
+{
+    if let Some(Some(known)) = from.get(place) {
+        put(slots, known.mark(), *known);
+    }
+}
+
+/// The same fronts at so many places.
+fn spread(
+    alloc: Global,
+    slots: &[Option<Front>],
+    places: usize,
+) -> Result<Vec<Option<Front>>, AllocError>
+    ensures { (names : Named) → AreKept names slots.now → IfOk result (λ v. AreKept names v.items) }
+{
+    let mut wider = none_at(alloc, places)?;
+    for place in 0..slots.len() {
+        put_again(&mut wider, place, slots);
+    }
+    Ok(wider)
+}
+
+/// The fronts that were read lately, each at one of two places that its bytes give. The more fronts a trace has, the more
+/// places they get.
 #[derive(Drop)]
 pub(crate) struct Fronts {
-    pub(crate) slots: [Option<Front>; 512],
+    slots: Vec<Option<Front>>,
+    /// How many were put since they have so many places.
+    put: usize,
+}
+
+impl Model for Fronts {
+    ghost use Rattle.std.specs.Prelude.{List, Option};
+    ghost use Rattle.ec_trace.specs.declared.fronts.Front.{Front};
+
+    ghost Value = { List (Option Front) };
+
+    ghost view = { λ s. s.slots.items };
 }
 
 impl Fronts {
-    /// No fronts.
-    pub(crate) fn none() -> Self
-        ensures { (names : Named) → AreKept names result.slots }
+    /// No fronts, and no places yet.
+    #[tactic(auto, using(crate::proofs::FrontLemmas::none_kept))]
+    pub(crate) fn none(alloc: Global) -> Self
+        ensures { (names : Named) → AreKept names result }
     {
-        Fronts { slots: [None; 512] }
+        Fronts {
+            slots: Vec::new(alloc),
+            put: 0,
+        }
     }
 
     /// The front at a place, where it has these bytes: its worker and act.
     #[inline(always)]
-    fn at(&self, place: usize, front: &[u8]) -> Option<(WorkerId, Act)>
-        ensures { (names : Named) → AreKept names self.now.slots → IfSome result (λ p. Tells names front.now p.0 p.1) }
+    fn at(&self, mark: usize, front: &[u8]) -> Option<(WorkerId, Act)>
+        ensures { (names : Named) → AreKept names self.now → IfSome result (λ p. Tells names front.now p.0 p.1) }
     {
-        match &self.slots[place % 512] {
-            Some(known) if known.has(front) => Some((known.worker, known.act)),
+        match self.slots.get(place_of(mark, self.slots.len())) {
+            Some(Some(known)) if known.has(front) => Some((known.worker, known.act)),
             _ => None,
         }
     }
@@ -84,36 +172,58 @@ impl Fronts {
     /// The worker and the act of a front, where it was read lately.
     #[inline(always)]
     fn find(&self, front: &[u8]) -> Option<(WorkerId, Act)>
-        ensures { (names : Named) → AreKept names self.now.slots → IfSome result (λ p. Tells names front.now p.0 p.1) }
+        ensures { (names : Named) → AreKept names self.now → IfSome result (λ p. Tells names front.now p.0 p.1) }
     {
-        let place = mark(front);
-        match self.at(place, front) {
+        let mark = mark(front);
+        match self.at(mark, front) {
             Some(known) => Some(known),
-            None => self.at(place ^ 1, front),
+            None => self.at(mark ^ 1, front),
+        }
+    }
+
+    /// Gives the fronts so many places, if there is memory for that.
+    #[cold]
+    fn widen(&mut self, places: usize)
+        ensures { (names : Named) → AreKept names self.old → AreKept names self.new }
+    {
+        let alloc = *self.slots.allocator();
+        let Ok(wider) = spread(alloc, self.slots.as_slice(), places) else {
+            return;
+        };
+        self.slots = wider;
+    }
+
+    /// Counts one more front that is put, and gives the fronts more places where that is half as many as they have.
+    fn make_room(&mut self)
+        ensures { (names : Named) → AreKept names self.old → AreKept names self.new }
+    {
+        let places = self.slots.len();
+        if self.put < places / 2 {
+            self.put += 1;
+            return;
+        }
+        self.put = 0;
+        if places < PLACES_MAX {
+            self.widen(PLACES.max(places * 4));
         }
     }
 
     /// Keeps the front of an entry.
-    #[tactic(auto, using(crate::proofs::FrontLemmas::kept, crate::proofs::FrontLemmas::told_of))]
+    #[tactic(auto, using(crate::proofs::FrontLemmas::told_of))]
     fn keep(&mut self, front: &[u8], entry: &Entry)
-        ensures { (names : Named) → AreKept names self.old.slots → Tells names front.now entry.now.worker entry.now.act → AreKept names self.new.slots }
+        ensures { (names : Named) → AreKept names self.old → Tells names front.now entry.now.worker entry.now.act → AreKept names self.new }
     {
         let Some(known) = Front::of(front, entry) else {
             return;
         };
-        let place = mark(front);
-        let place = if self.slots[place % 512].is_some() {
-            place ^ 1
-        } else {
-            place
-        };
-        self.slots[place % 512] = Some(known);
+        self.make_room();
+        put(&mut self.slots, mark(front), known);
     }
 
     /// Keeps the front of an entry, or what stands in it before the value.
     #[tactic(auto, using(crate::proofs::FrontLemmas::tells, crate::proofs::FrontLemmas::opens))]
     fn keep_part(&mut self, front: &[u8], entry: &Entry)
-        ensures { (names : Named) (line : List ℕ) → AreKept names self.old.slots → HasFront line front.now → entry_of names line ≡ Some entry.now → AreKept names self.new.slots }
+        ensures { (names : Named) (line : List ℕ) → AreKept names self.old → HasFront line front.now → entry_of names line ≡ Some entry.now → AreKept names self.new }
     {
         if !is_valued(&entry.act) {
             self.keep(front, entry);
@@ -131,7 +241,7 @@ impl Fronts {
     fn read_anew(&mut self, heading: &Heading, line: &[u8], front: &[u8]) -> Option<Entry>
         requires { HasFront line.now front.now }
         ensures value { result ≡ entry_of heading.now.words line.now }
-        ensures kept { AreKept heading.now.words self.old.slots → AreKept heading.now.words self.new.slots }
+        ensures kept { AreKept heading.now.words self.old → AreKept heading.now.words self.new }
     {
         let entry = read_entry(heading, line)?;
         self.keep_part(front, &entry);
@@ -141,7 +251,7 @@ impl Fronts {
     /// The worker and the act of a front without a value, where it was read lately.
     #[inline(always)]
     fn find_whole(&self, front: &[u8]) -> Option<(WorkerId, Act)>
-        ensures { (names : Named) → AreKept names self.now.slots → IfSome result (λ p. TellsWhole names front.now p.0 p.1) }
+        ensures { (names : Named) → AreKept names self.now → IfSome result (λ p. TellsWhole names front.now p.0 p.1) }
     {
         let (worker, act) = self.find(front)?;
         if is_valued(&act) {
@@ -153,7 +263,7 @@ impl Fronts {
     /// The worker and an act of what stands before a value, where it was read lately.
     #[inline(always)]
     fn find_opening(&self, opening: &[u8]) -> Option<(WorkerId, Act)>
-        ensures { (names : Named) → AreKept names self.now.slots → IfSome result (λ p. TellsValued names opening.now p.0 p.1) }
+        ensures { (names : Named) → AreKept names self.now → IfSome result (λ p. TellsValued names opening.now p.0 p.1) }
     {
         let (worker, act) = self.find(opening)?;
         if !is_valued(&act) {
@@ -172,10 +282,10 @@ impl Fronts {
         front: &[u8],
         reply: Reply,
     ) -> Option<Entry>
-        requires kept { AreKept heading.now.words self.old.slots }
+        requires kept { AreKept heading.now.words self.old }
         requires ends { EndsIn line.now front.now reply }
         ensures value { result ≡ entry_of heading.now.words line.now }
-        ensures kept { AreKept heading.now.words self.new.slots }
+        ensures kept { AreKept heading.now.words self.new }
     {
         let Some((opening, value)) = cut_value(front) else {
             return self.read_anew(heading, line, front);
@@ -190,9 +300,9 @@ impl Fronts {
     #[inline(always)]
     #[tactic(auto, using(crate::proofs::FrontLemmas::told))]
     pub(crate) fn read(&mut self, heading: &Heading, line: &[u8]) -> Option<Entry>
-        requires { AreKept heading.now.words self.old.slots }
+        requires { AreKept heading.now.words self.old }
         ensures value { result ≡ entry_of heading.now.words line.now }
-        ensures kept { AreKept heading.now.words self.new.slots }
+        ensures kept { AreKept heading.now.words self.new }
     {
         let Some((front, reply)) = cut_reply(line) else {
             return read_entry(heading, line);

@@ -37,7 +37,7 @@ impl Model for Traced {
 
     ghost view = { λ t. record { heading = t.heading; entries = t.run.entries } };
 
-    ghost invariant = { λ t. (t.run.setup ≡ t.heading.setup) × AreKept t.heading.words t.fronts.slots };
+    ghost invariant = { λ t. (t.run.setup ≡ t.heading.setup) × AreKept t.heading.words t.fronts };
 }
 
 impl Traced {
@@ -52,7 +52,7 @@ impl Traced {
         Ok(Traced {
             run,
             heading,
-            fronts: Fronts::none(),
+            fronts: Fronts::none(alloc),
         })
     }
 
