@@ -27,7 +27,7 @@ use Rattle.ec_heading.proofs.shared.ReadHeadings.{IsSound, sound}
 use Rattle.ec_heading.proofs.shared.ReadNames.{found_all}
 use Rattle.ec_trace.specs.declared.fault.LineFault.{LineFault}
 use Rattle.ec_trace.specs.declared.fault.LineFault.TheVariants.{Bad, Refused, WrongReply}
-use Rattle.ec_trace.specs.declared.stage.Stage.TheVariants.{Running, Ended}
+use Rattle.ec_trace.specs.Stages.{Running, Ended}
 use Rattle.ec_trace.specs.Entries.{◌>>=◌, act_alone, act_on, act_with, reply_of, entry_by, entry_in, entry_of}
 use Rattle.ec_trace.specs.EntryLines.{MayBeWritten, SpellsEntry, SpellsNoEntry, SpellsInVersion, SpellsNoneInVersion, IsEntryFault, EntriesAreSpelled, OtherLinesSpellNone, FaultsOfEntries}
 use Rattle.ec_trace.specs.Recounted.{Recounted}

@@ -2,8 +2,7 @@
 use Rattle.std.proofs.Common.{Ok, ◌≡◌, ◌≢◌, ℕ, ◌+◌, List, ◌++◌, length, take, false, ltb, refl, sym, ap, ◌∙◌, arith, Err, le-ltb, inl, inr, ◌⊎◌}
 use Rattle.std.specs.List.{All}
 use Rattle.ec_trace.specs.declared.fault.LineFault.{LineFault}
-use Rattle.ec_trace.specs.declared.stage.Stage.{Stage}
-use Rattle.ec_trace.specs.declared.stage.Stage.TheVariants.{Opening}
+use Rattle.ec_trace.specs.Stages.{Stage, Opening}
 use Rattle.ec_trace.specs.declared.read.TheConstants.{TRACE_MAX}
 use Rattle.ec_trace.specs.Outcome.{goes, goes_from, parts_of, numbered, start, outcome, bounded}
 use Rattle.ec_trace.specs.FirstFault.{IsTooLong, IsBehindTheEnd, IsRefusedThere, IsFirstFault, FirstFaultIsTold, FailedReadHasNoFault}

@@ -3,8 +3,7 @@ use Rattle.std.proofs.Common.{◌≡◌, ◌≢◌, ℕ, ◌+◌, ◌<◌, ◌�
 use Rattle.std.specs.List.{onto_first, All, AllByRecursion}
 use Rattle.std.proofs.lemmas.List.Splits.{slice_split-cons_no}
 use Rattle.std.proofs.lemmas.List.Elements.{recursion_from_All, All-append, All-nil, All-cons}
-use Rattle.ec_trace.specs.declared.stage.Stage.{Stage}
-use Rattle.ec_trace.specs.declared.stage.Stage.TheVariants.{Opening, Limiting, Declaring, Running, Ended}
+use Rattle.ec_trace.specs.Stages.{Stage, Opening, Limiting, Declaring, Running, Ended}
 use Rattle.ec_trace.specs.Step.{step, is_ended}
 use Rattle.ec_trace.specs.Outcome.{parts_of, goes, taken}
 use Rattle.ec_trace.specs.declared.fault.LineFault.TheVariants as line_fault
@@ -52,13 +51,6 @@ goes_line n s part more none =
     onto_part part (10 ∷ more) [] (parts_of more) (no_lf part none) refl ∙ ap (λ (x : List ℕ). x ∷ parts_of more) (append-nil part) in
     rw (e, f.is) refl
 
--- a line of which nothing came before, and then the rest
-pub goes_at_once : (n : ℕ) (s : Stage) (part line more : List ℕ) → part ≡ [] → All (λ b. b ≢ 10) line → length line ≤ 8192 → goes n s (parts_of (part ++ (line ++ 10 ∷ [] ++ more))) ≡ taken n (step s line) (λ t. goes (n + 1) t (parts_of more))
-goes_at_once n s part line more fresh plain short =
-    let e : part ++ (line ++ 10 ∷ [] ++ more) ≡ line ++ 10 ∷ more = rw fresh (append_assoc line (10 ∷ []) more) in
-    let l : ltb 8192 (length line) ≡ false = le-ltb _ _ short in
-    ap (λ (text : List ℕ). goes n s (parts_of text)) e ∙ goes_line n s line more plain ∙ rw l refl
-
 -- a line that is too long, whatever follows
 pub goes_long : (n : ℕ) (s : Stage) (part more : List ℕ) → All (λ b. b ≢ 10) part → 8192 < length part → goes n s (parts_of (part ++ more)) ≡ Err (BadLine n)
 goes_long n s part more none long =
@@ -104,8 +96,6 @@ goes_after_end n s part more none ended some =
     let f : HasFirst more = has_first more in
     let e : parts_of (part ++ more) ≡ (part ++ f.first) ∷ f.others = onto_part part more f.first f.others (no_lf part none) f.is in
     ap (goes n s) e ∙ goes_after_end_parts n s (part ++ f.first) f.others ended (omega (arith, length-append part f.first))
-
-pub ruleset endings = (goes_rest, goes_after_end)
 
 -- nothing may follow the last line
 pub goes_ended : (n : ℕ) (s : Stage) (b : ℕ) (more : List ℕ) → is_ended s ≡ true → goes n s (parts_of (b ∷ more)) ≡ Err (BadLine n)

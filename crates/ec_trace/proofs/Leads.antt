@@ -7,8 +7,7 @@ use Rattle.std.proofs.lemmas.List.Splits.{join_with_byte-slice_split}
 use Rattle.ec_trace.specs.declared.fault.LineFault.{LineFault}
 use Rattle.ec_trace.specs.declared.fault.TraceFault.{TraceFault}
 use Rattle.ec_trace.specs.declared.fault.TraceFault.TheVariants.{BadLine, TooLarge, Unfinished}
-use Rattle.ec_trace.specs.declared.stage.Stage.{Stage}
-use Rattle.ec_trace.specs.declared.stage.Stage.TheVariants.{Opening, Limiting, Declaring, Running, Ended}
+use Rattle.ec_trace.specs.Stages.{Stage, Opening, Limiting, Declaring, Running, Ended}
 use Rattle.ec_trace.specs.FirstFault.{IsLine, Leads}
 use Rattle.ec_trace.specs.Recounted.{Recounted}
 use Rattle.ec_heading.specs.Spelling.{text_of, ended_line}

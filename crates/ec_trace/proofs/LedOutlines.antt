@@ -11,8 +11,7 @@ use Rattle.ec_heading.specs.Heading.{head_step}
 use Rattle.ec_heading.specs.Outline.{opened}
 use Rattle.ec_heading.specs.Outlined.{HasOutline}
 use Rattle.ec_heading.proofs.shared.LeadLines.{named_outlined, declared_outlined}
-use Rattle.ec_trace.specs.declared.stage.Stage.{Stage}
-use Rattle.ec_trace.specs.declared.stage.Stage.TheVariants.{Opening, Limiting, Declaring, Running, Ended}
+use Rattle.ec_trace.specs.Stages.{Stage, Opening, Limiting, Declaring, Running, Ended}
 use Rattle.ec_trace.specs.Entries.{entry_of}
 use Rattle.ec_trace.specs.EntryLines.{LinesLeadToOutlines}
 use Rattle.ec_trace.specs.FirstFault.{Leads}

@@ -7,7 +7,10 @@ pub mod FaultTold
 pub mod TraceLines
 pub mod ReadRuns
 pub mod Goes
-pub mod Stood
+pub mod Ranges
+pub mod Readings
+pub mod OpeningLines
+pub mod EntrySteps
 pub mod SpelledLemmas
 pub mod FrontLemmas
 pub mod EntryParts

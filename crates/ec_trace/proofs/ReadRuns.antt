@@ -21,8 +21,7 @@ use Rattle.ec_core.proofs.shared.Bounds.{told_small}
 use Rattle.ec_heading.specs.Headed.{Headed}
 use Rattle.ec_trace.specs.declared.fault.LineFault.{LineFault}
 use Rattle.ec_trace.specs.declared.fault.LineFault.TheVariants.{Bad, WrongReply}
-use Rattle.ec_trace.specs.declared.stage.Stage.{Stage}
-use Rattle.ec_trace.specs.declared.stage.Stage.TheVariants.{Running, Ended}
+use Rattle.ec_trace.specs.Stages.{Stage, Running, Ended}
 use Rattle.ec_trace.specs.Recounted.{Recounted}
 use Rattle.ec_heading.specs.Spelling.{entry_line}
 use Rattle.ec_heading.specs.Spelled.{Named}

@@ -13,7 +13,7 @@ use Rattle.ec_heading.specs.Spelling.{entry_line}
 use Rattle.ec_heading.specs.Versions.{can_spell}
 use Rattle.ec_trace.specs.declared.fault.LineFault.{LineFault}
 use Rattle.ec_trace.specs.declared.fault.LineFault.TheVariants.{Bad, Refused, WrongReply}
-use Rattle.ec_trace.specs.declared.stage.Stage.TheVariants.{Opening, Running}
+use Rattle.ec_trace.specs.Stages.{Opening, Running}
 use Rattle.ec_trace.specs.Entries.{entry_of}
 use Rattle.ec_trace.specs.FirstFault.{Leads}
 use Rattle.ec_trace.specs.Recounted.{Recounted}

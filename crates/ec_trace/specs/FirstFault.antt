@@ -4,8 +4,7 @@ use Rattle.std.specs.List.{All, AllByRecursion}
 use Rattle.ec_trace.specs.declared.fault.LineFault.{LineFault}
 use Rattle.ec_trace.specs.declared.fault.LineFault.TheVariants.{Bad}
 use Rattle.ec_trace.specs.declared.fault.TraceFault.TheVariants.{TooLarge, Unfinished}
-use Rattle.ec_trace.specs.declared.stage.Stage.{Stage}
-use Rattle.ec_trace.specs.declared.stage.Stage.TheVariants.{Opening}
+use Rattle.ec_trace.specs.Stages.{Stage, Opening}
 use Rattle.ec_trace.specs.declared.read.TheConstants.{TRACE_MAX}
 use Rattle.ec_heading.specs.Spelling.{text_of}
 use Rattle.ec_trace.specs.Step.{step, is_ended}

@@ -3,8 +3,11 @@ pub mod WordTables
 pub mod Entries
 pub mod Fronts
 pub mod Recounted
+pub mod Stages
 pub mod Step
 pub mod Outcome
+pub mod Histories
+pub mod Reading
 pub mod ReadingLaws
 pub mod FirstFault
 pub mod EntryLines

@@ -1,5 +1,5 @@
 -- What a text comes to: a function of its bytes.
-use Rattle.std.specs.Prelude.{◌≡◌, ◌⊎◌, ◌≤◌, Option, Some, None, ℕ, ◌+◌, List, [], ◌∷◌, ◌++◌, length, take, Bool, Result, Ok, Err, if◌then◌else◌, ◌==◌, ◌&&◌, ◌||◌, nat_lt}
+use Rattle.std.specs.Prelude.{◌≡◌, ◌≤◌, Option, Some, ℕ, ◌+◌, List, [], ◌∷◌, ◌++◌, length, take, Bool, Result, Ok, Err, if◌then◌else◌, ◌==◌, ◌&&◌, ◌||◌, nat_lt}
 use Rattle.std.specs.List.{slice_split}
 use Rattle.std.specs.Io.KnownBytes.{Consumes}
 use Rattle.ec_trace.specs.declared.fault.LineFault.{LineFault}
@@ -8,8 +8,7 @@ use Rattle.ec_trace.specs.declared.fault.StageFault.{StageFault}
 use Rattle.ec_trace.specs.declared.fault.StageFault.TheVariants as stage
 use Rattle.ec_trace.specs.declared.fault.TraceFault.{TraceFault}
 use Rattle.ec_trace.specs.declared.fault.TraceFault.TheVariants.{BadLine, Refused, WrongReply, Unfinished, TooLarge, Read, Memory}
-use Rattle.ec_trace.specs.declared.stage.Stage.{Stage}
-use Rattle.ec_trace.specs.declared.stage.Stage.TheVariants.{Opening, Ended}
+use Rattle.ec_trace.specs.Stages.{Stage, Opening, Ended}
 use Rattle.ec_trace.specs.Recounted.{Recounted}
 use Rattle.ec_trace.specs.Step.{step, is_ended}
 
@@ -89,58 +88,3 @@ Tells max xs left (Ok t) = outcome max xs ≡ Ok t
 Tells max xs left (Err Memory) = Unit {0}
 Tells max xs left (Err Read) = HasNoFault max xs left
 Tells max xs left (Err fault) = outcome max xs ≡ Err fault
-
--- STEPS OF THE READER
-
--- what a call that was handed these bytes answered and left, whatever bytes follow
-abbrev pub FailsAs : TraceFault → Result Place TraceFault → Type 0
-FailsAs Memory r = Unit {0}
-FailsAs Read r = ⊥
-FailsAs fault r = r ≡ Err fault
-
-abbrev pub Moves : Result (Unit {0}) TraceFault → Place → Place → List ℕ → Type 0
-Moves (Ok x) old new bytes = (more : List ℕ) → goes_from new more ≡ goes_from old (bytes ++ more)
-Moves (Err e) old new bytes = (more : List ℕ) → FailsAs e (goes_from old (bytes ++ more))
-
--- the line in progress ends the text, or nothing that follows helps
-abbrev pub Rests : Result (Unit {0}) TraceFault → Place → Type 0
-Rests (Ok x) p = goes_from p [] ≡ Ok p
-Rests (Err f) p = (more : List ℕ) → FailsAs f (goes_from p more)
-
--- what is told of a read that failed at this place: a fault that nothing that follows mends, and the failed read only
--- where the line in progress has none. Want of memory would say nothing
-abbrev pub FailsThere : TraceFault → Place → Type 0
-FailsThere Memory p = Unit {0}
-FailsThere Read p = goes_from p [] ≡ Ok p
-FailsThere fault p = (more : List ℕ) → goes_from p more ≡ Err fault
-
--- what was read of an input brought the text to this place
-pub record Brought (xs ys : List ℕ) (p : Place) (taken : ℕ) : Type 0 where
-  pub given : List ℕ
-  pub whole : xs ≡ given ++ ys
-  pub len : length given ≡ taken
-  pub goes : (more : List ℕ) → goes_from p more ≡ goes_from start (given ++ more)
-
-abbrev pub Stands : Option (List ℕ) → Option (List ℕ) → Place → ℕ → Type 0
-Stands None now p n = Unit {0}
-Stands (Some xs) None p n = ⊥
-Stands (Some xs) (Some ys) p n = Brought xs ys p n
-
--- what the text comes to that ends at this place
-abbrev pub Finishes : Result Recounted TraceFault → Place → Type 0
-Finishes (Ok t) p = (goes_from p [] ≡ Ok p) × (ended_at p ≡ Ok t)
-Finishes (Err f) p = ((more : List ℕ) → FailsAs f (goes_from p more)) ⊎ ((f ≡ Unfinished) × (goes_from p [] ≡ Ok p) × (ended_at p ≡ Err Unfinished))
-
--- the same where its reading may have come to a fault
-abbrev pub Ends : Result (Unit {0}) TraceFault → Result Recounted TraceFault → Place → Type 0
-Ends (Ok x) r p = Finishes r p
-Ends (Err f) r p = r ≡ Err f
-
--- the whole input brought the text to this place, or its fault is told
-pub record Arrived (max : ℕ) (xs : List ℕ) (p : Place) : Type 0 where
-  pub within : length xs ≤ max
-  pub goes : (more : List ℕ) → goes_from p more ≡ goes_from start (xs ++ more)
-
-abbrev pub Arrives : ℕ → List ℕ → Option (List ℕ) → Result (Unit {0}) TraceFault → Place → Type 0
-Arrives max xs left (Ok x) p = Arrived max xs p
-Arrives max xs left (Err f) p = Tells max xs left (Err f)

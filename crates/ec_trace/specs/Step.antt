@@ -19,8 +19,7 @@ use Rattle.ec_trace.specs.declared.fault.LineFault.{LineFault}
 use Rattle.ec_trace.specs.declared.fault.LineFault.TheVariants.{Bad, Refused, WrongReply}
 use Rattle.ec_trace.specs.declared.fault.StageFault.{StageFault}
 use Rattle.ec_trace.specs.declared.fault.StageFault.TheVariants as faults
-use Rattle.ec_trace.specs.declared.stage.Stage.{Stage}
-use Rattle.ec_trace.specs.declared.stage.Stage.TheVariants.{Opening, Limiting, Declaring, Running, Ended}
+use Rattle.ec_trace.specs.Stages.{Stage, Opening, Limiting, Declaring, Running, Ended}
 
 -- THE VERSION
 
@@ -85,32 +84,11 @@ step (Declaring h) line =
 step (Running t) line = if bytes_eq line (codes "end") then Ok (Ended t) else ran_on (entry_step t line)
 step (Ended t) line = Err Bad
 
--- the run begins, and the trace ends
-abbrev pub run_on : Stage → Stage
-run_on (Declaring h) = Running (record { heading = h; entries = [] })
-run_on s = s
-
-abbrev pub ended_on : Stage → Stage
-ended_on (Running t) = Ended t
-ended_on s = s
-
-abbrev pub is_running : Stage → Bool
-is_running (Running t) = true
-is_running _ = false
-
-abbrev pub is_declaring : Stage → Bool
-is_declaring (Declaring h) = true
-is_declaring _ = false
-
 unfoldable pub is_ended : Stage → Bool
 is_ended (Ended t) = true
 is_ended _ = false
 
--- what a call answered and left is what the step gives, unless memory ran out
+-- why a call took no line is why the step refuses it, unless memory ran out
 abbrev pub StepFails : {S : Type 0} → StageFault → Result S LineFault → Type 0
 StepFails faults.Memory stepped = Unit {0}
 StepFails (faults.Line f) stepped = stepped ≡ Err f
-
-abbrev pub Steps : {S : Type 0} → Result (Unit {0}) StageFault → Result S LineFault → S → Type 0
-Steps (Ok x) stepped new = stepped ≡ Ok new
-Steps (Err e) stepped new = StepFails e stepped

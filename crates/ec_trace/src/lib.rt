@@ -4,11 +4,12 @@
 mod entry;
 mod fault;
 mod fronts;
-mod progress;
+mod history;
+mod lines;
+mod opening;
 mod read;
 mod reading_laws;
 mod spell;
-mod stage;
 mod traced;
 mod write;
 mod write_heading;
@@ -19,6 +20,9 @@ pub use ec_heading::{
     spelled_declaration_is_read, spelled_workers_are_read,
 };
 pub use fault::TraceFault;
+pub use history::{History, Watched};
+pub use lines::Lines;
+pub use opening::{Opened, open_trace};
 pub use read::{TRACE_MAX, read_trace};
 pub use reading_laws::{
     entries_are_spelled, failed_read_has_no_fault, fault_of_the_whole, faults_of_entries,

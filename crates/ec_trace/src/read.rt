@@ -1,56 +1,131 @@
 //! A whole trace, from a reader.
-ghost use Rattle.std.specs.Prelude.{◌≡◌, ◌≤◌, ◌<◌, ◌+◌, ◌^◌, IfSome, IfOk, IfErr, length, take};
-ghost use Rattle.ec_trace.specs.Outcome.{Arrives, Moves, Tells, start};
+ghost use Rattle.std.specs.Prelude.{◌≡◌, ℕ, List, [], IfSome, IfOk, IfErr, OnOk, MatchResult, Err};
+ghost use Rattle.ec_core.specs.declared.act.Entry.{Entry};
+ghost use Rattle.ec_heading.specs.Versions.{can_spell};
+ghost use Rattle.ec_trace.specs.Fronts.{AreKept};
+ghost use Rattle.ec_trace.specs.Histories.{history_of};
+ghost use Rattle.ec_trace.specs.Outcome.{Tells, fault_at};
+ghost use Rattle.ec_trace.specs.Reading.{IsOpened, TakesEntry, Recounts};
 ghost use Rattle.ec_trace.specs.ReadingLaws.{IsTraceOf, Refuses};
+ghost use Rattle.ec_trace.specs.Step.{entry_step};
 
-use crate::fault::TraceFault;
-use crate::progress::Progress;
+use crate::fault::{LineFault, StageFault, TraceFault};
+use crate::fronts::Fronts;
+use crate::history::History;
+use crate::lines::Lines;
+use crate::opening::{Opened, open_trace};
 use crate::traced::Traced;
-use arrayvec::ArrayVec;
-use ec_text::read_piece;
+use ec_core::{Act, Run, StepFault};
+use ec_heading::{Heading, Version};
 use std::alloc::Global;
 use std::io::Read;
 
 /// The most bytes that a trace may have.
 pub const TRACE_MAX: usize = 67_108_864;
 
-/// Takes the front of the table.
-fn feed_front(
-    progress: &mut Progress,
-    table: &ArrayVec<u8, 8192>,
-    n: usize,
-) -> Result<(), TraceFault>
-    requires within { n ≤ length table.now.items }
-    requires room { progress.old.number + n < 2 ^ 63 }
-    ensures number { progress.new.number ≤ progress.old.number + length (take n table.now.items) }
-    ensures moves { Moves result progress.old progress.new (take n table.now.items) }
+/// Whether a text of this version may have the act.
+#[inline(always)]
+fn can_spell(version: Version, act: &Act) -> bool
+    ensures { result ≡ can_spell version act.now }
 {
-    let bytes = table.as_slice();
-    progress.feed(&bytes[..n])
+    match *act {
+        Act::Hand(_, _) => version.has_hand(),
+        _ => true,
+    }
 }
 
-/// Reads to the end of the input, up to the first fault of a line.
-fn read_lines<R: Read>(reader: &mut R, progress: &mut Progress) -> Result<(), TraceFault>
-    requires { progress.old ≡ start }
-    ensures { IfSome (R.remaining reader.old) (λ bytes. Arrives TRACE_MAX bytes (R.remaining reader.new) result progress.new) }
+/// The fault of a line, with its number.
+fn fault_at(number: u64, fault: StageFault) -> TraceFault
+    ensures { result ≡ fault_at number fault }
 {
-    let mut table: ArrayVec<u8, 8192> = ArrayVec::from([0u8; 8192]);
-    let mut taken = 0usize;
-    loop {
-        let room = TRACE_MAX - taken;
-        match read_piece(reader, &mut table) {
-            Err(_) => return Err(progress.failed_read()),
-            Ok(0) => return Ok(()),
-            Ok(n) => {
-                if n > room {
-                    feed_front(progress, &table, room)?;
-                    progress.rest()?;
-                    return Err(TraceFault::TooLarge);
-                }
-                feed_front(progress, &table, n)?;
-                taken += n;
+    match fault {
+        StageFault::Memory => TraceFault::Memory,
+        StageFault::Line(LineFault::Bad) => TraceFault::BadLine(number),
+        StageFault::Line(LineFault::Refused(refusal)) => TraceFault::Refused(number, refusal),
+        StageFault::Line(LineFault::WrongReply(right)) => TraceFault::WrongReply(number, right),
+    }
+}
+
+/// Takes the next entry, by its line.
+#[inline(always)]
+fn take_entry<H: History>(
+    heading: &Heading,
+    fronts: &mut Fronts,
+    history: &mut H,
+    line: &[u8],
+) -> Result<(), StageFault>
+    requires { AreKept heading.now.words fronts.old }
+    ensures kept { OnOk result (AreKept heading.now.words fronts.new) }
+    ensures takes { (start : H) (entries : List Entry) → H.stands start history.old (history_of heading.now entries)
+        → TakesEntry heading.now (λ es. H.stands start history.new (history_of heading.now es)) (entry_step (record { heading = heading.now; entries = entries }) line.now) result }
+{
+    let Some(entry) = fronts.read(heading, line) else {
+        return Err(StageFault::Line(LineFault::Bad));
+    };
+    if !can_spell(heading.version(), &entry.act) {
+        return Err(StageFault::Line(LineFault::Bad));
+    }
+    match history.enter(entry.worker, entry.act) {
+        Ok(right) => {
+            if right == entry.reply {
+                Ok(())
+            } else {
+                Err(StageFault::Line(LineFault::WrongReply(right)))
             }
         }
+        Err(StepFault::Refused(refusal)) => Err(StageFault::Line(LineFault::Refused(refusal))),
+        Err(StepFault::Memory) => Err(StageFault::Memory),
+    }
+}
+
+impl Lines {
+    /// Reads the entries of a trace to its end, up to the first fault, and has each step made.
+    ///
+    /// Nothing grows with the text but what the history keeps. A failed read is not tried again, and a fault of what came before
+    /// it is told in its place.
+    pub fn read_entries<R: Read, H: History>(
+        mut self,
+        alloc: Global,
+        reader: &mut R,
+        heading: &Heading,
+        history: &mut H,
+    ) -> Result<(), TraceFault>
+        ensures stands { OnOk result ((start : H) → H.stands start history.old (history_of heading.now [])
+            → (entries : List Entry) × H.stands start history.new (history_of heading.now entries)) }
+        ensures recounts { (xs : List ℕ) (start : H) → IsOpened xs (R.remaining reader.old) self heading.now → H.stands start history.old (history_of heading.now [])
+            → Recounts xs (R.remaining reader.new) heading.now (H.stands start history.new) result }
+    {
+        let mut fronts = Fronts::none(alloc);
+        loop {
+            if let Err(fault) = self.next(reader) {
+                return Err(fault);
+            }
+            let line = self.line();
+            if line == b"end".as_slice() {
+                break;
+            }
+            if let Err(fault) = take_entry(heading, &mut fronts, history, line) {
+                return Err(fault_at(self.number(), fault));
+            }
+        }
+        self.end(reader)
+    }
+}
+
+/// Reads a trace, whose run is then kept.
+fn recorded<R: Read>(alloc: Global, reader: &mut R) -> Result<Traced, TraceFault>
+    ensures { IfSome (R.remaining reader.old) (λ bytes. Tells TRACE_MAX bytes (R.remaining reader.new) result) }
+{
+    let Opened { heading, lines } = match open_trace(alloc, reader) {
+        Ok(opened) => opened,
+        Err(fault) => return Err(fault),
+    };
+    let Ok(mut run) = Run::open(alloc, heading.setup().copy()) else {
+        return Err(TraceFault::Memory);
+    };
+    match lines.read_entries(alloc, reader, &heading, &mut run) {
+        Ok(()) => Ok(Traced { run, heading }),
+        Err(fault) => Err(fault),
     }
 }
 
@@ -63,7 +138,5 @@ pub fn read_trace<R: Read>(alloc: Global, reader: &mut R) -> Result<Traced, Trac
     ensures trace { IfSome (R.remaining reader.old) (λ bytes. IfOk result (IsTraceOf bytes)) }
     ensures refused { IfSome (R.remaining reader.old) (λ bytes. IfErr result (λ fault. Refuses fault bytes)) }
 {
-    let mut progress = Progress::new(alloc);
-    let read = read_lines(reader, &mut progress);
-    progress.finish(read)
+    recorded(alloc, reader)
 }

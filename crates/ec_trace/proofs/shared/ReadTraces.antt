@@ -23,8 +23,7 @@ use Rattle.ec_heading.specs.HeadingLaws.{LinesLead, Outlines, outline_lines}
 use Rattle.ec_heading.specs.declared.heading.HeadFault.{HeadFault}
 use Rattle.ec_heading.specs.declared.heading.HeadFault.TheVariants as head_faults
 use Rattle.ec_trace.specs.declared.fault.LineFault.{LineFault}
-use Rattle.ec_trace.specs.declared.stage.Stage.{Stage}
-use Rattle.ec_trace.specs.declared.stage.Stage.TheVariants.{Opening, Limiting, Declaring, Running, Ended}
+use Rattle.ec_trace.specs.Stages.{Stage, Opening, Limiting, Declaring, Running, Ended}
 use Rattle.ec_trace.specs.declared.fault.TraceFault.{TraceFault}
 use Rattle.ec_trace.specs.declared.fault.TraceFault.TheVariants.{Read, Memory}
 use Rattle.ec_trace.specs.Recounted.{Recounted}

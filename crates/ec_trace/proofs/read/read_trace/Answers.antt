@@ -1,12 +1,8 @@
-use Rattle.ec_trace.proofs.Stood.{ends}
 use Rattle.ec_trace.proofs.shared.ReadTraces.{told_trace, told_fault}
 use Rattle.ec_trace.proofs.read.read_trace.Goals as goal
 
-pub returns-clause-tells : goal.returns-clause-tells
-returns-clause-tells g c = ends 67108864 (g.R.Read.remaining c.args.reader.now) _ _ _ _ c.read_lines-read.ensures c.finish.ensures
-
 pub returns-clause-trace : goal.returns-clause-trace
-returns-clause-trace g c = told_trace (g.R.Read.remaining c.args.reader.now) _ _ (ends 67108864 (g.R.Read.remaining c.args.reader.now) _ _ _ _ c.read_lines-read.ensures c.finish.ensures)
+returns-clause-trace g c = told_trace (g.R.Read.remaining c.args.reader.now) _ _ c.recorded.ensures
 
 pub returns-clause-refused : goal.returns-clause-refused
-returns-clause-refused g c = told_fault (g.R.Read.remaining c.args.reader.now) _ _ (ends 67108864 (g.R.Read.remaining c.args.reader.now) _ _ _ _ c.read_lines-read.ensures c.finish.ensures)
+returns-clause-refused g c = told_fault (g.R.Read.remaining c.args.reader.now) _ _ c.recorded.ensures

@@ -1,0 +1,85 @@
+-- What the line of an entry does to a history.
+use Rattle.std.proofs.Common.{◌≡◌, ◌≤◌, List, [], ◌∷◌, ◌++◌, ℕ, true, false, Option, Some, None, Result, Ok, Err, MatchResult, reverse, codes, arith, refl, ap, ◌∙◌}
+use Rattle.std.specs.Prelude.{bytes_eq}
+use Rattle.std.proofs.lemmas.Bool.{cond-true, cond-false}
+use Rattle.std.proofs.lemmas.Bool.Decides.{nat_tests}
+use Rattle.ec_core.specs.Acceptance.{answer_of}
+use Rattle.ec_core.specs.declared.act.Entry.{Entry}
+use Rattle.ec_core.specs.Recorded.{Recorded}
+use Rattle.ec_core.specs.declared.act.Reply.{Reply}
+use Rattle.ec_core.specs.declared.act.Reply.TheVariants.{Done, Number, Pending}
+use Rattle.ec_core.specs.declared.act.Refusal.{Refusal}
+use Rattle.ec_heading.specs.Versions.{can_spell}
+use Rattle.ec_heading.specs.Headed.{Headed}
+use Rattle.ec_trace.specs.Entries.{entry_of}
+use Rattle.ec_trace.specs.Histories.{history_of}
+use Rattle.ec_trace.specs.Outcome.{outcome, fault_at, Tells}
+use Rattle.ec_trace.specs.Reading.{Reading, Reaches, HasLine, TakesEntry, Recounts}
+use Rattle.ec_trace.specs.Recounted.{Recounted}
+use Rattle.ec_trace.specs.Stages.{Running, Ended}
+use Rattle.ec_trace.specs.Step.{step, entry_step, entered, answered, same_reply, ran_on}
+use Rattle.ec_trace.specs.declared.fault.StageFault.{StageFault}
+use Rattle.ec_trace.specs.declared.fault.StageFault.TheVariants as stage_faults
+use Rattle.ec_trace.specs.declared.fault.TraceFault.{TraceFault}
+use Rattle.ec_trace.specs.declared.read.TheConstants.{TRACE_MAX}
+use Rattle.ec_trace.proofs.Readings.{line_taken, line_refused}
+use Rattle.ec_trace.specs.declared.fault.LineFault.TheVariants.{Bad, Refused, WrongReply}
+
+pub spells_none : (t : Recounted) (line : List ℕ) → entry_of t.heading.words line ≡ None → entry_step t line ≡ Err Bad
+unfolding entry_step
+spells_none t line e = ap (entered t) e
+
+module _ (t : Recounted) (line : List ℕ) (e : Entry) (spells : entry_of t.heading.words line ≡ Some e) where
+  pub other_version : can_spell t.heading.version e.act ≡ false → entry_step t line ≡ Err Bad
+  unfolding entry_step
+  other_version may = ap (entered t) spells ∙ cond-false _ _ _ may
+
+  answers : can_spell t.heading.version e.act ≡ true → entry_step t line ≡ answered t e (answer_of t.heading.setup (reverse t.entries) e.worker e.act)
+  unfolding entry_step
+  answers may = ap (entered t) spells ∙ cond-true _ _ _ may
+
+  pub entry_refused : (r : Refusal) → can_spell t.heading.version e.act ≡ true → answer_of t.heading.setup (reverse t.entries) e.worker e.act ≡ Err r → entry_step t line ≡ Err (Refused r)
+  entry_refused r may answer = answers may ∙ ap (answered t e) answer
+
+  pub reply_wrong : (right : Reply) → can_spell t.heading.version e.act ≡ true → answer_of t.heading.setup (reverse t.entries) e.worker e.act ≡ Ok right → same_reply right e.reply ≡ false → entry_step t line ≡ Err (WrongReply right)
+  reply_wrong right may answer other = answers may ∙ ap (answered t e) answer ∙ cond-false _ _ _ other
+
+  pub entry_right : (right : Reply) → can_spell t.heading.version e.act ≡ true → answer_of t.heading.setup (reverse t.entries) e.worker e.act ≡ Ok right → same_reply right e.reply ≡ true
+      → entry_step t line ≡ Ok (record { heading = t.heading; entries = t.entries ++ e ∷ [] })
+  entry_right right may answer same = answers may ∙ ap (answered t e) answer ∙ cond-true _ _ _ same
+
+-- the same reply is the same
+pub is_same : (a b : Reply) → same_reply a b ≡ true → a ≡ b
+is_same Done Done e = refl
+is_same Pending Pending e = refl
+is_same (Number m) (Number n) e = ap Number (grind (arith, nat_tests))
+is_same Done (Number n) e = cc
+is_same Done Pending e = cc
+is_same Pending Done e = cc
+is_same Pending (Number n) e = cc
+is_same (Number m) Done e = cc
+is_same (Number m) Pending e = cc
+
+-- LINES
+
+module _ (xs : List ℕ) (left : Option (List ℕ)) (r : Reading) (h : Headed) (entries : List Entry) where
+  abbrev told : Recounted
+  told = record { heading = h; entries = entries }
+
+  pub entry_line_taken : (next : List Entry) → HasLine xs left r r.line (Running told) → bytes_eq r.line (codes "end") ≡ false → entry_step told r.line ≡ Ok (record { heading = h; entries = next }) → Reaches xs left r (Running (record { heading = h; entries = next }))
+  unfolding step
+  entry_line_taken next b other e = line_taken xs left r r.line (Running told) (Running (record { heading = h; entries = next })) b (cond-false _ _ _ other ∙ ap ran_on e)
+
+  pub entry_line_refused : (after : List Entry → Type 0) (fault : StageFault) → HasLine xs left r r.line (Running told) → bytes_eq r.line (codes "end") ≡ false → r.taken ≤ TRACE_MAX → TakesEntry h after (entry_step told r.line) (Err fault) → Tells TRACE_MAX xs left (Err (fault_at r.number fault))
+  unfolding step
+  entry_line_refused after stage_faults.Memory b other small e = tt
+  entry_line_refused after (stage_faults.Line f) b other small e = line_refused xs left r r.line (Running told) f b (cond-false _ _ _ other ∙ ap ran_on e) small
+
+  pub end_line_taken : HasLine xs left r r.line (Running told) → bytes_eq r.line (codes "end") ≡ true → Reaches xs left r (Ended told)
+  unfolding step
+  end_line_taken b is = line_taken xs left r r.line (Running told) (Ended told) b (cond-true _ _ _ is)
+
+-- the end of the text, behind the last line
+pub recounts : (xs : List ℕ) (left : Option (List ℕ)) (h : Headed) (entries : List Entry) (after : Recorded → Type 0) (r : Result (Unit {0}) TraceFault) → MatchResult r (λ _. outcome TRACE_MAX xs ≡ Ok (record { heading = h; entries = entries })) (λ f. Tells TRACE_MAX xs left (Err f)) → after (history_of h entries) → Recounts xs left h after r
+recounts xs left h entries after (Ok x) e stands = (entries, e, stands)
+recounts xs left h entries after (Err f) e stands = e

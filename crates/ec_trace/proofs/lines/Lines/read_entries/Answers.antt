@@ -1,0 +1,53 @@
+use Rattle.std.proofs.Common.{◌≡◌, true, false, Ok, Err, codes, refl, ap, sym, ◌∙◌, subst}
+use Rattle.std.specs.Prelude.{bytes_eq}
+use Rattle.ec_trace.specs.Histories.{history_of}
+use Rattle.ec_trace.specs.Reading.{TakesEntry}
+use Rattle.ec_trace.specs.Outcome.{Tells, fault_at}
+use Rattle.ec_trace.specs.Stages.{Running}
+use Rattle.ec_trace.specs.Step.{entry_step, is_ended}
+use Rattle.ec_trace.specs.declared.read.TheConstants.{TRACE_MAX}
+use Rattle.ec_trace.proofs.EntrySteps.{entry_line_taken, entry_line_refused, end_line_taken, recounts}
+use Rattle.ec_trace.proofs.lines.Lines.read_entries.Goals as goal
+
+pub returns-in-Err-clause-recounts : goal.returns-in-Err-clause-recounts
+unfolding is_ended
+returns-in-Err-clause-recounts g c = λ xs first begun stands.
+    let i = c.loop-fault.invariant.stands first stands in
+    c.in-Err.ensures.comes xs (Running (record { heading = c.args.heading.now; entries = i.0 })) refl (i.2 xs begun)
+
+pub returns-in-Err-take_entry-clause-recounts : goal.returns-in-Err-take_entry-clause-recounts
+unfolding is_ended
+returns-in-Err-take_entry-clause-recounts g c = λ xs first begun stands.
+    let i = c.loop-fault.invariant.stands first stands in
+    let came = c.in_default.ensures.comes xs (Running (record { heading = c.args.heading.now; entries = i.0 })) refl (i.2 xs begun) in
+    let other : bytes_eq c.next.new.self.line (codes "end") ≡ false = ap (λ l. bytes_eq l (codes "end")) (sym c.line-line.ensures) ∙ ap (bytes_eq c.line-line.result.now) (sym c.as_slice.ensures) ∙ sym c.if-eq.ensures in
+    let fails = subst (λ l. TakesEntry c.args.heading.now (λ es. g.H.History.stands first c.take_entry.new.history (history_of c.args.heading.now es)) (entry_step (record { heading = c.args.heading.now; entries = i.0 }) l) (Err c.in-Err-take_entry.fault)) c.line-line.ensures (c.in-Err-take_entry.ensures.takes first i.0 i.1) in
+    subst (λ f. Tells TRACE_MAX xs (g.R.Read.remaining c.next.new.reader) (Err f)) (sym (c.fault_at.ensures ∙ ap (λ n. fault_at n c.in-Err-take_entry.fault) c.number.ensures))
+    (entry_line_refused xs (g.R.Read.remaining c.next.new.reader) c.next.new.self c.args.heading.now i.0 (λ es. g.H.History.stands first c.take_entry.new.history (history_of c.args.heading.now es)) c.in-Err-take_entry.fault came other c.in_default.ensures.more.1 fails)
+
+pub loop-fault-preserved : goal.loop-fault-preserved
+unfolding is_ended
+loop-fault-preserved g c = record {
+  kept = c.in_default-take_entry.ensures.kept;
+  stands = λ first stands.
+      let i = c.loop-fault.invariant.stands first stands in
+      let other : bytes_eq c.next.new.self.line (codes "end") ≡ false = ap (λ l. bytes_eq l (codes "end")) (sym c.line-line.ensures) ∙ ap (bytes_eq c.line-line.result.now) (sym c.as_slice.ensures) ∙ sym c.if-eq.ensures in
+      let taken = c.in_default-take_entry.ensures.takes first i.0 i.1 in
+      let step : entry_step (record { heading = c.args.heading.now; entries = i.0 }) c.next.new.self.line ≡ Ok (record { heading = c.args.heading.now; entries = taken.0 }) =
+      ap (entry_step (record { heading = c.args.heading.now; entries = i.0 })) (sym c.line-line.ensures) ∙ taken.1 in (
+        taken.0,
+        taken.2,
+        λ xs begun.
+            let came = c.in_default.ensures.comes xs (Running (record { heading = c.args.heading.now; entries = i.0 })) refl (i.2 xs begun) in
+            entry_line_taken xs (g.R.Read.remaining c.next.new.reader) c.next.new.self c.args.heading.now i.0 taken.0 came other step,
+      );
+}
+
+pub returns-clause-recounts : goal.returns-clause-recounts
+unfolding is_ended
+returns-clause-recounts g c = λ xs first begun stands.
+    let i = c.loop-fault.invariant.stands first stands in
+    let came = c.in_default.ensures.comes xs (Running (record { heading = c.args.heading.now; entries = i.0 })) refl (i.2 xs begun) in
+    let is_end : bytes_eq c.next.new.self.line (codes "end") ≡ true = ap (λ l. bytes_eq l (codes "end")) (sym c.line-line.ensures) ∙ ap (bytes_eq c.line-line.result.now) (sym c.as_slice.ensures) ∙ sym c.if-eq.ensures in
+    recounts xs (g.R.Read.remaining c.end.new.reader) c.args.heading.now i.0 (g.H.History.stands first c.loop-fault.history) _
+    (c.end.ensures xs (record { heading = c.args.heading.now; entries = i.0 }) (end_line_taken xs (g.R.Read.remaining c.next.new.reader) c.next.new.self c.args.heading.now i.0 came is_end)) i.1

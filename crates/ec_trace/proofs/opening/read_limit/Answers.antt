@@ -1,0 +1,25 @@
+use Rattle.std.proofs.Common.{refl, ap, sym, ◌∙◌, subst}
+use Rattle.ec_trace.specs.Step.{is_ended, limit_of}
+use Rattle.ec_trace.specs.Stages.{Limiting, Declaring}
+use Rattle.ec_trace.specs.Reading.{Reaches}
+use Rattle.ec_trace.proofs.Readings.{line_taken, line_refused}
+use Rattle.ec_trace.proofs.OpeningLines.{limit_line, no_limit_line}
+use Rattle.ec_trace.proofs.opening.read_limit.Goals as goal
+
+pub returns-in-Err : goal.returns-in-Err
+unfolding is_ended
+returns-in-Err g c = λ xs reached. c.in-Err.ensures.comes xs (Limiting c.args.version) refl reached
+
+pub returns-in_default-limit_of : goal.returns-in_default-limit_of
+unfolding is_ended
+returns-in_default-limit_of g c = λ xs reached.
+    rw c.number.ensures
+    (line_refused xs (g.R.Read.remaining c.next.new.reader) c.next.new.self c.next.new.self.line (Limiting c.args.version) _ (c.in_default.ensures.comes xs (Limiting c.args.version) refl reached)
+    (no_limit_line c.args.version c.next.new.self.line (ap (limit_of c.args.version) (sym c.line.ensures) ∙ sym c.in_default-limit_of.ensures.value)) c.in_default.ensures.more.1)
+
+pub returns-in-Ok : goal.returns-in-Ok
+unfolding is_ended
+returns-in-Ok g c = λ xs reached.
+    subst (λ h. Reaches xs (g.R.Read.remaining c.next.new.reader) c.next.new.self (Declaring h)) (sym c.in-Ok.ensures)
+    (line_taken xs (g.R.Read.remaining c.next.new.reader) c.next.new.self c.next.new.self.line (Limiting c.args.version) _ (c.in_default.ensures.comes xs (Limiting c.args.version) refl reached)
+    (limit_line c.args.version c.next.new.self.line _ (ap (limit_of c.args.version) (sym c.line.ensures) ∙ sym c.in-Some.ensures.value)))

@@ -1,0 +1,25 @@
+-- Histories, as those stand for them who keep one or only watch it.
+use Rattle.std.specs.Prelude.{◌≡◌, ℕ, List, [], ◌∷◌, ◌++◌, Result, Ok, Err, reverse}
+use Rattle.ec_core.specs.Acceptance.{answer_of}
+use Rattle.ec_core.specs.Recorded.{Recorded}
+use Rattle.ec_core.specs.declared.act.Act.{Act}
+use Rattle.ec_core.specs.declared.act.Reply.{Reply}
+use Rattle.ec_core.specs.declared.act.Entry.{Entry}
+use Rattle.ec_core.specs.declared.run.StepFault.{StepFault}
+use Rattle.ec_core.specs.declared.run.StepFault.TheVariants.{Refused, Memory}
+use Rattle.ec_heading.specs.Headed.{Headed}
+
+-- the history under a heading with these entries
+abbrev pub history_of : Headed → List Entry → Recorded
+history_of h entries = record { setup = h.setup; entries = entries }
+
+-- the history with one more entry
+abbrev pub with_entry : Recorded → ℕ → Act → Reply → Recorded
+with_entry h w a r = record { setup = h.setup; entries = h.entries ++ record { worker = w; act = a; reply = r } ∷ [] }
+
+-- what was answered to a step after a history: the right reply, and what is then so of the history with this entry; or the refusal, or
+-- that memory was refused
+abbrev pub Enters : (Recorded → Type 0) → Recorded → ℕ → Act → Result Reply StepFault → Type 0
+Enters after h w a (Ok r) = (answer_of h.setup (reverse h.entries) w a ≡ Ok r) × after (with_entry h w a r)
+Enters after h w a (Err (Refused refusal)) = answer_of h.setup (reverse h.entries) w a ≡ Err refusal
+Enters after h w a (Err Memory) = Unit {0}

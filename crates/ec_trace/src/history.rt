@@ -1,0 +1,94 @@
+//! Who is handed the steps of a trace.
+ghost use Rattle.std.specs.Prelude.{◌≡◌, List, [], reverse, length};
+ghost use Rattle.ec_core.specs.Calls.{under_way};
+ghost use Rattle.ec_core.specs.Following.{opened};
+ghost use Rattle.ec_core.specs.Recorded.{Recorded};
+ghost use Rattle.ec_core.specs.Standing.{StandsFor};
+ghost use Rattle.ec_core.specs.declared.act.Entry.{Entry};
+ghost use Rattle.ec_trace.specs.Histories.{Enters};
+
+use ec_core::{Act, Audit, Entry, Reply, Run, StepFault, World};
+use ec_count::{Setup, WorkerId};
+
+/// Who stands for a history, and makes its next step. A `Run` keeps the history, a `Watched` doesn't.
+pub trait History {
+    // What stands for a history, given what was there at first.
+    ghost stands: { Self → Self → Recorded → Type 0 };
+
+    /// Makes a step, which is answered as the history answers it, and stands for the history with its entry then.
+    fn enter(&mut self, worker: WorkerId, act: Act) -> Result<Reply, StepFault>
+        ensures { (start : Self) (h : Recorded) → stands start self.old h → Enters (stands start self.new) h worker act result };
+}
+
+impl History for Run {
+    ghost stands = { λ start now h. now ≡ h };
+
+    #[inline(always)]
+    fn enter(&mut self, worker: WorkerId, act: Act) -> Result<Reply, StepFault> {
+        self.step(worker, act)
+    }
+}
+
+/// A world and an audit that is handed each entry. It keeps no entry.
+#[derive(Drop)]
+pub struct Watched<A> {
+    world: World,
+    place: usize,
+    audit: A,
+}
+
+/// The act that began the call that an act is part of, given the world before it.
+#[inline(always)]
+fn begun_by(world: &World, worker: WorkerId, act: &Act) -> Act
+    ensures { (h : List Entry) → StandsFor world.now h → result ≡ opened act.now (under_way worker (reverse h)) }
+{
+    match *act {
+        Act::Go => match world.under_way(worker) {
+            Some(call) => call.op(),
+            None => Act::Go,
+        },
+        other => other,
+    }
+}
+
+impl<A: Audit> Watched<A> {
+    /// Before the first step on these declarations.
+    pub fn new(setup: Setup, audit: A) -> Self
+        requires { A.stands audit audit [] }
+        ensures audit { result.audit ≡ audit }
+        ensures first { ⟦<Watched<A> as History>⟧.stands result result (record { setup = setup; entries = [] }) }
+    {
+        Watched {
+            world: World::open(setup),
+            place: 0,
+            audit,
+        }
+    }
+
+    /// The audit, with what it gathered.
+    pub fn into_audit(self) -> A
+        ensures { result ≡ self.audit }
+    {
+        self.audit
+    }
+}
+
+impl<A: Audit> History for Watched<A> {
+    ghost stands = { λ start now h. StandsFor now.world h.entries × (now.world.setup ≡ h.setup) × (now.place ≡ length h.entries) × A.stands start.audit now.audit (reverse h.entries) };
+
+    #[inline(always)]
+    fn enter(&mut self, worker: WorkerId, act: Act) -> Result<Reply, StepFault> {
+        let Some(next) = self.place.checked_add(1) else {
+            return Err(StepFault::Memory);
+        };
+        let op = begun_by(&self.world, worker, &act);
+        let reply = match self.world.step(worker, act) {
+            Ok(reply) => reply,
+            Err(refusal) => return Err(StepFault::Refused(refusal)),
+        };
+        let entry = Entry { worker, act, reply };
+        self.audit.take(self.place, &op, &entry);
+        self.place = next;
+        Ok(reply)
+    }
+}

@@ -1,0 +1,158 @@
+//! The lines of a trace up to its `run`.
+ghost use Rattle.std.specs.Prelude.{◌≡◌, ◌≤◌, ℕ, List, IfSome, MatchResult, Err};
+ghost use Rattle.ec_heading.specs.Spelling.{trace_header};
+ghost use Rattle.ec_heading.specs.Versions.{greatest_limit, version_of};
+ghost use Rattle.ec_trace.specs.Outcome.{Tells};
+ghost use Rattle.ec_trace.specs.Reading.{Declares, Reaches, IsOpened, is_run};
+ghost use Rattle.ec_trace.specs.Stages.{Opening, Limiting, Declaring};
+ghost use Rattle.ec_trace.specs.Step.{limit_of};
+
+use crate::fault::TraceFault;
+use crate::lines::Lines;
+use crate::read::TRACE_MAX;
+use crate::write_heading::first_line;
+use ec_count::Limit;
+use ec_heading::{HeadFault, Heading, Version};
+use ec_text::{cut_word, number};
+use std::alloc::Global;
+use std::io::Read;
+
+/// What the first lines of a trace declare, and the lines behind its `run`.
+#[derive(Drop)]
+pub struct Opened {
+    pub heading: Heading,
+    pub lines: Lines,
+}
+
+/// The version whose first line this is.
+fn version_of(line: &[u8]) -> Option<Version>
+    ensures { result ≡ version_of trace_header line.now }
+{
+    if line == first_line(Version::One) {
+        return Some(Version::One);
+    }
+    if line == first_line(Version::Two) {
+        return Some(Version::Two);
+    }
+    None
+}
+
+/// The limit that a line gives, if it gives one that the version may have.
+#[tactic(auto, using(crate::proofs::ReadEntries::third_word), unfolding(crate::specs::Step::limit_of))]
+fn limit_of(version: Version, line: &[u8]) -> Option<Limit>
+    ensures value { result ≡ limit_of version line.now }
+    ensures within { IfSome result (λ limit. limit ≤ greatest_limit version) }
+{
+    let (word, Some(rest)) = cut_word(line) else {
+        return None;
+    };
+    let (digits, None) = cut_word(rest) else {
+        return None;
+    };
+    if word != b"limit".as_slice() {
+        return None;
+    }
+    version.limit(number(digits)?)
+}
+
+/// Reads the first line.
+fn read_version<R: Read>(lines: &mut Lines, reader: &mut R) -> Result<Version, TraceFault>
+    ensures { (xs : List ℕ) → Reaches xs (R.remaining reader.old) lines.old Opening → MatchResult result
+        (λ version. Reaches xs (R.remaining reader.new) lines.new (Limiting version))
+        (λ fault. Tells TRACE_MAX xs (R.remaining reader.new) (Err fault)) }
+{
+    if let Err(fault) = lines.next(reader) {
+        return Err(fault);
+    }
+    match version_of(lines.line()) {
+        Some(version) => Ok(version),
+        None => Err(TraceFault::BadLine(lines.number())),
+    }
+}
+
+/// Reads the line of the limit.
+fn read_limit<R: Read>(
+    alloc: Global,
+    version: Version,
+    lines: &mut Lines,
+    reader: &mut R,
+) -> Result<Heading, TraceFault>
+    ensures { (xs : List ℕ) → Reaches xs (R.remaining reader.old) lines.old (Limiting version) → MatchResult result
+        (λ heading. Reaches xs (R.remaining reader.new) lines.new (Declaring heading))
+        (λ fault. Tells TRACE_MAX xs (R.remaining reader.new) (Err fault)) }
+{
+    if let Err(fault) = lines.next(reader) {
+        return Err(fault);
+    }
+    let Some(limit) = limit_of(version, lines.line()) else {
+        return Err(TraceFault::BadLine(lines.number()));
+    };
+    match Heading::new(alloc, version, limit) {
+        Ok(heading) => Ok(heading),
+        Err(_) => Err(TraceFault::Memory),
+    }
+}
+
+/// Takes a line of workers or of a declaration.
+fn declare(heading: &mut Heading, lines: &Lines) -> Result<(), TraceFault>
+    ensures { Declares result heading.old heading.new lines.now }
+{
+    match heading.line(lines.line()) {
+        Ok(()) => Ok(()),
+        Err(HeadFault::Memory) => Err(TraceFault::Memory),
+        Err(_) => Err(TraceFault::BadLine(lines.number())),
+    }
+}
+
+/// Whether the line is the last before the entries: there are workers, who may make some.
+fn is_run(heading: &Heading, line: &[u8]) -> bool
+    ensures { result ≡ is_run heading.now line.now }
+{
+    line == b"run".as_slice() && heading.setup().workers() > 0
+}
+
+/// Reads the line of the workers and the declarations, up to the line `run`.
+fn read_declarations<R: Read>(
+    heading: &mut Heading,
+    lines: &mut Lines,
+    reader: &mut R,
+) -> Result<(), TraceFault>
+    ensures { (xs : List ℕ) → Reaches xs (R.remaining reader.old) lines.old (Declaring heading.old) → MatchResult result
+        (λ _. IsOpened xs (R.remaining reader.new) lines.new heading.new)
+        (λ fault. Tells TRACE_MAX xs (R.remaining reader.new) (Err fault)) }
+{
+    loop {
+        if let Err(fault) = lines.next(reader) {
+            return Err(fault);
+        }
+        if is_run(heading, lines.line()) {
+            return Ok(());
+        }
+        if let Err(fault) = declare(heading, lines) {
+            return Err(fault);
+        }
+    }
+}
+
+/// Reads a trace up to its line `run`, and the rest of the piece in which that ends.
+///
+/// The entries are then read by `Lines::read_entries`, from the same reader.
+pub fn open_trace<R: Read>(alloc: Global, reader: &mut R) -> Result<Opened, TraceFault>
+    ensures { IfSome (R.remaining reader.old) (λ bytes. MatchResult result
+        (λ opened. IsOpened bytes (R.remaining reader.new) opened.lines opened.heading)
+        (λ fault. Tells TRACE_MAX bytes (R.remaining reader.new) (Err fault))) }
+{
+    let mut lines = Lines::new();
+    let version = match read_version(&mut lines, reader) {
+        Ok(version) => version,
+        Err(fault) => return Err(fault),
+    };
+    let mut heading = match read_limit(alloc, version, &mut lines, reader) {
+        Ok(heading) => heading,
+        Err(fault) => return Err(fault),
+    };
+    match read_declarations(&mut heading, &mut lines, reader) {
+        Ok(()) => Ok(Opened { heading, lines }),
+        Err(fault) => Err(fault),
+    }
+}
