@@ -7,12 +7,13 @@ ghost use Rattle.ec_buffer.specs.Items.{AreDeliveries};
 ghost use Rattle.ec_database.specs.Auditing.{shown};
 ghost use Rattle.ec_database.specs.Following.{FollowsDatabase, database_rules};
 ghost use Rattle.ec_database.specs.Tries.{ListsTries, AreUndisturbed};
+ghost use Rattle.ec_semaphore.specs.Auditing.{IsCounted, IsPairing};
 ghost use Rattle.ec_semaphore.specs.Balances.{parts_of};
 ghost use Rattle.ec_semaphore.specs.Uses.{use_rules};
 ghost use Rattle.ec_semaphore.specs.Both.{is_line, both_rules};
 ghost use Rattle.ec_heading.specs.Groups.{FitsGroup};
 ghost use Rattle.evc_engine.specs.AuditTexts.{now_of};
-ghost use Rattle.evc_engine.specs.Walks.{DeliversFor, VersionsFor, CountsFor, StandsFor};
+ghost use Rattle.evc_engine.specs.Walks.{DeliversFor, VersionsFor, CountsFor, PairsFor, StandsFor};
 ghost use Rattle.ec_heading.specs.Rules.{semaphores_of, group_rules};
 ghost use Rattle.evc_engine.specs.Audits.{IsPairsOf, IsAudited, AreAudited, IsStop, stop_status, stop_note, AuditEnds, Audits};
 ghost use Rattle.ec_text.specs.Puts.{Puts, IsWrittenOut};
@@ -22,11 +23,11 @@ use crate::audited::Audited;
 use crate::checking::status_of;
 use crate::notes::{say_fault, say_not_followed};
 use crate::status::Status;
-use crate::walked::{Auditing, audits_of};
+use crate::walked::{Auditing, BothAudit, audits_of};
 use ec_buffer::{BufferShape, Delivery};
 use ec_core::{AuditFault, Run};
 use ec_database::{Accepted, DatabaseShape};
-use ec_semaphore::{Balance, SemaphoreShape, pairs};
+use ec_semaphore::{Balance, BalanceAudit, SemaphoreShape};
 use ec_text::Out;
 use ec_trace::{Group, Heading, Traced, read_trace, semaphores_of};
 use std::alloc::{AllocError, Global};
@@ -54,6 +55,7 @@ fn deliveries_of(
         Auditing::Deliveries(audit) => audit.deliveries(run),
         Auditing::Versions(_) => unreachable!(),
         Auditing::Balance(_) => unreachable!(),
+        Auditing::Both(_) => unreachable!(),
     }
 }
 
@@ -73,72 +75,94 @@ fn versions_of(
         Auditing::Deliveries(_) => unreachable!(),
         Auditing::Versions(audit) => audit.versions(run),
         Auditing::Balance(_) => unreachable!(),
+        Auditing::Both(_) => unreachable!(),
     }
 }
 
-/// The parts of a semaphore's balance, from its audit in the walk over the whole run.
-fn balance_of(
-    run: &Run,
-    shape: &SemaphoreShape,
-    auditing: &Auditing<'_>,
-) -> Result<Balance, AuditFault>
-    requires { CountsFor shape.now auditing.now (reverse run.now.entries) }
-    ensures ok { IsOk result ↔ Follow (use_rules shape.now) (reverse run.now.entries) }
-    ensures parts { IfOk result (λ b. b ≡ parts_of shape.now (reverse run.now.entries)) }
-    ensures few { IfOk result (λ b. b.downs ≤ b.initial + b.ups) }
-    ensures small { IfOk result (λ b. b.initial + b.ups < 2 ^ 64) }
-    ensures err { IfErr result (IsFirstBreak (use_rules shape.now) run.now.entries) }
-{
-    match auditing {
-        Auditing::Deliveries(_) => unreachable!(),
-        Auditing::Versions(_) => unreachable!(),
-        Auditing::Balance(audit) => audit.balance(run),
-    }
-}
-
-/// The balance of a semaphore, by its parts and as a number.
+/// The balance of a semaphore, by its parts and as a number, from its audit in the walk over the
+/// whole run.
 fn balance_now(
     run: &Run,
     shape: &SemaphoreShape,
-    auditing: &Auditing<'_>,
+    audit: &BalanceAudit,
 ) -> Result<(Balance, u64), AuditFault>
-    requires { CountsFor shape.now auditing.now (reverse run.now.entries) }
+    requires shape { audit.now.shape ≡ shape.now }
+    requires counted { IsCounted audit.now (reverse run.now.entries) }
     ensures ok { IsOk result ↔ Follow (use_rules shape.now) (reverse run.now.entries) }
     ensures parts { IfOk result (λ b. b.0 ≡ parts_of shape.now (reverse run.now.entries)) }
     ensures now { IfOk result (λ b. b.1 ≡ now_of b.0) }
     ensures err { IfErr result (IsFirstBreak (use_rules shape.now) run.now.entries) }
 {
-    match balance_of(run, shape, auditing) {
+    match audit.balance(run) {
         Ok(parts) => Ok((parts, parts.initial + parts.ups - parts.downs)),
         Err(fault) => Err(fault),
     }
 }
 
-/// What the audit of `both` finds: its pairs, by its own rule, and its balance.
-fn audit_both(
-    alloc: Global,
+/// The balance of a semaphore, from its audit.
+fn balance_of(
     run: &Run,
     shape: &SemaphoreShape,
-    auditing: &Auditing<'_>,
-    semaphores: &[SemaphoreShape],
-) -> Result<Audited, AuditFault>
+    auditing: Auditing<'_>,
+) -> Result<(Balance, u64), AuditFault>
+    requires { CountsFor shape.now auditing (reverse run.now.entries) }
+    ensures ok { IsOk result ↔ Follow (use_rules shape.now) (reverse run.now.entries) }
+    ensures parts { IfOk result (λ b. b.0 ≡ parts_of shape.now (reverse run.now.entries)) }
+    ensures now { IfOk result (λ b. b.1 ≡ now_of b.0) }
+    ensures err { IfErr result (IsFirstBreak (use_rules shape.now) run.now.entries) }
+{
+    match auditing {
+        Auditing::Deliveries(_) => unreachable!(),
+        Auditing::Versions(_) => unreachable!(),
+        Auditing::Balance(audit) => balance_now(run, shape, &audit),
+        Auditing::Both(_) => unreachable!(),
+    }
+}
+
+/// What the audits of `both` find: its pairs, by its own rule, and its balance.
+fn both_now(run: &Run, shape: &SemaphoreShape, audit: BothAudit<'_>) -> Result<Audited, AuditFault>
     requires one { shape.now.initial ≡ 1 }
-    requires counts { CountsFor shape.now auditing.now (reverse run.now.entries) }
-    ensures followed { IsOk result → Follow (both_rules shape.now (is_line shape.now semaphores.now)) (reverse run.now.entries) }
-    ensures found { IfOk result (IsPairsOf run.now.entries shape.now semaphores.now) }
-    ensures err { IfErr result (IsAuditFault (both_rules shape.now (is_line shape.now semaphores.now)) run.now.entries) }
+    requires shape { audit.balance.shape ≡ shape.now }
+    requires common { audit.pairs.common ≡ shape.now }
+    requires counted { IsCounted audit.balance (reverse run.now.entries) }
+    requires paired { IsPairing audit.pairs (reverse run.now.entries) }
+    ensures followed { IsOk result → Follow (both_rules shape.now (is_line shape.now audit.entry.pairs.shapes)) (reverse run.now.entries) }
+    ensures found { IfOk result (IsPairsOf run.now.entries shape.now audit.entry.pairs.shapes) }
+    ensures err { IfErr result (IsAuditFault (both_rules shape.now (is_line shape.now audit.entry.pairs.shapes)) run.now.entries) }
 {
     run.known();
-    let list = pairs(alloc, run, shape, semaphores)?;
-    let Ok((parts, now)) = balance_now(run, shape, auditing) else {
+    let BothAudit { balance, pairs } = audit;
+    let list = pairs.pairs(run)?;
+    let Ok((parts, now)) = balance_now(run, shape, &balance) else {
         unreachable!();
     };
     Ok(Audited::Pairs(parts, now, list))
 }
 
+/// What the audits of `both` find, where these are all semaphores.
+fn pairs_of(
+    run: &Run,
+    shape: &SemaphoreShape,
+    semaphores: &[SemaphoreShape],
+    auditing: Auditing<'_>,
+) -> Result<Audited, AuditFault>
+    requires one { shape.now.initial ≡ 1 }
+    requires pairs { PairsFor shape.now semaphores.now auditing (reverse run.now.entries) }
+    ensures followed { IsOk result → Follow (both_rules shape.now (is_line shape.now semaphores.now)) (reverse run.now.entries) }
+    ensures found { IfOk result (IsPairsOf run.now.entries shape.now semaphores.now) }
+    ensures err { IfErr result (IsAuditFault (both_rules shape.now (is_line shape.now semaphores.now)) run.now.entries) }
+{
+    let _ = semaphores;
+    match auditing {
+        Auditing::Deliveries(_) => unreachable!(),
+        Auditing::Versions(_) => unreachable!(),
+        Auditing::Balance(_) => unreachable!(),
+        Auditing::Both(audit) => both_now(run, shape, audit),
+    }
+}
+
 /// What the audit of a group finds.
 fn audit_group(
-    alloc: Global,
     traced: &Traced,
     semaphores: &[SemaphoreShape],
     group: &Group,
@@ -146,7 +170,7 @@ fn audit_group(
 ) -> Result<Audited, AuditFault>
     requires fits { FitsGroup traced.now.heading.setup group.now }
     requires all { semaphores.now ≡ semaphores_of traced.now.heading.groups }
-    requires stands { StandsFor traced.now.heading.setup group.now auditing (reverse traced.now.entries) }
+    requires stands { StandsFor traced.now.heading.setup semaphores.now group.now auditing (reverse traced.now.entries) }
     ensures ok { IfOk result (λ a. IsAudited traced.now.heading traced.now.entries group.now a) }
     ensures err { IfErr result (IsAuditFault (group_rules traced.now.heading.setup traced.now.heading.groups group.now) traced.now.entries) }
 {
@@ -155,10 +179,10 @@ fn audit_group(
         Group::Buffer(shape) => Ok(Audited::Deliveries(deliveries_of(run, shape, auditing)?)),
         Group::Database(shape) => Ok(Audited::Versions(versions_of(run, shape, auditing)?)),
         Group::Semaphore(shape) => {
-            let (parts, now) = balance_now(run, shape, &auditing)?;
+            let (parts, now) = balance_of(run, shape, auditing)?;
             Ok(Audited::Balances(parts, now))
         }
-        Group::Both(shape) => audit_both(alloc, run, shape, &auditing, semaphores),
+        Group::Both(shape) => pairs_of(run, shape, semaphores, auditing),
     }
 }
 
@@ -181,18 +205,18 @@ fn audit_groups(alloc: Global, traced: &Traced) -> Result<Vec<Audited>, Stop>
     let Ok(semaphores) = semaphores_of(alloc, groups) else {
         return Err(Stop { group: 0, fault });
     };
-    let Ok(audits) = audits_of(alloc, traced.run(), groups) else {
+    let list = semaphores.as_slice();
+    let Ok(audits) = audits_of(alloc, traced.run(), groups, list) else {
         return Err(Stop { group: 0, fault });
     };
     let mut rest = audits.into_iter();
     let mut found = Vec::new(alloc);
     for group in 0..groups.len() {
-        let list = semaphores.as_slice();
         let declared = &groups[group];
         let Some(auditing) = rest.next() else {
             unreachable!();
         };
-        let audited = match audit_group(alloc, traced, list, declared, auditing) {
+        let audited = match audit_group(traced, list, declared, auditing) {
             Ok(audited) => audited,
             Err(fault) => return Err(Stop { group, fault }),
         };

@@ -8,7 +8,6 @@ mod checking;
 mod laws;
 mod notes;
 mod status;
-mod table;
 mod text;
 mod totals;
 mod upgrading;

@@ -5,8 +5,8 @@ use Rattle.ec_core.specs.declared.run.Run.{Run}
 use Rattle.ec_heading.specs.Headed.{Headed}
 use Rattle.ec_heading.specs.declared.group.Group.{Group}
 use Rattle.evc_engine.specs.declared.walked.Auditing.{Auditing}
-use Rattle.evc_engine.specs.Walks.{EachFrom, EachStands}
-use Rattle.evc_engine.proofs.WalkLemmas.{from_first, from_here, from_next, from_some}
+use Rattle.ec_walk.proofs.shared.Each.{from_first, from_here, from_next, from_some}
+use Rattle.evc_engine.specs.Walks.{StandsFor, EachStandsFrom, EachStands}
 use Rattle.evc_engine.proofs.shared.AuditLemmas.{EachIsAudited, one_more_audited, stops, audited_length}
 use Rattle.evc_engine.proofs.auditing.audit_groups.Goals as goal
 
@@ -25,21 +25,23 @@ returns-in-Err-clause-err c =
 pub loop-group-init : goal.loop-group-init
 loop-group-init c =
     let t = c.args.traced.now in
+    let all = c.as_slice-list.result.now in
     let declared = c.groups-groups.ensures ∙ ap (λ (h : Headed). h.groups) c.heading-2.ensures in
     let items = c.in-Ok-audits_of.audits.items in
-    let of_run = subst (λ (r : Run). EachStands r.setup c.groups-groups.result.now items (reverse r.entries)) c.run.ensures c.in-Ok-audits_of.ensures in
-    let each = subst (λ (gs : List Group). EachStands t.heading.setup gs items (reverse t.entries)) declared of_run in
+    let of_run = subst (λ (r : Run). EachStands r.setup all c.groups-groups.result.now items (reverse r.entries)) c.run.ensures c.in-Ok-audits_of.ensures in
+    let each = subst (λ (gs : List Group). EachStands t.heading.setup all gs items (reverse t.entries)) declared of_run in
     record {
       few = search the_rules;
       each = search the_rules;
-      rest = subst (λ (l : List Auditing). EachFrom t.heading.setup t.heading.groups 0 l (reverse t.entries)) (sym c.into_iter-rest.ensures.rest)
-          (from_first t.heading.setup t.heading.groups items (reverse t.entries) each);
+      rest = subst (λ (l : List Auditing). EachStandsFrom t.heading.setup all t.heading.groups 0 l (reverse t.entries)) (sym c.into_iter-rest.ensures.rest)
+          (from_first (λ g a. StandsFor t.heading.setup all g a (reverse t.entries)) t.heading.groups items each);
       long = search the_rules;
     }
 
 pub loop-group-preserved : goal.loop-group-preserved
 loop-group-preserved c =
     let t = c.args.traced.now in
+    let all = c.as_slice-list.result.now in
     let was = c.loop-group.invariant in
     let taken = c.in-Some.ensures.cases in
     record {
@@ -50,25 +52,27 @@ loop-group-preserved c =
           (subst (λ (gs : List Group). slice_get gs c.loop-group.group ≡ Some c.index-groups-group.result) (c.groups-groups.ensures ∙ ap (λ (h : Headed). h.groups) c.heading-2.ensures)
           (slice_get_read c.groups-groups.result.now _ c.loop-group.group c.index-groups-group.result refl c.loop-group-test.true c.index-groups-group.is))
           was.each c.in-Ok-audit_group.ensures.ok);
-      rest = from_next t.heading.setup t.heading.groups c.loop-group.group c.in-Some.auditing (into_iter_items c.next.new.self) (reverse t.entries)
-          (subst (λ (l : List Auditing). EachFrom t.heading.setup t.heading.groups c.loop-group.group l (reverse t.entries)) taken.0 was.rest);
+      rest = from_next (λ g a. StandsFor t.heading.setup all g a (reverse t.entries)) t.heading.groups c.loop-group.group c.in-Some.auditing (into_iter_items c.next.new.self)
+          (subst (λ (l : List Auditing). EachStandsFrom t.heading.setup all t.heading.groups c.loop-group.group l (reverse t.entries)) taken.0 was.rest);
       long = (let shorter = taken.1 in let longer = ap length taken.0 in let long = was.long in omega arith);
     }
 
 pub unreachable-requires : goal.unreachable-requires
 unreachable-requires c =
     let t = c.args.traced.now in
+    let all = c.as_slice-list.result.now in
     let was = c.loop-group.invariant in
     let none = nil_of (into_iter_items c.loop-group.rest) (sym was.long ∙ c.in_default-next.ensures.cases.0) in
-    from_some t.heading.setup t.heading.groups c.loop-group.group (reverse t.entries) c.index-groups-group.result
-    (subst (λ (l : List Auditing). EachFrom t.heading.setup t.heading.groups c.loop-group.group l (reverse t.entries)) none was.rest)
+    from_some (λ g a. StandsFor t.heading.setup all g a (reverse t.entries)) t.heading.groups c.loop-group.group c.index-groups-group.result
+    (subst (λ (l : List Auditing). EachStandsFrom t.heading.setup all t.heading.groups c.loop-group.group l (reverse t.entries)) none was.rest)
     (subst (λ (gs : List Group). slice_get gs c.loop-group.group ≡ Some c.index-groups-group.result) (c.groups-groups.ensures ∙ ap (λ (h : Headed). h.groups) c.heading-2.ensures)
     (slice_get_read c.groups-groups.result.now _ c.loop-group.group c.index-groups-group.result refl c.loop-group-test.true c.index-groups-group.is))
 
 pub audit_group-requires-clause-stands : goal.audit_group-requires-clause-stands
 audit_group-requires-clause-stands c =
     let t = c.args.traced.now in
-    from_here t.heading.setup t.heading.groups c.loop-group.group c.in-Some.auditing (into_iter_items c.next.new.self) (reverse t.entries) c.index-groups-group.result
-    (subst (λ (l : List Auditing). EachFrom t.heading.setup t.heading.groups c.loop-group.group l (reverse t.entries)) c.in-Some.ensures.cases.0 c.loop-group.invariant.rest)
+    let all = c.as_slice-list.result.now in
+    from_here (λ g a. StandsFor t.heading.setup all g a (reverse t.entries)) t.heading.groups c.loop-group.group c.in-Some.auditing (into_iter_items c.next.new.self) c.index-groups-group.result
+    (subst (λ (l : List Auditing). EachStandsFrom t.heading.setup all t.heading.groups c.loop-group.group l (reverse t.entries)) c.in-Some.ensures.cases.0 c.loop-group.invariant.rest)
     (subst (λ (gs : List Group). slice_get gs c.loop-group.group ≡ Some c.index-groups-group.result) (c.groups-groups.ensures ∙ ap (λ (h : Headed). h.groups) c.heading-2.ensures)
     (slice_get_read c.groups-groups.result.now _ c.loop-group.group c.index-groups-group.result refl c.loop-group-test.true c.index-groups-group.is))

@@ -1,0 +1,2 @@
+-- Lemmas that the proofs of other crates cite too.
+pub mod Each

@@ -1,0 +1,219 @@
+//! Which groups an act may be on, found by the object that it names.
+ghost use Rattle.std.specs.Prelude.{◌≡◌, ℕ, ◌+◌, ◌<◌, ◌≤◌, ◌^◌, Bool, List, length, Some, slice_get};
+ghost use Rattle.ec_core.specs.declared.act.Act.TheVariants.{Read, Ticket, Get};
+ghost use Rattle.ec_heading.specs.declared.group.Group.{Group};
+ghost use Rattle.ec_walk.specs.Walks.{names, is_wide, CoversFirst, Covers, CoversAct, CoversAt, IsTable};
+
+use ec_core::Act;
+use ec_count::{CellId, EventId, SeqId};
+use ec_heading::Group;
+
+/// Groups whose numbers follow one another: from `first` on, before `end`.
+#[derive(Clone, Copy, Debug)]
+pub(crate) struct Span {
+    pub(crate) first: usize,
+    pub(crate) end: usize,
+}
+
+/// No group.
+const NOWHERE: Span = Span {
+    first: usize::MAX,
+    end: 0,
+};
+
+/// The groups that each eventcount, each sequencer and each cell may be of, by its number, and
+/// those that are about each call. In a heading that is one group at most, since its groups share
+/// no object, and it has one `both` at most.
+#[derive(Drop)]
+pub(crate) struct Table {
+    events: [Span; 32],
+    sequencers: [Span; 32],
+    cells: [Span; 256],
+    wide: Span,
+}
+
+/// Whether an act names an object of a group. `both` is asked as the common semaphore that it has.
+fn names(group: &Group, act: &Act) -> bool
+    ensures { result ≡ names group.now act.now }
+{
+    match group {
+        Group::Buffer(shape) => ec_buffer::is_on(shape, act),
+        Group::Database(shape) => ec_database::is_on(shape, act),
+        Group::Semaphore(shape) => ec_semaphore::is_on(shape, act),
+        Group::Both(shape) => ec_semaphore::is_on(shape, act),
+    }
+}
+
+/// With the group of a number, which is behind all of these.
+fn reaching(span: Span, number: usize) -> Span
+    requires { number + 1 < 2 ^ 64 }
+    ensures first { result.first ≤ span.first }
+    ensures here { result.first ≤ number }
+    ensures end { result.end ≡ number + 1 }
+{
+    let first = if span.first < number {
+        span.first
+    } else {
+        number
+    };
+    Span {
+        first,
+        end: number + 1,
+    }
+}
+
+/// Whether a group is about each call of its users: within a guarded part of `both` a worker makes
+/// no other.
+pub(crate) fn is_wide(group: &Group) -> bool
+    ensures { result ≡ is_wide group.now }
+{
+    matches!(group, Group::Both(_))
+}
+
+/// With the group of a number, if it passes a test.
+fn with_group(span: Span, number: usize, passes: bool) -> Span
+    requires { number + 1 < 2 ^ 64 }
+    ensures { (groups : List Group) (test : Group → Bool) (group : Group) → slice_get groups number ≡ Some group → passes ≡ test group
+        → CoversFirst groups test span number → CoversFirst groups test result (number + 1) }
+{
+    if passes { reaching(span, number) } else { span }
+}
+
+/// The groups of which an act names an object, and those between them.
+fn span_of(groups: &[Group], act: &Act) -> Span
+    ensures { CoversAct groups.now act.now result }
+{
+    let mut span = NOWHERE;
+    for number in 0..groups.len() {
+        span = with_group(span, number, names(&groups[number], act));
+    }
+    span
+}
+
+/// The groups that are about each call, and those between them.
+fn wide_span(groups: &[Group]) -> Span
+    ensures { Covers groups.now is_wide result }
+{
+    let mut span = NOWHERE;
+    for number in 0..groups.len() {
+        span = with_group(span, number, is_wide(&groups[number]));
+    }
+    span
+}
+
+/// The groups that an eventcount may be of.
+fn event_span(groups: &[Group], number: usize) -> Span
+    requires { number < 32 }
+    ensures { CoversAct groups.now (Read number) result }
+{
+    match EventId::new(number) {
+        Some(event) => span_of(groups, &Act::Read(event)),
+        None => NOWHERE,
+    }
+}
+
+/// The groups that each eventcount may be of.
+fn events_of(groups: &[Group]) -> [Span; 32]
+    ensures { (e : ℕ) → e < 32 → CoversAt groups.now (Read e) result e }
+{
+    let mut spans = [NOWHERE; 32];
+    for number in 0..32 {
+        spans[number] = event_span(groups, number);
+    }
+    spans
+}
+
+/// The groups that a sequencer may be of.
+fn sequencer_span(groups: &[Group], number: usize) -> Span
+    requires { number < 32 }
+    ensures { CoversAct groups.now (Ticket number) result }
+{
+    match SeqId::new(number) {
+        Some(sequencer) => span_of(groups, &Act::Ticket(sequencer)),
+        None => NOWHERE,
+    }
+}
+
+/// The groups that each sequencer may be of.
+fn sequencers_of(groups: &[Group]) -> [Span; 32]
+    ensures { (q : ℕ) → q < 32 → CoversAt groups.now (Ticket q) result q }
+{
+    let mut spans = [NOWHERE; 32];
+    for number in 0..32 {
+        spans[number] = sequencer_span(groups, number);
+    }
+    spans
+}
+
+/// The groups that a cell may be of.
+fn cell_span(groups: &[Group], number: usize) -> Span
+    requires { number < 256 }
+    ensures { CoversAct groups.now (Get number) result }
+{
+    match CellId::new(number) {
+        Some(cell) => span_of(groups, &Act::Get(cell)),
+        None => NOWHERE,
+    }
+}
+
+/// For each cell no group.
+fn nowhere() -> [Span; 256]
+    ensures { length result ≡ 256 }
+{
+    [NOWHERE; 256]
+}
+
+/// The groups that each cell may be of.
+fn cells_of(groups: &[Group]) -> [Span; 256]
+    ensures { (x : ℕ) → x < 256 → CoversAt groups.now (Get x) result x }
+{
+    let mut spans = nowhere();
+    for number in 0..256 {
+        spans[number] = cell_span(groups, number);
+    }
+    spans
+}
+
+/// What a table has at a place.
+fn at(spans: &[Span], number: usize) -> Span
+    requires { number < length spans.now }
+    ensures { slice_get spans.now number ≡ Some result }
+{
+    spans[number]
+}
+
+impl Table {
+    pub(crate) fn new(groups: &[Group]) -> Self
+        ensures { IsTable groups.now result }
+    {
+        Table {
+            events: events_of(groups),
+            sequencers: sequencers_of(groups),
+            cells: cells_of(groups),
+            wide: wide_span(groups),
+        }
+    }
+
+    /// The groups of which an act names an object are among these.
+    pub(crate) fn of(&self, act: &Act) -> Span
+        ensures { (groups : List Group) → IsTable groups self.now → CoversAct groups act.now result }
+    {
+        match act {
+            Act::Advance(event) => at(&self.events, event.get()),
+            Act::Read(event) => at(&self.events, event.get()),
+            Act::Await(event, _) => at(&self.events, event.get()),
+            Act::Go => NOWHERE,
+            Act::Ticket(sequencer) => at(&self.sequencers, sequencer.get()),
+            Act::Put(cell, _) => at(&self.cells, cell.get()),
+            Act::Get(cell) => at(&self.cells, cell.get()),
+            Act::Hand(event, _) => at(&self.events, event.get()),
+        }
+    }
+
+    /// The groups that are about each call are among these.
+    pub(crate) fn wide(&self) -> Span
+        ensures { (groups : List Group) → IsTable groups self.now → Covers groups is_wide result }
+    {
+        self.wide
+    }
+}

@@ -1,0 +1,139 @@
+//! The audits of all groups, in one walk over the entries.
+ghost use Rattle.std.specs.Prelude.{◌≡◌, ℕ, ◌+◌, ◌<◌, ◌^◌, Bool, false, List, [], ◌∷◌, reverse};
+ghost use Rattle.ec_core.specs.declared.act.Entry.{Entry};
+ghost use Rattle.ec_core.specs.Calls.{under_way};
+ghost use Rattle.ec_core.specs.Following.{opened};
+ghost use Rattle.ec_heading.specs.declared.group.Group.{Group};
+ghost use Rattle.ec_walk.specs.Walks.{is_on, is_wide_at, HandsTo, HandsAmong, AreWalked, IsTable};
+
+use crate::table::{Span, Table, is_wide};
+use ec_core::{Act, Audit, Entry, Run, walk};
+use ec_heading::Group;
+use std::marker::Model;
+
+/// The audit of a group, which may be left out of an entry whose call is not on the group.
+pub trait GroupAudit: Audit {
+    // The group that it is the audit of.
+    ghost group: { Self → Group };
+
+    // After an entry whose call is not on the group it stands as before.
+    ghost passes: { (start now : Self) (entry : Entry) (past : List Entry) → is_on (group start) (opened entry.act (under_way entry.worker past)) ≡ false
+        → Self.stands start now past → Self.stands start now (entry ∷ past) };
+}
+
+/// The audits of groups, each of which is handed the entries whose calls are on its group: an audit
+/// for a walk. Each comes to what it would be if it had been handed all entries.
+#[derive(Drop)]
+pub struct Walked<'a, A> {
+    groups: &'a [Group],
+    table: Table,
+    audits: Vec<A>,
+    ghost tabled: { IsTable groups.now table },
+}
+
+impl<'a, A> Model for Walked<'a, A> {
+    ghost use Rattle.ec_walk.specs.Walks.{Walking};
+
+    ghost Value = { Walking A };
+
+    ghost view = { λ s. record { groups = s.groups.now; audits = s.audits.items } };
+}
+
+/// Whether the group with a number, if there is one, is wide.
+fn is_wide_at(groups: &[Group], number: usize) -> bool
+    ensures { result ≡ is_wide_at groups.now number }
+{
+    match groups.get(number) {
+        Some(group) => is_wide(group),
+        None => false,
+    }
+}
+
+/// Hands an entry to the audit with a number, if there is one and its group is wide, or not, as it
+/// is asked.
+fn hand_to<A: Audit>(
+    groups: &[Group],
+    audits: &mut [A],
+    wide: bool,
+    number: usize,
+    place: usize,
+    op: &Act,
+    entry: &Entry,
+)
+    requires { place + 1 < 2 ^ 64 }
+    ensures { HandsTo A.stands groups.now wide number place op.now entry.now audits.old audits.new }
+{
+    if is_wide_at(groups, number) != wide {
+        return;
+    }
+    if number < audits.len() {
+        audits[number].take(place, op, entry);
+    }
+}
+
+/// Hands an entry to the audits of those groups among some that are wide, or not, as it is asked.
+fn hand<A: Audit>(
+    groups: &[Group],
+    audits: &mut [A],
+    wide: bool,
+    span: Span,
+    place: usize,
+    op: &Act,
+    entry: &Entry,
+)
+    requires { place + 1 < 2 ^ 64 }
+    ensures { HandsAmong A.stands groups.now wide span.first span.end place op.now entry.now audits.old audits.new }
+{
+    for number in span.first..span.end {
+        hand_to(groups, audits, wide, number, place, op, entry);
+    }
+}
+
+impl<'a, A: GroupAudit> Walked<'a, A> {
+    /// Before the first entry, with the audits of the groups, in order.
+    pub fn new(groups: &'a [Group], audits: Vec<A>) -> Self
+        ensures groups { result.groups ≡ groups.now }
+        ensures audits { result.audits ≡ audits.items }
+    {
+        let table = Table::new(groups);
+        Walked {
+            groups,
+            table,
+            audits,
+        }
+    }
+
+    /// The audits after the entries so far, in the order of the groups.
+    pub fn into_audits(self) -> Vec<A>
+        ensures { result.items ≡ self.entry.audits }
+    {
+        self.audits
+    }
+}
+
+impl<'a, A: GroupAudit> Audit for Walked<'a, A> {
+    ghost use Rattle.ec_walk.specs.Walks.{WalksOn};
+
+    ghost stands = { WalksOn A.group A.stands };
+
+    fn take(&mut self, place: usize, op: &Act, entry: &Entry) {
+        let named = self.table.of(op);
+        let wide = self.table.wide();
+        let audits = self.audits.as_mut_slice();
+        hand(self.groups, audits, false, named, place, op, entry);
+        hand(self.groups, audits, true, wide, place, op, entry);
+    }
+}
+
+/// The audits of groups after all entries of a run, in one walk over them, where there are groups.
+pub fn walk_groups<A: GroupAudit>(run: &Run, groups: &[Group], audits: Vec<A>) -> Vec<A>
+    requires { AreWalked A.group A.stands groups.now audits.items audits.items [] }
+    ensures { AreWalked A.group A.stands groups.now audits.items result.items (reverse run.now.entries) }
+{
+    if groups.is_empty() {
+        return audits;
+    }
+    let mut walked = Walked::new(groups, audits);
+    walk(run, &mut walked);
+    walked.into_audits()
+}

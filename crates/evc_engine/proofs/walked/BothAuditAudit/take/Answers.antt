@@ -1,0 +1,5 @@
+use Rattle.evc_engine.proofs.walked.BothAuditAudit.take.Goals as goal
+
+pub returns : goal.returns
+returns c = λ start past at is stands.
+    (c.take.ensures start.balance past at is stands.0, c.take-2.ensures start.pairs past at is stands.1)

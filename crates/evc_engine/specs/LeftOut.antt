@@ -1,0 +1,28 @@
+-- An audit may be left out of an entry whose call is not on its group.
+use Rattle.std.proofs.Common.{◌≡◌, false, List, ◌∷◌, sym, subst, true≢false}
+use Rattle.ec_core.specs.declared.act.Entry.{Entry}
+use Rattle.ec_core.proofs.shared.Following.{op_at}
+use Rattle.ec_buffer.specs.Follows as buffers
+use Rattle.ec_buffer.specs.Shapes.{Buffer}
+use Rattle.ec_buffer.proofs.shared.LeftOut.{delivering_off}
+use Rattle.ec_database.specs.Following as databases
+use Rattle.ec_database.specs.Shapes.{Database}
+use Rattle.ec_database.proofs.shared.LeftOut.{versioning_off}
+use Rattle.ec_semaphore.specs.Shapes.{Semaphore}
+use Rattle.ec_semaphore.specs.Uses as semaphores
+use Rattle.ec_semaphore.proofs.shared.LeftOut.{counted_off}
+use Rattle.ec_walk.specs.Walks.{is_on}
+use Rattle.evc_engine.specs.declared.walked.Auditing.{Auditing}
+use Rattle.evc_engine.specs.declared.walked.Auditing.TheVariants as audits
+use Rattle.evc_engine.specs.Walks.{group_of, AuditsOn}
+
+-- an audit stands also after an entry whose call is not on its group
+pub audits_off : (start now : Auditing) (x : Entry) (past : List Entry) → is_on (group_of start) (op_at x past) ≡ false → AuditsOn start now past → AuditsOn start now (x ∷ past)
+audits_off (audits.Deliveries a) (audits.Deliveries b) x past off stands =
+    (stands.0, stands.1, delivering_off b x past (subst (λ (s : Buffer). buffers.is_on s (op_at x past) ≡ false) (sym stands.0) off) stands.2)
+audits_off (audits.Versions a) (audits.Versions b) x past off stands =
+    (stands.0, stands.1, versioning_off b x past (subst (λ (s : Database). databases.is_on s (op_at x past) ≡ false) (sym stands.0) off) stands.2)
+audits_off (audits.Balance a) (audits.Balance b) x past off stands =
+    (stands.0, counted_off b x past (subst (λ (s : Semaphore). semaphores.is_on s (op_at x past) ≡ false) (sym stands.0) off) stands.1)
+audits_off (audits.Both a) now x past off stands = absurd (true≢false off)
+audits_off start now x past off stands = absurd stands
