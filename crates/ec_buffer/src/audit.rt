@@ -1,7 +1,9 @@
 //! The deliveries of a run.
-ghost use Rattle.std.specs.Prelude.{◌≡◌, ◌<◌, false, [], length, replicate, reverse, IfOk, IfErr, IfSome, OnOk};
+ghost use Rattle.std.specs.Prelude.{◌≡◌, ◌<◌, false, List, [], length, replicate, reverse, IfOk, IfErr, IfSome, OnOk};
 ghost use Rattle.ec_core.specs.Audits.{IsAuditFault};
 ghost use Rattle.ec_core.specs.CallLists.{number_of};
+ghost use Rattle.ec_core.specs.Ending.{EndsAt};
+ghost use Rattle.ec_core.specs.declared.act.Entry.{Entry};
 ghost use Rattle.ec_buffer.specs.Auditing.{IsDelivering};
 ghost use Rattle.ec_buffer.specs.Collecting.{place_of, put_place, get_place, writers_after, list_after};
 ghost use Rattle.ec_buffer.specs.Follows.{FollowsBuffer, buffer_rules};
@@ -157,6 +159,29 @@ impl<'a> DeliveryAudit<'a> {
         }
     }
 
+    /// The deliveries after the entries so far, as `deliveries` lists them.
+    pub fn finish(self) -> Result<Vec<Delivery>, AuditFault>
+        ensures followed { (h : List Entry) → EndsAt self.entry.setup (IsDelivering self.entry) h → OnOk result (FollowsBuffer self.entry.setup self.entry.shape (reverse h)) }
+        ensures list { (h : List Entry) → EndsAt self.entry.setup (IsDelivering self.entry) h → IfOk result (λ list. AreDeliveries self.entry.setup self.entry.shape h list.items) }
+        ensures err { (h : List Entry) → EndsAt self.entry.setup (IsDelivering self.entry) h → IfErr result (IsAuditFault (buffer_rules self.entry.setup self.entry.shape) h) }
+    {
+        let DeliveryAudit {
+            lists,
+            tracker,
+            list,
+            lacks,
+            ..
+        } = self;
+        lists.shape.known();
+        if let Err(fault) = tracker.followed() {
+            return Err(fault);
+        }
+        if lacks {
+            return Err(AuditFault::Memory);
+        }
+        Ok(list)
+    }
+
     /// The deliveries after all entries of a run, as `deliveries` lists them.
     pub fn deliveries(self, run: &Run) -> Result<Vec<Delivery>, AuditFault>
         requires setup { self.setup ≡ run.now.setup }
@@ -166,19 +191,7 @@ impl<'a> DeliveryAudit<'a> {
         ensures err { IfErr result (IsAuditFault (buffer_rules run.now.setup self.entry.shape) run.now.entries) }
     {
         run.known();
-        let DeliveryAudit {
-            lists,
-            tracker,
-            list,
-            lacks,
-            ..
-        } = self;
-        lists.shape.known();
-        tracker.followed(&lists, run)?;
-        if lacks {
-            return Err(AuditFault::Memory);
-        }
-        Ok(list)
+        self.finish()
     }
 }
 

@@ -21,3 +21,4 @@ pub mod JoinedLists
 pub mod Breaks
 pub mod Tracking
 pub mod WrittenLists
+pub mod Endings

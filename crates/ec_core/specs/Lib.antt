@@ -1,5 +1,6 @@
 pub mod Counts
 pub mod Calls
+pub mod Ending
 pub mod Rounds
 pub mod Acceptance
 pub mod Silence

@@ -1,5 +1,5 @@
 -- What a walk over the entries of a run keeps of each worker.
-use Rattle.std.specs.Prelude.{◌≡◌, ℕ, ◌<◌, List, Option, Some, None, slice_get, reverse}
+use Rattle.std.specs.Prelude.{◌≡◌, ◌↔◌, ℕ, ◌<◌, List, Option, Some, None, Result, IsOk, IfErr, slice_get, reverse}
 use Rattle.ec_core.specs.declared.act.Entry.{Entry}
 use Rattle.ec_core.specs.declared.protocol.Kept.{Kept}
 use Rattle.ec_core.specs.declared.audit.AuditFault.{AuditFault}
@@ -24,3 +24,7 @@ pub record Tracked : Type 0 where
 pub record IsTracked (rules : ℕ → Rule) (keeps : List Told → Kept) (tracked : Tracked) (past : List Entry) : Type 0 where
   pub lists : AreKept rules keeps tracked.kept past
   pub finding : IsFinding rules tracked.fault past
+
+-- what was found of the entries of a history, in their order: they follow, or this is the first that breaks the lists
+abbrev pub Finds : (ℕ → Rule) → List Entry → Result (Unit {0}) AuditFault → Type 0
+Finds rules h r = (IsOk r ↔ Follow rules (reverse h)) × IfErr r (IsFirstBreak rules h)

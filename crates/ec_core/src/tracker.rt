@@ -1,14 +1,13 @@
 //! What a walk over a run keeps of a group.
-ghost use Rattle.std.specs.Prelude.{◌≡◌, ◌↔◌, ℕ, List, [], ◌∷◌, length, reverse, IsOk, IfErr};
+ghost use Rattle.std.specs.Prelude.{◌≡◌, ℕ, List, [], ◌∷◌, length, reverse};
 ghost use Rattle.ec_core.specs.declared.act.Entry.{Entry};
 ghost use Rattle.ec_core.specs.declared.protocol.Kept.{Kept};
-ghost use Rattle.ec_core.specs.Audits.{IsFirstBreak};
 ghost use Rattle.ec_core.specs.Calls.{under_way};
-ghost use Rattle.ec_core.specs.Following.{Told, Rule, opened, block, Follow};
-ghost use Rattle.ec_core.specs.Scanning.{IsFinding, IsTracked};
+ghost use Rattle.ec_core.specs.Following.{Told, Rule, opened, block};
+ghost use Rattle.ec_core.specs.Scanning.{IsFinding, IsTracked, Finds};
 
 use crate::fields::all_alike;
-use crate::{Act, AuditFault, Entry, Kept, Protocol, Run};
+use crate::{Act, AuditFault, Entry, Kept, Protocol};
 use ec_count::WorkerId;
 use std::marker::Model;
 
@@ -47,15 +46,12 @@ impl Tracker {
         self.kept[worker.get()]
     }
 
-    /// Whether the workers follow these lists, after all entries of a run. Err is NotFollowed with
-    /// the first entry that breaks them.
-    pub fn followed<P: Protocol>(&self, protocol: &P, run: &Run) -> Result<(), AuditFault>
-        requires { IsTracked (P.rules protocol.now) (P.keeps protocol.now) self.now (reverse run.now.entries) }
-        ensures ok { IsOk result ↔ Follow (P.rules protocol.now) (reverse run.now.entries) }
-        ensures err { IfErr result (IsFirstBreak (P.rules protocol.now) run.now.entries) }
+    /// Whether the workers follow these lists, after the entries so far. Err is NotFollowed with the
+    /// first entry that breaks them.
+    pub fn followed(&self) -> Result<(), AuditFault>
+        ensures { (rules : ℕ → Rule) (keeps : List Told → Kept) (entries : List Entry) → IsTracked rules keeps self.now (reverse entries)
+            → Finds rules entries result }
     {
-        let _ = run;
-        let _ = protocol;
         match self.fault {
             None => Ok(()),
             Some(fault) => Err(fault),

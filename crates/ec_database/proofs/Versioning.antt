@@ -1,5 +1,5 @@
 -- What the audit of a database keeps, entry by entry.
-use Rattle.std.proofs.Common.{◌≡◌, ℕ, ◌<◌, List, [], sym, ◌∙◌}
+use Rattle.std.proofs.Common.{◌≡◌, ℕ, ◌<◌, [], sym, ◌∙◌}
 use Rattle.ec_core.specs.Scanning.{IsTracked}
 use Rattle.ec_database.specs.Auditing.{HasRow, Versioning, IsVersioning}
 use Rattle.ec_database.specs.Following.{writes, database_rules}

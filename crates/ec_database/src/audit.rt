@@ -3,6 +3,7 @@ ghost use Rattle.std.specs.Prelude.{◌≡◌, ◌<◌, ◌≤◌, ℕ, false, L
 ghost use Rattle.std.specs.Option.{option_map};
 ghost use Rattle.ec_core.specs.declared.act.Entry.{Entry};
 ghost use Rattle.ec_core.specs.Audits.{IsAuditFault};
+ghost use Rattle.ec_core.specs.Ending.{EndsAt};
 ghost use Rattle.ec_core.specs.Following.{block};
 ghost use Rattle.ec_database.specs.Following.{writes, database_rules, FollowsDatabase};
 ghost use Rattle.ec_database.specs.Tries.{ended_at, accepted_tries, ListsTries, AreUndisturbed};
@@ -277,6 +278,30 @@ impl<'a> VersionAudit<'a> {
         self.list.get(place)
     }
 
+    /// The accepting tries after the entries so far, as `versions` lists them.
+    pub fn finish(self) -> Result<Vec<Accepted>, AuditFault>
+        ensures followed { (h : List Entry) → EndsAt self.entry.setup (IsVersioning self.entry) h → OnOk result (FollowsDatabase self.entry.setup self.entry.shape (reverse h)) }
+        ensures tries { (h : List Entry) → EndsAt self.entry.setup (IsVersioning self.entry) h → IfOk result (λ list. ListsTries self.entry.setup self.entry.shape h (map shown list.items)) }
+        ensures undisturbed { (h : List Entry) → EndsAt self.entry.setup (IsVersioning self.entry) h → IfOk result (λ list. AreUndisturbed self.entry.setup self.entry.shape h (map shown list.items)) }
+        ensures err { (h : List Entry) → EndsAt self.entry.setup (IsVersioning self.entry) h → IfErr result (IsAuditFault (database_rules self.entry.setup self.entry.shape) h) }
+    {
+        let VersionAudit {
+            lists,
+            tracker,
+            list,
+            lacks,
+            ..
+        } = self;
+        lists.shape.known();
+        if let Err(fault) = tracker.followed() {
+            return Err(fault);
+        }
+        if lacks {
+            return Err(AuditFault::Memory);
+        }
+        Ok(list)
+    }
+
     /// The accepting tries after all entries of a run, as `versions` lists them.
     pub fn versions(self, run: &Run) -> Result<Vec<Accepted>, AuditFault>
         requires setup { self.setup ≡ run.now.setup }
@@ -287,19 +312,7 @@ impl<'a> VersionAudit<'a> {
         ensures err { IfErr result (IsAuditFault (database_rules run.now.setup self.entry.shape) run.now.entries) }
     {
         run.known();
-        let VersionAudit {
-            lists,
-            tracker,
-            list,
-            lacks,
-            ..
-        } = self;
-        lists.shape.known();
-        tracker.followed(&lists, run)?;
-        if lacks {
-            return Err(AuditFault::Memory);
-        }
-        Ok(list)
+        self.finish()
     }
 }
 

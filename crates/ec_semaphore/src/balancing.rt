@@ -1,8 +1,11 @@
 //! The balance of a semaphore.
 ghost use Rattle.std.specs.Prelude.{◌≡◌, ◌↔◌, ℕ, ◌+◌, ◌^◌, ◌<◌, ◌≤◌, ◌&&◌, not, if◌then◌else◌, List, [], reverse, IsOk, IfOk, IfErr, pos, ◌≤ℤ◌};
+ghost use Rattle.ec_count.specs.Tables.{Tables};
+ghost use Rattle.ec_core.specs.declared.act.Entry.{Entry};
 ghost use Rattle.ec_core.specs.Audits.{IsFirstBreak};
 ghost use Rattle.ec_core.specs.Calls.{is_pending};
 ghost use Rattle.ec_core.specs.Counts.{past_at, is_advance};
+ghost use Rattle.ec_core.specs.Ending.{EndsAt};
 ghost use Rattle.ec_core.specs.Following.{Follow};
 ghost use Rattle.ec_semaphore.specs.Auditing.{IsCounted};
 ghost use Rattle.ec_semaphore.specs.Balances.{is_await, balance_of, parts_of};
@@ -109,6 +112,27 @@ impl BalanceAudit {
         }
     }
 
+    /// The parts of the balance after the entries so far, where the workers follow the semaphore. Err is
+    /// NotFollowed, with the first entry that breaks the lists of calls.
+    pub fn finish(&self) -> Result<Balance, AuditFault>
+        ensures ok { (t : Tables) (h : List Entry) → EndsAt t (IsCounted self.now) h → IsOk result ↔ Follow (use_rules self.now.shape) (reverse h) }
+        ensures parts { (t : Tables) (h : List Entry) → EndsAt t (IsCounted self.now) h → IfOk result (λ b. b ≡ parts_of self.now.shape (reverse h)) }
+        ensures never_negative { (t : Tables) (h : List Entry) → EndsAt t (IsCounted self.now) h → IsOk result → (k : ℕ) → pos 0 ≤ℤ balance_of self.now.shape (past_at k h) }
+        ensures few { (t : Tables) (h : List Entry) → EndsAt t (IsCounted self.now) h → IfOk result (λ b. b.downs ≤ b.initial + b.ups) }
+        ensures small { (t : Tables) (h : List Entry) → EndsAt t (IsCounted self.now) h → IfOk result (λ b. b.initial + b.ups < 2 ^ 64) }
+        ensures err { (t : Tables) (h : List Entry) → EndsAt t (IsCounted self.now) h → IfErr result (IsFirstBreak (use_rules self.now.shape) h) }
+    {
+        if let Err(fault) = self.tracker.followed() {
+            return Err(fault);
+        }
+        let shape = self.uses.shape();
+        Ok(Balance {
+            initial: shape.initial(),
+            downs: self.downs,
+            ups: self.ups,
+        })
+    }
+
     /// The parts of the balance after all entries of a run whose workers follow the semaphore. Err is
     /// NotFollowed, with the first entry that breaks the lists of calls.
     pub fn balance(&self, run: &Run) -> Result<Balance, AuditFault>
@@ -121,13 +145,7 @@ impl BalanceAudit {
         ensures err { IfErr result (IsFirstBreak (use_rules self.now.shape) run.now.entries) }
     {
         run.known();
-        self.tracker.followed(&self.uses, run)?;
-        let shape = self.uses.shape();
-        Ok(Balance {
-            initial: shape.initial(),
-            downs: self.downs,
-            ups: self.ups,
-        })
+        self.finish()
     }
 }
 

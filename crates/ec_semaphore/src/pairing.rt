@@ -5,6 +5,7 @@ ghost use Rattle.ec_count.specs.Tables.{Tables, IsDeclared};
 ghost use Rattle.ec_core.specs.declared.act.Entry.{Entry};
 ghost use Rattle.ec_core.specs.Acceptance.{IsAccepted};
 ghost use Rattle.ec_core.specs.Audits.{IsAuditFault};
+ghost use Rattle.ec_core.specs.Ending.{EndsAt};
 ghost use Rattle.ec_core.specs.Following.{Told, block, Follow};
 ghost use Rattle.ec_core.specs.CallLists.{number_of};
 ghost use Rattle.ec_semaphore.specs.Auditing.{IsPairing};
@@ -156,6 +157,24 @@ impl<'a> PairAudit<'a> {
         }
     }
 
+    /// The pairs after the entries so far, where the workers follow the guarded parts. Where they
+    /// don't, the first entry that breaks the lists of calls is told.
+    pub fn finish(self) -> Result<Vec<Pair>, AuditFault>
+        ensures followed { (t : Tables) (h : List Entry) → EndsAt t (IsPairing self.entry) h → IsOk result → Follow (both_rules self.entry.common (is_line self.entry.common self.entry.shapes)) (reverse h) }
+        ensures pairs { (t : Tables) (h : List Entry) → EndsAt t (IsPairing self.entry) h → IfOk result (λ ps. ps.items ≡ pairs_of self.entry.common self.entry.shapes h) }
+        ensures drawn { (t : Tables) (h : List Entry) → EndsAt t (IsPairing self.entry) h → IfOk result (λ ps. ArePairs self.entry.common (is_line self.entry.common self.entry.shapes) h ps.items) }
+        ensures ordered { (t : Tables) (h : List Entry) → EndsAt t (IsPairing self.entry) h → IfOk result (λ ps. AllPairs IsEarlier ps.items) }
+        ensures err { (t : Tables) (h : List Entry) → EndsAt t (IsPairing self.entry) h → IfErr result (IsAuditFault (both_rules self.entry.common (is_line self.entry.common self.entry.shapes)) h) }
+    {
+        if let Err(fault) = self.tracker.followed() {
+            return Err(fault);
+        }
+        if self.lacks {
+            return Err(AuditFault::Memory);
+        }
+        Ok(self.pairs)
+    }
+
     /// The pairs after all entries of a run whose workers follow the guarded parts. Where they
     /// don't, the first entry that breaks the lists of calls is told.
     pub fn pairs(self, run: &Run) -> Result<Vec<Pair>, AuditFault>
@@ -167,11 +186,7 @@ impl<'a> PairAudit<'a> {
         ensures err { IfErr result (IsAuditFault (both_rules self.entry.common (is_line self.entry.common self.entry.shapes)) run.now.entries) }
     {
         run.known();
-        self.tracker.followed(&self.guarded, run)?;
-        if self.lacks {
-            return Err(AuditFault::Memory);
-        }
-        Ok(self.pairs)
+        self.finish()
     }
 }
 

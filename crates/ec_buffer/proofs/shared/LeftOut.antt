@@ -9,7 +9,6 @@ use Rattle.ec_core.specs.Following.{opened}
 use Rattle.ec_core.proofs.shared.Following.{op_at}
 use Rattle.ec_core.specs.JoinedLists.{SpeaksOf}
 use Rattle.ec_core.proofs.shared.Tracking.{tracked_off}
-use Rattle.ec_buffer.specs.declared.delivery.Delivery.{Delivery}
 use Rattle.ec_buffer.specs.Auditing.{Delivering, IsDelivering}
 use Rattle.ec_buffer.specs.Collecting.{place_of, put_place, get_place, writers_after, list_after, writers_of, collected}
 use Rattle.ec_buffer.specs.Follows.{is_on, is_cell, produce_rule, consume_rule, buffer_rules}

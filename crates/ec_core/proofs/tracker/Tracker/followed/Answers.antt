@@ -5,22 +5,16 @@ use Rattle.ec_core.proofs.shared.Tracking.{found_first, found_either}
 use Rattle.ec_core.proofs.tracker.Tracker.followed.Goals as goal
 
 pub returns-in-None : goal.returns-in-None
-returns-in-None g c =
-    let rules = g.P.Protocol.rules c.args.protocol.now in
-    let keeps = g.P.Protocol.keeps c.args.protocol.now in
-    let h = c.args.run.now.entries in
+returns-in-None c rules keeps h tracked =
     let P : Tracked → Type 0 = λ z. IsTracked rules keeps z (reverse h) in
     let Q : Option AuditFault → Type 0 = λ o. IsFinding rules o (reverse h) in
-    let inside = subst P (sym c.self.view_is) c.requires in
-    record { ok = (λ e. subst Q c.in-None.is inside.finding, λ f. refl); err = tt }
+    let inside = subst P (sym c.self.view_is) tracked in
+    ((λ e. subst Q c.in-None.is inside.finding, λ f. refl), tt)
 
 pub returns-in-Some : goal.returns-in-Some
-returns-in-Some g c =
-    let rules = g.P.Protocol.rules c.args.protocol.now in
-    let keeps = g.P.Protocol.keeps c.args.protocol.now in
-    let h = c.args.run.now.entries in
+returns-in-Some c rules keeps h tracked =
     let P : Tracked → Type 0 = λ z. IsTracked rules keeps z (reverse h) in
     let Q : Option AuditFault → Type 0 = λ o. IsFinding rules o (reverse h) in
-    let inside = subst P (sym c.self.view_is) c.requires in
+    let inside = subst P (sym c.self.view_is) tracked in
     let finding = subst Q c.in-Some.is inside.finding in
-    record { ok = (λ e. cc, λ f. absurd (found_either rules c.in-Some.fault h finding f)); err = found_first rules c.in-Some.fault h finding }
+    ((λ e. cc, λ f. absurd (found_either rules c.in-Some.fault h finding f)), found_first rules c.in-Some.fault h finding)
