@@ -77,14 +77,6 @@ failed_of xs (Some ys) (Some zs) given p gave kept small goes = record {
 
 -- THE BEGINNING
 
--- where the bytes of an input are known
-pub if_known : (a : Option (List ℕ)) (P : List ℕ → Type 0) → ((xs : List ℕ) → a ≡ Some xs → P xs) → IfSome a P
-if_known None P all = tt
-if_known (Some xs) P all = all xs refl
-
-pub known : (a : Option (List ℕ)) (P : List ℕ → Type 0) (xs : List ℕ) → IfSome a P → a ≡ Some xs → P xs
-known a P xs h is = (let h : IfSome (Some xs) P = subst (λ o. IfSome o P) is h in h)
-
 pub reaches_start : (a : Option (List ℕ)) (xs : List ℕ) (r : Reading) → a ≡ Some xs → r ≡ record { number = 0; taken = 0; line = []; part = []; behind = []; over = [] } → Reaches xs a r Opening
 unfolding start
 reaches_start a xs r known fresh =

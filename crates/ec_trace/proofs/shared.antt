@@ -2,3 +2,4 @@
 pub mod ReadTraces
 pub mod UpgradedTraces
 pub mod LineParts
+pub mod KnownInputs

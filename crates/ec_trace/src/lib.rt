@@ -23,7 +23,7 @@ pub use fault::TraceFault;
 pub use history::{History, Watched};
 pub use lines::Lines;
 pub use opening::{Opened, open_trace};
-pub use read::{TRACE_MAX, read_trace};
+pub use read::{TRACE_MAX, read_entries, read_trace};
 pub use reading_laws::{
     entries_are_spelled, failed_read_has_no_fault, fault_of_the_whole, faults_of_entries,
     first_fault_is_told, line_fault_is_the_first, lines_lead_to_outlines, no_trace_begins_another,

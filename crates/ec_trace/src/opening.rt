@@ -136,7 +136,7 @@ fn read_declarations<R: Read>(
 
 /// Reads a trace up to its line `run`, and the rest of the piece in which that ends.
 ///
-/// The entries are then read by `Lines::read_entries`, from the same reader.
+/// The entries are then read by `read_entries`, from the same reader.
 pub fn open_trace<R: Read>(alloc: Global, reader: &mut R) -> Result<Opened, TraceFault>
     ensures { IfSome (R.remaining reader.old) (λ bytes. MatchResult result
         (λ opened. IsOpened bytes (R.remaining reader.new) opened.lines opened.heading)

@@ -78,38 +78,37 @@ fn take_entry<H: History>(
     }
 }
 
-impl Lines {
-    /// Reads the entries of a trace to its end, up to the first fault, and has each step made.
-    ///
-    /// Nothing grows with the text but what the history keeps. A failed read is not tried again, and a fault of what came before
-    /// it is told in its place.
-    pub fn read_entries<R: Read, H: History>(
-        mut self,
-        alloc: Global,
-        reader: &mut R,
-        heading: &Heading,
-        history: &mut H,
-    ) -> Result<(), TraceFault>
-        ensures stands { OnOk result ((start : H) → H.stands start history.old (history_of heading.now [])
-            → (entries : List Entry) × H.stands start history.new (history_of heading.now entries)) }
-        ensures recounts { (xs : List ℕ) (start : H) → IsOpened xs (R.remaining reader.old) self heading.now → H.stands start history.old (history_of heading.now [])
-            → Recounts xs (R.remaining reader.new) heading.now (H.stands start history.new) result }
-    {
-        let mut fronts = Fronts::none(alloc);
-        loop {
-            if let Err(fault) = self.next(reader) {
-                return Err(fault);
-            }
-            let line = self.line();
-            if line == b"end".as_slice() {
-                break;
-            }
-            if let Err(fault) = take_entry(heading, &mut fronts, history, line) {
-                return Err(fault_at(self.number(), fault));
-            }
+/// Reads the entries of a trace to its end, up to the first fault, and has the step of each made. The lines are those behind the
+/// `run` of a trace, from `open_trace` with the same reader, and the heading is what stands before it.
+///
+/// Nothing grows with the text but what the history keeps. A failed read is not tried again, and a fault of what came before it
+/// is told in its place. After an Err the history is of no use.
+pub fn read_entries<R: Read, H: History>(
+    alloc: Global,
+    mut lines: Lines,
+    reader: &mut R,
+    heading: &Heading,
+    history: &mut H,
+) -> Result<(), TraceFault>
+    ensures stands { OnOk result ((start : H) → H.stands start history.old (history_of heading.now [])
+        → (entries : List Entry) × H.stands start history.new (history_of heading.now entries)) }
+    ensures recounts { (xs : List ℕ) (start : H) → IsOpened xs (R.remaining reader.old) lines heading.now → H.stands start history.old (history_of heading.now [])
+        → Recounts xs (R.remaining reader.new) heading.now (H.stands start history.new) result }
+{
+    let mut fronts = Fronts::none(alloc);
+    loop {
+        if let Err(fault) = lines.next(reader) {
+            return Err(fault);
         }
-        self.end(reader)
+        let line = lines.line();
+        if line == b"end".as_slice() {
+            break;
+        }
+        if let Err(fault) = take_entry(heading, &mut fronts, history, line) {
+            return Err(fault_at(lines.number(), fault));
+        }
     }
+    lines.end(reader)
 }
 
 /// Reads a trace, whose run is then kept.
@@ -123,7 +122,7 @@ fn recorded<R: Read>(alloc: Global, reader: &mut R) -> Result<Traced, TraceFault
     let Ok(mut run) = Run::open(alloc, heading.setup().copy()) else {
         return Err(TraceFault::Memory);
     };
-    match lines.read_entries(alloc, reader, &heading, &mut run) {
+    match read_entries(alloc, lines, reader, &heading, &mut run) {
         Ok(()) => Ok(Traced { run, heading }),
         Err(fault) => Err(fault),
     }

@@ -6,3 +6,5 @@ pub mod UpgradeLemmas
 pub mod NoteLemmas
 pub mod OneNote
 pub mod WalkLemmas
+pub mod Findings
+pub mod FoundWritten

@@ -5,6 +5,7 @@ pub mod Checks
 pub mod AuditTexts
 pub mod Audits
 pub mod Walks
+pub mod Halts
 pub mod LeftOut
 pub mod AuditLaws
 pub mod Upgrades

@@ -1,7 +1,8 @@
 -- What one walk over the entries of a trace keeps of its groups.
-use Rattle.std.specs.Prelude.{◌≡◌, ℕ, List}
-use Rattle.ec_count.specs.Tables.{Tables}
+use Rattle.std.specs.Prelude.{◌≡◌, ℕ, List, reverse}
+use Rattle.ec_count.specs.Tables.{Tables, IsDeclared}
 use Rattle.ec_core.specs.declared.act.Entry.{Entry}
+use Rattle.ec_core.specs.Acceptance.{IsAccepted}
 use Rattle.ec_buffer.specs.Auditing.{DeliversOn, IsDelivering}
 use Rattle.ec_buffer.specs.Shapes.{Buffer}
 use Rattle.ec_database.specs.Auditing.{VersionsOn, IsVersioning}
@@ -10,6 +11,9 @@ use Rattle.ec_semaphore.specs.Auditing.{BalancesOn, IsCounted, PairsOn, IsPairin
 use Rattle.ec_semaphore.specs.Shapes.{Semaphore}
 use Rattle.ec_heading.specs.declared.group.Group.{Group}
 use Rattle.ec_heading.specs.declared.group.Group.TheVariants as groups
+use Rattle.ec_heading.specs.Groups.{FitsGroup}
+use Rattle.ec_heading.specs.Headed.{Headed}
+use Rattle.ec_heading.specs.Rules.{semaphores_of}
 use Rattle.ec_walk.specs.Each.{EachFrom, Each}
 use Rattle.evc_engine.specs.declared.walked.Auditing.{Auditing}
 use Rattle.evc_engine.specs.declared.walked.BothAudit.{BothAudit}
@@ -50,6 +54,19 @@ EachStandsFrom t all gs n list past = EachFrom (λ g a. StandsFor t all g a past
 -- each group has its audit, in order
 abbrev pub EachStands : Tables → List Semaphore → List Group → List Auditing → List Entry → Type 0
 EachStands t all gs list past = Each (λ g a. StandsFor t all g a past) gs list
+
+-- AT THE END
+
+-- the audit is that of a group of a heading, after an accepted history of these entries under it
+pub record EndsFor (h : Headed) (entries : List Entry) (g : Group) (a : Auditing) : Type 0 where
+  pub declared : IsDeclared h.setup
+  pub accepted : IsAccepted h.setup (reverse entries)
+  pub fits : FitsGroup h.setup g
+  pub stands : StandsFor h.setup (semaphores_of h.groups) g a (reverse entries)
+
+-- those of all groups, in order
+abbrev pub EachEndsFor : Headed → List Entry → List Auditing → Type 0
+EachEndsFor h entries list = Each (λ g a. EndsFor h entries g a) h.groups list
 
 -- IN A WALK
 

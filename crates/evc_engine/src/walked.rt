@@ -1,21 +1,56 @@
 //! The audits of a trace's groups, for one walk over its entries.
-ghost use Rattle.std.specs.Prelude.{[], reverse, IfOk};
-ghost use Rattle.evc_engine.specs.Walks.{StandsFor, EachStands};
+ghost use Rattle.std.specs.Prelude.{◌≡◌, ◌+◌, ◌^◌, ◌<◌, List, [], IfOk, MatchResult};
+ghost use Rattle.ec_core.specs.declared.act.Entry.{Entry};
+ghost use Rattle.ec_core.specs.Audits.{IsAuditFault};
+ghost use Rattle.ec_heading.specs.Headed.{Headed};
+ghost use Rattle.ec_heading.specs.Rules.{group_rules};
+ghost use Rattle.ec_heading.specs.declared.group.Group.{Group};
+ghost use Rattle.evc_engine.specs.AuditTexts.{now_of};
+ghost use Rattle.evc_engine.specs.Audits.{IsAudited};
+ghost use Rattle.evc_engine.specs.Walks.{StandsFor, EachStands, EndsFor};
 
+use crate::audited::Audited;
 use ec_buffer::DeliveryAudit;
-use ec_core::{Act, Audit, Entry, Run};
+use ec_core::{Act, Audit, AuditFault, Entry};
 use ec_count::Setup;
 use ec_database::VersionAudit;
-use ec_semaphore::{BalanceAudit, PairAudit, SemaphoreShape};
+use ec_semaphore::{Balance, BalanceAudit, PairAudit, SemaphoreShape};
 use ec_trace::Group;
-use ec_walk::{GroupAudit, walk_groups};
+use ec_walk::GroupAudit;
 use std::alloc::{AllocError, Global};
+
+/// What a balance is, by its parts.
+fn now_of(parts: &Balance) -> u64
+    ensures { parts.now.initial + parts.now.ups < 2 ^ 64 → result ≡ now_of parts.now }
+{
+    parts
+        .initial
+        .saturating_add(parts.ups)
+        .saturating_sub(parts.downs)
+}
 
 /// The audits of `both`: of its common semaphore, and of its guarded parts.
 #[derive(Drop)]
 pub(crate) struct BothAudit<'a> {
     pub(crate) balance: BalanceAudit,
     pub(crate) pairs: PairAudit<'a>,
+}
+
+impl<'a> BothAudit<'a> {
+    /// What they found of the entries so far: the pairs, by the rule of `both`, and the balance.
+    fn finish(self) -> Result<Audited, AuditFault>
+        ensures { (h : Headed) (entries : List Entry) (g : Group) → EndsFor h entries g (Auditing.Both self.entry)
+            → MatchResult result (λ a. IsAudited h entries g a) (λ fault. IsAuditFault (group_rules h.setup h.groups g) entries fault) }
+    {
+        let BothAudit { balance, pairs } = self;
+        match pairs.finish() {
+            Ok(list) => {
+                let parts = balance.so_far();
+                Ok(Audited::Pairs(parts, now_of(&parts), list))
+            }
+            Err(fault) => Err(fault),
+        }
+    }
 }
 
 impl<'a> Audit for BothAudit<'a> {
@@ -64,6 +99,30 @@ impl<'a> Auditing<'a> {
     }
 }
 
+impl<'a> Auditing<'a> {
+    /// What it found of the entries so far, or the first of them that breaks the group's lists of calls.
+    pub(crate) fn finish(self) -> Result<Audited, AuditFault>
+        ensures { (h : Headed) (entries : List Entry) (g : Group) → EndsFor h entries g self.entry
+            → MatchResult result (λ a. IsAudited h entries g a) (λ fault. IsAuditFault (group_rules h.setup h.groups g) entries fault) }
+    {
+        match self {
+            Auditing::Deliveries(audit) => match audit.finish() {
+                Ok(list) => Ok(Audited::Deliveries(list)),
+                Err(fault) => Err(fault),
+            },
+            Auditing::Versions(audit) => match audit.finish() {
+                Ok(list) => Ok(Audited::Versions(list)),
+                Err(fault) => Err(fault),
+            },
+            Auditing::Balance(audit) => match audit.finish() {
+                Ok(parts) => Ok(Audited::Balances(parts, now_of(&parts))),
+                Err(fault) => Err(fault),
+            },
+            Auditing::Both(audit) => audit.finish(),
+        }
+    }
+}
+
 impl<'a> Audit for Auditing<'a> {
     ghost use Rattle.evc_engine.specs.Walks.{AuditsOn};
 
@@ -88,8 +147,8 @@ impl<'a> GroupAudit for Auditing<'a> {
     ghost passes = { audits_off };
 }
 
-/// The audits of groups before the first entry.
-fn opened<'a>(
+/// The audits of groups before the first entry, where these are all semaphores.
+pub(crate) fn opened<'a>(
     alloc: Global,
     groups: &'a [Group],
     setup: &'a Setup,
@@ -102,18 +161,4 @@ fn opened<'a>(
         audits.push(Auditing::new(alloc, &groups[number], setup, semaphores))?;
     }
     Ok(audits)
-}
-
-/// The audits of groups after all entries of a run, in one walk over them, where these are all
-/// semaphores.
-pub(crate) fn audits_of<'a>(
-    alloc: Global,
-    run: &'a Run,
-    groups: &'a [Group],
-    semaphores: &'a [SemaphoreShape],
-) -> Result<Vec<Auditing<'a>>, AllocError>
-    ensures { IfOk result (λ audits. EachStands run.now.setup semaphores.now groups.now audits.items (reverse run.now.entries)) }
-{
-    let audits = opened(alloc, groups, run.setup(), semaphores)?;
-    Ok(walk_groups(run, groups, audits))
 }

@@ -324,13 +324,13 @@ told_trace None left r h = tt
 told_trace (Some bytes) left (Ok t) h = read_is_trace bytes t h
 told_trace (Some bytes) left (Err f) h = tt
 
-refuses : (bytes : List ℕ) (f : TraceFault) → outcome TRACE_MAX bytes ≡ Err f → IsNoTrace bytes
-refuses bytes f e o es h = (let k : Ok (recount o es) ≡ Err f = sym (trace_is_read bytes o es h) ∙ e in cc)
+pub trace_refuses : (bytes : List ℕ) (f : TraceFault) → outcome TRACE_MAX bytes ≡ Err f → IsNoTrace bytes
+trace_refuses bytes f e o es h = (let k : Ok (recount o es) ≡ Err f = sym (trace_is_read bytes o es h) ∙ e in cc)
 
 fault_refuses : (bytes : List ℕ) (left : Option (List ℕ)) (f : TraceFault) → Tells TRACE_MAX bytes left (Err f) → Refuses f bytes
 fault_refuses bytes left Memory h = tt
 fault_refuses bytes left Read h = tt
-fault_refuses bytes left f h = refuses bytes f h
+fault_refuses bytes left f h = trace_refuses bytes f h
 
 pub told_fault : (a left : Option (List ℕ)) (r : Result Recounted TraceFault) → IfSome a (λ bytes. Tells TRACE_MAX bytes left r) → IfSome a (λ bytes. IfErr r (λ f. Refuses f bytes))
 told_fault None left r h = tt

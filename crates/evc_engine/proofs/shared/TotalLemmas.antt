@@ -1,5 +1,5 @@
 -- The lines of totals, one after another.
-use Rattle.std.proofs.Common.{◌≡◌, ℕ, zero, suc, ◌+◌, List, [], ◌∷◌, ◌++◌, Option, ap, sym, ◌∙◌, arith, add-one, append_assoc, append-nil, subst, codes, Some, take, slice_get, None, refl, length, ◌≤◌, map}
+use Rattle.std.proofs.Common.{◌≡◌, ℕ, zero, suc, ◌+◌, List, [], ◌∷◌, ◌++◌, ap, sym, ◌∙◌, arith, add-one, append_assoc, append-nil, subst, codes, Some, take, slice_get, None, refl, length, ◌≤◌, map}
 use Rattle.std.proofs.lemmas.List.Concat.{flat_map-append}
 use Rattle.ec_count.specs.declared.target.Target.{Target}
 use Rattle.ec_count.specs.declared.target.Target.TheVariants.{Event, Sequencer, Cells}

@@ -1,4 +1,5 @@
-use Rattle.ec_trace.proofs.Readings.{if_known, reaches_start}
+use Rattle.ec_trace.proofs.Readings.{reaches_start}
+use Rattle.ec_trace.proofs.shared.KnownInputs.{if_known}
 use Rattle.ec_trace.proofs.opening.open_trace.Goals as goal
 
 pub returns-in-Err : goal.returns-in-Err

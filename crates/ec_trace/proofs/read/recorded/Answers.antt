@@ -2,7 +2,7 @@ use Rattle.std.proofs.Common.{◌≡◌, [], Ok, sym, ap, ◌∙◌}
 use Rattle.ec_core.specs.Recorded.{Recorded}
 use Rattle.ec_trace.specs.Histories.{history_of}
 use Rattle.ec_trace.specs.Recounted.{Recounted}
-use Rattle.ec_trace.proofs.Readings.{if_known, known}
+use Rattle.ec_trace.proofs.shared.KnownInputs.{if_known, known}
 use Rattle.ec_trace.proofs.read.recorded.Goals as goal
 
 pub invariant_of-result : goal.invariant_of-result

@@ -1,9 +1,17 @@
-use Rattle.evc_engine.proofs.shared.AuditLemmas.{audit_ends}
+use Rattle.std.proofs.Common.{sym, subst}
+use Rattle.ec_trace.proofs.shared.KnownInputs.{if_known, known}
+use Rattle.evc_engine.specs.Audits.{Audits}
+use Rattle.evc_engine.specs.Checks.{Outlets}
+use Rattle.evc_engine.proofs.FoundWritten.{stays, fault_told}
 use Rattle.evc_engine.proofs.auditing.audit.Goals as goal
 
-pub returns-in-Ok-clause-ends : goal.returns-in-Ok-clause-ends
-returns-in-Ok-clause-ends g c =
-    audit_ends (g.R.Read.remaining c.args.reader.now) (g.R.Read.remaining c.read_trace.new.reader) c.in-Ok.traced c.write_audited.result
-    (record { out = g.W.Write.contents c.args.out.now; notes = c.args.notes.now })
-    (record { out = g.W.Write.contents c.write_audited.new.out; notes = c.write_audited.new.notes })
-    c.in-Ok.ensures.tells c.in-Ok.ensures.trace c.write_audited.ensures.ends
+pub returns-in-Err-clause-ends : goal.returns-in-Err-clause-ends
+returns-in-Err-clause-ends g c = if_known (g.R.Read.remaining c.args.reader.now) _ (λ bytes is.
+    let old : Outlets = record { out = g.W.Write.contents c.args.out.now; notes = c.args.notes.now } in
+    let new : Outlets = record { out = g.W.Write.contents c.args.out.now; notes = c.note_unread.new.notes } in
+    subst (λ s. Audits bytes (g.R.Read.remaining c.open_trace.new.reader) s old new) (sym c.note_unread.ensures.status)
+    (fault_told bytes (g.R.Read.remaining c.open_trace.new.reader) c.in-Err.fault old new (known (g.R.Read.remaining c.args.reader.now) _ bytes c.in-Err.ensures is) (stays (g.W.Write.contents c.args.out.now)) (c.note_unread.ensures.note, c.note_unread.ensures.written)))
+
+pub returns-clause-ends : goal.returns-clause-ends
+returns-clause-ends g c = if_known (g.R.Read.remaining c.args.reader.now) _ (λ bytes is.
+    c.write_found.ensures.ends bytes (g.R.Read.remaining c.found_in-found.new.reader) (c.found_in-found.ensures bytes (known (g.R.Read.remaining c.args.reader.now) _ bytes c.in-Ok.ensures is)))

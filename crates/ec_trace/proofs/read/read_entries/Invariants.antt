@@ -5,15 +5,15 @@ use Rattle.ec_trace.specs.Histories.{history_of}
 use Rattle.ec_trace.specs.Stages.{Running}
 use Rattle.ec_trace.specs.Reading.{Reaches, IsOpened}
 use Rattle.ec_trace.specs.declared.read.TheConstants.{TRACE_MAX}
-use Rattle.ec_trace.proofs.lines.Lines.read_entries.Given as goal
+use Rattle.ec_trace.proofs.read.read_entries.Given as goal
 
 abbrev pub invariant-loop-fault : goal.invariant-loop-fault
 invariant-loop-fault g l = record {
   kept : AreKept l.heading.words l.fronts;
   stands : (first : g.row.H.Denot) → g.H.History.stands first l.fn.history (history_of l.heading [])
       → (entries : List Entry) × g.H.History.stands first l.history (history_of l.heading entries)
-      × ((xs : List ℕ) → IsOpened xs (g.R.Read.remaining l.fn.reader) l.fn.self l.heading → Reaches xs (g.R.Read.remaining l.reader) l.self (Running (record { heading = l.heading; entries = entries })));
+      × ((xs : List ℕ) → IsOpened xs (g.R.Read.remaining l.fn.reader) l.fn.lines l.heading → Reaches xs (g.R.Read.remaining l.reader) l.lines (Running (record { heading = l.heading; entries = entries })));
 }
 
 abbrev pub decreases-loop-fault : goal.decreases-loop-fault
-decreases-loop-fault g l = TRACE_MAX - l.self.taken
+decreases-loop-fault g l = TRACE_MAX - l.lines.taken

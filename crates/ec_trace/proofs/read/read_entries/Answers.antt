@@ -7,7 +7,7 @@ use Rattle.ec_trace.specs.Stages.{Running}
 use Rattle.ec_trace.specs.Step.{entry_step, is_ended}
 use Rattle.ec_trace.specs.declared.read.TheConstants.{TRACE_MAX}
 use Rattle.ec_trace.proofs.EntrySteps.{entry_line_taken, entry_line_refused, end_line_taken, recounts}
-use Rattle.ec_trace.proofs.lines.Lines.read_entries.Goals as goal
+use Rattle.ec_trace.proofs.read.read_entries.Goals as goal
 
 pub returns-in-Err-clause-recounts : goal.returns-in-Err-clause-recounts
 unfolding is_ended

@@ -1,0 +1,17 @@
+use Rattle.std.proofs.Common.{map, reverse, sym, subst}
+use Rattle.ec_database.specs.Auditing.{shown}
+use Rattle.ec_database.specs.Following.{FollowsDatabase}
+use Rattle.ec_database.specs.Tries.{ListsTries, AreUndisturbed}
+use Rattle.evc_engine.specs.Audits.{IsAudited}
+use Rattle.evc_engine.specs.Walks.{EndsFor}
+use Rattle.evc_engine.specs.declared.audited.Audited.TheVariants.{Versions}
+use Rattle.evc_engine.proofs.Findings.{of_database}
+use Rattle.evc_engine.proofs.walked.Auditing.finish.Goals as goal
+
+pub returns-in-Ok-finish : goal.returns-in-Ok-finish
+returns-in-Ok-finish c = λ h entries g e.
+    let v = c.in-Ok-finish.ensures in
+    let found = of_database h entries g c.in-Versions.audit
+    (λ t d. FollowsDatabase t d (reverse entries) × (ListsTries t d entries (map shown c.in-Ok-finish.list.items) × AreUndisturbed t d entries (map shown c.in-Ok-finish.list.items)))
+    (subst (EndsFor h entries g) c.in-Versions.is e) (λ ended. (v.followed entries ended, (v.tries entries ended, v.undisturbed entries ended))) in
+    subst (λ x. IsAudited h entries x (Versions c.in-Ok-finish.list)) (sym found.1) found.2
