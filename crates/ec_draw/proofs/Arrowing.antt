@@ -1,9 +1,8 @@
 -- Puts, gets and deliveries, entry by entry.
-use Rattle.std.proofs.Common.{◌≡◌, ℕ, ◌+◌, true, false, List, [], ◌∷◌, ◌++◌, length, map, Some, refl, ap, sym, ◌∙◌, cond, reverse, slice_get, append-nil}
+use Rattle.std.proofs.Common.{◌≡◌, ℕ, false, List, [], ◌∷◌, ◌++◌, length, map, refl, ap, sym, ◌∙◌, cond, reverse}
 use Rattle.std.specs.List.{filter}
 use Rattle.ec_count.specs.Tables.{Tables}
 use Rattle.ec_core.specs.declared.act.Entry.{Entry}
-use Rattle.ec_core.specs.Counts.{past_at}
 use Rattle.ec_buffer.specs.declared.delivery.Delivery.{Delivery}
 use Rattle.ec_buffer.specs.Shapes.{Buffer}
 use Rattle.ec_buffer.specs.Collecting.{collected}
@@ -18,26 +17,19 @@ use Rattle.ec_draw.specs.declared.arrow.Move.{Move}
 use Rattle.ec_draw.specs.declared.arrow.Move.TheVariants as moves
 use Rattle.ec_draw.specs.Following.{follows}
 use Rattle.ec_draw.specs.Arrows.{arrow_of, arrows_in, group_arrows, is_in, is_move, places}
-use Rattle.ec_draw.proofs.Stepping.{long_past, next_past}
 use Rattle.ec_draw.proofs.Balancing.{follow_yes}
 
-pub places_first : (m : Move) (b : Buffer) (h : List Entry) → [] ≡ places m b (past_at 0 h)
+-- before the first entry there are none
+pub places_first : (m : Move) (b : Buffer) → [] ≡ places m b []
 unfolding places
-places_first m b h = refl
+places_first m b = refl
 
 -- one entry more
-pub places_yes : (m : Move) (b : Buffer) (h : List Entry) (k : ℕ) (x : Entry) (ks : List ℕ) → slice_get h k ≡ Some x → is_move m b x.act ≡ true → ks ≡ places m b (past_at k h) → ks ++ k ∷ [] ≡ places m b (past_at (k + 1) h)
+pub places_next : (m : Move) (b : Buffer) (x : Entry) (past : List Entry) (place : ℕ) (ks ls : List ℕ) → place ≡ length past → ks ≡ places m b past
+    → ls ≡ ks ++ cond (is_move m b x.act) (place ∷ []) [] → ls ≡ places m b (x ∷ past)
 unfolding places
-places_yes m b h k x ks at moves was =
-    let p = past_at k h in
-    ap (λ z. z ++ k ∷ []) was
-    ∙ sym (ap (places m b) (next_past h k x at) ∙ ap (λ c. places m b p ++ cond c (length p ∷ []) []) moves ∙ ap (λ n. places m b p ++ n ∷ []) (long_past h k x at))
-
-pub places_no : (m : Move) (b : Buffer) (h : List Entry) (k : ℕ) (x : Entry) (ks : List ℕ) → slice_get h k ≡ Some x → is_move m b x.act ≡ false → ks ≡ places m b (past_at k h) → ks ≡ places m b (past_at (k + 1) h)
-unfolding places
-places_no m b h k x ks at moves was =
-    let p = past_at k h in
-    was ∙ sym (ap (places m b) (next_past h k x at) ∙ ap (λ c. places m b p ++ cond c (length p ∷ []) []) moves ∙ append-nil (places m b p))
+places_next m b x past place ks ls at was more =
+    more ∙ ap (λ l. l ++ cond (is_move m b x.act) (place ∷ []) []) was ∙ ap (λ k. places m b past ++ cond (is_move m b x.act) (k ∷ []) []) at
 
 -- the arrows of a buffer that is followed, and of one that isn't
 pub arrows_are : (t : Tables) (b : Buffer) (w : Window) (h : List Entry) (puts gets : List ℕ) (list : List Delivery) → IsFollowed t b h → AreDeliveries t b h list

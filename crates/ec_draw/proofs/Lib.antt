@@ -4,5 +4,7 @@ mod Filtering
 mod Balancing
 mod Shading
 mod Arrowing
+mod WalkLemmas
 mod Telling
+mod Beginning
 mod Shown

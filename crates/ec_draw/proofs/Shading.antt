@@ -11,7 +11,7 @@ use Rattle.ec_core.specs.Calls.{is_go}
 use Rattle.ec_core.specs.Following.{Told, block}
 use Rattle.ec_core.proofs.shared.Places.{get_set}
 use Rattle.ec_database.specs.Shapes.{Database}
-use Rattle.ec_database.specs.Following.{is_on, writes, write_rule, try_rule, database_rules, FollowsDatabase}
+use Rattle.ec_database.specs.Following.{is_on, writes, database_rules, FollowsDatabase}
 use Rattle.ec_database.specs.Tries.{AcceptedTry, accepted_tries, ended_at}
 use Rattle.ec_database.specs.Auditing.{Versioning, IsVersioning, found_in}
 use Rattle.ec_draw.specs.declared.window.Window.{Window}
@@ -19,13 +19,11 @@ use Rattle.ec_draw.specs.declared.shade.Span.{Span}
 use Rattle.ec_draw.specs.Shades.{Shaded, AddsNewest, AreStarts, begins_list, list_start, starts_after, shaded, shade_at, shades_in, shades_shown, span_at, group_shades, is_in}
 use Rattle.ec_heading.specs.declared.group.Group.TheVariants as groups
 use Rattle.ec_draw.specs.Following.{follows}
+use Rattle.ec_draw.specs.LeftOut.{concerns_is}
 use Rattle.ec_draw.proofs.Filtering.{filter_behind}
 use Rattle.ec_draw.proofs.Balancing.{follow_yes}
 
 -- WHERE LISTS BEGIN
-
-concerns_is : (t : Tables) (d : Database) (w : ℕ) (act : Act) → (database_rules t d w).concerns [] act ≡ is_on d act
-concerns_is t d w act = elim (writes t d w) as (λ b. (cond b (write_rule d) (try_rule d)).concerns [] act ≡ is_on d act) [ true ↦ refl | false ↦ refl ]
 
 begins_is : (t : Tables) (d : Database) (w : ℕ) (calls : List Told) (n : ℕ) (act : Act) → n ≡ length calls → begins_list (database_rules t d w) calls act ≡ ((n == 0 && not (is_go act)) && is_on d act)
 begins_is t d w [] n act is = ap (λ b. not (is_go act) && b) (concerns_is t d w act) ∙ ap (λ m. (m == 0 && not (is_go act)) && is_on d act) (sym is)
@@ -62,7 +60,7 @@ starts_next t d x past n place starts small at is was w lt =
     set false e true f = get_set starts x.worker w place low ∙ ap (λ c. cond c (Some place) (slice_get starts w)) e ∙ was w lt
     set false e false f = was w lt
 
-index_is : (xs : List ℕ) (i x : ℕ) → slice_get xs i ≡ Some x → slice_index xs i ≡ x
+pub index_is : (xs : List ℕ) (i x : ℕ) → slice_get xs i ≡ Some x → slice_index xs i ≡ x
 index_is [] i x e = cc
 index_is (y ∷ ys) zero x e = cc
 index_is (y ∷ ys) (suc i) x e = index_is ys i x e

@@ -29,6 +29,7 @@ use Rattle.ec_draw.specs.declared.arrow.Arrow.{Arrow}
 use Rattle.ec_draw.specs.declared.arrow.Move.{Move}
 use Rattle.ec_draw.specs.declared.arrow.Move.TheVariants as moves
 use Rattle.ec_draw.specs.Balances.{left_of, lefts, told_at}
+use Rattle.ec_draw.specs.LeftOut.{told_long}
 use Rattle.ec_draw.specs.Shades.{Shaded, shaded, shade_at, shades_in, span_at}
 use Rattle.ec_draw.specs.Arrows.{arrow_of, arrows_in, is_move, place_of, places}
 use Rattle.ec_draw.specs.Laws.{BalanceCurvesAreLefts, LeftsAreBalances, ShadesEndTries, ArrowsAreDeliveries, IsArrow}
@@ -41,7 +42,7 @@ get_front [] ys i x h = cc
 get_front (y ∷ xs) ys zero x h = h
 get_front (y ∷ xs) ys (suc i) x h = get_front xs ys i x h
 
-get_either : {X : Type 0} (xs : List X) (o : Option X) (i : ℕ) (x : X) → slice_get (xs ++ option_to_list o) i ≡ Some x → (slice_get xs i ≡ Some x) ⊎ (o ≡ Some x)
+pub get_either : {X : Type 0} (xs : List X) (o : Option X) (i : ℕ) (x : X) → slice_get (xs ++ option_to_list o) i ≡ Some x → (slice_get xs i ≡ Some x) ⊎ (o ≡ Some x)
 get_either [] None i x h = cc
 get_either [] (Some y) zero x h = inr h
 get_either [] (Some y) (suc i) x h = cc
@@ -92,15 +93,6 @@ lefts_none : (s : Semaphore) (w : Window) (h : List Entry) → lefts s w (past_a
 unfolding lefts
 lefts_none s w h = refl
 
-told_long : (w : Window) (k n : ℕ) → k ≤ w.to → length (told_at w k n) + (k - w.from) ≡ k + 1 - w.from
-told_long w k n le =
-    elim (nat_le w.from k) as (λ b. nat_le w.from k ≡ b → length (cond (b && nat_le k w.to) (n ∷ []) []) + (k - w.from) ≡ k + 1 - w.from) [
-      | true ↦ λ e. (let low = leb-true w.from k e in
-          let one : length (cond (nat_le k w.to) (n ∷ []) []) ≡ 1 = ap (λ c. length (cond c (n ∷ []) [])) (le-leb k w.to le) in
-          omega arith)
-      | false ↦ λ e. (let above = leb-false w.from k e in omega arith)
-    ] refl
-
 told_yes : (w : Window) (k n : ℕ) → w.from ≤ k → k ≤ w.to → told_at w k n ≡ n ∷ []
 told_yes w k n low high = ap (λ b. cond (b && nat_le k w.to) (n ∷ []) []) (le-leb w.from k low) ∙ ap (λ c. cond c (n ∷ []) []) (le-leb k w.to high)
 
@@ -145,7 +137,7 @@ curves_are_lefts s w h j high in' =
 -- SHADES
 
 -- the try of a shade
-shade_of : (count : ℕ) (t : Tables) (d : Database) (x : Entry) (past : List Entry) (o : Option AcceptedTry) (s : Shaded) → option_map (shaded count (span_at t d x past)) o ≡ Some s
+pub shade_of : (count : ℕ) (t : Tables) (d : Database) (x : Entry) (past : List Entry) (o : Option AcceptedTry) (s : Shaded) → option_map (shaded count (span_at t d x past)) o ≡ Some s
     → (a : AcceptedTry) × (o ≡ Some a) × (shaded count (span_at t d x past) a ≡ s)
 shade_of count t d x past None s e = cc
 shade_of count t d x past (Some a) s e = (a, refl, (cc))

@@ -1,10 +1,11 @@
 -- The arrows: of each buffer that is followed, its deliveries, each from the put of an item to the get of the same number.
-use Rattle.std.specs.Prelude.{ℕ, Bool, ◌||◌, List, [], ◌∷◌, ◌++◌, length, map, reverse, is_some, slice_get, unwrap_or, if◌then◌else◌}
+use Rattle.std.specs.Prelude.{◌≡◌, ℕ, Bool, false, ◌||◌, List, [], ◌∷◌, ◌++◌, length, map, reverse, is_some, slice_get, unwrap_or, if◌then◌else◌}
 use Rattle.std.specs.List.{filter, flat_map}
 use Rattle.ec_count.specs.Tables.{Tables}
 use Rattle.ec_core.specs.declared.act.Act.{Act}
 use Rattle.ec_core.specs.declared.act.Entry.{Entry}
 use Rattle.ec_buffer.specs.declared.delivery.Delivery.{Delivery}
+use Rattle.ec_buffer.specs.Auditing.{Delivering, IsDelivering}
 use Rattle.ec_buffer.specs.Shapes.{Buffer}
 use Rattle.ec_buffer.specs.Follows.{buffer_rules}
 use Rattle.ec_buffer.specs.Items.{put_on, is_get_on}
@@ -60,3 +61,24 @@ group_arrows t w h (groups.Both c) = []
 -- those of all groups
 abbrev pub arrows : Tables → List Group → Window → List Entry → List Arrow
 arrows t gs w h = flat_map (group_arrows t w h) gs
+
+-- A WALK
+
+-- what a walk keeps of a buffer: its audit, and the positions of the puts and of the gets, or that memory was refused
+pub record Moving : Type 0 where
+  pub audit : Delivering
+  pub shape : Buffer
+  pub puts : List ℕ
+  pub gets : List ℕ
+  pub lacks : Bool
+
+-- it is that after a past
+pub record IsMoving (m : Moving) (past : List Entry) : Type 0 where
+  pub shape : m.audit.shape ≡ m.shape
+  pub audit : IsDelivering m.audit past
+  pub puts : m.lacks ≡ false → m.puts ≡ places moves.Put m.shape past
+  pub gets : m.lacks ≡ false → m.gets ≡ places moves.Get m.shape past
+
+-- of the same buffer, after a past
+abbrev pub MovesOn : Moving → Moving → List Entry → Type 0
+MovesOn start now past = (now.shape ≡ start.shape) × (now.audit.setup ≡ start.audit.setup) × IsMoving now past

@@ -1,5 +1,5 @@
 -- The curves of balances: of each semaphore that is followed, how many it has left at each moment that is shown.
-use Rattle.std.specs.Prelude.{◌≡◌, ℕ, ◌+◌, ◌-◌, ◌<◌, ◌^◌, Bool, false, ◌&&◌, nat_le, List, [], ◌∷◌, ◌++◌, length, reverse, if◌then◌else◌}
+use Rattle.std.specs.Prelude.{◌≡◌, ℕ, ◌+◌, ◌-◌, ◌<◌, ◌^◌, Bool, false, ◌&&◌, nat_le, min, List, [], ◌∷◌, ◌++◌, length, replicate, reverse, if◌then◌else◌}
 use Rattle.std.specs.List.{flat_map}
 use Rattle.ec_core.specs.declared.act.Entry.{Entry}
 use Rattle.ec_semaphore.specs.Shapes.{Semaphore}
@@ -56,12 +56,25 @@ balance_lines gs w h = flat_map (group_line (semaphores_of gs) w h) gs
 
 -- A WALK
 
--- what a walk keeps of a semaphore: its audit, and what was left at the moments that are shown, or that memory was refused
+-- how many moments are shown, from the first up to moment k
+abbrev pub moments : Window → ℕ → ℕ
+moments w k = min k w.to + 1 - w.from
+
+-- what a walk keeps of a semaphore: its audit, and what was left at the first of the moments that are shown, or that memory was
+-- refused
 pub record Course : Type 0 where
   pub audit : Balancing
   pub window : Window
   pub heights : List ℕ
   pub lacks : Bool
+
+-- how many the semaphore has left by its audit
+abbrev pub left_by : Balancing → ℕ
+left_by a = a.shape.initial + a.ups - a.downs
+
+-- what was left at each moment that is shown up to moment k: since the latest that is kept nothing was given back or taken
+abbrev pub padded : Course → ℕ → List ℕ
+padded c k = c.heights ++ replicate (moments c.window k - length c.heights) (left_by c.audit)
 
 -- no count of the semaphore is too large for the code after a past
 abbrev pub IsSmall : Semaphore → List Entry → Type 0
@@ -70,7 +83,7 @@ IsSmall s past = s.initial + ups s past < 2 ^ 64
 -- it is that after a past
 pub record IsCourse (c : Course) (past : List Entry) : Type 0 where
   pub counted : IsCounted c.audit past
-  pub heights : c.lacks ≡ false → IsSmall c.audit.shape past → c.heights ≡ lefts c.audit.shape c.window past
+  pub heights : c.lacks ≡ false → IsSmall c.audit.shape past → padded c (length past) ≡ lefts c.audit.shape c.window past
 
 -- of the same semaphore, after a past
 abbrev pub CoursesOn : Course → Course → List Entry → Type 0

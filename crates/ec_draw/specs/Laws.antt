@@ -1,15 +1,17 @@
 -- What bars, curves, shades and arrows are, over the history in its natural order.
-use Rattle.std.specs.Prelude.{◌≡◌, ◌↔◌, ℕ, ◌+◌, ◌-◌, ◌≤◌, true, List, Some, length, slice_get, reverse, pos}
+use Rattle.std.specs.Prelude.{◌≡◌, ◌↔◌, ℕ, ◌+◌, ◌-◌, ◌<◌, ◌≤◌, true, false, List, [], Some, length, slice_get, reverse, pos}
 use Rattle.std.specs.List.{Contains}
 use Rattle.ec_count.specs.Tables.{Tables, IsDeclared}
 use Rattle.ec_core.specs.declared.act.Entry.{Entry}
 use Rattle.ec_core.specs.Acceptance.{IsAccepted}
 use Rattle.ec_core.specs.Counts.{past_at}
-use Rattle.ec_core.specs.Following.{Rule, Follow}
+use Rattle.ec_core.specs.Calls.{is_go}
+use Rattle.ec_core.specs.Following.{Rule, Follow, block}
 use Rattle.ec_buffer.specs.Shapes.{Buffer}
 use Rattle.ec_buffer.specs.Items.{PutsItem, GetsItem, gets_made}
 use Rattle.ec_buffer.specs.Laws.{IsFollowed}
 use Rattle.ec_database.specs.Shapes.{Database}
+use Rattle.ec_database.specs.Following.{is_on, database_rules}
 use Rattle.ec_database.specs.Tries.{EndsTry}
 use Rattle.ec_semaphore.specs.Shapes.{Semaphore}
 use Rattle.ec_semaphore.specs.Uses.{use_rules}
@@ -23,7 +25,7 @@ use Rattle.ec_draw.specs.Bars.{bars, is_shown}
 use Rattle.ec_draw.specs.Curves.{count_at, heights}
 use Rattle.ec_draw.specs.Following.{follows}
 use Rattle.ec_draw.specs.Balances.{left_of, lefts}
-use Rattle.ec_draw.specs.Shades.{Shaded, shades_in}
+use Rattle.ec_draw.specs.Shades.{Shaded, begins_list, shades_in}
 use Rattle.ec_draw.specs.declared.arrow.Arrow.{Arrow}
 use Rattle.ec_draw.specs.Arrows.{arrows_in}
 
@@ -56,6 +58,22 @@ LeftsAreBalances = (s : Semaphore) (t : Tables) (k : ℕ) (h : List Entry) → I
 -- each shade is that of an accepting try, which its last entry ends
 abbrev pub ShadesEndTries : Type 0
 ShadesEndTries = (t : Tables) (d : Database) (h : List Entry) (i : ℕ) (s : Shaded) → slice_get (shades_in t d (reverse h)) i ≡ Some s → EndsTry t d h s.span.last s.accepted
+
+-- entry i began the list of calls on the database that w was in before entry k: it began a call on it while no call of a
+-- list was finished, and no entry of w since then did so
+pub record BeginsList (t : Tables) (d : Database) (h : List Entry) (w k i : ℕ) : Type 0 where
+  pub entry : Entry
+  pub is : slice_get h i ≡ Some entry
+  pub by : entry.worker ≡ w
+  pub call : is_go entry.act ≡ false
+  pub on : is_on d entry.act ≡ true
+  pub first : block (database_rules t d w) w (past_at i h) ≡ []
+  pub before : i < k
+  pub none_since : (j : ℕ) (x : Entry) → i < j → j < k → slice_get h j ≡ Some x → x.worker ≡ w → begins_list (database_rules t d w) (block (database_rules t d w) w (past_at j h)) x.act ≡ false
+
+-- each shade begins with the entry that began the list of its reader
+abbrev pub ShadesBeginLists : Type 0
+ShadesBeginLists = (t : Tables) (d : Database) (h : List Entry) (i : ℕ) (s : Shaded) → slice_get (shades_in t d (reverse h)) i ≡ Some s → BeginsList t d h s.accepted.worker s.span.last s.span.first
 
 -- the arrow is that of item n: its one end puts what its other end gets, by that number
 pub record IsArrow (t : Tables) (b : Buffer) (h : List Entry) (n : ℕ) (a : Arrow) : Type 0 where

@@ -1,15 +1,15 @@
 //! The arrows of deliveries.
-ghost use Rattle.std.specs.Prelude.{◌≡◌, ◌++◌, ◌∷◌, [], IfOk, OnOk, map, reverse};
+ghost use Rattle.std.specs.Prelude.{◌≡◌, ◌++◌, ◌∷◌, [], false, if◌then◌else◌, OnOk, map, reverse};
 ghost use Rattle.std.specs.List.{filter};
-ghost use Rattle.ec_draw.specs.Arrows.{arrow_of, arrows, group_arrows, is_in, is_move, place_of, places};
+ghost use Rattle.ec_draw.specs.Arrows.{IsMoving, arrow_of, group_arrows, is_in, is_move, place_of};
 ghost use Rattle.ec_heading.specs.declared.group.Group.TheVariants as groups;
 
 use crate::Window;
-use ec_buffer::{BufferShape, Delivery, deliveries, is_on};
-use ec_core::{Act, AuditFault, Run};
-use ec_count::EventId;
-use ec_heading::Group;
+use ec_buffer::{BufferShape, Delivery, DeliveryAudit, is_on};
+use ec_core::{Act, Audit, AuditFault, Entry, Run};
+use ec_count::{EventId, Setup};
 use std::alloc::{AllocError, Global};
+use std::marker::Model;
 
 /// What is done with an item.
 #[derive(Clone, Copy, Debug, PartialEq, Eq)]
@@ -41,24 +41,89 @@ fn is_move(what: Move, shape: &BufferShape, act: &Act) -> bool
     }
 }
 
-/// The positions of the entries of a run that do so.
-fn places(
-    alloc: Global,
-    run: &Run,
+/// Notes the position of an act that does so.
+fn note_move(
+    list: &mut Vec<usize>,
     what: Move,
     shape: &BufferShape,
-) -> Result<Vec<usize>, AllocError>
-    ensures { IfOk result (λ list. list.items ≡ places what shape.now (reverse run.now.entries)) }
+    place: usize,
+    act: &Act,
+) -> Result<(), AllocError>
+    ensures { OnOk result (list.new.items ≡ list.old.items ++ (if is_move what shape.now act.now then place ∷ [] else [])) }
 {
-    let mut list = Vec::new(alloc);
-    for position in 0..run.len() {
-        if let Some(entry) = run.entry(position) {
-            if is_move(what, shape, &entry.act) {
-                list.push(position)?;
-            }
+    if is_move(what, shape, act) {
+        list.push(place)?;
+    }
+    Ok(())
+}
+
+/// The same, unless there was no memory for an earlier one. The answer is whether one is lacking.
+fn lacks_after(
+    lacks: bool,
+    list: &mut Vec<usize>,
+    what: Move,
+    shape: &BufferShape,
+    place: usize,
+    act: &Act,
+) -> bool
+    ensures before { result ≡ false → lacks ≡ false }
+    ensures noted { result ≡ false → list.new.items ≡ list.old.items ++ (if is_move what shape.now act.now then place ∷ [] else []) }
+{
+    lacks || note_move(list, what, shape, place, act).is_err()
+}
+
+/// The audit of a buffer in a walk over a run, and the positions of the puts and of the gets.
+#[derive(Drop)]
+pub(crate) struct Moves<'a> {
+    audit: DeliveryAudit<'a>,
+    shape: &'a BufferShape,
+    puts: Vec<usize>,
+    gets: Vec<usize>,
+    lacks: bool,
+}
+
+impl<'a> Model for Moves<'a> {
+    ghost use Rattle.ec_draw.specs.Arrows.{Moving};
+
+    ghost Value = { Moving };
+
+    ghost view = { λ s. record { audit = s.audit; shape = s.shape.now; puts = s.puts.items; gets = s.gets.items; lacks = s.lacks } };
+}
+
+impl<'a> Audit for Moves<'a> {
+    ghost use Rattle.ec_draw.specs.Arrows.{MovesOn};
+
+    ghost stands = { MovesOn };
+
+    fn take(&mut self, place: usize, op: &Act, entry: &Entry) {
+        let Moves {
+            audit,
+            shape,
+            puts,
+            gets,
+            lacks,
+        } = self;
+        *lacks = lacks_after(*lacks, puts, Move::Put, shape, place, &entry.act);
+        *lacks = lacks_after(*lacks, gets, Move::Get, shape, place, &entry.act);
+        audit.take(place, op, entry);
+    }
+}
+
+impl<'a> Moves<'a> {
+    /// Before the first entry of a run on this setup. It takes no memory.
+    pub(crate) fn new(alloc: Global, shape: &'a BufferShape, setup: &'a Setup) -> Self
+        ensures shape { result.shape ≡ shape.now }
+        ensures setup { result.audit.setup ≡ setup.now }
+        ensures first { IsMoving result [] }
+    {
+        Moves {
+            audit: DeliveryAudit::new(alloc, shape, setup),
+            shape,
+            puts: Vec::new(alloc),
+            gets: Vec::new(alloc),
+            lacks: false,
         }
     }
-    Ok(list)
 }
 
 /// The position of a move by its number.
@@ -107,22 +172,34 @@ fn add_deliveries(
     Ok(())
 }
 
-/// Adds the arrows of a buffer, if its workers follow it.
-fn add_buffer(
+/// Adds the arrows of a buffer, if its workers follow it, from what was kept of it in a walk over a
+/// whole run.
+pub(crate) fn add_buffer(
     arrows: &mut Vec<Arrow>,
-    alloc: Global,
     run: &Run,
     shape: &BufferShape,
+    moves: Moves<'_>,
     window: Window,
 ) -> Result<(), AllocError>
+    requires shape { moves.shape ≡ shape.now }
+    requires setup { moves.audit.setup ≡ run.now.setup }
+    requires stands { IsMoving moves (reverse run.now.entries) }
     ensures { OnOk result (arrows.new.items ≡ arrows.old.items ++ group_arrows run.now.setup window run.now.entries (groups.Buffer shape.now)) }
 {
     run.known();
     shape.known();
-    match deliveries(alloc, run, shape) {
+    let Moves {
+        audit,
+        puts,
+        gets,
+        lacks,
+        ..
+    } = moves;
+    match audit.deliveries(run) {
         Ok(list) => {
-            let puts = places(alloc, run, Move::Put, shape)?;
-            let gets = places(alloc, run, Move::Get, shape)?;
+            if lacks {
+                return Err(AllocError);
+            }
             add_deliveries(
                 arrows,
                 shape,
@@ -135,38 +212,4 @@ fn add_buffer(
         Err(AuditFault::NotFollowed { .. }) => Ok(()),
         Err(AuditFault::Memory) => Err(AllocError),
     }
-}
-
-/// Adds the arrows of a group, if it has some.
-fn add_group(
-    arrows: &mut Vec<Arrow>,
-    alloc: Global,
-    run: &Run,
-    group: &Group,
-    window: Window,
-) -> Result<(), AllocError>
-    ensures { OnOk result (arrows.new.items ≡ arrows.old.items ++ group_arrows run.now.setup window run.now.entries group.now) }
-{
-    match group {
-        Group::Buffer(shape) => add_buffer(arrows, alloc, run, shape, window),
-        Group::Database(_) => Ok(()),
-        Group::Semaphore(_) => Ok(()),
-        Group::Both(_) => Ok(()),
-    }
-}
-
-/// The deliveries that are shown, of those buffers whose workers follow them.
-pub fn arrows(
-    alloc: Global,
-    run: &Run,
-    groups: &[Group],
-    window: Window,
-) -> Result<Vec<Arrow>, AllocError>
-    ensures { IfOk result (λ list. list.items ≡ arrows run.now.setup groups.now window run.now.entries) }
-{
-    let mut arrows = Vec::new(alloc);
-    for group in groups {
-        add_group(&mut arrows, alloc, run, group, window)?;
-    }
-    Ok(arrows)
 }

@@ -1,31 +1,21 @@
 //! The curves of balances.
-ghost use Rattle.std.specs.Prelude.{◌≡◌, ◌+◌, ◌-◌, ◌<◌, ◌^◌, ◌++◌, [], false, IfOk, OnOk, map, reverse};
-ghost use Rattle.std.specs.List.{flat_map};
+ghost use Rattle.std.specs.Prelude.{◌≡◌, ◌+◌, ◌-◌, ◌<◌, ◌≤◌, ◌^◌, ◌++◌, [], false, length, replicate, IfOk, OnOk, map, reverse};
 ghost use Rattle.ec_semaphore.specs.Auditing.{IsCounted};
-ghost use Rattle.ec_semaphore.specs.Both.{is_line, both_rules};
 ghost use Rattle.ec_semaphore.specs.Uses.{use_rules};
-ghost use Rattle.ec_draw.specs.Balances.{IsCourse, balance_line, balance_lines, group_line, has_moment, lefts, line_if, told_at};
+ghost use Rattle.ec_draw.specs.Balances.{IsCourse, left_by, lefts, line_if, moments};
 ghost use Rattle.ec_draw.specs.Curves.{shown};
 ghost use Rattle.ec_draw.specs.declared.curve.Plotted.TheVariants as plotted;
 ghost use Rattle.ec_draw.specs.Following.{follows};
 
 use crate::{Curve, Plotted, Window};
-use ec_core::{Act, Audit, AuditFault, Entry, Run, walk};
-use ec_heading::{Group, semaphores_of};
-use ec_semaphore::{BalanceAudit, SemaphoreShape, pairs};
+use ec_core::{Act, Audit, Entry, Run};
+use ec_semaphore::{BalanceAudit, PairAudit, SemaphoreShape};
 use std::alloc::{AllocError, Global};
 use std::marker::Model;
 
-/// Whether a moment is shown.
-fn has_moment(window: Window, moment: usize) -> bool
-    ensures { result ≡ has_moment window moment }
-{
-    window.from <= moment && moment <= window.to
-}
-
 /// How many a semaphore has left, by its audit so far.
 fn left(audit: &BalanceAudit) -> u64
-    ensures { audit.now.shape.initial + audit.now.ups < 2 ^ 64 → result ≡ audit.now.shape.initial + audit.now.ups - audit.now.downs }
+    ensures { audit.now.shape.initial + audit.now.ups < 2 ^ 64 → result ≡ left_by audit.now }
 {
     let parts = audit.so_far();
     parts
@@ -34,18 +24,29 @@ fn left(audit: &BalanceAudit) -> u64
         .saturating_sub(parts.downs)
 }
 
-/// Adds what is left at a moment, if that is shown.
-fn add_left(
-    heights: &mut Vec<u64>,
-    audit: &BalanceAudit,
-    window: Window,
-    moment: usize,
-) -> Result<(), AllocError>
-    ensures { OnOk result (audit.now.shape.initial + audit.now.ups < 2 ^ 64
-        → heights.new.items ≡ heights.old.items ++ told_at window moment (audit.now.shape.initial + audit.now.ups - audit.now.downs)) }
+/// Adds a number so often that there are so many.
+fn fill(heights: &mut Vec<u64>, many: usize, number: u64) -> Result<(), AllocError>
+    requires { length heights.old.items ≤ many }
+    ensures { OnOk result (heights.new.items ≡ heights.old.items ++ replicate (many - length heights.old.items) number) }
 {
-    if has_moment(window, moment) {
-        heights.push(left(audit))?;
+    for _place in heights.len()..many {
+        heights.push(number)?;
+    }
+    Ok(())
+}
+
+/// Tells a number at each moment that is shown up to this one, and that is not told yet.
+fn pad(heights: &mut Vec<u64>, window: Window, moment: usize, number: u64) -> Result<(), AllocError>
+    ensures { OnOk result (heights.new.items ≡ heights.old.items ++ replicate (moments window moment - length heights.old.items) number) }
+{
+    let Some(most) = moment.min(window.to).checked_sub(window.from) else {
+        return Ok(());
+    };
+    let Some(many) = most.checked_add(1) else {
+        return Err(AllocError);
+    };
+    if heights.len() < many {
+        fill(heights, many, number)?;
     }
     Ok(())
 }
@@ -54,20 +55,19 @@ fn add_left(
 fn lacks_after(
     lacks: bool,
     heights: &mut Vec<u64>,
-    audit: &BalanceAudit,
     window: Window,
     moment: usize,
+    number: u64,
 ) -> bool
     ensures before { result ≡ false → lacks ≡ false }
-    ensures added { result ≡ false → audit.now.shape.initial + audit.now.ups < 2 ^ 64
-        → heights.new.items ≡ heights.old.items ++ told_at window moment (audit.now.shape.initial + audit.now.ups - audit.now.downs) }
+    ensures added { result ≡ false → heights.new.items ≡ heights.old.items ++ replicate (moments window moment - length heights.old.items) number }
 {
-    lacks || add_left(heights, audit, window, moment).is_err()
+    lacks || pad(heights, window, moment, number).is_err()
 }
 
 /// The audit of a semaphore in a walk over a run, and what was left at the moments that are shown.
 #[derive(Drop)]
-struct Course {
+pub(crate) struct Course {
     audit: BalanceAudit,
     window: Window,
     heights: Vec<u64>,
@@ -94,155 +94,92 @@ impl Audit for Course {
             heights,
             lacks,
         } = self;
+        *lacks = lacks_after(*lacks, heights, *window, place, left(audit));
         audit.take(place, op, entry);
-        *lacks = lacks_after(*lacks, heights, audit, *window, place + 1);
     }
 }
 
 impl Course {
-    /// Before the first entry.
-    fn new(alloc: Global, shape: SemaphoreShape, window: Window) -> Result<Self, AllocError>
-        ensures shape { IfOk result (λ c. c.audit.shape ≡ shape) }
-        ensures window { IfOk result (λ c. c.window ≡ window) }
-        ensures first { IfOk result (λ c. IsCourse c []) }
+    /// Before the first entry. It takes no memory.
+    pub(crate) fn new(alloc: Global, shape: SemaphoreShape, window: Window) -> Self
+        ensures shape { result.audit.shape ≡ shape }
+        ensures window { result.window ≡ window }
+        ensures first { IsCourse result [] }
     {
-        let audit = BalanceAudit::new(shape);
-        let mut heights = Vec::new(alloc);
-        add_left(&mut heights, &audit, window, 0)?;
-        Ok(Course {
-            audit,
+        Course {
+            audit: BalanceAudit::new(shape),
             window,
-            heights,
+            heights: Vec::new(alloc),
             lacks: false,
-        })
+        }
     }
 
     /// Whether the workers follow the semaphore, after all entries of a run.
-    fn follows(&self, run: &Run) -> bool
+    pub(crate) fn follows(&self, run: &Run) -> bool
         requires { IsCounted self.now.audit (reverse run.now.entries) }
         ensures { result ≡ follows (use_rules self.now.audit.shape) (reverse run.now.entries) }
     {
         self.audit.balance(run).is_ok()
     }
-}
 
-/// The audit of a semaphore after a walk over a whole run.
-fn course_of(
-    alloc: Global,
-    run: &Run,
-    shape: &SemaphoreShape,
-    window: Window,
-) -> Result<Course, AllocError>
-    ensures shape { IfOk result (λ c. c.audit.shape ≡ shape.now) }
-    ensures counted { IfOk result (λ c. IsCounted c.audit (reverse run.now.entries)) }
-    ensures heights { IfOk result (λ c. c.heights ≡ lefts shape.now window (reverse run.now.entries)) }
-{
-    run.known();
-    let _initial = shape.initial();
-    let mut course = Course::new(alloc, *shape, window)?;
-    walk(run, &mut course);
-    if course.lacks {
-        return Err(AllocError);
+    /// What was left at the moments that are shown, after all entries of a run.
+    pub(crate) fn heights(self, run: &Run, shape: &SemaphoreShape) -> Result<Vec<u64>, AllocError>
+        requires shape { self.audit.shape ≡ shape.now }
+        requires stands { IsCourse self (reverse run.now.entries) }
+        ensures { IfOk result (λ hs. hs.items ≡ lefts shape.now self.window (reverse run.now.entries)) }
+    {
+        run.known();
+        let _initial = shape.initial();
+        let Course {
+            audit,
+            window,
+            mut heights,
+            lacks,
+        } = self;
+        if lacks {
+            return Err(AllocError);
+        }
+        pad(&mut heights, window, run.len(), left(&audit))?;
+        Ok(heights)
     }
-    Ok(course)
 }
 
-/// Adds a curve, if it is to be drawn.
-fn add_if(
+/// The audits of `both` in a walk over a run: of its common semaphore, with what was left, and of
+/// its guarded parts.
+#[derive(Drop)]
+pub(crate) struct BothCourse<'a> {
+    pub(crate) course: Course,
+    pub(crate) pairs: PairAudit<'a>,
+}
+
+impl<'a> Audit for BothCourse<'a> {
+    ghost use Rattle.ec_draw.specs.Findings.{BothOn};
+
+    ghost stands = { BothOn };
+
+    fn take(&mut self, place: usize, op: &Act, entry: &Entry) {
+        self.course.take(place, op, entry);
+        self.pairs.take(place, op, entry);
+    }
+}
+
+/// Adds the curve of a semaphore, if it is to be drawn, from what was kept of it in a walk over a
+/// whole run.
+pub(crate) fn add_if(
     curves: &mut Vec<Curve>,
+    run: &Run,
     follows: bool,
     shape: &SemaphoreShape,
     course: Course,
 ) -> Result<(), AllocError>
-    ensures { OnOk result (map shown curves.new.items ≡ map shown curves.old.items ++ line_if follows (record { object = plotted.Balance shape.now.count; heights = course.heights })) }
+    requires shape { course.audit.shape ≡ shape.now }
+    requires stands { IsCourse course (reverse run.now.entries) }
+    ensures { OnOk result (map shown curves.new.items ≡ map shown curves.old.items ++ line_if follows (record { object = plotted.Balance shape.now.count; heights = lefts shape.now course.window (reverse run.now.entries) })) }
 {
     if follows {
-        let Course { heights, .. } = course;
+        let heights = course.heights(run, shape)?;
         let object = Plotted::Balance(shape.count());
         curves.push(Curve { object, heights })?;
-    }
-    Ok(())
-}
-
-/// Adds the curve of a semaphore's balance, if its workers follow it.
-fn add_semaphore(
-    curves: &mut Vec<Curve>,
-    alloc: Global,
-    run: &Run,
-    shape: &SemaphoreShape,
-    window: Window,
-) -> Result<(), AllocError>
-    ensures { OnOk result (map shown curves.new.items ≡ map shown curves.old.items ++ line_if (follows (use_rules shape.now) (reverse run.now.entries)) (balance_line window run.now.entries shape.now)) }
-{
-    let course = course_of(alloc, run, shape, window)?;
-    let follows = course.follows(run);
-    add_if(curves, follows, shape, course)
-}
-
-/// Whether the workers follow the guarded parts of `both`.
-fn follows_both(
-    alloc: Global,
-    run: &Run,
-    shape: &SemaphoreShape,
-    semaphores: &[SemaphoreShape],
-) -> Result<bool, AllocError>
-    ensures { IfOk result (λ b. b ≡ follows (both_rules shape.now (is_line shape.now semaphores.now)) (reverse run.now.entries)) }
-{
-    match pairs(alloc, run, shape, semaphores) {
-        Ok(_pairs) => Ok(true),
-        Err(AuditFault::NotFollowed { .. }) => Ok(false),
-        Err(AuditFault::Memory) => Err(AllocError),
-    }
-}
-
-/// Adds the curve of the balance that `both` has, if its workers follow it.
-fn add_both(
-    curves: &mut Vec<Curve>,
-    alloc: Global,
-    run: &Run,
-    shape: &SemaphoreShape,
-    semaphores: &[SemaphoreShape],
-    window: Window,
-) -> Result<(), AllocError>
-    ensures { OnOk result (map shown curves.new.items ≡ map shown curves.old.items ++ line_if (follows (both_rules shape.now (is_line shape.now semaphores.now)) (reverse run.now.entries)) (balance_line window run.now.entries shape.now)) }
-{
-    let follows = follows_both(alloc, run, shape, semaphores)?;
-    let course = course_of(alloc, run, shape, window)?;
-    add_if(curves, follows, shape, course)
-}
-
-/// Adds the curve of a group's balance, if it has one.
-fn add_group(
-    curves: &mut Vec<Curve>,
-    alloc: Global,
-    run: &Run,
-    semaphores: &[SemaphoreShape],
-    group: &Group,
-    window: Window,
-) -> Result<(), AllocError>
-    ensures { OnOk result (map shown curves.new.items ≡ map shown curves.old.items ++ group_line semaphores.now window run.now.entries group.now) }
-{
-    match group {
-        Group::Buffer(_) => Ok(()),
-        Group::Database(_) => Ok(()),
-        Group::Semaphore(shape) => add_semaphore(curves, alloc, run, shape, window),
-        Group::Both(shape) => add_both(curves, alloc, run, shape, semaphores, window),
-    }
-}
-
-/// Adds the curves of the balances of those groups whose workers follow them.
-pub fn add_balances(
-    curves: &mut Vec<Curve>,
-    alloc: Global,
-    run: &Run,
-    groups: &[Group],
-    window: Window,
-) -> Result<(), AllocError>
-    ensures { OnOk result (map shown curves.new.items ≡ map shown curves.old.items ++ balance_lines groups.now window run.now.entries) }
-{
-    let semaphores = semaphores_of(alloc, groups)?;
-    for group in groups {
-        add_group(curves, alloc, run, semaphores.as_slice(), group, window)?;
     }
     Ok(())
 }

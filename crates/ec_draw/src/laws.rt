@@ -1,5 +1,5 @@
 //! Laws of bars, curves, shades and arrows, each the contract of a function that does nothing.
-ghost use Rattle.ec_draw.specs.Laws.{ArrowsAreDeliveries, BalanceCurvesAreLefts, BarsAreCalls, CurvesAreCounts, FollowingIsAnswered, LeftsAreBalances, ShadesEndTries};
+ghost use Rattle.ec_draw.specs.Laws.{ArrowsAreDeliveries, BalanceCurvesAreLefts, BarsAreCalls, CurvesAreCounts, FollowingIsAnswered, LeftsAreBalances, ShadesBeginLists, ShadesEndTries};
 
 use ec_order::order_by_points_ascends;
 
@@ -30,6 +30,12 @@ pub fn balance_curves_are_balances()
 /// Each shade is that of an accepting try, which its last entry ends.
 pub fn shades_end_tries()
     ensures { ShadesEndTries }
+{}
+
+/// Each shade begins with the entry that began the list of calls that its reader was in: it began a call on the database while
+/// no call of a list was finished, and no later entry of the reader did so.
+pub fn shades_begin_lists()
+    ensures { ShadesBeginLists }
 {}
 
 /// Where a buffer is followed there is one arrow for each get, from the put of the same number.

@@ -6,6 +6,7 @@ mod arrow;
 mod balance;
 mod curve;
 mod dot;
+mod finding;
 mod finished;
 mod laws;
 mod open;
@@ -13,16 +14,16 @@ mod picture;
 mod shade;
 mod window;
 
-pub use arrow::{Arrow, arrows};
-pub use balance::add_balances;
+pub use arrow::Arrow;
 pub use curve::{Counted, Curve, Plotted, curve_of, curves};
 pub use dot::{Dot, dots};
+pub use finding::{Findings, findings_of};
 pub use finished::bars;
 pub use laws::{
     arrows_are_deliveries, balance_curves_are_balances, bars_are_calls, curves_are_counts,
-    following_is_answered, shades_end_tries,
+    following_is_answered, shades_begin_lists, shades_end_tries,
 };
 pub use open::{Open, open_bars};
 pub use picture::{Picture, picture_of};
-pub use shade::{Shade, Span, shades};
+pub use shade::{Shade, Span};
 pub use window::{COLUMNS_MAX, Window};

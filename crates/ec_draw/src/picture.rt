@@ -1,13 +1,9 @@
 //! All shapes of a picture.
-ghost use Rattle.std.specs.Prelude.{◌≡◌, ◌++◌, IfOk, map};
-ghost use Rattle.ec_draw.specs.Balances.{balance_lines};
-ghost use Rattle.ec_draw.specs.Curves.{lines, shown};
+ghost use Rattle.std.specs.Prelude.{◌≡◌, ◌++◌, IfOk, OnOk, map};
+ghost use Rattle.ec_draw.specs.Curves.{shown};
 ghost use Rattle.ec_draw.specs.Pictures.{kept, shapes};
 
-use crate::{
-    Arrow, Curve, Dot, Open, Shade, Window, add_balances, arrows, bars, curves, dots, open_bars,
-    shades,
-};
+use crate::{Arrow, Curve, Dot, Open, Shade, Window, bars, curves, dots, findings_of, open_bars};
 use ec_core::Run;
 use ec_heading::Group;
 use ec_order::Placed;
@@ -32,18 +28,14 @@ pub struct Picture {
     pub arrows: Vec<Arrow>,
 }
 
-/// The curves of counts, and those of balances.
-fn all_curves(
-    alloc: Global,
-    run: &Run,
-    groups: &[Group],
-    window: Window,
-) -> Result<Vec<Curve>, AllocError>
-    ensures { IfOk result (λ cs. map shown cs.items ≡ lines run.now.setup window run.now.entries ++ balance_lines groups.now window run.now.entries) }
+/// Adds some curves.
+fn add_curves(curves: &mut Vec<Curve>, list: Vec<Curve>) -> Result<(), AllocError>
+    ensures { OnOk result (map shown curves.new.items ≡ map shown curves.old.items ++ map shown list.items) }
 {
-    let mut list = curves(alloc, run, window)?;
-    add_balances(&mut list, alloc, run, groups, window)?;
-    Ok(list)
+    for curve in list {
+        curves.push(curve)?;
+    }
+    Ok(())
 }
 
 /// The picture of a run through a window: its shapes are those of the run's history, with these groups. The run is as
@@ -56,13 +48,16 @@ pub fn picture_of(
 ) -> Result<Picture, AllocError>
     ensures { IfOk result (λ p. kept p ≡ shapes run.now.setup groups.now window run.now.entries) }
 {
+    let found = findings_of(alloc, run, groups, window)?;
+    let mut curves = curves(alloc, run, window)?;
+    add_curves(&mut curves, found.curves)?;
     Ok(Picture {
         window,
         calls: bars(alloc, run, window)?,
         begun: open_bars(alloc, run, window)?,
         dots: dots(alloc, run, window)?,
-        curves: all_curves(alloc, run, groups, window)?,
-        shades: shades(alloc, run, groups, window)?,
-        arrows: arrows(alloc, run, groups, window)?,
+        curves,
+        shades: found.shades,
+        arrows: found.arrows,
     })
 }

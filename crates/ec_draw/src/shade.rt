@@ -3,14 +3,13 @@ ghost use Rattle.std.specs.Prelude.{◌≡◌, ◌<◌, ◌++◌, ◌∷◌, [],
 ghost use Rattle.std.specs.List.{filter, flat_map};
 ghost use Rattle.std.specs.Option.{option_map};
 ghost use Rattle.ec_core.specs.Calls.{is_go};
-ghost use Rattle.ec_draw.specs.Shades.{AddsNewest, IsTrying, group_shades, is_in, seen, shaded, shades, starts_after};
+ghost use Rattle.ec_draw.specs.Shades.{AddsNewest, IsTrying, group_shades, is_in, seen, shaded, starts_after};
 ghost use Rattle.ec_heading.specs.declared.group.Group.TheVariants as groups;
 
 use crate::Window;
-use ec_core::{Act, Audit, AuditFault, Entry, Run, walk};
+use ec_core::{Act, Audit, AuditFault, Entry, Run};
 use ec_count::{EventId, Setup};
 use ec_database::{Accepted, DatabaseShape, VersionAudit, is_on};
-use ec_heading::Group;
 use std::alloc::{AllocError, Global};
 use std::marker::Model;
 
@@ -135,7 +134,7 @@ fn lacks_after(
 
 /// The audit of a database in a walk over a run, where the list began that each worker is in, and the shades so far.
 #[derive(Drop)]
-struct Tries<'a> {
+pub(crate) struct Tries<'a> {
     audit: VersionAudit<'a>,
     shape: &'a DatabaseShape,
     window: Window,
@@ -179,7 +178,12 @@ impl<'a> Audit for Tries<'a> {
 
 impl<'a> Tries<'a> {
     /// Before the first entry of a run on this setup.
-    fn new(alloc: Global, shape: &'a DatabaseShape, setup: &'a Setup, window: Window) -> Self
+    pub(crate) fn new(
+        alloc: Global,
+        shape: &'a DatabaseShape,
+        setup: &'a Setup,
+        window: Window,
+    ) -> Self
         ensures shape { result.shape ≡ shape.now }
         ensures setup { result.audit.setup ≡ setup.now }
         ensures window { result.window ≡ window }
@@ -206,18 +210,20 @@ fn add_all(shades: &mut Vec<Shade>, list: Vec<Shade>) -> Result<(), AllocError>
     Ok(())
 }
 
-/// Adds the shades of a database, if its workers follow it.
-fn add_database(
+/// Adds the shades of a database, if its workers follow it, from what was kept of it in a walk over
+/// a whole run.
+pub(crate) fn add_database(
     shades: &mut Vec<Shade>,
-    alloc: Global,
     run: &Run,
     shape: &DatabaseShape,
-    window: Window,
+    tries: Tries<'_>,
 ) -> Result<(), AllocError>
-    ensures { OnOk result (map seen shades.new.items ≡ map seen shades.old.items ++ group_shades run.now.setup window run.now.entries (groups.Database shape.now)) }
+    requires shape { tries.shape ≡ shape.now }
+    requires setup { tries.audit.setup ≡ run.now.setup }
+    requires stands { IsTrying tries (reverse run.now.entries) }
+    ensures { OnOk result (map seen shades.new.items ≡ map seen shades.old.items ++ group_shades run.now.setup tries.entry.window run.now.entries (groups.Database shape.now)) }
 {
-    let mut tries = Tries::new(alloc, shape, run.setup(), window);
-    walk(run, &mut tries);
+    let _ = shape;
     let Tries {
         audit,
         shades: list,
@@ -234,38 +240,4 @@ fn add_database(
         Err(AuditFault::NotFollowed { .. }) => Ok(()),
         Err(AuditFault::Memory) => Err(AllocError),
     }
-}
-
-/// Adds the shades of a group, if it has some.
-fn add_group(
-    shades: &mut Vec<Shade>,
-    alloc: Global,
-    run: &Run,
-    group: &Group,
-    window: Window,
-) -> Result<(), AllocError>
-    ensures { OnOk result (map seen shades.new.items ≡ map seen shades.old.items ++ group_shades run.now.setup window run.now.entries group.now) }
-{
-    match group {
-        Group::Buffer(_) => Ok(()),
-        Group::Database(shape) => add_database(shades, alloc, run, shape, window),
-        Group::Semaphore(_) => Ok(()),
-        Group::Both(_) => Ok(()),
-    }
-}
-
-/// The accepting tries that are shown, of those databases whose workers follow them.
-pub fn shades(
-    alloc: Global,
-    run: &Run,
-    groups: &[Group],
-    window: Window,
-) -> Result<Vec<Shade>, AllocError>
-    ensures { IfOk result (λ list. map seen list.items ≡ shades run.now.setup groups.now window run.now.entries) }
-{
-    let mut shades = Vec::new(alloc);
-    for group in groups {
-        add_group(&mut shades, alloc, run, group, window)?;
-    }
-    Ok(shades)
 }

@@ -4,7 +4,7 @@
 pub(crate) const OPENING: &[u8] = b"<svg xmlns='http://www.w3.org/2000/svg'";
 
 /// How it looks. The colours are those of M. Okabe and K. Ito, which people who don't see all colours can tell apart; a call
-/// under way is dashed too, and each bar has its word.
+/// under way is dashed too, and each bar has its word. The words that an arrow may run across stand out from it.
 pub(crate) const STYLE: &[u8] = b"<style>
 text { font-family: 'DejaVu Sans Mono', monospace; font-size: 10px; fill: #1f2933; }
 .paper { fill: #ffffff; }
@@ -14,6 +14,7 @@ text { font-family: 'DejaVu Sans Mono', monospace; font-size: 10px; fill: #1f293
 .reply { text-anchor: end; font-weight: bold; }
 .component { font-size: 9px; }
 .cell { font-size: 6.4px; }
+.put .act, .get .reply, .cell { stroke: #ffffff; stroke-width: 2.4; paint-order: stroke; }
 .long { font-size: 8px; }
 .tiny { font-size: 5.5px; }
 .grid { stroke: #d5dae0; }
@@ -41,6 +42,7 @@ rect { fill-opacity: 0.35; stroke-width: 1.5; }
 @media (prefers-color-scheme: dark) {
 text, circle, .tip { fill: #e4e7eb; }
 .paper, .mark { fill: #14191f; }
+.put .act, .get .reply, .cell { stroke: #14191f; }
 .grid { stroke: #323f4b; }
 .round, .tie, .mark, .arrow { stroke: #e4e7eb; }
 .wrong { stroke: #ff8a80; }

@@ -7,11 +7,11 @@ loop-column-init c =
     let object = c.args.object.now in
     let h = c.args.run.now.entries in
     let k = c.args.window.from in
-    let n = c.count_at-count.result in
+    let n = c.args.first in
     record {
-      is = count_here object h k n c.count_at-count.ensures.value;
-      small = omega arith;
-      heights = c.in_ok-push.ensures.items ∙ ap (λ z. z ++ n ∷ []) c.new-heights.ensures.items ∙ counts_one object h k n c.count_at-count.ensures.value;
+      is = count_here object h k n c.requires.first;
+      small = (let few = c.requires.small in omega arith);
+      heights = c.in_ok-push.ensures.items ∙ ap (λ z. z ++ n ∷ []) c.new-heights.ensures.items ∙ counts_one object h k n c.requires.first;
     }
 
 pub loop-column-preserved : goal.loop-column-preserved

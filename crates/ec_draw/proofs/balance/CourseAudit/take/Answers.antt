@@ -1,6 +1,6 @@
 use Rattle.std.proofs.Common.{refl, ap, sym, subst, ◌∙◌}
 use Rattle.ec_draw.specs.Balances.{Course, IsCourse}
-use Rattle.ec_draw.proofs.Balancing.{lefts_next}
+use Rattle.ec_draw.proofs.Balancing.{course_next}
 use Rattle.ec_draw.proofs.balance.CourseAudit.take.Goals as goal
 
 pub returns : goal.returns
@@ -13,6 +13,7 @@ returns c = λ start past at op was.
       counted.0 ∙ ap (λ (z : Course). z.audit.shape) c.self.view_is ∙ was.1,
       record {
         counted = counted.1;
-        heights = λ ok small. lefts_next c.self.inside.audit c.take.new.self c.self.inside.window c.args.entry.now past c.args.place c.self.inside.heights.items _ counted.0 counted.1 at (inside.heights (added.before ok)) small (added.added ok);
+        heights = λ ok small. course_next c.self.inside.audit c.take.new.self c.self.inside.window c.args.entry.now past c.args.place c.left.result c.self.inside.heights.items _ counted.0
+            inside.counted counted.1 at (inside.heights (added.before ok)) small c.left.ensures (added.added ok);
       },
     ))

@@ -1,0 +1,20 @@
+use Rattle.std.proofs.Common.{◌≡◌, ◌≤◌, ℕ, reverse, ap, sym, ◌∙◌, subst}
+use Rattle.std.proofs.lemmas.List.{length-reverse}
+use Rattle.ec_semaphore.specs.declared.shape.TheConstants.{INITIAL_MAX}
+use Rattle.ec_draw.specs.Balances.{Course, IsCourse, lefts}
+use Rattle.ec_draw.proofs.Balancing.{small_run, course_last}
+use Rattle.ec_draw.proofs.balance.Course.heights.Goals as goal
+
+pub returns : goal.returns
+returns c =
+    let h = c.args.run.now.entries in
+    let past = reverse h in
+    let s = c.args.shape.now in
+    let inside = c.self.inside in
+    let stands = subst (λ (z : Course). IsCourse z past) (sym c.self.view_is) c.requires.stands in
+    let shape = subst (λ (z : Course). z.audit.shape ≡ s) (sym c.self.view_is) c.requires.shape in
+    let few = subst (λ (n : ℕ). n ≤ INITIAL_MAX) c.initial-initial.ensures.value c.initial-initial.ensures.small in
+    let small = small_run c.args.run.now.setup s past few c.known.ensures.declared c.known.ensures.accepted in
+    course_last inside.audit inside.window s past c.len.result c.left.result inside.heights.items _ shape stands.counted (c.len.ensures ∙ sym (length-reverse h))
+    (stands.heights c.if-lacks.false) small c.left.ensures c.in_ok-pad.ensures
+    ∙ ap (λ (z : Course). lefts s z.window past) c.self.view_is

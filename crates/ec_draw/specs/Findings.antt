@@ -1,0 +1,85 @@
+-- What one walk over the entries keeps of the groups.
+use Rattle.std.specs.Prelude.{◌≡◌, ℕ, List, ◌++◌, map}
+use Rattle.ec_count.specs.Tables.{Tables}
+use Rattle.ec_core.specs.declared.act.Entry.{Entry}
+use Rattle.ec_buffer.specs.Shapes.{Buffer}
+use Rattle.ec_database.specs.Shapes.{Database}
+use Rattle.ec_semaphore.specs.Auditing.{PairsOn, IsPairing}
+use Rattle.ec_semaphore.specs.Shapes.{Semaphore}
+use Rattle.ec_heading.specs.declared.group.Group.{Group}
+use Rattle.ec_heading.specs.declared.group.Group.TheVariants as groups
+use Rattle.ec_walk.specs.Each.{EachFrom, Each}
+use Rattle.ec_draw.specs.declared.window.Window.{Window}
+use Rattle.ec_draw.specs.declared.balance.BothCourse.{BothCourse}
+use Rattle.ec_draw.specs.declared.finding.Finding.{Finding}
+use Rattle.ec_draw.specs.declared.finding.Finding.TheVariants as finds
+use Rattle.ec_draw.specs.declared.finding.Findings.{Findings}
+use Rattle.ec_draw.specs.Balances.{CoursesOn, IsCourse, group_line}
+use Rattle.ec_draw.specs.Curves.{shown}
+use Rattle.ec_draw.specs.Shades.{TriesOn, IsTrying, group_shades, seen}
+use Rattle.ec_draw.specs.Arrows.{MovesOn, IsMoving, group_arrows}
+
+-- what is kept is that of the semaphore, through this window, after a past
+abbrev pub CourseFor : Window → Semaphore → Finding → List Entry → Type 0
+CourseFor w s (finds.Balance c) past = (c.audit.shape ≡ s) × (c.window ≡ w) × IsCourse c past
+CourseFor w s f past = ⊥
+
+-- that of `both`, where these are all semaphores
+abbrev pub BothFor : List Semaphore → Window → Semaphore → Finding → List Entry → Type 0
+BothFor all w c (finds.Both b) past =
+    (b.course.audit.shape ≡ c) × (b.course.window ≡ w) × IsCourse b.course past × (b.pairs.common ≡ c) × (b.pairs.shapes ≡ all) × IsPairing b.pairs past
+BothFor all w c f past = ⊥
+
+-- that of the database
+abbrev pub TriesFor : Tables → Window → Database → Finding → List Entry → Type 0
+TriesFor t w d (finds.Tries a) past = (a.shape ≡ d) × (a.audit.setup ≡ t) × (a.window ≡ w) × IsTrying a past
+TriesFor t w d f past = ⊥
+
+-- that of the buffer
+abbrev pub MovesFor : Tables → Buffer → Finding → List Entry → Type 0
+MovesFor t b (finds.Moves m) past = (m.shape ≡ b) × (m.audit.setup ≡ t) × IsMoving m past
+MovesFor t b f past = ⊥
+
+-- what is kept is that of the group, under these declarations, with these semaphores and through this window, after a past
+abbrev pub FindsFor : Tables → List Semaphore → Window → Group → Finding → List Entry → Type 0
+FindsFor t all w (groups.Buffer b) f past = MovesFor t b f past
+FindsFor t all w (groups.Database d) f past = TriesFor t w d f past
+FindsFor t all w (groups.Semaphore s) f past = CourseFor w s f past
+FindsFor t all w (groups.Both c) f past = BothFor all w c f past
+
+-- each group from number n on has its own, in order
+abbrev pub EachFindsFrom : Tables → List Semaphore → Window → List Group → ℕ → List Finding → List Entry → Type 0
+EachFindsFrom t all w gs n list past = EachFrom (λ g f. FindsFor t all w g f past) gs n list
+
+-- each group has its own, in order
+abbrev pub EachFinds : Tables → List Semaphore → Window → List Group → List Finding → List Entry → Type 0
+EachFinds t all w gs list past = Each (λ g f. FindsFor t all w g f past) gs list
+
+-- IN A WALK
+
+-- of the same `both`, after a past
+abbrev pub BothOn : BothCourse → BothCourse → List Entry → Type 0
+BothOn start now past = CoursesOn start.course now.course past × PairsOn start.pairs now.pairs past
+
+-- the group that it is kept of
+abbrev pub group_of : Finding → Group
+group_of (finds.Balance c) = groups.Semaphore c.audit.shape
+group_of (finds.Both b) = groups.Both b.pairs.common
+group_of (finds.Tries a) = groups.Database a.shape
+group_of (finds.Moves m) = groups.Buffer m.shape
+
+-- of the same group, after a past
+abbrev pub FindsOn : Finding → Finding → List Entry → Type 0
+FindsOn (finds.Balance start) (finds.Balance now) past = CoursesOn start now past
+FindsOn (finds.Both start) (finds.Both now) past = BothOn start now past
+FindsOn (finds.Tries start) (finds.Tries now) past = TriesOn start now past
+FindsOn (finds.Moves start) (finds.Moves now) past = MovesOn start now past
+FindsOn start now past = ⊥
+
+-- WHAT IS HANDED OUT
+
+-- what is found of one more group, which these are all the semaphores of
+pub record AddsGroup (t : Tables) (all : List Semaphore) (w : Window) (h : List Entry) (g : Group) (old new : Findings) : Type 0 where
+  pub curves : map shown new.curves.items ≡ map shown old.curves.items ++ group_line all w h g
+  pub shades : map seen new.shades.items ≡ map seen old.shades.items ++ group_shades t w h g
+  pub arrows : new.arrows.items ≡ old.arrows.items ++ group_arrows t w h g

@@ -1,0 +1,303 @@
+//! What the audits of groups find, in one walk over the entries of a run.
+ghost use Rattle.std.specs.Prelude.{◌≡◌, ◌++◌, [], IfOk, OnOk, map, reverse};
+ghost use Rattle.std.specs.List.{flat_map};
+ghost use Rattle.ec_semaphore.specs.Auditing.{IsPairing};
+ghost use Rattle.ec_semaphore.specs.Both.{is_line, both_rules};
+ghost use Rattle.ec_semaphore.specs.Uses.{use_rules};
+ghost use Rattle.ec_heading.specs.declared.group.Group.TheVariants as groups;
+ghost use Rattle.ec_draw.specs.Arrows.{arrows, group_arrows};
+ghost use Rattle.ec_draw.specs.Balances.{balance_line, balance_lines, group_line, line_if};
+ghost use Rattle.ec_draw.specs.Curves.{shown};
+ghost use Rattle.ec_draw.specs.Following.{follows};
+ghost use Rattle.ec_draw.specs.Findings.{AddsGroup, BothFor, CourseFor, EachFinds, FindsFor, MovesFor, TriesFor};
+ghost use Rattle.ec_draw.specs.Shades.{group_shades, seen, shades};
+
+use crate::arrow::{Moves, add_buffer};
+use crate::balance::{BothCourse, Course, add_if};
+use crate::shade::{Tries, add_database};
+use crate::{Arrow, Curve, Shade, Window};
+use ec_buffer::BufferShape;
+use ec_core::{Act, Audit, AuditFault, Entry, Run};
+use ec_count::Setup;
+use ec_database::DatabaseShape;
+use ec_heading::{Group, semaphores_of};
+use ec_semaphore::{PairAudit, SemaphoreShape};
+use ec_walk::{GroupAudit, walk_groups};
+use std::alloc::{AllocError, Global};
+
+/// What a walk keeps of a group.
+#[derive(Drop)]
+pub(crate) enum Finding<'a> {
+    /// Of a semaphore.
+    Balance(Course),
+    /// Of `both`.
+    Both(BothCourse<'a>),
+    /// Of a database.
+    Tries(Tries<'a>),
+    /// Of a buffer.
+    Moves(Moves<'a>),
+}
+
+/// What all that is kept has in common.
+#[derive(Clone, Copy)]
+struct Asked<'a> {
+    setup: &'a Setup,
+    semaphores: &'a [SemaphoreShape],
+    window: Window,
+}
+
+impl<'a> Finding<'a> {
+    /// Before the first entry.
+    fn new(alloc: Global, group: &'a Group, asked: &Asked<'a>) -> Self
+        ensures { FindsFor asked.now.setup.now asked.now.semaphores.now asked.now.window group.now result [] }
+    {
+        match group {
+            Group::Buffer(shape) => Finding::Moves(Moves::new(alloc, shape, asked.setup)),
+            Group::Database(shape) => {
+                Finding::Tries(Tries::new(alloc, shape, asked.setup, asked.window))
+            }
+            Group::Semaphore(shape) => Finding::Balance(Course::new(alloc, *shape, asked.window)),
+            Group::Both(shape) => Finding::Both(BothCourse {
+                course: Course::new(alloc, *shape, asked.window),
+                pairs: PairAudit::new(alloc, *shape, asked.semaphores),
+            }),
+        }
+    }
+}
+
+impl<'a> Audit for Finding<'a> {
+    ghost use Rattle.ec_draw.specs.Following.{follows};
+    ghost use Rattle.ec_draw.specs.Findings.{FindsOn};
+
+    ghost stands = { FindsOn };
+
+    fn take(&mut self, place: usize, op: &Act, entry: &Entry) {
+        match self {
+            Finding::Balance(course) => course.take(place, op, entry),
+            Finding::Both(both) => both.take(place, op, entry),
+            Finding::Tries(tries) => tries.take(place, op, entry),
+            Finding::Moves(moves) => moves.take(place, op, entry),
+        }
+    }
+}
+
+impl<'a> GroupAudit for Finding<'a> {
+    ghost use Rattle.ec_draw.specs.Following.{follows};
+    ghost use Rattle.ec_draw.specs.Findings.{group_of};
+    ghost use Rattle.ec_draw.specs.LeftOut.{finds_off};
+
+    ghost group = { group_of };
+
+    ghost passes = { finds_off };
+}
+
+/// What is kept of groups before the first entry.
+fn opened<'a>(
+    alloc: Global,
+    groups: &'a [Group],
+    asked: &Asked<'a>,
+) -> Result<Vec<Finding<'a>>, AllocError>
+    ensures { IfOk result (λ list. EachFinds asked.now.setup.now asked.now.semaphores.now asked.now.window groups.now list.items []) }
+{
+    let mut list = Vec::new(alloc);
+    for number in 0..groups.len() {
+        list.push(Finding::new(alloc, &groups[number], asked))?;
+    }
+    Ok(list)
+}
+
+/// What is kept of groups after all entries of a run, in one walk over them.
+fn walked<'a>(
+    alloc: Global,
+    run: &'a Run,
+    groups: &'a [Group],
+    asked: &Asked<'a>,
+) -> Result<Vec<Finding<'a>>, AllocError>
+    ensures { IfOk result (λ list. EachFinds asked.now.setup.now asked.now.semaphores.now asked.now.window groups.now list.items (reverse run.now.entries)) }
+{
+    let list = opened(alloc, groups, asked)?;
+    Ok(walk_groups(run, groups, list))
+}
+
+/// What the audits of the groups find that are followed, where it is shown.
+#[derive(Drop)]
+pub struct Findings {
+    /// The curves of balances.
+    pub curves: Vec<Curve>,
+    /// The shades over accepting tries.
+    pub shades: Vec<Shade>,
+    /// The arrows of deliveries.
+    pub arrows: Vec<Arrow>,
+}
+
+/// Adds what was found of a semaphore.
+fn add_semaphore(
+    curves: &mut Vec<Curve>,
+    run: &Run,
+    shape: &SemaphoreShape,
+    window: Window,
+    finding: Finding<'_>,
+) -> Result<(), AllocError>
+    requires { CourseFor window shape.now finding (reverse run.now.entries) }
+    ensures { OnOk result (map shown curves.new.items ≡ map shown curves.old.items ++ line_if (follows (use_rules shape.now) (reverse run.now.entries)) (balance_line window run.now.entries shape.now)) }
+{
+    let _ = window;
+    match finding {
+        Finding::Balance(course) => {
+            let follows = course.follows(run);
+            add_if(curves, run, follows, shape, course)
+        }
+        Finding::Both(_) => unreachable!(),
+        Finding::Tries(_) => unreachable!(),
+        Finding::Moves(_) => unreachable!(),
+    }
+}
+
+/// Whether the workers follow the guarded parts of `both`, after all entries of a run.
+fn follows_both(run: &Run, pairs: PairAudit<'_>) -> Result<bool, AllocError>
+    requires { IsPairing pairs (reverse run.now.entries) }
+    ensures { IfOk result (λ b. b ≡ follows (both_rules pairs.entry.common (is_line pairs.entry.common pairs.entry.shapes)) (reverse run.now.entries)) }
+{
+    match pairs.pairs(run) {
+        Ok(_pairs) => Ok(true),
+        Err(AuditFault::NotFollowed { .. }) => Ok(false),
+        Err(AuditFault::Memory) => Err(AllocError),
+    }
+}
+
+/// Adds what was found of `both`.
+fn add_both(
+    curves: &mut Vec<Curve>,
+    run: &Run,
+    shape: &SemaphoreShape,
+    asked: &Asked<'_>,
+    finding: Finding<'_>,
+) -> Result<(), AllocError>
+    requires { BothFor asked.now.semaphores.now asked.now.window shape.now finding (reverse run.now.entries) }
+    ensures { OnOk result (map shown curves.new.items ≡ map shown curves.old.items ++ line_if (follows (both_rules shape.now (is_line shape.now asked.now.semaphores.now)) (reverse run.now.entries)) (balance_line asked.now.window run.now.entries shape.now)) }
+{
+    let _ = asked;
+    match finding {
+        Finding::Balance(_) => unreachable!(),
+        Finding::Both(BothCourse { course, pairs }) => {
+            let follows = follows_both(run, pairs)?;
+            add_if(curves, run, follows, shape, course)
+        }
+        Finding::Tries(_) => unreachable!(),
+        Finding::Moves(_) => unreachable!(),
+    }
+}
+
+/// Adds what was found of a database.
+fn add_tries(
+    shades: &mut Vec<Shade>,
+    run: &Run,
+    shape: &DatabaseShape,
+    window: Window,
+    finding: Finding<'_>,
+) -> Result<(), AllocError>
+    requires { TriesFor run.now.setup window shape.now finding (reverse run.now.entries) }
+    ensures { OnOk result (map seen shades.new.items ≡ map seen shades.old.items ++ group_shades run.now.setup window run.now.entries (groups.Database shape.now)) }
+{
+    let _ = window;
+    match finding {
+        Finding::Balance(_) => unreachable!(),
+        Finding::Both(_) => unreachable!(),
+        Finding::Tries(tries) => add_database(shades, run, shape, tries),
+        Finding::Moves(_) => unreachable!(),
+    }
+}
+
+/// Adds what was found of a buffer.
+fn add_moves(
+    arrows: &mut Vec<Arrow>,
+    run: &Run,
+    shape: &BufferShape,
+    window: Window,
+    finding: Finding<'_>,
+) -> Result<(), AllocError>
+    requires { MovesFor run.now.setup shape.now finding (reverse run.now.entries) }
+    ensures { OnOk result (arrows.new.items ≡ arrows.old.items ++ group_arrows run.now.setup window run.now.entries (groups.Buffer shape.now)) }
+{
+    match finding {
+        Finding::Balance(_) => unreachable!(),
+        Finding::Both(_) => unreachable!(),
+        Finding::Tries(_) => unreachable!(),
+        Finding::Moves(moves) => add_buffer(arrows, run, shape, moves, window),
+    }
+}
+
+/// Adds what was found of a group.
+fn add_group(
+    found: &mut Findings,
+    run: &Run,
+    group: &Group,
+    asked: &Asked<'_>,
+    finding: Finding<'_>,
+) -> Result<(), AllocError>
+    requires { FindsFor run.now.setup asked.now.semaphores.now asked.now.window group.now finding (reverse run.now.entries) }
+    ensures { OnOk result (AddsGroup run.now.setup asked.now.semaphores.now asked.now.window run.now.entries group.now found.old found.new) }
+{
+    let Findings {
+        curves,
+        shades,
+        arrows,
+    } = found;
+    match group {
+        Group::Buffer(shape) => add_moves(arrows, run, shape, asked.window, finding),
+        Group::Database(shape) => add_tries(shades, run, shape, asked.window, finding),
+        Group::Semaphore(shape) => add_semaphore(curves, run, shape, asked.window, finding),
+        Group::Both(shape) => add_both(curves, run, shape, asked, finding),
+    }
+}
+
+/// Adds what was found of groups.
+fn add_groups(
+    found: &mut Findings,
+    run: &Run,
+    groups: &[Group],
+    asked: &Asked<'_>,
+    list: Vec<Finding<'_>>,
+) -> Result<(), AllocError>
+    requires { EachFinds run.now.setup asked.now.semaphores.now asked.now.window groups.now list.items (reverse run.now.entries) }
+    ensures curves { OnOk result (map shown found.new.curves.items ≡ map shown found.old.curves.items ++ flat_map (group_line asked.now.semaphores.now asked.now.window run.now.entries) groups.now) }
+    ensures shades { OnOk result (map seen found.new.shades.items ≡ map seen found.old.shades.items ++ shades run.now.setup groups.now asked.now.window run.now.entries) }
+    ensures arrows { OnOk result (found.new.arrows.items ≡ found.old.arrows.items ++ arrows run.now.setup groups.now asked.now.window run.now.entries) }
+{
+    let mut rest = list.into_iter();
+    for number in 0..groups.len() {
+        let group = &groups[number];
+        let Some(finding) = rest.next() else {
+            unreachable!();
+        };
+        add_group(found, run, group, asked, finding)?;
+    }
+    Ok(())
+}
+
+/// What the audits find of those groups whose workers follow them, in one walk over the run.
+pub fn findings_of(
+    alloc: Global,
+    run: &Run,
+    groups: &[Group],
+    window: Window,
+) -> Result<Findings, AllocError>
+    ensures curves { IfOk result (λ f. map shown f.curves.items ≡ balance_lines groups.now window run.now.entries) }
+    ensures shades { IfOk result (λ f. map seen f.shades.items ≡ shades run.now.setup groups.now window run.now.entries) }
+    ensures arrows { IfOk result (λ f. f.arrows.items ≡ arrows run.now.setup groups.now window run.now.entries) }
+{
+    let semaphores = semaphores_of(alloc, groups)?;
+    let asked = Asked {
+        setup: run.setup(),
+        semaphores: semaphores.as_slice(),
+        window,
+    };
+    let list = walked(alloc, run, groups, &asked)?;
+    let mut found = Findings {
+        curves: Vec::new(alloc),
+        shades: Vec::new(alloc),
+        arrows: Vec::new(alloc),
+    };
+    add_groups(&mut found, run, groups, &asked, list)?;
+    Ok(found)
+}
