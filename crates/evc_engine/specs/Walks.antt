@@ -1,5 +1,5 @@
 -- What one walk over the entries of a trace keeps of its groups.
-use Rattle.std.specs.Prelude.{◌≡◌, ℕ, List, reverse}
+use Rattle.std.specs.Prelude.{◌≡◌, List, reverse}
 use Rattle.ec_count.specs.Tables.{Tables, IsDeclared}
 use Rattle.ec_core.specs.declared.act.Entry.{Entry}
 use Rattle.ec_core.specs.Acceptance.{IsAccepted}
@@ -14,7 +14,7 @@ use Rattle.ec_heading.specs.declared.group.Group.TheVariants as groups
 use Rattle.ec_heading.specs.Groups.{FitsGroup}
 use Rattle.ec_heading.specs.Headed.{Headed}
 use Rattle.ec_heading.specs.Rules.{semaphores_of}
-use Rattle.ec_walk.specs.Each.{EachFrom, Each}
+use Rattle.ec_walk.specs.Each.{Each}
 use Rattle.evc_engine.specs.declared.walked.Auditing.{Auditing}
 use Rattle.evc_engine.specs.declared.walked.BothAudit.{BothAudit}
 use Rattle.evc_engine.specs.declared.walked.Auditing.TheVariants as audits
@@ -46,10 +46,6 @@ StandsFor t all (groups.Buffer b) a past = DeliversFor t b a past
 StandsFor t all (groups.Database d) a past = VersionsFor t d a past
 StandsFor t all (groups.Semaphore s) a past = CountsFor s a past
 StandsFor t all (groups.Both c) a past = PairsFor c all a past
-
--- each group from number n on has its audit, in order
-abbrev pub EachStandsFrom : Tables → List Semaphore → List Group → ℕ → List Auditing → List Entry → Type 0
-EachStandsFrom t all gs n list past = EachFrom (λ g a. StandsFor t all g a past) gs n list
 
 -- each group has its audit, in order
 abbrev pub EachStands : Tables → List Semaphore → List Group → List Auditing → List Entry → Type 0

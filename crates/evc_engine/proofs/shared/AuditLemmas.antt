@@ -1,6 +1,5 @@
 -- The audits of groups, one after another.
-use Rattle.std.proofs.Common.{◌≡◌, ℕ, zero, suc, ◌+◌, ◌<◌, List, [], ◌∷◌, ◌++◌, length, Option, Some, None, Ok, refl, sym, ap, ◌∙◌, subst, arith, slice_get, ◌⊎◌, inl, inr, take, map, codes, append_assoc, append-nil, length-append}
-use Rattle.std.specs.Prelude.{IfSome}
+use Rattle.std.proofs.Common.{◌≡◌, ℕ, zero, suc, ◌+◌, ◌<◌, List, [], ◌∷◌, ◌++◌, length, Some, refl, sym, ap, ◌∙◌, subst, arith, slice_get, ◌⊎◌, inl, inr, take, map, codes, append_assoc, append-nil, length-append}
 use Rattle.std.proofs.lemmas.List.Concat.{flat_map-append}
 use Rattle.ec_text.specs.Puts.{Puts, Outgoing}
 use Rattle.ec_text.proofs.shared.PutLemmas.{puts_then}
@@ -18,14 +17,7 @@ use Rattle.ec_heading.specs.Headed.{Headed}
 use Rattle.ec_heading.specs.declared.group.Group.{Group}
 use Rattle.evc_engine.specs.declared.audited.Audited.{Audited}
 use Rattle.ec_heading.specs.Rules.{group_rules}
-use Rattle.ec_trace.specs.Recounted.{Recounted}
-use Rattle.ec_trace.specs.Outcome.{outcome}
-use Rattle.ec_trace.specs.ReadingLaws.{IsTraceOf}
-use Rattle.ec_trace.specs.declared.read.TheConstants.{TRACE_MAX}
-use Rattle.evc_engine.specs.declared.status.Status.{Status}
-use Rattle.evc_engine.specs.declared.status.Status.TheVariants.{Done, Refused, Usage, InputOutput, Memory, Stopped}
-use Rattle.evc_engine.specs.Checks.{Outlets, ReadsAs}
-use Rattle.evc_engine.specs.Audits.{IsAudited, IsNotFollowed, IsStop, AuditEnds, Audits}
+use Rattle.evc_engine.specs.Audits.{IsAudited, IsNotFollowed, IsStop}
 
 module _ (h : Headed) (entries : List Entry) where
   -- what the audits of the first groups have found
@@ -112,18 +104,3 @@ unfolding audit_text
 audit_parts h found =
     flat_map-append ended_line (codes "evc-audit 1" ∷ groups_lines h 0 found) (codes "end" ∷ [])
     ∙ ap (λ t. (ended_line (codes "evc-audit 1") ++ text_of (groups_lines h 0 found)) ++ t) (append-nil (ended_line (codes "end")))
-
--- a trace that was read, and audited
-audited_so : (bytes : List ℕ) (left : Option (List ℕ)) (t : Recounted) (status : Status) (old new : Outlets) → ReadsAs bytes t → AuditEnds t status old new → Audits bytes left status old new
-audited_so bytes left t Done old new reads ends = (t, reads, ends)
-audited_so bytes left t Refused old new reads ends = inl (t, reads, ends)
-audited_so bytes left t InputOutput old new reads ends = inl (t, reads, ends)
-audited_so bytes left t Memory old new reads ends = ends
-audited_so bytes left t Usage old new reads ends = absurd ends
-audited_so bytes left t Stopped old new reads ends = absurd ends
-
--- and of an input whose bytes may be known
-pub audit_ends : (given left : Option (List ℕ)) (t : Recounted) (status : Status) (old new : Outlets) → IfSome given (λ bytes. outcome TRACE_MAX bytes ≡ Ok t) → IfSome given (λ bytes. IsTraceOf bytes t) → AuditEnds t status old new
-    → IfSome given (λ bytes. Audits bytes left status old new)
-audit_ends None left t status old new told trace ends = tt
-audit_ends (Some bytes) left t status old new told trace ends = audited_so bytes left t status old new (record { trace = trace; told = told }) ends
