@@ -1,13 +1,14 @@
 //! Calls that make something new: where memory is refused they say so, and there is nothing else.
 use crate::steps_tests::one_worker;
-use crate::texts::{DATABASE, GROUPS, SCRIPT_OF_TWO, TRACE_OF_TWO};
+use crate::texts::{DATABASE, GROUPS, SCRIPT_OF_TWO, SEMAPHORES, TRACE_OF_TWO};
 use crate::way::{Answer, Call, Want, Way, tell, way_of};
 use ec_core::Run;
 use ec_count::{Names, Setup, Vocabulary};
-use ec_heading::{Heading, Version};
+use ec_heading::{Group, Heading, Version};
 use ec_runner::Board;
 use ec_script::{Plan, ScriptFault, parse};
-use ec_trace::{TraceFault, Traced, read_trace};
+use ec_semaphore::{Balance, BalanceAudit};
+use ec_trace::{Opened, TraceFault, Traced, Watched, open_trace, read_entries, read_trace};
 use std::alloc::Global;
 use std::test::Fail;
 
@@ -26,6 +27,8 @@ enum New {
     TraceOfTwo,
     /// What the first of them says, upgraded.
     Upgraded,
+    /// What an audit finds that a trace goes past.
+    Found,
     /// What a text of a script says.
     Plan,
     /// What one of version 2 says.
@@ -102,6 +105,30 @@ fn upgraded(alloc: Global) -> Answer {
     }
 }
 
+/// Lets the trace of semaphores go past the audit of the first.
+fn found(alloc: Global) -> Answer {
+    let mut reader = SEMAPHORES.as_bytes();
+    let Opened { heading, lines } = match open_trace(alloc, &mut reader) {
+        Ok(opened) => opened,
+        Err(TraceFault::Memory) => return Answer::Wants(Want::Memory),
+        Err(_) => return Answer::Wrong,
+    };
+    let [Group::Semaphore(shape), ..] = heading.groups() else {
+        return Answer::Wrong;
+    };
+    let mut watched = Watched::new(heading.setup().copy(), BalanceAudit::new(*shape));
+    let right = Balance {
+        initial: 1,
+        downs: 1,
+        ups: 0,
+    };
+    match read_entries(alloc, lines, &mut reader, &heading, &mut watched) {
+        Ok(()) => Answer::of(watched.into_audit().so_far() == right),
+        Err(TraceFault::Memory) => Answer::Wants(Want::Memory),
+        Err(_) => Answer::Wrong,
+    }
+}
+
 /// How many programs, places of the schedule, and groups a script has.
 type Sizes = (usize, usize, usize);
 
@@ -152,6 +179,7 @@ impl Call for Making {
             New::Trace => trace(alloc, DATABASE, Version::One, 16),
             New::TraceOfTwo => trace(alloc, TRACE_OF_TWO, Version::Two, 2),
             New::Upgraded => upgraded(alloc),
+            New::Found => found(alloc),
             New::Plan => plan(alloc, GROUPS, Version::One, (2, 46, 5)),
             New::PlanOfTwo => plan(alloc, SCRIPT_OF_TWO, Version::Two, (2, 3, 1)),
         }
@@ -210,6 +238,11 @@ fn a_trace_of_version_two(rt: HostRuntime) -> Result<(), Fail> {
 #[test]
 fn a_trace_that_is_upgraded(rt: HostRuntime) -> Result<(), Fail> {
     tell(&rt, way_of_new(rt.alloc(), New::Upgraded))
+}
+
+#[test]
+fn a_trace_that_goes_past_an_audit(rt: HostRuntime) -> Result<(), Fail> {
+    tell(&rt, way_of_new(rt.alloc(), New::Found))
 }
 
 #[test]
