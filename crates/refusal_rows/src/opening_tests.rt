@@ -119,8 +119,8 @@ fn found(alloc: Global) -> Answer {
     let mut watched = Watched::new(heading.setup().copy(), BalanceAudit::new(*shape));
     let right = Balance {
         initial: 1,
-        downs: 1,
-        ups: 0,
+        downs: 2,
+        ups: 2,
     };
     match read_entries(alloc, lines, &mut reader, &heading, &mut watched) {
         Ok(()) => Answer::of(watched.into_audit().so_far() == right),
