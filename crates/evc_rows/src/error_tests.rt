@@ -21,15 +21,17 @@ fn says(alloc: Global, error: &impl Display, wanted: &str) -> Result<(), Fail> {
     }
 }
 
-/// The errors of declarations.
-fn errors_of_declarations(alloc: Global) -> Result<(), Fail> {
+#[test]
+fn errors_of_declarations(rt: HostRuntime) -> Result<(), Fail> {
+    let alloc = rt.alloc();
     says(alloc, &AtLimit, "the count is at its limit")?;
     says(alloc, &SetupFault::Repeated, "a list names a worker twice")?;
     says(alloc, &NameFault::BadName, "the word is no name")
 }
 
-/// The errors of runs and their audits.
-fn errors_of_runs(alloc: Global) -> Result<(), Fail> {
+#[test]
+fn errors_of_runs(rt: HostRuntime) -> Result<(), Fail> {
+    let alloc = rt.alloc();
     let refused = StepFault::Refused(Refusal::Busy);
     let broken = AuditFault::NotFollowed {
         worker: worker(1),
@@ -48,8 +50,9 @@ fn errors_of_runs(alloc: Global) -> Result<(), Fail> {
     says(alloc, &OrderFault::Memory, "memory was refused")
 }
 
-/// The errors of texts.
-fn errors_of_texts(alloc: Global) -> Result<(), Fail> {
+#[test]
+fn errors_of_texts(rt: HostRuntime) -> Result<(), Fail> {
+    let alloc = rt.alloc();
     let refused = TraceFault::Refused(8, Refusal::AtLimit);
     says(alloc, &WriteFault, "a write failed")?;
     says(alloc, &HeadFault::BadLine, "bad line")?;
@@ -60,8 +63,9 @@ fn errors_of_texts(alloc: Global) -> Result<(), Fail> {
     )
 }
 
-/// The errors of scripts.
-fn errors_of_scripts(alloc: Global) -> Result<(), Fail> {
+#[test]
+fn errors_of_scripts(rt: HostRuntime) -> Result<(), Fail> {
+    let alloc = rt.alloc();
     let fault = ScriptFault::At {
         line: 8,
         kind: Kind::NoRight,
@@ -70,8 +74,9 @@ fn errors_of_scripts(alloc: Global) -> Result<(), Fail> {
     says(alloc, &fault, "line 8: the worker lacks the right")
 }
 
-/// The errors of workers that share a run.
-fn errors_of_workers(alloc: Global) -> Result<(), Fail> {
+#[test]
+fn errors_of_workers(rt: HostRuntime) -> Result<(), Fail> {
+    let alloc = rt.alloc();
     let refused = BoardFault::Refused(Refusal::AtLimit);
     let ended = SimFault::Ended {
         place: 3,
@@ -88,13 +93,4 @@ fn errors_of_workers(alloc: Global) -> Result<(), Fail> {
         "place 3 of the schedule names a worker that has ended",
     )?;
     says(alloc, &RunFault::Spawn, "a thread could not be started")
-}
-
-#[test]
-fn an_error_of_each_type_has_a_text(rt: HostRuntime) -> Result<(), Fail> {
-    errors_of_declarations(rt.alloc())?;
-    errors_of_runs(rt.alloc())?;
-    errors_of_texts(rt.alloc())?;
-    errors_of_scripts(rt.alloc())?;
-    errors_of_workers(rt.alloc())
 }

@@ -13,11 +13,6 @@ pub(crate) struct Pieces<'a> {
 }
 
 impl<'a> Pieces<'a> {
-    /// A reader that gives at most so many bytes at a time.
-    pub(crate) fn new(bytes: &'a [u8], most: usize) -> Self {
-        Pieces::failing(bytes, most, usize::MAX)
-    }
-
     /// A reader that gives at most so many bytes at a time, and fails at one read.
     pub(crate) fn failing(bytes: &'a [u8], most: usize, fails_at: usize) -> Self {
         Pieces {
@@ -26,11 +21,6 @@ impl<'a> Pieces<'a> {
             fails_at,
             reads: 0,
         }
-    }
-
-    /// How many bytes it has not given.
-    pub(crate) fn left(&self) -> usize {
-        self.rest.len()
     }
 }
 
@@ -94,30 +84,5 @@ impl Write for Fickle {
 
     fn flush(&mut self) -> io::Result<()> {
         Ok(())
-    }
-}
-
-/// A reader of some bytes and then of one line, again and again without end.
-#[derive(Drop)]
-pub(crate) struct Endless<'a> {
-    rest: &'a [u8],
-    line: &'a [u8],
-}
-
-impl<'a> Endless<'a> {
-    pub(crate) fn new(head: &'a [u8], line: &'a [u8]) -> Self {
-        Endless { rest: head, line }
-    }
-}
-
-impl Read for Endless<'_> {
-    fn read(&mut self, buf: &mut [u8]) -> io::Result<usize> {
-        if self.rest.is_empty() {
-            self.rest = self.line;
-        }
-        let n = buf.len().min(self.rest.len());
-        buf[..n].copy_from_slice(&self.rest[..n]);
-        self.rest = &self.rest[n..];
-        Ok(n)
     }
 }

@@ -1,245 +1,169 @@
-//! Headings, line by line.
-use crate::headings::Row::{Many, Refuse, See, Take};
-use crate::headings::{Row, Sight, answers, empty_heading, shows};
-use crate::things::Thing;
-use ec_trace::{HeadFault, Heading, Version};
+//! A heading, line by line, and what is seen of it then.
+use crate::ids::{cell, event, sequencer, worker};
+use ec_count::Target;
+use ec_trace::{Group, HeadFault, Heading, Version};
+use std::alloc::Global;
 use std::test::Fail;
 
-static ORDER: [Row; 8] = [
-    Take("cells X 3 write a read c"),
-    Take("eventcount E signal a c observe c"),
-    Take("sequencer T take c"),
-    Refuse("cells Y 256 write a", HeadFault::TooMany),
-    Take("cells Z 253 write a"),
-    See(Sight::Declared(&[
-        Thing::Cells(0, 3),
-        Thing::Event(0),
-        Thing::Sequencer(0),
-        Thing::Cells(3, 253),
-    ])),
-    See(Sight::Name("c", Some(Thing::Worker(1)))),
-    See(Sight::Observes(0, 1, true)),
+/// Lines, one after another: each is taken, or refused by a fault, and the heading is then as before.
+static LINES: [(&str, Result<(), HeadFault>); 11] = [
+    ("workers a c", Ok(())),
+    ("buffer B 2 produce a consume c", Ok(())),
+    ("eventcount E signal a c observe c", Ok(())),
+    ("database D 1 write a read a", Err(HeadFault::TwoRoles)),
+    ("database D 3 write a read c", Ok(())),
+    ("semaphore S 5 use a c", Ok(())),
+    ("cells X 252 write a", Err(HeadFault::TooMany)),
+    ("cells X 251 write a read c", Ok(())),
+    ("both use c a", Ok(())),
+    ("both use a", Err(HeadFault::NameTaken)),
+    ("sequencer T take c", Ok(())),
 ];
 
-#[test]
-fn lines_declare_in_order(rt: HostRuntime) -> Result<(), Fail> {
-    shows(rt.alloc(), &["workers a c"], &ORDER)
+/// Whether this is declared, in order.
+fn has_declared(heading: &Heading) -> bool {
+    let right = [
+        Target::Group(0),
+        Target::Event(event(2)),
+        Target::Group(1),
+        Target::Group(2),
+        Target::Cells(cell(5), 251),
+        Target::Group(3),
+        Target::Sequencer(sequencer(5)),
+    ];
+    heading.declarations() == right.as_slice()
 }
 
-static WORKERS: [Row; 10] = [
-    Refuse("workers", HeadFault::BadLine),
-    Refuse("workers ", HeadFault::BadLine),
-    Refuse("workers a  b", HeadFault::BadLine),
-    Refuse("eventcount E signal a", HeadFault::BadLine),
-    Refuse("workers a end", HeadFault::BadName),
-    Refuse("workers a a 1b", HeadFault::BadName),
-    Refuse("workers a b a", HeadFault::NameTaken),
-    Refuse(
-        "workers a b c d e f g h i j k l m n o q r",
-        HeadFault::TooMany,
-    ),
-    Take("workers a b c d e f g h i j k l m n o q"),
-    Refuse("workers r", HeadFault::BadLine),
-];
-
-#[test]
-fn each_fault_of_the_line_of_workers(rt: HostRuntime) -> Result<(), Fail> {
-    shows(rt.alloc(), &[], &WORKERS)
+/// Whether there are as many workers, eventcounts, sequencers and cells, and c alone may observe E.
+fn has_setup(heading: &Heading) -> bool {
+    let setup = heading.setup();
+    let sizes = (
+        setup.workers(),
+        setup.events(),
+        setup.sequencers(),
+        setup.cells(),
+    );
+    sizes == (2, 7, 6, 256)
+        && setup.may_observe(event(2), worker(1))
+        && !setup.may_observe(event(2), worker(0))
 }
 
-static NO_DECLARATIONS: [Row; 15] = [
-    Refuse("", HeadFault::BadLine),
-    Refuse(" eventcount E signal a", HeadFault::BadLine),
-    Refuse("eventcount E signal a ", HeadFault::BadLine),
-    Refuse("eventcount E", HeadFault::BadLine),
-    Refuse("eventcount E signal", HeadFault::BadLine),
-    Refuse("eventcount E signal a observe", HeadFault::BadLine),
-    Refuse("eventcount E signal observe c", HeadFault::BadLine),
-    Refuse("eventcount E observe c", HeadFault::BadLine),
-    Refuse("sequencer T take", HeadFault::BadLine),
-    Refuse("sequencer T signal a", HeadFault::BadLine),
-    Refuse("cells X write a", HeadFault::BadLine),
-    Refuse("cells X 01 write a", HeadFault::BadLine),
-    Refuse("cells X 1 read a", HeadFault::BadLine),
-    Refuse("Eventcount E signal a", HeadFault::BadLine),
-    See(Sight::Declared(&[])),
-];
-
-#[test]
-fn lines_that_are_no_declarations(rt: HostRuntime) -> Result<(), Fail> {
-    shows(rt.alloc(), &["workers a c"], &NO_DECLARATIONS)
+/// Whether a group has its numbers: of cells how many and the first, of a semaphore its initial value and its eventcount.
+fn is_group(group: &Group, place: usize) -> bool {
+    match group {
+        Group::Buffer(found) => place == 0 && found.cells() == 2 && found.first_cell() == cell(0),
+        Group::Database(found) => place == 1 && found.cells() == 3 && found.first_cell() == cell(2),
+        Group::Semaphore(found) => {
+            place == 2 && found.initial() == 5 && found.count() == event(5)
+        }
+        Group::Both(found) => { place == 3 && found.initial() == 1 && found.line() == sequencer(4) }
+    }
 }
 
-static FAULTS: [Row; 12] = [
-    Refuse("eventcount 1E signal a", HeadFault::BadName),
-    Refuse("eventcount run signal z z", HeadFault::BadName),
-    Refuse("eventcount a signal z", HeadFault::NameTaken),
-    Refuse("eventcount E signal a z a", HeadFault::NameTaken),
-    Refuse(
-        "eventcount E signal a observe c observe c",
-        HeadFault::NameTaken,
-    ),
-    Refuse(
-        "eventcount E signal a observe c observe",
-        HeadFault::UnknownName,
-    ),
-    Refuse("sequencer T take a observe c", HeadFault::UnknownName),
-    Refuse("cells X 257 write z", HeadFault::UnknownName),
-    Refuse("cells X 0 write a", HeadFault::BadNumber),
-    Refuse("cells X 257 write a read c", HeadFault::BadNumber),
-    Refuse(
-        "cells X 10000000000000000000000 write a",
-        HeadFault::BadNumber,
-    ),
-    See(Sight::Declared(&[])),
-];
-
-#[test]
-fn each_fault_of_a_declaration(rt: HostRuntime) -> Result<(), Fail> {
-    shows(rt.alloc(), &["workers a c"], &FAULTS)
+/// Whether a group fits the declarations.
+fn fits(heading: &Heading, group: &Group) -> bool {
+    let setup = heading.setup();
+    match group {
+        Group::Buffer(found) => found.fits(setup),
+        Group::Database(found) => found.fits(setup),
+        Group::Semaphore(found) | Group::Both(found) => found.fits(setup),
+    }
 }
 
-static FULL: [Row; 4] = [
-    Many(32, "sequencer T", " take a"),
-    Refuse("sequencer T32 take a", HeadFault::TooMany),
-    Take("cells X 256 write a"),
-    Refuse("cells Y 1 write a", HeadFault::TooMany),
-];
-
-#[test]
-fn tables_that_are_full(rt: HostRuntime) -> Result<(), Fail> {
-    shows(rt.alloc(), &["workers a"], &FULL)
+/// Whether the groups are a buffer, a database, a semaphore and `both`, and fit.
+fn has_groups(heading: &Heading) -> bool {
+    let groups = heading.groups();
+    for (place, group) in groups.iter().enumerate() {
+        if !is_group(group, place) || !fits(heading, group) {
+            return false;
+        }
+    }
+    groups.len() == 4
 }
 
-/// Lines that declare something of each sort.
-static EACH: [&str; 5] = [
-    "workers a c",
-    "cells X 3 write a",
-    "eventcount E signal a",
-    "cells Y 2 write c",
-    "sequencer T take c",
-];
-
-static SPELLINGS: [Row; 8] = [
-    See(Sight::Worker("a", Some(0))),
-    See(Sight::Worker("c", Some(1))),
-    See(Sight::Worker("E", None)),
-    See(Sight::Worker("T", None)),
-    See(Sight::Event("E", Some(0))),
-    See(Sight::Event("T", None)),
-    See(Sight::Sequencer("E", None)),
-    See(Sight::Sequencer("T", Some(0))),
-];
-
-#[test]
-fn spellings_of_workers_eventcounts_and_sequencers(rt: HostRuntime) -> Result<(), Fail> {
-    shows(rt.alloc(), &EACH, &SPELLINGS)
+/// Whether names are found, and no object of a group is one.
+fn has_names(heading: &Heading) -> bool {
+    let names = heading.names();
+    names.len() == 8
+        && names.find("c") == Some(Target::Worker(worker(1)))
+        && names.find("S") == Some(Target::Group(2))
+        && names.find("X") == Some(Target::Cells(cell(5), 251))
+        && names.find("S.p").is_none()
+        && names.name_of(Target::Group(3)).is_none()
 }
 
-static CELLS: [Row; 22] = [
-    See(Sight::Cell("X[0]", Some(0))),
-    See(Sight::Cell("X[2]", Some(2))),
-    See(Sight::Cell("Y[0]", Some(3))),
-    See(Sight::Cell("Y[1]", Some(4))),
-    See(Sight::Cell("X[3]", None)),
-    See(Sight::Cell("Y[2]", None)),
-    See(Sight::Cell("Z[0]", None)),
-    See(Sight::Cell("E[0]", None)),
-    See(Sight::Cell("a[0]", None)),
-    See(Sight::Cell("X", None)),
-    See(Sight::Cell("X[", None)),
-    See(Sight::Cell("X[]", None)),
-    See(Sight::Cell("X[0", None)),
-    See(Sight::Cell("X0]", None)),
-    See(Sight::Cell("[0]", None)),
-    See(Sight::Cell("X[00]", None)),
-    See(Sight::Cell("X[01]", None)),
-    See(Sight::Cell("X[0]]", None)),
-    See(Sight::Cell("X[[0]", None)),
-    See(Sight::Cell("X[0] ", None)),
-    See(Sight::Cell("x[0]", None)),
-    See(Sight::Cell("X[18446744073709551616]", None)),
+/// The words, in the order of the objects.
+static WORDS: [&str; 20] = [
+    "a", "c", "B.in", "B.out", "B.put", "B.take", "B", "E", "D.start", "D.done", "D.turn", "D",
+    "S.v", "S.p", "S", "X", "both.v", "both.p", "both", "T",
 ];
 
-#[test]
-fn spellings_of_cells(rt: HostRuntime) -> Result<(), Fail> {
-    shows(rt.alloc(), &EACH, &CELLS)
+/// Whether a word stands at a place, and stands for what is found by it.
+fn has_word(heading: &Heading, place: usize, word: &str) -> bool {
+    let words = heading.words();
+    let Some((found, target)) = words.at(place) else {
+        return false;
+    };
+    found == word.as_bytes() && words.find(word.as_bytes()) == Some(target)
 }
 
-static NUMBERS: [(HeadFault, Option<u64>); 8] = [
-    (HeadFault::BadLine, Some(2)),
-    (HeadFault::BadName, Some(3)),
-    (HeadFault::NameTaken, Some(4)),
-    (HeadFault::UnknownName, Some(5)),
-    (HeadFault::BadNumber, Some(6)),
-    (HeadFault::TooMany, Some(7)),
-    (HeadFault::TwoRoles, Some(9)),
-    (HeadFault::Memory, None),
-];
+/// Whether these are the words.
+fn has_words(heading: &Heading) -> bool {
+    for (place, word) in WORDS.iter().enumerate() {
+        if !has_word(heading, place, word) {
+            return false;
+        }
+    }
+    heading.words().len() == WORDS.len()
+}
 
-#[test]
-fn faults_of_lines_tell_their_numbers(rt: HostRuntime) -> Result<(), Fail> {
-    for (fault, number) in &NUMBERS {
-        if fault.number() != *number {
-            return Err(Fail::new(format_args!("another number than that of {fault}")));
+/// What words spell. tests/rows/spellings.rows has more of them.
+fn has_spellings(heading: &Heading) -> bool {
+    heading.worker(b"c".as_slice()) == Some(worker(1))
+        && heading.worker(b"B".as_slice()).is_none()
+        && heading.event(b"D.done".as_slice()) == Some(event(4))
+        && heading.event(b"D.turn".as_slice()).is_none()
+        && heading.sequencer(b"D.turn".as_slice()) == Some(sequencer(2))
+        && heading.sequencer(b"D".as_slice()).is_none()
+        && heading.cell(b"D[2]".as_slice()) == Some(cell(4))
+        && heading.cell(b"D[3]".as_slice()).is_none()
+}
+
+/// The lines have their answers.
+fn takes(heading: &mut Heading) -> Result<(), Fail> {
+    for (line, answer) in &LINES {
+        if heading.line(line.as_bytes()) != *answer {
+            return Err(Fail::new(format_args!("another answer to {line}")));
         }
     }
     Ok(())
 }
 
-static LIMITS_OF_VERSIONS: [(Version, u64, bool); 7] = [
-    (Version::One, 0, false),
-    (Version::One, 1, true),
-    (Version::One, 4_294_967_295, true),
-    (Version::One, 4_294_967_296, false),
-    (Version::Two, 0, false),
-    (Version::Two, 281_474_976_710_655, true),
-    (Version::Two, 281_474_976_710_656, false),
-];
-
-/// The limit that a version may have, as a number.
-fn limit_in(version: Version, n: u64) -> Option<u64> {
-    Some(version.limit(n)?.get())
-}
-
-#[test]
-fn each_version_has_its_limits(rt: HostRuntime) {
-    assert!(rt; Version::One.greatest_limit() == 4_294_967_295);
-    assert!(rt; Version::Two.greatest_limit() == 281_474_976_710_655);
-    assert!(rt; !Version::One.has_hand());
-    assert!(rt; Version::Two.has_hand());
-    for (version, n, may) in &LIMITS_OF_VERSIONS {
-        let right = if *may { Some(*n) } else { None };
-        assert!(rt; limit_in(*version, *n) == right, "at {n}");
+/// The lines have their answers, and then all is seen.
+fn shows(heading: &mut Heading) -> Result<(), Fail> {
+    takes(heading)?;
+    if !has_declared(heading) || !has_setup(heading) || !has_groups(heading) {
+        return Err(Fail::new("something else is declared"));
     }
+    if !has_names(heading) || !has_words(heading) || !has_spellings(heading) {
+        return Err(Fail::new("other words"));
+    }
+    if heading.version() != Version::One {
+        return Err(Fail::new("another version"));
+    }
+    Ok(())
 }
 
-/// Whether a heading takes its workers and an eventcount, and is of version 1.
-fn takes_in_one(heading: &mut Heading) -> bool {
-    answers(heading, "workers a b", Ok(()))
-        && answers(heading, "eventcount E signal a", Ok(()))
-        && heading.version() == Version::One
-}
-
-/// Whether a heading is of version 2, with two workers and one declaration.
-fn is_of_two(heading: &Heading) -> bool {
-    heading.version() == Version::Two
-        && heading.setup().workers() == 2
-        && heading.declarations().len() == 1
-}
-
-/// Whether a new heading of version 1 becomes that one.
-fn is_upgraded(mut heading: Heading) -> bool {
-    let is_of_one = takes_in_one(&mut heading);
-    let upgraded = heading.upgrade();
-    is_of_one && is_of_two(&upgraded)
+/// A heading of version 1 with limit 10 that has taken no line.
+fn empty_heading(alloc: Global) -> Option<Heading> {
+    let limit = Version::One.limit(10)?;
+    Heading::new(alloc, Version::One, limit).ok()
 }
 
 #[test]
-fn a_heading_is_upgraded(rt: HostRuntime) {
-    let is_right = match empty_heading(rt.alloc(), 10) {
-        Some(heading) => is_upgraded(heading),
-        None => false,
-    };
-    assert!(rt; is_right);
+fn a_heading_of_each_sort(rt: HostRuntime) -> Result<(), Fail> {
+    match empty_heading(rt.alloc()) {
+        Some(mut heading) => shows(&mut heading),
+        None => Err(Fail::new("no heading")),
+    }
 }

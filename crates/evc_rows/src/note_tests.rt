@@ -2,7 +2,7 @@
 use crate::fakes::{Fickle, Trouble};
 use crate::ids::worker;
 use crate::texts::OVERTAKEN_READ;
-use crate::written::read;
+use crate::writing_tests::read;
 use ec_text::Out;
 use evc_scripts::note_mismatch;
 use std::alloc::Global;

@@ -1,4 +1,4 @@
-//! The command line: what its words ask for.
+//! The command line: what its words ask for, where they are more than a system hands on. tests/rows has plainer ones.
 use evc_task::{Task, status_of, task};
 use std::alloc::{AllocError, Global};
 use std::test::Fail;
@@ -19,55 +19,6 @@ fn answer(alloc: Global, texts: &[&str]) -> Result<(Option<Task>, u8), AllocErro
         Ok(task) => (Some(task), 0),
         Err(error) => (None, status_of(&error)),
     })
-}
-
-/// The words of a command line, the task that they ask for, and the exit status.
-type Line = (&'static [&'static str], Option<Task>, u8);
-
-/// Each line has its answer.
-fn all_answered(alloc: Global, lines: &[Line]) -> Result<(), Fail> {
-    for (place, (texts, task, status)) in lines.iter().enumerate() {
-        if answer(alloc, texts)? != (*task, *status) {
-            return Err(Fail::new(format_args!("another answer at row {place}")));
-        }
-    }
-    Ok(())
-}
-
-static PLAINEST: [Line; 10] = [
-    (&["evc", "check"], Some(Task::Check), 0),
-    (&["evc", "audit"], Some(Task::Audit), 0),
-    (&["evc", "upgrade"], Some(Task::Upgrade), 0),
-    (&["evc", "sim"], Some(Task::Sim), 0),
-    (&["evc", "--help"], None, 0),
-    (&["evc", "--version"], None, 0),
-    (&["evc", "-V"], None, 0),
-    (&["evc", "check", "--version"], None, 2),
-    (&["evc"], None, 2),
-    (&["evc", "frobnicate"], None, 2),
-];
-
-#[test]
-fn the_plainest_command_lines(rt: HostRuntime) -> Result<(), Fail> {
-    all_answered(rt.alloc(), &PLAINEST)
-}
-
-static TURNS: [Line; 6] = [
-    (&["evc", "run"], Some(Task::Run(10000)), 0),
-    (&["evc", "run", "--turns", "7"], Some(Task::Run(7)), 0),
-    (
-        &["evc", "run", "--turns=1000000"],
-        Some(Task::Run(1000000)),
-        0,
-    ),
-    (&["evc", "run", "--turns", "0"], None, 2),
-    (&["evc", "run", "--turns", "1000001"], None, 2),
-    (&["evc", "sim", "--turns", "7"], None, 2),
-];
-
-#[test]
-fn the_turns_of_run(rt: HostRuntime) -> Result<(), Fail> {
-    all_answered(rt.alloc(), &TURNS)
 }
 
 /// A number behind so many zeros.

@@ -1,18 +1,4 @@
-//! Worked traces, and what `check` writes for them.
-use crate::outcome::{Ending, Row};
-
-/// Nothing is declared but a worker, and nothing happens.
-pub(crate) const EMPTY: &str = "evc-trace 1
-limit 1
-workers a
-run
-end
-";
-
-pub(crate) const EMPTY_ORDER: &str = "evc-order 1
-totals
-end
-";
+//! The texts that the tests are given.
 
 /// A read after three advances.
 pub(crate) const THREE_ADVANCES: &str = "evc-trace 1
@@ -27,13 +13,16 @@ c read E = 3
 end
 ";
 
-pub(crate) const THREE_ADVANCES_ORDER: &str = "evc-order 1
-0 a advance E = done
-1 a advance E = done
-2 a advance E = done
-3 c read E = 3
-totals
-eventcount E 3
+/// The same with a step in the place of the read, where no call is under way.
+pub(crate) const IDLE: &str = "evc-trace 1
+limit 10
+workers a c
+eventcount E signal a observe c
+run
+a advance E = done
+a advance E = done
+a advance E = done
+c go = 3
 end
 ";
 
@@ -83,119 +72,108 @@ b advance E = done
 end
 ";
 
-/// Two reads have the same answer, and the same moment.
-pub(crate) const TWO_READS: &str = "evc-trace 1
+/// Two producers and two consumers of a buffer of one cell, each with one item.
+pub(crate) const BUFFER: &str = "evc-trace 1
 limit 10
 workers a b c d
-eventcount E signal a b observe c d
+buffer B 1 produce a b consume c d
 run
-c read E = pending
-a advance E = done
-d read E = pending
-d go = 1
-b advance E = done
-c go = 1
-end
-";
-
-pub(crate) const TWO_READS_ORDER: &str = "evc-order 1
-1 a advance E = done
-2 d read E = 1
-2 c read E = 1
-4 b advance E = done
-totals
-eventcount E 2
-end
-";
-
-/// A read begins at total 0 and ends at total 2.
-pub(crate) const TOTAL_IN_THE_MIDDLE: &str = "evc-trace 1
-limit 10
-workers a b c d
-eventcount E signal a b observe c d
-run
-c read E = pending
-b advance E = done
-b advance E = done
-c go = 2
-end
-";
-
-pub(crate) const TOTAL_IN_THE_MIDDLE_ORDER: &str = "evc-order 1
-1 b advance E = done
-2 b advance E = done
-3 c read E = 2
-totals
-eventcount E 2
-end
-";
-
-/// An await falls short in the round that it had begun before the advances.
-pub(crate) const AWAIT_OF_ROUNDS: &str = "evc-trace 1
-limit 10
-workers a b c d
-eventcount E signal a b observe c d
-run
-c await E 2 = pending
-a advance E = done
-b advance E = done
-c go = pending
-c go = pending
-c go = 2
-end
-";
-
-pub(crate) const AWAIT_OF_ROUNDS_ORDER: &str = "evc-order 1
-1 a advance E = done
-2 b advance E = done
-4 c await E 2 = 2
-totals
-eventcount E 2
-end
-";
-
-/// An await of 0 takes a step for each of three components.
-pub(crate) const AWAIT_OF_ZERO: &str = "evc-trace 1
-limit 10
-workers a b c d
-eventcount E signal a b d observe c
-run
-c await E 0 = pending
-c go = pending
+a ticket B.put = 0
+b ticket B.put = 1
+a await B.in 0 = pending
+a go = 0
+a await B.out 0 = pending
+a go = 0
+a put B[0] 7 = done
+a advance B.in = done
+b await B.in 1 = pending
+b go = 1
+b await B.out 1 = pending
+b go = pending
+c ticket B.take = 0
+c await B.out 0 = pending
 c go = 0
+c await B.in 1 = pending
+c go = 1
+c get B[0] = 7
+c advance B.out = done
+b go = pending
+b go = 1
+b put B[0] 8 = done
+b advance B.in = done
+d ticket B.take = 1
+d await B.out 1 = pending
+d go = 1
+d await B.in 2 = pending
+d go = 2
+d get B[0] = 8
+d advance B.out = done
 end
 ";
 
-pub(crate) const AWAIT_OF_ZERO_ORDER: &str = "evc-order 1
-0 c await E 0 = 0
-totals
-eventcount E 0
+pub(crate) const BUFFER_AUDIT: &str = "evc-audit 1
+delivery B 0 a c 7
+delivery B 1 b d 8
 end
 ";
 
-/// One component is at the limit, and the other still goes.
-pub(crate) const OTHER_COMPONENT: &str = "evc-trace 1
-limit 2
-workers a b c
-eventcount E signal a b observe c
+/// Two workers enter by their tickets, one behind the other.
+pub(crate) const TICKETS: &str = "evc-script 1
+limit 10
+workers a b
+eventcount Turn signal a b observe a b
+sequencer Queue take a b
+worker a
+ticket Queue
+await Turn last
+advance Turn
+end
+worker b
+ticket Queue
+await Turn last
+advance Turn
+end
+schedule b a a a b b b a a a
+";
+
+pub(crate) const TICKETS_TRACE: &str = "evc-trace 1
+limit 10
+workers a b
+eventcount Turn signal a b observe a b
+sequencer Queue take a b
 run
-a advance E = done
-a advance E = done
-b advance E = done
+b ticket Queue = 0
+a ticket Queue = 1
+a await Turn 1 = pending
+a go = pending
+b await Turn 0 = pending
+b go = 0
+b advance Turn = done
+a go = pending
+a go = 1
+a advance Turn = done
 end
 ";
 
-pub(crate) const OTHER_COMPONENT_ORDER: &str = "evc-order 1
-0 a advance E = done
-1 a advance E = done
-2 b advance E = done
-totals
-eventcount E 3
+/// A worker that advances twice, and one that waits for one more than its ticket.
+pub(crate) const TICKET_AND_AWAIT: &str = "evc-script 1
+limit 10
+workers a c
+eventcount E signal a observe c
+sequencer T take c
+worker a
+advance E
+advance E
 end
+worker c
+ticket T
+await E last+1
+read E
+end
+schedule c c a c a c
 ";
 
-/// A ticket, an await of two steps, and a read.
-pub(crate) const TICKET_AND_AWAIT: &str = "evc-trace 1
+pub(crate) const TICKET_AND_AWAIT_TRACE: &str = "evc-trace 1
 limit 10
 workers a c
 eventcount E signal a observe c
@@ -210,144 +188,23 @@ c read E = 2
 end
 ";
 
-pub(crate) const TICKET_AND_AWAIT_ORDER: &str = "evc-order 1
-0 c ticket T = 0
-2 a advance E = done
-3 c await E 1 = 1
-4 a advance E = done
-5 c read E = 2
-totals
-eventcount E 2
-sequencer T 1
-end
-";
-
-/// Cells, the greatest value, and a call that has not ended.
-pub(crate) const CELLS: &str = "evc-trace 1
-limit 4294967295
-workers a b_2
-cells X 2 write a read a b_2
-eventcount E signal a b_2 observe a
-cells Y 1 write b_2
-run
-a put X[1] 999999999999999999 = done
-b_2 get X[1] = 999999999999999999
-b_2 put Y[0] 7 = done
-a await E 999999999999999999 = pending
-a go = pending
-end
-";
-
-pub(crate) const CELLS_ORDER: &str = "evc-order 1
-0 a put X[1] 999999999999999999 = done
-1 b_2 get X[1] = 999999999999999999
-2 b_2 put Y[0] 7 = done
-totals
-cell X[0] 0
-cell X[1] 999999999999999999
-eventcount E 0
-cell Y[0] 7
-end
-";
-
-/// Each of two workers awaits the other's advance.
-pub(crate) const TWO_STUCK: &str = "evc-trace 1
+/// One of two workers has a program, so there is one trace of it on threads.
+pub(crate) const ONE_PROGRAM: &str = "evc-script 1
 limit 10
 workers a b
-eventcount E signal a observe b
-eventcount F signal b observe a
-run
-a await F 1 = pending
-b await E 1 = pending
+eventcount E signal a observe a
+worker a
+advance E
+read E
 end
 ";
 
-pub(crate) const TWO_STUCK_ORDER: &str = "evc-order 1
-totals
-eventcount E 0
-eventcount F 0
-end
-";
-
-/// A read of 16 components, overtaken 15 times.
-pub(crate) const OVERTAKEN_OFTEN: &str = "evc-trace 1
+pub(crate) const ONE_PROGRAM_TRACE: &str = "evc-trace 1
 limit 10
-workers w0 w1 w2 w3 w4 w5 w6 w7 w8 w9 w10 w11 w12 w13 w14 w15
-eventcount E signal w0 w1 w2 w3 w4 w5 w6 w7 w8 w9 w10 w11 w12 w13 w14 w15 observe w0
+workers a b
+eventcount E signal a observe a
 run
-w0 read E = pending
-w15 advance E = done
-w0 go = pending
-w14 advance E = done
-w0 go = pending
-w13 advance E = done
-w0 go = pending
-w12 advance E = done
-w0 go = pending
-w11 advance E = done
-w0 go = pending
-w10 advance E = done
-w0 go = pending
-w9 advance E = done
-w0 go = pending
-w8 advance E = done
-w0 go = pending
-w7 advance E = done
-w0 go = pending
-w6 advance E = done
-w0 go = pending
-w5 advance E = done
-w0 go = pending
-w4 advance E = done
-w0 go = pending
-w3 advance E = done
-w0 go = pending
-w2 advance E = done
-w0 go = pending
-w1 advance E = done
-w0 go = 8
+a advance E = done
+a read E = 1
 end
 ";
-
-pub(crate) const OVERTAKEN_OFTEN_ORDER: &str = "evc-order 1
-1 w15 advance E = done
-3 w14 advance E = done
-5 w13 advance E = done
-7 w12 advance E = done
-9 w11 advance E = done
-11 w10 advance E = done
-13 w9 advance E = done
-15 w8 advance E = done
-16 w0 read E = 8
-17 w7 advance E = done
-19 w6 advance E = done
-21 w5 advance E = done
-23 w4 advance E = done
-25 w3 advance E = done
-27 w2 advance E = done
-29 w1 advance E = done
-totals
-eventcount E 15
-end
-";
-
-/// Each worked trace, and the text that `check` writes for it.
-static WORKED: [Row; 12] = [
-    (EMPTY, Ending::Done(EMPTY_ORDER)),
-    (THREE_ADVANCES, Ending::Done(THREE_ADVANCES_ORDER)),
-    (OVERTAKEN_READ, Ending::Done(OVERTAKEN_READ_ORDER)),
-    (TWO_READS, Ending::Done(TWO_READS_ORDER)),
-    (TOTAL_IN_THE_MIDDLE, Ending::Done(TOTAL_IN_THE_MIDDLE_ORDER)),
-    (AWAIT_OF_ROUNDS, Ending::Done(AWAIT_OF_ROUNDS_ORDER)),
-    (AWAIT_OF_ZERO, Ending::Done(AWAIT_OF_ZERO_ORDER)),
-    (OTHER_COMPONENT, Ending::Done(OTHER_COMPONENT_ORDER)),
-    (TICKET_AND_AWAIT, Ending::Done(TICKET_AND_AWAIT_ORDER)),
-    (CELLS, Ending::Done(CELLS_ORDER)),
-    (TWO_STUCK, Ending::Done(TWO_STUCK_ORDER)),
-    (OVERTAKEN_OFTEN, Ending::Done(OVERTAKEN_OFTEN_ORDER)),
-];
-
-/// The rows of the worked traces. Only this function names the table, which is read into the proof of each that does.
-pub(crate) fn worked() -> &'static [Row] {
-    &WORKED
-}
