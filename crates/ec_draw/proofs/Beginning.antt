@@ -1,8 +1,8 @@
 -- Where a shade begins.
-use Rattle.std.proofs.Common.{◌≡◌, ◌≢◌, ℕ, zero, suc, ◌+◌, ◌<◌, ◌≤◌, ◌==◌, ◌&&◌, ◌||◌, not, Bool, true, false, List, [], ◌∷◌, ◌++◌, length, Option, Some, None, refl, ap, sym, ◌∙◌, arith, cond, subst, true≢false, reverse, slice_get, ◌⊎◌, inl, inr}
+use Rattle.std.proofs.Common.{◌≡◌, ◌≢◌, ℕ, zero, suc, ◌<◌, ◌==◌, ◌&&◌, ◌||◌, not, Bool, true, false, List, [], ◌∷◌, ◌++◌, length, Option, Some, None, refl, ap, sym, ◌∙◌, arith, cond, subst, true≢false, reverse, slice_get, inl, inr}
 use Rattle.std.proofs.Math.Seq.{take-length}
 use Rattle.std.proofs.lemmas.Bool.{and_parts, eqb-true, eqb-false, eq-eqb}
-use Rattle.std.specs.Option.{option_map, option_to_list}
+use Rattle.std.specs.Option.{option_map}
 use Rattle.ec_count.specs.Tables.{Tables}
 use Rattle.ec_core.specs.declared.act.Act.{Act}
 use Rattle.ec_core.specs.declared.act.Act.TheVariants.{Advance, Read, Await, Go, Ticket, Put, Get, Hand}
@@ -11,14 +11,14 @@ use Rattle.ec_core.specs.declared.act.Reply.{Reply}
 use Rattle.ec_core.specs.declared.act.Reply.TheVariants.{Pending, Done, Number}
 use Rattle.ec_core.specs.Calls.{CallSoFar, under_way, gone_on, is_go, is_pending}
 use Rattle.ec_core.specs.Counts.{past_at}
-use Rattle.ec_core.specs.Following.{Told, Rule, block, block_after, extended, opened}
+use Rattle.ec_core.specs.Following.{Told, Rule, block, block_after, opened}
 use Rattle.ec_core.proofs.shared.Following.{op_at, own_block, other_block}
 use Rattle.ec_core.proofs.shared.Moments.{past_next, past_end}
 use Rattle.ec_core.proofs.shared.Scans.{call_own, call_other}
 use Rattle.ec_database.specs.Shapes.{Database}
 use Rattle.ec_database.specs.Following.{is_on, writes, try_rule, write_rule, database_rules}
 use Rattle.ec_database.specs.Tries.{AcceptedTry, accepted_of, ended_at}
-use Rattle.ec_draw.specs.Shades.{Shaded, begins_list, list_start, shaded, shade_at, shades_in, span_at}
+use Rattle.ec_draw.specs.Shades.{Shaded, begins_list, list_start, shade_at, shades_in, span_at}
 use Rattle.ec_draw.specs.LeftOut.{concerns_is}
 use Rattle.ec_draw.specs.Laws.{BeginsList, ShadesBeginLists}
 use Rattle.ec_draw.proofs.Stepping.{long_past}

@@ -1,5 +1,5 @@
 -- Accepting tries and where they begin, entry by entry.
-use Rattle.std.proofs.Common.{◌≡◌, ℕ, zero, suc, ◌+◌, ◌<◌, ◌==◌, ◌&&◌, not, Bool, true, false, List, [], ◌∷◌, ◌++◌, length, Option, Some, None, refl, ap, sym, ◌∙◌, arith, cond, subst, reverse, slice_get, slice_index, slice_set}
+use Rattle.std.proofs.Common.{◌≡◌, ℕ, zero, suc, ◌<◌, ◌==◌, ◌&&◌, not, Bool, true, false, List, [], ◌∷◌, ◌++◌, length, Option, Some, None, refl, ap, sym, ◌∙◌, arith, cond, subst, reverse, slice_get, slice_index, slice_set}
 use Rattle.std.specs.Option.{option_map, option_to_list}
 use Rattle.std.specs.List.{filter}
 use Rattle.std.proofs.lemmas.Option.{slice_get_within}
@@ -12,7 +12,7 @@ use Rattle.ec_core.specs.Following.{Told, block}
 use Rattle.ec_core.proofs.shared.Places.{get_set}
 use Rattle.ec_database.specs.Shapes.{Database}
 use Rattle.ec_database.specs.Following.{is_on, writes, database_rules, FollowsDatabase}
-use Rattle.ec_database.specs.Tries.{AcceptedTry, accepted_tries, ended_at}
+use Rattle.ec_database.specs.Tries.{accepted_tries, ended_at}
 use Rattle.ec_database.specs.Auditing.{Versioning, IsVersioning, found_in}
 use Rattle.ec_draw.specs.declared.window.Window.{Window}
 use Rattle.ec_draw.specs.declared.shade.Span.{Span}

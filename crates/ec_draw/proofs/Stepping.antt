@@ -1,6 +1,7 @@
 -- One entry more: the calls under way, and the dots.
-use Rattle.std.proofs.Common.{◌≡◌, ℕ, zero, suc, ◌+◌, ◌-◌, ◌<◌, Bool, true, false, List, [], ◌∷◌, ◌++◌, length, Option, Some, None, refl, ap, sym, ◌∙◌, arith, cond, subst, ◌==◌, take, reverse, slice_get, append-nil}
+use Rattle.std.proofs.Common.{◌≡◌, ℕ, zero, suc, ◌+◌, ◌-◌, ◌<◌, Bool, true, false, List, [], ◌∷◌, ◌++◌, length, Option, Some, None, refl, ap, sym, ◌∙◌, arith, cond, subst, ◌==◌, take, reverse, slice_get, slice_set, replicate, append-nil}
 use Rattle.std.specs.Option.{option_map}
+use Rattle.std.proofs.lemmas.Bool.{eqb-true}
 use Rattle.std.proofs.lemmas.List.{length-reverse, length-take-le}
 use Rattle.std.proofs.lemmas.Option.{slice_get_within}
 use Rattle.ec_count.specs.Tables.{Tables}
@@ -15,13 +16,14 @@ use Rattle.ec_core.specs.declared.act.Refusal.{Refusal}
 use Rattle.ec_core.specs.Standing.{State, Stands, StandsFor}
 use Rattle.ec_core.specs.Acceptance.{IsAccepted, answer_of}
 use Rattle.ec_core.proofs.shared.Moments.{past_next, accepted_at}
+use Rattle.ec_core.proofs.shared.Places.{get_set}
 use Rattle.ec_core.proofs.shared.Stepping.{past_after}
 use Rattle.std.specs.Prelude.{Result, Ok, IfOk}
 use Rattle.ec_draw.specs.declared.window.Window.{Window}
 use Rattle.ec_draw.specs.declared.open.Open.{Open}
 use Rattle.ec_draw.specs.declared.dot.Dot.{Dot}
 use Rattle.ec_draw.specs.Windows.{shows}
-use Rattle.ec_draw.specs.Open.{open_of, open_call, gone_open, open_after}
+use Rattle.ec_draw.specs.Open.{AreOpen, open_of, open_call, gone_open, told_open}
 use Rattle.ec_draw.specs.Dots.{dot_of, dots_of}
 
 -- MOMENTS
@@ -75,22 +77,50 @@ pending_step : (w : ℕ) (b : Bool) (o : Option Open) (g : Option CallSoFar) →
 pending_step w true o g e = e
 pending_step w false o g e = refl
 
-own_step : (w : ℕ) (b : Bool) (o k : Option Open) (g u : Option CallSoFar) → o ≡ option_map (open_of w) g → k ≡ option_map (open_of w) u → cond b o k ≡ option_map (open_of w) (cond b g u)
-own_step w true o k g u e f = e
-own_step w false o k g u e f = f
-
-open_step : (w : ℕ) (x : Entry) (past : List Entry) → open_after w (open_call w past) x (length past) ≡ open_call w (x ∷ past)
+-- an entry of w itself
+own_step : (w : ℕ) (x : Entry) (past : List Entry) → (x.worker == w) ≡ true → told_open (open_call w past) x (length past) ≡ open_call w (x ∷ past)
 unfolding under_way
-open_step w x past =
+own_step w x past own =
     let u = under_way w past in
+    let same : x.worker ≡ w = eqb-true x.worker w own in
     let g = gone_on x.act past u in
-    own_step w (x.worker == w) (cond (is_pending x.reply) (gone_open w x.act (option_map (open_of w) u) (length past)) None) (option_map (open_of w) u) (cond (is_pending x.reply) g None) u
-    (pending_step w (is_pending x.reply) (gone_open w x.act (option_map (open_of w) u) (length past)) g (gone_step w x.act past u (call_moment w past))) refl
+    ap (λ v. cond (is_pending x.reply) (gone_open v x.act (open_call w past) (length past)) None) same
+    ∙ pending_step w (is_pending x.reply) (gone_open w x.act (option_map (open_of w) u) (length past)) g (gone_step w x.act past u (call_moment w past))
+    ∙ sym (ap (λ b. option_map (open_of w) (cond b (cond (is_pending x.reply) g None) u)) own)
 
--- the call under way after one entry more of a history
-pub open_next : (w : ℕ) (h : List Entry) (k : ℕ) (x : Entry) (o p : Option Open) → slice_get h k ≡ Some x → o ≡ open_call w (past_at k h) → p ≡ open_after w o x k → p ≡ open_call w (past_at (k + 1) h)
-open_next w h k x o p at was is =
-    is ∙ ap (λ q. open_after w q x k) was ∙ ap (open_after w (open_call w (past_at k h)) x) (sym (long_past h k x at)) ∙ open_step w x (past_at k h) ∙ ap (open_call w) (sym (next_past h k x at))
+-- an entry of another
+other_step : (w : ℕ) (x : Entry) (past : List Entry) → (x.worker == w) ≡ false → open_call w past ≡ open_call w (x ∷ past)
+unfolding under_way
+other_step w x past other =
+    let u = under_way w past in
+    sym (ap (λ b. option_map (open_of w) (cond b (cond (is_pending x.reply) (gone_on x.act past u) None) u)) other)
+
+-- the calls under way after one entry more of a history
+pub open_next : (h : List Entry) (k : ℕ) (x : Entry) (calls : List (Option Open)) (n : ℕ) (o : Option Open) → slice_get h k ≡ Some x → n ≡ x.worker → n < 16
+    → ((c : Option Open) → slice_get calls n ≡ Some c → o ≡ told_open c x k)
+    → AreOpen calls (past_at k h) → AreOpen (slice_set calls n o) (past_at (k + 1) h)
+open_next h k x calls n o at of small is was w lt =
+    let p = past_at k h in
+    let next : past_at (k + 1) h ≡ x ∷ p = next_past h k x at in
+    let long : length p ≡ k = long_past h k x at in
+    get_set calls n w o (slice_get_within calls n _ (was n small))
+    ∙ elim (n == w) as (λ b. (n == w) ≡ b → cond b (Some o) (slice_get calls w) ≡ Some (open_call w (past_at (k + 1) h))) [
+      | true ↦ λ own.
+          (let same : n ≡ w = eqb-true n w own in
+          let mine : (x.worker == w) ≡ true = ap (λ v. v == w) (sym of) ∙ own in
+          ap Some (is (open_call n p) (was n small) ∙ ap (λ v. told_open (open_call v p) x k) same ∙ ap (told_open (open_call w p) x) (sym long)
+          ∙ own_step w x p mine ∙ ap (open_call w) (sym next)))
+      | false ↦ λ other.
+          (let not : (x.worker == w) ≡ false = ap (λ v. v == w) (sym of) ∙ other in
+          was w lt ∙ ap Some (other_step w x p not ∙ ap (open_call w) (sym next)))
+    ] refl
+
+-- before the first entry
+pub none_open : (n w : ℕ) → w < n → slice_get {X = Option Open} (replicate n None) w ≡ Some (open_call w [])
+unfolding under_way
+none_open zero w lt = absurd (omega arith)
+none_open (suc n) zero lt = refl
+none_open (suc n) (suc w) lt = none_open n w (omega arith)
 
 -- the dots after one entry more, where it is shown and where it is not
 pub dots_yes : (t : Tables) (w : Window) (h : List Entry) (k : ℕ) (x : Entry) (ds : List Dot) (d : Dot) → slice_get h k ≡ Some x → shows w k ≡ true → ds ≡ dots_of t w (past_at k h)

@@ -2,7 +2,7 @@
 use Rattle.std.proofs.Common.{◌≡◌, ◌⊎◌, ℕ, zero, suc, ◌+◌, ◌-◌, ◌<◌, ◌≤◌, ◌&&◌, Bool, true, false, List, [], ◌∷◌, ◌++◌, length, map, take, Option, Some, None, refl, ap, sym, ◌∙◌, arith, cond, subst, reverse, slice_get, unwrap_or, nat_le, count_by, is_some, inl, inr, pos, ◌≤ℤ◌, ◌-ℤ◌}
 use Rattle.std.specs.Option.{option_map, option_to_list}
 use Rattle.std.proofs.Math.Seq.{take-length}
-use Rattle.std.proofs.lemmas.Bool.{leb-true, leb-false, le-leb}
+use Rattle.std.proofs.lemmas.Bool.{le-leb}
 use Rattle.std.proofs.lemmas.Int.{ints}
 use Rattle.std.proofs.lemmas.List.{length-append}
 use Rattle.std.proofs.lemmas.List.Sums.{sum_by_push}
@@ -25,13 +25,12 @@ use Rattle.ec_semaphore.specs.Shapes.{Semaphore}
 use Rattle.ec_semaphore.specs.Balances.{downs, ups}
 use Rattle.ec_semaphore.proofs.Moments.{never_negative}
 use Rattle.ec_draw.specs.declared.window.Window.{Window}
-use Rattle.ec_draw.specs.declared.arrow.Arrow.{Arrow}
 use Rattle.ec_draw.specs.declared.arrow.Move.{Move}
 use Rattle.ec_draw.specs.declared.arrow.Move.TheVariants as moves
 use Rattle.ec_draw.specs.Balances.{left_of, lefts, told_at}
 use Rattle.ec_draw.specs.LeftOut.{told_long}
 use Rattle.ec_draw.specs.Shades.{Shaded, shaded, shade_at, shades_in, span_at}
-use Rattle.ec_draw.specs.Arrows.{arrow_of, arrows_in, is_move, place_of, places}
+use Rattle.ec_draw.specs.Arrows.{arrow_of, is_move, place_of, places}
 use Rattle.ec_draw.specs.Laws.{BalanceCurvesAreLefts, LeftsAreBalances, ShadesEndTries, ArrowsAreDeliveries, IsArrow}
 use Rattle.ec_draw.proofs.Stepping.{long_past}
 

@@ -1,5 +1,5 @@
 -- What is kept of a group may be left out of an entry whose call is not on it.
-use Rattle.std.proofs.Common.{◌≡◌, ℕ, suc, ◌+◌, ◌-◌, ◌<◌, ◌≤◌, ◌^◌, ◌==◌, ◌&&◌, ◌||◌, not, nat_le, min, Bool, true, false, List, [], ◌∷◌, ◌++◌, length, replicate, Option, None, Some, is_some, refl, ap, sym, ◌∙◌, arith, cond, subst, true≢false, append-nil, append_assoc}
+use Rattle.std.proofs.Common.{◌≡◌, ℕ, suc, ◌+◌, ◌-◌, ◌<◌, ◌≤◌, ◌==◌, ◌&&◌, ◌||◌, not, nat_le, min, Bool, true, false, List, [], ◌∷◌, ◌++◌, length, replicate, Option, None, Some, is_some, refl, ap, sym, ◌∙◌, arith, cond, subst, true≢false, append-nil, append_assoc}
 use Rattle.std.specs.Option.{option_map, option_to_list}
 use Rattle.std.specs.List.{filter}
 use Rattle.std.proofs.Math.Nat.{min-eq_left, min-eq_right, zero-min}
@@ -19,12 +19,12 @@ use Rattle.ec_buffer.proofs.shared.LeftOut.{delivering_off}
 use Rattle.ec_database.specs.Shapes.{Database}
 use Rattle.ec_database.specs.Following as databases
 use Rattle.ec_database.specs.Following.{write_rule, try_rule, writes, database_rules}
-use Rattle.ec_database.specs.Tries.{AcceptedTry, accepted_of, ended_at}
+use Rattle.ec_database.specs.Tries.{accepted_of, ended_at}
 use Rattle.ec_database.proofs.shared.LeftOut.{versioning_off}
 use Rattle.ec_semaphore.specs.Shapes.{Semaphore}
 use Rattle.ec_semaphore.specs.Uses as semaphores
 use Rattle.ec_semaphore.specs.Auditing.{Balancing, IsCounted}
-use Rattle.ec_semaphore.specs.Balances.{downs, ups}
+use Rattle.ec_semaphore.specs.Balances.{ups}
 use Rattle.ec_semaphore.proofs.shared.LeftOut.{counted_off}
 use Rattle.ec_walk.specs.Walks.{is_on}
 use Rattle.ec_draw.specs.declared.window.Window.{Window}
@@ -33,7 +33,7 @@ use Rattle.ec_draw.specs.declared.arrow.Move.TheVariants as moves
 use Rattle.ec_draw.specs.declared.finding.Finding.{Finding}
 use Rattle.ec_draw.specs.declared.finding.Finding.TheVariants as finds
 use Rattle.ec_draw.specs.Balances.{Course, IsCourse, IsSmall, left_by, left_of, lefts, moments, padded, told_at}
-use Rattle.ec_draw.specs.Shades.{Trying, IsTrying, AreStarts, begins_list, list_start, shaded, shades_in, shades_shown, span_at, is_in}
+use Rattle.ec_draw.specs.Shades.{Trying, IsTrying, begins_list, list_start, shaded, shades_in, shades_shown, span_at, is_in}
 use Rattle.ec_draw.specs.Arrows.{Moving, IsMoving, is_move, places}
 use Rattle.ec_draw.specs.Findings.{group_of, FindsOn}
 

@@ -1,5 +1,5 @@
 -- The bars of calls under way.
-use Rattle.std.specs.Prelude.{ℕ, ◌-◌, zero, suc, ◌==◌, List, [], ◌++◌, length, Option, Some, None, if◌then◌else◌, nat_lt, reverse, Bool}
+use Rattle.std.specs.Prelude.{◌≡◌, ℕ, ◌-◌, ◌<◌, zero, suc, List, [], ◌++◌, length, Option, Some, None, if◌then◌else◌, nat_lt, reverse, slice_get, Bool}
 use Rattle.std.specs.Option.{option_map, option_to_list}
 use Rattle.std.specs.List.{filter}
 use Rattle.ec_count.specs.Tables.{Tables}
@@ -32,11 +32,17 @@ is_open_shown w o = nat_lt o.first w.to
 abbrev pub open_bars : Tables → Window → List Entry → List Open
 open_bars t w h = filter (is_open_shown w) (open_calls t.workers (reverse h))
 
--- what is under way after an act at position i that is told Pending
+-- A WALK
+
+-- what is under way after an act of w at position i that is told Pending
 abbrev pub gone_open : ℕ → Act → Option Open → ℕ → Option Open
 gone_open w Go o i = o
 gone_open w act o i = Some (record { worker = w; op = act; first = i })
 
--- what is under way of w after the entry at position i
-abbrev pub open_after : ℕ → Option Open → Entry → ℕ → Option Open
-open_after w o x i = if x.worker == w then (if is_pending x.reply then gone_open w x.act o i else None) else o
+-- what is under way of its worker after the entry at position i
+abbrev pub told_open : Option Open → Entry → ℕ → Option Open
+told_open o x i = if is_pending x.reply then gone_open x.worker x.act o i else None
+
+-- these are the calls under way after a past, by worker
+abbrev pub AreOpen : List (Option Open) → List Entry → Type 0
+AreOpen calls past = (w : ℕ) → w < 16 → slice_get calls w ≡ Some (open_call w past)

@@ -1,6 +1,6 @@
 -- The shades: of each database that is followed, its accepting tries, each from the first entry of its first call to its last
 -- entry.
-use Rattle.std.specs.Prelude.{◌≡◌, ℕ, ◌<◌, Bool, true, false, ◌==◌, ◌&&◌, not, List, [], ◌∷◌, ◌++◌, length, reverse, Option, Some, None, option_to_list, slice_get, slice_set, if◌then◌else◌}
+use Rattle.std.specs.Prelude.{◌≡◌, ℕ, ◌<◌, Bool, false, ◌==◌, ◌&&◌, not, List, [], ◌∷◌, ◌++◌, length, reverse, Option, Some, None, option_to_list, slice_get, slice_set, if◌then◌else◌}
 use Rattle.std.specs.Option.{option_map}
 use Rattle.std.specs.List.{filter, flat_map}
 use Rattle.ec_count.specs.Tables.{Tables}

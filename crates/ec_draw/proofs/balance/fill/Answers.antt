@@ -1,4 +1,4 @@
-use Rattle.std.proofs.Common.{arith, length}
+use Rattle.std.proofs.Common.{arith}
 use Rattle.ec_draw.proofs.Balancing.{fill_more}
 use Rattle.ec_draw.proofs.balance.fill.Goals as goal
 

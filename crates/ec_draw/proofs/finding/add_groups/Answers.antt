@@ -1,6 +1,6 @@
-use Rattle.std.proofs.Common.{rules as the_rules, ◌≡◌, Some, List, length, map, refl, ap, sym, ◌∙◌, arith, subst, reverse, slice_get}
+use Rattle.std.proofs.Common.{rules as the_rules, List, length, map, refl, ap, sym, ◌∙◌, arith, subst, reverse}
 use Rattle.std.proofs.lemmas.Option.{slice_get_read}
-use Rattle.std.specs.Vec.Iter.{into_iter_items, into_iter_len}
+use Rattle.std.specs.Vec.Iter.{into_iter_items}
 use Rattle.ec_heading.specs.declared.group.Group.{Group}
 use Rattle.ec_walk.proofs.shared.Each.{from_first, from_here, from_next, from_some}
 use Rattle.ec_draw.specs.declared.finding.Finding.{Finding}

@@ -10,8 +10,8 @@ loop-number-init c = c.new-bars.ensures.items
 
 pub loop-number-preserved : goal.loop-number-preserved
 loop-number-preserved c =
-    elim c.match-open_at.branch [
-      | in-Some+then-begun-window+in_ok-keep w ↦ ap (λ v. v.items) w.bars-is ∙ open_yes c.args.window c.args.run.now.entries c.loop-number.number c.loop-number.bars.items _ w.in-Some.begun c.loop-number.invariant (sym w.in-Some.is ∙ c.open_at.ensures) (omega arith) w.in_ok-keep.ensures
-      | in-Some+else-begun-window w ↦ ap (λ v. v.items) w.bars-is ∙ open_no c.args.window c.args.run.now.entries c.loop-number.number c.loop-number.bars.items w.in-Some.begun c.loop-number.invariant (sym w.in-Some.is ∙ c.open_at.ensures) (omega arith)
-      | in_default w ↦ ap (λ v. v.items) w.bars-is ∙ open_none c.args.window c.args.run.now.entries c.loop-number.number c.loop-number.bars.items c.loop-number.invariant (sym w.in_default.is ∙ c.open_at.ensures)
+    elim c.match-of.branch [
+      | in-Some+then-begun-window+in_ok-keep w ↦ ap (λ v. v.items) w.bars-is ∙ open_yes c.args.window c.args.run.now.entries c.loop-number.number c.loop-number.bars.items _ w.in-Some.begun c.loop-number.invariant (sym w.in-Some.is ∙ c.of.ensures _ c.all_open-calls.ensures) (omega arith) w.in_ok-keep.ensures
+      | in-Some+else-begun-window w ↦ ap (λ v. v.items) w.bars-is ∙ open_no c.args.window c.args.run.now.entries c.loop-number.number c.loop-number.bars.items w.in-Some.begun c.loop-number.invariant (sym w.in-Some.is ∙ c.of.ensures _ c.all_open-calls.ensures) (omega arith)
+      | in_default w ↦ ap (λ v. v.items) w.bars-is ∙ open_none c.args.window c.args.run.now.entries c.loop-number.number c.loop-number.bars.items c.loop-number.invariant (sym w.in_default.is ∙ c.of.ensures _ c.all_open-calls.ensures)
     ]

@@ -1,5 +1,4 @@
-use Rattle.std.proofs.Common.{◌≡◌, ◌↔◌, true, is_ok, reverse, subst, sym, ap, ◌∙◌}
-use Rattle.ec_core.specs.Following.{Follow}
+use Rattle.std.proofs.Common.{is_ok, reverse, ap, ◌∙◌}
 use Rattle.ec_semaphore.specs.Uses.{use_rules}
 use Rattle.ec_draw.specs.Balances.{Course}
 use Rattle.ec_draw.specs.Following.{follows}

@@ -1,5 +1,4 @@
-use Rattle.std.proofs.Common.{refl, sym, subst, ◌<◌, ℕ}
-use Rattle.ec_core.specs.declared.act.Act.TheVariants.{Read, Await, Go, Put, Get, Hand}
+use Rattle.std.proofs.Common.{refl}
 use Rattle.ec_draw.proofs.Counting.{note_event, note_ticket, note_other}
 use Rattle.ec_draw.proofs.curve.Counts.note.Goals as goal
 

@@ -1,5 +1,5 @@
-use Rattle.std.proofs.Common.{map, ap, sym, ◌∙◌, subst}
-use Rattle.ec_draw.specs.Shades.{seen, shades_shown}
+use Rattle.std.proofs.Common.{map, ap, ◌∙◌}
+use Rattle.ec_draw.specs.Shades.{seen}
 use Rattle.ec_draw.proofs.Shading.{starts_first, shades_first}
 use Rattle.ec_draw.proofs.shade.Tries.new.Goals as goal
 

@@ -1,8 +1,8 @@
-use Rattle.std.proofs.Common.{◌≡◌, ◌<◌, ◌∷◌, ℕ, List, length, refl, ap, sym, subst, ◌∙◌}
+use Rattle.std.proofs.Common.{◌<◌, ◌∷◌, ℕ, List, length, refl, ap, sym, subst, ◌∙◌}
 use Rattle.ec_count.specs.Tables.{Tables}
 use Rattle.ec_core.specs.Following.{block}
 use Rattle.ec_database.specs.Following.{database_rules}
-use Rattle.ec_draw.specs.Shades.{Trying, IsTrying, AreStarts, shades_shown}
+use Rattle.ec_draw.specs.Shades.{Trying, IsTrying, AreStarts}
 use Rattle.ec_draw.proofs.Shading.{starts_next, tries_next}
 use Rattle.ec_draw.proofs.shade.TriesAudit.take.Goals as goal
 
