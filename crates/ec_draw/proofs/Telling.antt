@@ -6,6 +6,7 @@ use Rattle.std.proofs.lemmas.Bool.{le-leb}
 use Rattle.std.proofs.lemmas.Int.{ints}
 use Rattle.std.proofs.lemmas.List.{length-append}
 use Rattle.std.proofs.lemmas.List.Sums.{sum_by_push}
+use Rattle.std.proofs.lemmas.Option.{slice_get_within}
 use Rattle.ec_count.specs.Tables.{Tables}
 use Rattle.ec_core.specs.declared.act.Entry.{Entry}
 use Rattle.ec_core.specs.Counts.{past_at}
@@ -20,7 +21,7 @@ use Rattle.ec_buffer.proofs.Gathering.{gathered}
 use Rattle.ec_buffer.proofs.InTime.{puts_go, gets_go}
 use Rattle.ec_database.specs.Shapes.{Database}
 use Rattle.ec_database.specs.Following.{writes}
-use Rattle.ec_database.specs.Tries.{AcceptedTry, EndsTry, ended_at}
+use Rattle.ec_database.specs.Tries.{AcceptedTry, EndsTry, accepted_tries, ended_at, tries_before}
 use Rattle.ec_semaphore.specs.Shapes.{Semaphore}
 use Rattle.ec_semaphore.specs.Balances.{downs, ups}
 use Rattle.ec_semaphore.proofs.Moments.{never_negative}
@@ -31,7 +32,7 @@ use Rattle.ec_draw.specs.Balances.{left_of, lefts, told_at}
 use Rattle.ec_draw.specs.LeftOut.{told_long}
 use Rattle.ec_draw.specs.Shades.{Shaded, shaded, shade_at, shades_in, span_at}
 use Rattle.ec_draw.specs.Arrows.{arrow_of, is_move, place_of, places}
-use Rattle.ec_draw.specs.Laws.{BalanceCurvesAreLefts, LeftsAreBalances, ShadesEndTries, ArrowsAreDeliveries, IsArrow}
+use Rattle.ec_draw.specs.Laws.{BalanceCurvesAreLefts, LeftsAreBalances, ShadesEndTries, TriesHaveShades, ArrowsAreDeliveries, IsArrow}
 use Rattle.ec_draw.proofs.Stepping.{long_past}
 
 -- LISTS
@@ -160,6 +161,57 @@ shade_ends t d h (suc m) i s e =
 
 pub shades_end : ShadesEndTries
 shades_end t d h i s e = shade_ends t d h (length h) i s (ap (λ p. slice_get (shades_in t d (reverse p)) i) (take-length h) ∙ e)
+
+options_long : {X Y : Type 0} (f : X → Y) (o : Option X) → length (option_to_list (option_map f o)) ≡ length (option_to_list o)
+options_long f None = refl
+options_long f (Some x) = refl
+
+-- there are as many shades as accepting tries
+shades_long : (t : Tables) (d : Database) (past : List Entry) → length (shades_in t d past) ≡ length (accepted_tries d (writes t d) past)
+unfolding shades_in accepted_tries
+shades_long t d [] = refl
+shades_long t d (x ∷ past) =
+    let was = shades_long t d past in
+    let one = options_long (shaded d.start (span_at t d x past)) (ended_at d (writes t d) x past) in
+    length-append (shades_in t d past) (option_to_list (shade_at t d x past))
+    ∙ ap (λ n. n + length (option_to_list (shade_at t d x past))) was ∙ ap (λ n. length (accepted_tries d (writes t d) past) + n) one
+    ∙ sym (length-append (accepted_tries d (writes t d) past) (option_to_list (ended_at d (writes t d) x past)))
+
+-- what stands among the shades of a past stands there later too
+shade_stays : (t : Tables) (d : Database) (h : List Entry) (k m i : ℕ) (s : Shaded) → slice_get (shades_in t d (past_at k h)) i ≡ Some s → k ≤ m
+    → slice_get (shades_in t d (past_at m h)) i ≡ Some s
+unfolding shades_in
+shade_stays t d h k zero i s e le = (let same : k ≡ 0 = omega arith in ap (λ n. slice_get (shades_in t d (past_at n h)) i) (sym same) ∙ e)
+shade_stays t d h k (suc m) i s e le =
+    elim (split_last k m le) [
+      | inl before ↦
+          elim (slice_get h m) as (λ o. slice_get h m ≡ o → slice_get (shades_in t d (past_at (suc m) h)) i ≡ Some s) [
+            | None ↦ λ at. ap (λ p. slice_get (shades_in t d p) i) (past_end h m at) ∙ shade_stays t d h k m i s e before
+            | Some x ↦ λ at.
+                ap (λ p. slice_get (shades_in t d p) i) (past_next h m x at)
+                ∙ get_front (shades_in t d (past_at m h)) (option_to_list (shade_at t d x (past_at m h))) i s (shade_stays t d h k m i s e before)
+          ] refl
+      | inr last ↦ ap (λ n. slice_get (shades_in t d (past_at n h)) i) (sym last) ∙ e
+    ]
+
+pub tries_have_shades : TriesHaveShades
+unfolding shades_in
+tries_have_shades t d h k a ends =
+    let p = past_at k h in
+    let s : Shaded = shaded d.start (span_at t d ends.entry p) a in
+    let i = tries_before t d h k in
+    let long = shades_long t d p in
+    let place : i ≡ length (shades_in t d p) + 0 = omega arith in
+    let here : shade_at t d ends.entry p ≡ Some s = ap (option_map (shaded d.start (span_at t d ends.entry p))) ends.ends in
+    let next : slice_get (shades_in t d (past_at (suc k) h)) i ≡ Some s =
+    ap (λ q. slice_get (shades_in t d q) i) (past_next h k ends.entry ends.is)
+    ∙ get_back (shades_in t d p) (option_to_list (shade_at t d ends.entry p)) i 0 place ∙ ap (λ o. slice_get (option_to_list o) 0) here in
+    let within : k < length h = slice_get_within h k ends.entry ends.is in (
+      s,
+      ap (λ q. slice_get (shades_in t d (reverse q)) i) (sym (take-length h)) ∙ shade_stays t d h (suc k) (length h) i s next (omega arith),
+      long_past h k ends.entry ends.is,
+      refl,
+    )
 
 -- ARROWS
 

@@ -12,7 +12,7 @@ use Rattle.ec_buffer.specs.Items.{PutsItem, GetsItem, gets_made}
 use Rattle.ec_buffer.specs.Laws.{IsFollowed}
 use Rattle.ec_database.specs.Shapes.{Database}
 use Rattle.ec_database.specs.Following.{is_on, database_rules}
-use Rattle.ec_database.specs.Tries.{EndsTry}
+use Rattle.ec_database.specs.Tries.{AcceptedTry, EndsTry, tries_before}
 use Rattle.ec_semaphore.specs.Shapes.{Semaphore}
 use Rattle.ec_semaphore.specs.Uses.{use_rules}
 use Rattle.ec_semaphore.specs.Balances.{balance_of}
@@ -58,6 +58,11 @@ LeftsAreBalances = (s : Semaphore) (t : Tables) (k : ℕ) (h : List Entry) → I
 -- each shade is that of an accepting try, which its last entry ends
 abbrev pub ShadesEndTries : Type 0
 ShadesEndTries = (t : Tables) (d : Database) (h : List Entry) (i : ℕ) (s : Shaded) → slice_get (shades_in t d (reverse h)) i ≡ Some s → EndsTry t d h s.span.last s.accepted
+
+-- and each accepting try has its shade, behind those of the tries that ended before it
+abbrev pub TriesHaveShades : Type 0
+TriesHaveShades = (t : Tables) (d : Database) (h : List Entry) (k : ℕ) (a : AcceptedTry) → EndsTry t d h k a
+    → (s : Shaded) × (slice_get (shades_in t d (reverse h)) (tries_before t d h k) ≡ Some s) × (s.span.last ≡ k) × (s.accepted ≡ a)
 
 -- entry i began the list of calls on the database that w was in before entry k: it began a call on it while no call of a
 -- list was finished, and no entry of w since then did so

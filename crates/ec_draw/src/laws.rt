@@ -1,5 +1,7 @@
 //! Laws of bars, curves, shades and arrows, each the contract of a function that does nothing.
-ghost use Rattle.ec_draw.specs.Laws.{ArrowsAreDeliveries, BalanceCurvesAreLefts, BarsAreCalls, CurvesAreCounts, FollowingIsAnswered, LeftsAreBalances, ShadesBeginLists, ShadesEndTries};
+ghost use Rattle.std.specs.Prelude.{◌≡◌};
+ghost use Rattle.ec_draw.specs.declared.window.TheConstants.{COLUMNS_MAX};
+ghost use Rattle.ec_draw.specs.Laws.{ArrowsAreDeliveries, BalanceCurvesAreLefts, BarsAreCalls, CurvesAreCounts, FollowingIsAnswered, LeftsAreBalances, ShadesBeginLists, ShadesEndTries, TriesHaveShades};
 
 use ec_order::order_by_points_ascends;
 
@@ -27,9 +29,11 @@ pub fn balance_curves_are_balances()
     ensures balance { LeftsAreBalances }
 {}
 
-/// Each shade is that of an accepting try, which its last entry ends.
+/// Each shade is that of an accepting try, which its last entry ends; and each accepting try has its shade, in the order of
+/// their last entries.
 pub fn shades_end_tries()
-    ensures { ShadesEndTries }
+    ensures each { ShadesEndTries }
+    ensures every { TriesHaveShades }
 {}
 
 /// Each shade begins with the entry that began the list of calls that its reader was in: it began a call on the database while
@@ -41,4 +45,9 @@ pub fn shades_begin_lists()
 /// Where a buffer is followed there is one arrow for each get, from the put of the same number.
 pub fn arrows_are_deliveries()
     ensures { ArrowsAreDeliveries }
+{}
+
+/// The most columns of a picture, as a number.
+pub fn pictures_have_400_columns_at_most()
+    ensures { COLUMNS_MAX ≡ 400 }
 {}

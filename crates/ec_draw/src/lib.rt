@@ -21,7 +21,7 @@ pub use finding::{Findings, findings_of};
 pub use finished::bars;
 pub use laws::{
     arrows_are_deliveries, balance_curves_are_balances, bars_are_calls, curves_are_counts,
-    following_is_answered, shades_begin_lists, shades_end_tries,
+    following_is_answered, pictures_have_400_columns_at_most, shades_begin_lists, shades_end_tries,
 };
 pub use open::{Open, open_bars};
 pub use picture::{Picture, picture_of};

@@ -18,8 +18,8 @@ abbrev pub with_entry : Recorded → ℕ → Act → Reply → Recorded
 with_entry h w a r = record { setup = h.setup; entries = h.entries ++ record { worker = w; act = a; reply = r } ∷ [] }
 
 -- what was answered to a step after a history: the right reply, and what is then so of the history with this entry; or the refusal, or
--- that memory was refused
+-- that memory was refused, and what is then so of the history as it was
 abbrev pub Enters : (Recorded → Type 0) → Recorded → ℕ → Act → Result Reply StepFault → Type 0
 Enters after h w a (Ok r) = (answer_of h.setup (reverse h.entries) w a ≡ Ok r) × after (with_entry h w a r)
-Enters after h w a (Err (Refused refusal)) = answer_of h.setup (reverse h.entries) w a ≡ Err refusal
-Enters after h w a (Err Memory) = Unit {0}
+Enters after h w a (Err (Refused refusal)) = (answer_of h.setup (reverse h.entries) w a ≡ Err refusal) × after h
+Enters after h w a (Err Memory) = after h

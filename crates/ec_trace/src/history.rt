@@ -15,7 +15,8 @@ pub trait History {
     // What stands for a history, given what was there at first.
     ghost stands: { Self → Self → Recorded → Type 0 };
 
-    /// Makes a step, which is answered as the history answers it, and stands for the history with its entry then.
+    /// Makes a step, which is answered as the history answers it, and stands for the history with its entry then. After an error
+    /// it stands for the history as it was.
     fn enter(&mut self, worker: WorkerId, act: Act) -> Result<Reply, StepFault>
         ensures { (start : Self) (h : Recorded) → stands start self.old h → Enters (stands start self.new) h worker act result };
 }

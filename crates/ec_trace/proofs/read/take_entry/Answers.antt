@@ -41,4 +41,4 @@ returns-in-Err-Refused-clause-takes g c = λ first entries stands.
     let may : can_spell c.args.heading.now.version c.in-Some.entry.act ≡ true = ap (λ v. can_spell v c.in-Some.entry.act) (sym c.version.ensures) ∙ sym c.if-not-can_spell.ensures in
     let entered : Enters (g.H.History.stands first c.enter.new.self) (history_of c.args.heading.now entries) c.in-Some.entry.worker c.in-Some.entry.act (Err (Refused c.in-Err-Refused.refusal)) =
     subst (λ f. Enters (g.H.History.stands first c.enter.new.self) (history_of c.args.heading.now entries) c.in-Some.entry.worker c.in-Some.entry.act (Err f)) c.in-Err-Refused.field-0-is (c.in-Err-Refused.ensures first (history_of c.args.heading.now entries) stands) in
-    entry_refused t c.args.line.now _ (sym c.in-Some.ensures.value) c.in-Err-Refused.refusal may entered ∙ ap (λ r. Err (line_faults.Refused r)) (sym c.in-Err-Refused.refusal-is)
+    entry_refused t c.args.line.now _ (sym c.in-Some.ensures.value) c.in-Err-Refused.refusal may entered.0 ∙ ap (λ r. Err (line_faults.Refused r)) (sym c.in-Err-Refused.refusal-is)
