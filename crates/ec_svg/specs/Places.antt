@@ -1,5 +1,5 @@
 -- Where things stand in a picture, in pixels.
-use Rattle.std.specs.Prelude.{ℕ, ◌+◌, ◌-◌, ◌*◌, ◌/◌, min, max, List, [], ◌∷◌, slice_get, unwrap_or}
+use Rattle.std.specs.Prelude.{ℕ, ◌+◌, ◌-◌, ◌*◌, ◌/◌, min, max, nat_lt, List, [], ◌∷◌, slice_get, unwrap_or, if◌then◌else◌}
 use Rattle.ec_draw.specs.declared.window.Window.{Window}
 use Rattle.ec_draw.specs.Windows.{column, columns}
 use Rattle.ec_frame.specs.Frames.{Framed, rows_before}
@@ -24,10 +24,21 @@ below r = 60 + 76 * r
 abbrev pub base : ℕ → ℕ → ℕ
 base r i = below r + 84 * min i 96 + 64
 
--- how wide and how high a picture is
+-- how wide a picture is
 abbrev pub picture_width : Window → ℕ
 picture_width w = 200 + 84 * columns w
 
+-- where the bar of a call begins whose first entry is the one at position k: a little right of the edge of its column, and where
+-- the columns begin if that is before the window
+abbrev pub bar_from : Window → ℕ → ℕ
+bar_from w k = if nat_lt k w.from then edge w k else edge w k + 3
+
+-- where the bar of a call ends whose last entry is that one: a little left of the edge of its column, and if that is behind the
+-- window the bar goes on to the edge of the picture, as that of a call under way does
+abbrev pub bar_to : Window → ℕ → ℕ
+bar_to w k = if nat_lt k w.to then edge w (k + 1) - 3 else picture_width w
+
+-- how high a picture is
 abbrev pub picture_height : ℕ → ℕ → ℕ
 picture_height r n = below r + 84 * min n 96 + 30
 
@@ -58,3 +69,7 @@ rise low high v = 52 * min (v - low) (span_of low high) / span_of low high
 -- the height at which count v of the i-th curve is drawn
 abbrev pub level : ℕ → ℕ → List ℕ → ℕ → ℕ
 level r i hs v = base r i - rise (low_of hs) (high_of hs) v
+
+-- the height at which the i-th curve is drawn at moment j of the window: that of the moment's count
+abbrev pub level_at : ℕ → ℕ → List ℕ → ℕ → ℕ
+level_at r i hs j = level r i hs (unwrap_or (slice_get hs j) 0)

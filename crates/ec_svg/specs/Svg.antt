@@ -1,5 +1,5 @@
 -- The picture as bytes: a function of its shapes and of the names of the heading.
-use Rattle.std.specs.Prelude.{ℕ, ◌+◌, ◌-◌, ◌*◌, min, zero, suc, ◌==◌, ◌&&◌, nat_le, nat_lt, Bool, List, [], ◌++◌, length, Option, Some, None, slice_get, unwrap_or, codes, decimal, if◌then◌else◌}
+use Rattle.std.specs.Prelude.{ℕ, ◌+◌, ◌-◌, ◌*◌, min, zero, suc, ◌==◌, ◌&&◌, nat_le, nat_lt, Bool, List, [], ◌++◌, length, Option, Some, None, slice_get, codes, decimal, if◌then◌else◌}
 use Rattle.std.specs.List.{flat_map}
 use Rattle.ec_count.specs.declared.target.Target.TheVariants as targets
 use Rattle.ec_core.specs.declared.act.Act.{Act}
@@ -22,7 +22,7 @@ use Rattle.ec_frame.specs.Frames.{Framed, draws, draws_worker, draws_curve, rows
 use Rattle.ec_frame.specs.Notes.{Noted}
 use Rattle.ec_svg.specs.Notes.{paper_width, note_height, note_element}
 use Rattle.ec_svg.specs.Findings.{shade_element, arrow_element}
-use Rattle.ec_svg.specs.Places.{low_of, high_of, edge, centre, row, below, base, level, picture_width, picture_height}
+use Rattle.ec_svg.specs.Places.{low_of, high_of, edge, centre, bar_from, bar_to, row, below, base, level, level_at, picture_width, picture_height}
 use Rattle.ec_svg.specs.Elements.{pair, squeeze, squeeze_dot, row_text, line, rect, circle, diamond, number_text, name_text, object_text, text_end}
 use Rattle.ec_frame.specs.Words.{call_words, open_words, curve_word}
 use Rattle.ec_svg.specs.declared.style.TheConstants.{OPENING, OPEN_GROUP, STYLE}
@@ -83,7 +83,7 @@ reply_start x y n = codes "<text class='reply" ++ squeeze (told_letters n) ++ pa
 unfoldable pub reply_number : ℕ → ℕ → ℕ → List ℕ
 reply_number x y n = reply_start x y n ++ decimal n ++ text_end
 
--- the number that a call was told, below the end of its bar
+-- the number that a call was told
 abbrev pub reply_text : ℕ → ℕ → Reply → List ℕ
 reply_text x y (Number n) = reply_number x y n
 reply_text x y reply = []
@@ -94,14 +94,22 @@ reply_text x y reply = []
 unfoldable pub call_title : Named → Placed → List ℕ
 call_title names p = codes "<title>" ++ call_words names p ++ codes "</title>\n"
 
--- where the last round of an await began, if it is not its first
+-- whether a call has a later round than its first, and its last began within the window
+abbrev pub has_round : Window → Call → Bool
+has_round w c = nat_lt c.first c.round && nat_le w.from c.round && nat_le c.round w.to
+
+-- where the last round of an await began
 unfoldable pub round_line : Framed → Call → List ℕ
 round_line f c =
-    if nat_lt c.first c.round then line (codes "round") (edge f.window c.round) (row f c.worker + 32) (edge f.window c.round) (row f c.worker + 54) else []
+    if has_round f.window c then line (codes "round") (edge f.window c.round) (row f c.worker + 32) (edge f.window c.round) (row f c.worker + 54) else []
 
--- the bar of a call, from the left edge of its first column to the right edge of its last
+-- the bar of a call, over the columns from its first entry to its last
 unfoldable pub call_bar : Framed → Call → List ℕ
-call_bar f c = rect (edge f.window c.first + 3) (row f c.worker + 32) (edge f.window (c.last + 1) - (edge f.window c.first + 6)) 22
+call_bar f c = rect (bar_from f.window c.first) (row f c.worker + 32) (bar_to f.window c.last - bar_from f.window c.first) 22
+
+-- what the call was told, below the end of its bar; nothing where it ended behind the window
+unfoldable pub call_reply : Framed → Call → List ℕ
+call_reply f c = if nat_lt c.last f.window.to then reply_text (bar_to f.window c.last) (row f c.worker + 66) c.reply else []
 
 -- the beginning of a call's group: its class, its title and its bar
 unfoldable pub call_front : Named → Framed → Placed → List ℕ
@@ -110,7 +118,7 @@ call_front names f p = codes "<g class='" ++ kind_word p.call.op ++ codes "'>" +
 unfoldable pub call_group : Named → Framed → Placed → List ℕ
 call_group names f p =
     call_front names f p ++ label names (edge f.window p.call.first + 3) (row f p.call.worker) p.call.op ++ round_line f p.call
-    ++ reply_text (edge f.window (p.call.last + 1) - 3) (row f p.call.worker + 66) p.call.reply ++ codes "</g>\n"
+    ++ call_reply f p.call ++ codes "</g>\n"
 
 abbrev pub call_element : Named → Framed → Placed → List ℕ
 call_element names f p = if draws f p.call.worker p.call.op then call_group names f p else []
@@ -120,7 +128,7 @@ open_title names o = codes "<title>" ++ open_words names o ++ codes "</title>\n"
 
 -- its bar goes on behind the last column
 unfoldable pub open_bar : Framed → Open → List ℕ
-open_bar f o = rect (edge f.window o.first + 3) (row f o.worker + 32) (picture_width f.window - (edge f.window o.first + 3)) 22
+open_bar f o = rect (bar_from f.window o.first) (row f o.worker + 32) (picture_width f.window - bar_from f.window o.first) 22
 
 unfoldable pub open_front : Named → Framed → Open → List ℕ
 open_front names f o = OPEN_GROUP.now ++ kind_word o.op ++ codes "'>" ++ open_title names o ++ open_bar f o
@@ -195,7 +203,7 @@ mark_element f r curves p = if draws f p.call.worker p.call.op && has_mark f.win
 
 -- at moment j of the window the curve has that moment's count, up to the entry that happens there
 unfoldable pub step : ℕ → ℕ → List ℕ → ℕ → List ℕ
-step r i hs j = pair (codes " V ") (level r i hs (unwrap_or (slice_get hs j) 0)) (codes " H ") (178 + 84 * min j 400)
+step r i hs j = pair (codes " V ") (level_at r i hs j) (codes " H ") (178 + 84 * min j 400)
 
 -- the steps at the first n moments
 unfoldable pub steps : ℕ → ℕ → List ℕ → ℕ → List ℕ
@@ -207,14 +215,18 @@ abbrev pub curve_start : Plotted → List ℕ
 curve_start (Count object) = codes "<path class='curve' d='M 136 "
 curve_start (Balance e) = codes "<path class='balance' d='M 136 "
 
+-- it begins at the left edge, where it has the first moment's count
 unfoldable pub curve_path : ℕ → ℕ → Line → List ℕ
-curve_path r i l = curve_start l.object ++ decimal (base r i) ++ steps r i l.heights (length l.heights) ++ codes "'/>\n"
+curve_path r i l = curve_start l.object ++ decimal (level_at r i l.heights 0) ++ steps r i l.heights (length l.heights) ++ codes "'/>\n"
+
+-- the greatest count of a curve; nothing where it is flat
+unfoldable pub curve_top : ℕ → ℕ → List ℕ → List ℕ
+curve_top r i hs = if low_of hs == high_of hs then [] else number_text (codes "count") 124 (base r i - 44) (high_of hs)
 
 -- the name of a curve, and its least and its greatest count
 unfoldable pub curve_words : Named → Window → ℕ → ℕ → Line → List ℕ
 curve_words names w r i l =
-    row_text 124 (base r i - 20) (curve_word names l.object) ++ number_text (codes "count") 124 (base r i) (low_of l.heights)
-    ++ number_text (codes "count") 124 (base r i - 44) (high_of l.heights)
+    row_text 124 (base r i - 20) (curve_word names l.object) ++ number_text (codes "count") 124 (base r i) (low_of l.heights) ++ curve_top r i l.heights
 
 unfoldable pub curve_element : Named → Window → ℕ → ℕ → Line → List ℕ
 curve_element names w r i l = line (codes "zero") 136 (base r i) (picture_width w) (base r i) ++ curve_words names w r i l ++ curve_path r i l

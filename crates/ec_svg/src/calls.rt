@@ -5,14 +5,15 @@ ghost use Rattle.ec_svg.specs.Elements.{name_text};
 ghost use Rattle.std.specs.List.{flat_map};
 ghost use Rattle.ec_text.specs.Puts.{Puts};
 ghost use Rattle.ec_frame.specs.Frames.{framed};
-ghost use Rattle.ec_svg.specs.Svg.{act_start, act_text, call_bar, call_element, call_front, call_group, call_title, kind_word, label, letters, object_label, reply_number, reply_start, reply_text, round_line, told_letters, value_words};
+ghost use Rattle.ec_svg.specs.Svg.{act_start, act_text, call_bar, call_element, call_front, call_group, call_reply, call_title, has_round, kind_word, label, letters, object_label, reply_number, reply_start, reply_text, round_line, told_letters, value_words};
 
 use crate::elements::{
     Place, digits, end_text, put_line, put_object_text, put_pair, put_rect, put_squeeze, start_text,
 };
-use crate::places::{edge, end_of, row};
+use crate::places::{bar_from, bar_to, edge, row};
 use ec_core::{Act, Reply};
 use ec_count::CellId;
+use ec_draw::Window;
 use ec_frame::{Frame, put_call_words};
 use ec_order::{Call, Placed};
 use ec_text::Out;
@@ -178,12 +179,19 @@ fn put_call_title<W: Write>(out: &mut Out<'_, W>, spellings: &Spellings<'_>, pla
     out.put(b"</title>\n");
 }
 
-/// Puts where the last round of an await began.
+/// Whether a call has a later round than its first, and its last began within the window.
+fn has_round(window: Window, call: &Call) -> bool
+    ensures { result ≡ has_round window call.now }
+{
+    call.first < call.round && window.from <= call.round && call.round <= window.to
+}
+
+/// Puts where the last round of an await began, if that is within the window.
 #[tactic(auto, unfolding(crate::specs::Svg::round_line))]
 fn put_round<W: Write>(out: &mut Out<'_, W>, frame: &Frame, call: &Call)
     ensures { Puts out.old out.new (round_line (framed frame.now) call.now) }
 {
-    if call.first < call.round {
+    if has_round(frame.window, call) {
         let x = edge(frame.window, call.round);
         let y = row(frame, call.worker);
         put_line(
@@ -200,13 +208,22 @@ fn put_round<W: Write>(out: &mut Out<'_, W>, frame: &Frame, call: &Call)
 fn put_call_bar<W: Write>(out: &mut Out<'_, W>, frame: &Frame, call: &Call)
     ensures { Puts out.old out.new (call_bar (framed frame.now) call.now) }
 {
-    let left = edge(frame.window, call.first);
-    let right = end_of(frame.window, call.last);
-    let at = Place {
-        x: left + 3,
-        y: row(frame, call.worker) + 32,
-    };
-    put_rect(out, at, right.saturating_sub(left + 6), 22);
+    let x = bar_from(frame.window, call.first);
+    let y = row(frame, call.worker) + 32;
+    let width = bar_to(frame.window, call.last).saturating_sub(x);
+    put_rect(out, Place { x, y }, width, 22);
+}
+
+/// Puts what a call was told, if it ended within the window.
+#[tactic(auto, unfolding(crate::specs::Svg::call_reply))]
+fn put_call_reply<W: Write>(out: &mut Out<'_, W>, frame: &Frame, call: &Call)
+    ensures { Puts out.old out.new (call_reply (framed frame.now) call.now) }
+{
+    if call.last < frame.window.to {
+        let x = bar_to(frame.window, call.last);
+        let y = row(frame, call.worker) + 66;
+        put_reply_text(out, Place { x, y }, &call.reply);
+    }
 }
 
 /// Puts the beginning of a call's group: its class, its title and its bar.
@@ -239,11 +256,10 @@ fn put_call_group<W: Write>(
     let call = &placed.call;
     let y = row(frame, call.worker);
     let x = edge(frame.window, call.first) + 3;
-    let end = end_of(frame.window, call.last) - 3;
     put_call_front(out, spellings, frame, placed);
     put_label(out, spellings, Place { x, y }, &call.op);
     put_round(out, frame, call);
-    put_reply_text(out, Place { x: end, y: y + 66 }, &call.reply);
+    put_call_reply(out, frame, call);
     out.put(b"</g>\n");
 }
 

@@ -1,24 +1,17 @@
 //! The curves of what is counted.
-ghost use Rattle.std.specs.Prelude.{◌≡◌, ◌≤◌, length, map, slice_get, unwrap_or};
+ghost use Rattle.std.specs.Prelude.{◌≡◌, ◌≤◌, length, map, slice_get};
 ghost use Rattle.ec_text.specs.Puts.{Puts};
 ghost use Rattle.ec_draw.specs.Curves.{shown};
 ghost use Rattle.ec_frame.specs.Frames.{curves_before, framed};
-ghost use Rattle.ec_svg.specs.Svg.{curve_at, curve_element, curve_elements, curve_path, curve_start, curve_words, step, steps};
+ghost use Rattle.ec_svg.specs.Svg.{curve_at, curve_element, curve_elements, curve_path, curve_start, curve_top, curve_words, step, steps};
 
 use crate::elements::{Place, put_line, put_number_text, put_pair, put_row_text};
-use crate::places::{base, high_of, level, low_of, picture_width};
+use crate::places::{base, high_of, level_at, low_of, picture_width};
 use ec_draw::{Curve, Plotted, Window};
 use ec_frame::{Frame, curve_word};
 use ec_text::Out;
 use ec_trace::Spellings;
 use std::io::Write;
-
-/// The count at a moment of the window.
-fn height_at(heights: &[u64], moment: usize) -> u64
-    ensures { result ≡ unwrap_or (slice_get heights.now moment) 0 }
-{
-    heights.get(moment).copied().unwrap_or(0)
-}
 
 /// Puts one step of a curve: at the height of a moment's count up to the entry that happens there.
 #[tactic(auto, unfolding(crate::specs::Svg::step))]
@@ -32,7 +25,7 @@ fn put_step<W: Write>(
     requires { rows ≤ 16 }
     ensures { Puts out.old out.new (step rows place heights.now moment) }
 {
-    let y = level(rows, place, heights, height_at(heights, moment));
+    let y = level_at(rows, place, heights, moment);
     let x = 178 + 84 * moment.min(400) as u64;
     put_pair(out, b" V ", y, b" H ", x);
 }
@@ -57,16 +50,30 @@ fn put_start<W: Write>(out: &mut Out<'_, W>, object: &Plotted)
     }
 }
 
-/// Puts the line of a curve.
+/// Puts the line of a curve, which begins at the height of its first count.
 #[tactic(auto, unfolding(crate::specs::Svg::curve_path))]
 fn put_path<W: Write>(out: &mut Out<'_, W>, rows: usize, place: usize, curve: &Curve)
     requires { rows ≤ 16 }
     ensures { Puts out.old out.new (curve_path rows place (shown curve.now)) }
 {
+    let heights = curve.heights.as_slice();
     put_start(out, &curve.object);
-    out.put_number(base(rows, place));
-    put_steps(out, rows, place, curve.heights.as_slice());
+    out.put_number(level_at(rows, place, heights, 0));
+    put_steps(out, rows, place, heights);
     out.put(b"'/>\n");
+}
+
+/// Puts the greatest count of a curve, if the curve is not flat.
+#[tactic(auto, unfolding(crate::specs::Svg::curve_top))]
+fn put_top<W: Write>(out: &mut Out<'_, W>, rows: usize, place: usize, heights: &[u64])
+    requires { rows ≤ 16 }
+    ensures { Puts out.old out.new (curve_top rows place heights.now) }
+{
+    let high = high_of(heights);
+    if low_of(heights) != high {
+        let y = base(rows, place) - 44;
+        put_number_text(out, b"count", Place { x: 124, y }, high);
+    }
 }
 
 /// Puts the name of a curve, and its least and its greatest count.
@@ -87,8 +94,7 @@ fn put_words<W: Write>(
     let word = curve_word(spellings, &curve.object);
     put_row_text(out, Place { x: 124, y: y - 20 }, word);
     put_number_text(out, b"count", Place { x: 124, y }, low_of(heights));
-    let top = Place { x: 124, y: y - 44 };
-    put_number_text(out, b"count", top, high_of(heights));
+    put_top(out, rows, place, heights);
 }
 
 /// Puts all that is drawn of a curve.

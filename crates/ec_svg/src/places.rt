@@ -1,7 +1,7 @@
 //! Where things stand in a picture, in pixels.
-ghost use Rattle.std.specs.Prelude.{◌≡◌, ◌≤◌, ◌<◌, ◌+◌, max};
+ghost use Rattle.std.specs.Prelude.{◌≡◌, ◌≤◌, ◌<◌, ◌+◌, max, slice_get, unwrap_or};
 ghost use Rattle.ec_frame.specs.Frames.{framed};
-ghost use Rattle.ec_svg.specs.Places.{base, below, centre, edge, high_of, level, low_of, picture_height, picture_width, rise, row, span_of};
+ghost use Rattle.ec_svg.specs.Places.{bar_from, bar_to, base, below, centre, edge, high_of, level, level_at, low_of, picture_height, picture_width, rise, row, span_of};
 
 use ec_count::WorkerId;
 use ec_draw::Window;
@@ -68,6 +68,27 @@ pub(crate) fn picture_width(window: Window) -> u64
     200 + 84 * window.columns() as u64
 }
 
+/// Where the bar of a call begins, by its first entry.
+pub(crate) fn bar_from(window: Window, first: usize) -> u64
+    ensures value { result ≡ bar_from window first }
+    ensures small { result ≤ 33739 }
+{
+    let left = edge(window, first);
+    if first < window.from { left } else { left + 3 }
+}
+
+/// Where the bar of a call ends, by its last entry.
+pub(crate) fn bar_to(window: Window, last: usize) -> u64
+    ensures value { result ≡ bar_to window last }
+    ensures small { result ≤ 33800 }
+{
+    if last < window.to {
+        end_of(window, last) - 3
+    } else {
+        picture_width(window)
+    }
+}
+
 /// How high a picture is.
 pub(crate) fn picture_height(rows: usize, curves: usize) -> u64
     requires { rows ≤ 16 }
@@ -129,4 +150,19 @@ pub(crate) fn level(rows: usize, curve: usize, heights: &[u64], count: u64) -> u
     ensures { result ≡ level rows curve heights.now count }
 {
     base(rows, curve).saturating_sub(rise(low_of(heights), high_of(heights), count))
+}
+
+/// The count at a moment of the window.
+fn height_at(heights: &[u64], moment: usize) -> u64
+    ensures { result ≡ unwrap_or (slice_get heights.now moment) 0 }
+{
+    heights.get(moment).copied().unwrap_or(0)
+}
+
+/// The height at which a curve is drawn at a moment of the window.
+pub(crate) fn level_at(rows: usize, curve: usize, heights: &[u64], moment: usize) -> u64
+    requires { rows ≤ 16 }
+    ensures { result ≡ level_at rows curve heights.now moment }
+{
+    level(rows, curve, heights, height_at(heights, moment))
 }

@@ -7,7 +7,7 @@ ghost use Rattle.ec_svg.specs.Svg.{open_bar, open_front, open_element, open_grou
 
 use crate::calls::{put_kind, put_label};
 use crate::elements::{Place, put_rect};
-use crate::places::{edge, picture_width, row};
+use crate::places::{bar_from, edge, picture_width, row};
 use crate::style::OPEN_GROUP;
 use ec_draw::Open;
 use ec_frame::{Frame, put_open_words};
@@ -30,7 +30,7 @@ fn put_open_title<W: Write>(out: &mut Out<'_, W>, spellings: &Spellings<'_>, beg
 fn put_open_bar<W: Write>(out: &mut Out<'_, W>, frame: &Frame, begun: &Open)
     ensures { Puts out.old out.new (open_bar (framed frame.now) begun.now) }
 {
-    let x = edge(frame.window, begun.first) + 3;
+    let x = bar_from(frame.window, begun.first);
     let y = row(frame, begun.worker) + 32;
     let width = picture_width(frame.window).saturating_sub(x);
     put_rect(out, Place { x, y }, width, 22);
