@@ -1,5 +1,5 @@
 -- What the program answered and wrote, for an input whose bytes are known and what was asked for.
-use Rattle.std.specs.Prelude.{◌≡◌, ◌⊎◌, ℕ, ◌+◌, ◌-◌, min, max, Ok, Err, Bool, true, false, not, ◌||◌, nat_lt, List, [], ◌++◌, length, Option, Some, None, String, string_bytes, codes, if◌then◌else◌}
+use Rattle.std.specs.Prelude.{◌≡◌, ◌⊎◌, ℕ, ◌+◌, ◌-◌, ◌==◌, ◌&&◌, min, max, Ok, Err, Bool, true, false, not, ◌||◌, nat_le, nat_lt, List, [], ◌++◌, length, Option, Some, None, String, string_bytes, codes, decimal, if◌then◌else◌}
 use Rattle.std.specs.Global.{Global}
 use Rattle.std.specs.List.{flat_map, list_any}
 use Rattle.std.specs.Io.KnownBytes.{Appends, Keeps}
@@ -26,6 +26,7 @@ use Rattle.ec_frame.specs.Notes.{Noted}
 use Rattle.ec_text.specs.Inputs.{looked_at, IsCutOff}
 use Rattle.evc_draw.specs.Faults.{history, line_at, fault_line, right_of, position_in}
 use Rattle.evc_draw.specs.Documents.{document_for}
+use Rattle.evc_draw.specs.declared.empty.TheConstants.{NO_END}
 
 -- the part of a window that a history of n entries has
 abbrev pub window_on : Window → ℕ → Window
@@ -46,6 +47,26 @@ frame_for v t = record { window = window_of v.window t; shown = drawn_targets v 
 -- the picture of a trace: the bytes of the shapes of its history, of which the frame says which are drawn
 abbrev pub picture_for : View → Recounted → List ℕ
 picture_for v t = document_for v.form t.heading (frame_for v t) (shapes t.heading.setup t.heading.groups (window_of v.window t) t.entries) None
+
+-- WINDOWS WITH NO ENTRY
+
+-- whether no range is asked for
+abbrev pub is_whole : Window → Bool
+is_whole w = w.from == 0 && w.to == NO_END
+
+-- whether a range is asked for, and a trace of n entries has none in it
+abbrev pub is_empty : Window → ℕ → Bool
+is_empty w n = not (is_whole w) && nat_le (min w.to n) w.from
+
+-- its last entry, if one was named
+abbrev pub last_words : ℕ → List ℕ
+last_words to = if to == NO_END then codes " on" else (codes " to " ++ decimal (to - 1))
+
+unfoldable pub range_words : Window → List ℕ
+range_words w = codes "from " ++ decimal w.from ++ last_words w.to
+
+unfoldable pub empty_note : Window → ℕ → List ℕ
+empty_note w n = codes "no entry " ++ range_words w ++ codes ": the trace has " ++ decimal n ++ codes " entries\n"
 
 -- NAMES THAT THE TRACE DOESN'T HAVE
 
@@ -93,13 +114,19 @@ unknown_notes v words = flat_map (worker_note words) v.workers.items ++ flat_map
 abbrev pub wide_note : List ℕ
 wide_note = codes "more than 400 entries: choose some by --from N --to M\n"
 
+-- nothing can be drawn of what was asked for, and the note says so: names stand for none, or no entry is in the window
+abbrev pub TellsUsage : View → Recounted → Outlets → Outlets → Type 0
+TellsUsage v t old new =
+    ((has_unknown v t.heading.words ≡ true) × Notes old new (unknown_notes v t.heading.words))
+    ⊎ ((has_unknown v t.heading.words ≡ false) × (is_empty v.window (length t.entries) ≡ true) × Notes old new (empty_note v.window (length t.entries)))
+
 -- how the writing of the picture of a trace ended
 abbrev pub Drawn : View → Recounted → Status → Outlets → Outlets → Type 0
-Drawn v t Done old new = (has_unknown v t.heading.words ≡ false) × (is_wide (window_of v.window t) ≡ false) × Appends old.out new.out (picture_for v t) × KeepsNotes old new
+Drawn v t Done old new = (has_unknown v t.heading.words ≡ false) × (is_empty v.window (length t.entries) ≡ false) × (is_wide (window_of v.window t) ≡ false) × Appends old.out new.out (picture_for v t) × KeepsNotes old new
 Drawn v t Refused old new = (has_unknown v t.heading.words ≡ false) × (is_wide (window_of v.window t) ≡ true) × Keeps old.out new.out × Notes old new wide_note
 Drawn v t InputOutput old new = AppendsPrefix old.out new.out (picture_for v t) × Notes old new (codes "write fault\n")
 Drawn v t Memory old new = Keeps old.out new.out × Notes old new (codes "no memory\n")
-Drawn v t Usage old new = (has_unknown v t.heading.words ≡ true) × Keeps old.out new.out × Notes old new (unknown_notes v t.heading.words)
+Drawn v t Usage old new = Keeps old.out new.out × TellsUsage v t old new
 Drawn v t Stopped old new = ⊥
 
 -- TEXTS THAT ARE REFUSED
@@ -180,8 +207,8 @@ abbrev pub Wants : Outlets → Outlets → Type 0
 Wants old new = Keeps old.out new.out × Notes old new (codes "no memory\n")
 
 -- how the program ended with a text that was read to its end: it is a trace, and its picture was written, or it has too many
--- entries, or not the names that were chosen, and that is said; or it is none, its first fault is told, and what came before was
--- drawn; or a failed write or want of memory is told
+-- entries, or none of those that were asked for, or not the names that were chosen, and that is said; or it is none, its first
+-- fault is told, and what came before was drawn; or a failed write or want of memory is told
 abbrev pub DrawsText : View → List ℕ → Status → Outlets → Outlets → Type 0
 DrawsText v text status old new =
     ((status ≡ Memory) × Wants old new) ⊎ (((t : Recounted) × ReadsAs text t × Drawn v t status old new) ⊎ Refuses v text status old new)

@@ -1,11 +1,12 @@
 -- The picture as a text for a terminal: a function of its shapes and of the names of the heading. A row for the entries, one for
 -- each worker and one for each curve; in each row a cell for each entry. Below stand the calls, a line each.
-use Rattle.std.specs.Prelude.{ℕ, ◌-◌, zero, suc, ◌==◌, ◌&&◌, ◌||◌, nat_le, nat_lt, Bool, List, [], ◌++◌, length, take, Option, Some, None, slice_get, codes, decimal, if◌then◌else◌}
+use Rattle.std.specs.Prelude.{ℕ, ◌-◌, zero, suc, ◌==◌, ◌&&◌, ◌||◌, not, nat_le, nat_lt, Bool, List, [], ◌++◌, length, take, Option, Some, None, slice_get, codes, decimal, if◌then◌else◌}
 use Rattle.std.specs.List.{flat_map, list_any}
 use Rattle.ec_count.specs.declared.target.Target.TheVariants as targets
 use Rattle.ec_order.specs.declared.placed.Placed.{Placed}
 use Rattle.ec_heading.specs.Spelling.{Named, word_of}
 use Rattle.ec_draw.specs.declared.window.Window.{Window}
+use Rattle.ec_draw.specs.Windows.{shows}
 use Rattle.ec_draw.specs.declared.open.Open.{Open}
 use Rattle.ec_draw.specs.declared.dot.Dot.{Dot}
 use Rattle.ec_draw.specs.declared.arrow.Arrow.{Arrow}
@@ -24,9 +25,17 @@ use Rattle.evc_draw.specs.declared.style.TheConstants.{BLANKS, DASHES}
 unfoldable pub padded : List ℕ → ℕ → List ℕ → List ℕ
 padded fill width word = take (width - length word) fill ++ word
 
--- how wide a cell is. No count and no entry that is shown is greater than the window's end
-abbrev pub cell_width : Window → ℕ
-cell_width w = if nat_lt w.to 1000 then 4 else 8
+-- whether a curve that is drawn has a height of more than three digits
+abbrev pub is_tall : Framed → Line → Bool
+is_tall f l = draws_curve f l.object && list_any (nat_le 1000) l.heights
+
+-- whether the rows may have a number of more than three digits. No entry that is shown stands behind the window's end
+abbrev pub has_long : Framed → List Line → Bool
+has_long f ls = nat_le 1000 f.window.to || list_any (is_tall f) ls
+
+-- how wide a cell is: a blank stands before each number of the rows, of which none has more than seven digits
+abbrev pub cell_width : Framed → List Line → ℕ
+cell_width f ls = if has_long f ls then 8 else 4
 
 -- the name of a row
 unfoldable pub row_name : List ℕ → List ℕ
@@ -53,37 +62,51 @@ dot_word (Some c) = decimal c
 
 -- ROWS
 
-unfoldable pub dot_cell : Framed → Shapes → ℕ → Dot → List ℕ
-dot_cell f p n d = padded (fill f p n d.position) (cell_width f.window) (if d.worker == n && draws_object f d.op then dot_word d.component else [])
+-- the cell of an entry in the row of worker n; all cells have the same width
+unfoldable pub dot_cell : Framed → Shapes → ℕ → ℕ → Dot → List ℕ
+dot_cell f p width n d = padded (fill f p n d.position) width (if d.worker == n && draws_object f d.op then dot_word d.component else [])
 
-unfoldable pub number_cell : Window → ℕ → List ℕ
-number_cell w n = padded BLANKS.now (cell_width w) (decimal n)
+unfoldable pub number_cell : ℕ → ℕ → List ℕ
+number_cell width n = padded BLANKS.now width (decimal n)
 
-unfoldable pub entry_cell : Window → Dot → List ℕ
-entry_cell w d = number_cell w d.position
+unfoldable pub entry_cell : ℕ → Dot → List ℕ
+entry_cell width d = number_cell width d.position
+
+abbrev pub stands_at : ℕ → Dot → Bool
+stands_at k d = d.position == k
+
+-- whether a faulty line that is shown has no entry of its own
+abbrev pub lacks_entry : Window → List Dot → Noted → Bool
+lacks_entry w ds x = shows w x.position && not (list_any (stands_at x.position) ds)
+
+-- what stands above its column then, in place of the entry's number
+abbrev pub fault_cell : ℕ → Window → List Dot → Option Noted → List ℕ
+fault_cell width w ds None = []
+fault_cell width w ds (Some x) = if lacks_entry w ds x then padded BLANKS.now width (codes "!") else []
 
 -- the row of the entries' numbers. Its first cell, that of the moment before them, is empty
-unfoldable pub entry_row : Window → List Dot → List ℕ
-entry_row w ds = row_name (codes "entry") ++ padded BLANKS.now (cell_width w) [] ++ flat_map (entry_cell w) ds ++ codes "\n"
+unfoldable pub entry_row : ℕ → Window → List Dot → Option Noted → List ℕ
+entry_row width w ds x =
+    row_name (codes "entry") ++ padded BLANKS.now width [] ++ flat_map (entry_cell width) ds ++ fault_cell width w ds x ++ codes "\n"
 
-unfoldable pub worker_cells : Named → Framed → Shapes → ℕ → List ℕ
-worker_cells names f p n =
-    row_name (word_of names (targets.Worker n)) ++ padded BLANKS.now (cell_width f.window) [] ++ flat_map (dot_cell f p n) p.dots ++ codes "\n"
+unfoldable pub worker_cells : Named → Framed → Shapes → ℕ → ℕ → List ℕ
+worker_cells names f p width n =
+    row_name (word_of names (targets.Worker n)) ++ padded BLANKS.now width [] ++ flat_map (dot_cell f p width n) p.dots ++ codes "\n"
 
-abbrev pub worker_row : Named → Framed → Shapes → ℕ → List ℕ
-worker_row names f p n = if draws_worker f n then worker_cells names f p n else []
+abbrev pub worker_row : Named → Framed → Shapes → ℕ → ℕ → List ℕ
+worker_row names f p width n = if draws_worker f n then worker_cells names f p width n else []
 
 -- the rows of the first n workers that are drawn
-unfoldable pub worker_rows : Named → Framed → Shapes → ℕ → List ℕ
-worker_rows names f p zero = []
-worker_rows names f p (suc n) = worker_rows names f p n ++ worker_row names f p n
+unfoldable pub worker_rows : Named → Framed → Shapes → ℕ → ℕ → List ℕ
+worker_rows names f p width zero = []
+worker_rows names f p width (suc n) = worker_rows names f p width n ++ worker_row names f p width n
 
 -- the number before the first entry, and after each
-unfoldable pub curve_cells : Named → Window → Line → List ℕ
-curve_cells names w l = row_name (curve_word names l.object) ++ flat_map (number_cell w) l.heights ++ codes "\n"
+unfoldable pub curve_cells : Named → ℕ → Line → List ℕ
+curve_cells names width l = row_name (curve_word names l.object) ++ flat_map (number_cell width) l.heights ++ codes "\n"
 
-abbrev pub curve_row : Named → Framed → Line → List ℕ
-curve_row names f l = if draws_curve f l.object then curve_cells names f.window l else []
+abbrev pub curve_row : Named → Framed → ℕ → Line → List ℕ
+curve_row names f width l = if draws_curve f l.object then curve_cells names width l else []
 
 -- THE WHOLE
 
@@ -106,8 +129,12 @@ findings names f p = flat_map (delivery_line names f) p.arrows ++ flat_map (vers
 
 -- ROWS
 
-unfoldable pub rows : Named → Framed → ℕ → Shapes → List ℕ
-rows names f m p = entry_row f.window p.dots ++ worker_rows names f p m ++ flat_map (curve_row names f) p.curves
+unfoldable pub rows_of_width : ℕ → Named → Framed → ℕ → Shapes → Option Noted → List ℕ
+rows_of_width width names f m p x =
+    entry_row width f.window p.dots x ++ worker_rows names f p width m ++ flat_map (curve_row names f width) p.curves
+
+abbrev pub rows : Named → Framed → ℕ → Shapes → Option Noted → List ℕ
+rows names f m p x = rows_of_width (cell_width f p.curves) names f m p x
 
 -- A FAULTY LINE
 
@@ -145,11 +172,11 @@ unfoldable pub note_text : Named → Window → Option Noted → Shapes → List
 note_text names w None p = []
 note_text names w (Some x) p = note_lines names w x p
 
--- the text of these shapes in this frame, where m workers are declared
-unfoldable pub shapes_text : Named → Framed → ℕ → Shapes → List ℕ
-shapes_text names f m p =
-    rows names f m p ++ codes "\n" ++ flat_map (call_line names f) p.calls ++ flat_map (open_line names f) p.begun ++ findings names f p
+-- the text of these shapes in this frame, where m workers are declared, up to a faulty line, if there is one
+unfoldable pub shapes_text : Named → Framed → ℕ → Shapes → Option Noted → List ℕ
+shapes_text names f m p x =
+    rows names f m p x ++ codes "\n" ++ flat_map (call_line names f) p.calls ++ flat_map (open_line names f) p.begun ++ findings names f p
 
--- and behind it what is said of a faulty line, if there is one
+-- and behind it what is said of that line
 unfoldable pub text : Named → Framed → ℕ → Shapes → Option Noted → List ℕ
-text names f m p x = shapes_text names f m p ++ note_text names f.window x p
+text names f m p x = shapes_text names f m p x ++ note_text names f.window x p

@@ -1,13 +1,14 @@
 //! The cells of the rows of a text.
-ghost use Rattle.std.specs.Prelude.{◌≡◌, ◌≤◌, [], decimal};
+ghost use Rattle.std.specs.Prelude.{◌≡◌, ◌≤◌, [], decimal, map, nat_le};
 ghost use Rattle.std.specs.List.{list_any};
 ghost use Rattle.ec_text.specs.Puts.{Puts};
+ghost use Rattle.ec_draw.specs.Curves.{shown};
 ghost use Rattle.ec_draw.specs.Pictures.{kept};
 ghost use Rattle.ec_frame.specs.Frames.{framed};
-ghost use Rattle.evc_draw.specs.Text.{cell_width, dot_cell, dot_word, fill, goes_on, goes_through, is_under_way, number_cell, padded, row_name};
+ghost use Rattle.evc_draw.specs.Text.{cell_width, dot_cell, dot_word, fill, goes_on, goes_through, has_long, is_tall, is_under_way, number_cell, padded, row_name};
 
 use crate::style::{BLANKS, DASHES};
-use ec_draw::{Dot, Open, Picture, Window};
+use ec_draw::{Curve, Dot, Open, Picture};
 use ec_frame::Frame;
 use ec_order::Placed;
 use ec_text::Out;
@@ -24,11 +25,39 @@ pub(crate) fn put_padded<W: Write>(out: &mut Out<'_, W>, fill: &[u8], width: usi
     out.put(word);
 }
 
-/// How wide a cell is.
-pub(crate) fn cell_width(window: Window) -> usize
-    ensures { result ≡ cell_width window }
+/// Whether some height has more than three digits.
+fn any_is_long(heights: &[u64]) -> bool
+    ensures { result ≡ list_any (nat_le 1000) heights.now }
 {
-    if window.to < 1000 { 4 } else { 8 }
+    heights.iter().any(|height| 1000 <= *height)
+}
+
+/// Whether a curve that is drawn has such a height.
+fn is_tall(frame: &Frame, curve: &Curve) -> bool
+    ensures { result ≡ is_tall (framed frame.now) (shown curve.now) }
+{
+    frame.draws_curve(&curve.object) && any_is_long(curve.heights.as_slice())
+}
+
+/// Whether some curve does.
+fn any_is_tall(frame: &Frame, curves: &[Curve]) -> bool
+    ensures { result ≡ list_any (λ c. is_tall (framed frame.now) (shown c)) curves.now }
+{
+    curves.iter().any(|curve| is_tall(frame, curve))
+}
+
+/// Whether the rows may have a number of more than three digits.
+fn has_long(frame: &Frame, curves: &[Curve]) -> bool
+    ensures { result ≡ has_long (framed frame.now) (map shown curves.now) }
+{
+    1000 <= frame.window.to || any_is_tall(frame, curves)
+}
+
+/// How wide the cells of all rows are.
+pub(crate) fn cell_width(frame: &Frame, curves: &[Curve]) -> usize
+    ensures { result ≡ cell_width (framed frame.now) (map shown curves.now) }
+{
+    if has_long(frame, curves) { 8 } else { 4 }
 }
 
 /// Puts the name of a row.
@@ -51,10 +80,10 @@ fn put_padded_number<W: Write>(out: &mut Out<'_, W>, fill: &[u8], width: usize, 
 
 /// Puts a cell with a number.
 #[tactic(auto, unfolding(crate::specs::Text::number_cell))]
-pub(crate) fn put_number_cell<W: Write>(out: &mut Out<'_, W>, window: Window, n: u64)
-    ensures { Puts out.old out.new (number_cell window n) }
+pub(crate) fn put_number_cell<W: Write>(out: &mut Out<'_, W>, width: usize, n: u64)
+    ensures { Puts out.old out.new (number_cell width n) }
 {
-    put_padded_number(out, BLANKS, cell_width(window), n);
+    put_padded_number(out, BLANKS, width, n);
 }
 
 /// Whether a finished call of a worker that is drawn is under way just before an entry.
@@ -113,12 +142,12 @@ pub(crate) fn put_dot_cell<W: Write>(
     out: &mut Out<'_, W>,
     frame: &Frame,
     picture: &Picture,
+    width: usize,
     worker: usize,
     dot: &Dot,
 )
-    ensures { Puts out.old out.new (dot_cell (framed frame.now) (kept picture.now) worker dot.now) }
+    ensures { Puts out.old out.new (dot_cell (framed frame.now) (kept picture.now) width worker dot.now) }
 {
-    let width = cell_width(frame.window);
     let fill = fill(frame, picture, worker, dot.position);
     if dot.worker.get() == worker && frame.draws_object(&dot.op) {
         put_own_cell(out, fill, width, dot.component);

@@ -7,9 +7,10 @@ ghost use Rattle.ec_frame.specs.Notes.{noted};
 ghost use Rattle.evc_draw.specs.Faults.{right_of, position_in};
 ghost use Rattle.ec_draw.specs.Pictures.{kept, shapes};
 ghost use Rattle.ec_frame.specs.Frames.{drawn_targets, framed};
-ghost use Rattle.evc_draw.specs.Draws.{CutOffFault, Drawn, Draws, behind_at, DrawsCutOff, DrawsText, Refuses, TellsFault, frame_for, has_unknown, is_wide, note_on, story, story_frame, story_of, story_picture, window_before, window_of, window_on};
+ghost use Rattle.evc_draw.specs.Draws.{CutOffFault, Drawn, Draws, behind_at, DrawsCutOff, DrawsText, Refuses, TellsFault, frame_for, has_unknown, is_empty, is_wide, note_on, story, story_frame, story_of, story_picture, window_before, window_of, window_on};
 
 use crate::document::write_document;
+use crate::empty::{is_empty, say_empty};
 use crate::fault::{fault_line, history, line_at, position_in, read_text, right_of};
 use crate::unknown::{has_unknown, say_unknown};
 use ec_draw::{COLUMNS_MAX, Picture, Window, picture_of};
@@ -61,6 +62,7 @@ fn write_framed<W: Write, N: Write>(
 ) -> Status
     requires frame { framed frame.now ≡ frame_for view.now traced.now }
     requires picture { kept picture.now ≡ shapes traced.now.heading.setup traced.now.heading.groups (window_of view.now.window traced.now) traced.now.entries }
+    requires some { is_empty view.now.window (length traced.now.entries) ≡ false }
     requires narrow { is_wide (window_of view.now.window traced.now) ≡ false }
     requires known { has_unknown view.now traced.now.heading.words ≡ false }
     ensures ends { Drawn view.now traced.now result
@@ -96,6 +98,10 @@ fn write_drawn<W: Write, N: Write>(
         return Status::Usage;
     }
     let run = traced.run();
+    if is_empty(view.window, run.len()) {
+        say_empty(notes, view.window, run.len());
+        return Status::Usage;
+    }
     let window = window_on(view.window, run.len());
     if is_wide(window) {
         notes.say(b"more than 400 entries: choose some by --from N --to M\n");

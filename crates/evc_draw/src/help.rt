@@ -6,6 +6,7 @@ proved and built with rattle-kit-13
 
 pub(crate) const USAGE: &[u8] =
     b"usage: evc-draw [--text] [--from N] [--to M] [--worker NAME].. [--object NAME].. < TRACE > PICTURE
+for more: evc-draw --help
 ";
 
 pub(crate) const HELP: &[u8] = b"Draws a trace of eventcounts and sequencers as a picture (SVG)
@@ -34,7 +35,11 @@ Options:
 A trace that is refused for one of its lines is drawn up to there, with the line in red and
 below what was right; of more than 400 entries the last are shown.
 
-At most 400 entries are shown. Notes and exit status are those of `evc check`; a trace of
-more entries is refused with status 1 where the options don't choose fewer, and a name that
-the trace doesn't have with status 2.
+At most 400 entries are shown. For that bound only --from and --to choose fewer: where they
+leave more, the trace is refused with status 1. Where they leave none, or a name stands for
+nothing in the trace, the status is 2. Else notes and exit status are those of `evc check`.
+
+A trace without its line `end`, or with something behind it, is not drawn. One that has no
+`end` yet is drawn by
+  (cat my.trace; echo end) | evc-draw > picture.svg
 ";

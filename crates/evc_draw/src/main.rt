@@ -3,8 +3,10 @@
 
 mod asked;
 mod cells;
+mod complaint;
 mod document;
 mod drawing;
+mod empty;
 mod fault;
 mod found;
 mod help;
@@ -14,6 +16,7 @@ mod told;
 mod unknown;
 
 use crate::asked::{Asked, read_words};
+use crate::complaint::say_complaint;
 use crate::drawing::draw;
 use crate::help::{HELP, USAGE, VERSION};
 use ec_text::{Out, write_out};
@@ -42,6 +45,7 @@ fn main(rt: HostRuntime) -> ExitCode {
         Ok(args) => args.collect(alloc),
         Err(error) => {
             if error.kind() == ErrorKind::InvalidData {
+                notes.put(b"evc-draw: a word of the command line is no UTF-8 text\n");
                 notes.say(USAGE);
                 return ExitCode::from(Status::Usage.code());
             }
@@ -60,8 +64,8 @@ fn main(rt: HostRuntime) -> ExitCode {
         Asked::Draw(view) => draw(alloc, &view, &mut rt.stdin(), &mut rt.stdout(), &mut notes),
         Asked::Help => tell(HELP, &mut rt.stdout(), &mut notes),
         Asked::Version => tell(VERSION, &mut rt.stdout(), &mut notes),
-        Asked::Wrong => {
-            notes.say(USAGE);
+        Asked::Wrong(complaint) => {
+            say_complaint(&mut notes, &complaint);
             Status::Usage
         }
     };

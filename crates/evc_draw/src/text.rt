@@ -1,13 +1,13 @@
 //! The picture as a text for a terminal.
 ghost use Rattle.std.specs.Prelude.{◌≡◌, ◌≤◌, ◌<◌, ◌++◌, OnOk, OnErr, map};
-ghost use Rattle.std.specs.List.{flat_map};
+ghost use Rattle.std.specs.List.{flat_map, list_any};
 ghost use Rattle.std.specs.Io.KnownBytes.{Appends};
 ghost use Rattle.ec_text.specs.Puts.{Puts, AppendsPrefix};
 ghost use Rattle.ec_draw.specs.Curves.{shown};
 ghost use Rattle.ec_draw.specs.Pictures.{kept};
 ghost use Rattle.ec_frame.specs.Frames.{framed};
-ghost use Rattle.ec_frame.specs.Notes.{noted_in};
-ghost use Rattle.evc_draw.specs.Text.{call_line, curve_cells, curve_row, dot_cell, entry_cell, entry_row, findings, number_cell, open_line, rows, shapes_text, text, worker_cells, worker_row, worker_rows};
+ghost use Rattle.ec_frame.specs.Notes.{noted, noted_in};
+ghost use Rattle.evc_draw.specs.Text.{call_line, curve_cells, curve_row, dot_cell, entry_cell, entry_row, fault_cell, findings, lacks_entry, number_cell, open_line, rows, rows_of_width, shapes_text, stands_at, text, worker_cells, worker_row, worker_rows};
 
 use crate::cells::{cell_width, put_dot_cell, put_number_cell, put_padded, put_row_name};
 use crate::found::put_findings;
@@ -23,29 +23,67 @@ use std::io::Write;
 
 /// Puts the number of an entry.
 #[tactic(auto, unfolding(crate::specs::Text::entry_cell))]
-fn put_entry_cell<W: Write>(out: &mut Out<'_, W>, window: Window, dot: &Dot)
-    ensures { Puts out.old out.new (entry_cell window dot.now) }
+fn put_entry_cell<W: Write>(out: &mut Out<'_, W>, width: usize, dot: &Dot)
+    ensures { Puts out.old out.new (entry_cell width dot.now) }
 {
-    put_number_cell(out, window, dot.position as u64);
+    put_number_cell(out, width, dot.position as u64);
 }
 
 /// Puts the numbers of the entries.
-fn put_entry_cells<W: Write>(out: &mut Out<'_, W>, window: Window, dots: &[Dot])
-    ensures { Puts out.old out.new (flat_map (entry_cell window) dots.now) }
+fn put_entry_cells<W: Write>(out: &mut Out<'_, W>, width: usize, dots: &[Dot])
+    ensures { Puts out.old out.new (flat_map (entry_cell width) dots.now) }
 {
     for dot in dots {
-        put_entry_cell(out, window, dot);
+        put_entry_cell(out, width, dot);
+    }
+}
+
+/// Whether an entry stands at a position.
+fn any_stands_at(position: usize, dots: &[Dot]) -> bool
+    ensures { result ≡ list_any (stands_at position) dots.now }
+{
+    dots.iter().any(|dot| dot.position == position)
+}
+
+/// Whether a faulty line that is shown has no entry of its own.
+fn lacks_entry(window: Window, dots: &[Dot], note: &Note<'_>) -> bool
+    ensures { result ≡ lacks_entry window dots.now (noted note.now) }
+{
+    window.shows(note.position) && !any_stands_at(note.position, dots)
+}
+
+/// Puts what stands above the column of a faulty line that has no entry, if there is one.
+fn put_fault_cell<W: Write>(
+    out: &mut Out<'_, W>,
+    width: usize,
+    window: Window,
+    dots: &[Dot],
+    note: &Option<Note<'_>>,
+)
+    ensures { Puts out.old out.new (fault_cell width window dots.now (noted_in note.now)) }
+{
+    if let Some(note) = note {
+        if lacks_entry(window, dots, note) {
+            put_padded(out, BLANKS, width, b"!");
+        }
     }
 }
 
 /// Puts the row of the entries.
 #[tactic(auto, unfolding(crate::specs::Text::entry_row))]
-fn put_entry_row<W: Write>(out: &mut Out<'_, W>, window: Window, dots: &[Dot])
-    ensures { Puts out.old out.new (entry_row window dots.now) }
+fn put_entry_row<W: Write>(
+    out: &mut Out<'_, W>,
+    width: usize,
+    window: Window,
+    dots: &[Dot],
+    note: &Option<Note<'_>>,
+)
+    ensures { Puts out.old out.new (entry_row width window dots.now (noted_in note.now)) }
 {
     put_row_name(out, b"entry");
-    put_padded(out, BLANKS, cell_width(window), b"");
-    put_entry_cells(out, window, dots);
+    put_padded(out, BLANKS, width, b"");
+    put_entry_cells(out, width, dots);
+    put_fault_cell(out, width, window, dots, note);
     out.put(b"\n");
 }
 
@@ -54,13 +92,14 @@ fn put_dot_cells<W: Write>(
     out: &mut Out<'_, W>,
     frame: &Frame,
     picture: &Picture,
+    width: usize,
     worker: usize,
     dots: &[Dot],
 )
-    ensures { Puts out.old out.new (flat_map (dot_cell (framed frame.now) (kept picture.now) worker) dots.now) }
+    ensures { Puts out.old out.new (flat_map (dot_cell (framed frame.now) (kept picture.now) width worker) dots.now) }
 {
     for dot in dots {
-        put_dot_cell(out, frame, picture, worker, dot);
+        put_dot_cell(out, frame, picture, width, worker, dot);
     }
 }
 
@@ -71,14 +110,15 @@ fn put_worker_cells<W: Write>(
     spellings: &Spellings<'_>,
     frame: &Frame,
     picture: &Picture,
+    width: usize,
     worker: WorkerId,
 )
-    ensures { Puts out.old out.new (worker_cells spellings.now (framed frame.now) (kept picture.now) worker) }
+    ensures { Puts out.old out.new (worker_cells spellings.now (framed frame.now) (kept picture.now) width worker) }
 {
     let dots = picture.dots.as_slice();
     put_row_name(out, spellings.worker(worker));
-    put_padded(out, BLANKS, cell_width(frame.window), b"");
-    put_dot_cells(out, frame, picture, worker.get(), dots);
+    put_padded(out, BLANKS, width, b"");
+    put_dot_cells(out, frame, picture, width, worker.get(), dots);
     out.put(b"\n");
 }
 
@@ -88,14 +128,15 @@ fn put_worker_row<W: Write>(
     spellings: &Spellings<'_>,
     frame: &Frame,
     picture: &Picture,
+    width: usize,
     number: usize,
 )
     requires { number < 16 }
-    ensures { Puts out.old out.new (worker_row spellings.now (framed frame.now) (kept picture.now) number) }
+    ensures { Puts out.old out.new (worker_row spellings.now (framed frame.now) (kept picture.now) width number) }
 {
     if let Some(worker) = WorkerId::new(number) {
         if frame.draws_worker(worker) {
-            put_worker_cells(out, spellings, frame, picture, worker);
+            put_worker_cells(out, spellings, frame, picture, width, worker);
         }
     }
 }
@@ -106,22 +147,23 @@ fn put_worker_rows<W: Write>(
     spellings: &Spellings<'_>,
     frame: &Frame,
     picture: &Picture,
+    width: usize,
     workers: usize,
 )
     requires { workers ≤ 16 }
-    ensures { Puts out.old out.new (worker_rows spellings.now (framed frame.now) (kept picture.now) workers) }
+    ensures { Puts out.old out.new (worker_rows spellings.now (framed frame.now) (kept picture.now) width workers) }
 {
     for worker in 0..workers {
-        put_worker_row(out, spellings, frame, picture, worker);
+        put_worker_row(out, spellings, frame, picture, width, worker);
     }
 }
 
 /// Puts the numbers of a curve.
-fn put_heights<W: Write>(out: &mut Out<'_, W>, window: Window, heights: &[u64])
-    ensures { Puts out.old out.new (flat_map (number_cell window) heights.now) }
+fn put_heights<W: Write>(out: &mut Out<'_, W>, width: usize, heights: &[u64])
+    ensures { Puts out.old out.new (flat_map (number_cell width) heights.now) }
 {
     for height in heights {
-        put_number_cell(out, window, *height);
+        put_number_cell(out, width, *height);
     }
 }
 
@@ -130,13 +172,13 @@ fn put_heights<W: Write>(out: &mut Out<'_, W>, window: Window, heights: &[u64])
 fn put_curve_cells<W: Write>(
     out: &mut Out<'_, W>,
     spellings: &Spellings<'_>,
-    window: Window,
+    width: usize,
     curve: &Curve,
 )
-    ensures { Puts out.old out.new (curve_cells spellings.now window (shown curve.now)) }
+    ensures { Puts out.old out.new (curve_cells spellings.now width (shown curve.now)) }
 {
     put_row_name(out, curve_word(spellings, &curve.object));
-    put_heights(out, window, curve.heights.as_slice());
+    put_heights(out, width, curve.heights.as_slice());
     out.put(b"\n");
 }
 
@@ -145,12 +187,13 @@ fn put_curve_row<W: Write>(
     out: &mut Out<'_, W>,
     spellings: &Spellings<'_>,
     frame: &Frame,
+    width: usize,
     curve: &Curve,
 )
-    ensures { Puts out.old out.new (curve_row spellings.now (framed frame.now) (shown curve.now)) }
+    ensures { Puts out.old out.new (curve_row spellings.now (framed frame.now) width (shown curve.now)) }
 {
     if frame.draws_curve(&curve.object) {
-        put_curve_cells(out, spellings, frame.window, curve);
+        put_curve_cells(out, spellings, width, curve);
     }
 }
 
@@ -159,31 +202,50 @@ fn put_curve_rows<W: Write>(
     out: &mut Out<'_, W>,
     spellings: &Spellings<'_>,
     frame: &Frame,
+    width: usize,
     curves: &[Curve],
 )
-    ensures { Puts out.old out.new (flat_map (curve_row spellings.now (framed frame.now)) (map shown curves.now)) }
+    ensures { Puts out.old out.new (flat_map (curve_row spellings.now (framed frame.now) width) (map shown curves.now)) }
 {
     for curve in curves {
-        put_curve_row(out, spellings, frame, curve);
+        put_curve_row(out, spellings, frame, width, curve);
     }
 }
 
+/// Puts the rows, whose cells have this width.
+#[tactic(auto, unfolding(crate::specs::Text::rows_of_width))]
+fn put_rows_of_width<W: Write>(
+    out: &mut Out<'_, W>,
+    width: usize,
+    spellings: &Spellings<'_>,
+    frame: &Frame,
+    workers: usize,
+    picture: &Picture,
+    note: &Option<Note<'_>>,
+)
+    requires { workers ≤ 16 }
+    ensures { Puts out.old out.new (rows_of_width width spellings.now (framed frame.now) workers (kept picture.now) (noted_in note.now)) }
+{
+    let curves = picture.curves.as_slice();
+    put_entry_row(out, width, frame.window, picture.dots.as_slice(), note);
+    put_worker_rows(out, spellings, frame, picture, width, workers);
+    put_curve_rows(out, spellings, frame, width, curves);
+}
+
 /// Puts the rows.
-#[tactic(auto, unfolding(crate::specs::Text::rows))]
 fn put_all_rows<W: Write>(
     out: &mut Out<'_, W>,
     spellings: &Spellings<'_>,
     frame: &Frame,
     workers: usize,
     picture: &Picture,
+    note: &Option<Note<'_>>,
 )
     requires { workers ≤ 16 }
-    ensures { Puts out.old out.new (rows spellings.now (framed frame.now) workers (kept picture.now)) }
+    ensures { Puts out.old out.new (rows spellings.now (framed frame.now) workers (kept picture.now) (noted_in note.now)) }
 {
-    let curves = picture.curves.as_slice();
-    put_entry_row(out, frame.window, picture.dots.as_slice());
-    put_worker_rows(out, spellings, frame, picture, workers);
-    put_curve_rows(out, spellings, frame, curves);
+    let width = cell_width(frame, picture.curves.as_slice());
+    put_rows_of_width(out, width, spellings, frame, workers, picture, note);
 }
 
 /// Puts the line of a finished call, if it is drawn.
@@ -260,7 +322,7 @@ fn put_lists<W: Write>(
     put_findings(out, spellings, frame, picture);
 }
 
-/// Puts the text of the shapes.
+/// Puts the text of the shapes, up to a faulty line, if there is one.
 #[tactic(auto, unfolding(crate::specs::Text::shapes_text))]
 fn put_shapes<W: Write>(
     out: &mut Out<'_, W>,
@@ -268,11 +330,12 @@ fn put_shapes<W: Write>(
     frame: &Frame,
     workers: usize,
     picture: &Picture,
+    note: &Option<Note<'_>>,
 )
     requires { workers ≤ 16 }
-    ensures { Puts out.old out.new (shapes_text spellings.now (framed frame.now) workers (kept picture.now)) }
+    ensures { Puts out.old out.new (shapes_text spellings.now (framed frame.now) workers (kept picture.now) (noted_in note.now)) }
 {
-    put_all_rows(out, spellings, frame, workers, picture);
+    put_all_rows(out, spellings, frame, workers, picture, note);
     out.put(b"\n");
     put_lists(out, spellings, frame, picture);
 }
@@ -290,6 +353,6 @@ pub(crate) fn put_text<W: Write>(
     requires { workers ≤ 16 }
     ensures { Puts out.old out.new (text spellings.now (framed frame.now) workers (kept picture.now) (noted_in note.now)) }
 {
-    put_shapes(out, spellings, frame, workers, picture);
+    put_shapes(out, spellings, frame, workers, picture, note);
     put_note(out, spellings, frame.window, note, picture);
 }

@@ -30,8 +30,8 @@ pub(crate) const AFTER_HELP: &str = "Exit status:
      were told
 
 Examples:
-  bin/evc check < examples/three-advances.trace
-  bin/evc sim < examples/tickets.script | bin/evc check";
+  evc check < my.trace
+  evc sim < my.script | evc check";
 
 pub(crate) const CHECK_ABOUT: &str =
     "Reads a trace, and writes the order of its calls and the totals";
@@ -43,7 +43,7 @@ The trace is read from standard input. Where each line of it is right, its finis
 calls go to standard output, in an order that keeps who finished before whom began
 and in which each answer is that of an object with one number; then the totals.
 Where a line is not right, nothing is written but a note on standard error, which
-says which line it is and what is wrong with it. docs/FORMATS.md has the formats.";
+says which line it is and what is wrong with it. The format is in evc-trace(5).";
 
 pub(crate) const AUDIT_ABOUT: &str =
     "Reads a trace, and writes what its buffers, databases and semaphores did";
@@ -56,7 +56,7 @@ go to standard output, for each database the versions that its readers accepted,
 each semaphore its balance, and for `both` its balance and the pairs of tickets that
 were drawn under it. Where a worker's calls on one of them are not those of its role,
 nothing is written but a note on standard error, which says of which group, which
-worker, and at which entry (counted from 0). docs/FORMATS.md has the rules.";
+worker, and at which entry (counted from 0). The rules are in evc-trace(5).";
 
 pub(crate) const UPGRADE_ABOUT: &str = "Reads a trace, and writes it in version 2 of the format";
 
@@ -66,8 +66,8 @@ pub(crate) const UPGRADE_LONG_ABOUT: &str =
 The trace is read from standard input, as by `check`. The trace of the same
 declarations and the same steps in version 2 goes to standard output; its first line
 is `evc-trace 2`. A trace of version 2 comes out as it was. Where a line is not right,
-nothing is written but a note on standard error, as by `check`. docs/FORMATS.md has
-both versions.";
+nothing is written but a note on standard error, as by `check`. Both versions are in
+evc-trace(5).";
 
 pub(crate) const SIM_ABOUT: &str =
     "Reads a script, and writes the trace of what its workers do by its schedule";
@@ -81,7 +81,7 @@ is. The trace of these turns goes to standard output. Notes on standard error sa
 each worker's program ended, as `outcome a finished` or `outcome a running`. Where the
 script or its schedule is refused, nothing is written but a note, which says which
 line it is and what kind of fault it has, or which turn of the schedule is that of a
-worker whose program has ended. docs/FORMATS.md has the format.";
+worker whose program has ended. The format is in evc-script(5).";
 
 pub(crate) const RUN_ABOUT: &str =
     "Runs a script's workers on threads, and writes the trace of what they did";
@@ -95,7 +95,7 @@ its own falls short. The trace goes to standard output. Notes on standard error 
 each worker's program ended, as `outcome a finished`. A worker is stopped where each
 that has not ended waits, and is out of turns after as many steps as `--turns` says.
 Where the script is refused, nothing is written but a note, which says which line it is
-and what kind of fault it has. docs/FORMATS.md has the format.";
+and what kind of fault it has. The format is in evc-script(5).";
 
 pub(crate) const TURNS: &str =
     "How many steps each worker may make, from 1 to 1000000; 10000 if not given";

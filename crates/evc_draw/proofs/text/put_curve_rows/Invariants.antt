@@ -8,4 +8,4 @@ use Rattle.evc_draw.proofs.text.put_curve_rows.Given as goal
 
 -- those so far
 abbrev pub invariant-loop-curve : goal.invariant-loop-curve
-invariant-loop-curve g l = Puts l.initial.out l.out (flat_map (curve_row l.spellings (framed l.frame)) (map shown (take l.curve-index l.curves)))
+invariant-loop-curve g l = Puts l.initial.out l.out (flat_map (curve_row l.spellings (framed l.frame) l.width) (map shown (take l.curve-index l.curves)))

@@ -8,4 +8,4 @@ use Rattle.evc_draw.proofs.text.put_dot_cells.Given as goal
 
 -- those so far
 abbrev pub invariant-loop-dot : goal.invariant-loop-dot
-invariant-loop-dot g l = Puts l.initial.out l.out (flat_map (dot_cell (framed l.frame) (kept l.picture) l.worker) (take l.dot-index l.dots))
+invariant-loop-dot g l = Puts l.initial.out l.out (flat_map (dot_cell (framed l.frame) (kept l.picture) l.width l.worker) (take l.dot-index l.dots))

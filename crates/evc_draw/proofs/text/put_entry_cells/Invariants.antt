@@ -6,4 +6,4 @@ use Rattle.evc_draw.proofs.text.put_entry_cells.Given as goal
 
 -- those so far
 abbrev pub invariant-loop-dot : goal.invariant-loop-dot
-invariant-loop-dot g l = Puts l.initial.out l.out (flat_map (entry_cell l.window) (take l.dot-index l.dots))
+invariant-loop-dot g l = Puts l.initial.out l.out (flat_map (entry_cell l.width) (take l.dot-index l.dots))

@@ -6,4 +6,4 @@ use Rattle.evc_draw.proofs.text.put_heights.Given as goal
 
 -- those so far
 abbrev pub invariant-loop-height : goal.invariant-loop-height
-invariant-loop-height g l = Puts l.initial.out l.out (flat_map (number_cell l.window) (take l.height-index l.heights))
+invariant-loop-height g l = Puts l.initial.out l.out (flat_map (number_cell l.width) (take l.height-index l.heights))

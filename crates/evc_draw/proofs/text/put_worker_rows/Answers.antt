@@ -11,4 +11,4 @@ loop-worker-init g c = none_put _
 
 pub loop-worker-preserved : goal.loop-worker-preserved
 unfolding worker_rows
-loop-worker-preserved g c = more_put _ _ _ (worker_rows c.args.spellings.now (framed c.args.frame.now) (kept c.args.picture.now)) c.loop-worker.worker _ refl c.loop-worker.invariant c.put_worker_row.ensures
+loop-worker-preserved g c = more_put _ _ _ (worker_rows c.args.spellings.now (framed c.args.frame.now) (kept c.args.picture.now) c.args.width) c.loop-worker.worker _ refl c.loop-worker.invariant c.put_worker_row.ensures
