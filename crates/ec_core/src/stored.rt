@@ -1,7 +1,6 @@
 //! Entries as a run keeps them.
-ghost use Rattle.std.specs.Prelude.{◌≡◌, ℕ};
-ghost use Rattle.ec_core.specs.CallLists.{number_of};
-ghost use Rattle.ec_core.specs.Stored.{act_with, reply_with, value_of, stored_entry};
+ghost use Rattle.std.specs.Prelude.{◌≡◌, ◌+◌, ℕ, List, length, ◌++◌, slice_index};
+ghost use Rattle.ec_core.specs.Stored.{verb_in, answer_in, value_in, number_in, numbers_of, end_of, stored_entry};
 
 use crate::{Act, Entry, Reply};
 use ec_count::{CellId, EventId, SeqId, WorkerId};
@@ -27,50 +26,50 @@ pub(crate) enum Answer {
     Pending,
 }
 
-/// An entry with the value of its act and the number of its reply beside them, each 0 where there
-/// is none: it takes 24 bytes, where an `Entry` takes 40.
+/// An entry without its numbers, the value of its act and the number of its reply. They stand in a list for many entries,
+/// from a place on, and take none there where the entry has none. So this takes 8 bytes, where an `Entry` takes 40.
 #[derive(Clone, Copy)]
 pub(crate) struct Stored {
     worker: WorkerId,
-    verb: Verb,
     answer: Answer,
-    value: u64,
-    number: u64,
+    verb: Verb,
+    place: u16,
 }
 
 impl Stored {
-    /// The entry, as a run keeps it.
+    /// The entry, with its numbers from a place on.
     #[inline(always)]
-    pub(crate) fn of(entry: Entry) -> Self
-        ensures { stored_entry result ≡ entry }
+    pub(crate) fn of(entry: &Entry, place: u16) -> Self
+        ensures entry { (numbers : List ℕ) → place ≡ length numbers → stored_entry (numbers ++ numbers_of entry.now) result ≡ entry.now }
+        ensures end { end_of result ≡ place + length (numbers_of entry.now) }
     {
         Stored {
             worker: entry.worker,
-            verb: verb_of(&entry.act),
-            answer: answer_of(&entry.reply),
-            value: value_of(&entry.act),
-            number: number_of(&entry.reply),
+            answer: answer_in(&entry.reply),
+            verb: verb_in(&entry.act),
+            place,
         }
     }
 
-    /// The entry that is kept.
+    /// The entry that is kept, by the numbers of many.
     #[inline(always)]
-    pub(crate) fn entry(&self) -> Entry
-        ensures { result ≡ stored_entry self.now }
+    pub(crate) fn entry(&self, numbers: &[u64]) -> Entry
+        ensures { result ≡ stored_entry numbers.now self.now }
     {
-        let act = match self.verb {
-            Verb::Advance(event) => Act::Advance(event),
-            Verb::Read(event) => Act::Read(event),
-            Verb::Await(event) => Act::Await(event, self.value),
-            Verb::Go => Act::Go,
-            Verb::Ticket(sequencer) => Act::Ticket(sequencer),
-            Verb::Put(cell) => Act::Put(cell, self.value),
-            Verb::Get(cell) => Act::Get(cell),
-            Verb::Hand(event, to) => Act::Hand(event, to),
+        let place = self.place as usize;
+        let (act, next) = match self.verb {
+            Verb::Advance(event) => (Act::Advance(event), place),
+            Verb::Read(event) => (Act::Read(event), place),
+            Verb::Await(event) => (Act::Await(event, number_at(numbers, place)), place + 1),
+            Verb::Go => (Act::Go, place),
+            Verb::Ticket(sequencer) => (Act::Ticket(sequencer), place),
+            Verb::Put(cell) => (Act::Put(cell, number_at(numbers, place)), place + 1),
+            Verb::Get(cell) => (Act::Get(cell), place),
+            Verb::Hand(event, to) => (Act::Hand(event, to), place),
         };
         let reply = match self.answer {
             Answer::Done => Reply::Done,
-            Answer::Number => Reply::Number(self.number),
+            Answer::Number => Reply::Number(number_at(numbers, next)),
             Answer::Pending => Reply::Pending,
         };
         Entry {
@@ -81,8 +80,16 @@ impl Stored {
     }
 }
 
-fn verb_of(act: &Act) -> Verb
-    ensures { (value : ℕ) → value ≡ value_of act.now → act_with result value ≡ act.now }
+/// The number at a place, and 0 behind the last.
+#[inline(always)]
+fn number_at(numbers: &[u64], place: usize) -> u64
+    ensures { result ≡ slice_index numbers.now place }
+{
+    numbers.get(place).copied().unwrap_or(0)
+}
+
+fn verb_in(act: &Act) -> Verb
+    ensures { result ≡ verb_in act.now }
 {
     match *act {
         Act::Advance(event) => Verb::Advance(event),
@@ -96,19 +103,19 @@ fn verb_of(act: &Act) -> Verb
     }
 }
 
-/// The value of an act; 0 where it has none.
-fn value_of(act: &Act) -> u64
-    ensures { result ≡ value_of act.now }
+/// The value of an act, where it has one.
+pub(crate) fn value_in(act: &Act) -> Option<u64>
+    ensures { result ≡ value_in act.now }
 {
     match *act {
-        Act::Await(_, value) | Act::Put(_, value) => value,
+        Act::Await(_, value) | Act::Put(_, value) => Some(value),
         Act::Advance(_) | Act::Read(_) | Act::Go | Act::Ticket(_) | Act::Get(_) | Act::Hand(_, _) =>
-            0,
+            None,
     }
 }
 
-fn answer_of(reply: &Reply) -> Answer
-    ensures { (number : ℕ) → number ≡ number_of reply.now → reply_with result number ≡ reply.now }
+fn answer_in(reply: &Reply) -> Answer
+    ensures { result ≡ answer_in reply.now }
 {
     match *reply {
         Reply::Done => Answer::Done,
@@ -117,12 +124,12 @@ fn answer_of(reply: &Reply) -> Answer
     }
 }
 
-/// The number of a reply; 0 where it has none.
-fn number_of(reply: &Reply) -> u64
-    ensures { result ≡ number_of reply.now }
+/// The number of a reply, where it has one.
+pub(crate) fn number_in(reply: &Reply) -> Option<u64>
+    ensures { result ≡ number_in reply.now }
 {
     match *reply {
-        Reply::Number(number) => number,
-        Reply::Done | Reply::Pending => 0,
+        Reply::Number(number) => Some(number),
+        Reply::Done | Reply::Pending => None,
     }
 }
