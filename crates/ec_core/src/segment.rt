@@ -1,20 +1,20 @@
 //! One segment of a list of entries.
-ghost use Rattle.std.specs.Prelude.{◌≡◌, ◌<◌, ◌≤◌, List, [], ◌∷◌, ◌++◌, length, slice_get, vec_len, vec_capacity, option_to_list, IfOk, OnOk, OnErr};
+ghost use Rattle.std.specs.Prelude.{◌≡◌, ◌<◌, ◌≤◌, List, [], ◌∷◌, ◌++◌, length, slice_get, vec_capacity, IfOk, OnOk, OnErr};
 
 use crate::Entry;
-use crate::stored::{Stored, number_in, value_in};
+use crate::stored::{Stored, add, number_in, value_in};
 use std::alloc::{AllocError, Global};
 use std::marker::Model;
 
 /// How many entries a full segment has.
 pub(crate) const SEGMENT: usize = 4096;
 
-/// Some entries in order, as a run keeps them, and their numbers beside them. There is room for a full segment from the
+/// Some entries in order, as a run keeps them, and the words of their numbers beside them. There is room for a full segment from the
 /// beginning, so that no entry in it ever moves.
 #[derive(Drop)]
 pub(crate) struct Segment {
     stored: Vec<Stored>,
-    numbers: Vec<u64>,
+    words: Vec<u32>,
 }
 
 impl Model for Segment {
@@ -25,9 +25,9 @@ impl Model for Segment {
 
     ghost use Rattle.ec_core.specs.Stored.{stored_entries, IsSegment};
 
-    ghost view = { λ s. stored_entries s.numbers.items s.stored.items };
+    ghost view = { λ s. stored_entries s.words.items s.stored.items };
 
-    ghost invariant = { λ s. IsSegment s.numbers.items s.stored.items (vec_capacity s.stored) };
+    ghost invariant = { λ s. IsSegment s.words.items s.stored.items (vec_capacity s.stored) };
 }
 
 impl Segment {
@@ -38,7 +38,7 @@ impl Segment {
         let stored = Vec::with_capacity(alloc, SEGMENT)?;
         Ok(Segment {
             stored,
-            numbers: Vec::new(alloc),
+            words: Vec::new(alloc),
         })
     }
 
@@ -61,7 +61,7 @@ impl Segment {
         ensures { result ≡ slice_get self.now i }
     {
         match self.stored.get(i) {
-            Some(stored) => Some(stored.entry(&self.numbers)),
+            Some(stored) => Some(stored.entry(&self.words)),
             None => None,
         }
     }
@@ -74,24 +74,12 @@ impl Segment {
         ensures ok { OnOk result (self.new ≡ self.old ++ entry.now ∷ []) }
         ensures err { OnErr result (self.new ≡ self.old) }
     {
-        self.numbers.reserve(2)?;
-        let place = self.numbers.len() as u16;
+        self.words.reserve(4)?;
+        let place = self.words.len() as u16;
         append(&mut self.stored, Stored::of(entry, place))?;
-        add(&mut self.numbers, value_in(&entry.act));
-        add(&mut self.numbers, number_in(&entry.reply));
+        add(&mut self.words, value_in(&entry.act));
+        add(&mut self.words, number_in(&entry.reply));
         Ok(())
-    }
-}
-
-/// Adds a number, if there is one, to a list that has room for it.
-#[inline(always)]
-fn add(numbers: &mut Vec<u64>, number: Option<u64>)
-    requires { vec_len numbers.old < vec_capacity numbers.old }
-    ensures items { numbers.new.items ≡ numbers.old.items ++ option_to_list number }
-    ensures room { vec_capacity numbers.old ≤ vec_capacity numbers.new }
-{
-    if let Some(number) = number {
-        let _ = numbers.push(number);
     }
 }
 

@@ -1,33 +1,40 @@
 //! Entries as a run keeps them.
-ghost use Rattle.std.specs.Prelude.{◌≡◌, ◌+◌, ℕ, List, length, ◌++◌, slice_index};
-ghost use Rattle.ec_core.specs.Stored.{verb_in, answer_in, value_in, number_in, numbers_of, end_of, stored_entry};
+ghost use Rattle.std.specs.Prelude.{◌≡◌, ◌+◌, ◌^◌, ◌<◌, ◌≤◌, ℕ, List, length, ◌++◌, vec_len, vec_capacity};
+ghost use Rattle.ec_core.specs.Stored.{verb_in, answer_in, value_in, number_in, words_of, words_in, end_of, short_at, long_at, stored_entry};
 
 use crate::{Act, Entry, Reply};
 use ec_count::{CellId, EventId, SeqId, WorkerId};
 
-/// An act without its value.
+/// The least number that takes two words.
+const LONG: u64 = 1 << 32;
+
+/// An act without its value. Of the acts that have one, there are two kinds: those whose value takes one word of 32 bits,
+/// and those whose value takes two.
 #[derive(Clone, Copy)]
 pub(crate) enum Verb {
     Advance(EventId),
     Read(EventId),
     Await(EventId),
+    AwaitLong(EventId),
     Go,
     Ticket(SeqId),
     Put(CellId),
+    PutLong(CellId),
     Get(CellId),
     Hand(EventId, WorkerId),
 }
 
-/// A reply without its number.
+/// A reply without its number, which takes one word or two.
 #[derive(Clone, Copy)]
 pub(crate) enum Answer {
     Done,
     Number,
+    LongNumber,
     Pending,
 }
 
-/// An entry without its numbers, the value of its act and the number of its reply. They stand in a list for many entries,
-/// from a place on, and take none there where the entry has none. So this takes 8 bytes, where an `Entry` takes 40.
+/// An entry without its numbers, the value of its act and the number of its reply. They stand in a list of words for many
+/// entries, from a place on, and take none there where the entry has none. So this takes 8 bytes, where an `Entry` takes 40.
 #[derive(Clone, Copy)]
 pub(crate) struct Stored {
     worker: WorkerId,
@@ -40,8 +47,8 @@ impl Stored {
     /// The entry, with its numbers from a place on.
     #[inline(always)]
     pub(crate) fn of(entry: &Entry, place: u16) -> Self
-        ensures entry { (numbers : List ℕ) → place ≡ length numbers → stored_entry (numbers ++ numbers_of entry.now) result ≡ entry.now }
-        ensures end { end_of result ≡ place + length (numbers_of entry.now) }
+        ensures entry { (words : List ℕ) → place ≡ length words → stored_entry (words ++ words_in entry.now) result ≡ entry.now }
+        ensures end { end_of result ≡ place + length (words_in entry.now) }
     {
         Stored {
             worker: entry.worker,
@@ -51,25 +58,28 @@ impl Stored {
         }
     }
 
-    /// The entry that is kept, by the numbers of many.
+    /// The entry that is kept, by the words of many.
     #[inline(always)]
-    pub(crate) fn entry(&self, numbers: &[u64]) -> Entry
-        ensures { result ≡ stored_entry numbers.now self.now }
+    pub(crate) fn entry(&self, words: &[u32]) -> Entry
+        ensures { result ≡ stored_entry words.now self.now }
     {
         let place = self.place as usize;
         let (act, next) = match self.verb {
             Verb::Advance(event) => (Act::Advance(event), place),
             Verb::Read(event) => (Act::Read(event), place),
-            Verb::Await(event) => (Act::Await(event, number_at(numbers, place)), place + 1),
+            Verb::Await(event) => (Act::Await(event, short_at(words, place)), place + 1),
+            Verb::AwaitLong(event) => (Act::Await(event, long_at(words, place)), place + 2),
             Verb::Go => (Act::Go, place),
             Verb::Ticket(sequencer) => (Act::Ticket(sequencer), place),
-            Verb::Put(cell) => (Act::Put(cell, number_at(numbers, place)), place + 1),
+            Verb::Put(cell) => (Act::Put(cell, short_at(words, place)), place + 1),
+            Verb::PutLong(cell) => (Act::Put(cell, long_at(words, place)), place + 2),
             Verb::Get(cell) => (Act::Get(cell), place),
             Verb::Hand(event, to) => (Act::Hand(event, to), place),
         };
         let reply = match self.answer {
             Answer::Done => Reply::Done,
-            Answer::Number => Reply::Number(number_at(numbers, next)),
+            Answer::Number => Reply::Number(short_at(words, next)),
+            Answer::LongNumber => Reply::Number(long_at(words, next)),
             Answer::Pending => Reply::Pending,
         };
         Entry {
@@ -80,12 +90,36 @@ impl Stored {
     }
 }
 
-/// The number at a place, and 0 behind the last.
+/// The number of one word at a place, and 0 behind the last.
 #[inline(always)]
-fn number_at(numbers: &[u64], place: usize) -> u64
-    ensures { result ≡ slice_index numbers.now place }
+fn short_at(words: &[u32], place: usize) -> u64
+    ensures { result ≡ short_at words.now place }
 {
-    numbers.get(place).copied().unwrap_or(0)
+    words.get(place).copied().unwrap_or(0) as u64
+}
+
+/// The number of two words at a place, the low one first.
+#[inline(always)]
+fn long_at(words: &[u32], place: usize) -> u64
+    requires { place + 1 < 2 ^ 64 }
+    ensures { result ≡ long_at words.now place }
+{
+    short_at(words, place) + LONG * short_at(words, place + 1)
+}
+
+/// Adds a number's words, if there is one, to a list that has room for two.
+#[inline(always)]
+pub(crate) fn add(words: &mut Vec<u32>, number: Option<u64>)
+    requires { vec_len words.old + 2 ≤ vec_capacity words.old }
+    ensures items { words.new.items ≡ words.old.items ++ words_of number }
+    ensures room { vec_capacity words.old ≤ vec_capacity words.new }
+{
+    if let Some(number) = number {
+        let _ = words.push((number % LONG) as u32);
+        if number >= LONG {
+            let _ = words.push((number / LONG) as u32);
+        }
+    }
 }
 
 fn verb_in(act: &Act) -> Verb
@@ -94,10 +128,12 @@ fn verb_in(act: &Act) -> Verb
     match *act {
         Act::Advance(event) => Verb::Advance(event),
         Act::Read(event) => Verb::Read(event),
-        Act::Await(event, _) => Verb::Await(event),
+        Act::Await(event, value) if value < LONG => Verb::Await(event),
+        Act::Await(event, _) => Verb::AwaitLong(event),
         Act::Go => Verb::Go,
         Act::Ticket(sequencer) => Verb::Ticket(sequencer),
-        Act::Put(cell, _) => Verb::Put(cell),
+        Act::Put(cell, value) if value < LONG => Verb::Put(cell),
+        Act::Put(cell, _) => Verb::PutLong(cell),
         Act::Get(cell) => Verb::Get(cell),
         Act::Hand(event, to) => Verb::Hand(event, to),
     }
@@ -119,7 +155,8 @@ fn answer_in(reply: &Reply) -> Answer
 {
     match *reply {
         Reply::Done => Answer::Done,
-        Reply::Number(_) => Answer::Number,
+        Reply::Number(number) if number < LONG => Answer::Number,
+        Reply::Number(_) => Answer::LongNumber,
         Reply::Pending => Answer::Pending,
     }
 }
