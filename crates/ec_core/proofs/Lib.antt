@@ -4,3 +4,4 @@ pub mod Receivers
 pub mod ReplyKinds
 pub mod CallsCut
 pub mod FallenShort
+pub mod Keeping

@@ -1,14 +1,13 @@
 -- A list in segments: full ones of 4096 elements each, and the last, perhaps shorter.
-use Rattle.std.specs.Prelude.{◌≡◌, ℕ, ◌≤◌, ◌^◌, List, ◌++◌, All, length}
+use Rattle.std.specs.Prelude.{◌≡◌, ◌≤◌, ◌^◌, List, ◌++◌, All, length}
 use Rattle.std.specs.List.{flat_map}
 
 -- the elements of the full segments, one after another, then those of the last
-abbrev pub joined : {V X : Type 0} → (V → List X) → List V → List X → List X
-joined items_of full last = flat_map items_of full ++ last
+abbrev pub joined : {X : Type 0} → List (List X) → List X → List X
+joined full last = flat_map (λ xs. xs) full ++ last
 
--- each full segment is full, and the last has room for a full one
-pub record IsSegmented {V X : Type 0} (items_of : V → List X) (full : List V) (last : List X) (capacity : ℕ) : Type 0 where
-  pub whole : All (λ v. length (items_of v) ≡ 4096) full
+-- each full segment is full
+pub record IsSegmented {X : Type 0} (full : List (List X)) (last : List X) : Type 0 where
+  pub whole : All (λ xs. length xs ≡ 4096) full
   pub few : length full ≤ 2 ^ 51
   pub begun : length last ≤ 4096
-  pub room : 4096 ≤ capacity

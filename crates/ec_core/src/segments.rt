@@ -1,16 +1,12 @@
 //! Lists of entries in segments.
-ghost use Rattle.std.specs.Prelude.{◌≡◌, ◌+◌, ◌^◌, ◌<◌, ◌≤◌, List, [], ◌∷◌, ◌++◌, length, slice_get, vec_len, vec_capacity, IfOk, IfSome, OnOk, OnErr};
-ghost use Rattle.std.specs.Option.{option_map};
+ghost use Rattle.std.specs.Prelude.{◌≡◌, ◌+◌, ◌^◌, ◌<◌, [], ◌∷◌, ◌++◌, length, slice_get, IfOk, IfSome, OnOk, OnErr};
 ghost use Rattle.ec_core.specs.Segmented.{joined, IsSegmented};
 
-use crate::stored::Stored;
+use crate::segment::{SEGMENT, Segment};
 use crate::{Entries, Entry};
 use std::alloc::{AllocError, Global};
 use std::marker::Model;
 use std::mem;
-
-/// How many entries a full segment has.
-const SEGMENT: usize = 4096;
 
 /// The greatest number of full segments: far more than fit in any memory.
 const SEGMENTS_MAX: usize = 1 << 51;
@@ -18,22 +14,21 @@ const SEGMENTS_MAX: usize = 1 << 51;
 /// A list that grows by segments, so that what stands in it never moves.
 #[derive(Drop)]
 pub(crate) struct Segments {
-    full: Vec<Vec<Stored>>,
-    last: Vec<Stored>,
+    full: Vec<Segment>,
+    last: Segment,
 }
 
 impl Model for Segments {
-    ghost use Rattle.std.specs.Prelude.{List, vec_capacity};
+    ghost use Rattle.std.specs.Prelude.{List};
     ghost use Rattle.ec_core.specs.declared.act.Entry.{Entry};
 
     ghost Value = { List Entry };
 
     ghost use Rattle.ec_core.specs.Segmented.{joined, IsSegmented};
-    ghost use Rattle.ec_core.specs.Stored.{stored_entries};
 
-    ghost view = { λ s. stored_entries (joined (λ v. v.items) s.full.items s.last.items) };
+    ghost view = { λ s. joined s.full.items s.last };
 
-    ghost invariant = { λ s. IsSegmented (λ v. v.items) s.full.items s.last.items (vec_capacity s.last) };
+    ghost invariant = { λ s. IsSegmented s.full.items s.last };
 }
 
 impl Segments {
@@ -41,7 +36,7 @@ impl Segments {
     pub(crate) fn open(alloc: Global) -> Result<Self, AllocError>
         ensures { IfOk result (λ list. list ≡ []) }
     {
-        let last = Vec::with_capacity(alloc, SEGMENT)?;
+        let last = Segment::open(alloc)?;
         Ok(Segments {
             full: Vec::new(alloc),
             last,
@@ -50,7 +45,7 @@ impl Segments {
 
     /// The allocator that the list was opened with.
     pub(crate) fn allocator(&self) -> Global {
-        *self.last.allocator()
+        self.last.allocator()
     }
 
     /// How many entries it has.
@@ -65,7 +60,7 @@ impl Segments {
         ensures value { result ≡ slice_get self.now i }
         ensures within { IfSome result (λ _. i + 1 < 2 ^ 64) }
     {
-        stored_at(&self.full, &self.last, i).map(Stored::entry)
+        entry_at(&self.full, &self.last, i)
     }
 
     /// The same list again, by the same allocator.
@@ -88,17 +83,16 @@ impl Segments {
         if self.last.len() == SEGMENT {
             begin_segment(&mut self.full, &mut self.last)?;
         }
-        append(&mut self.last, Stored::of(entry))
+        self.last.push(&entry)
     }
 }
 
 /// Puts a filled segment with the full ones and begins the next. All memory that this wants is
 /// taken before anything is changed.
-fn begin_segment<T: Copy>(full: &mut Vec<Vec<T>>, last: &mut Vec<T>) -> Result<(), AllocError>
+fn begin_segment(full: &mut Vec<Segment>, last: &mut Segment) -> Result<(), AllocError>
     ensures few { OnOk result (length full.old.items < 2 ^ 51) }
     ensures filled { OnOk result (full.new.items ≡ full.old.items ++ last.old ∷ []) }
-    ensures fresh { OnOk result (last.new.items ≡ []) }
-    ensures room { OnOk result (4096 ≤ vec_capacity last.new) }
+    ensures fresh { OnOk result (last.new ≡ []) }
     ensures full_stays { OnErr result (full.new.items ≡ full.old.items) }
     ensures last_stays { OnErr result (last.new ≡ last.old) }
 {
@@ -106,39 +100,22 @@ fn begin_segment<T: Copy>(full: &mut Vec<Vec<T>>, last: &mut Vec<T>) -> Result<(
         return Err(AllocError);
     }
     full.reserve(1)?;
-    let fresh = Vec::with_capacity(*last.allocator(), SEGMENT)?;
+    let fresh = Segment::open(last.allocator())?;
     let filled = mem::replace(last, fresh);
     let _ = full.push(filled);
     Ok(())
 }
 
-/// One more at the end of a segment, which moves nothing where there is room for it.
-fn append<T: Copy>(segment: &mut Vec<T>, value: T) -> Result<(), AllocError>
-    ensures ok { OnOk result (segment.new.items ≡ segment.old.items ++ value ∷ []) }
-    ensures room { vec_capacity segment.old ≤ vec_capacity segment.new }
-    ensures err { OnErr result (segment.new.items ≡ segment.old.items) }
-{
-    segment.push(value)?;
-    Ok(())
-}
-
-/// What the segments keep at a place, counted from 0.
-fn stored_at<'a>(full: &'a Vec<Vec<Stored>>, last: &'a Vec<Stored>, i: usize) -> Option<&'a Stored>
-    requires { IsSegmented (λ v. v.items) full.now.items last.now.items (vec_capacity last.now) }
-    ensures value { option_map (λ s. s.now) result ≡ slice_get (joined (λ v. v.items) full.now.items last.now.items) i }
+/// The entry of the segments at a place, counted from 0.
+fn entry_at(full: &Vec<Segment>, last: &Segment, i: usize) -> Option<Entry>
+    requires { IsSegmented full.now.items last.now }
+    ensures value { result ≡ slice_get (joined full.now.items last.now) i }
     ensures within { IfSome result (λ _. i + 1 < 2 ^ 64) }
 {
     let place = i / SEGMENT;
     if place < full.len() {
         let segment = &full[place];
-        return stored_in(segment, i % SEGMENT);
+        return segment.get(i % SEGMENT);
     }
-    stored_in(last, i - full.len() * SEGMENT)
-}
-
-/// What a segment keeps at a place.
-fn stored_in(segment: &Vec<Stored>, i: usize) -> Option<&Stored>
-    ensures { option_map (λ s. s.now) result ≡ slice_get segment.now.items i }
-{
-    segment.get(i)
+    last.get(i - full.len() * SEGMENT)
 }

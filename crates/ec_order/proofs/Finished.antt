@@ -215,7 +215,7 @@ parts_more t whole c k p q in_p in_q at_p at_q less =
     let both : IsPastOf (k.opening ∷ q) p = past_of_both (k.opening ∷ q) p whole in_q p_in (omega arith) in
     parts_from t whole c k p q both.since p_in both.is at_p at_q less
 
-call_is : (a b : Call) → a.worker ≡ b.worker → a.op ≡ b.op → a.reply ≡ b.reply → a.first ≡ b.first → a.round ≡ b.round → a.last ≡ b.last → a ≡ b
+pub call_is : (a b : Call) → a.worker ≡ b.worker → a.op ≡ b.op → a.reply ≡ b.reply → a.first ≡ b.first → a.round ≡ b.round → a.last ≡ b.last → a ≡ b
 call_is a b w o r f d l =
     let step1 : a ≡ record a { worker = b.worker } = ap (λ v. record a { worker = v }) w in
     let step2 = ap (λ v. record a { worker = b.worker; op = v }) o in

@@ -1,15 +1,15 @@
 -- The scan that gathers the finished reads and awaits by their points.
-use Rattle.std.proofs.Common.{◌≡◌, ℕ, zero, suc, ◌+◌, ◌-◌, ◌<◌, ◌≤◌, inl, inr, Bool, true, false, not, ◌&&◌, is_some, List, [], ◌∷◌, ◌++◌, length, map, Option, Some, None, refl, ap, sym, ◌∙◌, arith, cond, subst, ◌==◌, append-nil, reverse, take, take_all, slice_get, Vec, Global}
+use Rattle.std.proofs.Common.{◌≡◌, ℕ, zero, suc, ◌+◌, ◌-◌, ◌<◌, ◌≤◌, inl, inr, Bool, true, false, not, ◌&&◌, is_some, List, [], ◌∷◌, ◌++◌, length, map, Option, Some, None, refl, ap, sym, ◌∙◌, arith, cond, subst, ◌==◌, append-nil, reverse, take, drop, take_all, slice_get, Vec, Global}
 use Rattle.std.specs.Option.{option_map, option_to_list}
 use Rattle.std.specs.List.{All, Contains, filter}
 use Rattle.std.proofs.lemmas.Bool.{eqb-true}
-use Rattle.std.proofs.lemmas.List.{map-append, length-reverse}
+use Rattle.std.proofs.lemmas.List.{map-append, length-reverse, reverse-append, reverse-reverse, take-append-drop}
 use Rattle.std.proofs.lemmas.List.Elements.{All-nil, All-cons, All-head, All-tail, All-contains, Contains-append_right, filter-append, filter_passes}
-use Rattle.std.proofs.lemmas.Option.{slice_get_within}
+use Rattle.std.proofs.lemmas.Option.{slice_get_within, get_or_from_slice_get}
 use Rattle.ec_count.specs.Tables.{Tables, IsDeclared}
 use Rattle.ec_core.specs.declared.act.Entry.{Entry}
 use Rattle.ec_core.specs.Counts.{total}
-use Rattle.ec_core.specs.Calls.{CallSoFar, under_way, gone_on, is_go, is_pending}
+use Rattle.ec_core.specs.Calls.{CallSoFar, under_way, gone_on, call_with, is_go, is_pending}
 use Rattle.ec_core.specs.Rounds.{event_or}
 use Rattle.ec_core.specs.Acceptance.{IsAccepted}
 use Rattle.ec_core.proofs.shared.Answering.{allowed}
@@ -21,8 +21,11 @@ use Rattle.ec_order.specs.Points.{first_entries, first_moment, point_of, with_po
 use Rattle.ec_core.specs.Ongoing.{ongoing, AreCalls}
 use Rattle.ec_order.specs.Index.{point_in, IsIndex}
 use Rattle.ec_order.specs.Walk.{is_alone, reads, readings, readings_by_points, PutsIn}
+use Rattle.ec_order.specs.Cuts.{IsFinishedCall}
+use Rattle.ec_order.specs.Readings.{Readings, IsOf, call_at, entry_or}
 use Rattle.ec_order.proofs.Points.{first_next}
 use Rattle.ec_order.proofs.Ends.{Ends, ends}
+use Rattle.ec_order.proofs.Finished.{each_cut, call_is}
 use Rattle.ec_order.proofs.Fits.{Fits, all_fit, point_bounds}
 use Rattle.ec_order.proofs.Scanning.{prefix_more, prefix_accepted, prefix_long, Ending, ended_next}
 use Rattle.ec_order.proofs.Indexing.{IsIndexed}
@@ -117,19 +120,20 @@ by_moments_none zero = refl
 by_moments_none (suc n) = ap (λ ps. ps ++ []) (by_moments_none n)
 
 -- what is so after the scan of the first i entries
-pub record IsGathered (t : Tables) (h : List Entry) (i : ℕ) (calls : List (Option Ongoing)) (lists : List (Vec ℕ Global)) (ps : List Placed) : Type 0 where
+pub record IsGathered (t : Tables) (h : List Entry) (i : ℕ) (calls : List (Option Ongoing)) (lists : List (Vec ℕ Global)) (rs : Readings) : Type 0 where
   pub kept : AreCalls t calls (reverse (take i h))
   pub index : IsIndexed h i lists
-  pub gathered : ps ≡ by_moments (readings t (reverse (take i h))) (length h)
+  pub of : rs.history ≡ h
+  pub gathered : rs.placed ≡ by_moments (readings t (reverse (take i h))) (length h)
 
-pub gathered_start : (t : Tables) (h : List Entry) (calls : List (Option Ongoing)) (lists : List (Vec ℕ Global)) → AreCalls t calls [] → IsIndexed h 0 lists → IsGathered t h 0 calls lists []
+pub gathered_start : (t : Tables) (h : List Entry) (calls : List (Option Ongoing)) (lists : List (Vec ℕ Global)) → AreCalls t calls [] → IsIndexed h 0 lists → IsGathered t h 0 calls lists (record { history = h; placed = [] })
 unfolding finished_calls
-gathered_start t h calls lists empty index = record { kept = empty; index = index; gathered = sym (by_moments_none (length h)) }
+gathered_start t h calls lists empty index = record { kept = empty; index = index; of = refl; gathered = sym (by_moments_none (length h)) }
 
 -- the scan of one call by itself
-pub gathered_alone : (t : Tables) (h : List Entry) (i : ℕ) (x : Entry) (calls : List (Option Ongoing)) (lists lists' : List (Vec ℕ Global)) (ps : List Placed) → IsDeclared t → IsAccepted t (reverse h)
-    → Some x ≡ slice_get h i → is_alone x.act ≡ true → IsIndexed h (i + 1) lists' → IsGathered t h i calls lists ps → IsGathered t h (i + 1) calls lists' ps
-gathered_alone t h i x calls lists lists' ps d acc at alone index s =
+pub gathered_alone : (t : Tables) (h : List Entry) (i : ℕ) (x : Entry) (calls : List (Option Ongoing)) (lists lists' : List (Vec ℕ Global)) (rs : Readings) → IsDeclared t → IsAccepted t (reverse h)
+    → Some x ≡ slice_get h i → is_alone x.act ≡ true → IsIndexed h (i + 1) lists' → IsGathered t h i calls lists rs → IsGathered t h (i + 1) calls lists' rs
+gathered_alone t h i x calls lists lists' rs d acc at alone index s =
     let past = reverse (take i h) in
     let more : reverse (take (i + 1) h) ≡ x ∷ past = prefix_more h i x (sym at) in
     let acc' : IsAccepted t (x ∷ past) = subst (IsAccepted t) more (prefix_accepted t h (i + 1) acc) in
@@ -138,34 +142,66 @@ gathered_alone t h i x calls lists lists' ps d acc at alone index s =
     record {
       kept = λ w lt. s.kept w lt ∙ ap (λ o. Some (option_map (ongoing t) o)) (sym (ap (under_way w) more ∙ alone_leaves t x past w d acc' alone));
       index = index;
+      of = s.of;
       gathered = s.gathered ∙ ap (λ qs. by_moments qs (length h)) (sym same);
     }
 
 -- the scan of one entry of a read or an await: where it ends none
-pub gathered_none : (t u : Tables) (h : List Entry) (i : ℕ) (x : Entry) (told : Option Call) (calls calls' : List (Option Ongoing)) (lists lists' : List (Vec ℕ Global)) (ps : List Placed) → IsDeclared t → IsAccepted t (reverse h)
-    → Some x ≡ slice_get h i → IsIndexed h (i + 1) lists' → IsGathered t h i calls lists ps → u ≡ t → Ending calls i x told calls' u → told ≡ None → IsGathered t h (i + 1) calls' lists' ps
-gathered_none t u h i x told calls calls' lists lists' ps d acc at index s same ending is =
+pub gathered_none : (t u : Tables) (h : List Entry) (i : ℕ) (x : Entry) (told : Option Call) (calls calls' : List (Option Ongoing)) (lists lists' : List (Vec ℕ Global)) (rs : Readings) → IsDeclared t → IsAccepted t (reverse h)
+    → Some x ≡ slice_get h i → IsIndexed h (i + 1) lists' → IsGathered t h i calls lists rs → u ≡ t → Ending calls i x told calls' u → told ≡ None → IsGathered t h (i + 1) calls' lists' rs
+gathered_none t u h i x told calls calls' lists lists' rs d acc at index s same ending is =
     let past = reverse (take i h) in
     let more : reverse (take (i + 1) h) ≡ x ∷ past = prefix_more h i x (sym at) in
     let acc' : IsAccepted t (x ∷ past) = subst (IsAccepted t) more (prefix_accepted t h (i + 1) acc) in
     let next = ended_next t u h i x told calls calls' acc at s.kept same ending in
     let none : readings t (reverse (take (i + 1) h)) ≡ readings t past =
     ap (readings t) more ∙ added t x past d acc' ∙ ap (λ cs. readings t past ++ filter reads (map (with_point (x ∷ past)) cs)) (next.call ∙ ap option_to_list is) ∙ append-nil (readings t past) in
-    record { kept = subst (AreCalls t calls') (sym more) next.after; index = index; gathered = s.gathered ∙ ap (λ qs. by_moments qs (length h)) (sym none) }
+    record { kept = subst (AreCalls t calls') (sym more) next.after; index = index; of = s.of; gathered = s.gathered ∙ ap (λ qs. by_moments qs (length h)) (sym none) }
+
+-- a finished call stands in its history where it says
+cut_stands : (t : Tables) (h : List Entry) (c : Call) → IsFinishedCall t h c → IsOf h c
+cut_stands t h c k =
+    let opening : entry_or h c.first ≡ k.opening = get_or_from_slice_get h c.first k.opening (entry_or [] 0) k.opens in
+    let closing : entry_or h c.last ≡ k.closing = get_or_from_slice_get h c.last k.closing (entry_or [] 0) k.closes in
+    let worker : (entry_or h c.last).worker ≡ c.worker = ap (λ (e : Entry). e.worker) closing ∙ k.closer in
+    let op : (entry_or h c.first).act ≡ c.op = ap (λ (e : Entry). e.act) opening ∙ k.opening_act in
+    let reply : (entry_or h c.last).reply ≡ c.reply = ap (λ (e : Entry). e.reply) closing ∙ k.closing_reply in
+    record {
+      first = slice_get_within h c.first k.opening k.opens;
+      last = slice_get_within h c.last k.closing k.closes;
+      is = call_is (call_at h c.first c.round c.last) c worker op reply refl refl refl;
+    }
+
+-- a call that ends at an entry is one of those of the past with it
+known_call : (t : Tables) (x : Entry) (past : List Entry) (c : Call) → ended_by t x (call_with x past) ≡ option_to_list (Some c) → Contains (finished_calls t (x ∷ past)) c
+unfolding finished_calls
+known_call t x past c is =
+    Contains-append_right (finished_calls t past) (ended_by t x (gone_on x.act past (under_way x.worker past))) c (subst (λ cs. Contains cs c) (sym is) (zero, omega arith, refl))
+
+-- it stands in the history where it says
+pub call_stands : (t u : Tables) (h : List Entry) (i : ℕ) (x : Entry) (c : Call) (calls calls' : List (Option Ongoing)) (lists : List (Vec ℕ Global)) (rs : Readings) → IsDeclared t → IsAccepted t (reverse h)
+    → Some x ≡ slice_get h i → IsGathered t h i calls lists rs → u ≡ t → Ending calls i x (Some c) calls' u → IsOf rs.history c
+call_stands t u h i x c calls calls' lists rs d acc at s same ending =
+    let past = reverse (take i h) in
+    let more : reverse (take (i + 1) h) ≡ x ∷ past = prefix_more h i x (sym at) in
+    let acc' : IsAccepted t (x ∷ past) = subst (IsAccepted t) more (prefix_accepted t h (i + 1) acc) in
+    let next = ended_next t u h i x (Some c) calls calls' acc at s.kept same ending in
+    let whole : reverse h ≡ reverse (drop (i + 1) h) ++ (x ∷ past) =
+    ap reverse (sym (take-append-drop (i + 1) h)) ∙ reverse-append (take (i + 1) h) (drop (i + 1) h) ∙ ap (λ zs. reverse (drop (i + 1) h) ++ zs) more in
+    let cut : IsFinishedCall t h c = subst (λ z. IsFinishedCall t z c) (reverse-reverse h) (each_cut t (reverse h) (reverse (drop (i + 1) h)) (x ∷ past) d acc' whole c (known_call t x past c next.call)) in
+    subst (λ z. IsOf z c) (sym s.of) (cut_stands t h c cut)
 
 -- where it ends one
-pub gathered_one : (t u : Tables) (h : List Entry) (i : ℕ) (x : Entry) (c : Call) (calls calls' : List (Option Ongoing)) (lists lists' ls : List (Vec ℕ Global)) (k : ℕ) (ps ps' : List Placed) → IsDeclared t → IsAccepted t (reverse h)
-    → Some x ≡ slice_get h i → is_alone x.act ≡ false → IsIndexed h (i + 1) lists' → IsGathered t h i calls lists ps → u ≡ t → Ending calls i x (Some c) calls' u
-    → ls ≡ lists' → k ≡ point_in ls c → PutsIn ps ps' (record { call = c; point = k }) → IsGathered t h (i + 1) calls' lists' ps'
-unfolding finished_calls
-gathered_one t u h i x c calls calls' lists lists' ls k ps ps' d acc at other index s same ending here there puts =
+pub gathered_one : (t u : Tables) (h : List Entry) (i : ℕ) (x : Entry) (c : Call) (calls calls' : List (Option Ongoing)) (lists lists' ls : List (Vec ℕ Global)) (k : ℕ) (rs rs' : Readings) → IsDeclared t → IsAccepted t (reverse h)
+    → Some x ≡ slice_get h i → is_alone x.act ≡ false → IsIndexed h (i + 1) lists' → IsGathered t h i calls lists rs → u ≡ t → Ending calls i x (Some c) calls' u
+    → ls ≡ lists' → k ≡ point_in ls c → PutsIn rs.placed rs'.placed (record { call = c; point = k }) → rs'.history ≡ rs.history → IsGathered t h (i + 1) calls' lists' rs'
+gathered_one t u h i x c calls calls' lists lists' ls k rs rs' d acc at other index s same ending here there puts stays =
     let past = reverse (take i h) in
     let more : reverse (take (i + 1) h) ≡ x ∷ past = prefix_more h i x (sym at) in
     let acc' : IsAccepted t (x ∷ past) = subst (IsAccepted t) more (prefix_accepted t h (i + 1) acc) in
     let next = ended_next t u h i x (Some c) calls calls' acc at s.kept same ending in
     let reading : is_reading c.op ≡ true = All-head (λ (c : Call). is_reading c.op ≡ true) c [] (subst (All (λ (c : Call). is_reading c.op ≡ true)) next.call (others_read t x past other (ends t x past d acc'))) in
-    let known : Contains (finished_calls t (x ∷ past)) c =
-    Contains-append_right (finished_calls t past) (ended_by t x (gone_on x.act past (under_way x.worker past))) c (subst (λ cs. Contains cs c) (sym next.call) (zero, omega arith, refl)) in
+    let known : Contains (finished_calls t (x ∷ past)) c = known_call t x past c next.call in
     let fits : Fits (x ∷ past) c = All-contains (Fits (x ∷ past)) (finished_calls t (x ∷ past)) c (all_fit t (x ∷ past) d acc') known in
     let p = with_point (x ∷ past) c in
     let one_at : ℕ → Placed = λ j. record { call = c; point = j } in
@@ -175,16 +211,19 @@ gathered_one t u h i x c calls calls' lists lists' ls k ps ps' d acc at other in
     let in' : i < length h = slice_get_within h i x (sym at) in
     let long : i ≡ length past = prefix_long h i x (sym at) in
     let low : p.point < length h = (let below : point_of (x ∷ past) c < suc (length past) = (point_bounds (x ∷ past) c fits).2 in omega arith) in
-    let puts' : PutsIn ps ps' p = subst (PutsIn ps ps') placed puts in
+    let puts' : PutsIn rs.placed rs'.placed p = subst (PutsIn rs.placed rs'.placed) placed puts in
     record {
       kept = subst (AreCalls t calls') (sym more) next.after;
       index = index;
-      gathered = puts'.is ∙ inserted (readings t past) ps p (length h) puts'.at (filter_passes reads (map (with_point past) (finished_calls t past))) reading low s.gathered puts'.place
+      of = stays ∙ s.of;
+      gathered = puts'.is ∙ inserted (readings t past) rs.placed p (length h) puts'.at (filter_passes reads (map (with_point past) (finished_calls t past))) reading low s.gathered puts'.place
           ∙ ap (λ qs. by_moments qs (length h)) (sym one);
     }
 
 -- at the end of the history
-pub gathered_all : (t : Tables) (h : List Entry) (i : ℕ) (calls : List (Option Ongoing)) (lists : List (Vec ℕ Global)) (ps : List Placed) → IsGathered t h i calls lists ps → length h ≤ i
-    → ps ≡ readings_by_points t (reverse h)
-gathered_all t h i calls lists ps s le =
-    s.gathered ∙ ap (λ g. by_moments (readings t (reverse g)) (length h)) (take_all i h le) ∙ ap (by_moments (readings t (reverse h))) (sym (length-reverse h))
+pub gathered_all : (t : Tables) (h : List Entry) (i : ℕ) (calls : List (Option Ongoing)) (lists : List (Vec ℕ Global)) (rs : Readings) → IsGathered t h i calls lists rs → length h ≤ i
+    → rs ≡ record { history = h; placed = readings_by_points t (reverse h) }
+gathered_all t h i calls lists rs s le =
+    let all : rs.placed ≡ readings_by_points t (reverse h) = s.gathered ∙ ap (λ g. by_moments (readings t (reverse g)) (length h)) (take_all i h le) ∙ ap (by_moments (readings t (reverse h))) (sym (length-reverse h)) in
+    let of : List Entry → List Placed → Readings = λ z ps. record { history = z; placed = ps } in
+    ap (λ z. of z rs.placed) s.of ∙ ap (of h) all

@@ -1,8 +1,11 @@
 //! The finished reads and awaits of a run by their points.
-ghost use Rattle.std.specs.Prelude.{◌≡◌, length, reverse, IfOk, OnOk};
+ghost use Rattle.std.specs.Prelude.{◌≡◌, ◌<◌, ◌≤◌, length, reverse, slice_get, Some, MatchBool, IfOk, OnOk};
+ghost use Rattle.ec_order.specs.declared.placed.Placed.{Placed};
+ghost use Rattle.ec_order.specs.Readings.{IsOf};
 ghost use Rattle.ec_order.specs.Walk.{is_alone, readings_by_points, IsPlaceFor, PutsIn};
 
 use crate::index::{no_moments, note, point};
+use crate::readings::Readings;
 use crate::scan::take_in;
 use crate::{Call, Placed};
 use ec_core::{Act, Calls, Run};
@@ -18,37 +21,54 @@ pub(crate) fn is_alone(act: Act) -> bool
     }
 }
 
+/// Whether the reading at a place, where there is one, has its point after a moment.
+fn is_after(readings: &Readings<'_>, at: usize, moment: usize) -> bool
+    ensures { MatchBool result
+        ((p : Placed) → slice_get readings.now.placed at ≡ Some p → moment < p.point)
+        ((p : Placed) → slice_get readings.now.placed at ≡ Some p → p.point ≤ moment) }
+{
+    match readings.point(at) {
+        Some(point) => point > moment,
+        None => false,
+    }
+}
+
 /// The place behind the last reading whose point is not after a moment. It is looked for from the end, since reads and
 /// awaits come by their last entries: a reading is passed at most 15 times, once for each call then under way.
-fn place_for(readings: &[Placed], moment: usize) -> usize
-    ensures { IsPlaceFor readings.now moment result }
+fn place_for(readings: &Readings<'_>, moment: usize) -> usize
+    ensures { IsPlaceFor readings.now.placed moment result }
 {
     for at in (0..readings.len()).rev() {
-        if readings[at].point <= moment {
+        if !is_after(readings, at, moment) {
             return at + 1;
         }
     }
     0
 }
 
-/// Puts a call in behind those whose point is not after its own.
-fn put_in(readings: &mut Vec<Placed>, call: Call, point: usize) -> Result<(), AllocError>
-    ensures { OnOk result (PutsIn readings.old.items readings.new.items (record { call = call; point = point })) }
+/// Puts a call of the run in behind those whose point is not after its own.
+fn put_in(readings: &mut Readings<'_>, call: Call, point: usize) -> Result<(), AllocError>
+    requires { IsOf readings.old.history call }
+    ensures puts { OnOk result (PutsIn readings.old.placed readings.new.placed (record { call = call; point = point })) }
+    ensures history { OnOk result (readings.new.history ≡ readings.old.history) }
 {
     let at = place_for(readings, point);
-    readings.insert(at, Placed { call, point })?;
-    Ok(())
+    readings.insert(at, &Placed { call, point })
 }
 
 /// The finished reads and awaits of a run by their points, and at one point by their last entries, in one scan: by the
 /// end of a call all advances that its answer counts have been noted.
-pub(crate) fn readings_by_points(alloc: Global, run: &Run) -> Result<Vec<Placed>, AllocError>
-    ensures { IfOk result (λ ps. ps.items ≡ readings_by_points run.now.setup (reverse run.now.entries)) }
+pub(crate) fn readings_by_points<'a>(
+    alloc: Global,
+    run: &'a Run,
+) -> Result<Readings<'a>, AllocError>
+    ensures { IfOk result (λ rs.
+        rs ≡ record { history = run.now.entries; placed = readings_by_points run.now.setup (reverse run.now.entries) }) }
 {
     run.known();
     let mut under_way = Calls::new();
     let mut lists = no_moments(alloc, run)?;
-    let mut readings = Vec::new(alloc);
+    let mut readings = Readings::new(alloc, run);
     for i in 0..run.len() {
         if let Some(entry) = run.entry(i) {
             note(&mut lists, entry.act, i + 1)?;

@@ -1,5 +1,5 @@
 //! The finished calls of a run by their points, one after another.
-ghost use Rattle.std.specs.Prelude.{◌≡◌, ◌≤◌, ◌<◌, ◌+◌, ◌∷◌, drop, reverse, slice_get, IfOk, MatchOption};
+ghost use Rattle.std.specs.Prelude.{◌≡◌, ◌≤◌, ◌<◌, ◌+◌, ◌^◌, ◌∷◌, drop, reverse, slice_get, IfOk, IfSome, MatchOption};
 ghost use Rattle.std.specs.Option.{option_to_list};
 ghost use Rattle.ec_core.specs.declared.act.Entry.{Entry};
 ghost use Rattle.ec_order.specs.Points.{ordered_by_points};
@@ -7,6 +7,7 @@ ghost use Rattle.ec_order.specs.Verdicts.{IsGood};
 ghost use Rattle.ec_order.specs.Walk.{own_calls, readings_by_points};
 
 use crate::gather::{is_alone, readings_by_points};
+use crate::readings::Readings;
 use crate::{Call, OrderFault, Placed};
 use ec_core::{Entries, Entry, Run};
 use std::alloc::Global;
@@ -18,7 +19,7 @@ use std::marker::Model;
 pub struct InOrder<'a> {
     entries: Entries<'a>,
     position: usize,
-    readings: Vec<Placed>,
+    readings: Readings<'a>,
     given: usize,
 }
 
@@ -29,19 +30,20 @@ impl<'a> Model for InOrder<'a> {
 
     ghost Value = { List Placed };
 
-    ghost view = { λ s. walk s.position s.entries (drop s.given s.readings.items) };
+    ghost view = { λ s. walk s.position s.entries (drop s.given s.readings.placed) };
 
     ghost invariant = { λ s. s.position + length s.entries < 2 ^ 64 };
 }
 
 /// The read or await that comes next, if its point is not after a moment.
-fn due(readings: &[Placed], given: usize, moment: usize) -> Option<Placed>
-    ensures { MatchOption result
-        ((p : Placed) → slice_get readings.now given ≡ Some p → moment < p.point)
-        (λ p. (slice_get readings.now given ≡ Some p) × (p.point ≤ moment)) }
+fn due(readings: &Readings<'_>, given: usize, moment: usize) -> Option<Placed>
+    ensures value { MatchOption result
+        ((p : Placed) → slice_get readings.now.placed given ≡ Some p → moment < p.point)
+        (λ p. (slice_get readings.now.placed given ≡ Some p) × (p.point ≤ moment)) }
+    ensures within { IfSome result (λ _. given + 1 < 2 ^ 64) }
 {
-    match readings.get(given) {
-        Some(placed) if placed.point <= moment => Some(*placed),
+    match readings.point(given) {
+        Some(point) if point <= moment => readings.get(given),
         _ => None,
     }
 }

@@ -221,6 +221,47 @@ fn the_greatest_value_is_put_and_no_greater_one(rt: HostRuntime) -> Result<(), F
     shows(rt.alloc(), &PUTS, &GREATEST)
 }
 
+/// One worker writes and reads a cell, and waits for totals that never come: with numbers of 32 bits, and with longer ones.
+static LONG_NUMBERS: History = History {
+    world: World {
+        limit: 10,
+        workers: 1,
+        lines: &[Line::Cells(1, &[0], &[0]), Line::Event(&[0], &[0])],
+    },
+    advances: 0,
+    steps: &[
+        (0, Put(0, 4_294_967_295), Done),
+        (0, Get(0), Number(4_294_967_295)),
+        (0, Put(0, 4_294_967_296), Done),
+        (0, Get(0), Number(4_294_967_296)),
+        (0, Put(0, 12_884_901_890), Done),
+        (0, Get(0), Number(12_884_901_890)),
+        (0, Put(0, 999_999_999_999_999_999), Done),
+        (0, Get(0), Number(999_999_999_999_999_999)),
+        (0, Put(0, 0), Done),
+        (0, Get(0), Number(0)),
+        (0, Await(0, 12_884_901_890), Pending),
+    ],
+};
+
+static NUMBERS_ARE_KEPT: [Sight; 10] = [
+    Sight::Length(11),
+    Sight::Entry(0, Some((0, Put(0, 4_294_967_295), Done))),
+    Sight::Entry(1, Some((0, Get(0), Number(4_294_967_295)))),
+    Sight::Entry(2, Some((0, Put(0, 4_294_967_296), Done))),
+    Sight::Entry(3, Some((0, Get(0), Number(4_294_967_296)))),
+    Sight::Entry(4, Some((0, Put(0, 12_884_901_890), Done))),
+    Sight::Entry(5, Some((0, Get(0), Number(12_884_901_890)))),
+    Sight::Entry(7, Some((0, Get(0), Number(999_999_999_999_999_999)))),
+    Sight::Entry(9, Some((0, Get(0), Number(0)))),
+    Sight::Entry(10, Some((0, Await(0, 12_884_901_890), Pending))),
+];
+
+#[test]
+fn long_numbers_are_kept(rt: HostRuntime) -> Result<(), Fail> {
+    shows(rt.alloc(), &LONG_NUMBERS, &NUMBERS_ARE_KEPT)
+}
+
 /// Two workers signal an eventcount, and the third observes it.
 static IDLE_AND_BUSY: History = History {
     world: World {

@@ -1,5 +1,5 @@
 -- Where the entries of a list in segments stand.
-use Rattle.std.proofs.Common.{◌≡◌, ℕ, zero, suc, ◌+◌, ◌*◌, ◌<◌, ◌≤◌, ◌^◌, IfSome, List, [], ◌∷◌, ◌++◌, length, drop, All, Option, Some, None, option_map, refl, ap, sym, ◌∙◌, arith, slice_get, append_assoc, length-append, ◌⊎◌, inl, inr}
+use Rattle.std.proofs.Common.{◌≡◌, ℕ, zero, suc, ◌+◌, ◌*◌, ◌<◌, ◌≤◌, ◌^◌, IfSome, List, [], ◌∷◌, ◌++◌, length, drop, All, Option, Some, None, refl, ap, sym, ◌∙◌, arith, slice_get, append_assoc, length-append, ◌⊎◌, inl, inr}
 use Rattle.std.specs.List.{flat_map}
 use Rattle.std.proofs.lemmas.List.Elements.{All-head, All-tail}
 use Rattle.std.proofs.lemmas.Option.{slice_get_within}
@@ -60,9 +60,9 @@ get_last {V} {X} f n full last i j all is =
     get_back (flat_map f full) last i j (omega arith)
 
 -- a place in the last segment is far below 2 ^ 64
-pub place_small : {X Y : Type 0} (f : Y → X) (o : Option Y) (xs : List X) (i j : ℕ) → option_map f o ≡ slice_get xs j → length xs ≤ 4096 → i ≤ j + 2 ^ 63 → IfSome o (λ _. i + 1 < 2 ^ 64)
-place_small f None xs i j h few le = tt
-place_small f (Some y) xs i j h few le = (let k : j < length xs = slice_get_within xs j (f y) (sym h) in omega arith)
+pub place_small : {X : Type 0} (o : Option X) (xs : List X) (i j : ℕ) → o ≡ slice_get xs j → length xs ≤ 4096 → i ≤ j + 2 ^ 63 → IfSome o (λ _. i + 1 < 2 ^ 64)
+place_small None xs i j h few le = tt
+place_small (Some x) xs i j h few le = (let k : j < length xs = slice_get_within xs j x (sym h) in omega arith)
 
 -- what is left from a place on is the element there, and what is left behind it
 pub drop_next : {X : Type 0} (xs : List X) (i : ℕ) (x : X) → slice_get xs i ≡ Some x → drop i xs ≡ x ∷ drop (i + 1) xs
