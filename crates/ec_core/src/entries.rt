@@ -40,6 +40,7 @@ impl<'a> Iterator for Entries<'a> {
 
     ghost remaining = { item_count (λ s. s) };
 
+    #[inline(always)]
     fn next(&mut self) -> Option<Entry> {
         match self.list.get(self.next) {
             Some(entry) => {

@@ -101,6 +101,7 @@ impl Run {
     }
 
     /// The entry at a place, counted from 0.
+    #[inline(always)]
     pub fn entry(&self, i: usize) -> Option<Entry>
         ensures { result ≡ slice_get self.now.entries i }
     {

@@ -56,6 +56,7 @@ impl Segments {
     }
 
     /// The entry at a place, counted from 0.
+    #[inline(always)]
     pub(crate) fn get(&self, i: usize) -> Option<Entry>
         ensures value { result ≡ slice_get self.now i }
         ensures within { IfSome result (λ _. i + 1 < 2 ^ 64) }
@@ -107,6 +108,7 @@ fn begin_segment(full: &mut Vec<Segment>, last: &mut Segment) -> Result<(), Allo
 }
 
 /// The entry of the segments at a place, counted from 0.
+#[inline(always)]
 fn entry_at(full: &Vec<Segment>, last: &Segment, i: usize) -> Option<Entry>
     requires { IsSegmented full.now.items last.now }
     ensures value { result ≡ slice_get (joined full.now.items last.now) i }
