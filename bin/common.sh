@@ -1,4 +1,4 @@
-# What bin/evc, bin/release and bin/test share. It is read by `.`, and not run; `top` is the folder above bin/.
+# What the commands in bin/ share. It is read by `.`, and not run; `top` is the folder above bin/.
 
 # The line of the Rattle kit that everything here is proved and built with.
 kit='rattle-kit-13'
@@ -6,6 +6,13 @@ kit='rattle-kit-13'
 # say TEXT..: writes a line to standard error, under the name of the command.
 say() {
     printf '%s: %s\n' "bin/$(basename -- "$0")" "$*" >&2
+}
+
+# take_no_words WORD..: ends where the command was given words, and takes none.
+take_no_words() {
+    [ $# -eq 0 ] && return
+    say "takes no words; what it does stands at the front of the file"
+    exit 2
 }
 
 # crates_of NAME: the crate and all crates of this repository that it stands on, a line each.

@@ -6,9 +6,9 @@
  * nothing: two threads may call at once, each with memory of its own. It takes memory by malloc and lets go of all of
  * it. What a call promises is proved; docs/PROMISES.md says what that is.
  *
- *     static uint8_t text[EVC_ROOM(sizeof trace)], notes[EVC_NOTES_ROOM];
+ *     uint8_t *text = malloc(EVC_ROOM(length)), notes[EVC_NOTES_ROOM];
  *     struct evc_written written;
- *     if (evc_check(trace, length, text, sizeof text, notes, sizeof notes, &written) != EVC_STATUS_DONE)
+ *     if (evc_check(trace, length, text, EVC_ROOM(length), notes, sizeof notes, &written) != EVC_STATUS_DONE)
  *         fprintf(stderr, "%.*s", (int)written.notes, (const char *)notes);
  *
  * No pointer may be NULL, also where the length beside it is 0. The memory of the text, that of the notes and
@@ -23,14 +23,14 @@
 extern "C" {
 #endif
 
-/* How a call has ended. They are the exit statuses of the program `evc`. */
+/* How a call has ended, by the numbers of the exit statuses of the program `evc`; 2 and 5 do not occur. */
 enum evc_status {
     /* The whole text was written. */
     EVC_STATUS_DONE = 0,
     /* The input is no trace or no script, or a group is not followed, or the schedule names a worker that has ended.
      * The notes say what is wrong, and in which line; no text was written. */
     EVC_STATUS_REFUSED = 1,
-    /* The text had too little room. What was written is a front of it. */
+    /* The text had too little room. What was written is a front of it, and the notes end in `write fault`. */
     EVC_STATUS_NO_ROOM = 3,
     /* malloc gave nothing. No text was written. */
     EVC_STATUS_NO_MEMORY = 4

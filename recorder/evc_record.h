@@ -15,8 +15,9 @@
  *     enum evc_fault fault = evc_finish(&r, "my.trace");
  *     evc_close(&r);
  *
- * The first fault is kept. After it your steps go on, unrecorded, and the text stays without its last line, so that
- * `evc check` calls it `unfinished`. Every call but evc_open and evc_close may be made by any thread.
+ * The first fault is kept. After it your steps go on, unrecorded. Where it came before the end, the text stays without
+ * its last line, so that `evc check` calls it `unfinished`. The record stands in memory until evc_finish: a program that
+ * crashes leaves none. Every call but evc_open and evc_close may be made by any thread.
  */
 #ifndef EVC_RECORD_H
 #define EVC_RECORD_H
@@ -115,7 +116,7 @@ static inline void evc_open(evc_record *r, unsigned long long limit) {
     r->heading += (size_t)snprintf(digits, sizeof digits, "%llu", limit);
 }
 
-/* Declares a worker, and gives the number by which its steps name it. */
+/* Declares a worker, and gives the number by which its steps name it, or -1 where there was a fault. */
 static inline int evc_worker(evc_record *r, const char *name) {
     int worker = -1;
     pthread_mutex_lock(&r->lock);
@@ -202,8 +203,9 @@ EVC_FORMAT_(4) static inline void evc_number(evc_record *r, int worker, unsigned
     va_end(more);
 }
 
-/* Ends the record, and gives the bytes of the trace. They stay until evc_close. Where there was a fault it is given,
- * and the bytes are those up to it, without the last line. */
+/* Ends the record, and gives the bytes of the trace. They stay until evc_close. Where there was a fault it is given: the
+ * bytes are those up to it, without the last line, or the whole trace where the fault came after the end. The pointer
+ * may be NULL where the fault is EVC_NO_MEMORY. */
 static inline enum evc_fault evc_finish_bytes(evc_record *r, const char **bytes, size_t *length) {
     char line[64];
     pthread_mutex_lock(&r->lock);
@@ -225,21 +227,17 @@ static inline enum evc_fault evc_finish_bytes(evc_record *r, const char **bytes,
     return fault;
 }
 
-/* Ends the record, and writes the trace into a file. Gives the first fault. */
+/* Ends the record, and writes the trace into a file. Gives the first fault, or EVC_NOT_WRITTEN where there was none but
+ * this file was not written: then it may be tried again. */
 static inline enum evc_fault evc_finish(evc_record *r, const char *path) {
     const char *bytes;
     size_t length;
-    evc_finish_bytes(r, &bytes, &length);
+    enum evc_fault fault = evc_finish_bytes(r, &bytes, &length);
     FILE *file = fopen(path, "wb");
     int written = file && fwrite(bytes, 1, length, file) == length;
     if (file && fclose(file) != 0)
         written = 0;
-    pthread_mutex_lock(&r->lock);
-    if (!written)
-        evc_fail_(r, EVC_NOT_WRITTEN);
-    enum evc_fault fault = r->fault;
-    pthread_mutex_unlock(&r->lock);
-    return fault;
+    return fault == EVC_OK && !written ? EVC_NOT_WRITTEN : fault;
 }
 
 /* Lets go of the record's memory. No other call is under way then. */
