@@ -240,15 +240,17 @@ def all_applied(folder, together):
 
 
 # Twins: a second body of one function goes into a copy of that function, under a name of its own and with its proof files.
-# Beside it stands a copy that is as the function was, and has to be proved: so it is the body that is refused.
+# Where it has such files, a copy that is as the function was stands beside it, and has to be proved: so it is the body that is
+# refused, and not a file that doesn't fit in its new place. A function without such files is proved alike under any name.
 
 UNCHANGED = 0
 
 
 def twinned(folder, together):
-    """Returns the functions that have twins."""
+    """Returns the functions that have twins and proof files."""
     found = {only_function(folder, it) for it in together if it.twin}
-    return sorted(found, key=lambda it: (it.file, it.name))
+    with_files = (it for it in found if proof_of_twin(folder, it, UNCHANGED))
+    return sorted(with_files, key=lambda it: (it.file, it.name))
 
 
 def name_of_twin(name, number):

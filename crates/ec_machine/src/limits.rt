@@ -1,5 +1,5 @@
 //! Whether commands keep the limits of a program.
-ghost use Rattle.std.specs.Prelude.{◌≡◌, ◌+◌, ◌-◌, ◌≤◌, ◌<◌, ◌↔◌, IsTrue, IsSome, IfSome};
+ghost use Rattle.std.specs.Prelude.{◌≡◌, ◌+◌, ◌-◌, ◌≤◌, ◌<◌, ◌↔◌, ◌&&◌, IsTrue, IsSome, IfSome, nat_le};
 ghost use Rattle.std.specs.List.{list_all};
 ghost use Rattle.ec_machine.specs.Limits.{nesting, count, count_one, is_value, are_apart, is_same, is_sound, is_sound_one};
 ghost use Rattle.ec_machine.specs.Programs.{IsProgram};
@@ -95,13 +95,27 @@ fn is_sound_one(command: &Command) -> bool
         Command::WriteAll(shape, values) => {
             values.len() == shape.cells() && are_values(values.as_slice())
         }
-        Command::Snapshot(_, tries) => 1 <= *tries && *tries <= TRIES_MAX,
+        Command::Snapshot(_, tries) => is_tries(*tries),
         Command::DownBoth(common, one, other) => are_apart(common, one, other),
         Command::Repeat(count, block) => {
-            1 <= *count && *count <= TIMES_MAX && !block.is_empty() && is_sound(block.as_slice())
+            is_times(*count) && !block.is_empty() && is_sound(block.as_slice())
         }
         _ => true,
     }
+}
+
+/// Whether a snapshot may have so many tries.
+fn is_tries(tries: usize) -> bool
+    ensures { result ≡ (nat_le 1 tries && nat_le tries 1000) }
+{
+    1 <= tries && tries <= TRIES_MAX
+}
+
+/// Whether a block may be done so many times.
+fn is_times(times: u64) -> bool
+    ensures { result ≡ (nat_le 1 times && nat_le times 1000000) }
+{
+    1 <= times && times <= TIMES_MAX
 }
 
 fn are_values(values: &[Value]) -> bool

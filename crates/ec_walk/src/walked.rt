@@ -72,6 +72,7 @@ fn hand_to<A: Audit>(
 }
 
 /// Hands an entry to the audits of those groups among some that are wide, or not, as it is asked.
+#[inline(always)]
 fn hand<A: Audit>(
     groups: &[Group],
     audits: &mut [A],
