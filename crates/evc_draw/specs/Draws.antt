@@ -197,10 +197,15 @@ pub record Refuses (v : View) (text : List ℕ) (status : Status) (old new : Out
 abbrev pub HasNoFaultYet : List ℕ → Type 0
 HasNoFaultYet text = ((t : Recounted) × (outcome TRACE_MAX text ≡ Ok t)) ⊎ (outcome TRACE_MAX text ≡ Err faults.Unfinished)
 
+-- a fault that a text has whatever follows it
+abbrev pub IsLasting : TraceFault → Type 0
+IsLasting faults.Unfinished = ⊥
+IsLasting fault = Unit {0}
+
 -- the first fault of a text behind which a read failed, if it has one
 abbrev pub CutOffFault : List ℕ → Option TraceFault → Type 0
 CutOffFault text None = HasNoFaultYet text
-CutOffFault text (Some fault) = RefusedOr text fault
+CutOffFault text (Some fault) = IsLasting fault × RefusedOr text fault
 
 -- memory was refused, and nothing was written
 abbrev pub Wants : Outlets → Outlets → Type 0
@@ -213,8 +218,8 @@ abbrev pub DrawsText : View → List ℕ → Status → Outlets → Outlets → 
 DrawsText v text status old new =
     ((status ≡ Memory) × Wants old new) ⊎ (((t : Recounted) × ReadsAs text t × Drawn v t status old new) ⊎ Refuses v text status old new)
 
--- and with a text behind which a read failed: a fault of its lines is told in the same way; else the failed read is, and nothing
--- was written
+-- and with a text behind which a read failed: a fault of its lines is told in the same way, but not that it has no end; where
+-- there is none the failed read is told, and nothing was written
 pub record TellsRead (text : List ℕ) (status : Status) (old new : Outlets) : Type 0 where
   pub ends : status ≡ InputOutput
   pub no_fault : HasNoFaultYet text
@@ -222,7 +227,8 @@ pub record TellsRead (text : List ℕ) (status : Status) (old new : Outlets) : T
   pub note : Notes old new (codes "read fault\n")
 
 abbrev pub DrawsCutOff : View → List ℕ → Status → Outlets → Outlets → Type 0
-DrawsCutOff v text status old new = ((status ≡ Memory) × Wants old new) ⊎ (TellsRead text status old new ⊎ Refuses v text status old new)
+DrawsCutOff v text status old new =
+    ((status ≡ Memory) × Wants old new) ⊎ (TellsRead text status old new ⊎ ((r : Refuses v text status old new) × IsLasting r.fault))
 
 -- how the program ended, for an input that had these bytes and has those left: with what was looked at of it, or with what the
 -- reader gave before a failed read; or memory was refused before
