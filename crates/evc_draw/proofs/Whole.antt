@@ -4,11 +4,12 @@ use Rattle.evc_engine.specs.declared.status.Status.{Status}
 use Rattle.evc_engine.specs.declared.status.Status.TheVariants.{Memory}
 use Rattle.ec_trace.specs.Recounted.{Recounted}
 use Rattle.ec_trace.specs.declared.read.TheConstants.{TRACE_MAX}
+use Rattle.ec_trace.specs.declared.fault.TraceFault.{TraceFault}
 use Rattle.ec_trace.specs.declared.fault.TraceFault.TheVariants.{Unfinished}
 use Rattle.evc_engine.specs.Checks.{Outlets, ReadsAs, RefusedFor}
 use Rattle.ec_frame.specs.declared.view.View.{View}
 use Rattle.ec_text.specs.Inputs.{looked_at, IsReadUp, IsCutOff}
-use Rattle.evc_draw.specs.Draws.{Draws, DrawsText, DrawsCutOff, HasNoFaultYet, Wants}
+use Rattle.evc_draw.specs.Draws.{Draws, DrawsText, DrawsCutOff, HasNoFaultYet, IsLasting, TellsFault, Wants, story}
 
 pub whole_drawn : (v : View) (old left : Option (List ℕ)) (text : List ℕ) (status : Status) (before after : Outlets) → IfSome old (λ bytes. (text ≡ looked_at TRACE_MAX bytes) × IsReadUp TRACE_MAX bytes left) → DrawsText v text status before after → IfSome old (λ bytes. Draws v bytes left status before after)
 whole_drawn v None left text status before after is told = tt
@@ -27,3 +28,6 @@ no_fault_read text t r = inl (t, r.told)
 
 pub no_fault_unfinished : (text : List ℕ) → RefusedFor text Unfinished → HasNoFaultYet text
 no_fault_unfinished text r = inr r.told
+
+pub cut_off_refused : (v : View) (text : List ℕ) (fault : TraceFault) (status : Status) (before after : Outlets) → RefusedFor text fault → IsLasting fault → TellsFault (story v text fault) fault status before after → DrawsCutOff v text status before after
+cut_off_refused v text fault status before after refused is told = inr (inr (record { fault = fault; refused = refused; told = told }, is))

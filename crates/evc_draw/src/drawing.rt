@@ -307,6 +307,7 @@ fn cut_off_fault(alloc: Global, text: &[u8]) -> Option<TraceFault>
 }
 
 /// Draws a text behind which a read failed.
+#[tactic(auto, using(crate::proofs::Whole::cut_off_refused))]
 fn draw_cut_off<W: Write, N: Write>(
     alloc: Global,
     view: &View,
