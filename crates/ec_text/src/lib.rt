@@ -1,6 +1,7 @@
 //! Texts: the bytes of an input, lines, the words of a line, numbers and their digits, and bytes on their way to a writer.
 #![tactic(auto)]
 
+mod decimal;
 mod input;
 mod laws;
 mod lines;
@@ -9,6 +10,7 @@ mod output;
 mod words;
 mod writing;
 
+pub use decimal::Decimal;
 pub use input::{Input, read_piece, read_up_to};
 pub use laws::{
     join_is_undone, number_has_one_spelling, number_is_read_back, numbers_are_short_forms,

@@ -125,7 +125,24 @@ impl<'a, W: Write> Out<'a, W> {
     }
 
     /// Puts the decimal digits of a number.
+    #[inline(always)]
+    #[tactic(auto, using(crate::proofs::shared::DecimalLemmas::one_digit))]
     pub fn put_number(&mut self, n: u64)
+        ensures puts { Puts self.old self.new (decimal n) }
+        ensures room { self.old.failed ≡ false → length self.old.waiting + length (decimal n) ≤ 8192
+            → self.new ≡ with_bytes self.old (decimal n) }
+        ensures stays { self.old.failed ≡ true → self.new ≡ self.old }
+    {
+        if n < 10 {
+            self.put_byte(b'0' + n as u8);
+        } else {
+            self.put_long_number(n);
+        }
+    }
+
+    /// Puts the decimal digits of a number that may have several.
+    #[inline(never)]
+    fn put_long_number(&mut self, n: u64)
         ensures puts { Puts self.old self.new (decimal n) }
         ensures room { self.old.failed ≡ false → length self.old.waiting + length (decimal n) ≤ 8192
             → self.new ≡ with_bytes self.old (decimal n) }

@@ -8,12 +8,18 @@ ghost use Rattle.evc_engine.specs.Texts.{placed_line, check_lines};
 use crate::totals::put_totals;
 use ec_core::{Entry, Run};
 use ec_order::{InOrder, Placed};
-use ec_text::{Out, WriteFault};
+use ec_text::{Decimal, Out, WriteFault};
 use ec_trace::{Heading, Spellings, put_entry};
 use std::io::Write;
 
-/// Puts the line of a placed call.
-fn put_placed<W: Write>(out: &mut Out<'_, W>, spellings: &Spellings<'_>, placed: &Placed)
+/// Puts the line of a placed call, and has its point in `point` then. The line's point is mostly that of the line before, or one
+/// more, so that its digits need little work.
+fn put_placed<W: Write>(
+    out: &mut Out<'_, W>,
+    spellings: &Spellings<'_>,
+    point: &mut Decimal,
+    placed: &Placed,
+)
     ensures { Puts out.old out.new (placed_line spellings.now placed.now ++ 10 ∷ []) }
 {
     let entry = Entry {
@@ -21,7 +27,8 @@ fn put_placed<W: Write>(out: &mut Out<'_, W>, spellings: &Spellings<'_>, placed:
         act: placed.call.op,
         reply: placed.call.reply,
     };
-    out.put_number(placed.point as u64);
+    point.set(placed.point as u64);
+    out.put(point.digits());
     out.put(b" ");
     put_entry(out, spellings, &entry);
     out.put(b"\n");
@@ -31,8 +38,9 @@ fn put_placed<W: Write>(out: &mut Out<'_, W>, spellings: &Spellings<'_>, placed:
 fn put_order<W: Write>(out: &mut Out<'_, W>, spellings: &Spellings<'_>, order: InOrder<'_>)
     ensures { Puts out.old out.new (text_of (map (placed_line spellings.now) order.entry)) }
 {
+    let mut point = Decimal::new(0);
     for placed in order {
-        put_placed(out, spellings, &placed);
+        put_placed(out, spellings, &mut point, &placed);
     }
 }
 

@@ -5,6 +5,8 @@
 #[cfg(test)]
 mod cut_tests;
 #[cfg(test)]
+mod decimal_tests;
+#[cfg(test)]
 mod error_tests;
 #[cfg(test)]
 mod fakes;

@@ -1,0 +1,49 @@
+//! Numbers and their digits.
+use crate::fakes::{Fickle, Trouble};
+use ec_text::{Decimal, Out};
+use std::alloc::Global;
+
+/// Numbers, each set in the place of the one before, and their digits.
+static STEPS: [(u64, &str); 14] = [
+    (0, "0"),
+    (1, "1"),
+    (9, "9"),
+    (10, "10"),
+    (10, "10"),
+    (11, "11"),
+    (19, "19"),
+    (20, "20"),
+    (99, "99"),
+    (100, "100"),
+    (12345, "12345"),
+    (12344, "12344"),
+    (18446744073709551614, "18446744073709551614"),
+    (18446744073709551615, "18446744073709551615"),
+];
+
+#[test]
+fn digits_of_numbers_that_are_set(rt: HostRuntime) {
+    let mut number = Decimal::new(7);
+    assert!(rt; number.digits() == b"7".as_slice());
+    for (n, digits) in &STEPS {
+        number.set(*n);
+        assert!(rt; number.digits() == digits.as_bytes(), "at {digits}");
+    }
+    number.set(0);
+    assert!(rt; number.digits() == b"0".as_slice());
+}
+
+/// Whether a number is put as these digits.
+fn is_put(alloc: Global, n: u64, digits: &str) -> bool {
+    let mut writer = Fickle::new(alloc, 7, Trouble::Fails, usize::MAX);
+    let mut out = Out::new(&mut writer);
+    out.put_number(n);
+    out.finish().is_ok() && writer.bytes.as_slice() == digits.as_bytes()
+}
+
+#[test]
+fn numbers_are_put_as_their_digits(rt: HostRuntime) {
+    for (n, digits) in &STEPS {
+        assert!(rt; is_put(rt.alloc(), *n, digits), "at {digits}");
+    }
+}
