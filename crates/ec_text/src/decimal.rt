@@ -7,8 +7,8 @@ use std::marker::Model;
 
 /// A number and its decimal digits, so that one that is put again and again isn't spelled anew each time.
 ///
-/// Meant for a number that mostly stays or rises by one, as the point of a line does: `set` changes nothing then, or the last
-/// digit alone. Any number may follow any other, and is spelled anew where the last digit isn't enough.
+/// Meant for a number that mostly stays or rises by little, as the points of lines do: `set` then changes the last digit alone.
+/// Any number may follow any other, and is spelled anew where the last digit isn't enough.
 #[derive(Drop)]
 pub struct Decimal {
     value: u64,
@@ -25,21 +25,25 @@ impl Model for Decimal {
     ghost invariant = { λ d. d.digits.items ≡ decimal d.value };
 }
 
-/// Raises the last digit, if it isn't 9: the digits of a number are then those of the next. Tells whether it did.
+/// Raises the last digit by so much, if it stays a digit: the digits are then those of a number that is greater by that. Tells
+/// whether it did.
 #[inline(always)]
 #[tactic(auto, using(crate::proofs::shared::DecimalLemmas::last_raised))]
-fn raise_last(digits: &mut ArrayVec<u8, 20>) -> bool
+fn raise_last(digits: &mut ArrayVec<u8, 20>, by: u8) -> bool
     ensures raised { IsTrue result → (n : ℕ) → n < 2 ^ 64 → digits.old.items ≡ decimal n
-        → digits.new.items ≡ decimal (n + 1) }
+        → digits.new.items ≡ decimal (n + by) }
     ensures kept { result ≡ false → digits.new ≡ digits.old }
 {
     let Some(last) = digits.len().checked_sub(1) else {
         return false;
     };
-    if digits[last] >= b'9' {
+    let Some(raised) = digits[last].checked_add(by) else {
+        return false;
+    };
+    if raised > b'9' {
         return false;
     }
-    digits[last] += 1;
+    digits[last] = raised;
     true
 }
 
@@ -60,13 +64,9 @@ impl Decimal {
     pub fn set(&mut self, n: u64)
         ensures { self.new ≡ n }
     {
-        if n == self.value {
-            return;
-        }
-        if n.checked_sub(self.value) == Some(1) && raise_last(&mut self.digits) {
-            self.value = n;
-        } else {
-            *self = Decimal::new(n);
+        match n.checked_sub(self.value) {
+            Some(by) if by < 10 && raise_last(&mut self.digits, by as u8) => self.value = n,
+            _ => *self = Decimal::new(n),
         }
     }
 

@@ -4,7 +4,7 @@ use ec_text::{Decimal, Out};
 use std::alloc::Global;
 
 /// Numbers, each set in the place of the one before, and their digits.
-static STEPS: [(u64, &str); 14] = [
+static STEPS: [(u64, &str); 17] = [
     (0, "0"),
     (1, "1"),
     (9, "9"),
@@ -13,6 +13,9 @@ static STEPS: [(u64, &str); 14] = [
     (11, "11"),
     (19, "19"),
     (20, "20"),
+    (23, "23"),
+    (29, "29"),
+    (31, "31"),
     (99, "99"),
     (100, "100"),
     (12345, "12345"),
