@@ -9,9 +9,9 @@ use Rattle.ec_core.proofs.shared.Places.{get_set}
 use Rattle.ec_core.specs.declared.act.Act.{Act}
 use Rattle.ec_core.specs.declared.act.Act.TheVariants as acts
 use Rattle.ec_core.specs.declared.act.Reply.{Reply}
-use Rattle.ec_core.specs.declared.act.Reply.TheVariants.{Done, Pending}
+use Rattle.ec_core.specs.declared.act.Reply.TheVariants.{Done, Number, Pending}
 use Rattle.ec_core.specs.declared.act.Entry.{Entry}
-use Rattle.ec_text.specs.Words.{words_of, number_of, IsWord}
+use Rattle.ec_text.specs.Words.{words_of, number_of, digits_from, IsWord}
 use Rattle.ec_text.proofs.shared.WordLemmas.{HasFirst, has_first, words_alone, literal_word}
 use Rattle.ec_text.proofs.shared.NumberLemmas.{guarded}
 use Rattle.ec_heading.specs.Spelled.{Named, event_in, sequencer_in, cell_in_word}
@@ -252,10 +252,21 @@ pub ends_pending : (line front : List ℕ) → bytes_eq (drop (length line - len
 unfolding reply_of
 ends_pending line front same is = (codes "pending", before line front (codes " pending") same is, literal_word (codes "pending") refl, refl)
 
-pub ends_so : (line front answer : List ℕ) (r : Reply) → line ≡ front ++ 32 ∷ answer → IsWord answer → reply_of answer ≡ Some r → EndsIn line front r
-ends_so line front answer r is word told = (answer, is, word, told)
+-- a word that spells a number is none of the others
+spells_number : (word : List ℕ) (n : ℕ) (done pending : Bool) → bytes_eq word (codes "done") ≡ done → bytes_eq word (codes "pending") ≡ pending → number_of word ≡ Some n → reply_of word ≡ Some (Number n)
+unfolding reply_of digits_from
+spells_number word n true pending is other h =
+    let e : number_of (codes "done") ≡ Some n = sym (ap number_of ((bytes_eq-Decides word (codes "done")).0 is)) ∙ h in
+    cc
+spells_number word n false true other is h =
+    let e : number_of (codes "pending") ≡ Some n = sym (ap number_of ((bytes_eq-Decides word (codes "pending")).0 is)) ∙ h in
+    cc
+spells_number word n false false one two h = rw (one, two, h) refl
 
-pub ruleset ends = (ends_done, ends_pending, ends_so)
+pub ends_number : (line front answer : List ℕ) (n : ℕ) → line ≡ front ++ 32 ∷ answer → IsWord answer → number_of answer ≡ Some n → EndsIn line front (Number n)
+ends_number line front answer n is word h = (answer, is, word, spells_number answer n _ _ refl refl h)
+
+pub ruleset ends = (ends_done, ends_pending)
 
 pub has_front : (line front : List ℕ) (r : Reply) → EndsIn line front r → HasFront line front
 has_front line front r ends = (ends.0, ends.1, ends.2)

@@ -58,7 +58,7 @@ fn act_with(heading: &Heading, verb: &[u8], object: &[u8], value: &[u8]) -> Opti
 
 /// What the word of a reply says.
 #[tactic(auto, unfolding(crate::specs::Entries::reply_of))]
-pub(crate) fn reply_of(word: &[u8]) -> Option<Reply>
+fn reply_of(word: &[u8]) -> Option<Reply>
     ensures { result ≡ reply_of word.now }
 {
     if word == b"done".as_slice() {

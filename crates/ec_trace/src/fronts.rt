@@ -9,7 +9,7 @@ ghost use Rattle.ec_trace.specs.Entries.{entry_of};
 ghost use Rattle.ec_trace.specs.Fronts.{HasFront, HasValue, EndsIn, Tells, TellsWhole, TellsValued, AreKept, is_valued, with_value, with_both};
 ghost use Rattle.ec_heading.specs.Spelled.{Named};
 
-use crate::entry::{read_entry, reply_of};
+use crate::entry::read_entry;
 use ec_core::{Act, Entry, Reply};
 use ec_count::WorkerId;
 use ec_heading::Heading;
@@ -272,9 +272,30 @@ impl Fronts {
         Some((worker, act))
     }
 
-    /// The entry that a line spells whose front was not read lately, but perhaps what stands in it before a value.
+    /// The entry that a line spells whose front has no value, or is a new one.
+    #[inline(always)]
+    #[tactic(auto, using(crate::proofs::FrontLemmas::has_front, crate::proofs::FrontLemmas::told))]
+    fn read_whole(
+        &mut self,
+        heading: &Heading,
+        line: &[u8],
+        front: &[u8],
+        reply: Reply,
+    ) -> Option<Entry>
+        requires kept { AreKept heading.now.words self.old }
+        requires ends { EndsIn line.now front.now reply }
+        ensures value { result ≡ entry_of heading.now.words line.now }
+        ensures kept { AreKept heading.now.words self.new }
+    {
+        match self.find_whole(front) {
+            Some((worker, act)) => Some(Entry { worker, act, reply }),
+            None => self.read_anew(heading, line, front),
+        }
+    }
+
+    /// The entry that a line spells whose front perhaps has a value.
     #[inline(never)]
-    #[tactic(auto, using(crate::proofs::FrontLemmas::has_front, crate::proofs::FrontLemmas::opened))]
+    #[tactic(auto, using(crate::proofs::FrontLemmas::opened))]
     fn read_value(
         &mut self,
         heading: &Heading,
@@ -288,17 +309,16 @@ impl Fronts {
         ensures kept { AreKept heading.now.words self.new }
     {
         let Some((opening, value)) = cut_value(front) else {
-            return self.read_anew(heading, line, front);
+            return self.read_whole(heading, line, front, reply);
         };
-        let Some((worker, act)) = self.find_opening(opening) else {
-            return self.read_anew(heading, line, front);
-        };
-        with_both(worker, act, number(value), reply)
+        match self.find_opening(opening) {
+            Some((worker, act)) => with_both(worker, act, number(value), reply),
+            None => self.read_whole(heading, line, front, reply),
+        }
     }
 
     /// The entry that a line without its LF spells, if it spells one.
     #[inline(always)]
-    #[tactic(auto, using(crate::proofs::FrontLemmas::told))]
     pub(crate) fn read(&mut self, heading: &Heading, line: &[u8]) -> Option<Entry>
         requires { AreKept heading.now.words self.old }
         ensures value { result ≡ entry_of heading.now.words line.now }
@@ -307,10 +327,11 @@ impl Fronts {
         let Some((front, reply)) = cut_reply(line) else {
             return read_entry(heading, line);
         };
-        let Some((worker, act)) = self.find_whole(front) else {
-            return self.read_value(heading, line, front, reply);
-        };
-        Some(Entry { worker, act, reply })
+        if may_have_value(front) {
+            self.read_value(heading, line, front, reply)
+        } else {
+            self.read_whole(heading, line, front, reply)
+        }
     }
 }
 
@@ -353,7 +374,14 @@ fn with_both(worker: WorkerId, act: Act, value: Option<u64>, reply: Reply) -> Op
     }
 }
 
-/// The last word before the `=` that ends a front, and what stands before the space before it.
+/// Whether a digit stands before the ` =` that ends a front, as the last one of a value does. A name may end in one too.
+#[inline(always)]
+fn may_have_value(front: &[u8]) -> bool {
+    let n = front.len();
+    n > 2 && front[n - 3].is_ascii_digit()
+}
+
+/// The last word before the `=` that ends a front, where it begins with a digit, and what stands before the space before it.
 #[inline(always)]
 #[tactic(auto, using(crate::proofs::FrontLemmas::values))]
 fn cut_value(front: &[u8]) -> Option<(&[u8], &[u8])>
@@ -361,7 +389,10 @@ fn cut_value(front: &[u8]) -> Option<(&[u8], &[u8])>
 {
     let head = front.strip_suffix(b" =".as_slice())?;
     let (opening, value) = cut_last(head)?;
-    Some((opening, value))
+    match value {
+        [first, ..] if first.is_ascii_digit() => Some((opening, value)),
+        _ => None,
+    }
 }
 
 /// Whether this is the last byte.
@@ -388,8 +419,8 @@ fn cut_reply(line: &[u8]) -> Option<(&[u8], Reply)>
         }
     }
     let (front, answer) = cut_last(line)?;
-    let reply = reply_of(answer)?;
-    Some((front, reply))
+    let answer = number(answer)?;
+    Some((front, Reply::Number(answer)))
 }
 
 /// The last word of a line, and what stands before the space before it.
