@@ -17,7 +17,9 @@ use Rattle.ec_text.proofs.shared.NumberLemmas.{guarded}
 use Rattle.ec_heading.specs.Spelled.{Named, event_in, sequencer_in, cell_in_word}
 use Rattle.ec_heading.specs.Lists.{worker_in}
 use Rattle.ec_trace.specs.Entries.{◌>>=◌, act_alone, act_on, act_with, reply_of, entry_by, entry_in, entry_of}
-use Rattle.ec_trace.specs.Fronts.{with_reply, with_value, with_both, is_valued, headed, HasFront, HasValue, EndsIn, Tells, TellsWhole, TellsValued, AreKept}
+use Rattle.ec_trace.specs.Fronts.{with_reply, with_value, with_both, is_valued, headed, HasFront, HasValue, EndsIn, Tells, TellsWhole, TellsValued, IsKept, AreKept}
+use Rattle.ec_trace.specs.Keys.{text_of}
+use Rattle.ec_trace.specs.declared.key.Key.{Key}
 use Rattle.ec_trace.specs.declared.fronts.Front.{Front}
 
 -- as the code's `&line[..i]` and `&line[i + 1..]` say it
@@ -269,23 +271,24 @@ value_so front head opening value same is cut word = (before front head (codes "
 
 pub ruleset values = (value_so)
 
-kept_at : (names : Named) (b : Bool) (o : Option (Option Front)) (f g : Front) → cond b (Some (Some f)) o ≡ Some (Some g) → Tells names (take f.len f.bytes) f.worker f.act
-    → (o ≡ Some (Some g) → Tells names (take g.len g.bytes) g.worker g.act) → Tells names (take g.len g.bytes) g.worker g.act
-kept_at names true o f g h new old = (let is : f ≡ g = cc in subst (λ (x : Front). Tells names (take x.len x.bytes) x.worker x.act) is new)
+kept_at : (names : Named) (b : Bool) (o : Option Front) (f g : Front) → cond b (Some f) o ≡ Some g → IsKept names f → (o ≡ Some g → IsKept names g) → IsKept names g
+kept_at names true o f g h new old = (let is : f ≡ g = cc in subst (λ (x : Front). IsKept names x) is new)
 kept_at names false o f g h new old = old h
 
 -- one more front is kept, perhaps in the place of another
-pub kept : (names : Named) (fronts : List (Option Front)) (place : ℕ) (f : Front) → place < length fronts → AreKept names fronts → Tells names (take f.len f.bytes) f.worker f.act
-    → AreKept names (slice_set fronts place (Some f))
-kept names fronts place f within all new i g at = kept_at names (place == i) (slice_get fronts i) f g (sym (get_set fronts place i (Some f) within) ∙ at) new (all i g)
+pub kept : (names : Named) (fronts : List Front) (place : ℕ) (f : Front) → place < length fronts → AreKept names fronts → IsKept names f → AreKept names (slice_set fronts place f)
+kept names fronts place f within all new i g at = kept_at names (place == i) (slice_get fronts i) f g (sym (get_set fronts place i f within) ∙ at) new (all i g)
 
--- a front with other bytes, which are the same
-pub told_of : (names : Named) (front : List ℕ) (f : Front) (e : Entry) → take f.len f.bytes ≡ front → f.worker ≡ e.worker → f.act ≡ e.act → Tells names front e.worker e.act
-    → Tells names (take f.len f.bytes) f.worker f.act
-told_of names front f e is who what new = rw (is, who, what) new
+-- a front that has its key
+pub told_of : (names : Named) (front : List ℕ) (k : Key) (w : ℕ) (a : Act) → text_of k ≡ front → Tells names front w a → Tells names (text_of k) w a
+told_of names front k w a is new = rw is new
+
+-- a front that was found by its key
+pub found : (names : Named) (front : List ℕ) (k : Key) (w : ℕ) (a : Act) → text_of k ≡ front → Tells names (text_of k) w a → Tells names front w a
+found names front k w a is kept = subst (λ (xs : List ℕ). Tells names xs w a) is kept
 
 -- no front is kept yet
-pub none_kept : (names : Named) (n : ℕ) → AreKept names (replicate n None)
-none_kept names zero i f at = cc
-none_kept names (suc n) zero f at = cc
-none_kept names (suc n) (suc i) f at = none_kept names n i f at
+pub none_kept : (names : Named) (n : ℕ) (none : Front) → none.key.len ≡ 0 → AreKept names (replicate n none)
+none_kept names zero none empty i f at = cc
+none_kept names (suc n) none empty zero f at = (λ has. let is : none ≡ f = cc in let len : f.key.len ≡ 0 = sym (ap (λ (x : Front). x.key.len) is) ∙ empty in absurd (omega arith))
+none_kept names (suc n) none empty (suc i) f at = none_kept names n none empty i f at

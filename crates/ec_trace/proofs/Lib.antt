@@ -12,6 +12,7 @@ pub mod Readings
 pub mod OpeningLines
 pub mod EntrySteps
 pub mod SpelledLemmas
+pub mod KeyLemmas
 pub mod FrontLemmas
 pub mod EntryParts
 pub mod TraceText

@@ -1,5 +1,5 @@
 -- Fronts of entries: what stands in a line before the space of the reply, and what it spells.
-use Rattle.std.specs.Prelude.{◌≡◌, ℕ, Bool, true, false, List, ◌++◌, ◌∷◌, Option, Some, None, take, slice_get, codes}
+use Rattle.std.specs.Prelude.{◌≡◌, ℕ, ◌≤◌, Bool, true, false, List, ◌++◌, ◌∷◌, Option, Some, None, slice_get, codes}
 use Rattle.ec_core.specs.declared.act.Act.{Act}
 use Rattle.ec_core.specs.declared.act.Act.TheVariants as acts
 use Rattle.ec_core.specs.declared.act.Reply.{Reply}
@@ -7,6 +7,7 @@ use Rattle.ec_core.specs.declared.act.Entry.{Entry}
 use Rattle.ec_text.specs.Words.{IsWord, number_of}
 use Rattle.ec_trace.specs.Entries.{reply_of, entry_of}
 use Rattle.ec_heading.specs.Spelled.{Named}
+use Rattle.ec_trace.specs.Keys.{text_of}
 use Rattle.ec_trace.specs.declared.fronts.Front.{Front}
 
 -- a line is this front, a space, and a word
@@ -58,6 +59,9 @@ pub record Tells (names : Named) (front : List ℕ) (w : ℕ) (a : Act) : Type 0
   pub whole : is_valued a ≡ false → TellsWhole names front w a
   pub valued : is_valued a ≡ true → TellsValued names front w a
 
--- each front that is kept tells its worker and its act
-abbrev pub AreKept : Named → List (Option Front) → Type 0
-AreKept names fronts = (i : ℕ) (f : Front) → slice_get fronts i ≡ Some (Some f) → Tells names (take f.len f.bytes) f.worker f.act
+-- what is kept at a place tells its worker and its act, where it has the key of a front
+abbrev pub IsKept : Named → Front → Type 0
+IsKept names f = 4 ≤ f.key.len → Tells names (text_of f.key) f.worker f.act
+
+abbrev pub AreKept : Named → List Front → Type 0
+AreKept names fronts = (i : ℕ) (f : Front) → slice_get fronts i ≡ Some f → IsKept names f

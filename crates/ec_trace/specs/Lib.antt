@@ -1,6 +1,7 @@
 pub mod Grammar
 pub mod WordTables
 pub mod Entries
+pub mod Keys
 pub mod Fronts
 pub mod Recounted
 pub mod Stages

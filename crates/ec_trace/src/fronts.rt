@@ -2,14 +2,16 @@
 //!
 //! The front of an entry is its line up to the space before the reply. But for the values in them, the entries of a
 //! trace have few different fronts, so that one which was read lately is found again by its bytes: then the reply alone
-//! is read anew, and the value of an await or a put.
-ghost use Rattle.std.specs.Prelude.{◌≡◌, ◌+◌, ◌≤◌, ℕ, List, Some, ◌++◌, ◌∷◌, IfOk, IfSome, IsTrue, length, take};
+//! is read anew, and the value of an await or a put. A key holds the bytes, so that no loop compares them.
+ghost use Rattle.std.specs.Prelude.{◌≡◌, ◌≤◌, ℕ, List, Some, ◌++◌, ◌∷◌, IfOk, IfSome};
 ghost use Rattle.ec_text.specs.Words.{IsWord};
 ghost use Rattle.ec_trace.specs.Entries.{entry_of};
-ghost use Rattle.ec_trace.specs.Fronts.{HasFront, HasValue, EndsIn, Tells, TellsWhole, TellsValued, AreKept, is_valued, with_value, with_both};
+ghost use Rattle.ec_trace.specs.Fronts.{HasFront, HasValue, EndsIn, Tells, TellsWhole, TellsValued, IsKept, AreKept, is_valued, with_value, with_both};
+ghost use Rattle.ec_trace.specs.Keys.{text_of};
 ghost use Rattle.ec_heading.specs.Spelled.{Named};
 
 use crate::entry::{read_entry, reply_of};
+use crate::key::Key;
 use ec_core::{Act, Entry, Reply};
 use ec_count::WorkerId;
 use ec_heading::Heading;
@@ -23,63 +25,35 @@ const PLACES: usize = 512;
 
 const PLACES_MAX: usize = 32768;
 
-/// A front of at most 32 bytes, and the worker and the act of each entry with this front. Of an await or a put it is what
-/// stands before the value, and the act has any value.
+/// The key of a front, and the worker and the act of each entry with this front. Of an await or a put the front is what
+/// stands before the value, and the act has any value. Where the key is of no text, this is no front.
 #[derive(Clone, Copy)]
 pub(crate) struct Front {
-    bytes: [u8; 32],
-    len: u8,
+    key: Key,
     worker: WorkerId,
     act: Act,
 }
 
 impl Front {
-    /// The front with these bytes, if they are not too many.
-    fn of(bytes: &[u8], entry: &Entry) -> Option<Front>
-        ensures bytes { IfSome result (λ f. take f.len f.bytes ≡ bytes.now) }
-        ensures worker { IfSome result (λ f. f.worker ≡ entry.now.worker) }
-        ensures act { IfSome result (λ f. f.act ≡ entry.now.act) }
+    /// No front.
+    fn none() -> Front
+        ensures { result.key.len ≡ 0 }
     {
-        let len = bytes.len();
-        if len > 32 {
-            return None;
-        }
-        let mut held = [0u8; 32];
-        held[..len].copy_from_slice(bytes);
-        Some(Front {
-            bytes: held,
-            len: len as u8,
-            worker: entry.worker,
-            act: entry.act,
-        })
-    }
-
-    /// Whether this is the front with these bytes.
-    #[inline(always)]
-    fn has(&self, bytes: &[u8]) -> bool
-        ensures { IsTrue result → take self.now.len self.now.bytes ≡ bytes.now }
-    {
-        let len = self.len as usize;
-        len <= 32 && &self.bytes[..len] == bytes
-    }
-
-    /// The mark of its bytes.
-    fn mark(&self) -> usize {
-        let len = self.len as usize;
-        match self.bytes.get(..len) {
-            Some(bytes) => mark(bytes),
-            None => 0,
+        Front {
+            key: Key::none(),
+            worker: WorkerId::default(),
+            act: Act::Go,
         }
     }
 }
 
 /// No fronts at so many places.
 #[tactic(auto, using(crate::proofs::FrontLemmas::none_kept))]
-fn none_at(alloc: Global, places: usize) -> Result<Vec<Option<Front>>, AllocError>
+fn none_at(alloc: Global, places: usize) -> Result<Vec<Front>, AllocError>
     ensures { (names : Named) → IfOk result (λ v. AreKept names v.items) }
 {
     let mut slots = Vec::with_capacity(alloc, places)?;
-    slots.resize(places, None)?;
+    slots.resize(places, Front::none())?;
     Ok(slots)
 }
 
@@ -90,35 +64,32 @@ fn place_of(mark: usize, places: usize) -> usize {
 }
 
 /// Puts a front at one of its two places: at the first where that is free, else at the second.
-#[tactic(auto, using(crate::proofs::FrontLemmas::kept))]
-fn put(slots: &mut Vec<Option<Front>>, mark: usize, known: Front)
-    ensures { (names : Named) → AreKept names slots.old.items → Tells names (take known.len known.bytes) known.worker known.act → AreKept names slots.new.items }
+fn put(slots: &mut Vec<Front>, known: Front)
+    ensures { (names : Named) → AreKept names slots.old.items → IsKept names known → AreKept names slots.new.items }
 {
-    let first = place_of(mark, slots.len());
+    let first = place_of(known.key.mark(), slots.len());
     let place = match slots.get(first) {
-        Some(Some(_)) => first ^ 1,
+        Some(held) if held.key.is_some() => first ^ 1,
         _ => first,
     };
     if place < slots.len() {
-        slots[place] = Some(known);
+        slots[place] = known;
     }
 }
 
 /// Puts the front at a place of some among others, if there is one.
-fn put_again(slots: &mut Vec<Option<Front>>, place: usize, from: &[Option<Front>])
+fn put_again(slots: &mut Vec<Front>, place: usize, from: &[Front])
     ensures { (names : Named) → AreKept names slots.old.items → AreKept names from.now → AreKept names slots.new.items }
 {
-    if let Some(Some(known)) = from.get(place) {
-        put(slots, known.mark(), *known);
+    if let Some(known) = from.get(place) {
+        if known.key.is_some() {
+            put(slots, *known);
+        }
     }
 }
 
 /// The same fronts at so many places.
-fn spread(
-    alloc: Global,
-    slots: &[Option<Front>],
-    places: usize,
-) -> Result<Vec<Option<Front>>, AllocError>
+fn spread(alloc: Global, slots: &[Front], places: usize) -> Result<Vec<Front>, AllocError>
     ensures { (names : Named) → AreKept names slots.now → IfOk result (λ v. AreKept names v.items) }
 {
     let mut wider = none_at(alloc, places)?;
@@ -132,16 +103,16 @@ fn spread(
 /// places they get.
 #[derive(Drop)]
 pub(crate) struct Fronts {
-    slots: Vec<Option<Front>>,
+    slots: Vec<Front>,
     /// How many were put since they have so many places.
     put: usize,
 }
 
 impl Model for Fronts {
-    ghost use Rattle.std.specs.Prelude.{List, Option};
+    ghost use Rattle.std.specs.Prelude.{List};
     ghost use Rattle.ec_trace.specs.declared.fronts.Front.{Front};
 
-    ghost Value = { List (Option Front) };
+    ghost Value = { List Front };
 
     ghost view = { λ s. s.slots.items };
 }
@@ -158,26 +129,28 @@ impl Fronts {
         }
     }
 
-    /// The front at a place, where it has these bytes: its worker and act.
+    /// The front at the place of a mark, where it has this key.
     #[inline(always)]
-    fn at(&self, mark: usize, front: &[u8]) -> Option<(WorkerId, Act)>
-        ensures { (names : Named) → AreKept names self.now → IfSome result (λ p. Tells names front.now p.0 p.1) }
+    fn at(&self, mark: usize, key: &Key) -> Option<&Front>
+        ensures { (names : Named) → AreKept names self.now → 4 ≤ key.now.len → IfSome result (λ f. Tells names (text_of key.now) f.now.worker f.now.act) }
     {
         match self.slots.get(place_of(mark, self.slots.len())) {
-            Some(Some(known)) if known.has(front) => Some((known.worker, known.act)),
+            Some(known) if known.key.is(key) => Some(known),
             _ => None,
         }
     }
 
-    /// The worker and the act of a front, where it was read lately.
+    /// What is kept of a front, where it was read lately.
     #[inline(always)]
-    fn find(&self, front: &[u8]) -> Option<(WorkerId, Act)>
-        ensures { (names : Named) → AreKept names self.now → IfSome result (λ p. Tells names front.now p.0 p.1) }
+    #[tactic(auto, using(crate::proofs::FrontLemmas::found))]
+    fn find(&self, front: &[u8]) -> Option<&Front>
+        ensures { (names : Named) → AreKept names self.now → IfSome result (λ f. Tells names front.now f.now.worker f.now.act) }
     {
-        let mark = mark(front);
-        match self.at(mark, front) {
+        let key = Key::of(front)?;
+        let mark = key.mark();
+        match self.at(mark, &key) {
             Some(known) => Some(known),
-            None => self.at(mark ^ 1, front),
+            None => self.at(mark ^ 1, &key),
         }
     }
 
@@ -213,11 +186,16 @@ impl Fronts {
     fn keep(&mut self, front: &[u8], entry: &Entry)
         ensures { (names : Named) → AreKept names self.old → Tells names front.now entry.now.worker entry.now.act → AreKept names self.new }
     {
-        let Some(known) = Front::of(front, entry) else {
+        let Some(key) = Key::of(front) else {
             return;
         };
         self.make_room();
-        put(&mut self.slots, mark(front), known);
+        let known = Front {
+            key,
+            worker: entry.worker,
+            act: entry.act,
+        };
+        put(&mut self.slots, known);
     }
 
     /// Keeps the front of an entry, or what stands in it before the value.
@@ -253,11 +231,11 @@ impl Fronts {
     fn find_whole(&self, front: &[u8]) -> Option<(WorkerId, Act)>
         ensures { (names : Named) → AreKept names self.now → IfSome result (λ p. TellsWhole names front.now p.0 p.1) }
     {
-        let (worker, act) = self.find(front)?;
-        if is_valued(&act) {
+        let known = self.find(front)?;
+        if is_valued(&known.act) {
             return None;
         }
-        Some((worker, act))
+        Some((known.worker, known.act))
     }
 
     /// The worker and an act of what stands before a value, where it was read lately.
@@ -265,11 +243,11 @@ impl Fronts {
     fn find_opening(&self, opening: &[u8]) -> Option<(WorkerId, Act)>
         ensures { (names : Named) → AreKept names self.now → IfSome result (λ p. TellsValued names opening.now p.0 p.1) }
     {
-        let (worker, act) = self.find(opening)?;
-        if !is_valued(&act) {
+        let known = self.find(opening)?;
+        if !is_valued(&known.act) {
             return None;
         }
-        Some((worker, act))
+        Some((known.worker, known.act))
     }
 
     /// The entry that a line spells whose front was not read lately, but perhaps what stands in it before a value.
@@ -405,37 +383,4 @@ fn cut_last(line: &[u8]) -> Option<(&[u8], &[u8])>
         }
     }
     None
-}
-
-/// Eight bytes of a front as one number.
-#[inline(always)]
-fn eight_from(front: &[u8], from: usize) -> u64
-    requires { from + 8 ≤ length front.now }
-{
-    u64::from_le_bytes([
-        front[from],
-        front[from + 1],
-        front[from + 2],
-        front[from + 3],
-        front[from + 4],
-        front[from + 5],
-        front[from + 6],
-        front[from + 7],
-    ])
-}
-
-/// A mark of a front. Two fronts mostly have different marks. For speed it is made of eight bytes at each end and eight in
-/// the middle; of a shorter front, as `a go =`, it is made of the first two bytes.
-#[inline(always)]
-fn mark(front: &[u8]) -> usize {
-    let [first, second, ..] = front else {
-        return 0;
-    };
-    let n = front.len();
-    if n < 8 {
-        return *first as usize * 31 + *second as usize * 7;
-    }
-    let ends = eight_from(front, 0) ^ eight_from(front, n - 8).rotate_left(21);
-    let all = ends ^ eight_from(front, n / 2 - 4).rotate_left(42);
-    (all.wrapping_mul(0x9E37_79B9_7F4A_7C15) >> 48) as usize
 }

@@ -5,6 +5,7 @@ mod entry;
 mod fault;
 mod fronts;
 mod history;
+mod key;
 mod lines;
 mod opening;
 mod read;

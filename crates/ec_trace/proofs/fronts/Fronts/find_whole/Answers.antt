@@ -4,6 +4,6 @@ use Rattle.ec_trace.proofs.fronts.Fronts.find_whole.Goals as goal
 
 pub returns : goal.returns
 returns c names kept =
-    let unvalued : is_valued c.in_ok-worker.act ≡ false = search rules in
-    let tell : Tells names c.args.front.now c.in_ok-worker.worker c.in_ok-worker.act = c.in_ok-worker.ensures names kept in
+    let unvalued : is_valued c.in_ok-known.known.now.act ≡ false = search rules in
+    let tell : Tells names c.args.front.now c.in_ok-known.known.now.worker c.in_ok-known.known.now.act = c.in_ok-known.ensures names kept in
     tell.whole unvalued

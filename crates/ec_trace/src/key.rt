@@ -1,0 +1,146 @@
+//! Keys of short texts.
+//!
+//! A key is a few numbers that hold all bytes of a text. So two texts are compared by few comparisons of numbers, with no
+//! loop and no call.
+ghost use Rattle.std.specs.Prelude.{◌≡◌, ◌+◌, ◌≤◌, ◌<◌, IfSome, IsTrue, length, take, drop};
+ghost use Rattle.ec_trace.specs.Keys.{eight_of, four_of};
+
+/// The key of a text of four to 32 bytes: its length, and words of eight bytes of it, or of four where it has fewer than
+/// eight. The first word begins where the text does, the last ends where it does, and the second and the third are the
+/// next to these. In a text of fewer than 16 bytes they overlap.
+#[derive(Clone, Copy)]
+pub(crate) struct Key {
+    first: u64,
+    second: u64,
+    third: u64,
+    last: u64,
+    len: u8,
+}
+
+impl Key {
+    ghost use Rattle.ec_trace.specs.Keys.{text_of};
+
+    /// The key of no text.
+    pub(crate) fn none() -> Self
+        ensures { result.len ≡ 0 }
+    {
+        Key {
+            first: 0,
+            second: 0,
+            third: 0,
+            last: 0,
+            len: 0,
+        }
+    }
+
+    /// Whether it is the key of a text.
+    #[inline(always)]
+    pub(crate) fn is_some(&self) -> bool {
+        self.len > 0
+    }
+
+    /// The key of a text, where it has one.
+    #[inline(always)]
+    pub(crate) fn of(text: &[u8]) -> Option<Self>
+        ensures len { IfSome result (λ k. 4 ≤ k.len) }
+        ensures text { IfSome result (λ k. text_of k ≡ text.now) }
+    {
+        let n = text.len();
+        if n > 32 {
+            return None;
+        }
+        if n >= 8 {
+            return Some(Key::by_eight(text));
+        }
+        if n < 4 {
+            return None;
+        }
+        Some(Key::by_four(text))
+    }
+
+    /// The key of a text of eight to 32 bytes.
+    #[inline(always)]
+    #[tactic(auto, using(crate::proofs::KeyLemmas::eights_hold))]
+    fn by_eight(text: &[u8]) -> Self
+        requires least { 8 ≤ length text.now }
+        requires most { length text.now ≤ 32 }
+        ensures len { result.len ≡ length text.now }
+        ensures text { text_of result ≡ text.now }
+    {
+        let n = text.len();
+        let last = n - 8;
+        Key {
+            first: eight_from(text, 0),
+            second: eight_from(text, last.min(8)),
+            third: eight_from(text, n.saturating_sub(16)),
+            last: eight_from(text, last),
+            len: n as u8,
+        }
+    }
+
+    /// The key of a text of four to seven bytes.
+    #[inline(always)]
+    #[tactic(auto, using(crate::proofs::KeyLemmas::fours_hold))]
+    fn by_four(text: &[u8]) -> Self
+        requires least { 4 ≤ length text.now }
+        requires most { length text.now < 8 }
+        ensures len { result.len ≡ length text.now }
+        ensures text { text_of result ≡ text.now }
+    {
+        let n = text.len();
+        Key {
+            first: four_from(text, 0) as u64,
+            second: 0,
+            third: 0,
+            last: four_from(text, n - 4) as u64,
+            len: n as u8,
+        }
+    }
+
+    /// Whether it is this key.
+    #[inline(always)]
+    pub(crate) fn is(&self, other: &Key) -> bool
+        ensures { IsTrue result → self.now ≡ other.now }
+    {
+        self.last == other.last
+            && self.first == other.first
+            && self.second == other.second
+            && self.third == other.third
+            && self.len == other.len
+    }
+
+    /// A mark of the key, below 65536. Two keys mostly have different marks.
+    #[inline(always)]
+    pub(crate) fn mark(&self) -> usize {
+        let ends = self.first ^ self.last.rotate_left(21);
+        let all = ends ^ self.second.rotate_left(42) ^ self.third.rotate_left(11);
+        (all.wrapping_mul(0x9E37_79B9_7F4A_7C15) >> 48) as usize
+    }
+}
+
+/// Eight bytes of a text as one number.
+#[inline(always)]
+fn eight_from(text: &[u8], from: usize) -> u64
+    requires { from + 8 ≤ length text.now }
+    ensures { eight_of result ≡ take 8 (drop from text.now) }
+{
+    u64::from_le_bytes([
+        text[from],
+        text[from + 1],
+        text[from + 2],
+        text[from + 3],
+        text[from + 4],
+        text[from + 5],
+        text[from + 6],
+        text[from + 7],
+    ])
+}
+
+/// Four bytes of a text as one number.
+#[inline(always)]
+fn four_from(text: &[u8], from: usize) -> u32
+    requires { from + 4 ≤ length text.now }
+    ensures { four_of result ≡ take 4 (drop from text.now) }
+{
+    u32::from_le_bytes([text[from], text[from + 1], text[from + 2], text[from + 3]])
+}
