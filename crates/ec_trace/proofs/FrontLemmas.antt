@@ -273,9 +273,9 @@ pub ruleset ends = (ends_done, ends_pending)
 pub has_front : (line front : List ℕ) (r : Reply) → EndsIn line front r → HasFront line front
 has_front line front r ends = (ends.0, ends.1, ends.2)
 
--- a known front, and the reply behind it
-pub told : (names : Named) (line front : List ℕ) (w : ℕ) (a : Act) (r : Reply) → EndsIn line front r → TellsWhole names front w a → entry_of names line ≡ Some (record { worker = w; act = a; reply = r })
-told names line front w a r ends tell = ap (entry_of names) ends.1 ∙ tell ends.0 ends.2 ∙ ap (with_reply w a) ends.3
+-- a known front without a value, and the reply behind it
+pub told : (names : Named) (line front : List ℕ) (w : ℕ) (a : Act) (r : Reply) → EndsIn line front r → Tells names front w a → is_valued a ≡ false → entry_of names line ≡ Some (record { worker = w; act = a; reply = r })
+told names line front w a r ends tell plain = ap (entry_of names) ends.1 ∙ tell.whole plain ends.0 ends.2 ∙ ap (with_reply w a) ends.3
 
 pub value_so : (front head opening value : List ℕ) → bytes_eq (drop (length front - length (codes " =")) front) (codes " =") ≡ true → head ≡ take (length front - length (codes " =")) front → head ≡ opening ++ 32 ∷ value → IsWord value → HasValue front opening value
 value_so front head opening value same is cut word = (before front head (codes " =") same is ∙ ap (λ (h : List ℕ). h ++ codes " =") cut, word)

@@ -226,18 +226,6 @@ impl Fronts {
         Some(entry)
     }
 
-    /// The worker and the act of a front without a value, where it was read lately.
-    #[inline(always)]
-    fn find_whole(&self, front: &[u8]) -> Option<(WorkerId, Act)>
-        ensures { (names : Named) → AreKept names self.now → IfSome result (λ p. TellsWhole names front.now p.0 p.1) }
-    {
-        let known = self.find(front)?;
-        if is_valued(&known.act) {
-            return None;
-        }
-        Some((known.worker, known.act))
-    }
-
     /// The worker and an act of what stands before a value, where it was read lately.
     #[inline(always)]
     fn find_opening(&self, opening: &[u8]) -> Option<(WorkerId, Act)>
@@ -265,9 +253,13 @@ impl Fronts {
         ensures value { result ≡ entry_of heading.now.words line.now }
         ensures kept { AreKept heading.now.words self.new }
     {
-        match self.find_whole(front) {
-            Some((worker, act)) => Some(Entry { worker, act, reply }),
-            None => self.read_anew(heading, line, front),
+        match self.find(front) {
+            Some(known) if !is_valued(&known.act) => Some(Entry {
+                worker: known.worker,
+                act: known.act,
+                reply,
+            }),
+            _ => self.read_anew(heading, line, front),
         }
     }
 
@@ -305,10 +297,12 @@ impl Fronts {
         let Some((front, reply)) = cut_reply(line) else {
             return read_entry(heading, line);
         };
-        if may_have_value(front) {
-            self.read_value(heading, line, front, reply)
-        } else {
-            self.read_whole(heading, line, front, reply)
+        // (before the ` =` that ends a front a value ends in a digit, and of other words a name may)
+        match front {
+            [.., last, _, _] if last.is_ascii_digit() => {
+                self.read_value(heading, line, front, reply)
+            }
+            _ => self.read_whole(heading, line, front, reply),
         }
     }
 }
@@ -352,13 +346,6 @@ fn with_both(worker: WorkerId, act: Act, value: Option<u64>, reply: Reply) -> Op
     }
 }
 
-/// Whether a digit stands before the ` =` that ends a front, as the last one of a value does. A name may end in one too.
-#[inline(always)]
-fn may_have_value(front: &[u8]) -> bool {
-    let n = front.len();
-    n > 2 && front[n - 3].is_ascii_digit()
-}
-
 /// The last word before the `=` that ends a front, where it begins with a digit, and what stands before the space before it.
 #[inline(always)]
 #[tactic(auto, using(crate::proofs::FrontLemmas::values))]
@@ -373,32 +360,21 @@ fn cut_value(front: &[u8]) -> Option<(&[u8], &[u8])>
     }
 }
 
-/// Whether this is the last byte.
-#[inline(always)]
-fn ends_on(line: &[u8], byte: u8) -> bool {
-    let n = line.len();
-    n > 0 && line[n - 1] == byte
-}
-
 /// The reply that the last word of a line spells, and what stands before the space before it.
 #[inline(always)]
 #[tactic(auto, using(crate::proofs::FrontLemmas::ends))]
 fn cut_reply(line: &[u8]) -> Option<(&[u8], Reply)>
     ensures { IfSome result (λ p. EndsIn line.now p.0.now p.1) }
 {
-    if ends_on(line, b'e') {
-        if let Some(front) = line.strip_suffix(b" done".as_slice()) {
-            return Some((front, Reply::Done));
+    match line {
+        [.., b'e'] => Some((line.strip_suffix(b" done".as_slice())?, Reply::Done)),
+        [.., b'g'] => Some((line.strip_suffix(b" pending".as_slice())?, Reply::Pending)),
+        _ => {
+            let (front, answer) = cut_last(line)?;
+            let answer = number(answer)?;
+            Some((front, Reply::Number(answer)))
         }
     }
-    if ends_on(line, b'g') {
-        if let Some(front) = line.strip_suffix(b" pending".as_slice()) {
-            return Some((front, Reply::Pending));
-        }
-    }
-    let (front, answer) = cut_last(line)?;
-    let answer = number(answer)?;
-    Some((front, Reply::Number(answer)))
 }
 
 /// The last word of a line, and what stands before the space before it.
