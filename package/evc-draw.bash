@@ -1,0 +1,10 @@
+# Completes the words of evc-draw in bash: files only behind < and >, as it reads standard input.
+_evc_draw() {
+    COMPREPLY=()
+    case ${COMP_WORDS[COMP_CWORD - 1]} in
+    *[\<\>]) compopt -o default ;;
+    --from | --to | --worker | --object) ;;
+    *) COMPREPLY=($(compgen -W '--text --from --to --worker --object --help --version' -- "${COMP_WORDS[COMP_CWORD]}")) ;;
+    esac
+}
+complete -F _evc_draw evc-draw
