@@ -109,12 +109,15 @@ impl Key {
             && self.len == other.len
     }
 
-    /// A mark of the key, below 65536. Two keys mostly have different marks.
+    /// A mark of the key, below 65536, that depends on all of its words. Two keys mostly have different marks.
     #[inline(always)]
     pub(crate) fn mark(&self) -> usize {
-        let ends = self.first ^ self.last.rotate_left(21);
-        let all = ends ^ self.second.rotate_left(42) ^ self.third.rotate_left(11);
-        (all.wrapping_mul(0x9E37_79B9_7F4A_7C15) >> 48) as usize
+        let head = self.first.wrapping_sub(self.second.rotate_left(29));
+        let tail = self.last.wrapping_sub(self.third.rotate_left(29));
+        let mixed = head
+            .wrapping_mul(0x9E37_79B9_7F4A_7C15)
+            .wrapping_add(tail.wrapping_mul(0xC2B2_AE3D_27D4_EB4F));
+        (mixed >> 48) as usize
     }
 }
 
