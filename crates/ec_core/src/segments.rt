@@ -11,9 +11,10 @@ use std::mem;
 /// The greatest number of full segments: far more than fit in any memory.
 const SEGMENTS_MAX: usize = 1 << 51;
 
-/// A list that grows by segments, so that what stands in it never moves.
+/// A list of entries that grows by segments, so that what stands in it never moves. An entry takes 8 bytes in it, and 4 more for
+/// most numbers.
 #[derive(Drop)]
-pub(crate) struct Segments {
+pub struct Segments {
     full: Vec<Segment>,
     last: Segment,
 }
@@ -32,8 +33,8 @@ impl Model for Segments {
 }
 
 impl Segments {
-    /// An empty list, with room for the first segment.
-    pub(crate) fn open(alloc: Global) -> Result<Self, AllocError>
+    /// An empty list, with room for the first segment: 4096 entries.
+    pub fn open(alloc: Global) -> Result<Self, AllocError>
         ensures { IfOk result (λ list. list ≡ []) }
     {
         let last = Segment::open(alloc)?;
@@ -49,7 +50,7 @@ impl Segments {
     }
 
     /// How many entries it has.
-    pub(crate) fn len(&self) -> usize
+    pub fn len(&self) -> usize
         ensures { result ≡ length self.now }
     {
         self.full.len() * SEGMENT + self.last.len()
@@ -57,7 +58,7 @@ impl Segments {
 
     /// The entry at a place, counted from 0.
     #[inline(always)]
-    pub(crate) fn get(&self, i: usize) -> Option<Entry>
+    pub fn get(&self, i: usize) -> Option<Entry>
         ensures value { result ≡ slice_get self.now i }
         ensures within { IfSome result (λ _. i + 1 < 2 ^ 64) }
     {
@@ -77,7 +78,7 @@ impl Segments {
 
     /// Adds one entry at the end, or changes nothing.
     #[inline(always)]
-    pub(crate) fn push(&mut self, entry: Entry) -> Result<(), AllocError>
+    pub fn push(&mut self, entry: Entry) -> Result<(), AllocError>
         ensures ok { OnOk result (self.new ≡ self.old ++ entry ∷ []) }
         ensures err { OnErr result (self.new ≡ self.old) }
     {

@@ -1,7 +1,7 @@
 -- The scan that gathers the finished reads and awaits by their points.
 use Rattle.std.proofs.Common.{◌≡◌, ℕ, zero, suc, ◌+◌, ◌-◌, ◌<◌, ◌≤◌, inl, inr, Bool, true, false, not, ◌&&◌, is_some, List, [], ◌∷◌, ◌++◌, length, map, Option, Some, None, refl, ap, sym, ◌∙◌, arith, cond, subst, ◌==◌, append-nil, reverse, take, drop, take_all, slice_get, Vec, Global}
 use Rattle.std.specs.Option.{option_map, option_to_list}
-use Rattle.std.specs.List.{All, Contains, filter}
+use Rattle.std.specs.List.{All, Contains, filter, insert}
 use Rattle.std.proofs.lemmas.Bool.{eqb-true}
 use Rattle.std.proofs.lemmas.List.{map-append, length-reverse, reverse-append, reverse-reverse, take-append-drop}
 use Rattle.std.proofs.lemmas.List.Elements.{All-nil, All-cons, All-head, All-tail, All-contains, Contains-append_right, filter-append, filter_passes}
@@ -20,7 +20,7 @@ use Rattle.ec_order.specs.Calls.{call_of_entries, ended_by, finished_calls, is_r
 use Rattle.ec_order.specs.Points.{first_entries, first_moment, point_of, with_point, by_moments}
 use Rattle.ec_core.specs.Ongoing.{ongoing, AreCalls}
 use Rattle.ec_order.specs.Index.{point_in, IsIndex}
-use Rattle.ec_order.specs.Walk.{is_alone, reads, readings, readings_by_points, PutsIn}
+use Rattle.ec_order.specs.Walk.{is_alone, placed_point, reads, readings, readings_by_points, IsPlaceFor, PutsIn}
 use Rattle.ec_order.specs.Cuts.{IsFinishedCall}
 use Rattle.ec_order.specs.Readings.{Readings, IsOf, call_at, entry_or}
 use Rattle.ec_order.proofs.Points.{first_next}
@@ -101,7 +101,7 @@ alone_acts t x past alone (inl n) = (let other : is_alone x.act ≡ false = n.go
 alone_acts t x past alone (inr (inl r)) = (let other : is_alone x.act ≡ false = r.goes_on in cc)
 alone_acts t x past alone (inr (inr a)) = (a.final, a.begins)
 
-alone_leaves : (t : Tables) (x : Entry) (past : List Entry) (w : ℕ) → IsDeclared t → IsAccepted t (x ∷ past) → is_alone x.act ≡ true → under_way w (x ∷ past) ≡ under_way w past
+pub alone_leaves : (t : Tables) (x : Entry) (past : List Entry) (w : ℕ) → IsDeclared t → IsAccepted t (x ∷ past) → is_alone x.act ≡ true → under_way w (x ∷ past) ≡ under_way w past
 unfolding under_way
 alone_leaves t x past w d acc alone =
     let k = allowed t past x.worker x.act x.reply acc.0 in
@@ -112,9 +112,44 @@ alone_leaves t x past w d acc alone =
       | false ↦ λ e. refl
     ] refl
 
+-- a call that ends at an entry is one of those of the past with it
+known_call : (t : Tables) (x : Entry) (past : List Entry) (c : Call) → ended_by t x (call_with x past) ≡ option_to_list (Some c) → Contains (finished_calls t (x ∷ past)) c
+unfolding finished_calls
+known_call t x past c is =
+    Contains-append_right (finished_calls t past) (ended_by t x (gone_on x.act past (under_way x.worker past))) c (subst (λ cs. Contains cs c) (sym is) (zero, omega arith, refl))
+
+-- READS AND AWAITS WITH ONE MORE ENTRY
+
+-- a call by itself adds none
+pub readings_alone : (t : Tables) (x : Entry) (past : List Entry) → IsDeclared t → IsAccepted t (x ∷ past) → is_alone x.act ≡ true → readings t (x ∷ past) ≡ readings t past
+readings_alone t x past d acc alone =
+    added t x past d acc ∙ ap (λ qs. readings t past ++ qs) (alone_adds t x past (x ∷ past) alone (ends t x past d acc)) ∙ append-nil (readings t past)
+
+-- nor does an entry that ends no call
+pub readings_none : (t : Tables) (x : Entry) (past : List Entry) → IsDeclared t → IsAccepted t (x ∷ past) → ended_by t x (call_with x past) ≡ [] → readings t (x ∷ past) ≡ readings t past
+readings_none t x past d acc none =
+    added t x past d acc ∙ ap (λ cs. readings t past ++ filter reads (map (with_point (x ∷ past)) cs)) none ∙ append-nil (readings t past)
+
+-- the call that another one ends is put in
+pub readings_one : (t : Tables) (x : Entry) (past : List Entry) (c : Call) (lists : List (Vec ℕ Global)) (n at : ℕ) (ps : List Placed) → IsDeclared t → IsAccepted t (x ∷ past) → is_alone x.act ≡ false
+    → ended_by t x (call_with x past) ≡ c ∷ [] → IsIndex (x ∷ past) lists → length past < n → ps ≡ by_moments (readings t past) n → IsPlaceFor placed_point ps (point_in lists c) at
+    → insert ps at (record { call = c; point = point_in lists c }) ≡ by_moments (readings t (x ∷ past)) n
+readings_one t x past c lists n at ps d acc other is index lt same place =
+    let reading : is_reading c.op ≡ true = All-head (λ (c : Call). is_reading c.op ≡ true) c [] (subst (All (λ (c : Call). is_reading c.op ≡ true)) is (others_read t x past other (ends t x past d acc))) in
+    let known : Contains (finished_calls t (x ∷ past)) c = known_call t x past c is in
+    let fits : Fits (x ∷ past) c = All-contains (Fits (x ∷ past)) (finished_calls t (x ∷ past)) c (all_fit t (x ∷ past) d acc) known in
+    let p = with_point (x ∷ past) c in
+    let placed : record { call = c; point = point_in lists c } ≡ p = placed_is (x ∷ past) lists c index fits in
+    let one : readings t (x ∷ past) ≡ readings t past ++ p ∷ [] =
+    added t x past d acc ∙ ap (λ cs. readings t past ++ filter reads (map (with_point (x ∷ past)) cs)) is ∙ ap (λ b. readings t past ++ cond b (p ∷ []) []) reading in
+    let low : p.point < n = (let below : point_of (x ∷ past) c < suc (length past) = (point_bounds (x ∷ past) c fits).2 in omega arith) in
+    ap (insert ps at) placed
+    ∙ inserted (readings t past) ps p n at (filter_passes reads (map (with_point past) (finished_calls t past))) reading low same (subst (λ j. IsPlaceFor placed_point ps j at) (ap (λ (q : Placed). q.point) placed) place)
+    ∙ ap (λ qs. by_moments qs n) (sym one)
+
 -- THE SCAN
 
-by_moments_none : (n : ℕ) → by_moments [] n ≡ []
+pub by_moments_none : (n : ℕ) → by_moments [] n ≡ []
 unfolding by_moments
 by_moments_none zero = refl
 by_moments_none (suc n) = ap (λ ps. ps ++ []) (by_moments_none n)
@@ -137,8 +172,7 @@ gathered_alone t h i x calls lists lists' rs d acc at alone index s =
     let past = reverse (take i h) in
     let more : reverse (take (i + 1) h) ≡ x ∷ past = prefix_more h i x (sym at) in
     let acc' : IsAccepted t (x ∷ past) = subst (IsAccepted t) more (prefix_accepted t h (i + 1) acc) in
-    let same : readings t (reverse (take (i + 1) h)) ≡ readings t past =
-    ap (readings t) more ∙ added t x past d acc' ∙ ap (λ qs. readings t past ++ qs) (alone_adds t x past (x ∷ past) alone (ends t x past d acc')) ∙ append-nil (readings t past) in
+    let same : readings t (reverse (take (i + 1) h)) ≡ readings t past = ap (readings t) more ∙ readings_alone t x past d acc' alone in
     record {
       kept = λ w lt. s.kept w lt ∙ ap (λ o. Some (option_map (ongoing t) o)) (sym (ap (under_way w) more ∙ alone_leaves t x past w d acc' alone));
       index = index;
@@ -154,8 +188,7 @@ gathered_none t u h i x told calls calls' lists lists' rs d acc at index s same 
     let more : reverse (take (i + 1) h) ≡ x ∷ past = prefix_more h i x (sym at) in
     let acc' : IsAccepted t (x ∷ past) = subst (IsAccepted t) more (prefix_accepted t h (i + 1) acc) in
     let next = ended_next t u h i x told calls calls' acc at s.kept same ending in
-    let none : readings t (reverse (take (i + 1) h)) ≡ readings t past =
-    ap (readings t) more ∙ added t x past d acc' ∙ ap (λ cs. readings t past ++ filter reads (map (with_point (x ∷ past)) cs)) (next.call ∙ ap option_to_list is) ∙ append-nil (readings t past) in
+    let none : readings t (reverse (take (i + 1) h)) ≡ readings t past = ap (readings t) more ∙ readings_none t x past d acc' (next.call ∙ ap option_to_list is) in
     record { kept = subst (AreCalls t calls') (sym more) next.after; index = index; of = s.of; gathered = s.gathered ∙ ap (λ qs. by_moments qs (length h)) (sym none) }
 
 -- a finished call stands in its history where it says
@@ -171,12 +204,6 @@ cut_stands t h c k =
       last = slice_get_within h c.last k.closing k.closes;
       is = call_is (call_at h c.first c.round c.last) c worker op reply refl refl refl;
     }
-
--- a call that ends at an entry is one of those of the past with it
-known_call : (t : Tables) (x : Entry) (past : List Entry) (c : Call) → ended_by t x (call_with x past) ≡ option_to_list (Some c) → Contains (finished_calls t (x ∷ past)) c
-unfolding finished_calls
-known_call t x past c is =
-    Contains-append_right (finished_calls t past) (ended_by t x (gone_on x.act past (under_way x.worker past))) c (subst (λ cs. Contains cs c) (sym is) (zero, omega arith, refl))
 
 -- it stands in the history where it says
 pub call_stands : (t u : Tables) (h : List Entry) (i : ℕ) (x : Entry) (c : Call) (calls calls' : List (Option Ongoing)) (lists : List (Vec ℕ Global)) (rs : Readings) → IsDeclared t → IsAccepted t (reverse h)
@@ -194,30 +221,22 @@ call_stands t u h i x c calls calls' lists rs d acc at s same ending =
 -- where it ends one
 pub gathered_one : (t u : Tables) (h : List Entry) (i : ℕ) (x : Entry) (c : Call) (calls calls' : List (Option Ongoing)) (lists lists' ls : List (Vec ℕ Global)) (k : ℕ) (rs rs' : Readings) → IsDeclared t → IsAccepted t (reverse h)
     → Some x ≡ slice_get h i → is_alone x.act ≡ false → IsIndexed h (i + 1) lists' → IsGathered t h i calls lists rs → u ≡ t → Ending calls i x (Some c) calls' u
-    → ls ≡ lists' → k ≡ point_in ls c → PutsIn rs.placed rs'.placed (record { call = c; point = k }) → rs'.history ≡ rs.history → IsGathered t h (i + 1) calls' lists' rs'
+    → ls ≡ lists' → k ≡ point_in ls c → PutsIn placed_point rs.placed rs'.placed (record { call = c; point = k }) → rs'.history ≡ rs.history → IsGathered t h (i + 1) calls' lists' rs'
 gathered_one t u h i x c calls calls' lists lists' ls k rs rs' d acc at other index s same ending here there puts stays =
     let past = reverse (take i h) in
     let more : reverse (take (i + 1) h) ≡ x ∷ past = prefix_more h i x (sym at) in
     let acc' : IsAccepted t (x ∷ past) = subst (IsAccepted t) more (prefix_accepted t h (i + 1) acc) in
     let next = ended_next t u h i x (Some c) calls calls' acc at s.kept same ending in
-    let reading : is_reading c.op ≡ true = All-head (λ (c : Call). is_reading c.op ≡ true) c [] (subst (All (λ (c : Call). is_reading c.op ≡ true)) next.call (others_read t x past other (ends t x past d acc'))) in
-    let known : Contains (finished_calls t (x ∷ past)) c = known_call t x past c next.call in
-    let fits : Fits (x ∷ past) c = All-contains (Fits (x ∷ past)) (finished_calls t (x ∷ past)) c (all_fit t (x ∷ past) d acc') known in
-    let p = with_point (x ∷ past) c in
-    let one_at : ℕ → Placed = λ j. record { call = c; point = j } in
-    let placed : one_at k ≡ p = ap one_at (there ∙ ap (λ zs. point_in zs c) here) ∙ placed_is (x ∷ past) lists' c (subst (λ q. IsIndex q lists') more index.index) fits in
-    let one : readings t (reverse (take (i + 1) h)) ≡ readings t past ++ p ∷ [] =
-    ap (readings t) more ∙ added t x past d acc' ∙ ap (λ cs. readings t past ++ filter reads (map (with_point (x ∷ past)) cs)) next.call ∙ ap (λ b. readings t past ++ cond b (p ∷ []) []) reading in
+    let at' : ℕ → Placed = λ j. record { call = c; point = j } in
+    let puts' : PutsIn placed_point rs.placed rs'.placed (at' (point_in lists' c)) = subst (λ j. PutsIn placed_point rs.placed rs'.placed (at' j)) (there ∙ ap (λ zs. point_in zs c) here) puts in
     let in' : i < length h = slice_get_within h i x (sym at) in
     let long : i ≡ length past = prefix_long h i x (sym at) in
-    let low : p.point < length h = (let below : point_of (x ∷ past) c < suc (length past) = (point_bounds (x ∷ past) c fits).2 in omega arith) in
-    let puts' : PutsIn rs.placed rs'.placed p = subst (PutsIn rs.placed rs'.placed) placed puts in
     record {
       kept = subst (AreCalls t calls') (sym more) next.after;
       index = index;
       of = stays ∙ s.of;
-      gathered = puts'.is ∙ inserted (readings t past) rs.placed p (length h) puts'.at (filter_passes reads (map (with_point past) (finished_calls t past))) reading low s.gathered puts'.place
-          ∙ ap (λ qs. by_moments qs (length h)) (sym one);
+      gathered = puts'.is ∙ readings_one t x past c lists' (length h) puts'.at rs.placed d acc' other next.call (subst (λ q. IsIndex q lists') more index.index) (omega arith) s.gathered puts'.place
+          ∙ ap (λ z. by_moments (readings t z) (length h)) (sym more);
     }
 
 -- at the end of the history

@@ -1,5 +1,5 @@
 -- The scan that fills the index of the advances.
-use Rattle.std.proofs.Common.{◌≡◌, ◌≢◌, ℕ, zero, suc, ◌+◌, ◌<◌, true, false, List, [], ◌∷◌, ◌++◌, length, Some, None, map, refl, ap, sym, ◌∙◌, arith, cond, ◌==◌, reverse, take, get_or, set, slice_get, append-nil, Vec, Global, get_or-set_same, get_or-set_other, length-set}
+use Rattle.std.proofs.Common.{◌≡◌, ◌≢◌, ℕ, zero, suc, ◌+◌, ◌<◌, true, false, List, [], ◌∷◌, ◌++◌, length, Some, None, map, refl, ap, sym, ◌∙◌, arith, cond, subst, ◌==◌, reverse, take, get_or, set, slice_get, append-nil, Vec, Global, get_or-set_same, get_or-set_other, length-set}
 use Rattle.std.specs.List.{All}
 use Rattle.std.proofs.lemmas.Bool.{eqb-true, eqb-false}
 use Rattle.std.proofs.lemmas.List.{map-set, length-map, get_or-map}
@@ -71,13 +71,16 @@ noted_one lists lists' act moment e v raised low items is = record {
       ∙ ap (λ b. moments_in lists f ++ cond b (moment ∷ []) []) (sym (raises act f e (sym raised)));
 }
 
-pub indexed_more : (h : List Entry) (i : ℕ) (x : Entry) (lists lists' : List (Vec ℕ Global)) → Some x ≡ slice_get h i → IsIndexed h i lists → NotesAct lists x.act (i + 1) lists' → IsIndexed h (i + 1) lists'
+pub index_next : (x : Entry) (past : List Entry) (i : ℕ) (lists lists' : List (Vec ℕ Global)) → i ≡ length past → IsIndex past lists → NotesAct lists x.act (i + 1) lists' → IsIndex (x ∷ past) lists'
 unfolding advanced
+index_next x past i lists lists' here s notes = λ e lt.
+    notes.moments e ∙ ap (λ ms. ms ++ cond (is_advance e x.act) ((i + 1) ∷ []) []) (s e lt)
+    ∙ ap (λ k. advanced e past ++ cond (is_advance e x.act) ((k + 1) ∷ []) []) here
+
+pub indexed_more : (h : List Entry) (i : ℕ) (x : Entry) (lists lists' : List (Vec ℕ Global)) → Some x ≡ slice_get h i → IsIndexed h i lists → NotesAct lists x.act (i + 1) lists' → IsIndexed h (i + 1) lists'
 indexed_more h i x lists lists' at s notes =
     let past = reverse (take i h) in
     record {
       long = notes.long ∙ s.long;
-      index = λ e lt.
-          notes.moments e ∙ ap (λ ms. ms ++ cond (is_advance e x.act) ((i + 1) ∷ []) []) (s.index e lt)
-          ∙ ap (λ k. advanced e past ++ cond (is_advance e x.act) ((k + 1) ∷ []) []) (prefix_long h i x (sym at)) ∙ ap (advanced e) (sym (prefix_more h i x (sym at)));
+      index = subst (λ q. IsIndex q lists') (sym (prefix_more h i x (sym at))) (index_next x past i lists lists' (prefix_long h i x (sym at)) s.index notes);
     }

@@ -2,7 +2,7 @@
 ghost use Rattle.std.specs.Prelude.{◌≡◌, ◌<◌, ◌≤◌, length, reverse, slice_get, Some, MatchBool, IfOk, OnOk};
 ghost use Rattle.ec_order.specs.declared.placed.Placed.{Placed};
 ghost use Rattle.ec_order.specs.Readings.{IsOf};
-ghost use Rattle.ec_order.specs.Walk.{is_alone, readings_by_points, IsPlaceFor, PutsIn};
+ghost use Rattle.ec_order.specs.Walk.{is_alone, placed_point, readings_by_points, IsPlaceFor, PutsIn};
 
 use crate::index::{no_moments, note, point};
 use crate::readings::Readings;
@@ -36,7 +36,7 @@ fn is_after(readings: &Readings<'_>, at: usize, moment: usize) -> bool
 /// The place behind the last reading whose point is not after a moment. It is looked for from the end, since reads and
 /// awaits come by their last entries: a reading is passed at most 15 times, once for each call then under way.
 fn place_for(readings: &Readings<'_>, moment: usize) -> usize
-    ensures { IsPlaceFor readings.now.placed moment result }
+    ensures { IsPlaceFor placed_point readings.now.placed moment result }
 {
     for at in (0..readings.len()).rev() {
         if !is_after(readings, at, moment) {
@@ -49,7 +49,7 @@ fn place_for(readings: &Readings<'_>, moment: usize) -> usize
 /// Puts a call of the run in behind those whose point is not after its own.
 fn put_in(readings: &mut Readings<'_>, call: Call, point: usize) -> Result<(), AllocError>
     requires { IsOf readings.old.history call }
-    ensures puts { OnOk result (PutsIn readings.old.placed readings.new.placed (record { call = call; point = point })) }
+    ensures puts { OnOk result (PutsIn placed_point readings.old.placed readings.new.placed (record { call = call; point = point })) }
     ensures history { OnOk result (readings.new.history ≡ readings.old.history) }
 {
     let at = place_for(readings, point);
@@ -67,7 +67,7 @@ pub(crate) fn readings_by_points<'a>(
 {
     run.known();
     let mut under_way = Calls::new();
-    let mut lists = no_moments(alloc, run)?;
+    let mut lists = no_moments(alloc)?;
     let mut readings = Readings::new(alloc, run);
     for i in 0..run.len() {
         if let Some(entry) = run.entry(i) {

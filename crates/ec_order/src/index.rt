@@ -5,7 +5,6 @@ ghost use Rattle.ec_order.specs.Index.{moment_of, moments_in, IsIndex, NotesAct,
 
 use crate::Call;
 use ec_core::{Act, Reply, Run};
-use ec_count::EventId;
 use std::alloc::{AllocError, Global};
 
 /// The number that a reply tells; 0 where it tells none.
@@ -32,7 +31,8 @@ fn advanced(act: Act) -> Option<usize>
 /// Adds a moment to those of eventcount e.
 fn add_moment(lists: &mut Vec<Vec<usize>>, event: usize, moment: usize) -> Result<(), AllocError>
     requires { event < length lists.old.items }
-    ensures { OnOk result ((v : _)
+    ensures long { length lists.new.items ≡ length lists.old.items }
+    ensures added { OnOk result ((v : _)
         × (v.items ≡ moments_in lists.old.items event ++ moment ∷ [])
         × (lists.new.items ≡ slice_set lists.old.items event v)) }
 {
@@ -44,7 +44,8 @@ fn add_moment(lists: &mut Vec<Vec<usize>>, event: usize, moment: usize) -> Resul
 /// Adds the moment after an act to those of the eventcount that it advances, if it advances one.
 pub(crate) fn note(lists: &mut Vec<Vec<usize>>, act: Act, moment: usize) -> Result<(), AllocError>
     requires { length lists.old.items ≡ 32 }
-    ensures { OnOk result (NotesAct lists.old.items act moment lists.new.items) }
+    ensures long { length lists.new.items ≡ 32 }
+    ensures notes { OnOk result (NotesAct lists.old.items act moment lists.new.items) }
 {
     if let Some(event) = advanced(act) {
         add_moment(lists, event, moment)?;
@@ -52,25 +53,14 @@ pub(crate) fn note(lists: &mut Vec<Vec<usize>>, act: Act, moment: usize) -> Resu
     Ok(())
 }
 
-/// An empty list with room for the moments after the advances of eventcount e.
-fn room_for(alloc: Global, run: &Run, event: usize) -> Result<Vec<usize>, AllocError>
-    ensures { IfOk result (λ list. list.items ≡ []) }
-{
-    let total = match EventId::new(event) {
-        Some(event) => run.world().total(event).unwrap_or(0),
-        None => 0,
-    };
-    Vec::with_capacity(alloc, total as usize)
-}
-
-/// An index with no moment, with room for those of the run.
-pub(crate) fn no_moments(alloc: Global, run: &Run) -> Result<Vec<Vec<usize>>, AllocError>
+/// An index with no moment.
+pub(crate) fn no_moments(alloc: Global) -> Result<Vec<Vec<usize>>, AllocError>
     ensures long { IfOk result (λ ls. length ls.items ≡ 32) }
     ensures value { IfOk result (λ ls. (e : ℕ) → moments_in ls.items e ≡ []) }
 {
     let mut lists = Vec::new(alloc);
     for event in 0..32usize {
-        lists.push(room_for(alloc, run, event)?)?;
+        lists.push(Vec::new(alloc))?;
     }
     Ok(lists)
 }
@@ -80,7 +70,7 @@ pub(crate) fn index(alloc: Global, run: &Run) -> Result<Vec<Vec<usize>>, AllocEr
     ensures long { IfOk result (λ ls. length ls.items ≡ 32) }
     ensures value { IfOk result (λ ls. IsIndex (reverse run.now.entries) ls.items) }
 {
-    let mut lists = no_moments(alloc, run)?;
+    let mut lists = no_moments(alloc)?;
     for i in 0..run.len() {
         if let Some(entry) = run.entry(i) {
             note(&mut lists, entry.act, i + 1)?;

@@ -7,8 +7,8 @@ use crate::histories::{
     TOTAL_IN_THE_MIDDLE, TWO_READS,
 };
 use crate::ids::worker;
-use ec_core::{Calls, Run};
-use ec_order::{Call, Placed, Verdict, calls, in_order, order, verify};
+use ec_core::{Calls, Entry, Run, walk};
+use ec_order::{Call, Dated, Placed, Timeline, Verdict, calls, in_order, order, verify};
 use std::alloc::Global;
 use std::test::Fail;
 
@@ -78,13 +78,46 @@ pub(crate) fn is_judged(alloc: Global, run: &Run, placed: &[Placed], right: Verd
     verdict == right
 }
 
+/// Whether this is a placed call, told as one entry.
+fn is_dated(dated: &Dated, placed: &Placed) -> bool {
+    dated.point == placed.point
+        && dated.entry
+            == Entry {
+                worker: placed.call.worker,
+                act: placed.call.op,
+                reply: placed.call.reply,
+            }
+}
+
+/// Whether a timeline to which the entries of a run were handed tells these calls, one after another.
+pub(crate) fn are_timed(alloc: Global, run: &Run, placed: &[Placed]) -> bool {
+    let Ok(mut timeline) = Timeline::open(alloc, run.setup()) else {
+        return false;
+    };
+    walk(run, &mut timeline);
+    let Ok(mut calls) = timeline.calls() else {
+        return false;
+    };
+    for right in placed {
+        let Some(dated) = calls.next() else {
+            return false;
+        };
+        if !is_dated(&dated, right) {
+            return false;
+        }
+    }
+    calls.next().is_none()
+}
+
 /// Whether what a row asks of the order of a run is right.
 fn is_ordered(alloc: Global, run: &Run, row: &Row) -> bool {
     let Ok(placed) = order(alloc, run) else {
         return false;
     };
     match *row {
-        Row::Order(lines) => is_order(placed.as_slice(), lines),
+        Row::Order(lines) => {
+            is_order(placed.as_slice(), lines) && are_timed(alloc, run, placed.as_slice())
+        }
         Row::Places(many, lines) => has_places(placed.as_slice(), many, lines),
         Row::Good => is_judged(alloc, run, placed.as_slice(), Verdict::Good),
         _ => false,

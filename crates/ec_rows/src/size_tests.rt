@@ -5,7 +5,7 @@ use crate::drive::Ask::{Advance, Read, Ticket};
 use crate::drive::Told::Number;
 use crate::drive::{Line, Sight, Step, World, are_right, declared, go_on, right, run_on, sees};
 use crate::ids::worker;
-use crate::order_tests::{self, are_shown};
+use crate::order_tests::{self, are_shown, are_timed};
 use crate::semaphores::{Shapes, down_both, shapes_in};
 use crate::steps_tests::shows_without_the_third;
 use crate::{board_tests, buffer_tests, database_tests};
@@ -133,7 +133,7 @@ static ORDERED: [order_tests::Row; 3] = [
     ),
 ];
 
-/// Whether the order of a run is the same as one call after another.
+/// Whether the order of a run is the same as one call after another, and as what a timeline tells.
 fn is_the_same_order(alloc: Global, run: &Run) -> bool {
     let Ok(placed) = order(alloc, run) else {
         return false;
@@ -146,7 +146,7 @@ fn is_the_same_order(alloc: Global, run: &Run) -> bool {
             return false;
         }
     }
-    calls.next().is_none()
+    calls.next().is_none() && are_timed(alloc, run, placed.as_slice())
 }
 
 #[test]

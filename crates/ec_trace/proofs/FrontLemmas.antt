@@ -17,7 +17,7 @@ use Rattle.ec_text.proofs.shared.NumberLemmas.{guarded}
 use Rattle.ec_heading.specs.Spelled.{Named, event_in, sequencer_in, cell_in_word}
 use Rattle.ec_heading.specs.Lists.{worker_in}
 use Rattle.ec_trace.specs.Entries.{◌>>=◌, act_alone, act_on, act_with, reply_of, entry_by, entry_in, entry_of}
-use Rattle.ec_trace.specs.Fronts.{with_reply, with_value, with_both, is_valued, headed, HasFront, HasValue, EndsIn, Tells, TellsWhole, TellsValued, IsKept, AreKept}
+use Rattle.ec_trace.specs.Fronts.{with_reply, with_value, with_both, is_valued, headed, HasFront, HasValue, EndsIn, Tells, IsKept, AreKept}
 use Rattle.ec_trace.specs.Keys.{text_of}
 use Rattle.ec_trace.specs.declared.key.Key.{Key}
 use Rattle.ec_trace.specs.declared.fronts.Front.{Front}
@@ -235,11 +235,11 @@ opens names line front opening value e has cut h valued =
     }
 
 -- a known opening, and the value and the reply behind it
-pub opened : (names : Named) (line front opening value : List ℕ) (w : ℕ) (a : Act) (r : Reply) → EndsIn line front r → HasValue front opening value → TellsValued names opening w a
-    → entry_of names line ≡ with_both w a (number_of value) (Some r)
-opened names line front opening value w a r ends cut tell =
+pub opened : (names : Named) (line front opening value : List ℕ) (w : ℕ) (a : Act) (n : ℕ) (r : Reply) → EndsIn line front r → HasValue front opening value → Tells names opening w a → is_valued a ≡ true → number_of value ≡ Some n
+    → entry_of names line ≡ Some (record { worker = w; act = with_value a n; reply = r })
+opened names line front opening value w a n r ends cut tell valued known =
     let is : line ≡ headed opening value ++ 32 ∷ ends.0 = ends.1 ∙ ap (λ (f : List ℕ). f ++ 32 ∷ ends.0) cut.0 in
-    ap (entry_of names) is ∙ tell value ends.0 cut.1 ends.2 ∙ ap (with_both w a (number_of value)) ends.3
+    ap (entry_of names) is ∙ tell.valued valued value ends.0 cut.1 ends.2 ∙ ap (λ (o : Option ℕ). with_both w a o (reply_of ends.0)) known ∙ ap (with_reply w (with_value a n)) ends.3
 
 -- what stands before a reply that was found at the end
 before : (line front tail : List ℕ) → bytes_eq (drop (length line - length tail) line) tail ≡ true → front ≡ take (length line - length tail) line → line ≡ front ++ tail
@@ -269,9 +269,6 @@ pub ends_number : (line front answer : List ℕ) (n : ℕ) → line ≡ front ++
 ends_number line front answer n is word h = (answer, is, word, spells_number answer n _ _ refl refl h)
 
 pub ruleset ends = (ends_done, ends_pending)
-
-pub has_front : (line front : List ℕ) (r : Reply) → EndsIn line front r → HasFront line front
-has_front line front r ends = (ends.0, ends.1, ends.2)
 
 -- a known front without a value, and the reply behind it
 pub told : (names : Named) (line front : List ℕ) (w : ℕ) (a : Act) (r : Reply) → EndsIn line front r → Tells names front w a → is_valued a ≡ false → entry_of names line ≡ Some (record { worker = w; act = a; reply = r })

@@ -1,5 +1,5 @@
 -- What follows as the reading of a text goes on, and at each of its ends.
-use Rattle.std.proofs.Common.{◌≡◌, ◌≢◌, ℕ, ◌+◌, ◌-◌, ◌<◌, ◌≤◌, List, [], ◌∷◌, ◌++◌, length, take, Bool, true, false, eqb, ltb, refl, sym, ap, ◌∙◌, arith, Option, Some, None, IfSome, Ok, Err, length-append, append_assoc, append-nil, lt-ltb, le-ltb, subst}
+use Rattle.std.proofs.Common.{◌≡◌, ◌≢◌, ℕ, ◌+◌, ◌-◌, ◌<◌, ◌≤◌, List, [], ◌∷◌, ◌++◌, length, take, Bool, true, false, eqb, ltb, refl, sym, ap, ◌∙◌, arith, Option, Some, None, Ok, Err, length-append, append_assoc, append-nil, lt-ltb, le-ltb, subst}
 use Rattle.std.proofs.Math.Seq.{take-append-add, take-append_seam}
 use Rattle.std.proofs.lemmas.Bool.{cond-true, cond-false}
 use Rattle.std.proofs.lemmas.Bool.Decides.{nat_tests}

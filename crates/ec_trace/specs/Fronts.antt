@@ -46,18 +46,11 @@ headed opening value = (opening ++ 32 ∷ value) ++ 32 ∷ codes "="
 abbrev pub HasValue : List ℕ → List ℕ → List ℕ → Type 0
 HasValue front opening value = (front ≡ headed opening value) × IsWord value
 
--- whatever word follows, the entry is of this worker and this act, and that word spells its reply
-abbrev pub TellsWhole : Named → List ℕ → ℕ → Act → Type 0
-TellsWhole names front w a = (answer : List ℕ) → IsWord answer → entry_of names (front ++ 32 ∷ answer) ≡ with_reply w a (reply_of answer)
-
--- whatever words follow as value and reply, they spell those of the entry, which is of this worker and such an act
-abbrev pub TellsValued : Named → List ℕ → ℕ → Act → Type 0
-TellsValued names opening w a = (value answer : List ℕ) → IsWord value → IsWord answer → entry_of names (headed opening value ++ 32 ∷ answer) ≡ with_both w a (number_of value) (reply_of answer)
-
--- the first of these for an act without a value, else the second
+-- whatever word follows, the entry is of this worker and this act, and that word spells its reply; and of an act with a value, whatever words
+-- follow as value and reply, they spell those of the entry
 pub record Tells (names : Named) (front : List ℕ) (w : ℕ) (a : Act) : Type 0 where
-  pub whole : is_valued a ≡ false → TellsWhole names front w a
-  pub valued : is_valued a ≡ true → TellsValued names front w a
+  pub whole : is_valued a ≡ false → (answer : List ℕ) → IsWord answer → entry_of names (front ++ 32 ∷ answer) ≡ with_reply w a (reply_of answer)
+  pub valued : is_valued a ≡ true → (value answer : List ℕ) → IsWord value → IsWord answer → entry_of names (headed front value ++ 32 ∷ answer) ≡ with_both w a (number_of value) (reply_of answer)
 
 -- what is kept at a place tells its worker and its act, where it has the key of a front
 abbrev pub IsKept : Named → Front → Type 0

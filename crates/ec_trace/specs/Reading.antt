@@ -15,7 +15,7 @@ use Rattle.ec_trace.specs.declared.read.TheConstants.{TRACE_MAX}
 use Rattle.ec_trace.specs.Histories.{history_of}
 use Rattle.ec_trace.specs.Recounted.{Recounted}
 use Rattle.ec_trace.specs.Stages.{Stage, Running}
-use Rattle.ec_trace.specs.Step.{step, StepFails}
+use Rattle.ec_trace.specs.Step.{step, entry_step, StepFails}
 use Rattle.ec_trace.specs.Outcome.{Place, goes, goes_from, parts_of, start, taken, outcome, Tells}
 
 -- how far the reading of a text has come
@@ -121,6 +121,10 @@ IsOpened xs left r h = Reaches xs left r (Running (record { heading = h; entries
 abbrev pub TakesEntry : Headed → (List Entry → Type 0) → Result Recounted LineFault → Result (Unit {0}) StageFault → Type 0
 TakesEntry h after stepped (Ok x) = (entries : List Entry) × (stepped ≡ Ok (record { heading = h; entries = entries })) × after entries
 TakesEntry h after stepped (Err fault) = StepFails fault stepped
+
+-- whatever history stood there, a line was taken as its next entry; or the fault of the line
+abbrev pub TakesLine : {S : Type 0} → (S → S → Recorded → Type 0) → Headed → S → S → List ℕ → Result (Unit {0}) StageFault → Type 0
+TakesLine {S} stands h old new line r = (first : S) (entries : List Entry) → stands first old (history_of h entries) → TakesEntry h (λ es. stands first new (history_of h es)) (entry_step (record { heading = h; entries = entries }) line) r
 
 -- the input is the trace of a history under this heading, of which this is so; or its fault is told
 abbrev pub Recounts : List ℕ → Option (List ℕ) → Headed → (Recorded → Type 0) → Result (Unit {0}) TraceFault → Type 0

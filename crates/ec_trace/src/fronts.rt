@@ -6,7 +6,7 @@
 ghost use Rattle.std.specs.Prelude.{◌≡◌, ◌≤◌, ℕ, List, Some, ◌++◌, ◌∷◌, IfOk, IfSome};
 ghost use Rattle.ec_text.specs.Words.{IsWord};
 ghost use Rattle.ec_trace.specs.Entries.{entry_of};
-ghost use Rattle.ec_trace.specs.Fronts.{HasFront, HasValue, EndsIn, Tells, TellsWhole, TellsValued, IsKept, AreKept, is_valued, with_value, with_both};
+ghost use Rattle.ec_trace.specs.Fronts.{HasFront, HasValue, EndsIn, Tells, IsKept, AreKept, is_valued, with_value};
 ghost use Rattle.ec_trace.specs.Keys.{text_of};
 ghost use Rattle.ec_heading.specs.Spelled.{Named};
 
@@ -213,97 +213,49 @@ impl Fronts {
         self.keep(opening, entry);
     }
 
-    /// The entry that a line spells, whose front is kept.
-    #[cold]
-    #[inline(never)]
-    fn read_anew(&mut self, heading: &Heading, line: &[u8], front: &[u8]) -> Option<Entry>
-        requires { HasFront line.now front.now }
+    /// The entry that a line spells, whose front is kept then.
+    pub(crate) fn read_anew(&mut self, heading: &Heading, line: &[u8]) -> Option<Entry>
         ensures value { result ≡ entry_of heading.now.words line.now }
         ensures kept { AreKept heading.now.words self.old → AreKept heading.now.words self.new }
     {
         let entry = read_entry(heading, line)?;
-        self.keep_part(front, &entry);
+        if let Some((front, _reply)) = cut_reply(line) {
+            self.keep_part(front, &entry);
+        }
         Some(entry)
     }
 
-    /// The worker and an act of what stands before a value, where it was read lately.
+    /// The entry that a front without a value spells with a reply, where it was read lately.
     #[inline(always)]
-    fn find_opening(&self, opening: &[u8]) -> Option<(WorkerId, Act)>
-        ensures { (names : Named) → AreKept names self.now → IfSome result (λ p. TellsValued names opening.now p.0 p.1) }
+    pub(crate) fn whole(&self, front: &[u8], reply: Reply) -> Option<Entry>
+        ensures { (names : Named) (line : List ℕ) → AreKept names self.now → EndsIn line front.now reply → IfSome result (λ e. entry_of names line ≡ Some e) }
     {
+        let known = self.find(front)?;
+        if is_valued(&known.act) {
+            return None;
+        }
+        Some(Entry {
+            worker: known.worker,
+            act: known.act,
+            reply,
+        })
+    }
+
+    /// The entry that a front with a value spells with a reply, where what stands before the value was read lately.
+    #[inline(always)]
+    pub(crate) fn valued(&self, front: &[u8], reply: Reply) -> Option<Entry>
+        ensures { (names : Named) (line : List ℕ) → AreKept names self.now → EndsIn line front.now reply → IfSome result (λ e. entry_of names line ≡ Some e) }
+    {
+        let (opening, value) = cut_value(front)?;
         let known = self.find(opening)?;
         if !is_valued(&known.act) {
             return None;
         }
-        Some((known.worker, known.act))
-    }
-
-    /// The entry that a line spells whose front has no value, or is a new one.
-    #[inline(always)]
-    #[tactic(auto, using(crate::proofs::FrontLemmas::has_front, crate::proofs::FrontLemmas::told))]
-    fn read_whole(
-        &mut self,
-        heading: &Heading,
-        line: &[u8],
-        front: &[u8],
-        reply: Reply,
-    ) -> Option<Entry>
-        requires kept { AreKept heading.now.words self.old }
-        requires ends { EndsIn line.now front.now reply }
-        ensures value { result ≡ entry_of heading.now.words line.now }
-        ensures kept { AreKept heading.now.words self.new }
-    {
-        match self.find(front) {
-            Some(known) if !is_valued(&known.act) => Some(Entry {
-                worker: known.worker,
-                act: known.act,
-                reply,
-            }),
-            _ => self.read_anew(heading, line, front),
-        }
-    }
-
-    /// The entry that a line spells whose front perhaps has a value.
-    #[inline(never)]
-    #[tactic(auto, using(crate::proofs::FrontLemmas::opened))]
-    fn read_value(
-        &mut self,
-        heading: &Heading,
-        line: &[u8],
-        front: &[u8],
-        reply: Reply,
-    ) -> Option<Entry>
-        requires kept { AreKept heading.now.words self.old }
-        requires ends { EndsIn line.now front.now reply }
-        ensures value { result ≡ entry_of heading.now.words line.now }
-        ensures kept { AreKept heading.now.words self.new }
-    {
-        let Some((opening, value)) = cut_value(front) else {
-            return self.read_whole(heading, line, front, reply);
-        };
-        match self.find_opening(opening) {
-            Some((worker, act)) => with_both(worker, act, number(value), reply),
-            None => self.read_whole(heading, line, front, reply),
-        }
-    }
-
-    /// The entry that a line without its LF spells, if it spells one.
-    #[inline(always)]
-    pub(crate) fn read(&mut self, heading: &Heading, line: &[u8]) -> Option<Entry>
-        requires { AreKept heading.now.words self.old }
-        ensures value { result ≡ entry_of heading.now.words line.now }
-        ensures kept { AreKept heading.now.words self.new }
-    {
-        let Some((front, reply)) = cut_reply(line) else {
-            return read_entry(heading, line);
-        };
-        // (before the ` =` that ends a front a value ends in a digit, and of other words a name may)
-        match front {
-            [.., last, _, _] if last.is_ascii_digit() => {
-                self.read_value(heading, line, front, reply)
-            }
-            _ => self.read_whole(heading, line, front, reply),
-        }
+        Some(Entry {
+            worker: known.worker,
+            act: with_value(known.act, number(value)?),
+            reply,
+        })
     }
 }
 
@@ -331,21 +283,6 @@ fn with_value(act: Act, value: u64) -> Act
     }
 }
 
-/// The entry of a worker and an act with this value, where there is one, and a reply.
-#[inline(always)]
-fn with_both(worker: WorkerId, act: Act, value: Option<u64>, reply: Reply) -> Option<Entry>
-    ensures { result ≡ with_both worker act value (Some reply) }
-{
-    match value {
-        None => None,
-        Some(value) => Some(Entry {
-            worker,
-            act: with_value(act, value),
-            reply,
-        }),
-    }
-}
-
 /// The last word before the `=` that ends a front, where it begins with a digit, and what stands before the space before it.
 #[inline(always)]
 #[tactic(auto, using(crate::proofs::FrontLemmas::values))]
@@ -363,7 +300,7 @@ fn cut_value(front: &[u8]) -> Option<(&[u8], &[u8])>
 /// The reply that the last word of a line spells, and what stands before the space before it.
 #[inline(always)]
 #[tactic(auto, using(crate::proofs::FrontLemmas::ends))]
-fn cut_reply(line: &[u8]) -> Option<(&[u8], Reply)>
+pub(crate) fn cut_reply(line: &[u8]) -> Option<(&[u8], Reply)>
     ensures { IfSome result (λ p. EndsIn line.now p.0.now p.1) }
 {
     match line {

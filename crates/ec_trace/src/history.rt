@@ -66,11 +66,12 @@ impl<A: Audit> Watched<A> {
         }
     }
 
-    /// The audit, with what it gathered.
-    pub fn into_audit(self) -> A
-        ensures { result ≡ self.audit }
+    /// The world after the last step, and the audit, with what it gathered.
+    pub fn into_parts(self) -> (World, A)
+        ensures world { result.0 ≡ self.world }
+        ensures audit { result.1 ≡ self.audit }
     {
-        self.audit
+        (self.world, self.audit)
     }
 }
 

@@ -1,21 +1,21 @@
 //! A whole trace, from a reader.
-ghost use Rattle.std.specs.Prelude.{◌≡◌, ℕ, List, [], IfSome, IfOk, IfErr, OnOk, MatchResult, Err};
+ghost use Rattle.std.specs.Prelude.{◌≡◌, ℕ, List, [], Some, IfSome, IfOk, IfErr, OnOk, MatchResult, Err};
 ghost use Rattle.ec_core.specs.declared.act.Entry.{Entry};
 ghost use Rattle.ec_heading.specs.Versions.{can_spell};
-ghost use Rattle.ec_trace.specs.Fronts.{AreKept};
+ghost use Rattle.ec_trace.specs.Entries.{entry_of};
+ghost use Rattle.ec_trace.specs.Fronts.{AreKept, EndsIn};
 ghost use Rattle.ec_trace.specs.Histories.{history_of};
 ghost use Rattle.ec_trace.specs.Outcome.{Tells, fault_at};
-ghost use Rattle.ec_trace.specs.Reading.{IsOpened, TakesEntry, Recounts};
+ghost use Rattle.ec_trace.specs.Reading.{IsOpened, TakesLine, Recounts};
 ghost use Rattle.ec_trace.specs.ReadingLaws.{IsTraceOf, Refuses};
-ghost use Rattle.ec_trace.specs.Step.{entry_step};
 
 use crate::fault::{LineFault, StageFault, TraceFault};
-use crate::fronts::Fronts;
+use crate::fronts::{Fronts, cut_reply};
 use crate::history::History;
 use crate::lines::Lines;
 use crate::opening::{Opened, open_trace};
 use crate::traced::Traced;
-use ec_core::{Act, Run, StepFault};
+use ec_core::{Act, Entry, Reply, Run, StepFault};
 use ec_heading::{Heading, Version};
 use std::alloc::Global;
 use std::io::Read;
@@ -46,22 +46,11 @@ fn fault_at(number: u64, fault: StageFault) -> TraceFault
     }
 }
 
-/// Takes the next entry, by its line.
+/// Has the step of an entry made, and compares what it is told with the reply in its line.
 #[inline(always)]
-fn take_entry<H: History>(
-    heading: &Heading,
-    fronts: &mut Fronts,
-    history: &mut H,
-    line: &[u8],
-) -> Result<(), StageFault>
-    requires { AreKept heading.now.words fronts.old }
-    ensures kept { OnOk result (AreKept heading.now.words fronts.new) }
-    ensures takes { (start : H) (entries : List Entry) → H.stands start history.old (history_of heading.now entries)
-        → TakesEntry heading.now (λ es. H.stands start history.new (history_of heading.now es)) (entry_step (record { heading = heading.now; entries = entries }) line.now) result }
+fn enter<H: History>(heading: &Heading, history: &mut H, entry: &Entry) -> Result<(), StageFault>
+    ensures { (line : List ℕ) → entry_of heading.now.words line ≡ Some entry.now → TakesLine H.stands heading.now history.old history.new line result }
 {
-    let Some(entry) = fronts.read(heading, line) else {
-        return Err(StageFault::Line(LineFault::Bad));
-    };
     if !can_spell(heading.version(), &entry.act) {
         return Err(StageFault::Line(LineFault::Bad));
     }
@@ -75,6 +64,92 @@ fn take_entry<H: History>(
         }
         Err(StepFault::Refused(refusal)) => Err(StageFault::Line(LineFault::Refused(refusal))),
         Err(StepFault::Memory) => Err(StageFault::Memory),
+    }
+}
+
+/// Takes an entry whose line is read word by word. (Each way to an entry has its own `enter`, so that what is kept of a front
+/// goes there in registers.)
+#[cold]
+#[inline(never)]
+fn take_anew<H: History>(
+    heading: &Heading,
+    fronts: &mut Fronts,
+    history: &mut H,
+    line: &[u8],
+) -> Result<(), StageFault>
+    requires { AreKept heading.now.words fronts.old }
+    ensures kept { AreKept heading.now.words fronts.new }
+    ensures takes { TakesLine H.stands heading.now history.old history.new line.now result }
+{
+    let Some(entry) = fronts.read_anew(heading, line) else {
+        return Err(StageFault::Line(LineFault::Bad));
+    };
+    enter(heading, history, &entry)
+}
+
+/// Takes an entry whose front has no value, or is a new one.
+#[inline(always)]
+fn take_whole<H: History>(
+    heading: &Heading,
+    fronts: &mut Fronts,
+    history: &mut H,
+    line: &[u8],
+    front: &[u8],
+    reply: Reply,
+) -> Result<(), StageFault>
+    requires kept { AreKept heading.now.words fronts.old }
+    requires ends { EndsIn line.now front.now reply }
+    ensures kept { AreKept heading.now.words fronts.new }
+    ensures takes { TakesLine H.stands heading.now history.old history.new line.now result }
+{
+    match fronts.whole(front, reply) {
+        Some(entry) => enter(heading, history, &entry),
+        None => take_anew(heading, fronts, history, line),
+    }
+}
+
+/// Takes an entry whose front perhaps has a value.
+#[inline(always)]
+fn take_valued<H: History>(
+    heading: &Heading,
+    fronts: &mut Fronts,
+    history: &mut H,
+    line: &[u8],
+    front: &[u8],
+    reply: Reply,
+) -> Result<(), StageFault>
+    requires kept { AreKept heading.now.words fronts.old }
+    requires ends { EndsIn line.now front.now reply }
+    ensures kept { AreKept heading.now.words fronts.new }
+    ensures takes { TakesLine H.stands heading.now history.old history.new line.now result }
+{
+    match fronts.valued(front, reply) {
+        Some(entry) => enter(heading, history, &entry),
+        None => take_whole(heading, fronts, history, line, front, reply),
+    }
+}
+
+/// Takes the next entry, by its line.
+#[inline(always)]
+fn take_entry<H: History>(
+    heading: &Heading,
+    fronts: &mut Fronts,
+    history: &mut H,
+    line: &[u8],
+) -> Result<(), StageFault>
+    requires { AreKept heading.now.words fronts.old }
+    ensures kept { AreKept heading.now.words fronts.new }
+    ensures takes { TakesLine H.stands heading.now history.old history.new line.now result }
+{
+    let Some((front, reply)) = cut_reply(line) else {
+        return take_anew(heading, fronts, history, line);
+    };
+    // (before the ` =` that ends a front a value ends in a digit, and of other words a name may)
+    match front {
+        [.., last, _, _] if last.is_ascii_digit() => {
+            take_valued(heading, fronts, history, line, front, reply)
+        }
+        _ => take_whole(heading, fronts, history, line, front, reply),
     }
 }
 

@@ -117,6 +117,7 @@ impl<'a, A: GroupAudit> Audit for Walked<'a, A> {
 
     ghost stands = { WalksOn A.group A.stands };
 
+    #[inline(always)]
     fn take(&mut self, place: usize, op: &Act, entry: &Entry) {
         let named = self.table.of(op);
         let wide = self.table.wide();

@@ -1,17 +1,30 @@
 -- The text of a trace, and its parts.
-use Rattle.std.proofs.Common.{◌≡◌, ℕ, List, [], ◌∷◌, ◌++◌, Option, ap, sym, ◌∙◌, append_assoc, append-nil, refl, subst, reverse}
-use Rattle.std.specs.Io.KnownBytes.{Appends}
+use Rattle.std.proofs.Common.{◌≡◌, ℕ, List, [], ◌∷◌, ◌++◌, Option, Err, inl, inr, ap, sym, ◌∙◌, append_assoc, append-nil, refl, subst, map, reverse}
+use Rattle.std.specs.Io.KnownBytes.{Appends, Keeps}
 use Rattle.std.proofs.lemmas.List.Concat.{flat_map-append}
+use Rattle.ec_count.specs.Tables.{Tables}
+use Rattle.ec_core.specs.declared.act.Entry.{Entry}
+use Rattle.ec_core.specs.Acceptance.{IsAccepted}
+use Rattle.ec_core.specs.Standing.{State}
 use Rattle.ec_text.specs.Puts.{AppendsPrefix}
-use Rattle.ec_core.specs.Recorded.{Recorded}
+use Rattle.ec_order.specs.declared.dated.Dated.{Dated}
 use Rattle.ec_order.specs.declared.placed.Placed.{Placed}
 use Rattle.ec_order.specs.Points.{ordered_by_points}
+use Rattle.ec_order.specs.Timeline.{Timed, IsTimeline, dated, dated_by_points}
 use Rattle.ec_order.specs.Verdicts.{IsGood}
 use Rattle.ec_heading.specs.Headed.{Headed}
-use Rattle.ec_trace.specs.Recounted.{Recounted}
-use Rattle.ec_heading.specs.Spelling.{text_of, ended_line}
-use Rattle.evc_engine.specs.Texts.{check_lines, check_text}
-use Rattle.evc_engine.specs.Checks.{text_for, TellsGoodOrder}
+use Rattle.ec_heading.specs.Spelling.{Named, text_of, ended_line}
+use Rattle.ec_trace.proofs.shared.ReadTraces.{read_is_trace, trace_refuses}
+use Rattle.ec_trace.specs.Outcome.{Tells}
+use Rattle.ec_trace.specs.declared.fault.TraceFault.{TraceFault}
+use Rattle.ec_trace.specs.declared.fault.TraceFault.TheVariants.{BadLine, Refused, WrongReply, Unfinished, TooLarge, Read, Memory}
+use Rattle.ec_trace.specs.declared.read.TheConstants.{TRACE_MAX}
+use Rattle.evc_engine.specs.declared.status.Status.{Status}
+use Rattle.evc_engine.specs.declared.status.Status.TheVariants as statuses
+use Rattle.evc_engine.specs.Halts.{IsOf, IsGathered}
+use Rattle.evc_engine.specs.Notes.{fault_note, fault_status}
+use Rattle.evc_engine.specs.Texts.{dated_line, placed_line, told_lines, check_lines, check_text}
+use Rattle.evc_engine.specs.Checks.{Checks, Outlets, Notes, ReadsAs, Writes, text_for, TellsGoodOrder}
 
 -- a text of two lists of lines between three lines
 pub text_parts : (a b c : List ℕ) (ls ms : List (List ℕ))
@@ -22,30 +35,63 @@ text_parts a b c ls ms =
     ∙ ap (λ t. (ended_line a ++ text_of ls) ++ (ended_line b ++ text_of ms) ++ t) (append-nil (ended_line c))
     ∙ ap (λ t. t ++ ended_line c) (sym (append_assoc (ended_line a ++ text_of ls) (ended_line b) (text_of ms)))
 
--- the text that is written is that of the trace
-text_is : (t : Recounted) (h : Headed) (run : Recorded) (ps : List Placed) → h ≡ t.heading → run ≡ record { setup = t.heading.setup; entries = t.entries }
-    → ps ≡ ordered_by_points run.setup (reverse run.entries) → text_of (check_lines h run.entries ps) ≡ text_for t
-unfolding check_text
-text_is t h run ps same on is =
-    ap (λ (l : List Placed). text_of (check_lines h run.entries l)) is
-    ∙ ap (λ (r : Recorded). text_of (check_lines h r.entries (ordered_by_points r.setup (reverse r.entries)))) on
-    ∙ ap (λ (g : Headed). text_of (check_lines g t.entries (ordered_by_points t.heading.setup (reverse t.entries)))) same
+-- a call told as one entry has the line of the call
+lines_are : (names : Named) (ps : List Placed) → map (dated_line names) (map dated ps) ≡ map (placed_line names) ps
+lines_are names [] = refl
+lines_are names (p ∷ ps) = ap (λ ls. placed_line names p ∷ ls) (lines_are names ps)
 
-pub text_written : (a b : Option (List ℕ)) (t : Recounted) (h : Headed) (run : Recorded) (ps : List Placed) → h ≡ t.heading → run ≡ record { setup = t.heading.setup; entries = t.entries }
-    → ps ≡ ordered_by_points run.setup (reverse run.entries) → Appends a b (text_of (check_lines h run.entries ps)) → Appends a b (text_for t)
-text_written a b t h run ps same on is put = subst (Appends a b) (text_is t h run ps same on is) put
+module _ (h : Headed) (entries : List Entry) (world : State) (timeline : Timed) where
+  -- its declarations are those of the heading
+  on_heading : IsGathered h entries world timeline → IsAccepted timeline.setup (reverse entries)
+  on_heading g = subst (λ (t : Tables). IsAccepted t (reverse entries)) (g.world_setup ∙ sym g.setup) g.world_stands.accepted
 
-pub front_written : (a b : Option (List ℕ)) (t : Recounted) (h : Headed) (run : Recorded) (ps : List Placed) → h ≡ t.heading → run ≡ record { setup = t.heading.setup; entries = t.entries }
-    → ps ≡ ordered_by_points run.setup (reverse run.entries) → AppendsPrefix a b (text_of (check_lines h run.entries ps)) → AppendsPrefix a b (text_for t)
-front_written a b t h run ps same on is put = subst (AppendsPrefix a b) (text_is t h run ps same on is) put
+  -- the text that is written is that of the trace
+  text_is : (ds : List Dated) → IsGathered h entries world timeline → (IsTimeline timeline (reverse entries) → IsAccepted timeline.setup (reverse entries) → ds ≡ dated_by_points timeline.setup (reverse entries))
+      → text_of (told_lines h entries (map (dated_line h.words) ds)) ≡ text_for (record { heading = h; entries = entries })
+  unfolding check_text
+  text_is ds g is =
+      ap (λ (l : List Dated). text_of (told_lines h entries (map (dated_line h.words) l))) (is g.stands (on_heading g) ∙ ap (λ t. dated_by_points t (reverse entries)) g.setup)
+      ∙ ap (λ ls. text_of (told_lines h entries ls)) (lines_are h.words (ordered_by_points h.setup (reverse entries)))
 
--- the text of a trace whose order by points is good tells a good order
-good_text : (t : Recounted) → IsGood t.heading.setup (reverse t.entries) (ordered_by_points t.heading.setup (reverse t.entries)) → TellsGoodOrder t (text_for t)
-unfolding check_text
-good_text t good = record { placed = ordered_by_points t.heading.setup (reverse t.entries); good = good; is = refl }
+  -- and it tells a good order
+  pub good_told : (IsAccepted timeline.setup (reverse entries) → IsGood timeline.setup (reverse entries) (ordered_by_points timeline.setup (reverse entries))) → IsGathered h entries world timeline
+      → TellsGoodOrder (record { heading = h; entries = entries }) (text_for (record { heading = h; entries = entries }))
+  unfolding check_text
+  good_told good g = record {
+    placed = ordered_by_points h.setup (reverse entries);
+    good = subst (λ (t : Tables). IsGood t (reverse entries) (ordered_by_points t (reverse entries))) g.setup (good (on_heading g));
+    is = refl;
+  }
 
-pub good_told : (t : Recounted) (run : Recorded) (ps : List Placed) → run ≡ record { setup = t.heading.setup; entries = t.entries }
-    → ps ≡ ordered_by_points run.setup (reverse run.entries) → IsGood run.setup (reverse run.entries) ps → TellsGoodOrder t (text_for t)
-good_told t run ps on is good =
-    let named : IsGood run.setup (reverse run.entries) (ordered_by_points run.setup (reverse run.entries)) = subst (IsGood run.setup (reverse run.entries)) is good in
-    good_text t (subst (λ (r : Recorded). IsGood r.setup (reverse r.entries) (ordered_by_points r.setup (reverse r.entries))) on named)
+  pub text_written : (a b : Option (List ℕ)) (ds : List Dated) → IsGathered h entries world timeline
+      → (IsTimeline timeline (reverse entries) → IsAccepted timeline.setup (reverse entries) → ds ≡ dated_by_points timeline.setup (reverse entries))
+      → Appends a b (text_of (told_lines h entries (map (dated_line h.words) ds))) → Appends a b (text_for (record { heading = h; entries = entries }))
+  text_written a b ds g is put = subst (Appends a b) (text_is ds g is) put
+
+  pub front_written : (a b : Option (List ℕ)) (ds : List Dated) → IsGathered h entries world timeline
+      → (IsTimeline timeline (reverse entries) → IsAccepted timeline.setup (reverse entries) → ds ≡ dated_by_points timeline.setup (reverse entries))
+      → AppendsPrefix a b (text_of (told_lines h entries (map (dated_line h.words) ds))) → AppendsPrefix a b (text_for (record { heading = h; entries = entries }))
+  front_written a b ds g is put = subst (AppendsPrefix a b) (text_is ds g is) put
+
+-- the bytes are read as the trace of this history
+reads_as : (bytes : List ℕ) (h : Headed) (entries : List Entry) → IsOf bytes h entries → ReadsAs bytes (record { heading = h; entries = entries })
+reads_as bytes h entries told = record { trace = read_is_trace bytes (record { heading = h; entries = entries }) told; told = told }
+
+-- how the writing of its text ended
+pub written_checked : (bytes : List ℕ) (left : Option (List ℕ)) (h : Headed) (entries : List Entry) (status : Status) (old new : Outlets) → IsOf bytes h entries → Writes (record { heading = h; entries = entries }) status old new → Checks bytes left status old new
+written_checked bytes left h entries statuses.Done old new told writes = (record { heading = h; entries = entries }, reads_as bytes h entries told, writes)
+written_checked bytes left h entries statuses.InputOutput old new told writes = inl (record { heading = h; entries = entries }, reads_as bytes h entries told, writes)
+written_checked bytes left h entries statuses.Memory old new told writes = writes
+written_checked bytes left h entries statuses.Refused old new told writes = absurd writes
+written_checked bytes left h entries statuses.Usage old new told writes = absurd writes
+written_checked bytes left h entries statuses.Stopped old new told writes = absurd writes
+
+-- the trace was not read
+pub fault_checked : (bytes : List ℕ) (left : Option (List ℕ)) (fault : TraceFault) (old new : Outlets) → Tells TRACE_MAX bytes left (Err fault) → Keeps old.out new.out → Notes old new (fault_note fault) → Checks bytes left (fault_status fault) old new
+fault_checked bytes left (BadLine n) old new told out note = (BadLine n, record { none = trace_refuses bytes (BadLine n) told; told = told }, out, note)
+fault_checked bytes left (Refused n r) old new told out note = (Refused n r, record { none = trace_refuses bytes (Refused n r) told; told = told }, out, note)
+fault_checked bytes left (WrongReply n r) old new told out note = (WrongReply n r, record { none = trace_refuses bytes (WrongReply n r) told; told = told }, out, note)
+fault_checked bytes left Unfinished old new told out note = (Unfinished, record { none = trace_refuses bytes Unfinished told; told = told }, out, note)
+fault_checked bytes left TooLarge old new told out note = (TooLarge, record { none = trace_refuses bytes TooLarge told; told = told }, out, note)
+fault_checked bytes left Read old new told out note = inr (told, out, note)
+fault_checked bytes left Memory old new told out note = (out, note)

@@ -1,11 +1,14 @@
--- What `audit` finds of a trace, or why it writes no text.
-use Rattle.std.specs.Prelude.{◌≡◌, ⊤, Option, ℕ, List, Result, Ok, Err}
+-- What `check` and `audit` gather of a trace, or why they write no text.
+use Rattle.std.specs.Prelude.{◌≡◌, ⊤, Option, ℕ, List, Result, Ok, Err, reverse}
 use Rattle.std.specs.Global.{Vec}
+use Rattle.ec_core.specs.Standing.{State, StandsFor}
 use Rattle.ec_core.specs.declared.act.Entry.{Entry}
 use Rattle.ec_heading.specs.Headed.{Headed}
+use Rattle.ec_order.specs.Timeline.{Timed, IsTimeline}
 use Rattle.ec_trace.specs.Outcome.{outcome, Tells}
 use Rattle.ec_trace.specs.declared.read.TheConstants.{TRACE_MAX}
 use Rattle.evc_engine.specs.Audits.{AreAudited, IsStop}
+use Rattle.ec_trace.specs.declared.fault.TraceFault.{TraceFault}
 use Rattle.evc_engine.specs.declared.audited.Audited.{Audited}
 use Rattle.evc_engine.specs.declared.auditing.Halt.{Halt}
 use Rattle.evc_engine.specs.declared.auditing.Halt.TheVariants.{Stopped, Unread, Memory}
@@ -21,3 +24,15 @@ FindsIn bytes left h (Ok found) = (entries : List Entry) × IsOf bytes h entries
 FindsIn bytes left h (Err (Stopped stop)) = (entries : List Entry) × IsOf bytes h entries × IsStop h entries stop.group stop.fault
 FindsIn bytes left h (Err (Unread fault)) = Tells TRACE_MAX bytes left (Err fault)
 FindsIn bytes left h (Err Memory) = ⊤
+
+-- this is what was gathered of a history: the world after it, and its finished calls by their points
+pub record IsGathered (h : Headed) (entries : List Entry) (world : State) (timeline : Timed) : Type 0 where
+  pub world_stands : StandsFor world entries
+  pub world_setup : world.setup ≡ h.setup
+  pub setup : timeline.setup ≡ h.setup
+  pub stands : IsTimeline timeline (reverse entries)
+
+-- the bytes are a trace under the heading, and this was gathered of it; or its fault is told
+abbrev pub GathersIn : List ℕ → Option (List ℕ) → Headed → Result (State × Timed) TraceFault → Type 0
+GathersIn bytes left h (Ok (world, timeline)) = (entries : List Entry) × IsOf bytes h entries × IsGathered h entries world timeline
+GathersIn bytes left h (Err fault) = Tells TRACE_MAX bytes left (Err fault)

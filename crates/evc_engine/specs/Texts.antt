@@ -6,6 +6,7 @@ use Rattle.ec_count.specs.declared.target.Target.TheVariants.{Worker, Event, Seq
 use Rattle.ec_core.specs.declared.act.Entry.{Entry}
 use Rattle.ec_core.specs.Counts.{total, issued, cell_value}
 use Rattle.ec_order.specs.declared.call.Call.{Call}
+use Rattle.ec_order.specs.declared.dated.Dated.{Dated}
 use Rattle.ec_order.specs.declared.placed.Placed.{Placed}
 use Rattle.ec_order.specs.Points.{ordered_by_points}
 use Rattle.ec_heading.specs.Headed.{Headed}
@@ -17,6 +18,10 @@ call_entry c = record { worker = c.worker; act = c.op; reply = c.reply }
 
 abbrev pub placed_line : Named → Placed → List ℕ
 placed_line names p = decimal p.point ++ codes " " ++ entry_line names (call_entry p.call)
+
+-- that of a call that is told as one entry
+abbrev pub dated_line : Named → Dated → List ℕ
+dated_line names d = decimal d.point ++ codes " " ++ entry_line names d.entry
 
 abbrev pub cell_line : List ℕ → ℕ → ℕ → List ℕ
 cell_line name i value = codes "cell " ++ (name ++ codes "[" ++ decimal i ++ codes "]") ++ codes " " ++ decimal value
@@ -50,9 +55,12 @@ totals_by past words = flat_map (λ (e : List ℕ × Target). totals_of past e.0
 abbrev pub totals_lines : Headed → List Entry → List (List ℕ)
 totals_lines h past = totals_by past h.words
 
+-- the lines of these calls between the first line and the totals
+abbrev pub told_lines : Headed → List Entry → List (List ℕ) → List (List ℕ)
+told_lines h entries calls = codes "evc-order 1" ∷ calls ++ codes "totals" ∷ totals_lines h (reverse entries) ++ codes "end" ∷ []
+
 abbrev pub check_lines : Headed → List Entry → List Placed → List (List ℕ)
-check_lines h entries placed =
-    codes "evc-order 1" ∷ map (placed_line h.words) placed ++ codes "totals" ∷ totals_lines h (reverse entries) ++ codes "end" ∷ []
+check_lines h entries placed = told_lines h entries (map (placed_line h.words) placed)
 
 -- what `check` writes for a heading and an accepted history
 unfoldable pub check_text : Headed → List Entry → List ℕ

@@ -7,12 +7,11 @@ ghost use Rattle.ec_text.specs.Puts.{Puts, IsWrittenOut};
 ghost use Rattle.evc_engine.specs.Walks.{EachEndsFor};
 ghost use Rattle.evc_engine.specs.Halts.{FindsIn};
 ghost use Rattle.evc_engine.specs.Audits.{AreAudited, IsStop, stop_status, stop_note, Audits};
-ghost use Rattle.evc_engine.specs.Notes.{fault_note, fault_status};
 
 use crate::audit_text::write_audit;
 use crate::audited::Audited;
-use crate::checking::status_of;
-use crate::notes::{say_fault, say_not_followed};
+use crate::checking::note_unread;
+use crate::notes::say_not_followed;
 use crate::status::Status;
 use crate::walked::{Auditing, opened};
 use ec_core::AuditFault;
@@ -96,7 +95,8 @@ fn found_in<R: Read>(
     if let Err(fault) = read_entries(alloc, lines, reader, heading, &mut watched) {
         return Err(Halt::Unread(fault));
     }
-    let audits = watched.into_audit().into_audits();
+    let (_world, walked) = watched.into_parts();
+    let audits = walked.into_audits();
     match found_by(alloc, groups, audits) {
         Ok(found) => Ok(found),
         Err(stop) => Err(Halt::Stopped(stop)),
@@ -119,16 +119,6 @@ fn note_stop<N: Write>(heading: &Heading, stop: Stop, notes: &mut Out<'_, N>) ->
             Status::Memory
         }
     }
-}
-
-/// Notes that a trace was not read.
-fn note_unread<N: Write>(fault: &TraceFault, notes: &mut Out<'_, N>) -> Status
-    ensures status { result ≡ fault_status fault.now }
-    ensures note { Puts notes.old notes.new (fault_note fault.now) }
-    ensures written { IsWrittenOut notes.new }
-{
-    say_fault(notes, fault);
-    status_of(fault)
 }
 
 /// Writes what the audits of a trace's groups found, or notes why there is nothing to write.

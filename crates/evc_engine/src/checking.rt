@@ -1,15 +1,19 @@
 //! `check`: a trace in; the order of its calls and the totals out.
-ghost use Rattle.std.specs.Prelude.{◌≡◌, [], IfSome, Ok, Err};
+ghost use Rattle.std.specs.Prelude.{◌≡◌, ℕ, List, Option, [], IfSome, Ok, Err};
+ghost use Rattle.ec_core.specs.declared.act.Entry.{Entry};
 ghost use Rattle.ec_text.specs.Puts.{Puts, IsWrittenOut};
+ghost use Rattle.ec_trace.specs.Reading.{IsOpened};
 ghost use Rattle.evc_engine.specs.Checks.{Checks, Writes};
-ghost use Rattle.evc_engine.specs.Notes.{fault_status};
+ghost use Rattle.evc_engine.specs.Halts.{IsGathered, GathersIn};
+ghost use Rattle.evc_engine.specs.Notes.{fault_note, fault_status};
 
 use crate::notes::say_fault;
 use crate::status::Status;
 use crate::text::write_text;
-use ec_order::in_order;
+use ec_core::World;
+use ec_order::Timeline;
 use ec_text::Out;
-use ec_trace::{TraceFault, Traced, read_trace};
+use ec_trace::{Heading, Lines, Opened, TraceFault, Watched, open_trace, read_entries};
 use std::alloc::Global;
 use std::io::{Read, Write};
 
@@ -28,24 +32,53 @@ pub(crate) fn status_of(fault: &TraceFault) -> Status
     }
 }
 
-/// Writes the text of a trace.
-fn write_checked<W: Write, N: Write>(
+/// Notes that a trace was not read.
+pub(crate) fn note_unread<N: Write>(fault: &TraceFault, notes: &mut Out<'_, N>) -> Status
+    ensures status { result ≡ fault_status fault.now }
+    ensures note { Puts notes.old notes.new (fault_note fault.now) }
+    ensures written { IsWrittenOut notes.new }
+{
+    say_fault(notes, fault);
+    status_of(fault)
+}
+
+/// Reads the entries of a trace: the world after the last of them, and the finished calls by their points.
+fn gathered<'a, R: Read>(
     alloc: Global,
-    traced: &Traced,
+    heading: &'a Heading,
+    lines: Lines,
+    reader: &mut R,
+) -> Result<(World, Timeline<'a>), TraceFault>
+    ensures { (bytes : List ℕ) → IsOpened bytes (R.remaining reader.old) lines heading.now → GathersIn bytes (R.remaining reader.new) heading.now result }
+{
+    let Ok(timeline) = Timeline::open(alloc, heading.setup()) else {
+        return Err(TraceFault::Memory);
+    };
+    let mut watched = Watched::new(heading.setup().copy(), timeline);
+    match read_entries(alloc, lines, reader, heading, &mut watched) {
+        Ok(()) => Ok(watched.into_parts()),
+        Err(fault) => Err(fault),
+    }
+}
+
+/// Writes the text of a trace, of which this was gathered.
+fn write_order<W: Write, N: Write>(
+    heading: &Heading,
+    world: &World,
+    timeline: &Timeline<'_>,
     out: &mut W,
     notes: &mut Out<'_, N>,
 ) -> Status
-    ensures ends { Writes traced.now result
+    ensures ends { (entries : List Entry) → IsGathered heading.now entries world.now timeline.now → Writes (record { heading = heading.now; entries = entries }) result
         (record { out = W.contents out.old; notes = notes.old })
         (record { out = W.contents out.new; notes = notes.new }) }
     ensures written { IsWrittenOut notes.old → IsWrittenOut notes.new }
 {
-    let run = traced.run();
-    let Ok(order) = in_order(alloc, run) else {
+    let Ok(calls) = timeline.calls() else {
         notes.say(b"no memory\n");
         return Status::Memory;
     };
-    match write_text(out, traced.heading(), run, order) {
+    match write_text(out, heading, world, calls) {
         Ok(()) => Status::Done,
         Err(_) => {
             notes.say(b"write fault\n");
@@ -54,9 +87,29 @@ fn write_checked<W: Write, N: Write>(
     }
 }
 
+/// Writes the text of a trace, or notes why there is none.
+fn write_checked<W: Write, N: Write>(
+    heading: &Heading,
+    gathered: Result<(World, Timeline<'_>), TraceFault>,
+    out: &mut W,
+    notes: &mut Out<'_, N>,
+) -> Status
+    ensures ends { (bytes : List ℕ) (left : Option (List ℕ)) → GathersIn bytes left heading.now gathered.entry → Checks bytes left result
+        (record { out = W.contents out.old; notes = notes.old })
+        (record { out = W.contents out.new; notes = notes.new }) }
+    ensures written { IsWrittenOut notes.old → IsWrittenOut notes.new }
+{
+    let (world, timeline) = match gathered {
+        Ok(gathered) => gathered,
+        Err(fault) => return note_unread(&fault, notes),
+    };
+    write_order(heading, &world, &timeline, out, notes)
+}
+
 /// Reads a trace, and writes the order of its finished calls and the totals; notes say what is wrong.
 ///
-/// Nothing is written to `out` before the trace was read to its end.
+/// The trace goes past once, and of its entries nothing is kept but what the text needs. Nothing is written to `out` before the
+/// trace was read to its end.
 pub fn check<R: Read, W: Write, N: Write>(
     alloc: Global,
     reader: &mut R,
@@ -68,11 +121,10 @@ pub fn check<R: Read, W: Write, N: Write>(
         (record { out = W.contents out.new; notes = notes.new })) }
     ensures written { IsWrittenOut notes.old → IsWrittenOut notes.new }
 {
-    match read_trace(alloc, reader) {
-        Ok(traced) => write_checked(alloc, &traced, out, notes),
-        Err(fault) => {
-            say_fault(notes, &fault);
-            status_of(&fault)
-        }
-    }
+    let Opened { heading, lines } = match open_trace(alloc, reader) {
+        Ok(opened) => opened,
+        Err(fault) => return note_unread(&fault, notes),
+    };
+    let gathered = gathered(alloc, &heading, lines, reader);
+    write_checked(&heading, gathered, out, notes)
 }

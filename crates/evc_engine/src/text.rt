@@ -1,58 +1,55 @@
 //! The text that `check` writes.
 ghost use Rattle.std.specs.Prelude.{◌≡◌, ◌∷◌, [], ◌++◌, ℕ, List, OnOk, OnErr, map, reverse};
 ghost use Rattle.std.specs.Io.KnownBytes.{Appends};
+ghost use Rattle.ec_core.specs.Standing.{StandsFor};
+ghost use Rattle.ec_core.specs.declared.act.Entry.{Entry};
 ghost use Rattle.ec_text.specs.Puts.{Puts, AppendsPrefix};
 ghost use Rattle.ec_heading.specs.Spelling.{text_of};
-ghost use Rattle.evc_engine.specs.Texts.{placed_line, check_lines};
+ghost use Rattle.evc_engine.specs.Texts.{dated_line, told_lines};
 
 use crate::totals::put_totals;
-use ec_core::{Entry, Run};
-use ec_order::{InOrder, Placed};
+use ec_core::World;
+use ec_order::{Dated, InTime};
 use ec_text::{Decimal, Out, WriteFault};
 use ec_trace::{Heading, Spellings, put_entry};
 use std::io::Write;
 
-/// Puts the line of a placed call, and has its point in `point` then. The line's point is mostly that of the line before, or one
-/// more, so that its digits need little work.
-fn put_placed<W: Write>(
+/// Puts the line of a call, and has its point in `point` then. The line's point is mostly that of the line before, or one more, so
+/// that its digits need little work.
+fn put_dated<W: Write>(
     out: &mut Out<'_, W>,
     spellings: &Spellings<'_>,
     point: &mut Decimal,
-    placed: &Placed,
+    dated: &Dated,
 )
-    ensures { Puts out.old out.new (placed_line spellings.now placed.now ++ 10 ∷ []) }
+    ensures { Puts out.old out.new (dated_line spellings.now dated.now ++ 10 ∷ []) }
 {
-    let entry = Entry {
-        worker: placed.call.worker,
-        act: placed.call.op,
-        reply: placed.call.reply,
-    };
-    point.set(placed.point as u64);
+    point.set(dated.point as u64);
     out.put(point.digits());
     out.put(b" ");
-    put_entry(out, spellings, &entry);
+    put_entry(out, spellings, &dated.entry);
     out.put(b"\n");
 }
 
-/// Puts the lines of the placed calls, in order.
-fn put_order<W: Write>(out: &mut Out<'_, W>, spellings: &Spellings<'_>, order: InOrder<'_>)
-    ensures { Puts out.old out.new (text_of (map (placed_line spellings.now) order.entry)) }
+/// Puts the lines of the calls, in order.
+fn put_order<W: Write>(out: &mut Out<'_, W>, spellings: &Spellings<'_>, calls: InTime<'_>)
+    ensures { Puts out.old out.new (text_of (map (dated_line spellings.now) calls.entry)) }
 {
     let mut point = Decimal::new(0);
-    for placed in order {
-        put_placed(out, spellings, &mut point, &placed);
+    for dated in calls {
+        put_dated(out, spellings, &mut point, &dated);
     }
 }
 
 /// Puts the whole text.
-fn put_text<W: Write>(out: &mut Out<'_, W>, heading: &Heading, run: &Run, order: InOrder<'_>)
-    ensures { Puts out.old out.new (text_of (check_lines heading.now run.now.entries order.entry)) }
+fn put_text<W: Write>(out: &mut Out<'_, W>, heading: &Heading, world: &World, calls: InTime<'_>)
+    ensures { (entries : List Entry) → StandsFor world.now entries → Puts out.old out.new (text_of (told_lines heading.now entries (map (dated_line heading.now.words) calls.entry))) }
 {
     let spellings = Spellings::new(heading.words());
     out.put(b"evc-order 1\n");
-    put_order(out, &spellings, order);
+    put_order(out, &spellings, calls);
     out.put(b"totals\n");
-    put_totals(out, heading, run.world());
+    put_totals(out, heading, world);
     out.put(b"end\n");
 }
 
@@ -60,14 +57,14 @@ fn put_text<W: Write>(out: &mut Out<'_, W>, heading: &Heading, run: &Run, order:
 pub fn write_text<W: Write>(
     out: &mut W,
     heading: &Heading,
-    run: &Run,
-    order: InOrder<'_>,
+    world: &World,
+    calls: InTime<'_>,
 ) -> Result<(), WriteFault>
-    ensures ok { OnOk result (Appends (W.contents out.old) (W.contents out.new) (text_of (check_lines heading.now run.now.entries order.entry))) }
-    ensures err { OnErr result (AppendsPrefix (W.contents out.old) (W.contents out.new) (text_of (check_lines heading.now run.now.entries order.entry))) }
+    ensures ok { (entries : List Entry) → StandsFor world.now entries → OnOk result (Appends (W.contents out.old) (W.contents out.new) (text_of (told_lines heading.now entries (map (dated_line heading.now.words) calls.entry)))) }
+    ensures err { (entries : List Entry) → StandsFor world.now entries → OnErr result (AppendsPrefix (W.contents out.old) (W.contents out.new) (text_of (told_lines heading.now entries (map (dated_line heading.now.words) calls.entry)))) }
 {
     let mut text = Out::new(out);
-    put_text(&mut text, heading, run, order);
+    put_text(&mut text, heading, world, calls);
     let done = text.finish();
     text.into_writer();
     done

@@ -3,10 +3,10 @@ use crate::ids::{event, worker};
 use crate::texts::{BUFFER, DATABASE, OVERTAKEN_READ, SEMAPHORES};
 use crate::way::{Answer, Call, Want, Way, tell, way_of};
 use ec_buffer::{Delivery, deliveries};
-use ec_core::{AuditFault, Run, without};
+use ec_core::{AuditFault, Run, walk, without};
 use ec_database::{Accepted, versions};
 use ec_heading::Group;
-use ec_order::{Placed, Verdict, calls, in_order, order, verify};
+use ec_order::{Placed, Timeline, Verdict, calls, in_order, order, verify};
 use ec_semaphore::{Pair, SemaphoreShape, pairs};
 use ec_trace::{Traced, read_trace};
 use std::alloc::Global;
@@ -21,6 +21,8 @@ enum Look {
     Order(&'static [usize]),
     /// The same, one call after another.
     InOrder(&'static [usize]),
+    /// The same, as a timeline tells them.
+    Timeline(&'static [usize]),
     /// The order is good.
     Verify,
     Copy,
@@ -109,6 +111,30 @@ fn come_by_points(mut found: ec_order::InOrder<'_>, right: &[usize]) -> bool {
 fn look_in_order(alloc: Global, run: &Run, right: &[usize]) -> Answer {
     match in_order(alloc, run) {
         Ok(found) => Answer::of(come_by_points(found, right)),
+        Err(_) => Answer::Wants(Want::Memory),
+    }
+}
+
+/// Whether the points of calls that a timeline tells are these.
+fn come_in_time(mut found: ec_order::InTime<'_>, right: &[usize]) -> bool {
+    for point in right {
+        let Some(dated) = found.next() else {
+            return false;
+        };
+        if dated.point != *point {
+            return false;
+        }
+    }
+    found.next().is_none()
+}
+
+fn look_at_a_timeline(alloc: Global, run: &Run, right: &[usize]) -> Answer {
+    let Ok(mut timeline) = Timeline::open(alloc, run.setup()) else {
+        return Answer::Wants(Want::Memory);
+    };
+    walk(run, &mut timeline);
+    match timeline.calls() {
+        Ok(found) => Answer::of(come_in_time(found, right)),
         Err(_) => Answer::Wants(Want::Memory),
     }
 }
@@ -237,6 +263,7 @@ impl Call for Lent {
             Look::Calls(right) => look_at_calls(alloc, run, right),
             Look::Order(right) => look_at_order(alloc, run, right),
             Look::InOrder(right) => look_in_order(alloc, run, right),
+            Look::Timeline(right) => look_at_a_timeline(alloc, run, right),
             Look::Verify => judge(alloc, run, self.placed.as_slice()),
             Look::Copy => copy(run),
             Look::WithoutTheThird(right) => strike_out(run, right),
@@ -318,6 +345,16 @@ static IN_ORDER: Row = Row {
 #[test]
 fn the_order_one_call_after_another(rt: HostRuntime) -> Result<(), Fail> {
     tell(&rt, way_of_look(rt.alloc(), &IN_ORDER))
+}
+
+static IN_TIME: Row = Row {
+    trace: OF_A_READ,
+    look: Look::Timeline(&[1, 2, 2]),
+};
+
+#[test]
+fn the_order_of_a_timeline(rt: HostRuntime) -> Result<(), Fail> {
+    tell(&rt, way_of_look(rt.alloc(), &IN_TIME))
 }
 
 static VERIFY: Row = Row {

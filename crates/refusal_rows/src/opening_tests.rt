@@ -123,7 +123,7 @@ fn found(alloc: Global) -> Answer {
         ups: 2,
     };
     match read_entries(alloc, lines, &mut reader, &heading, &mut watched) {
-        Ok(()) => Answer::of(watched.into_audit().so_far() == right),
+        Ok(()) => Answer::of(watched.into_parts().1.so_far() == right),
         Err(TraceFault::Memory) => Answer::Wants(Want::Memory),
         Err(_) => Answer::Wrong,
     }

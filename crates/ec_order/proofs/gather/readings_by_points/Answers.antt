@@ -15,15 +15,15 @@ loop-i-preserved c =
     elim c.match-entry.branch [
       | in-Some+in_ok-note+then-not-is_alone+in-Some-take_in+in_ok-put_in w ↦
           rw (w.under_way-is, w.lists-is, w.readings-is) (gathered_one _ _ _ _ w.in-Some.entry w.in-Some-take_in.call _ _ _ _ _ _ _ _ c.known.ensures.declared c.known.ensures.accepted w.in-Some.ensures (sym w.is_alone.ensures ∙ w.if-not-is_alone.true)
-          (indexed_more _ _ w.in-Some.entry _ _ w.in-Some.ensures c.loop-i.invariant.index w.in_ok-note.ensures) c.loop-i.invariant w.setup.ensures
+          (indexed_more _ _ w.in-Some.entry _ _ w.in-Some.ensures c.loop-i.invariant.index w.in_ok-note.ensures.notes) c.loop-i.invariant w.setup.ensures
           w.in-Some-take_in.ensures w.deref.ensures.value w.point-point.ensures w.in_ok-put_in.ensures.puts w.in_ok-put_in.ensures.history)
       | in-Some+in_ok-note+then-not-is_alone+in_default-take_in w ↦
           rw (w.under_way-is, w.lists-is, w.readings-is) (gathered_none _ _ _ _ w.in-Some.entry w.take_in.result _ _ _ _ _ c.known.ensures.declared c.known.ensures.accepted w.in-Some.ensures
-          (indexed_more _ _ w.in-Some.entry _ _ w.in-Some.ensures c.loop-i.invariant.index w.in_ok-note.ensures) c.loop-i.invariant w.setup.ensures
+          (indexed_more _ _ w.in-Some.entry _ _ w.in-Some.ensures c.loop-i.invariant.index w.in_ok-note.ensures.notes) c.loop-i.invariant w.setup.ensures
           w.take_in.ensures w.in_default-take_in.is)
       | in-Some+in_ok-note+else-not-is_alone w ↦
           rw (w.under_way-is, w.lists-is, w.readings-is) (gathered_alone _ _ _ w.in-Some.entry _ _ _ _ c.known.ensures.declared c.known.ensures.accepted w.in-Some.ensures (sym w.is_alone.ensures ∙ w.if-not-is_alone.false)
-          (indexed_more _ _ w.in-Some.entry _ _ w.in-Some.ensures c.loop-i.invariant.index w.in_ok-note.ensures) c.loop-i.invariant)
+          (indexed_more _ _ w.in-Some.entry _ _ w.in-Some.ensures c.loop-i.invariant.index w.in_ok-note.ensures.notes) c.loop-i.invariant)
       | in_default w ↦ absurd (none_past c.args.run.now.entries c.loop-i.i (sym w.in_default.is ∙ c.entry.ensures) (omega arith))
     ]
 

@@ -2,5 +2,5 @@ use Rattle.std.proofs.Common.{◌∷◌, ◌++◌, [], refl, ap, ◌∙◌}
 use Rattle.ec_order.proofs.Indexing.{moments_read}
 use Rattle.ec_order.proofs.index.add_moment.Goals as goal
 
-pub returns : goal.returns
-returns c = (c.push.new.self, c.in_ok-push.ensures.items ∙ ap (λ ms. ms ++ c.args.moment ∷ []) (moments_read c.args.lists.now.items c.args.event _ c.requires c.index_mut-list.ensures.value), refl)
+pub returns-clause-added : goal.returns-clause-added
+returns-clause-added c = (c.push.new.self, c.in_ok-push.ensures.items ∙ ap (λ ms. ms ++ c.args.moment ∷ []) (moments_read c.args.lists.now.items c.args.event _ c.requires c.index_mut-list.ensures.value), refl)

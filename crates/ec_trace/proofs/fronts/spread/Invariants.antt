@@ -1,4 +1,3 @@
-use Rattle.std.proofs.Common.{rules, ◌≡◌}
 use Rattle.ec_heading.specs.Spelled.{Named}
 use Rattle.ec_trace.specs.Fronts.{AreKept}
 use Rattle.ec_trace.proofs.fronts.spread.Given as goal

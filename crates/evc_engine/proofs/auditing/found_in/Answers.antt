@@ -24,7 +24,7 @@ returns-in-Ok-found_by g c = λ bytes begun.
       told.0,
       told.1,
       c.in-Ok-found_by.ensures.ok h told.0 c.groups-groups.ensures
-          (subst (EachEndsFor h told.0) (sym (c.into_audits-audits.ensures ∙ ap (λ w. w.audits) c.into_audit.ensures)) ends),
+          (subst (EachEndsFor h told.0) (sym (c.into_audits-audits.ensures ∙ ap (λ w. w.audits) c.into_parts-world.ensures.audit)) ends),
     )
 
 pub returns : goal.returns
@@ -40,5 +40,5 @@ returns g c = λ bytes begun.
       told.0,
       told.1,
       c.in-Err-found_by.ensures.err h told.0 c.groups-groups.ensures
-          (subst (EachEndsFor h told.0) (sym (c.into_audits-audits.ensures ∙ ap (λ w. w.audits) c.into_audit.ensures)) ends),
+          (subst (EachEndsFor h told.0) (sym (c.into_audits-audits.ensures ∙ ap (λ w. w.audits) c.into_parts-world.ensures.audit)) ends),
     )

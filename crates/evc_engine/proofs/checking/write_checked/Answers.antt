@@ -1,16 +1,19 @@
-use Rattle.std.proofs.Common.{refl}
-use Rattle.evc_engine.proofs.CheckLemmas.{text_written, front_written, good_told}
+use Rattle.std.proofs.Common.{sym, subst}
+use Rattle.evc_engine.specs.Checks.{Checks, Outlets}
+use Rattle.evc_engine.specs.Halts.{GathersIn}
+use Rattle.evc_engine.proofs.CheckLemmas.{fault_checked, written_checked}
+use Rattle.evc_engine.proofs.FoundWritten.{stays}
 use Rattle.evc_engine.proofs.checking.write_checked.Goals as goal
 
-pub returns-in-Ok-write_text-clause-ends : goal.returns-in-Ok-write_text-clause-ends
-returns-in-Ok-write_text-clause-ends g c = (
-  text_written _ _ c.args.traced.now c.heading.result.now c.run-run.result.now c.in-Ok.order c.heading.ensures c.run-run.ensures c.in-Ok.ensures.value c.in-Ok-write_text.ensures.ok,
-  good_told c.args.traced.now c.run-run.result.now c.in-Ok.order c.run-run.ensures c.in-Ok.ensures.value c.in-Ok.ensures.good,
-  refl,
-)
-
 pub returns-in-Err-clause-ends : goal.returns-in-Err-clause-ends
-returns-in-Err-clause-ends g c = (
-  front_written _ _ c.args.traced.now c.heading.result.now c.run-run.result.now c.in-Ok.order c.heading.ensures c.run-run.ensures c.in-Ok.ensures.value c.in-Err.ensures.err,
-  (c.say-in-Err.ensures.puts, c.say-in-Err.ensures.written),
-)
+returns-in-Err-clause-ends g c = λ bytes left f.
+    let old : Outlets = record { out = g.W.Write.contents c.args.out.now; notes = c.args.notes.now } in
+    let new : Outlets = record { out = g.W.Write.contents c.args.out.now; notes = c.note_unread.new.notes } in
+    let told = subst (GathersIn bytes left c.args.heading.now) c.in-Err.is f in
+    subst (λ s. Checks bytes left s old new) (sym c.note_unread.ensures.status)
+    (fault_checked bytes left c.in-Err.fault old new told (stays (g.W.Write.contents c.args.out.now)) (c.note_unread.ensures.note, c.note_unread.ensures.written))
+
+pub returns-clause-ends : goal.returns-clause-ends
+returns-clause-ends g c = λ bytes left f.
+    let told = subst (GathersIn bytes left c.args.heading.now) c.in-Ok.is f in
+    written_checked bytes left c.args.heading.now told.0 c.write_order.result _ _ told.1 (c.write_order.ensures.ends told.0 told.2)

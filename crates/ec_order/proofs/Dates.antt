@@ -1,0 +1,102 @@
+-- One after another, a timeline gives the finished calls by their points.
+use Rattle.std.proofs.Common.{◌≡◌, ℕ, zero, suc, ◌+◌, ◌<◌, ◌≤◌, Bool, true, false, nat_le, List, [], ◌∷◌, ◌++◌, length, map, Some, None, refl, ap, sym, ◌∙◌, arith, cond, subst, reverse, drop, slice_get}
+use Rattle.std.specs.List.{filter}
+use Rattle.std.proofs.lemmas.List.{reverse-reverse}
+use Rattle.ec_count.specs.Tables.{Tables, IsDeclared}
+use Rattle.ec_core.specs.declared.act.Entry.{Entry}
+use Rattle.ec_core.specs.Acceptance.{IsAccepted}
+use Rattle.ec_order.specs.declared.dated.Dated.{Dated}
+use Rattle.ec_order.specs.declared.placed.Placed.{Placed}
+use Rattle.ec_order.specs.Timeline.{Timed, IsTimed, dated, dated_by_points, date, stands_alone, dates_on, dates}
+use Rattle.ec_order.specs.Walk.{alone_at, placed_point, due_then, walk_on, readings_by_points}
+use Rattle.ec_order.proofs.Walking.{due_next, none_due, walk_is}
+
+-- THE WHOLE OF IT
+
+due_map : (k : ℕ) (f : List Dated → List Dated) (g : List Placed → List Placed) → ((ps : List Placed) → f (map dated ps) ≡ map dated (g ps)) → (ps : List Placed)
+    → due_then date k f (map dated ps) ≡ map dated (due_then placed_point k g ps)
+due_map k f g h [] = h []
+due_map k f g h (p ∷ ps) =
+    elim (nat_le p.point k) as (λ b. cond b (dated p ∷ due_then date k f (map dated ps)) (f (map dated (p ∷ ps))) ≡ map dated (cond b (p ∷ due_then placed_point k g ps) (g (p ∷ ps)))) [
+      | true ↦ ap (λ ds. dated p ∷ ds) (due_map k f g h ps)
+      | false ↦ h (p ∷ ps)
+    ]
+
+dates_map : (k : ℕ) (h : List Entry) (ps : List Placed) → dates_on k (map stands_alone h) (filter stands_alone h) (map dated ps) ≡ map dated (walk_on k h ps)
+unfolding dates_on walk_on
+dates_map k [] ps = refl
+dates_map k (x ∷ h) ps =
+    let rest = due_map (k + 1) (dates_on (k + 1) (map stands_alone h) (filter stands_alone h)) (walk_on (k + 1) h) (dates_map (k + 1) h) ps in
+    elim (stands_alone x) as (λ b. dates_on k (b ∷ map stands_alone h) (cond b (x ∷ filter stands_alone h) (filter stands_alone h)) (map dated ps)
+    ≡ map dated (cond b (alone_at k x ∷ []) [] ++ due_then placed_point (k + 1) (walk_on (k + 1) h) ps)) [
+      | true ↦ ap (λ ds. dated (alone_at k x) ∷ ds) rest
+      | false ↦ rest
+    ]
+
+dates_are : (t : Tables) (h : List Entry) (ds : List Dated) → IsDeclared t → IsAccepted t (reverse h) → ds ≡ map dated (readings_by_points t (reverse h))
+    → dates 0 (map stands_alone h) (filter stands_alone h) ds ≡ dated_by_points t (reverse h)
+dates_are t h ds d acc is =
+    let rs = readings_by_points t (reverse h) in
+    ap (dates 0 (map stands_alone h) (filter stands_alone h)) is
+    ∙ due_map 0 (dates_on 0 (map stands_alone h) (filter stands_alone h)) (walk_on 0 h) (dates_map 0 h) rs
+    ∙ ap (map dated) (walk_is t h rs d acc refl)
+
+-- what is kept of an accepted past gives its finished calls by their points
+pub dates_of : (k : Timed) (past : List Entry) → IsDeclared k.setup → IsAccepted k.setup past → IsTimed k past → dates 0 k.marks k.alone k.readings ≡ dated_by_points k.setup past
+dates_of k past d acc s =
+    let h = reverse past in
+    let back : reverse h ≡ past = reverse-reverse past in
+    ap (λ ms. dates 0 ms k.alone k.readings) s.marks ∙ ap (λ xs. dates 0 (map stands_alone h) xs k.readings) s.alone
+    ∙ dates_are k.setup h k.readings d (subst (IsAccepted k.setup) (sym back) acc) (s.readings (length past) (omega arith) ∙ ap (λ xs. map dated (readings_by_points k.setup xs)) (sym back))
+    ∙ ap (dated_by_points k.setup) back
+
+-- A STEP OF IT
+
+drop_at : {X : Type 0} (xs : List X) (i : ℕ) (x : X) → slice_get xs i ≡ Some x → drop i xs ≡ x ∷ drop (i + 1) xs
+drop_at [] i x at = cc
+drop_at (y ∷ xs) zero x at = (let is : y ≡ x = cc in ap (λ z. z ∷ xs) is)
+drop_at (y ∷ xs) (suc i) x at =
+    let next : suc i + 1 ≡ suc (i + 1) = omega arith in
+    drop_at xs i x at ∙ ap (λ n. x ∷ drop n (y ∷ xs)) (sym next)
+
+drop_none : {X : Type 0} (xs : List X) (i : ℕ) → slice_get xs i ≡ None → drop i xs ≡ []
+drop_none [] zero at = refl
+drop_none [] (suc i) at = refl
+drop_none (y ∷ xs) zero at = cc
+drop_none (y ∷ xs) (suc i) at = drop_none xs i at
+
+-- none is due of those from the i-th on
+abbrev pub NoneDue : List Dated → ℕ → ℕ → Type 0
+NoneDue rs i k = (d : Dated) → slice_get rs i ≡ Some d → k < d.point
+
+-- a read or an await that is due comes next
+pub dates_due : (k : ℕ) (ms : List Bool) (xs : List Entry) (rs : List Dated) (i : ℕ) (d : Dated) → slice_get rs i ≡ Some d → d.point ≤ k → dates k ms xs (drop i rs) ≡ d ∷ dates k ms xs (drop (i + 1) rs)
+dates_due k ms xs rs i d at due = due_next date k (dates_on k ms xs) rs i d at due
+
+-- where none is due, a call by itself does
+pub dates_own : (k : ℕ) (ms : List Bool) (xs : List Entry) (j : ℕ) (x : Entry) (rs : List Dated) (i : ℕ) → NoneDue rs i k → slice_get ms k ≡ Some true → slice_get xs j ≡ Some x
+    → dates k (drop k ms) (drop j xs) (drop i rs) ≡ record { point = k; entry = x } ∷ dates (k + 1) (drop (k + 1) ms) (drop (j + 1) xs) (drop i rs)
+unfolding dates_on
+dates_own k ms xs j x rs i none mark at =
+    none_due date k (dates_on k (drop k ms) (drop j xs)) rs i none
+    ∙ ap (λ bs. dates_on k bs (drop j xs) (drop i rs)) (drop_at ms k true mark)
+    ∙ ap (λ ys. dates_on k (true ∷ drop (k + 1) ms) ys (drop i rs)) (drop_at xs j x at)
+
+-- any other entry is passed
+pub dates_pass : (k : ℕ) (ms : List Bool) (xs : List Entry) (rs : List Dated) (i : ℕ) → NoneDue rs i k → slice_get ms k ≡ Some false
+    → dates k (drop k ms) xs (drop i rs) ≡ dates (k + 1) (drop (k + 1) ms) xs (drop i rs)
+unfolding dates_on
+dates_pass k ms xs rs i none mark =
+    none_due date k (dates_on k (drop k ms) xs) rs i none ∙ ap (λ bs. dates_on k bs xs (drop i rs)) (drop_at ms k false mark)
+
+-- behind the last entry there is none
+pub dates_end : (k : ℕ) (ms : List Bool) (xs : List Entry) (rs : List Dated) (i : ℕ) → NoneDue rs i k → slice_get ms k ≡ None → dates k (drop k ms) xs (drop i rs) ≡ []
+unfolding dates_on
+dates_end k ms xs rs i none mark =
+    none_due date k (dates_on k (drop k ms) xs) rs i none ∙ ap (λ bs. dates_on k bs xs (drop i rs)) (drop_none ms k mark)
+
+pub dates_out : (k : ℕ) (ms : List Bool) (xs : List Entry) (j : ℕ) (rs : List Dated) (i : ℕ) → NoneDue rs i k → slice_get ms k ≡ Some true → slice_get xs j ≡ None → dates k (drop k ms) (drop j xs) (drop i rs) ≡ []
+unfolding dates_on
+dates_out k ms xs j rs i none mark at =
+    none_due date k (dates_on k (drop k ms) (drop j xs)) rs i none ∙ ap (λ bs. dates_on k bs (drop j xs) (drop i rs)) (drop_at ms k true mark)
+    ∙ ap (λ ys. dates_on k (true ∷ drop (k + 1) ms) ys (drop i rs)) (drop_none xs j at)

@@ -1,0 +1,18 @@
+use Rattle.std.proofs.Common.{◌≡◌, ◌∙◌, ap, sym, subst, false}
+use Rattle.ec_count.specs.Tables.{IsDeclared}
+use Rattle.ec_order.specs.Timeline.{Timed, dates}
+use Rattle.ec_order.proofs.Dates.{dates_of}
+use Rattle.ec_order.proofs.Legal.{order_good}
+use Rattle.ec_order.proofs.timeline.Timeline.calls.Goals as goal
+
+pub returns-clause-value : goal.returns-clause-value
+returns-clause-value c = λ past s acc.
+    let k = c.args.self.now in
+    let lacks : k.lacks ≡ false = ap (λ (z : Timed). z.lacks) (sym c.self.view_is) ∙ c.if-self.false in
+    let declared : IsDeclared k.setup = subst IsDeclared (ap (λ (z : Timed). z.setup) c.self.view_is) c.known.ensures in
+    ap (λ ms. dates 0 ms c.self.inside.alone c.self.inside.readings) c.as_slice.ensures.value
+    ∙ ap (λ (z : Timed). dates 0 z.marks z.alone z.readings) c.self.view_is ∙ dates_of k past declared acc (s lacks acc)
+
+pub returns-clause-good : goal.returns-clause-good
+returns-clause-good c = λ past acc.
+    order_good c.args.self.now.setup past (subst IsDeclared (ap (λ (z : Timed). z.setup) c.self.view_is) c.known.ensures) acc

@@ -1,0 +1,72 @@
+-- The finished calls of a history by their points, as they are gathered while the history goes past.
+use Rattle.std.specs.Prelude.{◌≡◌, ℕ, ◌+◌, ◌≤◌, Bool, true, false, List, [], ◌∷◌, length, map, reverse, Option, Vec}
+use Rattle.std.specs.List.{filter}
+use Rattle.std.specs.declared.alloc.Global.{Global}
+use Rattle.ec_count.specs.Tables.{Tables}
+use Rattle.ec_core.specs.declared.act.Entry.{Entry}
+use Rattle.ec_core.specs.declared.ongoing.Ongoing.{Ongoing}
+use Rattle.ec_core.specs.Acceptance.{IsAccepted}
+use Rattle.ec_core.specs.Ongoing.{AreCalls}
+use Rattle.ec_order.specs.declared.dated.Dated.{Dated}
+use Rattle.ec_order.specs.declared.placed.Placed.{Placed}
+use Rattle.ec_order.specs.Index.{IsIndex}
+use Rattle.ec_order.specs.Points.{by_moments, ordered_by_points}
+use Rattle.ec_order.specs.Walk.{is_alone, due_then, readings}
+
+-- a placed call, told as one entry with its point
+abbrev pub dated : Placed → Dated
+dated p = record { point = p.point; entry = record { worker = p.call.worker; act = p.call.op; reply = p.call.reply } }
+
+abbrev pub date : Dated → ℕ
+date d = d.point
+
+-- the finished calls of a past by their points, told so
+abbrev pub dated_by_points : Tables → List Entry → List Dated
+dated_by_points t past = map dated (ordered_by_points t past)
+
+-- WHAT IS KEPT
+
+-- of the declarations: the calls under way, the moments after the advances of each eventcount, of each entry whether it is a call by
+-- itself, those that are, the finished reads and awaits by their points, and whether memory was refused for one
+pub record Timed : Type 0 where
+  pub setup : Tables
+  pub calls : List (Option Ongoing)
+  pub moments : List (Vec ℕ Global)
+  pub marks : List Bool
+  pub alone : List Entry
+  pub readings : List Dated
+  pub lacks : Bool
+
+-- whether an entry is a call by itself
+abbrev pub stands_alone : Entry → Bool
+stands_alone x = is_alone x.act
+
+-- it is that after an accepted past
+pub record IsTimed (k : Timed) (past : List Entry) : Type 0 where
+  pub calls : AreCalls k.setup k.calls past
+  pub index : IsIndex past k.moments
+  pub marks : k.marks ≡ map stands_alone (reverse past)
+  pub alone : k.alone ≡ filter stands_alone (reverse past)
+  pub readings : (n : ℕ) → length past ≤ n → k.readings ≡ map dated (by_moments (readings k.setup past) n)
+
+-- it is that after a past, if the past is accepted and no memory was refused
+abbrev pub IsTimeline : Timed → List Entry → Type 0
+IsTimeline k past = k.lacks ≡ false → IsAccepted k.setup past → IsTimed k past
+
+-- on the same declarations, after a past
+abbrev pub TimesOn : Timed → Timed → List Entry → Type 0
+TimesOn start now past = (now.setup ≡ start.setup) × IsTimeline now past
+
+-- ONE AFTER ANOTHER
+
+-- what comes after those whose point is moment k, where these say of the entries from position k on whether they are calls by
+-- themselves, and these are those that are, and the reads and awaits that are left
+unfoldable pub dates_on : ℕ → List Bool → List Entry → List Dated → List Dated
+dates_on k [] alone readings = []
+dates_on k (true ∷ marks) [] readings = []
+dates_on k (true ∷ marks) (x ∷ alone) readings = record { point = k; entry = x } ∷ due_then date (k + 1) (dates_on (k + 1) marks alone) readings
+dates_on k (false ∷ marks) alone readings = due_then date (k + 1) (dates_on (k + 1) marks alone) readings
+
+-- the calls from moment k on
+abbrev pub dates : ℕ → List Bool → List Entry → List Dated → List Dated
+dates k marks alone readings = due_then date k (dates_on k marks alone) readings

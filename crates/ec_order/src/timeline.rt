@@ -1,0 +1,205 @@
+//! The finished calls of a history by their points, gathered while the history goes past.
+ghost use Rattle.std.specs.Prelude.{◌≡◌, ◌+◌, ◌<◌, ◌≤◌, ◌^◌, List, [], ◌∷◌, length, drop, slice_get, IfOk, IfSome, OnOk, MatchOption};
+ghost use Rattle.ec_core.specs.declared.act.Entry.{Entry};
+ghost use Rattle.ec_core.specs.Acceptance.{IsAccepted};
+ghost use Rattle.ec_order.specs.declared.dated.Dated.{Dated};
+ghost use Rattle.ec_order.specs.Points.{ordered_by_points};
+ghost use Rattle.ec_order.specs.Timeline.{dated, dated_by_points, IsTimed, IsTimeline};
+ghost use Rattle.ec_order.specs.Verdicts.{IsGood};
+
+use crate::by_points::ByPoints;
+use crate::gather::is_alone;
+use crate::index::{no_moments, note, point};
+use crate::scan::take_in;
+use crate::{Call, Dated, OrderFault};
+use ec_core::{Act, Audit, Calls, Entry, Segments};
+use ec_count::Setup;
+use std::alloc::{AllocError, Global};
+use std::marker::Model;
+
+/// The finished calls of a history by their points, gathered while the history goes past: each entry is handed to it once, by
+/// `take`. Of a call of one entry it keeps that entry, of a finished read or await one entry and its point, and a number of each
+/// advance; of all other entries one byte.
+#[derive(Drop)]
+pub struct Timeline<'a> {
+    setup: &'a Setup,
+    calls: Calls,
+    moments: Vec<Vec<usize>>,
+    marks: Vec<bool>,
+    alone: Segments,
+    readings: ByPoints,
+    lacks: bool,
+}
+
+impl<'a> Model for Timeline<'a> {
+    ghost use Rattle.std.specs.Prelude.{◌≡◌, length};
+    ghost use Rattle.ec_order.specs.Timeline.{Timed};
+
+    ghost Value = { Timed };
+
+    ghost view = { λ s. record { setup = s.setup.now; calls = s.calls; moments = s.moments.items; marks = s.marks.items; alone = s.alone; readings = s.readings; lacks = s.lacks } };
+
+    ghost invariant = { λ s. length s.moments.items ≡ 32 };
+}
+
+/// The call, told as one entry with its point.
+fn dated(call: &Call, point: usize) -> Dated
+    ensures { result ≡ dated (record { call = call.now; point = point }) }
+{
+    Dated {
+        point,
+        entry: Entry {
+            worker: call.worker,
+            act: call.op,
+            reply: call.reply,
+        },
+    }
+}
+
+impl<'a> Timeline<'a> {
+    /// Before the first entry of a history on this setup.
+    pub fn open(alloc: Global, setup: &'a Setup) -> Result<Self, OrderFault>
+        ensures setup { IfOk result (λ timeline. timeline.setup ≡ setup.now) }
+        ensures first { IfOk result (λ timeline. IsTimeline timeline []) }
+    {
+        Ok(Timeline {
+            setup,
+            calls: Calls::new(),
+            moments: no_moments(alloc)?,
+            marks: Vec::new(alloc),
+            alone: Segments::open(alloc)?,
+            readings: ByPoints::open(alloc)?,
+            lacks: false,
+        })
+    }
+
+    /// Takes the next entry in, at this position.
+    #[inline(always)]
+    fn gather(&mut self, place: usize, entry: &Entry) -> Result<(), AllocError>
+        requires { place + 1 < 2 ^ 64 }
+        ensures setup { self.new.setup ≡ self.old.setup }
+        ensures kept { OnOk result ((past : List Entry) → place ≡ length past → IsAccepted self.old.setup (entry.now ∷ past) → IsTimed self.old past → IsTimed self.new (entry.now ∷ past)) }
+    {
+        self.setup.known();
+        note(&mut self.moments, entry.act, place + 1)?;
+        let alone = is_alone(entry.act);
+        self.marks.push(alone)?;
+        if alone {
+            return self.alone.push(*entry);
+        }
+        match take_in(&mut self.calls, self.setup, entry, place) {
+            Some(call) => {
+                let point = point(&self.moments, &call);
+                self.readings.put(&dated(&call, point))
+            }
+            None => Ok(()),
+        }
+    }
+
+    /// The finished calls after the entries so far, by their points, one after another: a legal order of them. Err where memory
+    /// was refused for one of the entries.
+    pub fn calls(&self) -> Result<InTime<'_>, OrderFault>
+        ensures value { (past : List Entry) → IsTimeline self.now past → IsAccepted self.now.setup past → IfOk result (λ calls. calls ≡ dated_by_points self.now.setup past) }
+        ensures good { (past : List Entry) → IsAccepted self.now.setup past → IfOk result (λ _. IsGood self.now.setup past (ordered_by_points self.now.setup past)) }
+    {
+        self.setup.known();
+        if self.lacks {
+            return Err(OrderFault::Memory);
+        }
+        Ok(InTime {
+            marks: self.marks.as_slice(),
+            alone: &self.alone,
+            readings: &self.readings,
+            position: 0,
+            passed: 0,
+            given: 0,
+        })
+    }
+}
+
+impl<'a> Audit for Timeline<'a> {
+    ghost use Rattle.ec_order.specs.Timeline.{TimesOn};
+
+    ghost stands = { TimesOn };
+
+    #[inline(always)]
+    fn take(&mut self, place: usize, _op: &Act, entry: &Entry) {
+        self.lacks = self.lacks || self.gather(place, entry).is_err();
+    }
+}
+
+/// Finished calls by their points, one after another. A contract sees it as the list of those that are left.
+#[derive(Drop)]
+pub struct InTime<'a> {
+    marks: &'a [bool],
+    alone: &'a Segments,
+    readings: &'a ByPoints,
+    position: usize,
+    passed: usize,
+    given: usize,
+}
+
+impl<'a> Model for InTime<'a> {
+    ghost use Rattle.std.specs.Prelude.{List, drop};
+    ghost use Rattle.ec_order.specs.declared.dated.Dated.{Dated};
+    ghost use Rattle.ec_order.specs.Timeline.{dates};
+
+    ghost Value = { List Dated };
+
+    ghost view = { λ s. dates s.position (drop s.position s.marks.now) (drop s.passed s.alone.now) (drop s.given s.readings.now) };
+}
+
+/// Whether the entry at a position is a call by itself, where there is one.
+fn mark(marks: &[bool], position: usize) -> Option<bool>
+    ensures { result ≡ slice_get marks.now position }
+{
+    marks.get(position).copied()
+}
+
+/// The read or await that comes next, if its point is not after a moment.
+fn due(readings: &ByPoints, given: usize, moment: usize) -> Option<Dated>
+    ensures value { MatchOption result
+        ((d : Dated) → slice_get readings.now given ≡ Some d → moment < d.point)
+        (λ d. (slice_get readings.now given ≡ Some d) × (d.point ≤ moment)) }
+    ensures within { IfSome result (λ _. given + 1 < 2 ^ 64) }
+{
+    match readings.point(given) {
+        Some(point) if point <= moment => readings.get(given),
+        _ => None,
+    }
+}
+
+impl<'a> Iterator for InTime<'a> {
+    ghost use Rattle.std.specs.Iterator.{YieldsFirst, item_count};
+
+    type Item = Dated;
+
+    ghost next_gives = { YieldsFirst (λ s. s) };
+
+    ghost remaining = { item_count (λ s. s) };
+
+    fn next(&mut self) -> Option<Dated> {
+        loop {
+            if let Some(dated) = due(self.readings, self.given, self.position) {
+                self.given += 1;
+                return Some(dated);
+            }
+            let position = self.position;
+            let Some(alone) = mark(self.marks, position) else {
+                return None;
+            };
+            if alone {
+                let Some(entry) = self.alone.get(self.passed) else {
+                    return None;
+                };
+                self.position += 1;
+                self.passed += 1;
+                return Some(Dated {
+                    point: position,
+                    entry,
+                });
+            }
+            self.position += 1;
+        }
+    }
+}

@@ -1,0 +1,14 @@
+use Rattle.std.proofs.Common.{rules, ◌≡◌, ◌∙◌, true, Some, sym, ap}
+use Rattle.ec_core.specs.declared.act.Act.{Act}
+use Rattle.ec_core.specs.declared.act.Entry.{Entry}
+use Rattle.ec_text.specs.Words.{number_of}
+use Rattle.ec_trace.specs.Fronts.{is_valued}
+use Rattle.ec_trace.proofs.FrontLemmas.{opened}
+use Rattle.ec_trace.proofs.fronts.Fronts.valued.Goals as goal
+
+pub returns : goal.returns
+returns c names line kept ends =
+    let valued : is_valued c.in_ok-known.known.now.act ≡ true = search rules in
+    let known : number_of c.in_ok-opening.value.now ≡ Some c.in_ok-number.field-0 = search rules in
+    opened names line _ _ _ _ _ _ _ ends c.in_ok-opening.ensures (c.in_ok-known.ensures names kept) valued known
+    ∙ ap (λ (a : Act). let e : Entry = record { worker = c.in_ok-known.known.now.worker; act = a; reply = c.args.reply } in Some e) (sym c.with_value.ensures)
