@@ -4,8 +4,8 @@ use Rattle.std.specs.List.{flat_map, position_from}
 use Rattle.ec_count.specs.declared.target.Target.TheVariants as targets
 use Rattle.ec_core.specs.declared.act.Entry.{Entry}
 use Rattle.ec_core.specs.declared.act.Reply.TheVariants.{Pending}
-use Rattle.ec_order.specs.declared.call.Call.{Call}
 use Rattle.ec_order.specs.declared.placed.Placed.{Placed}
+use Rattle.ec_order.specs.Timeline.{call_entry}
 use Rattle.ec_heading.specs.Spelling.{Named, entry_line, word_of}
 use Rattle.ec_draw.specs.declared.open.Open.{Open}
 use Rattle.ec_draw.specs.declared.arrow.Arrow.{Arrow}
@@ -22,10 +22,6 @@ span_words first last = codes ", entries " ++ decimal first ++ codes " to " ++ d
 
 unfoldable pub point_words : ℕ → List ℕ
 point_words k = codes ", point " ++ decimal k
-
--- a finished call, as an entry that is told what the call was told in the end
-abbrev pub call_entry : Call → Entry
-call_entry c = record { worker = c.worker; act = c.op; reply = c.reply }
 
 -- a finished call: as an entry of a trace would spell it, with its entries and its point
 unfoldable pub call_words : Named → Placed → List ℕ

@@ -7,17 +7,17 @@ use Rattle.ec_core.specs.declared.act.Entry.{Entry}
 use Rattle.ec_core.specs.Acceptance.{IsAccepted}
 use Rattle.ec_order.specs.declared.dated.Dated.{Dated}
 use Rattle.ec_order.specs.declared.placed.Placed.{Placed}
-use Rattle.ec_order.specs.Timeline.{Timed, IsTimed, dated, dated_by_points, date, stands_alone, dates_on, dates}
+use Rattle.ec_order.specs.Timeline.{Timed, IsTimed, dated, dated_by_points, dated_point, stands_alone, dates_on, dates}
 use Rattle.ec_order.specs.Walk.{alone_at, placed_point, due_then, walk_on, readings_by_points}
 use Rattle.ec_order.proofs.Walking.{due_next, none_due, walk_is}
 
 -- THE WHOLE OF IT
 
 due_map : (k : ℕ) (f : List Dated → List Dated) (g : List Placed → List Placed) → ((ps : List Placed) → f (map dated ps) ≡ map dated (g ps)) → (ps : List Placed)
-    → due_then date k f (map dated ps) ≡ map dated (due_then placed_point k g ps)
+    → due_then dated_point k f (map dated ps) ≡ map dated (due_then placed_point k g ps)
 due_map k f g h [] = h []
 due_map k f g h (p ∷ ps) =
-    elim (nat_le p.point k) as (λ b. cond b (dated p ∷ due_then date k f (map dated ps)) (f (map dated (p ∷ ps))) ≡ map dated (cond b (p ∷ due_then placed_point k g ps) (g (p ∷ ps)))) [
+    elim (nat_le p.point k) as (λ b. cond b (dated p ∷ due_then dated_point k f (map dated ps)) (f (map dated (p ∷ ps))) ≡ map dated (cond b (p ∷ due_then placed_point k g ps) (g (p ∷ ps)))) [
       | true ↦ ap (λ ds. dated p ∷ ds) (due_map k f g h ps)
       | false ↦ h (p ∷ ps)
     ]
@@ -71,14 +71,14 @@ NoneDue rs i k = (d : Dated) → slice_get rs i ≡ Some d → k < d.point
 
 -- a read or an await that is due comes next
 pub dates_due : (k : ℕ) (ms : List Bool) (xs : List Entry) (rs : List Dated) (i : ℕ) (d : Dated) → slice_get rs i ≡ Some d → d.point ≤ k → dates k ms xs (drop i rs) ≡ d ∷ dates k ms xs (drop (i + 1) rs)
-dates_due k ms xs rs i d at due = due_next date k (dates_on k ms xs) rs i d at due
+dates_due k ms xs rs i d at due = due_next dated_point k (dates_on k ms xs) rs i d at due
 
 -- where none is due, a call by itself does
 pub dates_own : (k : ℕ) (ms : List Bool) (xs : List Entry) (j : ℕ) (x : Entry) (rs : List Dated) (i : ℕ) → NoneDue rs i k → slice_get ms k ≡ Some true → slice_get xs j ≡ Some x
     → dates k (drop k ms) (drop j xs) (drop i rs) ≡ record { point = k; entry = x } ∷ dates (k + 1) (drop (k + 1) ms) (drop (j + 1) xs) (drop i rs)
 unfolding dates_on
 dates_own k ms xs j x rs i none mark at =
-    none_due date k (dates_on k (drop k ms) (drop j xs)) rs i none
+    none_due dated_point k (dates_on k (drop k ms) (drop j xs)) rs i none
     ∙ ap (λ bs. dates_on k bs (drop j xs) (drop i rs)) (drop_at ms k true mark)
     ∙ ap (λ ys. dates_on k (true ∷ drop (k + 1) ms) ys (drop i rs)) (drop_at xs j x at)
 
@@ -87,16 +87,16 @@ pub dates_pass : (k : ℕ) (ms : List Bool) (xs : List Entry) (rs : List Dated) 
     → dates k (drop k ms) xs (drop i rs) ≡ dates (k + 1) (drop (k + 1) ms) xs (drop i rs)
 unfolding dates_on
 dates_pass k ms xs rs i none mark =
-    none_due date k (dates_on k (drop k ms) xs) rs i none ∙ ap (λ bs. dates_on k bs xs (drop i rs)) (drop_at ms k false mark)
+    none_due dated_point k (dates_on k (drop k ms) xs) rs i none ∙ ap (λ bs. dates_on k bs xs (drop i rs)) (drop_at ms k false mark)
 
 -- behind the last entry there is none
 pub dates_end : (k : ℕ) (ms : List Bool) (xs : List Entry) (rs : List Dated) (i : ℕ) → NoneDue rs i k → slice_get ms k ≡ None → dates k (drop k ms) xs (drop i rs) ≡ []
 unfolding dates_on
 dates_end k ms xs rs i none mark =
-    none_due date k (dates_on k (drop k ms) xs) rs i none ∙ ap (λ bs. dates_on k bs xs (drop i rs)) (drop_none ms k mark)
+    none_due dated_point k (dates_on k (drop k ms) xs) rs i none ∙ ap (λ bs. dates_on k bs xs (drop i rs)) (drop_none ms k mark)
 
 pub dates_out : (k : ℕ) (ms : List Bool) (xs : List Entry) (j : ℕ) (rs : List Dated) (i : ℕ) → NoneDue rs i k → slice_get ms k ≡ Some true → slice_get xs j ≡ None → dates k (drop k ms) (drop j xs) (drop i rs) ≡ []
 unfolding dates_on
 dates_out k ms xs j rs i none mark at =
-    none_due date k (dates_on k (drop k ms) (drop j xs)) rs i none ∙ ap (λ bs. dates_on k bs (drop j xs) (drop i rs)) (drop_at ms k true mark)
+    none_due dated_point k (dates_on k (drop k ms) (drop j xs)) rs i none ∙ ap (λ bs. dates_on k bs (drop j xs) (drop i rs)) (drop_at ms k true mark)
     ∙ ap (λ ys. dates_on k (true ∷ drop (k + 1) ms) ys (drop i rs)) (drop_none xs j at)

@@ -15,7 +15,7 @@ use Rattle.ec_order.specs.declared.placed.Placed.{Placed}
 use Rattle.ec_order.specs.Calls.{finished_calls, EndsCall}
 use Rattle.ec_order.specs.Points.{by_moments}
 use Rattle.ec_order.specs.Index.{advanced, moments_in, point_in, IsIndex}
-use Rattle.ec_order.specs.Timeline.{Timed, IsTimed, dated, date, stands_alone}
+use Rattle.ec_order.specs.Timeline.{Timed, IsTimed, dated, dated_point, stands_alone}
 use Rattle.ec_order.specs.Walk.{is_alone, placed_point, readings, IsPlaceFor, PutsIn}
 use Rattle.ec_order.proofs.Inserting.{map_insert}
 use Rattle.ec_order.proofs.Gathering.{alone_leaves, by_moments_none, readings_alone, readings_none, readings_one}
@@ -29,7 +29,7 @@ told_at [] i p at = cc
 told_at (q ∷ ps) zero p at = (let is : q ≡ p = cc in ap (λ r. Some (dated r)) is)
 told_at (q ∷ ps) (suc i) p at = told_at ps i p at
 
-place_told : (ps : List Placed) (k at : ℕ) → IsPlaceFor date (map dated ps) k at → IsPlaceFor placed_point ps k at
+place_told : (ps : List Placed) (k at : ℕ) → IsPlaceFor dated_point (map dated ps) k at → IsPlaceFor placed_point ps k at
 place_told ps k at h = record {
   within = (let le : at ≤ length (map dated ps) = h.within in omega (arith, length-map ps dated));
   after = λ i p le here. h.after i (dated p) le (told_at ps i p here);
@@ -42,7 +42,7 @@ newest_last : (x : Entry) (past : List Entry) → reverse (x ∷ past) ≡ rever
 newest_last x past = reverse-append (x ∷ []) past
 
 abbrev pub kept : Tables → List (Option Ongoing) → List (Vec ℕ Global) → List Bool → List Entry → List Dated → Bool → Timed
-kept t calls lists marks alone rs lacks = record { setup = t; calls = calls; moments = lists; marks = marks; alone = alone; readings = rs; lacks = lacks }
+kept t calls lists marks alone rs lacks = record { setup = t; under_way = calls; moments = lists; marks = marks; alone = alone; readings = rs; lacks = lacks }
 
 marked : (x : Entry) (past : List Entry) (marks : List Bool) (b : Bool) → stands_alone x ≡ b → marks ≡ map stands_alone (reverse past) → marks ++ b ∷ [] ≡ map stands_alone (reverse (x ∷ past))
 marked x past marks b is same =
@@ -55,14 +55,14 @@ left_alone x past alone same =
 
 pub timed_start : (t : Tables) (calls : List (Option Ongoing)) (lists : List (Vec ℕ Global)) (lacks : Bool) → AreCalls t calls [] → ((e : ℕ) → moments_in lists e ≡ []) → IsTimed (kept t calls lists [] [] [] lacks) []
 unfolding finished_calls advanced
-timed_start t calls lists lacks empty none = record { calls = empty; index = λ e lt. none e; marks = refl; alone = refl; readings = λ n le. ap (map dated) (sym (by_moments_none n)) }
+timed_start t calls lists lacks empty none = record { under_way = empty; index = λ e lt. none e; marks = refl; alone = refl; readings = λ n le. ap (map dated) (sym (by_moments_none n)) }
 
 -- a call by itself
 pub timed_alone : (t : Tables) (calls : List (Option Ongoing)) (lists lists' : List (Vec ℕ Global)) (marks marks' : List Bool) (alone alone' : List Entry) (rs : List Dated) (lacks : Bool) (x : Entry) (past : List Entry) → IsDeclared t → IsAccepted t (x ∷ past)
     → is_alone x.act ≡ true → IsTimed (kept t calls lists marks alone rs lacks) past → IsIndex (x ∷ past) lists' → marks' ≡ marks ++ true ∷ [] → alone' ≡ alone ++ x ∷ []
     → IsTimed (kept t calls lists' marks' alone' rs lacks) (x ∷ past)
 timed_alone t calls lists lists' marks marks' alone alone' rs lacks x past d acc is s index more one = record {
-  calls = λ w lt. s.calls w lt ∙ ap (λ o. Some (option_map (ongoing t) o)) (sym (alone_leaves t x past w d acc is));
+  under_way = λ w lt. s.under_way w lt ∙ ap (λ o. Some (option_map (ongoing t) o)) (sym (alone_leaves t x past w d acc is));
   index = index;
   marks = more ∙ marked x past marks true is s.marks;
   alone = one ∙ ap (λ b. alone ++ cond b (x ∷ []) []) (sym is) ∙ left_alone x past alone s.alone;
@@ -77,7 +77,7 @@ pub timed_none : (t : Tables) (calls calls' : List (Option Ongoing)) (lists list
     → is_alone x.act ≡ false → IsTimed (kept t calls lists marks alone rs lacks) past → IsIndex (x ∷ past) lists' → marks' ≡ marks ++ false ∷ [] → EndsCall t past x None calls'
     → IsTimed (kept t calls' lists' marks' alone rs lacks) (x ∷ past)
 timed_none t calls calls' lists lists' marks marks' alone rs lacks x past d acc is s index more ended = record {
-  calls = ended.after;
+  under_way = ended.after;
   index = index;
   marks = more ∙ marked x past marks false is s.marks;
   alone = others_stay x past alone is s.alone;
@@ -87,9 +87,9 @@ timed_none t calls calls' lists lists' marks marks' alone rs lacks x past d acc 
 -- where it ends one
 pub timed_one : (t : Tables) (calls calls' : List (Option Ongoing)) (lists lists' : List (Vec ℕ Global)) (marks marks' : List Bool) (alone : List Entry) (rs rs' : List Dated) (lacks : Bool) (x : Entry) (past : List Entry) (c : Call) → IsDeclared t → IsAccepted t (x ∷ past)
     → is_alone x.act ≡ false → IsTimed (kept t calls lists marks alone rs lacks) past → IsIndex (x ∷ past) lists' → marks' ≡ marks ++ false ∷ [] → EndsCall t past x (Some c) calls'
-    → PutsIn date rs rs' (dated (record { call = c; point = point_in lists' c })) → IsTimed (kept t calls' lists' marks' alone rs' lacks) (x ∷ past)
+    → PutsIn dated_point rs rs' (dated (record { call = c; point = point_in lists' c })) → IsTimed (kept t calls' lists' marks' alone rs' lacks) (x ∷ past)
 timed_one t calls calls' lists lists' marks marks' alone rs rs' lacks x past c d acc is s index more ended puts = record {
-  calls = ended.after;
+  under_way = ended.after;
   index = index;
   marks = more ∙ marked x past marks false is s.marks;
   alone = others_stay x past alone is s.alone;
@@ -97,7 +97,7 @@ timed_one t calls calls' lists lists' marks marks' alone rs rs' lacks x past c d
       let p : Placed = record { call = c; point = point_in lists' c } in
       let ps = by_moments (readings t past) n in
       let same : rs ≡ map dated ps = s.readings n (omega arith) in
-      let place : IsPlaceFor placed_point ps p.point puts.at = place_told ps p.point puts.at (subst (λ ds. IsPlaceFor date ds p.point puts.at) same puts.place) in
+      let place : IsPlaceFor placed_point ps p.point puts.at = place_told ps p.point puts.at (subst (λ ds. IsPlaceFor dated_point ds p.point puts.at) same puts.place) in
       puts.is ∙ ap (λ ds. insert ds puts.at (dated p)) same ∙ sym (map_insert dated ps puts.at p)
       ∙ ap (map dated) (readings_one t x past c lists' n puts.at ps d acc is ended.call index (omega arith) refl place);
 }

@@ -7,18 +7,30 @@ use Rattle.ec_core.specs.declared.act.Entry.{Entry}
 use Rattle.ec_core.specs.declared.ongoing.Ongoing.{Ongoing}
 use Rattle.ec_core.specs.Acceptance.{IsAccepted}
 use Rattle.ec_core.specs.Ongoing.{AreCalls}
+use Rattle.ec_order.specs.declared.call.Call.{Call}
 use Rattle.ec_order.specs.declared.dated.Dated.{Dated}
 use Rattle.ec_order.specs.declared.placed.Placed.{Placed}
 use Rattle.ec_order.specs.Index.{IsIndex}
 use Rattle.ec_order.specs.Points.{by_moments, ordered_by_points}
+use Rattle.ec_order.specs.Verdicts.{IsGood}
 use Rattle.ec_order.specs.Walk.{is_alone, due_then, readings}
 
--- a placed call, told as one entry with its point
-abbrev pub dated : Placed → Dated
-dated p = record { point = p.point; entry = record { worker = p.call.worker; act = p.call.op; reply = p.call.reply } }
+-- a call, told as one entry: what it asked for, and what it was told in the end
+abbrev pub call_entry : Call → Entry
+call_entry c = record { worker = c.worker; act = c.op; reply = c.reply }
 
-abbrev pub date : Dated → ℕ
-date d = d.point
+-- a placed call, told so, with its point
+abbrev pub dated : Placed → Dated
+dated p = record { point = p.point; entry = call_entry p.call }
+
+abbrev pub dated_point : Dated → ℕ
+dated_point d = d.point
+
+-- these tell a good order of the finished calls of a past
+pub record TellsGood (t : Tables) (past : List Entry) (calls : List Dated) : Type 0 where
+  pub placed : List Placed
+  pub told : calls ≡ map dated placed
+  pub good : IsGood t past placed
 
 -- the finished calls of a past by their points, told so
 abbrev pub dated_by_points : Tables → List Entry → List Dated
@@ -30,7 +42,7 @@ dated_by_points t past = map dated (ordered_by_points t past)
 -- itself, those that are, the finished reads and awaits by their points, and whether memory was refused for one
 pub record Timed : Type 0 where
   pub setup : Tables
-  pub calls : List (Option Ongoing)
+  pub under_way : List (Option Ongoing)
   pub moments : List (Vec ℕ Global)
   pub marks : List Bool
   pub alone : List Entry
@@ -43,7 +55,7 @@ stands_alone x = is_alone x.act
 
 -- it is that after an accepted past
 pub record IsTimed (k : Timed) (past : List Entry) : Type 0 where
-  pub calls : AreCalls k.setup k.calls past
+  pub under_way : AreCalls k.setup k.under_way past
   pub index : IsIndex past k.moments
   pub marks : k.marks ≡ map stands_alone (reverse past)
   pub alone : k.alone ≡ filter stands_alone (reverse past)
@@ -64,9 +76,9 @@ TimesOn start now past = (now.setup ≡ start.setup) × IsTimeline now past
 unfoldable pub dates_on : ℕ → List Bool → List Entry → List Dated → List Dated
 dates_on k [] alone readings = []
 dates_on k (true ∷ marks) [] readings = []
-dates_on k (true ∷ marks) (x ∷ alone) readings = record { point = k; entry = x } ∷ due_then date (k + 1) (dates_on (k + 1) marks alone) readings
-dates_on k (false ∷ marks) alone readings = due_then date (k + 1) (dates_on (k + 1) marks alone) readings
+dates_on k (true ∷ marks) (x ∷ alone) readings = record { point = k; entry = x } ∷ due_then dated_point (k + 1) (dates_on (k + 1) marks alone) readings
+dates_on k (false ∷ marks) alone readings = due_then dated_point (k + 1) (dates_on (k + 1) marks alone) readings
 
 -- the calls from moment k on
 abbrev pub dates : ℕ → List Bool → List Entry → List Dated → List Dated
-dates k marks alone readings = due_then date k (dates_on k marks alone) readings
+dates k marks alone readings = due_then dated_point k (dates_on k marks alone) readings

@@ -3,9 +3,7 @@ ghost use Rattle.std.specs.Prelude.{◌≡◌, ◌+◌, ◌<◌, ◌≤◌, ◌^
 ghost use Rattle.ec_core.specs.declared.act.Entry.{Entry};
 ghost use Rattle.ec_core.specs.Acceptance.{IsAccepted};
 ghost use Rattle.ec_order.specs.declared.dated.Dated.{Dated};
-ghost use Rattle.ec_order.specs.Points.{ordered_by_points};
-ghost use Rattle.ec_order.specs.Timeline.{dated, dated_by_points, IsTimed, IsTimeline};
-ghost use Rattle.ec_order.specs.Verdicts.{IsGood};
+ghost use Rattle.ec_order.specs.Timeline.{dated, dated_by_points, IsTimed, IsTimeline, TellsGood};
 
 use crate::by_points::ByPoints;
 use crate::gather::is_alone;
@@ -18,12 +16,12 @@ use std::alloc::{AllocError, Global};
 use std::marker::Model;
 
 /// The finished calls of a history by their points, gathered while the history goes past: each entry is handed to it once, by
-/// `take`. Of a call of one entry it keeps that entry, of a finished read or await one entry and its point, and a number of each
-/// advance; of all other entries one byte.
+/// `take`. Of an advance, a ticket, a put, a get or a hand it keeps the entry; of a finished read or await one entry that tells it,
+/// and its point; of an advance its moment too; and of every entry one byte.
 #[derive(Drop)]
 pub struct Timeline<'a> {
     setup: &'a Setup,
-    calls: Calls,
+    under_way: Calls,
     moments: Vec<Vec<usize>>,
     marks: Vec<bool>,
     alone: Segments,
@@ -37,7 +35,7 @@ impl<'a> Model for Timeline<'a> {
 
     ghost Value = { Timed };
 
-    ghost view = { λ s. record { setup = s.setup.now; calls = s.calls; moments = s.moments.items; marks = s.marks.items; alone = s.alone; readings = s.readings; lacks = s.lacks } };
+    ghost view = { λ s. record { setup = s.setup.now; under_way = s.under_way; moments = s.moments.items; marks = s.marks.items; alone = s.alone; readings = s.readings; lacks = s.lacks } };
 
     ghost invariant = { λ s. length s.moments.items ≡ 32 };
 }
@@ -64,7 +62,7 @@ impl<'a> Timeline<'a> {
     {
         Ok(Timeline {
             setup,
-            calls: Calls::new(),
+            under_way: Calls::new(),
             moments: no_moments(alloc)?,
             marks: Vec::new(alloc),
             alone: Segments::open(alloc)?,
@@ -87,7 +85,7 @@ impl<'a> Timeline<'a> {
         if alone {
             return self.alone.push(*entry);
         }
-        match take_in(&mut self.calls, self.setup, entry, place) {
+        match take_in(&mut self.under_way, self.setup, entry, place) {
             Some(call) => {
                 let point = point(&self.moments, &call);
                 self.readings.put(&dated(&call, point))
@@ -100,7 +98,7 @@ impl<'a> Timeline<'a> {
     /// was refused for one of the entries.
     pub fn calls(&self) -> Result<InTime<'_>, OrderFault>
         ensures value { (past : List Entry) → IsTimeline self.now past → IsAccepted self.now.setup past → IfOk result (λ calls. calls ≡ dated_by_points self.now.setup past) }
-        ensures good { (past : List Entry) → IsAccepted self.now.setup past → IfOk result (λ _. IsGood self.now.setup past (ordered_by_points self.now.setup past)) }
+        ensures good { (past : List Entry) → IsTimeline self.now past → IsAccepted self.now.setup past → IfOk result (λ calls. TellsGood self.now.setup past calls) }
     {
         self.setup.known();
         if self.lacks {

@@ -4,13 +4,13 @@ use crate::database_tests::is_version;
 use crate::drive::Ask::{Advance, Read, Ticket};
 use crate::drive::Told::Number;
 use crate::drive::{Line, Sight, Step, World, are_right, declared, go_on, right, run_on, sees};
-use crate::ids::worker;
+use crate::ids::{event, worker};
 use crate::order_tests::{self, are_shown, are_timed};
 use crate::semaphores::{Shapes, down_both, shapes_in};
 use crate::steps_tests::shows_without_the_third;
 use crate::{board_tests, buffer_tests, database_tests};
 use ec_buffer::{BufferShape, Consume, Produce, deliveries};
-use ec_core::{Procedure, Reply, Run};
+use ec_core::{Act, Entry, Procedure, Reply, Run, Segments};
 use ec_count::{Setup, SetupFault};
 use ec_database::{DatabaseShape, Snapshot, versions};
 use ec_order::{in_order, order};
@@ -154,6 +154,36 @@ fn the_calls_of_a_long_run_are_ordered_and_judged(rt: HostRuntime) -> Result<(),
     let (run, _) = long_run(rt.alloc())?;
     are_shown(rt.alloc(), &run, &ORDERED)?;
     assert!(rt; is_the_same_order(rt.alloc(), &run));
+    Ok(())
+}
+
+/// The entry that a list has at a place.
+fn entry_at(place: usize) -> Entry {
+    Entry {
+        worker: worker(0),
+        act: Act::Await(event(0), place as u64),
+        reply: Reply::Pending,
+    }
+}
+
+/// Whether a list has so many entries, each in its place.
+fn has_entries(list: &Segments, many: usize) -> bool {
+    for place in 0..many {
+        if list.get(place) != Some(entry_at(place)) {
+            return false;
+        }
+    }
+    list.len() == many && list.get(many).is_none()
+}
+
+#[test]
+fn a_list_of_entries_goes_on_behind_its_segments(rt: HostRuntime) -> Result<(), Fail> {
+    let mut list = Segments::open(rt.alloc())?;
+    assert!(rt; has_entries(&list, 0));
+    for place in 0..8193 {
+        list.push(entry_at(place))?;
+    }
+    assert!(rt; has_entries(&list, 8193));
     Ok(())
 }
 

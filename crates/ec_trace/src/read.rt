@@ -46,7 +46,8 @@ fn fault_at(number: u64, fault: StageFault) -> TraceFault
     }
 }
 
-/// Has the step of an entry made, and compares what it is told with the reply in its line.
+/// Has the step of an entry made, and compares what it is told with the reply in its line. (Each call of it is a copy of its own: so
+/// what is kept of a front goes to the history in registers.)
 #[inline(always)]
 fn enter<H: History>(heading: &Heading, history: &mut H, entry: &Entry) -> Result<(), StageFault>
     ensures { (line : List ℕ) → entry_of heading.now.words line ≡ Some entry.now → TakesLine H.stands heading.now history.old history.new line result }
@@ -67,8 +68,7 @@ fn enter<H: History>(heading: &Heading, history: &mut H, entry: &Entry) -> Resul
     }
 }
 
-/// Takes an entry whose line is read word by word. (Each way to an entry has its own `enter`, so that what is kept of a front
-/// goes there in registers.)
+/// Takes an entry whose line is read word by word.
 #[cold]
 #[inline(never)]
 fn take_anew<H: History>(

@@ -10,7 +10,7 @@ use Rattle.ec_text.specs.Puts.{AppendsPrefix}
 use Rattle.ec_order.specs.declared.dated.Dated.{Dated}
 use Rattle.ec_order.specs.declared.placed.Placed.{Placed}
 use Rattle.ec_order.specs.Points.{ordered_by_points}
-use Rattle.ec_order.specs.Timeline.{Timed, IsTimeline, dated, dated_by_points}
+use Rattle.ec_order.specs.Timeline.{Timed, IsTimeline, TellsGood, dated, dated_by_points}
 use Rattle.ec_order.specs.Verdicts.{IsGood}
 use Rattle.ec_heading.specs.Headed.{Headed}
 use Rattle.ec_heading.specs.Spelling.{Named, text_of, ended_line}
@@ -21,7 +21,7 @@ use Rattle.ec_trace.specs.declared.fault.TraceFault.TheVariants.{BadLine, Refuse
 use Rattle.ec_trace.specs.declared.read.TheConstants.{TRACE_MAX}
 use Rattle.evc_engine.specs.declared.status.Status.{Status}
 use Rattle.evc_engine.specs.declared.status.Status.TheVariants as statuses
-use Rattle.evc_engine.specs.Halts.{IsOf, IsGathered}
+use Rattle.evc_engine.specs.Halts.{IsOf, IsReadInto}
 use Rattle.evc_engine.specs.Notes.{fault_note, fault_status}
 use Rattle.evc_engine.specs.Texts.{dated_line, placed_line, told_lines, check_lines, check_text}
 use Rattle.evc_engine.specs.Checks.{Checks, Outlets, Notes, ReadsAs, Writes, text_for, TellsGoodOrder}
@@ -42,11 +42,11 @@ lines_are names (p ∷ ps) = ap (λ ls. placed_line names p ∷ ls) (lines_are n
 
 module _ (h : Headed) (entries : List Entry) (world : State) (timeline : Timed) where
   -- its declarations are those of the heading
-  on_heading : IsGathered h entries world timeline → IsAccepted timeline.setup (reverse entries)
+  on_heading : IsReadInto h entries world timeline → IsAccepted timeline.setup (reverse entries)
   on_heading g = subst (λ (t : Tables). IsAccepted t (reverse entries)) (g.world_setup ∙ sym g.setup) g.world_stands.accepted
 
   -- the text that is written is that of the trace
-  text_is : (ds : List Dated) → IsGathered h entries world timeline → (IsTimeline timeline (reverse entries) → IsAccepted timeline.setup (reverse entries) → ds ≡ dated_by_points timeline.setup (reverse entries))
+  text_is : (ds : List Dated) → IsReadInto h entries world timeline → (IsTimeline timeline (reverse entries) → IsAccepted timeline.setup (reverse entries) → ds ≡ dated_by_points timeline.setup (reverse entries))
       → text_of (told_lines h entries (map (dated_line h.words) ds)) ≡ text_for (record { heading = h; entries = entries })
   unfolding check_text
   text_is ds g is =
@@ -54,27 +54,28 @@ module _ (h : Headed) (entries : List Entry) (world : State) (timeline : Timed) 
       ∙ ap (λ ls. text_of (told_lines h entries ls)) (lines_are h.words (ordered_by_points h.setup (reverse entries)))
 
   -- and it tells a good order
-  pub good_told : (IsAccepted timeline.setup (reverse entries) → IsGood timeline.setup (reverse entries) (ordered_by_points timeline.setup (reverse entries))) → IsGathered h entries world timeline
-      → TellsGoodOrder (record { heading = h; entries = entries }) (text_for (record { heading = h; entries = entries }))
-  unfolding check_text
-  good_told good g = record {
-    placed = ordered_by_points h.setup (reverse entries);
-    good = subst (λ (t : Tables). IsGood t (reverse entries) (ordered_by_points t (reverse entries))) g.setup (good (on_heading g));
-    is = refl;
-  }
+  pub good_told : (ds : List Dated) → IsReadInto h entries world timeline → (IsTimeline timeline (reverse entries) → IsAccepted timeline.setup (reverse entries) → ds ≡ dated_by_points timeline.setup (reverse entries))
+      → (IsTimeline timeline (reverse entries) → IsAccepted timeline.setup (reverse entries) → TellsGood timeline.setup (reverse entries) ds) → TellsGoodOrder (record { heading = h; entries = entries }) (text_for (record { heading = h; entries = entries }))
+  good_told ds g is good =
+      let t = good g.stands (on_heading g) in
+      record {
+        placed = t.placed;
+        good = subst (λ (s : Tables). IsGood s (reverse entries) t.placed) g.setup t.good;
+        is = sym (text_is ds g is) ∙ ap (λ (l : List Dated). text_of (told_lines h entries (map (dated_line h.words) l))) t.told ∙ ap (λ ls. text_of (told_lines h entries ls)) (lines_are h.words t.placed);
+      }
 
-  pub text_written : (a b : Option (List ℕ)) (ds : List Dated) → IsGathered h entries world timeline
+  pub text_written : (a b : Option (List ℕ)) (ds : List Dated) → IsReadInto h entries world timeline
       → (IsTimeline timeline (reverse entries) → IsAccepted timeline.setup (reverse entries) → ds ≡ dated_by_points timeline.setup (reverse entries))
       → Appends a b (text_of (told_lines h entries (map (dated_line h.words) ds))) → Appends a b (text_for (record { heading = h; entries = entries }))
   text_written a b ds g is put = subst (Appends a b) (text_is ds g is) put
 
-  pub front_written : (a b : Option (List ℕ)) (ds : List Dated) → IsGathered h entries world timeline
+  pub front_written : (a b : Option (List ℕ)) (ds : List Dated) → IsReadInto h entries world timeline
       → (IsTimeline timeline (reverse entries) → IsAccepted timeline.setup (reverse entries) → ds ≡ dated_by_points timeline.setup (reverse entries))
       → AppendsPrefix a b (text_of (told_lines h entries (map (dated_line h.words) ds))) → AppendsPrefix a b (text_for (record { heading = h; entries = entries }))
   front_written a b ds g is put = subst (AppendsPrefix a b) (text_is ds g is) put
 
 -- the bytes are read as the trace of this history
-reads_as : (bytes : List ℕ) (h : Headed) (entries : List Entry) → IsOf bytes h entries → ReadsAs bytes (record { heading = h; entries = entries })
+pub reads_as : (bytes : List ℕ) (h : Headed) (entries : List Entry) → IsOf bytes h entries → ReadsAs bytes (record { heading = h; entries = entries })
 reads_as bytes h entries told = record { trace = read_is_trace bytes (record { heading = h; entries = entries }) told; told = told }
 
 -- how the writing of its text ended

@@ -4,16 +4,17 @@ use Rattle.std.specs.Io.KnownBytes.{Keeps}
 use Rattle.ec_core.specs.declared.act.Entry.{Entry}
 use Rattle.ec_core.specs.declared.audit.AuditFault.TheVariants as faults
 use Rattle.ec_heading.specs.Headed.{Headed}
-use Rattle.ec_trace.proofs.shared.ReadTraces.{read_is_trace, trace_refuses}
+use Rattle.ec_trace.proofs.shared.ReadTraces.{trace_refuses}
 use Rattle.ec_trace.specs.Outcome.{Tells}
 use Rattle.ec_trace.specs.declared.fault.TraceFault.{TraceFault}
 use Rattle.ec_trace.specs.declared.fault.TraceFault.TheVariants.{BadLine, Refused, WrongReply, Unfinished, TooLarge, Read, Memory}
 use Rattle.ec_trace.specs.declared.read.TheConstants.{TRACE_MAX}
 use Rattle.evc_engine.specs.Audits.{AreAudited, IsStop, AuditWrites, Audits, stop_status, stop_note}
-use Rattle.evc_engine.specs.Checks.{Outlets, Notes, ReadsAs}
+use Rattle.evc_engine.specs.Checks.{Outlets, Notes}
 use Rattle.evc_engine.specs.Halts.{IsOf}
 use Rattle.evc_engine.specs.Notes.{fault_note, fault_status}
 use Rattle.evc_engine.specs.declared.audited.Audited.{Audited}
+use Rattle.evc_engine.proofs.CheckLemmas.{reads_as}
 use Rattle.ec_core.specs.declared.audit.AuditFault.{AuditFault}
 use Rattle.evc_engine.specs.declared.status.Status.TheVariants as statuses
 
@@ -23,20 +24,17 @@ stays None = tt
 stays (Some xs) = refl
 
 module _ (bytes : List ℕ) (left : Option (List ℕ)) (h : Headed) (old new : Outlets) where
-  reads_as : (entries : List Entry) → IsOf bytes h entries → ReadsAs bytes (record { heading = h; entries = entries })
-  reads_as entries told = record { trace = read_is_trace bytes (record { heading = h; entries = entries }) told; told = told }
-
   -- what was found was written, or a write failed
   pub all_written : (entries : List Entry) (found : List Audited) → IsOf bytes h entries → AreAudited h entries found → AuditWrites h found statuses.Done old new → Audits bytes left statuses.Done old new
-  all_written entries found told audited writes = (record { heading = h; entries = entries }, reads_as entries told, record { found = found; audited = audited; writes = writes })
+  all_written entries found told audited writes = (record { heading = h; entries = entries }, reads_as bytes h entries told, record { found = found; audited = audited; writes = writes })
 
   pub some_written : (entries : List Entry) (found : List Audited) → IsOf bytes h entries → AreAudited h entries found → AuditWrites h found statuses.InputOutput old new → Audits bytes left statuses.InputOutput old new
-  some_written entries found told audited writes = inl (record { heading = h; entries = entries }, reads_as entries told, record { found = found; audited = audited; writes = writes })
+  some_written entries found told audited writes = inl (record { heading = h; entries = entries }, reads_as bytes h entries told, record { found = found; audited = audited; writes = writes })
 
   -- a group is not followed, or there was no memory
   pub stop_told : (entries : List Entry) (i : ℕ) (fault : AuditFault) → IsOf bytes h entries → IsStop h entries i fault → Keeps old.out new.out → Notes old new (stop_note h i fault) → Audits bytes left (stop_status fault) old new
   stop_told entries i (faults.NotFollowed w k) told breaks out note =
-      inl (record { heading = h; entries = entries }, reads_as entries told, record { group = i; worker = w; entry = k; breaks = breaks; out = out; note = note })
+      inl (record { heading = h; entries = entries }, reads_as bytes h entries told, record { group = i; worker = w; entry = k; breaks = breaks; out = out; note = note })
   stop_told entries i faults.Memory told breaks out note = (out, note)
 
 -- the trace was not read

@@ -26,7 +26,7 @@ FindsIn bytes left h (Err (Unread fault)) = Tells TRACE_MAX bytes left (Err faul
 FindsIn bytes left h (Err Memory) = ⊤
 
 -- this is what was gathered of a history: the world after it, and its finished calls by their points
-pub record IsGathered (h : Headed) (entries : List Entry) (world : State) (timeline : Timed) : Type 0 where
+pub record IsReadInto (h : Headed) (entries : List Entry) (world : State) (timeline : Timed) : Type 0 where
   pub world_stands : StandsFor world entries
   pub world_setup : world.setup ≡ h.setup
   pub setup : timeline.setup ≡ h.setup
@@ -34,5 +34,5 @@ pub record IsGathered (h : Headed) (entries : List Entry) (world : State) (timel
 
 -- the bytes are a trace under the heading, and this was gathered of it; or its fault is told
 abbrev pub GathersIn : List ℕ → Option (List ℕ) → Headed → Result (State × Timed) TraceFault → Type 0
-GathersIn bytes left h (Ok (world, timeline)) = (entries : List Entry) × IsOf bytes h entries × IsGathered h entries world timeline
+GathersIn bytes left h (Ok (world, timeline)) = (entries : List Entry) × IsOf bytes h entries × IsReadInto h entries world timeline
 GathersIn bytes left h (Err fault) = Tells TRACE_MAX bytes left (Err fault)

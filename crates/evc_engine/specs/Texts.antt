@@ -5,16 +5,12 @@ use Rattle.ec_count.specs.declared.target.Target.{Target}
 use Rattle.ec_count.specs.declared.target.Target.TheVariants.{Worker, Event, Sequencer, Cells, Group}
 use Rattle.ec_core.specs.declared.act.Entry.{Entry}
 use Rattle.ec_core.specs.Counts.{total, issued, cell_value}
-use Rattle.ec_order.specs.declared.call.Call.{Call}
 use Rattle.ec_order.specs.declared.dated.Dated.{Dated}
 use Rattle.ec_order.specs.declared.placed.Placed.{Placed}
 use Rattle.ec_order.specs.Points.{ordered_by_points}
+use Rattle.ec_order.specs.Timeline.{call_entry}
 use Rattle.ec_heading.specs.Headed.{Headed}
 use Rattle.ec_heading.specs.Spelling.{Named, entry_line, text_of}
-
--- a finished call, spelled as an entry: what it asked for, and what it was told in the end
-abbrev pub call_entry : Call → Entry
-call_entry c = record { worker = c.worker; act = c.op; reply = c.reply }
 
 abbrev pub placed_line : Named → Placed → List ℕ
 placed_line names p = decimal p.point ++ codes " " ++ entry_line names (call_entry p.call)

@@ -1,10 +1,10 @@
 //! `check`: a trace in; the order of its calls and the totals out.
-ghost use Rattle.std.specs.Prelude.{◌≡◌, ℕ, List, Option, [], IfSome, Ok, Err};
+ghost use Rattle.std.specs.Prelude.{◌≡◌, ℕ, List, Option, IfSome, Ok, Err};
 ghost use Rattle.ec_core.specs.declared.act.Entry.{Entry};
 ghost use Rattle.ec_text.specs.Puts.{Puts, IsWrittenOut};
 ghost use Rattle.ec_trace.specs.Reading.{IsOpened};
 ghost use Rattle.evc_engine.specs.Checks.{Checks, Writes};
-ghost use Rattle.evc_engine.specs.Halts.{IsGathered, GathersIn};
+ghost use Rattle.evc_engine.specs.Halts.{IsReadInto, GathersIn};
 ghost use Rattle.evc_engine.specs.Notes.{fault_note, fault_status};
 
 use crate::notes::say_fault;
@@ -69,7 +69,7 @@ fn write_order<W: Write, N: Write>(
     out: &mut W,
     notes: &mut Out<'_, N>,
 ) -> Status
-    ensures ends { (entries : List Entry) → IsGathered heading.now entries world.now timeline.now → Writes (record { heading = heading.now; entries = entries }) result
+    ensures ends { (entries : List Entry) → IsReadInto heading.now entries world.now timeline.now → Writes (record { heading = heading.now; entries = entries }) result
         (record { out = W.contents out.old; notes = notes.old })
         (record { out = W.contents out.new; notes = notes.new }) }
     ensures written { IsWrittenOut notes.old → IsWrittenOut notes.new }
@@ -108,8 +108,7 @@ fn write_checked<W: Write, N: Write>(
 
 /// Reads a trace, and writes the order of its finished calls and the totals; notes say what is wrong.
 ///
-/// The trace goes past once, and of its entries nothing is kept but what the text needs. Nothing is written to `out` before the
-/// trace was read to its end.
+/// The trace goes past once, and no run of it is kept. Nothing is written to `out` before the trace was read to its end.
 pub fn check<R: Read, W: Write, N: Write>(
     alloc: Global,
     reader: &mut R,

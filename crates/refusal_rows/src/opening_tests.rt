@@ -1,4 +1,5 @@
 //! Calls that make something new: where memory is refused they say so, and there is nothing else.
+use crate::ids::event;
 use crate::steps_tests::one_worker;
 use crate::texts::{DATABASE, GROUPS, SCRIPT_OF_TWO, SEMAPHORES, TRACE_OF_TWO};
 use crate::way::{Answer, Call, Want, Way, tell, way_of};
@@ -105,7 +106,7 @@ fn upgraded(alloc: Global) -> Answer {
     }
 }
 
-/// Lets the trace of semaphores go past the audit of the first.
+/// Lets the trace of semaphores go past the audit of the first, whose eventcount is advanced twice.
 fn found(alloc: Global) -> Answer {
     let mut reader = SEMAPHORES.as_bytes();
     let Opened { heading, lines } = match open_trace(alloc, &mut reader) {
@@ -123,7 +124,10 @@ fn found(alloc: Global) -> Answer {
         ups: 2,
     };
     match read_entries(alloc, lines, &mut reader, &heading, &mut watched) {
-        Ok(()) => Answer::of(watched.into_parts().1.so_far() == right),
+        Ok(()) => {
+            let (world, audit) = watched.into_parts();
+            Answer::of(audit.so_far() == right && world.total(event(0)) == Some(2))
+        }
         Err(TraceFault::Memory) => Answer::Wants(Want::Memory),
         Err(_) => Answer::Wrong,
     }

@@ -1,5 +1,6 @@
 use Rattle.std.proofs.Common.{◌≡◌, ◌∙◌, ap, sym, subst, false}
 use Rattle.ec_count.specs.Tables.{IsDeclared}
+use Rattle.ec_order.specs.Points.{ordered_by_points}
 use Rattle.ec_order.specs.Timeline.{Timed, dates}
 use Rattle.ec_order.proofs.Dates.{dates_of}
 use Rattle.ec_order.proofs.Legal.{order_good}
@@ -14,5 +15,10 @@ returns-clause-value c = λ past s acc.
     ∙ ap (λ (z : Timed). dates 0 z.marks z.alone z.readings) c.self.view_is ∙ dates_of k past declared acc (s lacks acc)
 
 pub returns-clause-good : goal.returns-clause-good
-returns-clause-good c = λ past acc.
-    order_good c.args.self.now.setup past (subst IsDeclared (ap (λ (z : Timed). z.setup) c.self.view_is) c.known.ensures) acc
+returns-clause-good c = λ past s acc.
+    let k = c.args.self.now in
+    record {
+      placed = ordered_by_points k.setup past;
+      told = returns-clause-value c past s acc;
+      good = order_good k.setup past (subst IsDeclared (ap (λ (z : Timed). z.setup) c.self.view_is) c.known.ensures) acc;
+    }
