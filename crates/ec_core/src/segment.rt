@@ -10,7 +10,7 @@ use std::marker::Model;
 pub(crate) const SEGMENT: usize = 4096;
 
 /// Some entries in order, as a run keeps them, and the words of their numbers beside them. There is room for a full segment from the
-/// beginning, so that no entry in it ever moves.
+/// beginning, so that no entry in it ever moves, and for a word of each entry, so that most words don't either.
 #[derive(Drop)]
 pub(crate) struct Segment {
     stored: Vec<Stored>,
@@ -36,10 +36,8 @@ impl Segment {
         ensures { IfOk result (λ segment. segment ≡ []) }
     {
         let stored = Vec::with_capacity(alloc, SEGMENT)?;
-        Ok(Segment {
-            stored,
-            words: Vec::new(alloc),
-        })
+        let words = Vec::with_capacity(alloc, SEGMENT + 4)?;
+        Ok(Segment { stored, words })
     }
 
     /// The allocator that the segment was opened with.

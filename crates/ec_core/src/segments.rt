@@ -11,8 +11,8 @@ use std::mem;
 /// The greatest number of full segments: far more than fit in any memory.
 const SEGMENTS_MAX: usize = 1 << 51;
 
-/// A list of entries that grows by segments, so that what stands in it never moves. An entry takes 8 bytes in it, and 4 more for
-/// most numbers.
+/// A list of entries that grows by segments, so that no entry in it ever moves. An entry takes 8 bytes in it, and 4 more for
+/// most numbers; a segment has room for one such number an entry, and grows where there are more.
 #[derive(Drop)]
 pub struct Segments {
     full: Vec<Segment>,
