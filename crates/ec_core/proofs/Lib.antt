@@ -5,3 +5,4 @@ pub mod ReplyKinds
 pub mod CallsCut
 pub mod FallenShort
 pub mod Keeping
+pub mod Components

@@ -6,6 +6,7 @@ pub mod Acceptance
 pub mod Silence
 pub mod Progress
 pub mod Standing
+pub mod Signallers
 pub mod Fields
 pub mod Recorded
 pub mod Segmented

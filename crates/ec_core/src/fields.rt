@@ -1,81 +1,36 @@
 //! What a step asks of a setup and of the arrays of a world, and what it does to them.
-ghost use Rattle.std.specs.Prelude.{◌≡◌, ℕ, false, ◌<◌, ◌≤◌, length, slice_get, Some, IfSome};
+ghost use Rattle.std.specs.Prelude.{◌≡◌, ℕ, false, ◌<◌, ◌≤◌, length, slice_get, Some};
 ghost use Rattle.ec_count.specs.Counted.{raised};
-ghost use Rattle.ec_count.specs.Members.{place_of, is_member};
 ghost use Rattle.ec_count.specs.Tables.{signallers};
 ghost use Rattle.ec_core.specs.Acceptance.{names_unknown_object, is_too_large};
 ghost use Rattle.ec_core.specs.Rounds.{event_or, width};
-ghost use Rattle.ec_core.specs.Counts.{replaced, sum_to};
+ghost use Rattle.ec_core.specs.Counts.{sum_to};
 ghost use Rattle.ec_core.specs.Standing.{count_at};
-ghost use Rattle.ec_core.specs.Fields.{IsNamed, signallers_in, value_of, changed_at, replaced_new};
+ghost use Rattle.ec_core.specs.Fields.{IsNamed, value_of, changed_at};
 
+use crate::signallers::Signallers;
 use crate::{Act, VALUE_MAX};
-use ec_count::{Count, EventId, Members, Setup, WorkerId};
+use ec_count::{Count, EventId, Setup};
 
 /// The declared signallers of an eventcount.
-fn declared_for(setup: &Setup, event: EventId) -> Members
+fn declared_for(setup: &Setup, event: EventId) -> Signallers
     ensures { result ≡ signallers setup.now event }
 {
     setup.known();
-    Members::new(setup.signallers(event))
+    Signallers::new(setup.signallers(event))
 }
 
 /// The declared signallers of each eventcount.
-pub(crate) fn declared(setup: &Setup) -> [Members; 32]
+pub(crate) fn declared(setup: &Setup) -> [Signallers; 32]
     ensures { (e : ℕ) → e < 32 → slice_get result e ≡ Some (signallers setup.now e) }
 {
-    let mut signal: [Members; 32] = Default::default();
+    let mut signal: [Signallers; 32] = Default::default();
     for e in 0..32 {
         if let Some(event) = EventId::new(e) {
             signal[e] = declared_for(setup, event);
         }
     }
     signal
-}
-
-/// The worker that signals component c of eventcount e.
-pub(crate) fn signaller_in(
-    signal: &[Members; 32],
-    event: usize,
-    component: usize,
-) -> Option<WorkerId>
-    requires { event < 32 }
-    ensures { result ≡ slice_get (signallers_in signal.now event) component }
-{
-    let members = &signal[event];
-    members.get(component)
-}
-
-/// The component of eventcount e that the worker signals.
-#[inline(always)]
-pub(crate) fn place_in(signal: &[Members; 32], event: usize, worker: WorkerId) -> Option<usize>
-    requires { event < 32 }
-    ensures value { result ≡ place_of worker (signallers_in signal.now event) }
-    ensures few { IfSome result (λ c. c < 16) }
-{
-    let members = &signal[event];
-    members.place(worker)
-}
-
-/// Puts the one worker in the other's place.
-fn hand(members: &mut Members, from: WorkerId, to: WorkerId)
-    requires { is_member to members.old ≡ false }
-    ensures { members.new ≡ replaced (place_of from members.old) to members.old }
-{
-    if let Some(place) = members.place(from) {
-        members.replace(place, to);
-    }
-}
-
-/// Hands the one worker's component of eventcount e to the other, unless that one signals it too.
-pub(crate) fn hand_in(signal: &mut [Members; 32], event: usize, from: WorkerId, to: WorkerId)
-    requires { event < 32 }
-    ensures { signal.new ≡ changed_at (λ ws. replaced_new (place_of from ws) to ws) signal.old event }
-{
-    let members = &mut signal[event];
-    if !members.contains(to) {
-        hand(members, from, to);
-    }
 }
 
 /// Whether the act names something that is not declared.

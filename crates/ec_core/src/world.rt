@@ -12,11 +12,12 @@ ghost use Rattle.ec_core.specs.Fields.{kept_call, component_in, right_in, alread
 
 use crate::effect::Effect;
 use crate::fields::{
-    all_alike, count_in, count_of, declared, event_or, hand_in, is_too_large, named,
-    names_unknown_object, place_in, raise_at, raise_in, same_again, signaller_in, sum_of, width,
+    all_alike, count_in, count_of, declared, event_or, is_too_large, named, names_unknown_object,
+    raise_at, raise_in, same_again, sum_of, width,
 };
+use crate::signallers::Signallers;
 use crate::{Act, Entry, Refusal, Reply, UnderWay, VALUE_MAX};
-use ec_count::{CellId, Count, EventId, Members, SeqId, Setup, WorkerId};
+use ec_count::{CellId, Count, EventId, SeqId, Setup, WorkerId};
 use std::marker::Model;
 
 /// The refusal, where the test holds.
@@ -31,7 +32,7 @@ fn refuse_if(test: bool, refusal: Refusal) -> Result<(), Refusal>
 #[derive(Drop)]
 pub struct World {
     setup: Setup,
-    signal: [Members; 32],
+    signal: [Signallers; 32],
     counts: [[Count; 16]; 32],
     issued: [Count; 32],
     cells: [u64; 256],
@@ -92,7 +93,8 @@ impl World {
     pub fn signaller(&self, event: EventId, component: usize) -> Option<WorkerId>
         ensures { (h : List Entry) → StandsFor self.now h → result ≡ signaller_at self.now.setup event (reverse h) component }
     {
-        signaller_in(&self.signal, event.get(), component)
+        let signallers = &self.signal[event.get()];
+        signallers.signaller(component)
     }
 
     /// The component of an eventcount that the worker signals now. None where it signals none of it,
@@ -108,7 +110,8 @@ impl World {
         ensures value { result ≡ component_in self.now event worker }
         ensures few { IfSome result (λ c. c < 16) }
     {
-        place_in(&self.signal, event.get(), worker)
+        let signallers = &self.signal[event.get()];
+        signallers.component(worker)
     }
 
     /// The total of an eventcount: how many advances of it there were. None where it is not
@@ -276,7 +279,10 @@ impl World {
             Effect::Draw(sequencer, _) => raise_at(&mut self.issued, sequencer.get()),
             Effect::Put(cell, value) => self.cells[cell.get()] = value,
             Effect::Get(_) => {}
-            Effect::Hand(event, to) => hand_in(&mut self.signal, event.get(), worker, to),
+            Effect::Hand(event, to) => {
+                let signallers = &mut self.signal[event.get()];
+                signallers.hand(worker, to);
+            }
         }
     }
 
