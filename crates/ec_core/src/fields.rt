@@ -6,7 +6,7 @@ ghost use Rattle.ec_core.specs.Acceptance.{names_unknown_object, is_too_large};
 ghost use Rattle.ec_core.specs.Rounds.{event_or, width};
 ghost use Rattle.ec_core.specs.Counts.{sum_to};
 ghost use Rattle.ec_core.specs.Standing.{count_at};
-ghost use Rattle.ec_core.specs.Fields.{IsNamed, value_of, changed_at};
+ghost use Rattle.ec_core.specs.Fields.{value_of, changed_at};
 
 use crate::signallers::Signallers;
 use crate::{Act, VALUE_MAX};
@@ -59,27 +59,24 @@ pub(crate) fn is_too_large(act: &Act) -> bool
     }
 }
 
-/// The number of the eventcount that an act names, and 0 for an act that names none.
-pub(crate) fn event_or(op: Act) -> usize
-    ensures value { result ≡ event_or op }
-    ensures small { result < 32 }
+/// The eventcount that an act names, and the first one for an act that names none.
+pub(crate) fn event_or(op: Act) -> EventId
+    ensures { result ≡ event_or op }
 {
     match op {
-        Act::Advance(event) | Act::Read(event) | Act::Await(event, _) => event.get(),
-        Act::Go | Act::Ticket(_) | Act::Put(_, _) | Act::Get(_) | Act::Hand(_, _) => 0,
+        Act::Advance(event) | Act::Read(event) | Act::Await(event, _) => event,
+        Act::Go | Act::Ticket(_) | Act::Put(_, _) | Act::Get(_) | Act::Hand(_, _) => {
+            EventId::new(0).unwrap()
+        }
     }
 }
 
 /// How many components the eventcount has; 0 where it is not declared.
-pub(crate) fn width(setup: &Setup, event: usize) -> usize
-    requires { event < 32 }
+pub(crate) fn width(setup: &Setup, event: EventId) -> usize
     ensures value { result ≡ width setup.now event }
     ensures few { result ≤ 16 }
 {
-    match EventId::new(event) {
-        Some(event) => setup.components(event).unwrap_or(0),
-        None => 0,
-    }
+    setup.components(event).unwrap_or(0)
 }
 
 /// Component c of eventcount e.
@@ -145,22 +142,4 @@ pub(crate) fn same_again<T: Copy, const N: usize>(xs: &[T; N]) -> [T; N]
     ensures { result ≡ xs.now }
 {
     *xs
-}
-
-/// What is known of the ids that an act names.
-pub(crate) fn named(act: &Act)
-    ensures { IsNamed act.now }
-{
-    match *act {
-        Act::Advance(event) | Act::Read(event) | Act::Await(event, _) | Act::Hand(event, _) => {
-            let _event = event.get();
-        }
-        Act::Go => {}
-        Act::Ticket(sequencer) => {
-            let _sequencer = sequencer.get();
-        }
-        Act::Put(cell, _) | Act::Get(cell) => {
-            let _cell = cell.get();
-        }
-    }
 }

@@ -1,9 +1,11 @@
 //! Calls under way, as a world keeps them.
-ghost use Rattle.std.specs.Prelude.{◌≡◌, ◌+◌, ◌*◌, ◌^◌, ◌<◌, ◌≤◌};
-ghost use Rattle.ec_core.specs.Fields.{begun, one_read};
+ghost use Rattle.std.specs.Prelude.{◌≡◌, ◌+◌, ◌*◌, ◌^◌, ◌<◌, ◌≤◌, IsSome, slice_get};
+ghost use Rattle.ec_core.specs.Rounds.{event_or, read_of};
+ghost use Rattle.ec_core.specs.Fields.{begun, one_read, value_of};
 
 use crate::effect::Effect;
 use crate::{Act, Reply};
+use ec_count::{Count, EventId};
 use std::marker::Model;
 
 /// A call under way: the act that began it, the component that the next Go reads, and the sum of
@@ -16,14 +18,15 @@ pub struct UnderWay {
 }
 
 impl Model for UnderWay {
-    ghost use Rattle.std.specs.Prelude.{◌*◌, ◌^◌, ◌<◌, ◌≤◌};
+    ghost use Rattle.std.specs.Prelude.{◌*◌, ◌^◌, ◌<◌, ◌≤◌, IsSome};
     ghost use Rattle.ec_core.specs.Progress.{Progress};
+    ghost use Rattle.ec_core.specs.Rounds.{read_of};
 
     ghost Value = { Progress };
 
     ghost view = { λ u. record { op = u.op; index = u.index; sum = u.sum } };
 
-    ghost invariant = { λ u. (u.index < 16) × (u.sum ≤ u.index * 2 ^ 48) };
+    ghost invariant = { λ u. (u.index < 16) × (u.sum ≤ u.index * 2 ^ 48) × IsSome (read_of u.op) };
 
     ghost inverse = { λ u. record { op = u.op; index = u.index; sum = u.sum } };
 }
@@ -31,6 +34,7 @@ impl Model for UnderWay {
 impl UnderWay {
     /// A call whose first component is yet to be read.
     pub(crate) fn begun(op: Act) -> Self
+        requires { IsSome (read_of op) }
         ensures { result ≡ begun op }
     {
         UnderWay {
@@ -45,6 +49,17 @@ impl UnderWay {
         ensures { result ≡ self.now.op }
     {
         self.op
+    }
+
+    /// The eventcount that it reads.
+    #[inline(always)]
+    pub(crate) fn event(&self) -> EventId
+        ensures { result ≡ event_or self.now.op }
+    {
+        match self.op {
+            Act::Read(event) | Act::Await(event, _) => event,
+            _ => unreachable!(),
+        }
     }
 
     /// The component that the next Go reads. An Await with index 0 has just fallen short.
@@ -65,17 +80,16 @@ impl UnderWay {
         self.sum
     }
 
-    /// What a Go comes to that reads this value of its component, of so many: the call goes on until the component is the
-    /// last, and then the sum is told, unless it falls short of a threshold.
+    /// What a Go comes to that reads its component of so many, whose counts are these: the call goes on until the component is
+    /// the last, and then the sum is told, unless it falls short of a threshold.
     #[inline(always)]
-    pub(crate) fn read(&self, width: usize, value: u64) -> Effect
-        requires width { width ≤ 16 }
-        requires value { value < 2 ^ 48 }
-        ensures { result ≡ one_read self.now.op width self.now.index (value + self.now.sum) }
+    pub(crate) fn read(&self, width: usize, counts: &[Count; 16]) -> Effect
+        requires { width ≤ 16 }
+        ensures { result ≡ one_read self.now.op width self.now.index (value_of (slice_get counts.now self.now.index) + self.now.sum) }
     {
         let op = self.op;
         let index = self.index + 1;
-        let sum = value + self.sum;
+        let sum = counts[self.index].value() + self.sum;
         if index < width {
             return Effect::Read(Reply::Pending, Some(UnderWay { op, index, sum }));
         }

@@ -8,12 +8,12 @@ ghost use Rattle.ec_core.specs.Counts.{total, signaller_at, component_at, compon
 ghost use Rattle.ec_core.specs.Standing.{StandsFor, progress_of};
 ghost use Rattle.ec_core.specs.Values.{TellsAtMost};
 ghost use Rattle.ec_core.specs.Procedures.{IsReply};
-ghost use Rattle.ec_core.specs.Fields.{kept_call, component_in, right_in, already_in, is_full_for, next_read, effect_in, planned, changed, IsRightStep};
+ghost use Rattle.ec_core.specs.Fields.{kept_call, component_in, right_in, already_in, is_full_for, next_read, effect_in, planned, changed, IsNamed, IsRightStep};
 
 use crate::effect::Effect;
 use crate::fields::{
-    all_alike, count_in, count_of, declared, event_or, is_too_large, named, names_unknown_object,
-    raise_at, raise_in, same_again, sum_of, width,
+    all_alike, count_in, count_of, declared, is_too_large, names_unknown_object, raise_at,
+    raise_in, same_again, sum_of, width,
 };
 use crate::signallers::Signallers;
 use crate::{Act, Entry, Refusal, Reply, UnderWay, VALUE_MAX};
@@ -123,9 +123,8 @@ impl World {
         if event.get() >= self.setup.events() {
             return None;
         }
-        let event = event.get();
         let width = width(&self.setup, event);
-        Some(sum_of(&self.counts, event, width))
+        Some(sum_of(&self.counts, event.get(), width))
     }
 
     /// A component of an eventcount: how many advances were made by who signalled it at their moment.
@@ -134,12 +133,10 @@ impl World {
         ensures { (h : List Entry) → StandsFor self.now h
             → result ≡ (if nat_lt component (width self.now.setup event) then Some (component_total self.now.setup event component (reverse h)) else None) }
     {
-        let event = event.get();
         if component >= width(&self.setup, event) {
             return None;
         }
-        let count = count_in(&self.counts, event, component);
-        Some(count.value())
+        Some(count_in(&self.counts, event.get(), component).value())
     }
 
     /// How many tickets of a sequencer were drawn, which is the next ticket's number. None where it
@@ -174,20 +171,15 @@ impl World {
         self.calls[place]
     }
 
-    fn call(&self, worker: WorkerId) -> Option<UnderWay>
-        ensures { result ≡ kept_call self.now worker }
-    {
-        self.calls[worker.get()]
-    }
-
     /// What a call comes to that reads its next component.
     #[inline(always)]
     fn read(&self, call: &UnderWay) -> Effect
         ensures { result ≡ next_read self.now call.now }
     {
-        let event = event_or(call.op());
-        let count = count_in(&self.counts, event, call.index());
-        call.read(width(&self.setup, event), count.value())
+        let event = call.event();
+        let width = width(&self.setup, event);
+        let counts = &self.counts[event.get()];
+        call.read(width, counts)
     }
 
     /// What an act comes to that begins a call, or the first refusal after those that ask for the worker and its call.
@@ -243,15 +235,16 @@ impl World {
 
     /// The first refusal that holds, else what the step comes to.
     #[inline(always)]
-    fn effect(&self, worker: WorkerId, act: &Act) -> Result<Effect, Refusal>
-        ensures { (past : List Entry) → result ≡ planned self.now past worker act.now }
+    fn effect(&self, worker: WorkerId, act: Act) -> Result<Effect, Refusal>
+        ensures named { IsNamed act }
+        ensures is { (past : List Entry) → result ≡ planned self.now past worker act }
     {
         refuse_if(worker.get() >= self.setup.workers(), Refusal::UnknownWorker)?;
-        match (self.call(worker), *act) {
+        match (self.calls[worker.get()], act) {
             (Some(call), Act::Go) => Ok(self.read(&call)),
             (Some(_), _) => Err(Refusal::Busy),
             (None, Act::Go) => Err(Refusal::Idle),
-            (None, _) => self.begin(worker, act),
+            (None, _) => self.begin(worker, &act),
         }
     }
 
@@ -261,9 +254,7 @@ impl World {
         ensures { (h : List Entry) → StandsFor self.now h
             → MatchResult result (IsRightStep self.now h worker act.now) (λ r. answer_of self.now.setup (reverse h) worker act.now ≡ Err r) }
     {
-        named(act);
-        let _worker = worker.get();
-        self.effect(worker, act)
+        self.effect(worker, *act)
     }
 
     /// Makes the change that a step of the worker comes to.

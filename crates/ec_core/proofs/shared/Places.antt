@@ -1,8 +1,9 @@
 -- Elements by place, after a write at one place.
-use Rattle.std.proofs.Common.{◌≡◌, ◌≢◌, ℕ, zero, suc, ◌<◌, true, false, ◌&&◌, List, [], ◌∷◌, length, Option, Some, None, refl, ap, sym, ◌∙◌, arith, cond, slice_get, slice_set, ◌==◌}
+use Rattle.std.proofs.Common.{◌≡◌, ◌≢◌, ℕ, zero, suc, ◌<◌, true, false, ◌&&◌, List, [], ◌∷◌, length, Option, Some, None, refl, ap, sym, ◌∙◌, arith, cond, slice_get, slice_set, unwrap_or, ◌==◌}
 use Rattle.std.specs.Option.{option_map, option_map_or, option_and_then}
 use Rattle.std.proofs.lemmas.Bool.{eqb-true, eqb-false}
-use Rattle.std.proofs.lemmas.Option.{slice_get_within}
+use Rattle.std.proofs.Math.ListN.{get_or}
+use Rattle.std.proofs.lemmas.Option.{slice_get_within, unwrap_or-slice_get}
 use Rattle.ec_count.specs.Counted.{Counted}
 use Rattle.ec_core.specs.Fields.{changed_at}
 use Rattle.ec_core.specs.Standing.{count_at}
@@ -55,6 +56,12 @@ inner f None c d =
     let none : Option Counted = None in
     elim (c == d) as (λ b. none ≡ cond b none none) [ true ↦ refl | false ↦ refl ]
 inner f (Some row) c d = get_changed f row c d
+
+-- a count is that at a place of its row
+pub row_read : (counts : List (List Counted)) (e c : ℕ) → slice_get (get_or counts e []) c ≡ count_at counts e c
+row_read counts e c =
+    ap (λ row. slice_get row c) (sym (unwrap_or-slice_get counts e []))
+    ∙ (elim (slice_get counts e) as (λ o. slice_get (unwrap_or o []) c ≡ option_and_then (λ (row : List Counted). slice_get row c) o) [ None ↦ refl | Some row ↦ refl ])
 
 -- a count in a table once one of them is changed
 pub count_changed : (f : Counted → Counted) (counts : List (List Counted)) (e c p q : ℕ)

@@ -5,4 +5,4 @@ use Rattle.ec_core.proofs.world.World.plan.Goals as goal
 pub returns : goal.returns
 returns c = λ h st.
     (let small : c.args.worker < 16 = omega arith in
-    plan_is c.args.self.now h c.args.worker c.args.act.now c.effect.result st small c.named.ensures (c.effect.ensures (reverse h)))
+    plan_is c.args.self.now h c.args.worker c.args.act.now c.effect.result st small c.effect.ensures.named (c.effect.ensures.is (reverse h)))

@@ -12,9 +12,9 @@ returns c = λ h st.
     (let known : nat_lt c.args.event (length c.args.self.now.setup.events) ≡ true = grind arith in
     let small : c.args.event < 32 = omega arith in
     let f : List (List Counted) → ℕ → ℕ → ℕ = λ cs e n. sum_to (λ i. value_of (count_at cs e i)) n in
-    let all : c.sum_of.result ≡ f c.self.inside.counts c.get-event.result c.width-width.result = c.sum_of.ensures in
+    let all : c.sum_of.result ≡ f c.self.inside.counts c.get-2.result c.width-width.result = c.sum_of.ensures in
     let counts : c.self.inside.counts ≡ c.args.self.now.counts = ap (λ (s : State). s.counts) c.self.view_is in
-    let event : c.get-event.result ≡ c.args.event = c.get-event.ensures.value in
-    let wide : c.width-width.result ≡ width c.args.self.now.setup c.args.event = c.width-width.ensures.value ∙ ap (λ (s : State). width s.setup c.get-event.result) c.self.view_is ∙ ap (width c.args.self.now.setup) event in
-    rw known (ap Some (all ∙ ap (λ cs. f cs c.get-event.result c.width-width.result) counts ∙ ap (λ e. f c.args.self.now.counts e c.width-width.result) event
+    let event : c.get-2.result ≡ c.args.event = c.get-2.ensures.value in
+    let wide : c.width-width.result ≡ width c.args.self.now.setup c.args.event = c.width-width.ensures.value ∙ ap (λ (s : State). width s.setup c.args.event) c.self.view_is in
+    rw known (ap Some (all ∙ ap (λ cs. f cs c.get-2.result c.width-width.result) counts ∙ ap (λ e. f c.args.self.now.counts e c.width-width.result) event
     ∙ ap (f c.args.self.now.counts c.args.event) wide ∙ total_now c.args.self.now h c.args.event st small)))
