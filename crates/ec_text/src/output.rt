@@ -4,8 +4,9 @@ ghost use Rattle.std.specs.List.{flat_map};
 ghost use Rattle.std.specs.Io.KnownBytes.{Appends};
 ghost use Rattle.ec_text.specs.Puts.{Outgoing, Holds, Puts, AppendsPrefix, IsFresh, IsWrittenOut, at_first, with_bytes};
 
+use crate::decimal::Decimal;
+use crate::table::{ShortText, Table};
 use crate::writing::{WriteFault, write_out};
-use arrayvec::ArrayVec;
 use itoa::Buffer;
 use std::io::Write;
 use std::marker::Model;
@@ -18,7 +19,7 @@ use std::marker::Model;
 #[derive(Drop)]
 pub struct Out<'a, W: Write> {
     writer: &'a mut W,
-    bytes: ArrayVec<u8, 8192>,
+    bytes: Table,
     failed: bool,
 }
 
@@ -27,7 +28,7 @@ impl<'a, W: Write> Model for Out<'a, W> {
 
     ghost Value = { Outgoing };
 
-    ghost view = { λ o. record { writer = o.writer.ghost_name; contents = W.contents o.writer.now; waiting = o.bytes.items; failed = o.failed } };
+    ghost view = { λ o. record { writer = o.writer.ghost_name; contents = W.contents o.writer.now; waiting = o.bytes; failed = o.failed } };
 }
 
 impl<'a, W: Write> Out<'a, W> {
@@ -39,7 +40,7 @@ impl<'a, W: Write> Out<'a, W> {
     {
         Out {
             writer,
-            bytes: ArrayVec::new(),
+            bytes: Table::new(),
             failed: false,
         }
     }
@@ -60,7 +61,7 @@ impl<'a, W: Write> Out<'a, W> {
         ensures room { self.old.failed ≡ false → length self.old.waiting + length bytes.now ≤ 8192
             → (result ≡ true) × (self.new ≡ with_bytes self.old bytes.now) }
     {
-        self.has_failed() || self.bytes.try_extend_from_slice(bytes).is_ok()
+        self.has_failed() || self.bytes.take_in(bytes)
     }
 
     /// Writes what waits, and nothing waits then. It doesn't call the writer's own `flush`. A failure shows at `finish`.
@@ -90,6 +91,53 @@ impl<'a, W: Write> Out<'a, W> {
             return;
         }
         self.put_behind(bytes);
+    }
+
+    /// Takes a short text in where there is room for the longest, and lets it go after a failure.
+    #[inline(always)]
+    fn take_in_short(&mut self, text: &ShortText) -> bool
+        ensures puts { IsTrue result → Puts self.old self.new text.now }
+        ensures full { result ≡ false → self.new ≡ self.old }
+        ensures stays { self.old.failed ≡ true → (result ≡ true) × (self.new ≡ self.old) }
+        ensures taken { self.old.failed ≡ false → result ≡ true → self.new ≡ with_bytes self.old text.now }
+    {
+        self.has_failed() || self.bytes.take_in_short(text)
+    }
+
+    /// Puts a short text. It costs less than `put` of its bytes.
+    #[inline(always)]
+    pub fn put_short(&mut self, text: &ShortText)
+        ensures puts { Puts self.old self.new text.now }
+        ensures room { self.old.failed ≡ false → length self.old.waiting + length text.now ≤ 8192
+            → self.new ≡ with_bytes self.old text.now }
+        ensures stays { self.old.failed ≡ true → self.new ≡ self.old }
+    {
+        if self.take_in_short(text) {
+            return;
+        }
+        self.put_at_end(text);
+    }
+
+    /// Puts the digits of a number that is kept with them.
+    #[inline(always)]
+    pub fn put_decimal(&mut self, number: &Decimal)
+        ensures puts { Puts self.old self.new (decimal number.now) }
+        ensures room { self.old.failed ≡ false → length self.old.waiting + length (decimal number.now) ≤ 8192
+            → self.new ≡ with_bytes self.old (decimal number.now) }
+        ensures stays { self.old.failed ≡ true → self.new ≡ self.old }
+    {
+        self.put_short(number.text());
+    }
+
+    /// Puts a short text near the end of the table.
+    #[cold]
+    #[inline(never)]
+    fn put_at_end(&mut self, text: &ShortText)
+        ensures puts { Puts self.old self.new text.now }
+        ensures room { self.old.failed ≡ false → length self.old.waiting + length text.now ≤ 8192
+            → self.new ≡ with_bytes self.old text.now }
+    {
+        self.put(text.bytes());
     }
 
     /// Puts bytes for which the table has no room beside those that wait.
