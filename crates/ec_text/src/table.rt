@@ -2,6 +2,7 @@
 ghost use Rattle.std.specs.Prelude.{◌≡◌, ◌↔◌, ◌+◌, ◌≤◌, ◌++◌, [], List, IsTrue, false, length, take, ◌-◌, ◌<◌, slice_get, slice_set};
 
 use std::marker::Model;
+use std::simd::prelude::*;
 
 /// Writes bytes into a table, over those from a place on.
 #[inline(always)]
@@ -13,9 +14,20 @@ fn write_at(table: &mut [u8], place: usize, bytes: &[u8])
     table[place..place + bytes.len()].copy_from_slice(bytes);
 }
 
+/// Writes 32 bytes into a table, over those from a place on. It is one load and one store.
+#[inline(always)]
+fn write_32(table: &mut [u8], place: usize, bytes: &[u8])
+    requires bytes { length bytes.now ≡ 32 }
+    requires room { place + 32 ≤ length table.old }
+    ensures front { take (place + 32) table.new ≡ take place table.old ++ bytes.now }
+    ensures len { length table.new ≡ length table.old }
+{
+    u8x32::from_slice(bytes).copy_to_slice(&mut table[place..]);
+}
+
 /// A text of at most 32 bytes, ready to be put.
 ///
-/// Its bytes lie in a table of that size, all of which is copied at once: that takes two moves, whatever the length. So a word
+/// Its bytes lie in a table of that size, all of which is copied at once: that takes a load and a store, whatever the length. So a word
 /// that is put again and again is kept as such a text.
 #[derive(Drop)]
 pub struct ShortText {
@@ -153,7 +165,7 @@ impl Table {
         if self.len > 8192 - 32 {
             return false;
         }
-        write_at(&mut self.bytes, self.len, &text.bytes);
+        write_32(&mut self.bytes, self.len, &text.bytes);
         self.len += text.len;
         true
     }
