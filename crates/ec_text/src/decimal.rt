@@ -1,7 +1,7 @@
 //! Numbers that are kept with their digits.
 ghost use Rattle.std.specs.Prelude.{◌≡◌, ◌+◌, ◌<◌, ◌^◌, ℕ, false, IsTrue, decimal};
 
-use arrayvec::ArrayVec;
+use crate::table::ShortText;
 use itoa::Buffer;
 use std::marker::Model;
 
@@ -12,7 +12,7 @@ use std::marker::Model;
 #[derive(Drop)]
 pub struct Decimal {
     value: u64,
-    digits: ArrayVec<u8, 20>,
+    digits: ShortText,
 }
 
 impl Model for Decimal {
@@ -22,28 +22,27 @@ impl Model for Decimal {
 
     ghost view = { λ d. d.value };
 
-    ghost invariant = { λ d. d.digits.items ≡ decimal d.value };
+    ghost invariant = { λ d. d.digits ≡ decimal d.value };
 }
 
 /// Raises the last digit by so much, if it stays a digit: the digits are then those of a number that is greater by that. Tells
 /// whether it did.
 #[inline(always)]
-#[tactic(auto, using(crate::proofs::shared::DecimalLemmas::last_raised))]
-fn raise_last(digits: &mut ArrayVec<u8, 20>, by: u8) -> bool
-    ensures raised { IsTrue result → (n : ℕ) → n < 2 ^ 64 → digits.old.items ≡ decimal n
-        → digits.new.items ≡ decimal (n + by) }
+fn raise_last(digits: &mut ShortText, by: u8) -> bool
+    ensures raised { IsTrue result → (n : ℕ) → n < 2 ^ 64 → digits.old ≡ decimal n
+        → digits.new ≡ decimal (n + by) }
     ensures kept { result ≡ false → digits.new ≡ digits.old }
 {
-    let Some(last) = digits.len().checked_sub(1) else {
+    let Some(last) = digits.last() else {
         return false;
     };
-    let Some(raised) = digits[last].checked_add(by) else {
+    let Some(raised) = last.checked_add(by) else {
         return false;
     };
     if raised > b'9' {
         return false;
     }
-    digits[last] = raised;
+    digits.set_last(raised);
     true
 }
 
@@ -54,8 +53,8 @@ impl Decimal {
         ensures { result ≡ n }
     {
         let mut buffer = Buffer::new();
-        let mut digits = ArrayVec::new();
-        let _ = digits.try_extend_from_slice(buffer.format(n).as_bytes());
+        let mut digits = ShortText::new();
+        let _fits = digits.take_in(buffer.format(n).as_bytes());
         Decimal { value: n, digits }
     }
 
@@ -70,11 +69,19 @@ impl Decimal {
         }
     }
 
+    /// The decimal digits of the number, ready to be put.
+    #[inline(always)]
+    pub(crate) fn text(&self) -> &ShortText
+        ensures { result.now ≡ decimal self.now }
+    {
+        &self.digits
+    }
+
     /// The decimal digits of the number.
     #[inline(always)]
     pub fn digits(&self) -> &[u8]
         ensures { result.now ≡ decimal self.now }
     {
-        self.digits.as_slice()
+        self.digits.bytes()
     }
 }

@@ -7,6 +7,7 @@ mod laws;
 mod lines;
 mod numbers;
 mod output;
+mod table;
 mod words;
 mod writing;
 
@@ -19,5 +20,6 @@ pub use laws::{
 pub use lines::cut_line;
 pub use numbers::{is_number_form, number};
 pub use output::Out;
+pub use table::ShortText;
 pub use words::{cut_word, has_blank};
 pub use writing::{WriteFault, write_out};

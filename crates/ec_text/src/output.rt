@@ -4,8 +4,9 @@ ghost use Rattle.std.specs.List.{flat_map};
 ghost use Rattle.std.specs.Io.KnownBytes.{Appends};
 ghost use Rattle.ec_text.specs.Puts.{Outgoing, Holds, Puts, AppendsPrefix, IsFresh, IsWrittenOut, at_first, with_bytes};
 
+use crate::decimal::Decimal;
+use crate::table::{ShortText, Table};
 use crate::writing::{WriteFault, write_out};
-use arrayvec::ArrayVec;
 use itoa::Buffer;
 use std::io::Write;
 use std::marker::Model;
@@ -18,16 +19,17 @@ use std::marker::Model;
 #[derive(Drop)]
 pub struct Out<'a, W: Write> {
     writer: &'a mut W,
-    bytes: ArrayVec<u8, 8192>,
+    bytes: Table,
     failed: bool,
 }
 
 impl<'a, W: Write> Model for Out<'a, W> {
+    ghost use Rattle.std.specs.Prelude.{[], if◌then◌else◌};
     ghost use Rattle.ec_text.specs.Puts.{Outgoing};
 
     ghost Value = { Outgoing };
 
-    ghost view = { λ o. record { writer = o.writer.ghost_name; contents = W.contents o.writer.now; waiting = o.bytes.items; failed = o.failed } };
+    ghost view = { λ o. record { writer = o.writer.ghost_name; contents = W.contents o.writer.now; waiting = if o.failed then [] else o.bytes; failed = o.failed } };
 }
 
 impl<'a, W: Write> Out<'a, W> {
@@ -39,7 +41,7 @@ impl<'a, W: Write> Out<'a, W> {
     {
         Out {
             writer,
-            bytes: ArrayVec::new(),
+            bytes: Table::new(),
             failed: false,
         }
     }
@@ -51,16 +53,17 @@ impl<'a, W: Write> Out<'a, W> {
         self.failed
     }
 
-    /// Takes the bytes in where there is room for all of them, and lets them go after a failure: else they must be written.
+    /// Takes the bytes in where there is room for all of them: else they must be written. What is taken in after a failure doesn't
+    /// wait, and is let go when the table is full.
     #[inline(always)]
     fn take_in(&mut self, bytes: &[u8]) -> bool
         ensures puts { IsTrue result → Puts self.old self.new bytes.now }
-        ensures full { result ≡ false → (self.new ≡ self.old) × (self.old.failed ≡ false) }
-        ensures stays { self.old.failed ≡ true → (result ≡ true) × (self.new ≡ self.old) }
+        ensures full { result ≡ false → self.new ≡ self.old }
+        ensures stays { self.old.failed ≡ true → self.new ≡ self.old }
         ensures room { self.old.failed ≡ false → length self.old.waiting + length bytes.now ≤ 8192
             → (result ≡ true) × (self.new ≡ with_bytes self.old bytes.now) }
     {
-        self.has_failed() || self.bytes.try_extend_from_slice(bytes).is_ok()
+        self.bytes.take_in(bytes)
     }
 
     /// Writes what waits, and nothing waits then. It doesn't call the writer's own `flush`. A failure shows at `finish`.
@@ -71,6 +74,7 @@ impl<'a, W: Write> Out<'a, W> {
         ensures stays { self.old.failed ≡ true → self.new ≡ self.old }
     {
         if self.failed {
+            self.bytes.clear();
             return;
         }
         let done = write_out(self.writer, self.bytes.as_slice());
@@ -92,13 +96,65 @@ impl<'a, W: Write> Out<'a, W> {
         self.put_behind(bytes);
     }
 
+    /// Takes a short text in as `take_in` does, where there is room for the longest.
+    #[inline(always)]
+    fn take_in_short(&mut self, text: &ShortText) -> bool
+        ensures puts { IsTrue result → Puts self.old self.new text.now }
+        ensures full { result ≡ false → self.new ≡ self.old }
+        ensures stays { self.old.failed ≡ true → self.new ≡ self.old }
+        ensures taken { self.old.failed ≡ false → result ≡ true → self.new ≡ with_bytes self.old text.now }
+    {
+        self.bytes.take_in_short(text)
+    }
+
+    /// Puts a short text. It costs less than `put` of its bytes.
+    #[inline(always)]
+    pub fn put_short(&mut self, text: &ShortText)
+        ensures puts { Puts self.old self.new text.now }
+        ensures room { self.old.failed ≡ false → length self.old.waiting + length text.now ≤ 8192
+            → self.new ≡ with_bytes self.old text.now }
+        ensures stays { self.old.failed ≡ true → self.new ≡ self.old }
+    {
+        if self.take_in_short(text) {
+            return;
+        }
+        self.put_at_end(text);
+    }
+
+    /// Puts the digits of a number that is kept with them.
+    #[inline(always)]
+    pub fn put_decimal(&mut self, number: &Decimal)
+        ensures puts { Puts self.old self.new (decimal number.now) }
+        ensures room { self.old.failed ≡ false → length self.old.waiting + length (decimal number.now) ≤ 8192
+            → self.new ≡ with_bytes self.old (decimal number.now) }
+        ensures stays { self.old.failed ≡ true → self.new ≡ self.old }
+    {
+        self.put_short(number.text());
+    }
+
+    /// Puts a short text near the end of the table.
+    #[cold]
+    #[inline(never)]
+    fn put_at_end(&mut self, text: &ShortText)
+        ensures puts { Puts self.old self.new text.now }
+        ensures room { self.old.failed ≡ false → length self.old.waiting + length text.now ≤ 8192
+            → self.new ≡ with_bytes self.old text.now }
+        ensures stays { self.old.failed ≡ true → self.new ≡ self.old }
+    {
+        self.put(text.bytes());
+    }
+
     /// Puts bytes for which the table has no room beside those that wait.
     #[cold]
     #[inline(never)]
     fn put_behind(&mut self, bytes: &[u8])
-        ensures { Puts self.old self.new bytes.now }
+        ensures puts { Puts self.old self.new bytes.now }
+        ensures stays { self.old.failed ≡ true → self.new ≡ self.old }
     {
         self.flush();
+        if self.has_failed() {
+            return;
+        }
         if self.take_in(bytes) {
             return;
         }

@@ -1,11 +1,12 @@
 -- Tables of words, in which the word of each number is found at once.
-use Rattle.std.specs.Prelude.{◌≡◌, ℕ, ◌<◌, ◌+◌, ◌-◌, ◌&&◌, nat_le, nat_lt, if◌then◌else◌, List, [], ◌++◌, Option, slice_get, codes, decimal}
+use Rattle.std.specs.Prelude.{◌≡◌, ℕ, ◌<◌, ◌+◌, ◌-◌, ◌&&◌, nat_le, nat_lt, if◌then◌else◌, List, [], ◌++◌, Option, IfSome, option_and_then, slice_get, codes, decimal}
 use Rattle.std.specs.Option.{option_map_or}
 use Rattle.std.specs.Borrow.{Bor}
 use Rattle.ec_count.specs.declared.target.Target.TheVariants.{Worker, Event, Sequencer}
 use Rattle.ec_heading.specs.Spelling.{Named, word_of, cell_word}
 use Rattle.ec_trace.specs.declared.spell.Words.{Words}
 use Rattle.ec_trace.specs.declared.spell.CellName.{CellName}
+use Rattle.ec_trace.specs.declared.short_words.ShortWords.{ShortWords}
 
 -- the word at a place, none past the end
 abbrev pub word_at : List (Bor (List ℕ)) → ℕ → List ℕ
@@ -31,3 +32,20 @@ pub record Spells (names : Named) (words : Words) : Type 0 where
   pub events : (i : ℕ) → i < 32 → word_at words.events i ≡ word_of names (Event i)
   pub sequencers : (i : ℕ) → i < 32 → word_at words.sequencers i ≡ word_of names (Sequencer i)
   pub cells : (x : ℕ) → x < 256 → cell_at words.cells x ≡ cell_word names x
+
+-- THE SHORT ONES
+
+-- the short text at a place, if there is one
+abbrev pub short_at : List (Option (List ℕ)) → ℕ → Option (List ℕ)
+short_at short i = option_and_then (λ (t : Option (List ℕ)). t) (slice_get short i)
+
+-- a short text that is there has the bytes of the word
+abbrev pub IsShortOf : Option (List ℕ) → List ℕ → Type 0
+IsShortOf short word = IfSome short (λ t. t ≡ word)
+
+-- each text that is there has the word that the names give
+pub record SpellsShort (names : Named) (short : ShortWords) : Type 0 where
+  pub workers : (i : ℕ) → i < 16 → IsShortOf (short_at short.workers i) (word_of names (Worker i))
+  pub events : (i : ℕ) → i < 32 → IsShortOf (short_at short.events i) (word_of names (Event i))
+  pub sequencers : (i : ℕ) → i < 32 → IsShortOf (short_at short.sequencers i) (word_of names (Sequencer i))
+  pub cells : (x : ℕ) → x < 256 → IsShortOf (short_at short.cells x) (cell_word names x)

@@ -10,6 +10,7 @@ mod lines;
 mod opening;
 mod read;
 mod reading_laws;
+mod short_words;
 mod spell;
 mod traced;
 mod write;

@@ -1,11 +1,15 @@
 //! The words of names, each found once.
 ghost use Rattle.std.specs.Prelude.{◌≡◌, ℕ, ◌+◌, ◌<◌, ◌-◌, ◌==◌, ◌&&◌, [], ◌∷◌, List, length, Some, slice_get, nat_le, nat_lt, if◌then◌else◌};
-ghost use Rattle.ec_trace.specs.WordTables.{Spells, word_at, cell_at, cell_name_bytes, with_block};
+ghost use Rattle.ec_trace.specs.WordTables.{Spells, word_at, cell_at, cell_name_bytes, with_block, short_at};
+ghost use Rattle.ec_text.specs.Puts.{Puts};
 ghost use Rattle.ec_heading.specs.Spelling.{Named, word_of, cell_word};
 ghost use Rattle.std.specs.Option.{option_map_or};
 ghost use Rattle.ec_count.specs.declared.target.Target.TheVariants.{Worker, Event, Sequencer};
 
+use crate::short_words::ShortWords;
 use ec_count::{CellId, EventId, SeqId, Target, Vocabulary, WorkerId};
+use ec_text::{Out, ShortText};
+use std::io::Write;
 use std::marker::Model;
 
 /// A cell: the name of its block and its number there.
@@ -52,11 +56,12 @@ impl<'a> Words<'a> {
     }
 }
 
-/// The words by which entries name things, each found once.
+/// The words by which entries name things, each found once, and those that are short ready to be put.
 #[derive(Drop)]
 pub struct Spellings<'a> {
     vocabulary: &'a Vocabulary,
     words: Words<'a>,
+    short: ShortWords,
 }
 
 impl<'a> Model for Spellings<'a> {
@@ -65,11 +70,11 @@ impl<'a> Model for Spellings<'a> {
 
     ghost Value = { List (List ℕ × Target) };
 
-    ghost use Rattle.ec_trace.specs.WordTables.{Spells};
+    ghost use Rattle.ec_trace.specs.WordTables.{Spells, SpellsShort};
 
     ghost view = { λ s. s.vocabulary.now };
 
-    ghost invariant = { λ s. Spells s.vocabulary.now s.words };
+    ghost invariant = { λ s. (Spells s.vocabulary.now s.words) × (SpellsShort s.vocabulary.now s.short) };
 }
 
 impl<'a> Spellings<'a> {
@@ -83,7 +88,12 @@ impl<'a> Spellings<'a> {
                 words.take_in(word, target);
             }
         }
-        Spellings { vocabulary, words }
+        let short = ShortWords::of(&words);
+        Spellings {
+            vocabulary,
+            words,
+            short,
+        }
     }
 
     /// The name of a worker, of no bytes where it has none.
@@ -108,11 +118,78 @@ impl<'a> Spellings<'a> {
     }
 
     /// The block that a cell stands in and its number there, where it has a name.
-    pub(crate) fn cell(&self, cell: CellId) -> Option<CellName<'a>>
+    fn cell(&self, cell: CellId) -> Option<CellName<'a>>
         ensures { option_map_or cell_name_bytes result [] ≡ cell_word self.now cell }
     {
         cell_in(&self.words.cells, cell.get())
     }
+
+    /// Puts the name of a worker.
+    #[inline(always)]
+    pub(crate) fn put_worker<W: Write>(&self, out: &mut Out<'_, W>, worker: WorkerId)
+        ensures { Puts out.old out.new (word_of self.now (Worker worker)) }
+    {
+        match short_in(&self.short.workers, worker.get()) {
+            Some(text) => out.put_short(text),
+            None => put_long(out, self.worker(worker)),
+        }
+    }
+
+    /// Puts the name of an eventcount.
+    #[inline(always)]
+    pub(crate) fn put_event<W: Write>(&self, out: &mut Out<'_, W>, event: EventId)
+        ensures { Puts out.old out.new (word_of self.now (Event event)) }
+    {
+        match short_in(&self.short.events, event.get()) {
+            Some(text) => out.put_short(text),
+            None => put_long(out, self.event(event)),
+        }
+    }
+
+    /// Puts the name of a sequencer.
+    #[inline(always)]
+    pub(crate) fn put_sequencer<W: Write>(&self, out: &mut Out<'_, W>, sequencer: SeqId)
+        ensures { Puts out.old out.new (word_of self.now (Sequencer sequencer)) }
+    {
+        match short_in(&self.short.sequencers, sequencer.get()) {
+            Some(text) => out.put_short(text),
+            None => put_long(out, self.sequencer(sequencer)),
+        }
+    }
+
+    /// Puts the name of a cell.
+    #[inline(always)]
+    pub(crate) fn put_cell<W: Write>(&self, out: &mut Out<'_, W>, cell: CellId)
+        ensures { Puts out.old out.new (cell_word self.now cell) }
+    {
+        match short_in(&self.short.cells, cell.get()) {
+            Some(text) => out.put_short(text),
+            None => self.put_long_cell(out, cell),
+        }
+    }
+
+    /// Puts the name of a cell, in parts.
+    #[cold]
+    #[inline(never)]
+    fn put_long_cell<W: Write>(&self, out: &mut Out<'_, W>, cell: CellId)
+        ensures { Puts out.old out.new (cell_word self.now cell) }
+    {
+        if let Some(name) = self.cell(cell) {
+            out.put(name.block);
+            out.put_byte(b'[');
+            out.put_number(name.place as u64);
+            out.put_byte(b']');
+        }
+    }
+}
+
+/// Puts a word that may be long.
+#[cold]
+#[inline(never)]
+fn put_long<W: Write>(out: &mut Out<'_, W>, word: &[u8])
+    ensures { Puts out.old out.new word.now }
+{
+    out.put(word);
 }
 
 /// An array with the same element everywhere.
@@ -136,6 +213,14 @@ fn cell_in<'a>(cells: &[Option<CellName<'a>>], place: usize) -> Option<CellName<
     ensures { option_map_or cell_name_bytes result [] ≡ cell_at cells.now place }
 {
     cells[place]
+}
+
+/// The short text of the word at a place, where it is short.
+fn short_in(short: &[Option<ShortText>], place: usize) -> &Option<ShortText>
+    requires { place < length short.now }
+    ensures { result.now ≡ short_at short.now place }
+{
+    &short[place]
 }
 
 /// Puts a word at a place.

@@ -1,5 +1,5 @@
 //! Writes entries and traces.
-ghost use Rattle.std.specs.Prelude.{◌≡◌, map, slice_get, OnOk, OnErr};
+ghost use Rattle.std.specs.Prelude.{◌≡◌, ◌∷◌, ◌++◌, codes, map, slice_get, OnOk, OnErr};
 ghost use Rattle.std.specs.Io.KnownBytes.{Appends};
 ghost use Rattle.std.specs.List.{join_with_byte};
 ghost use Rattle.ec_text.specs.Puts.{Puts, AppendsPrefix};
@@ -16,57 +16,53 @@ use ec_text::{Out, WriteFault};
 use std::io::Write;
 
 /// Puts the name of a cell.
+#[inline(always)]
 pub fn put_cell<W: Write>(out: &mut Out<'_, W>, spellings: &Spellings<'_>, cell: CellId)
     ensures { Puts out.old out.new (cell_word spellings.now cell) }
 {
-    if let Some(name) = spellings.cell(cell) {
-        out.put(name.block);
-        out.put_byte(b'[');
-        out.put_number(name.place as u64);
-        out.put_byte(b']');
-    }
+    spellings.put_cell(out, cell);
 }
 
-/// Puts what a worker asks for.
+/// Puts what a worker asks for, behind a space.
 #[inline(always)]
 fn put_act<W: Write>(out: &mut Out<'_, W>, spellings: &Spellings<'_>, act: &Act)
-    ensures { Puts out.old out.new (join_with_byte 32 (act_words spellings.now act.now)) }
+    ensures { Puts out.old out.new (32 ∷ join_with_byte 32 (act_words spellings.now act.now)) }
 {
     match *act {
         Act::Advance(event) => {
-            out.put(b"advance ");
-            out.put(spellings.event(event));
+            out.put(b" advance ");
+            spellings.put_event(out, event);
         }
         Act::Read(event) => {
-            out.put(b"read ");
-            out.put(spellings.event(event));
+            out.put(b" read ");
+            spellings.put_event(out, event);
         }
         Act::Await(event, threshold) => {
-            out.put(b"await ");
-            out.put(spellings.event(event));
+            out.put(b" await ");
+            spellings.put_event(out, event);
             out.put_byte(b' ');
             out.put_number(threshold);
         }
-        Act::Go => out.put(b"go"),
+        Act::Go => out.put(b" go"),
         Act::Ticket(sequencer) => {
-            out.put(b"ticket ");
-            out.put(spellings.sequencer(sequencer));
+            out.put(b" ticket ");
+            spellings.put_sequencer(out, sequencer);
         }
         Act::Put(cell, value) => {
-            out.put(b"put ");
+            out.put(b" put ");
             put_cell(out, spellings, cell);
             out.put_byte(b' ');
             out.put_number(value);
         }
         Act::Get(cell) => {
-            out.put(b"get ");
+            out.put(b" get ");
             put_cell(out, spellings, cell);
         }
         Act::Hand(event, to) => {
-            out.put(b"hand ");
-            out.put(spellings.event(event));
+            out.put(b" hand ");
+            spellings.put_event(out, event);
             out.put_byte(b' ');
-            out.put(spellings.worker(to));
+            spellings.put_worker(out, to);
         }
     }
 }
@@ -83,17 +79,30 @@ pub fn put_reply<W: Write>(out: &mut Out<'_, W>, reply: &Reply)
     }
 }
 
+/// Puts what a worker is told, behind an equals sign between spaces.
+#[inline(always)]
+fn put_answer<W: Write>(out: &mut Out<'_, W>, reply: &Reply)
+    ensures { Puts out.old out.new (codes " = " ++ reply_word reply.now) }
+{
+    match *reply {
+        Reply::Done => out.put(b" = done"),
+        Reply::Pending => out.put(b" = pending"),
+        Reply::Number(n) => {
+            out.put(b" = ");
+            out.put_number(n);
+        }
+    }
+}
+
 /// Puts an entry, without LF.
 #[inline(always)]
 #[tactic(auto, using(crate::proofs::EntryParts::entry_parts))]
 pub fn put_entry<W: Write>(out: &mut Out<'_, W>, spellings: &Spellings<'_>, entry: &Entry)
     ensures { Puts out.old out.new (entry_line spellings.now entry.now) }
 {
-    out.put(spellings.worker(entry.worker));
-    out.put_byte(b' ');
+    spellings.put_worker(out, entry.worker);
     put_act(out, spellings, &entry.act);
-    out.put(b" = ");
-    put_reply(out, &entry.reply);
+    put_answer(out, &entry.reply);
 }
 
 /// Writes an entry, without LF, as a trace has it. What has no name is spelled by no bytes.

@@ -25,7 +25,7 @@ fn put_dated<W: Write>(
     ensures { Puts out.old out.new (dated_line spellings.now dated.now ++ 10 ∷ []) }
 {
     point.set(dated.point as u64);
-    out.put(point.digits());
+    out.put_decimal(point);
     out.put(b" ");
     put_entry(out, spellings, &dated.entry);
     out.put(b"\n");

@@ -1,5 +1,5 @@
 -- What each step of putting leaves.
-use Rattle.std.proofs.Common.{◌≡◌, ℕ, List, [], ◌++◌, Bool, true, false, Option, None, Some, refl, Result, Ok, Err, sym, ap, ◌∙◌, append_assoc, append-nil, subst}
+use Rattle.std.proofs.Common.{◌≡◌, ℕ, List, [], ◌++◌, Bool, true, false, if◌then◌else◌, Option, None, Some, refl, Result, Ok, Err, sym, ap, ◌∙◌, append_assoc, append-nil, subst}
 use Rattle.std.specs.Result.{is_err, OnOk, OnErr}
 use Rattle.std.specs.Io.KnownBytes.{Appends}
 use Rattle.ec_text.specs.Puts.{AppendsPrefix, HoldsAs, Holds, Puts, Outgoing, IsFresh}
@@ -18,6 +18,12 @@ unfolding Holds
 puts_held out bs waiting good is = λ first all h.
     let h' : HoldsAs first.contents out.contents false out.waiting all = rw good at h.1 in
     (h.0, rw (good, is) (h'.0, ap (λ (r : List ℕ). r ++ bs) h'.1 ∙ append_assoc h'.0 out.waiting bs, h'.2))
+
+-- bytes that the table takes in are put: before a failure they join those that wait, and after one nothing waits
+pub puts_taken : (writer : ℕ) (contents : Option (List ℕ)) (failed : Bool) (held now bs : List ℕ) → now ≡ held ++ bs
+    → Puts (record { writer = writer; contents = contents; waiting = if failed then [] else held; failed = failed }) (record { writer = writer; contents = contents; waiting = if failed then [] else now; failed = failed }) bs
+puts_taken writer contents true held now bs is = puts_failed _ bs refl
+puts_taken writer contents false held now bs is = puts_held _ bs now refl is
 
 -- bytes that the writer was given behind those that waited are put, whether it took all or failed
 wrote : {E : Type 0} (out : Outgoing) (now : Option (List ℕ)) (bs : List ℕ) (r : Result (Unit {0}) E) → out.failed ≡ false → OnOk r (Appends out.contents now (out.waiting ++ bs)) → OnErr r (AppendsPrefix out.contents now (out.waiting ++ bs))

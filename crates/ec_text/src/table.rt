@@ -1,0 +1,172 @@
+//! Bytes in tables of fixed size.
+ghost use Rattle.std.specs.Prelude.{◌≡◌, ◌↔◌, ◌+◌, ◌≤◌, ◌++◌, [], List, IsTrue, false, length, take, ◌-◌, ◌<◌, slice_get, slice_set};
+
+use std::marker::Model;
+use std::simd::prelude::*;
+
+/// Writes bytes into a table, over those from a place on.
+#[inline(always)]
+fn write_at(table: &mut [u8], place: usize, bytes: &[u8])
+    requires { place + length bytes.now ≤ length table.old }
+    ensures front { take (place + length bytes.now) table.new ≡ take place table.old ++ bytes.now }
+    ensures len { length table.new ≡ length table.old }
+{
+    table[place..place + bytes.len()].copy_from_slice(bytes);
+}
+
+/// Writes 32 bytes into a table, over those from a place on. It is one load and one store.
+#[inline(always)]
+fn write_32(table: &mut [u8], place: usize, bytes: &[u8])
+    requires bytes { length bytes.now ≡ 32 }
+    requires room { place + 32 ≤ length table.old }
+    ensures front { take (place + 32) table.new ≡ take place table.old ++ bytes.now }
+    ensures len { length table.new ≡ length table.old }
+{
+    u8x32::from_slice(bytes).copy_to_slice(&mut table[place..]);
+}
+
+/// A text of at most 32 bytes, ready to be put.
+///
+/// Its bytes lie in a table of that size, all of which is copied at once: that takes a load and a store, whatever the length. So a word
+/// that is put again and again is kept as such a text.
+#[derive(Drop)]
+pub struct ShortText {
+    bytes: [u8; 32],
+    len: usize,
+}
+
+impl Model for ShortText {
+    ghost use Rattle.std.specs.Prelude.{◌≡◌, ◌≤◌, ℕ, List, length, take};
+
+    ghost Value = { List ℕ };
+
+    ghost view = { λ t. take t.len t.bytes };
+
+    ghost invariant = { λ t. (t.len ≤ 32) × (length t.bytes ≡ 32) };
+}
+
+impl ShortText {
+    /// A text of no bytes.
+    #[inline(always)]
+    pub fn new() -> Self
+        ensures { result ≡ [] }
+    {
+        ShortText {
+            bytes: [0; 32],
+            len: 0,
+        }
+    }
+
+    /// Takes bytes in behind those that are there, where the text stays short, and tells whether it did.
+    #[inline(always)]
+    pub fn take_in(&mut self, bytes: &[u8]) -> bool
+        ensures taken { IsTrue result → self.new ≡ self.old ++ bytes.now }
+        ensures kept { result ≡ false → self.new ≡ self.old }
+        ensures room { IsTrue result ↔ (length self.old + length bytes.now ≤ 32) }
+    {
+        if bytes.len() > 32 - self.len {
+            return false;
+        }
+        write_at(&mut self.bytes, self.len, bytes);
+        self.len += bytes.len();
+        true
+    }
+
+    /// The last byte, where there is one.
+    #[inline(always)]
+    pub(crate) fn last(&self) -> Option<u8>
+        ensures { result ≡ slice_get self.now (length self.now - 1) }
+    {
+        self.bytes().last().copied()
+    }
+
+    /// Writes over the last byte.
+    #[inline(always)]
+    pub(crate) fn set_last(&mut self, byte: u8)
+        requires { 0 < length self.old }
+        ensures { self.new ≡ slice_set self.old (length self.old - 1) byte }
+    {
+        self.bytes[self.len - 1] = byte;
+    }
+
+    /// The bytes of the text.
+    #[inline(always)]
+    pub fn bytes(&self) -> &[u8]
+        ensures value { result.now ≡ self.now }
+        ensures short { length self.now ≤ 32 }
+    {
+        &self.bytes[..self.len]
+    }
+}
+
+/// At most 8192 bytes.
+#[derive(Drop)]
+pub(crate) struct Table {
+    bytes: [u8; 8192],
+    len: usize,
+}
+
+impl Model for Table {
+    ghost use Rattle.std.specs.Prelude.{◌≡◌, ◌≤◌, ℕ, List, length, take};
+
+    ghost Value = { List ℕ };
+
+    ghost view = { λ t. take t.len t.bytes };
+
+    ghost invariant = { λ t. (t.len ≤ 8192) × (length t.bytes ≡ 8192) };
+}
+
+impl Table {
+    /// A table of no bytes.
+    pub(crate) fn new() -> Self
+        ensures { result ≡ [] }
+    {
+        Table {
+            bytes: [0; 8192],
+            len: 0,
+        }
+    }
+
+    /// The bytes of the table.
+    pub(crate) fn as_slice(&self) -> &[u8]
+        ensures { result.now ≡ self.now }
+    {
+        &self.bytes[..self.len]
+    }
+
+    /// Lets all bytes go.
+    pub(crate) fn clear(&mut self)
+        ensures { self.new ≡ [] }
+    {
+        self.len = 0;
+    }
+
+    /// Takes bytes in where there is room for all of them, and tells whether it did.
+    #[inline(always)]
+    pub(crate) fn take_in(&mut self, bytes: &[u8]) -> bool
+        ensures taken { IsTrue result → self.new ≡ self.old ++ bytes.now }
+        ensures kept { result ≡ false → self.new ≡ self.old }
+        ensures room { IsTrue result ↔ (length self.old + length bytes.now ≤ 8192) }
+    {
+        if bytes.len() > 8192 - self.len {
+            return false;
+        }
+        write_at(&mut self.bytes, self.len, bytes);
+        self.len += bytes.len();
+        true
+    }
+
+    /// Takes a short text in where there is room for the longest, and tells whether it did.
+    #[inline(always)]
+    pub(crate) fn take_in_short(&mut self, text: &ShortText) -> bool
+        ensures taken { IsTrue result → self.new ≡ self.old ++ text.now }
+        ensures kept { result ≡ false → self.new ≡ self.old }
+    {
+        if self.len > 8192 - 32 {
+            return false;
+        }
+        write_32(&mut self.bytes, self.len, &text.bytes);
+        self.len += text.len;
+        true
+    }
+}

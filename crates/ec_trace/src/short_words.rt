@@ -1,0 +1,89 @@
+//! Words that are short, ready to be put.
+ghost use Rattle.std.specs.Prelude.{◌≡◌, ℕ, ◌<◌, ◌==◌, [], length, if◌then◌else◌};
+ghost use Rattle.std.specs.Option.{option_map_or};
+ghost use Rattle.ec_trace.specs.WordTables.{Spells, SpellsShort, IsShortOf, short_at, word_at, cell_at, cell_name_bytes};
+ghost use Rattle.ec_heading.specs.Spelling.{Named};
+
+use crate::spell::{CellName, Words};
+use ec_text::{Decimal, ShortText};
+
+/// A short text for each number of each sort, where its word is short.
+#[derive(Drop)]
+pub(crate) struct ShortWords {
+    pub(crate) workers: [Option<ShortText>; 16],
+    pub(crate) events: [Option<ShortText>; 32],
+    pub(crate) sequencers: [Option<ShortText>; 32],
+    pub(crate) cells: [Option<ShortText>; 256],
+}
+
+impl ShortWords {
+    /// The short ones of these words.
+    pub(crate) fn of(words: &Words<'_>) -> Self
+        ensures { (names : Named) → Spells names words.now → SpellsShort names result }
+    {
+        let mut short = ShortWords {
+            workers: Default::default(),
+            events: Default::default(),
+            sequencers: Default::default(),
+            cells: Default::default(),
+        };
+        shorten(&mut short.workers, &words.workers);
+        shorten(&mut short.events, &words.events);
+        shorten(&mut short.sequencers, &words.sequencers);
+        shorten_cells(&mut short.cells, &words.cells);
+        short
+    }
+}
+
+/// Has a word ready, where it is short.
+fn short_word(word: &[u8]) -> Option<ShortText>
+    ensures { IsShortOf result word.now }
+{
+    let mut text = ShortText::new();
+    if text.take_in(word) { Some(text) } else { None }
+}
+
+/// Has the name of a cell ready, where it is short.
+fn short_cell(cell: &Option<CellName<'_>>) -> Option<ShortText>
+    ensures { IsShortOf result (option_map_or cell_name_bytes cell.now []) }
+{
+    let Some(name) = cell else {
+        return None;
+    };
+    let mut text = ShortText::new();
+    let number = Decimal::new(name.place as u64);
+    let fits = text.take_in(name.block)
+        && text.take_in(b"[")
+        && text.take_in(number.digits())
+        && text.take_in(b"]");
+    if fits { Some(text) } else { None }
+}
+
+/// Puts a short text at a place.
+fn set_short(short: &mut [Option<ShortText>], place: usize, text: Option<ShortText>)
+    requires { place < length short.old }
+    ensures set { (i : ℕ) → short_at short.new i ≡ (if place == i then text else short_at short.old i) }
+    ensures len { length short.new ≡ length short.old }
+{
+    short[place] = text;
+}
+
+/// Has words ready, each at its place.
+fn shorten(short: &mut [Option<ShortText>], words: &[&[u8]])
+    requires { length short.old ≡ length words.now }
+    ensures { (i : ℕ) → i < length words.now → IsShortOf (short_at short.new i) (word_at words.now i) }
+{
+    for i in 0..words.len() {
+        set_short(short, i, short_word(words[i]));
+    }
+}
+
+/// Has the names of cells ready, each at its place.
+fn shorten_cells(short: &mut [Option<ShortText>], cells: &[Option<CellName<'_>>])
+    requires { length short.old ≡ length cells.now }
+    ensures { (x : ℕ) → x < length cells.now → IsShortOf (short_at short.new x) (cell_at cells.now x) }
+{
+    for x in 0..cells.len() {
+        set_short(short, x, short_cell(&cells[x]));
+    }
+}
