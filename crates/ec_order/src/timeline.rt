@@ -22,7 +22,7 @@ use std::marker::Model;
 pub struct Timeline<'a> {
     setup: &'a Setup,
     under_way: Calls,
-    moments: Vec<Vec<usize>>,
+    moments: Vec<Vec<u32>>,
     marks: Vec<bool>,
     alone: Segments,
     readings: ByPoints,
