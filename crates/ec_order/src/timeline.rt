@@ -1,8 +1,7 @@
 //! The finished calls of a history by their points, gathered while the history goes past.
-ghost use Rattle.std.specs.Prelude.{◌≡◌, ◌+◌, ◌<◌, ◌≤◌, ◌^◌, List, [], ◌∷◌, length, drop, slice_get, IfOk, IfSome, OnOk, MatchOption};
+ghost use Rattle.std.specs.Prelude.{◌≡◌, ◌+◌, ◌<◌, ◌^◌, List, [], ◌∷◌, length, slice_get, IfOk, OnOk};
 ghost use Rattle.ec_core.specs.declared.act.Entry.{Entry};
 ghost use Rattle.ec_core.specs.Acceptance.{IsAccepted};
-ghost use Rattle.ec_order.specs.declared.dated.Dated.{Dated};
 ghost use Rattle.ec_order.specs.Timeline.{dated, dated_by_points, IsTimed, IsTimeline, TellsGood};
 
 use crate::by_points::ByPoints;
@@ -154,19 +153,6 @@ fn mark(marks: &[bool], position: usize) -> Option<bool>
     marks.get(position).copied()
 }
 
-/// The read or await that comes next, if its point is not after a moment.
-fn due(readings: &ByPoints, given: usize, moment: usize) -> Option<Dated>
-    ensures value { MatchOption result
-        ((d : Dated) → slice_get readings.now given ≡ Some d → moment < d.point)
-        (λ d. (slice_get readings.now given ≡ Some d) × (d.point ≤ moment)) }
-    ensures within { IfSome result (λ _. given + 1 < 2 ^ 64) }
-{
-    match readings.point(given) {
-        Some(point) if point <= moment => readings.get(given),
-        _ => None,
-    }
-}
-
 impl<'a> Iterator for InTime<'a> {
     ghost use Rattle.std.specs.Iterator.{YieldsFirst, item_count};
 
@@ -178,7 +164,7 @@ impl<'a> Iterator for InTime<'a> {
 
     fn next(&mut self) -> Option<Dated> {
         loop {
-            if let Some(dated) = due(self.readings, self.given, self.position) {
+            if let Some(dated) = self.readings.due(self.given, self.position) {
                 self.given += 1;
                 return Some(dated);
             }
