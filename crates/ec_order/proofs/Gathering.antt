@@ -16,7 +16,7 @@ use Rattle.ec_core.proofs.shared.Answering.{allowed}
 use Rattle.ec_order.specs.declared.call.Call.{Call}
 use Rattle.ec_order.specs.declared.placed.Placed.{Placed}
 use Rattle.ec_core.specs.declared.ongoing.Ongoing.{Ongoing}
-use Rattle.ec_order.specs.Calls.{call_of_entries, ended_by, finished_calls, is_reading, number_of}
+use Rattle.ec_order.specs.Calls.{call_of_entries, ended_by, finished_calls, is_reading, number_of, Ending}
 use Rattle.ec_order.specs.Points.{first_entries, first_moment, point_of, with_point, by_moments}
 use Rattle.ec_core.specs.Ongoing.{ongoing, AreCalls}
 use Rattle.ec_order.specs.Index.{point_in, IsIndex}
@@ -27,7 +27,7 @@ use Rattle.ec_order.proofs.Points.{first_next}
 use Rattle.ec_order.proofs.Ends.{Ends, ends}
 use Rattle.ec_order.proofs.Finished.{each_cut, call_is}
 use Rattle.ec_order.proofs.Fits.{Fits, all_fit, point_bounds}
-use Rattle.ec_order.proofs.Scanning.{prefix_more, prefix_accepted, prefix_long, Ending, ended_next}
+use Rattle.ec_order.proofs.Scanning.{prefix_more, prefix_accepted, prefix_long, ended_next}
 use Rattle.ec_order.proofs.Indexing.{IsIndexed}
 use Rattle.ec_order.proofs.Reaching.{placed_is}
 use Rattle.ec_order.proofs.Walking.{alone_from}

@@ -14,7 +14,7 @@ use Rattle.ec_core.specs.Ongoing.{ongoing, AreCalls, Takes}
 use Rattle.ec_core.proofs.shared.Moments.{accepted_before}
 use Rattle.ec_core.proofs.shared.Ongoing.{IsGone, gone_newest}
 use Rattle.ec_order.specs.declared.call.Call.{Call}
-use Rattle.ec_order.specs.Calls.{call_of_entries, ended_by, finished_calls, call_from, call_told, EndsCall}
+use Rattle.ec_order.specs.Calls.{call_of_entries, ended_by, finished_calls, call_from, call_told, EndsCall, Ending}
 
 -- PREFIXES
 
@@ -58,14 +58,10 @@ call_ended t past x i g told calls here is taken = record {
   after = taken.after;
 }
 
--- that, as the scan has it
-abbrev pub Ending : List (Option Ongoing) → ℕ → Entry → Option Call → List (Option Ongoing) → Tables → Type 0
-Ending calls i x told after t = (past : List Entry) → IsAccepted t past → i ≡ length past → AreCalls t calls past → EndsCall t past x told after
-
 pub ended_next : (t u : Tables) (h : List Entry) (i : ℕ) (x : Entry) (told : Option Call) (calls calls' : List (Option Ongoing)) → IsAccepted t (reverse h)
     → Some x ≡ slice_get h i → AreCalls t calls (reverse (take i h)) → u ≡ t → Ending calls i x told calls' u → EndsCall t (reverse (take i h)) x told calls'
 ended_next t u h i x told calls calls' acc at s same ending =
-    subst (Ending calls i x told calls') same ending (reverse (take i h)) (prefix_accepted t h i acc) (prefix_long h i x (sym at)) s
+    (subst (Ending calls i x told calls') same ending).ends (reverse (take i h)) (prefix_accepted t h i acc) (prefix_long h i x (sym at)) s
 
 -- what is so after the scan of the first i entries
 pub record IsScanned (t : Tables) (h : List Entry) (i : ℕ) (cs : List Call) (calls : List (Option Ongoing)) : Type 0 where

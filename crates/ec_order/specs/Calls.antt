@@ -10,6 +10,7 @@ use Rattle.ec_core.specs.declared.act.Reply.{Reply}
 use Rattle.ec_core.specs.declared.act.Reply.TheVariants.{Number}
 use Rattle.ec_core.specs.declared.act.Entry.{Entry}
 use Rattle.ec_core.specs.declared.ongoing.Ongoing.{Ongoing}
+use Rattle.ec_core.specs.Acceptance.{IsAccepted}
 use Rattle.ec_core.specs.Calls.{CallSoFar, under_way, gone_on, call_with, is_pending}
 use Rattle.ec_core.specs.Ongoing.{AreCalls}
 use Rattle.ec_core.specs.Rounds.{event_or, position_of, round_start}
@@ -59,3 +60,7 @@ call_told x i o = if is_pending x.reply then None else option_map (call_from x i
 pub record EndsCall (t : Tables) (past : List Entry) (x : Entry) (told : Option Call) (calls : List (Option Ongoing)) : Type 0 where
   pub call : ended_by t x (call_with x past) ≡ option_to_list told
   pub after : AreCalls t calls (x ∷ past)
+
+-- the same after any past that has the calls under way before it, where the entry stands at position i
+pub record Ending (before : List (Option Ongoing)) (i : ℕ) (x : Entry) (told : Option Call) (calls : List (Option Ongoing)) (t : Tables) : Type 0 where
+  pub ends : (past : List Entry) → IsAccepted t past → i ≡ length past → AreCalls t before past → EndsCall t past x told calls

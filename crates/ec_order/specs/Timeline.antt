@@ -61,6 +61,10 @@ pub record IsTimed (k : Timed) (past : List Entry) : Type 0 where
   pub alone : k.alone ≡ filter stands_alone (reverse past)
   pub readings : (n : ℕ) → length past ≤ n → k.readings ≡ map dated (by_moments (readings k.setup past) n)
 
+-- one more entry, at this position, is taken in
+pub record TakesIn (old : Timed) (place : ℕ) (x : Entry) (new : Timed) : Type 0 where
+  pub timed : (past : List Entry) → place ≡ length past → IsAccepted old.setup (x ∷ past) → IsTimed old past → IsTimed new (x ∷ past)
+
 -- it is that after a past, if the past is accepted and no memory was refused
 abbrev pub IsTimeline : Timed → List Entry → Type 0
 IsTimeline k past = k.lacks ≡ false → IsAccepted k.setup past → IsTimed k past

@@ -1,13 +1,11 @@
 //! The finished reads and awaits of a run by their points.
-ghost use Rattle.std.specs.Prelude.{◌≡◌, ◌<◌, ◌≤◌, length, reverse, slice_get, Some, MatchBool, IfOk, OnOk};
-ghost use Rattle.ec_order.specs.declared.placed.Placed.{Placed};
-ghost use Rattle.ec_order.specs.Readings.{IsOf};
-ghost use Rattle.ec_order.specs.Walk.{is_alone, placed_point, readings_by_points, IsPlaceFor, PutsIn};
+ghost use Rattle.std.specs.Prelude.{◌≡◌, reverse, IfOk};
+ghost use Rattle.ec_order.specs.Walk.{is_alone, readings_by_points};
 
+use crate::Placed;
 use crate::index::{no_moments, note, point};
 use crate::readings::Readings;
 use crate::scan::take_in;
-use crate::{Call, Placed};
 use ec_core::{Act, Calls, Run};
 use std::alloc::{AllocError, Global};
 
@@ -19,41 +17,6 @@ pub(crate) fn is_alone(act: Act) -> bool
         Act::Read(_) | Act::Await(_, _) | Act::Go => false,
         Act::Advance(_) | Act::Ticket(_) | Act::Put(_, _) | Act::Get(_) | Act::Hand(_, _) => true,
     }
-}
-
-/// Whether the reading at a place, where there is one, has its point after a moment.
-fn is_after(readings: &Readings<'_>, at: usize, moment: usize) -> bool
-    ensures { MatchBool result
-        ((p : Placed) → slice_get readings.now.placed at ≡ Some p → moment < p.point)
-        ((p : Placed) → slice_get readings.now.placed at ≡ Some p → p.point ≤ moment) }
-{
-    match readings.point(at) {
-        Some(point) => point > moment,
-        None => false,
-    }
-}
-
-/// The place behind the last reading whose point is not after a moment. It is looked for from the end, since reads and
-/// awaits come by their last entries: a reading is passed at most 15 times, once for each call then under way.
-fn place_for(readings: &Readings<'_>, moment: usize) -> usize
-    ensures { IsPlaceFor placed_point readings.now.placed moment result }
-{
-    for at in (0..readings.len()).rev() {
-        if !is_after(readings, at, moment) {
-            return at + 1;
-        }
-    }
-    0
-}
-
-/// Puts a call of the run in behind those whose point is not after its own.
-fn put_in(readings: &mut Readings<'_>, call: Call, point: usize) -> Result<(), AllocError>
-    requires { IsOf readings.old.history call }
-    ensures puts { OnOk result (PutsIn placed_point readings.old.placed readings.new.placed (record { call = call; point = point })) }
-    ensures history { OnOk result (readings.new.history ≡ readings.old.history) }
-{
-    let at = place_for(readings, point);
-    readings.insert(at, &Placed { call, point })
 }
 
 /// The finished reads and awaits of a run by their points, and at one point by their last entries, in one scan: by the
@@ -75,7 +38,7 @@ pub(crate) fn readings_by_points<'a>(
             if !is_alone(entry.act) {
                 if let Some(call) = take_in(&mut under_way, run.setup(), &entry, i) {
                     let point = point(&lists, &call);
-                    put_in(&mut readings, call, point)?;
+                    readings.put(&Placed { call, point })?;
                 }
             }
         }

@@ -28,21 +28,30 @@ fn advanced(act: Act) -> Option<usize>
     }
 }
 
+/// A moment or a place in the 32 bits that are kept of it. One that does not fit is told as want of memory: by then the history has
+/// more than four thousand million entries.
+pub(crate) fn short(number: usize) -> Result<u32, AllocError>
+    ensures { IfOk result (λ n. n ≡ number) }
+{
+    u32::try_from(number).map_err(|_| AllocError)
+}
+
 /// Adds a moment to those of eventcount e.
-fn add_moment(lists: &mut Vec<Vec<usize>>, event: usize, moment: usize) -> Result<(), AllocError>
+fn add_moment(lists: &mut Vec<Vec<u32>>, event: usize, moment: usize) -> Result<(), AllocError>
     requires { event < length lists.old.items }
     ensures long { length lists.new.items ≡ length lists.old.items }
     ensures added { OnOk result ((v : _)
         × (v.items ≡ moments_in lists.old.items event ++ moment ∷ [])
         × (lists.new.items ≡ slice_set lists.old.items event v)) }
 {
+    let moment = short(moment)?;
     let list = &mut lists[event];
     list.push(moment)?;
     Ok(())
 }
 
 /// Adds the moment after an act to those of the eventcount that it advances, if it advances one.
-pub(crate) fn note(lists: &mut Vec<Vec<usize>>, act: Act, moment: usize) -> Result<(), AllocError>
+pub(crate) fn note(lists: &mut Vec<Vec<u32>>, act: Act, moment: usize) -> Result<(), AllocError>
     requires { length lists.old.items ≡ 32 }
     ensures long { length lists.new.items ≡ 32 }
     ensures notes { OnOk result (NotesAct lists.old.items act moment lists.new.items) }
@@ -54,7 +63,7 @@ pub(crate) fn note(lists: &mut Vec<Vec<usize>>, act: Act, moment: usize) -> Resu
 }
 
 /// An index with no moment.
-pub(crate) fn no_moments(alloc: Global) -> Result<Vec<Vec<usize>>, AllocError>
+pub(crate) fn no_moments(alloc: Global) -> Result<Vec<Vec<u32>>, AllocError>
     ensures long { IfOk result (λ ls. length ls.items ≡ 32) }
     ensures value { IfOk result (λ ls. (e : ℕ) → moments_in ls.items e ≡ []) }
 {
@@ -66,7 +75,7 @@ pub(crate) fn no_moments(alloc: Global) -> Result<Vec<Vec<usize>>, AllocError>
 }
 
 /// For each eventcount the moments after its advances, in order.
-pub(crate) fn index(alloc: Global, run: &Run) -> Result<Vec<Vec<usize>>, AllocError>
+pub(crate) fn index(alloc: Global, run: &Run) -> Result<Vec<Vec<u32>>, AllocError>
     ensures long { IfOk result (λ ls. length ls.items ≡ 32) }
     ensures value { IfOk result (λ ls. IsIndex (reverse run.now.entries) ls.items) }
 {
@@ -80,19 +89,19 @@ pub(crate) fn index(alloc: Global, run: &Run) -> Result<Vec<Vec<usize>>, AllocEr
 }
 
 /// The moment after the r-th advance, by the list of the moments after each advance; moment 0 for r = 0.
-fn moment_of(moments: &[usize], r: u64) -> usize
+fn moment_of(moments: &[u32], r: u64) -> usize
     ensures { result ≡ moment_of moments.now r }
 {
     if r == 0 {
         0
     } else {
-        moments.get((r - 1) as usize).copied().unwrap_or(0)
+        moments.get((r - 1) as usize).copied().unwrap_or(0) as usize
     }
 }
 
 /// The point of a call: of a read or an await the greater of its round's start and the moment after the advance that
 /// made the total its answer, of any other call its position.
-pub(crate) fn point(lists: &[Vec<usize>], call: &Call) -> usize
+pub(crate) fn point(lists: &[Vec<u32>], call: &Call) -> usize
     requires { length lists.now ≡ 32 }
     ensures { result ≡ point_in lists.now call.now }
 {

@@ -1,10 +1,8 @@
 //! The finished calls of a run.
-ghost use Rattle.std.specs.Prelude.{◌≡◌, List, length, not, count_by, reverse, IfOk};
-ghost use Rattle.ec_core.specs.Acceptance.{IsAccepted};
+ghost use Rattle.std.specs.Prelude.{◌≡◌, not, count_by, reverse, IfOk};
 ghost use Rattle.ec_core.specs.Calls.{is_pending};
-ghost use Rattle.ec_core.specs.Ongoing.{AreCalls};
 ghost use Rattle.ec_core.specs.declared.act.Entry.{Entry};
-ghost use Rattle.ec_order.specs.Calls.{finished_calls, call_told, EndsCall};
+ghost use Rattle.ec_order.specs.Calls.{finished_calls, call_told, Ending};
 
 use crate::Call;
 use ec_core::{Calls, Entry, Ongoing, Reply, Run};
@@ -43,8 +41,7 @@ fn ended(entry: &Entry, call: &Option<Ongoing>, i: usize) -> Option<Call>
 
 /// Takes in the entry at position i, which may end a call.
 pub(crate) fn take_in(under_way: &mut Calls, setup: &Setup, entry: &Entry, i: usize) -> Option<Call>
-    ensures { (past : List Entry) → IsAccepted setup.now past → i ≡ length past → AreCalls setup.now under_way.old past
-        → EndsCall setup.now past entry.now result under_way.new }
+    ensures { Ending under_way.old i entry.now result under_way.new setup.now }
 {
     ended(entry, &under_way.take(setup, i, entry), i)
 }

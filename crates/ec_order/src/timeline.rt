@@ -1,9 +1,10 @@
 //! The finished calls of a history by their points, gathered while the history goes past.
-ghost use Rattle.std.specs.Prelude.{◌≡◌, ◌+◌, ◌<◌, ◌≤◌, ◌^◌, List, [], ◌∷◌, length, drop, slice_get, IfOk, IfSome, OnOk, MatchOption};
+ghost use Rattle.std.specs.Prelude.{◌≡◌, ◌+◌, ◌<◌, ◌^◌, List, [], ◌∷◌, length, slice_get, IfOk, OnOk};
 ghost use Rattle.ec_core.specs.declared.act.Entry.{Entry};
 ghost use Rattle.ec_core.specs.Acceptance.{IsAccepted};
-ghost use Rattle.ec_order.specs.declared.dated.Dated.{Dated};
-ghost use Rattle.ec_order.specs.Timeline.{dated, dated_by_points, IsTimed, IsTimeline, TellsGood};
+ghost use Rattle.ec_order.specs.Index.{placed_in};
+ghost use Rattle.ec_order.specs.Timeline.{dated, dated_by_points, dated_point, IsTimeline, TakesIn, TellsGood};
+ghost use Rattle.ec_order.specs.Walk.{PutsIn};
 
 use crate::by_points::ByPoints;
 use crate::gather::is_alone;
@@ -22,7 +23,7 @@ use std::marker::Model;
 pub struct Timeline<'a> {
     setup: &'a Setup,
     under_way: Calls,
-    moments: Vec<Vec<usize>>,
+    moments: Vec<Vec<u32>>,
     marks: Vec<bool>,
     alone: Segments,
     readings: ByPoints,
@@ -54,6 +55,15 @@ fn dated(call: &Call, point: usize) -> Dated
     }
 }
 
+/// Puts a finished read or await in by its point.
+fn keep(readings: &mut ByPoints, lists: &[Vec<u32>], call: &Call) -> Result<(), AllocError>
+    requires { length lists.now ≡ 32 }
+    ensures { OnOk result (PutsIn dated_point readings.old readings.new (dated (placed_in lists.now call.now))) }
+{
+    let point = point(lists, call);
+    readings.put(&dated(call, point))
+}
+
 impl<'a> Timeline<'a> {
     /// Before the first entry of a history on this setup.
     pub fn open(alloc: Global, setup: &'a Setup) -> Result<Self, OrderFault>
@@ -72,26 +82,26 @@ impl<'a> Timeline<'a> {
     }
 
     /// Takes the next entry in, at this position.
+    #[tactic(auto, using(crate::proofs::Timing::takes_alone, crate::proofs::Timing::takes_none, crate::proofs::Timing::takes_one))]
     #[inline(always)]
     fn gather(&mut self, place: usize, entry: &Entry) -> Result<(), AllocError>
         requires { place + 1 < 2 ^ 64 }
         ensures setup { self.new.setup ≡ self.old.setup }
-        ensures kept { OnOk result ((past : List Entry) → place ≡ length past → IsAccepted self.old.setup (entry.now ∷ past) → IsTimed self.old past → IsTimed self.new (entry.now ∷ past)) }
+        ensures kept { OnOk result (TakesIn self.old place entry.now self.new) }
     {
         self.setup.known();
         note(&mut self.moments, entry.act, place + 1)?;
         let alone = is_alone(entry.act);
         self.marks.push(alone)?;
         if alone {
-            return self.alone.push(*entry);
+            self.alone.push(*entry)?;
+            return Ok(());
         }
-        match take_in(&mut self.under_way, self.setup, entry, place) {
-            Some(call) => {
-                let point = point(&self.moments, &call);
-                self.readings.put(&dated(&call, point))
-            }
-            None => Ok(()),
+        if let Some(call) = take_in(&mut self.under_way, self.setup, entry, place) {
+            keep(&mut self.readings, &self.moments, &call)?;
+            return Ok(());
         }
+        Ok(())
     }
 
     /// The finished calls after the entries so far, by their points, one after another: a legal order of them. Err where memory
@@ -154,19 +164,6 @@ fn mark(marks: &[bool], position: usize) -> Option<bool>
     marks.get(position).copied()
 }
 
-/// The read or await that comes next, if its point is not after a moment.
-fn due(readings: &ByPoints, given: usize, moment: usize) -> Option<Dated>
-    ensures value { MatchOption result
-        ((d : Dated) → slice_get readings.now given ≡ Some d → moment < d.point)
-        (λ d. (slice_get readings.now given ≡ Some d) × (d.point ≤ moment)) }
-    ensures within { IfSome result (λ _. given + 1 < 2 ^ 64) }
-{
-    match readings.point(given) {
-        Some(point) if point <= moment => readings.get(given),
-        _ => None,
-    }
-}
-
 impl<'a> Iterator for InTime<'a> {
     ghost use Rattle.std.specs.Iterator.{YieldsFirst, item_count};
 
@@ -178,7 +175,7 @@ impl<'a> Iterator for InTime<'a> {
 
     fn next(&mut self) -> Option<Dated> {
         loop {
-            if let Some(dated) = due(self.readings, self.given, self.position) {
+            if let Some(dated) = self.readings.due(self.given, self.position) {
                 self.given += 1;
                 return Some(dated);
             }

@@ -1,7 +1,6 @@
 //! The finished calls of a run by their points, one after another.
-ghost use Rattle.std.specs.Prelude.{◌≡◌, ◌≤◌, ◌<◌, ◌+◌, ◌^◌, ◌∷◌, drop, reverse, slice_get, IfOk, IfSome, MatchOption};
+ghost use Rattle.std.specs.Prelude.{◌≡◌, reverse, IfOk};
 ghost use Rattle.std.specs.Option.{option_to_list};
-ghost use Rattle.ec_core.specs.declared.act.Entry.{Entry};
 ghost use Rattle.ec_order.specs.Points.{ordered_by_points};
 ghost use Rattle.ec_order.specs.Verdicts.{IsGood};
 ghost use Rattle.ec_order.specs.Walk.{own_calls, readings_by_points};
@@ -33,19 +32,6 @@ impl<'a> Model for InOrder<'a> {
     ghost view = { λ s. walk s.position s.entries (drop s.given s.readings.placed) };
 
     ghost invariant = { λ s. s.position + length s.entries < 2 ^ 64 };
-}
-
-/// The read or await that comes next, if its point is not after a moment.
-fn due(readings: &Readings<'_>, given: usize, moment: usize) -> Option<Placed>
-    ensures value { MatchOption result
-        ((p : Placed) → slice_get readings.now.placed given ≡ Some p → moment < p.point)
-        (λ p. (slice_get readings.now.placed given ≡ Some p) × (p.point ≤ moment)) }
-    ensures within { IfSome result (λ _. given + 1 < 2 ^ 64) }
-{
-    match readings.point(given) {
-        Some(point) if point <= moment => readings.get(given),
-        _ => None,
-    }
 }
 
 /// The call that an entry is by itself, if it is one.
@@ -80,7 +66,7 @@ impl<'a> Iterator for InOrder<'a> {
 
     fn next(&mut self) -> Option<Placed> {
         loop {
-            if let Some(placed) = due(&self.readings, self.given, self.position) {
+            if let Some(placed) = self.readings.due(self.given, self.position) {
                 self.given += 1;
                 return Some(placed);
             }

@@ -3,7 +3,7 @@ use Rattle.ec_order.proofs.Scanning.{none_past}
 use Rattle.ec_order.proofs.Indexing.{indexed_start, indexed_more}
 use Rattle.ec_order.proofs.Gathering.{gathered_start, gathered_alone, gathered_none, gathered_one, gathered_all, call_stands}
 use Rattle.ec_order.proofs.gather.readings_by_points.Goals as goal
-use Rattle.ec_order.proofs.gather.readings_by_points.Goals.{in-Some+in_ok-note+then-not-is_alone+in-Some-take_in+in_ok-put_in, in-Some+in_ok-note+then-not-is_alone+in_default-take_in, in-Some+in_ok-note+else-not-is_alone, in_default}
+use Rattle.ec_order.proofs.gather.readings_by_points.Goals.{in-Some+in_ok-note+then-not-is_alone+in-Some-take_in+in_ok-put, in-Some+in_ok-note+then-not-is_alone+in_default-take_in, in-Some+in_ok-note+else-not-is_alone, in_default}
 
 pub loop-i-init : goal.loop-i-init
 loop-i-init c =
@@ -13,10 +13,10 @@ loop-i-init c =
 pub loop-i-preserved : goal.loop-i-preserved
 loop-i-preserved c =
     elim c.match-entry.branch [
-      | in-Some+in_ok-note+then-not-is_alone+in-Some-take_in+in_ok-put_in w ↦
+      | in-Some+in_ok-note+then-not-is_alone+in-Some-take_in+in_ok-put w ↦
           rw (w.under_way-is, w.lists-is, w.readings-is) (gathered_one _ _ _ _ w.in-Some.entry w.in-Some-take_in.call _ _ _ _ _ _ _ _ c.known.ensures.declared c.known.ensures.accepted w.in-Some.ensures (sym w.is_alone.ensures ∙ w.if-not-is_alone.true)
           (indexed_more _ _ w.in-Some.entry _ _ w.in-Some.ensures c.loop-i.invariant.index w.in_ok-note.ensures.notes) c.loop-i.invariant w.setup.ensures
-          w.in-Some-take_in.ensures w.deref.ensures.value w.point-point.ensures w.in_ok-put_in.ensures.puts w.in_ok-put_in.ensures.history)
+          w.in-Some-take_in.ensures w.deref.ensures.value w.point-point.ensures w.in_ok-put.ensures.puts w.put.ensures.history)
       | in-Some+in_ok-note+then-not-is_alone+in_default-take_in w ↦
           rw (w.under_way-is, w.lists-is, w.readings-is) (gathered_none _ _ _ _ w.in-Some.entry w.take_in.result _ _ _ _ _ c.known.ensures.declared c.known.ensures.accepted w.in-Some.ensures
           (indexed_more _ _ w.in-Some.entry _ _ w.in-Some.ensures c.loop-i.invariant.index w.in_ok-note.ensures.notes) c.loop-i.invariant w.setup.ensures
@@ -27,8 +27,8 @@ loop-i-preserved c =
       | in_default w ↦ absurd (none_past c.args.run.now.entries c.loop-i.i (sym w.in_default.is ∙ c.entry.ensures) (omega arith))
     ]
 
-pub put_in-requires : goal.put_in-requires
-put_in-requires c =
+pub put-requires : goal.put-requires
+put-requires c =
     call_stands _ _ _ _ c.in-Some.entry c.in-Some-take_in.call _ _ _ _ c.known.ensures.declared c.known.ensures.accepted c.in-Some.ensures c.loop-i.invariant c.setup.ensures c.in-Some-take_in.ensures
 
 pub returns : goal.returns
