@@ -153,6 +153,10 @@ module _ {A : Type 0} (stands : A → A → List Entry → Type 0) (gs : List Gr
         ],
       ))
 
+  -- there are none
+  pub hands_nowhere : (first end : ℕ) (old : List A) → end ≤ first → HandsAmong stands gs wide first end place op x old old
+  hands_nowhere first end old none = λ i a at. (a, at, inr (refl, λ from before here. absurd (omega arith)))
+
   -- one more number
   pub hands_more : (first n : ℕ) (old now new : List A) → HandsFirst first n old now → HandsTo stands gs wide n place op x now new → HandsFirst first (n + 1) old new
   hands_more first n old now new h one = λ i a at. (let k = h i a at in go i a k.0 k.2 (one i k.0 k.1))
@@ -223,3 +227,7 @@ module _ {A : Type 0} (group : A → Group) (stands : A → A → List Entry →
           then (inr p) (c, there, inl q) = (start, c, first, there, of, q.0 start past at is (subst (λ z. stands start z past) (sym p.0) was))
           then (inr p) (c, there, inr q) =
               (start, c, first, there, of, subst (λ z. stands start z (x ∷ past)) (sym (q.0 ∙ p.0)) (left_out i g start now of (off i g here p.1 q.1) was))
+
+-- without groups each has its audit
+pub none_walked : {A : Type 0} (group : A → Group) (stands : A → A → List Entry → Type 0) (gs : List Group) (starts new : List A) (past : List Entry) → length gs ≡ 0 → AreWalked group stands gs starts new past
+none_walked group stands gs starts new past none = λ i g here. (let within : i < length gs = slice_get_within gs i g here in absurd (omega arith))
