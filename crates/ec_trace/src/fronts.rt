@@ -321,7 +321,11 @@ fn space_before_number(text: &[u8]) -> Option<usize>
 {
     for place in (0..text.len()).rev() {
         if !text[place].is_ascii_digit() {
-            return if text[place] == b' ' { Some(place) } else { None };
+            return if text[place] == b' ' {
+                Some(place)
+            } else {
+                None
+            };
         }
     }
     None

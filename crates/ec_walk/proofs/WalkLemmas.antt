@@ -1,5 +1,5 @@
 -- Each entry is handed to the audits of the groups that its call may be on, and the others stand as they are.
-use Rattle.std.proofs.Common.{◌≡◌, ◌≢◌, ℕ, ◌+◌, ◌<◌, ◌≤◌, Bool, true, false, List, [], ◌∷◌, length, Some, refl, ap, sym, ◌∙◌, subst, arith, true≢false, cond, ◌==◌, ◌||◌, not, ◌⊎◌, inl, inr, slice_get, slice_set, below_more}
+use Rattle.std.proofs.Common.{◌≡◌, ◌≢◌, ℕ, ◌+◌, ◌<◌, ◌≤◌, Bool, true, false, List, ◌∷◌, length, Some, refl, ap, sym, ◌∙◌, subst, arith, true≢false, cond, ◌==◌, ◌||◌, not, ◌⊎◌, inl, inr, slice_get, slice_set, below_more}
 use mathlib.Core.Bool.{beq}
 use Rattle.std.specs.Option.{option_map_or}
 use Rattle.std.proofs.lemmas.Bool.{eqb-true, eqb-false, eq-eqb}
@@ -7,15 +7,12 @@ use Rattle.std.proofs.lemmas.Option.{slice_get_within}
 use Rattle.ec_core.specs.declared.act.Act.{Act}
 use Rattle.ec_core.specs.declared.act.Act.TheVariants.{Advance, Read, Await, Put, Get, Hand}
 use Rattle.ec_core.specs.declared.act.Entry.{Entry}
-use Rattle.ec_core.specs.Calls.{under_way}
-use Rattle.ec_core.specs.Following.{opened}
 use Rattle.ec_core.proofs.shared.Following.{op_at}
 use Rattle.ec_core.proofs.shared.Places.{get_set}
 use Rattle.ec_heading.specs.declared.group.Group.{Group}
 use Rattle.ec_heading.specs.declared.group.Group.TheVariants as groups
 use Rattle.ec_walk.specs.declared.table.Span.{Span}
-use Rattle.ec_walk.specs.declared.table.Table.{Table}
-use Rattle.ec_walk.specs.Walks.{names, is_wide, is_on, is_wide_at, CoversFirst, Covers, CoversAct, CoversAt, IsTable, Hands, HandsTo, HandsAmong, AreWalked}
+use Rattle.ec_walk.specs.Walks.{names, is_wide, is_on, is_wide_at, CoversFirst, Covers, CoversAct, CoversAt, Hands, HandsTo, HandsAmong, AreWalked}
 
 -- THE TABLE
 
@@ -227,7 +224,3 @@ module _ {A : Type 0} (group : A → Group) (stands : A → A → List Entry →
           then (inr p) (c, there, inl q) = (start, c, first, there, of, q.0 start past at is (subst (λ z. stands start z past) (sym p.0) was))
           then (inr p) (c, there, inr q) =
               (start, c, first, there, of, subst (λ z. stands start z (x ∷ past)) (sym (q.0 ∙ p.0)) (left_out i g start now of (off i g here p.1 q.1) was))
-
--- without groups each has its audit
-pub none_walked : {A : Type 0} (group : A → Group) (stands : A → A → List Entry → Type 0) (gs : List Group) (starts new : List A) (past : List Entry) → length gs ≡ 0 → AreWalked group stands gs starts new past
-none_walked group stands gs starts new past none = λ i g here. (let within : i < length gs = slice_get_within gs i g here in absurd (omega arith))
