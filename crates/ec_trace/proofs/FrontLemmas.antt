@@ -2,6 +2,8 @@
 use Rattle.std.proofs.Common.{◌≡◌, ℕ, zero, suc, replicate, ◌+◌, ◌-◌, ◌<◌, ◌≤◌, List, [], ◌∷◌, ◌++◌, length, take, drop, get_or, Bool, true, false, cond, eqb, Option, None, Some, refl, sym, ap, subst, ◌∙◌, arith, codes, add-one, drop-cons, length-drop, ne_eqb, true≢false, inl, inr, ◌⊎◌}
 use Rattle.std.specs.Prelude.{bytes_eq, slice_get, slice_set, ◌==◌}
 use Rattle.std.specs.List.{onto_first}
+use Rattle.std.specs.Char.{is_ascii_digit}
+use Rattle.std.proofs.lemmas.Bool.{cases_lt}
 use Rattle.std.proofs.lemmas.List.{take-append-drop, take_all, get_or-drop}
 use Rattle.std.proofs.lemmas.List.Elements.{All-from_get_or}
 use Rattle.std.proofs.lemmas.Slice.Eq.{bytes_eq-Decides}
@@ -17,25 +19,38 @@ use Rattle.ec_text.proofs.shared.NumberLemmas.{guarded}
 use Rattle.ec_heading.specs.Spelled.{Named, event_in, sequencer_in, cell_in_word}
 use Rattle.ec_heading.specs.Lists.{worker_in}
 use Rattle.ec_trace.specs.Entries.{◌>>=◌, act_alone, act_on, act_with, reply_of, entry_by, entry_in, entry_of}
-use Rattle.ec_trace.specs.Fronts.{with_reply, with_value, with_both, is_valued, headed, HasFront, HasValue, EndsIn, Tells, IsKept, AreKept}
+use Rattle.ec_trace.specs.Fronts.{with_reply, with_value, with_both, is_valued, headed, HasFront, HasValue, IsCutAt, EndsIn, Tells, IsKept, AreKept}
 use Rattle.ec_trace.specs.Keys.{text_of}
 use Rattle.ec_trace.specs.declared.key.Key.{Key}
 use Rattle.ec_trace.specs.declared.fronts.Front.{Front}
 
--- as the code's `&line[..i]` and `&line[i + 1..]` say it
-pub last_whole : (line : List ℕ) (i : ℕ) → i < length line → get_or line i 0 ≡ 32 → line ≡ take i line ++ 32 ∷ take (length line - (i + 1)) (drop (i + 1) line)
-last_whole line i within at =
-    let e : take (length line - (i + 1)) (drop (i + 1) line) ≡ drop (i + 1) line = take_all _ _ (omega (arith, length-drop (i + 1) line)) in
-    let f : drop i line ≡ 32 ∷ drop (i + 1) line = rw (add-one, drop-cons line i 0) (rw at) in
-    sym (take-append-drop i line) ∙ ap (λ (r : List ℕ). take i line ++ r) (f ∙ ap (λ (r : List ℕ). 32 ∷ r) (sym e))
+-- the text up to a space, the space, and the rest
+pub last_whole : (text : List ℕ) (i : ℕ) → i < length text → get_or text i 0 ≡ 32 → text ≡ take i text ++ 32 ∷ drop (i + 1) text
+last_whole text i within at =
+    let f : drop i text ≡ 32 ∷ drop (i + 1) text = rw (add-one, drop-cons text i 0) (rw at) in
+    sym (take-append-drop i text) ∙ ap (λ (r : List ℕ). take i text ++ r) f
 
-pub last_word : (line : List ℕ) (i : ℕ) → i < length line → ((k : ℕ) → i + 1 ≤ k → k < length line → get_or line k 0 ≡ 32 → ⊥) → IsWord (take (length line - (i + 1)) (drop (i + 1) line))
-last_word line i within none =
-    let e : take (length line - (i + 1)) (drop (i + 1) line) ≡ drop (i + 1) line = take_all _ _ (omega (arith, length-drop (i + 1) line)) in
-    subst IsWord (sym e) (All-from_get_or (λ b. eqb b 32 ≡ false) (drop (i + 1) line) 0 (λ k h.
-    ne_eqb _ _ (λ at. none (i + 1 + k) (omega arith) (omega (arith, length-drop (i + 1) line)) (sym (get_or-drop (i + 1) line k 0) ∙ at))))
+pub last_word : (text : List ℕ) (i : ℕ) → i < length text → ((k : ℕ) → i + 1 ≤ k → k < length text → get_or text k 0 ≡ 32 → ⊥) → IsWord (drop (i + 1) text)
+last_word text i within none =
+    All-from_get_or (λ b. eqb b 32 ≡ false) (drop (i + 1) text) 0 (λ k h.
+    ne_eqb _ _ (λ at. none (i + 1 + k) (omega arith) (omega (arith, length-drop (i + 1) text)) (sym (get_or-drop (i + 1) text k 0) ∙ at)))
 
-pub ruleset last_cuts = (last_whole, last_word)
+-- a digit is no space
+pub digit_no_space : (b : ℕ) → is_ascii_digit b ≡ true → b ≡ 32 → ⊥
+digit_no_space b is space = (let no : is_ascii_digit 32 ≡ true = sym (ap is_ascii_digit space) ∙ is in cc)
+
+-- one more digit
+pub digits_on : (text : List ℕ) (i : ℕ) → is_ascii_digit (get_or text i 0) ≡ true → ((k : ℕ) → i + 1 ≤ k → k < length text → get_or text k 0 ≡ 32 → ⊥) → (k : ℕ) → i ≤ k → k < length text → get_or text k 0 ≡ 32 → ⊥
+digits_on text i is none k from within at = elim (cases_lt i k) [
+  | inl less ↦ none k (omega arith) within at
+  | inr more ↦ (let same : i ≡ k = omega arith in digit_no_space (get_or text i 0) is (ap (λ (j : ℕ). get_or text j 0) same ∙ at))
+]
+
+-- as the code's `&text[i + 1..]` says what is behind the space
+pub behind_all : (text : List ℕ) (i : ℕ) → take (length text - (i + 1)) (drop (i + 1) text) ≡ drop (i + 1) text
+behind_all text i = take_all _ _ (omega (arith, length-drop (i + 1) text))
+
+pub ruleset last_cuts = (last_whole, last_word, digits_on)
 
 onto_front : (b : ℕ) (ws vs : List (List ℕ)) (w : List ℕ) → onto_first b ((w ∷ ws) ++ vs) ≡ onto_first b (w ∷ ws) ++ vs
 onto_front b ws vs w = refl
@@ -265,8 +280,8 @@ spells_number word n false true other is h =
     cc
 spells_number word n false false one two h = rw (one, two, h) refl
 
-pub ends_number : (line front answer : List ℕ) (n : ℕ) → line ≡ front ++ 32 ∷ answer → IsWord answer → number_of answer ≡ Some n → EndsIn line front (Number n)
-ends_number line front answer n is word h = (answer, is, word, spells_number answer n _ _ refl refl h)
+pub ends_number : (line : List ℕ) (i n : ℕ) → IsCutAt line i → number_of (take (length line - (i + 1)) (drop (i + 1) line)) ≡ Some n → EndsIn line (take i line) (Number n)
+ends_number line i n cut h = (drop (i + 1) line, cut.0, cut.1, spells_number (drop (i + 1) line) n _ _ refl refl (ap number_of (sym (behind_all line i)) ∙ h))
 
 pub ruleset ends = (ends_done, ends_pending)
 
@@ -274,10 +289,11 @@ pub ruleset ends = (ends_done, ends_pending)
 pub told : (names : Named) (line front : List ℕ) (w : ℕ) (a : Act) (r : Reply) → EndsIn line front r → Tells names front w a → is_valued a ≡ false → entry_of names line ≡ Some (record { worker = w; act = a; reply = r })
 told names line front w a r ends tell plain = ap (entry_of names) ends.1 ∙ tell.whole plain ends.0 ends.2 ∙ ap (with_reply w a) ends.3
 
-pub value_so : (front head opening value : List ℕ) → bytes_eq (drop (length front - length (codes " =")) front) (codes " =") ≡ true → head ≡ take (length front - length (codes " =")) front → head ≡ opening ++ 32 ∷ value → IsWord value → HasValue front opening value
-value_so front head opening value same is cut word = (before front head (codes " =") same is ∙ ap (λ (h : List ℕ). h ++ codes " =") cut, word)
-
-pub ruleset values = (value_so)
+pub value_so : (front head : List ℕ) (i : ℕ) → bytes_eq (drop (length front - length (codes " =")) front) (codes " =") ≡ true → head ≡ take (length front - length (codes " =")) front → IsCutAt head i → HasValue front (take i head) (take (length head - (i + 1)) (drop (i + 1) head))
+value_so front head i same is cut = (
+  before front head (codes " =") same is ∙ ap (λ (h : List ℕ). h ++ codes " =") (cut.0 ∙ ap (λ (r : List ℕ). take i head ++ 32 ∷ r) (sym (behind_all head i))),
+  subst IsWord (sym (behind_all head i)) cut.1,
+)
 
 kept_at : (names : Named) (b : Bool) (o : Option Front) (f g : Front) → cond b (Some f) o ≡ Some g → IsKept names f → (o ≡ Some g → IsKept names g) → IsKept names g
 kept_at names true o f g h new old = (let is : f ≡ g = cc in subst (λ (x : Front). IsKept names x) is new)

@@ -1,5 +1,5 @@
 -- Fronts of entries: what stands in a line before the space of the reply, and what it spells.
-use Rattle.std.specs.Prelude.{◌≡◌, ℕ, ◌≤◌, Bool, true, false, List, ◌++◌, ◌∷◌, Option, Some, None, slice_get, codes}
+use Rattle.std.specs.Prelude.{◌≡◌, ℕ, ◌+◌, ◌≤◌, take, drop, Bool, true, false, List, ◌++◌, ◌∷◌, Option, Some, None, slice_get, codes}
 use Rattle.ec_core.specs.declared.act.Act.{Act}
 use Rattle.ec_core.specs.declared.act.Act.TheVariants as acts
 use Rattle.ec_core.specs.declared.act.Reply.{Reply}
@@ -9,6 +9,10 @@ use Rattle.ec_trace.specs.Entries.{reply_of, entry_of}
 use Rattle.ec_heading.specs.Spelled.{Named}
 use Rattle.ec_trace.specs.Keys.{text_of}
 use Rattle.ec_trace.specs.declared.fronts.Front.{Front}
+
+-- at this place of a text is a space, and behind it a word
+abbrev pub IsCutAt : List ℕ → ℕ → Type 0
+IsCutAt text place = (text ≡ take place text ++ 32 ∷ drop (place + 1) text) × IsWord (drop (place + 1) text)
 
 -- a line is this front, a space, and a word
 abbrev pub HasFront : List ℕ → List ℕ → Type 0

@@ -3,10 +3,9 @@
 //! The front of an entry is its line up to the space before the reply. But for the values in them, the entries of a
 //! trace have few different fronts, so that one which was read lately is found again by its bytes: then the reply alone
 //! is read anew, and the value of an await or a put. A key holds the bytes, so that no loop compares them.
-ghost use Rattle.std.specs.Prelude.{◌≡◌, ◌≤◌, ℕ, List, Some, ◌++◌, ◌∷◌, IfOk, IfSome};
-ghost use Rattle.ec_text.specs.Words.{IsWord};
+ghost use Rattle.std.specs.Prelude.{◌≡◌, ◌≤◌, ◌<◌, ℕ, List, Some, IfOk, IfSome, length};
 ghost use Rattle.ec_trace.specs.Entries.{entry_of};
-ghost use Rattle.ec_trace.specs.Fronts.{HasFront, HasValue, EndsIn, Tells, IsKept, AreKept, is_valued, with_value};
+ghost use Rattle.ec_trace.specs.Fronts.{HasFront, HasValue, IsCutAt, EndsIn, Tells, IsKept, AreKept, is_valued, with_value};
 ghost use Rattle.ec_trace.specs.Keys.{text_of};
 ghost use Rattle.ec_heading.specs.Spelled.{Named};
 
@@ -241,12 +240,11 @@ impl Fronts {
         })
     }
 
-    /// The entry that a front with a value spells with a reply, where what stands before the value was read lately.
+    /// The entry that a front spells with a reply, by its value and what stands before that, where the latter was read lately.
     #[inline(always)]
-    pub(crate) fn valued(&self, front: &[u8], reply: Reply) -> Option<Entry>
-        ensures { (names : Named) (line : List ℕ) → AreKept names self.now → EndsIn line front.now reply → IfSome result (λ e. entry_of names line ≡ Some e) }
+    pub(crate) fn valued(&self, opening: &[u8], value: &[u8], reply: Reply) -> Option<Entry>
+        ensures { (names : Named) (line front : List ℕ) → AreKept names self.now → EndsIn line front reply → HasValue front opening.now value.now → IfSome result (λ e. entry_of names line ≡ Some e) }
     {
-        let (opening, value) = cut_value(front)?;
         let known = self.find(opening)?;
         if !is_valued(&known.act) {
             return None;
@@ -283,18 +281,18 @@ fn with_value(act: Act, value: u64) -> Act
     }
 }
 
-/// The last word before the `=` that ends a front, where it begins with a digit, and what stands before the space before it.
+/// The value before the `=` that ends a front, and what stands before the space before it.
 #[inline(always)]
-#[tactic(auto, using(crate::proofs::FrontLemmas::values))]
-fn cut_value(front: &[u8]) -> Option<(&[u8], &[u8])>
+pub(crate) fn cut_value(front: &[u8]) -> Option<(&[u8], &[u8])>
     ensures { IfSome result (λ p. HasValue front.now p.0.now p.1.now) }
 {
-    let head = front.strip_suffix(b" =".as_slice())?;
-    let (opening, value) = cut_last(head)?;
-    match value {
-        [first, ..] if first.is_ascii_digit() => Some((opening, value)),
-        _ => None,
+    match front {
+        [.., last, _, _] if last.is_ascii_digit() => {}
+        _ => return None,
     }
+    let head = front.strip_suffix(b" =".as_slice())?;
+    let space = space_before_number(head)?;
+    Some((&head[..space], &head[space + 1..]))
 }
 
 /// The reply that the last word of a line spells, and what stands before the space before it.
@@ -307,23 +305,27 @@ pub(crate) fn cut_reply(line: &[u8]) -> Option<(&[u8], Reply)>
         [.., b'e'] => Some((line.strip_suffix(b" done".as_slice())?, Reply::Done)),
         [.., b'g'] => Some((line.strip_suffix(b" pending".as_slice())?, Reply::Pending)),
         _ => {
-            let (front, answer) = cut_last(line)?;
-            let answer = number(answer)?;
-            Some((front, Reply::Number(answer)))
+            let space = space_before_number(line)?;
+            let answer = number(&line[space + 1..])?;
+            Some((&line[..space], Reply::Number(answer)))
         }
     }
 }
 
-/// The last word of a line, and what stands before the space before it.
-#[inline(never)]
+/// Where the space is before the digits that a text ends in.
+#[inline(always)]
 #[tactic(auto, using(crate::proofs::FrontLemmas::last_cuts))]
-fn cut_last(line: &[u8]) -> Option<(&[u8], &[u8])>
-    ensures whole { IfSome result (λ p. line.now ≡ p.0.now ++ 32 ∷ p.1.now) }
-    ensures word { IfSome result (λ p. IsWord p.1.now) }
+fn space_before_number(text: &[u8]) -> Option<usize>
+    ensures within { IfSome result (λ place. place < length text.now) }
+    ensures cut { IfSome result (IsCutAt text.now) }
 {
-    for i in (0..line.len()).rev() {
-        if line[i] == b' ' {
-            return Some((&line[..i], &line[i + 1..]));
+    for place in (0..text.len()).rev() {
+        if !text[place].is_ascii_digit() {
+            return if text[place] == b' ' {
+                Some(place)
+            } else {
+                None
+            };
         }
     }
     None

@@ -112,8 +112,8 @@ impl Key {
     /// A mark of the key, below 65536, that depends on all of its words. Two keys mostly have different marks.
     #[inline(always)]
     pub(crate) fn mark(&self) -> usize {
-        let head = self.first.wrapping_sub(self.second.rotate_left(29));
-        let tail = self.last.wrapping_sub(self.third.rotate_left(29));
+        let head = self.first.wrapping_add(self.second.wrapping_mul(9));
+        let tail = self.last.wrapping_add(self.third.wrapping_mul(9));
         let mixed = head
             .wrapping_mul(0x9E37_79B9_7F4A_7C15)
             .wrapping_add(tail.wrapping_mul(0xC2B2_AE3D_27D4_EB4F));

@@ -1,16 +1,16 @@
 //! A whole trace, from a reader.
-ghost use Rattle.std.specs.Prelude.{◌≡◌, ℕ, List, [], Some, IfSome, IfOk, IfErr, OnOk, MatchResult, Err};
+ghost use Rattle.std.specs.Prelude.{◌≡◌, ℕ, List, [], Some, None, IfSome, IfOk, IfErr, OnOk, MatchResult, Err};
 ghost use Rattle.ec_core.specs.declared.act.Entry.{Entry};
 ghost use Rattle.ec_heading.specs.Versions.{can_spell};
 ghost use Rattle.ec_trace.specs.Entries.{entry_of};
-ghost use Rattle.ec_trace.specs.Fronts.{AreKept, EndsIn};
+ghost use Rattle.ec_trace.specs.Fronts.{AreKept};
 ghost use Rattle.ec_trace.specs.Histories.{history_of};
 ghost use Rattle.ec_trace.specs.Outcome.{Tells, fault_at};
 ghost use Rattle.ec_trace.specs.Reading.{IsOpened, TakesLine, Recounts};
 ghost use Rattle.ec_trace.specs.ReadingLaws.{IsTraceOf, Refuses};
 
 use crate::fault::{LineFault, StageFault, TraceFault};
-use crate::fronts::{Fronts, cut_reply};
+use crate::fronts::{Fronts, cut_reply, cut_value};
 use crate::history::History;
 use crate::lines::Lines;
 use crate::opening::{Opened, open_trace};
@@ -87,69 +87,28 @@ fn take_anew<H: History>(
     enter(heading, history, &entry)
 }
 
-/// Takes an entry whose front has no value, or is a new one.
+/// Takes the next entry, by its line, where its front was read lately. Else it does nothing.
 #[inline(always)]
-fn take_whole<H: History>(
+fn take_known<H: History>(
     heading: &Heading,
-    fronts: &mut Fronts,
+    fronts: &Fronts,
     history: &mut H,
     line: &[u8],
-    front: &[u8],
-    reply: Reply,
-) -> Result<(), StageFault>
-    requires kept { AreKept heading.now.words fronts.old }
-    requires ends { EndsIn line.now front.now reply }
-    ensures kept { AreKept heading.now.words fronts.new }
-    ensures takes { TakesLine H.stands heading.now history.old history.new line.now result }
+) -> Option<Result<(), StageFault>>
+    requires { AreKept heading.now.words fronts.now }
+    ensures none { result ≡ None → history.new ≡ history.old }
+    ensures takes { IfSome result (TakesLine H.stands heading.now history.old history.new line.now) }
 {
-    match fronts.whole(front, reply) {
-        Some(entry) => enter(heading, history, &entry),
-        None => take_anew(heading, fronts, history, line),
-    }
-}
-
-/// Takes an entry whose front perhaps has a value.
-#[inline(always)]
-fn take_valued<H: History>(
-    heading: &Heading,
-    fronts: &mut Fronts,
-    history: &mut H,
-    line: &[u8],
-    front: &[u8],
-    reply: Reply,
-) -> Result<(), StageFault>
-    requires kept { AreKept heading.now.words fronts.old }
-    requires ends { EndsIn line.now front.now reply }
-    ensures kept { AreKept heading.now.words fronts.new }
-    ensures takes { TakesLine H.stands heading.now history.old history.new line.now result }
-{
-    match fronts.valued(front, reply) {
-        Some(entry) => enter(heading, history, &entry),
-        None => take_whole(heading, fronts, history, line, front, reply),
-    }
-}
-
-/// Takes the next entry, by its line.
-#[inline(always)]
-fn take_entry<H: History>(
-    heading: &Heading,
-    fronts: &mut Fronts,
-    history: &mut H,
-    line: &[u8],
-) -> Result<(), StageFault>
-    requires { AreKept heading.now.words fronts.old }
-    ensures kept { AreKept heading.now.words fronts.new }
-    ensures takes { TakesLine H.stands heading.now history.old history.new line.now result }
-{
-    let Some((front, reply)) = cut_reply(line) else {
-        return take_anew(heading, fronts, history, line);
-    };
-    // (before the ` =` that ends a front a value ends in a digit, and of other words a name may)
-    match front {
-        [.., last, _, _] if last.is_ascii_digit() => {
-            take_valued(heading, fronts, history, line, front, reply)
+    let (front, reply) = cut_reply(line)?;
+    match cut_value(front) {
+        Some((opening, value)) => {
+            let entry = fronts.valued(opening, value, reply)?;
+            Some(enter(heading, history, &entry))
         }
-        _ => take_whole(heading, fronts, history, line, front, reply),
+        None => {
+            let entry = fronts.whole(front, reply)?;
+            Some(enter(heading, history, &entry))
+        }
     }
 }
 
@@ -179,8 +138,14 @@ pub fn read_entries<R: Read, H: History>(
         if line == b"end".as_slice() {
             break;
         }
-        if let Err(fault) = take_entry(heading, &mut fronts, history, line) {
-            return Err(fault_at(lines.number(), fault));
+        match take_known(heading, &fronts, history, line) {
+            Some(Ok(())) => {}
+            Some(Err(fault)) => return Err(fault_at(lines.number(), fault)),
+            None => {
+                if let Err(fault) = take_anew(heading, &mut fronts, history, line) {
+                    return Err(fault_at(lines.number(), fault));
+                }
+            }
         }
     }
     lines.end(reader)

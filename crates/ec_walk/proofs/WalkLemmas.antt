@@ -1,5 +1,5 @@
 -- Each entry is handed to the audits of the groups that its call may be on, and the others stand as they are.
-use Rattle.std.proofs.Common.{◌≡◌, ◌≢◌, ℕ, ◌+◌, ◌<◌, ◌≤◌, Bool, true, false, List, [], ◌∷◌, length, Some, refl, ap, sym, ◌∙◌, subst, arith, true≢false, cond, ◌==◌, ◌||◌, not, ◌⊎◌, inl, inr, slice_get, slice_set, below_more}
+use Rattle.std.proofs.Common.{◌≡◌, ◌≢◌, ℕ, ◌+◌, ◌<◌, ◌≤◌, Bool, true, false, List, ◌∷◌, length, Some, refl, ap, sym, ◌∙◌, subst, arith, true≢false, cond, ◌==◌, ◌||◌, not, ◌⊎◌, inl, inr, slice_get, slice_set, below_more}
 use mathlib.Core.Bool.{beq}
 use Rattle.std.specs.Option.{option_map_or}
 use Rattle.std.proofs.lemmas.Bool.{eqb-true, eqb-false, eq-eqb}
@@ -7,15 +7,12 @@ use Rattle.std.proofs.lemmas.Option.{slice_get_within}
 use Rattle.ec_core.specs.declared.act.Act.{Act}
 use Rattle.ec_core.specs.declared.act.Act.TheVariants.{Advance, Read, Await, Put, Get, Hand}
 use Rattle.ec_core.specs.declared.act.Entry.{Entry}
-use Rattle.ec_core.specs.Calls.{under_way}
-use Rattle.ec_core.specs.Following.{opened}
 use Rattle.ec_core.proofs.shared.Following.{op_at}
 use Rattle.ec_core.proofs.shared.Places.{get_set}
 use Rattle.ec_heading.specs.declared.group.Group.{Group}
 use Rattle.ec_heading.specs.declared.group.Group.TheVariants as groups
 use Rattle.ec_walk.specs.declared.table.Span.{Span}
-use Rattle.ec_walk.specs.declared.table.Table.{Table}
-use Rattle.ec_walk.specs.Walks.{names, is_wide, is_on, is_wide_at, CoversFirst, Covers, CoversAct, CoversAt, IsTable, Hands, HandsTo, HandsAmong, AreWalked}
+use Rattle.ec_walk.specs.Walks.{names, is_wide, is_on, is_wide_at, CoversFirst, Covers, CoversAct, CoversAt, Hands, HandsTo, HandsAmong, AreWalked}
 
 -- THE TABLE
 
@@ -152,6 +149,10 @@ module _ {A : Type 0} (stands : A → A → List Entry → Type 0) (gs : List Gr
           | inr q ↦ inr (q.0, λ from before here. q.1 from (omega arith) here)
         ],
       ))
+
+  -- there are none
+  pub hands_nowhere : (first end : ℕ) (old : List A) → end ≤ first → HandsAmong stands gs wide first end place op x old old
+  hands_nowhere first end old none = λ i a at. (a, at, inr (refl, λ from before here. absurd (omega arith)))
 
   -- one more number
   pub hands_more : (first n : ℕ) (old now new : List A) → HandsFirst first n old now → HandsTo stands gs wide n place op x now new → HandsFirst first (n + 1) old new

@@ -1,5 +1,5 @@
 //! Which groups an act may be on, found by the object that it names.
-ghost use Rattle.std.specs.Prelude.{◌≡◌, ℕ, ◌+◌, ◌<◌, ◌≤◌, ◌^◌, Bool, List, length, Some, slice_get};
+ghost use Rattle.std.specs.Prelude.{◌≡◌, ℕ, ◌+◌, ◌<◌, ◌≤◌, ◌^◌, Bool, IsTrue, List, length, Some, slice_get};
 ghost use Rattle.ec_core.specs.declared.act.Act.TheVariants.{Read, Ticket, Get};
 ghost use Rattle.ec_heading.specs.declared.group.Group.{Group};
 ghost use Rattle.ec_walk.specs.Walks.{names, is_wide, CoversFirst, Covers, CoversAct, CoversAt, IsTable};
@@ -13,6 +13,16 @@ use ec_heading::Group;
 pub(crate) struct Span {
     pub(crate) first: usize,
     pub(crate) end: usize,
+}
+
+impl Span {
+    /// Whether there is no group among these.
+    #[inline(always)]
+    pub(crate) fn is_empty(&self) -> bool
+        ensures { IsTrue result → self.now.end ≤ self.now.first }
+    {
+        self.end <= self.first
+    }
 }
 
 /// No group.
@@ -195,6 +205,7 @@ impl Table {
     }
 
     /// The groups of which an act names an object are among these.
+    #[inline(always)]
     pub(crate) fn of(&self, act: &Act) -> Span
         ensures { (groups : List Group) → IsTable groups self.now → CoversAct groups act.now result }
     {
@@ -211,6 +222,7 @@ impl Table {
     }
 
     /// The groups that are about each call are among these.
+    #[inline(always)]
     pub(crate) fn wide(&self) -> Span
         ensures { (groups : List Group) → IsTable groups self.now → Covers groups is_wide result }
     {

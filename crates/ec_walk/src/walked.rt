@@ -119,11 +119,19 @@ impl<'a, A: GroupAudit> Audit for Walked<'a, A> {
 
     #[inline(always)]
     fn take(&mut self, place: usize, op: &Act, entry: &Entry) {
+        if self.groups.is_empty() {
+            return;
+        }
         let named = self.table.of(op);
         let wide = self.table.wide();
+        if named.is_empty() && wide.is_empty() {
+            return;
+        }
+        // (copies: so an entry that no audit is handed needs no place in memory)
+        let (op, entry) = (*op, *entry);
         let audits = self.audits.as_mut_slice();
-        hand(self.groups, audits, false, named, place, op, entry);
-        hand(self.groups, audits, true, wide, place, op, entry);
+        hand(self.groups, audits, false, named, place, &op, &entry);
+        hand(self.groups, audits, true, wide, place, &op, &entry);
     }
 }
 

@@ -1,7 +1,7 @@
 use Rattle.std.proofs.Common.{◌≡◌, true, false, Ok, Err, codes, refl, ap, sym, ◌∙◌, subst}
 use Rattle.std.specs.Prelude.{bytes_eq}
 use Rattle.ec_trace.specs.Histories.{history_of}
-use Rattle.ec_trace.specs.Reading.{TakesEntry}
+use Rattle.ec_trace.specs.Reading.{TakesEntry, TakesLine}
 use Rattle.ec_trace.specs.Outcome.{Tells, fault_at}
 use Rattle.ec_trace.specs.Stages.{Running}
 use Rattle.ec_trace.specs.Step.{entry_step, is_ended}
@@ -15,24 +15,56 @@ returns-in-Err-clause-recounts g c = λ xs first begun stands.
     let i = c.loop-fault.invariant.stands first stands in
     c.in-Err.ensures.comes xs (Running (record { heading = c.args.heading.now; entries = i.0 })) refl (i.2 xs begun)
 
-pub returns-in-Err-take_entry-clause-recounts : goal.returns-in-Err-take_entry-clause-recounts
+pub returns-in-Some-Err-clause-recounts : goal.returns-in-Some-Err-clause-recounts
 unfolding is_ended
-returns-in-Err-take_entry-clause-recounts g c = λ xs first begun stands.
+returns-in-Some-Err-clause-recounts g c = λ xs first begun stands.
     let i = c.loop-fault.invariant.stands first stands in
     let came = c.in_default.ensures.comes xs (Running (record { heading = c.args.heading.now; entries = i.0 })) refl (i.2 xs begun) in
     let other : bytes_eq c.next.new.self.line (codes "end") ≡ false = ap (λ l. bytes_eq l (codes "end")) (sym c.line-line.ensures) ∙ ap (bytes_eq c.line-line.result.now) (sym c.as_slice.ensures) ∙ sym c.if-eq.ensures in
-    let fails = subst (λ l. TakesEntry c.args.heading.now (λ es. g.H.History.stands first c.take_entry.new.history (history_of c.args.heading.now es)) (entry_step (record { heading = c.args.heading.now; entries = i.0 }) l) (Err c.in-Err-take_entry.fault)) c.line-line.ensures (c.in-Err-take_entry.ensures.takes first i.0 i.1) in
-    subst (λ f. Tells TRACE_MAX xs (g.R.Read.remaining c.next.new.reader) (Err f)) (sym (c.fault_at.ensures ∙ ap (λ n. fault_at n c.in-Err-take_entry.fault) c.number.ensures))
-    (entry_line_refused xs (g.R.Read.remaining c.next.new.reader) c.next.new.self c.args.heading.now i.0 (λ es. g.H.History.stands first c.take_entry.new.history (history_of c.args.heading.now es)) c.in-Err-take_entry.fault came other c.in_default.ensures.more.1 fails)
+    let takes : TakesLine g.H.History.stands c.args.heading.now c.loop-fault.history c.take_known.new.history c.line-line.result.now (Err c.in-Some-Err.fault) = rw c.in-Some-Err.field-0-is at c.in-Some-Err.ensures.takes in
+    let fails = subst (λ l. TakesEntry c.args.heading.now (λ es. g.H.History.stands first c.take_known.new.history (history_of c.args.heading.now es)) (entry_step (record { heading = c.args.heading.now; entries = i.0 }) l) (Err c.in-Some-Err.fault)) c.line-line.ensures (takes first i.0 i.1) in
+    subst (λ f. Tells TRACE_MAX xs (g.R.Read.remaining c.next.new.reader) (Err f)) (sym (c.fault_at.ensures ∙ ap (fault_at c.number.result) c.in-Some-Err.fault-is ∙ ap (λ n. fault_at n c.in-Some-Err.fault) c.number.ensures))
+    (entry_line_refused xs (g.R.Read.remaining c.next.new.reader) c.next.new.self c.args.heading.now i.0 (λ es. g.H.History.stands first c.take_known.new.history (history_of c.args.heading.now es)) c.in-Some-Err.fault came other c.in_default.ensures.more.1 fails)
+
+pub returns-in-Err-take_anew-clause-recounts : goal.returns-in-Err-take_anew-clause-recounts
+unfolding is_ended
+returns-in-Err-take_anew-clause-recounts g c = λ xs first begun stands.
+    let i = c.loop-fault.invariant.stands first stands in
+    let came = c.in_default.ensures.comes xs (Running (record { heading = c.args.heading.now; entries = i.0 })) refl (i.2 xs begun) in
+    let other : bytes_eq c.next.new.self.line (codes "end") ≡ false = ap (λ l. bytes_eq l (codes "end")) (sym c.line-line.ensures) ∙ ap (bytes_eq c.line-line.result.now) (sym c.as_slice.ensures) ∙ sym c.if-eq.ensures in
+    let before = subst (λ h. g.H.History.stands first h (history_of c.args.heading.now i.0)) (sym (c.in-None.ensures.none refl)) i.1 in
+    let fails = subst (λ l. TakesEntry c.args.heading.now (λ es. g.H.History.stands first c.take_anew.new.history (history_of c.args.heading.now es)) (entry_step (record { heading = c.args.heading.now; entries = i.0 }) l) (Err c.in-Err-take_anew.fault)) c.line-line.ensures (c.in-Err-take_anew.ensures.takes first i.0 before) in
+    subst (λ f. Tells TRACE_MAX xs (g.R.Read.remaining c.next.new.reader) (Err f)) (sym (c.fault_at-in-Err-take_anew.ensures ∙ ap (λ n. fault_at n c.in-Err-take_anew.fault) c.number-in-Err-take_anew.ensures))
+    (entry_line_refused xs (g.R.Read.remaining c.next.new.reader) c.next.new.self c.args.heading.now i.0 (λ es. g.H.History.stands first c.take_anew.new.history (history_of c.args.heading.now es)) c.in-Err-take_anew.fault came other c.in_default.ensures.more.1 fails)
+
+pub loop-fault-preserved-in-Some-Ok : goal.loop-fault-preserved-in-Some-Ok
+unfolding is_ended
+loop-fault-preserved-in-Some-Ok g c = record {
+  kept = c.loop-fault.invariant.kept;
+  stands = λ first stands.
+      let i = c.loop-fault.invariant.stands first stands in
+      let other : bytes_eq c.next.new.self.line (codes "end") ≡ false = ap (λ l. bytes_eq l (codes "end")) (sym c.line-line.ensures) ∙ ap (bytes_eq c.line-line.result.now) (sym c.as_slice.ensures) ∙ sym c.if-eq.ensures in
+      let takes : TakesLine g.H.History.stands c.args.heading.now c.loop-fault.history c.take_known.new.history c.line-line.result.now (Ok tt) = rw c.in-Some-Ok.field-0-is at c.in-Some-Ok.ensures.takes in
+      let taken = takes first i.0 i.1 in
+      let step : entry_step (record { heading = c.args.heading.now; entries = i.0 }) c.next.new.self.line ≡ Ok (record { heading = c.args.heading.now; entries = taken.0 }) =
+      ap (entry_step (record { heading = c.args.heading.now; entries = i.0 })) (sym c.line-line.ensures) ∙ taken.1 in (
+        taken.0,
+        taken.2,
+        λ xs begun.
+            let came = c.in_default.ensures.comes xs (Running (record { heading = c.args.heading.now; entries = i.0 })) refl (i.2 xs begun) in
+            entry_line_taken xs (g.R.Read.remaining c.next.new.reader) c.next.new.self c.args.heading.now i.0 taken.0 came other step,
+      );
+}
 
 pub loop-fault-preserved : goal.loop-fault-preserved
 unfolding is_ended
 loop-fault-preserved g c = record {
-  kept = c.in_default-take_entry.ensures.kept;
+  kept = c.in_default-take_anew.ensures.kept;
   stands = λ first stands.
       let i = c.loop-fault.invariant.stands first stands in
       let other : bytes_eq c.next.new.self.line (codes "end") ≡ false = ap (λ l. bytes_eq l (codes "end")) (sym c.line-line.ensures) ∙ ap (bytes_eq c.line-line.result.now) (sym c.as_slice.ensures) ∙ sym c.if-eq.ensures in
-      let taken = c.in_default-take_entry.ensures.takes first i.0 i.1 in
+      let before = subst (λ h. g.H.History.stands first h (history_of c.args.heading.now i.0)) (sym (c.in-None.ensures.none refl)) i.1 in
+      let taken = c.in_default-take_anew.ensures.takes first i.0 before in
       let step : entry_step (record { heading = c.args.heading.now; entries = i.0 }) c.next.new.self.line ≡ Ok (record { heading = c.args.heading.now; entries = taken.0 }) =
       ap (entry_step (record { heading = c.args.heading.now; entries = i.0 })) (sym c.line-line.ensures) ∙ taken.1 in (
         taken.0,

@@ -7,8 +7,8 @@ use Rattle.ec_trace.proofs.FrontLemmas.{opened}
 use Rattle.ec_trace.proofs.fronts.Fronts.valued.Goals as goal
 
 pub returns : goal.returns
-returns c names line kept ends =
+returns c names line front kept ends has =
     let valued : is_valued c.in_ok-known.known.now.act ≡ true = search rules in
-    let known : number_of c.in_ok-opening.value.now ≡ Some c.in_ok-number.field-0 = search rules in
-    opened names line _ _ _ _ _ _ _ ends c.in_ok-opening.ensures (c.in_ok-known.ensures names kept) valued known
+    let known : number_of c.args.value.now ≡ Some c.in_ok-number.field-0 = search rules in
+    opened names line _ _ _ _ _ _ _ ends has (c.in_ok-known.ensures names kept) valued known
     ∙ ap (λ (a : Act). let e : Entry = record { worker = c.in_ok-known.known.now.worker; act = a; reply = c.args.reply } in Some e) (sym c.with_value.ensures)

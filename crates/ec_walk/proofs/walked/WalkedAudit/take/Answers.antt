@@ -1,9 +1,9 @@
-use Rattle.std.proofs.Common.{◌≡◌, ◌∷◌, List, false, rules, subst, sym}
+use Rattle.std.proofs.Common.{◌≡◌, ◌∷◌, List, true, false, rules, subst, sym}
 use Rattle.std.proofs.lemmas.List.{with_items_is, places}
 use Rattle.std.specs.Vec.{with_items}
 use Rattle.ec_heading.specs.declared.group.Group.{Group}
 use Rattle.ec_walk.specs.Walks.{Walking, WalksOn, HandsAmong, AreWalked}
-use Rattle.ec_walk.proofs.WalkLemmas.{each_taken}
+use Rattle.ec_walk.proofs.WalkLemmas.{each_taken, hands_nowhere}
 use Rattle.ec_walk.proofs.walked.WalkedAudit.take.Goals as goal
 
 pub returns : goal.returns
@@ -24,3 +24,21 @@ returns g c = λ start past at is s.
       was.0,
       subst (λ (l : List g.row.A.Denot). AreWalked group stands start.groups start.audits l (x ∷ past)) (sym same) back,
     ))
+
+-- neither a group of the act nor a wide one
+pub returns-then-is_empty-3 : goal.returns-then-is_empty-3
+returns-then-is_empty-3 g c = λ start past at is s.
+    (let group = g.A.GroupAudit.group in
+    let stands = g.A.Audit.stands in
+    let gs = c.self.inside.groups.now in
+    let old = c.self.inside.audits.items in
+    let x = c.args.entry.now in
+    let named = c.of-named.result in
+    let wide = c.wide-wide.result in
+    let was = subst (λ (w : Walking g.row.A.Denot). WalksOn group stands start w past) (sym c.self.view_is) s in
+    let here = subst (λ (l : List Group). AreWalked group stands l start.audits old past) (sym was.0) was.1 in
+    let taken = each_taken group stands g.met.A.GroupAudit.passes gs c.args.place c.args.op.now x past at is named wide (c.of-named.ensures gs c.self.inside.tabled)
+    (c.wide-wide.ensures gs c.self.inside.tabled) start.audits old old old (hands_nowhere stands gs false c.args.place c.args.op.now x named.first named.end old (c.is_empty-2.ensures c.if-is_empty-2.true))
+    (hands_nowhere stands gs true c.args.place c.args.op.now x wide.first wide.end old (c.is_empty-then-is_empty-2.ensures c.if-is_empty-3.true)) here in
+    let walks : WalksOn group stands start (record { groups = gs; audits = old }) (x ∷ past) = (was.0, subst (λ (l : List Group). AreWalked group stands l start.audits old (x ∷ past)) was.0 taken) in
+    subst (λ (w : Walking g.row.A.Denot). WalksOn group stands start w (x ∷ past)) c.self.view_is walks)
