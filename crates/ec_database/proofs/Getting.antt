@@ -285,12 +285,13 @@ held_some d writers rows rows' x past kept op call few small keeps at some after
           }))
     ] refl)
 
-pub ended_is : (d : Database) (writers : ℕ → Bool) (rows rows' : List (List ℕ)) (x : Entry) (past : List Entry) (kept : Kept) (op : Act) (call : ReaderCall) (o : Option AcceptedTry)
+-- what is so of the try that the reader's row tells is so of the one that the entry ends
+pub ended_is : (d : Database) (writers : ℕ → Bool) (rows rows' : List (List ℕ)) (x : Entry) (past : List Entry) (kept : Kept) (op : Act) (call : ReaderCall) (P : Option AcceptedTry → Type 0)
     → x.worker < 16 → kept ≡ kept_of (block (rules d writers x.worker) x.worker past) → op ≡ op_at x past → finished_call d (writers x.worker) kept op x ≡ Some call
     → ((row : List ℕ) → slice_get rows call.worker ≡ Some row → rows' ≡ rows_after d.cells rows row call)
-    → ((row : List ℕ) → slice_get rows' call.worker ≡ Some row → o ≡ try_ended d.cells row call)
-    → HoldsGot d writers rows past → o ≡ ended_at d writers x past
-ended_is d writers rows rows' x past kept op call o small keeps at some after told h =
+    → ((row : List ℕ) → slice_get rows' call.worker ≡ Some row → P (try_ended d.cells row call))
+    → HoldsGot d writers rows past → P (ended_at d writers x past)
+ended_is d writers rows rows' x past kept op call P small keeps at some after told h =
     let k = finished d (writers x.worker) kept op x call some in
     let worker : call.worker ≡ x.worker = ap (λ (c : ReaderCall). c.worker) (sym k.is) in
     let calls = block (try_rule d) x.worker past in
@@ -303,11 +304,12 @@ ended_is d writers rows rows' x past kept op call o small keeps at some after to
     let number : call.number ≡ number_of x.reply = ap (λ (c : ReaderCall). c.number) (sym k.is) in
     let c : Told = record { op = op_at x past; reply = x.reply } in
     let on : is_on d (op_at x past) ≡ true = ap (is_on d) (sym at) ∙ k.on in
-    told (row_after d.cells mine.row call) (ap (λ rs. slice_get rs call.worker) now ∙ own_row d.cells rows mine.row call there)
-    ∙ try_is d x.worker mine.row calls c call worker place version number mine.front (short d x.worker past)
+    subst P
+    (try_is d x.worker mine.row calls c call worker place version number mine.front (short d x.worker past)
     ∙ sym (ap (λ b. cond (b || is_pending x.reply) None (ended_by d x.worker calls c)) k.reader
     ∙ ap (λ b. cond b None (ended_by d x.worker calls c)) k.done
-    ∙ ap (λ b. cond b (accepted_of d x.worker (calls ++ c ∷ [])) None) on)
+    ∙ ap (λ b. cond b (accepted_of d x.worker (calls ++ c ∷ [])) None) on))
+    (told (row_after d.cells mine.row call) (ap (λ rs. slice_get rs call.worker) now ∙ own_row d.cells rows mine.row call there))
 
 no_calls : (d : Database) (w : ℕ) → block (try_rule d) w [] ≡ []
 unfolding block

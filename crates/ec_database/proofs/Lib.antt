@@ -11,6 +11,7 @@ pub mod Once
 pub mod OwnEntries
 pub mod Placed
 pub mod Readers
+pub mod Rows
 pub mod Spelled
 pub mod Steady
 pub mod Trying

@@ -1,10 +1,10 @@
 -- The accepting tries are listed in the order of their last steps.
-use Rattle.std.proofs.Common.{◌≡◌, ℕ, Bool, true, false, ◌||◌, cond, List, [], ◌∷◌, ◌++◌, append_assoc, length, map, reverse, Option, Some, None, refl, ap, sym, ◌∙◌, arith, ◌⊎◌, inl, inr, slice_get}
+use Rattle.std.proofs.Common.{◌≡◌, ℕ, Bool, true, false, ◌||◌, not, cond, List, [], ◌∷◌, ◌++◌, append_assoc, length, reverse, Option, Some, None, refl, ap, sym, ◌∙◌, arith, ◌⊎◌, inl, inr, slice_get}
 use Rattle.std.specs.Prelude.{option_to_list}
-use Rattle.std.proofs.lemmas.List.{append-nil, map-append}
-use Rattle.std.specs.Option.{option_map}
+use Rattle.std.proofs.lemmas.List.{append-nil}
 use Rattle.ec_count.specs.Tables.{Tables}
 use Rattle.ec_core.specs.declared.act.Entry.{Entry}
+use Rattle.ec_core.specs.declared.protocol.Kept.{Kept}
 use Rattle.ec_core.specs.Calls.{is_pending}
 use Rattle.ec_core.specs.Counts.{past_at}
 use Rattle.ec_core.specs.Following.{Told, block}
@@ -13,6 +13,7 @@ use Rattle.ec_core.proofs.shared.Joining.{get_back}
 use Rattle.ec_database.specs.Shapes.{Database}
 use Rattle.ec_database.specs.Following.{is_on, try_rule, writes}
 use Rattle.ec_database.specs.Tries.{AcceptedTry, accepted_of, ended_by, ended_at, accepted_tries, ListsTries, AreUndisturbed}
+use Rattle.ec_database.specs.Auditing.{finished_call}
 use Rattle.ec_database.specs.Laws.{IsFollowed, TriesAreListed}
 use Rattle.ec_database.proofs.Readers.{last_get}
 use Rattle.ec_database.proofs.CallsStand.{entry_at}
@@ -90,13 +91,23 @@ listed t d h = record {
 pub first_tries : (d : Database) (writers : ℕ → Bool) → accepted_tries d writers [] ≡ []
 first_tries = no_tries
 
--- one more entry, whose accepting try is told or none
-pub next_tries : {X : Type 0} (f : X → AcceptedTry) (d : Database) (writers : ℕ → Bool) (x : Entry) (past : List Entry) (list : List X) (o : Option X)
-    → map f list ≡ accepted_tries d writers past → option_map f o ≡ ended_at d writers x past → map f (list ++ option_to_list o) ≡ accepted_tries d writers (x ∷ past)
-next_tries f d writers x past list None h told =
-    ap (map f) (append-nil list) ∙ h ∙ sym (append-nil (accepted_tries d writers past)) ∙ ap (λ z. accepted_tries d writers past ++ option_to_list z) told ∙ sym (tries_step d writers x past)
-next_tries f d writers x past list (Some a) h told =
-    map-append f list (a ∷ []) ∙ ap (λ l. l ++ f a ∷ []) h ∙ ap (λ z. accepted_tries d writers past ++ option_to_list z) told ∙ sym (tries_step d writers x past)
+ends_none : {X Y : Type 0} (w p o : Bool) (call : X) (told : Option Y) → cond (w || p || not o) None (Some call) ≡ None → None ≡ cond (w || p) None (cond o told None)
+ends_none true p o call told h = refl
+ends_none false true o call told h = refl
+ends_none false false false call told h = refl
+ends_none false false true call told h = cc
+
+-- one more entry, whose accepting try is added if it ends one
+pub next_tries : (d : Database) (writers : ℕ → Bool) (x : Entry) (past : List Entry) (list list' : List AcceptedTry) (o : Option AcceptedTry)
+    → list ≡ accepted_tries d writers past → list' ≡ list ++ option_to_list o → o ≡ ended_at d writers x past → list' ≡ accepted_tries d writers (x ∷ past)
+next_tries d writers x past list list' o h added told =
+    added ∙ ap (λ l. l ++ option_to_list o) h ∙ ap (λ z. accepted_tries d writers past ++ option_to_list z) told ∙ sym (tries_step d writers x past)
+
+-- one more entry that finishes no call of a reader on the database
+pub same_tries : (d : Database) (writers : ℕ → Bool) (x : Entry) (past : List Entry) (list : List AcceptedTry) (kept : Kept)
+    → finished_call d (writers x.worker) kept (op_at x past) x ≡ None → list ≡ accepted_tries d writers past → list ≡ accepted_tries d writers (x ∷ past)
+same_tries d writers x past list kept none h =
+    next_tries d writers x past list list None h (sym (append-nil list)) (ends_none (writers x.worker) (is_pending x.reply) (is_on d (op_at x past)) _ _ none)
 
 -- an entry whose call is not on the database ends no try
 none_ended : (d : Database) (writers : ℕ → Bool) (x : Entry) (past : List Entry) → is_on d (op_at x past) ≡ false → ended_at d writers x past ≡ None

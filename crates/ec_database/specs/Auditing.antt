@@ -6,7 +6,7 @@ use Rattle.ec_core.specs.declared.protocol.Kept.{Kept}
 use Rattle.ec_core.specs.Calls.{is_pending}
 use Rattle.ec_core.specs.Following.{Told, block}
 use Rattle.ec_core.specs.CallLists.{number_of}
-use Rattle.ec_database.specs.declared.audit.Accepted.{Accepted}
+use Rattle.ec_database.specs.declared.tries.Accepted.{Accepted}
 use Rattle.ec_database.specs.declared.audit.ReaderCall.{ReaderCall}
 use Rattle.ec_database.specs.Shapes.{Database}
 use Rattle.ec_count.specs.Tables.{Tables}

@@ -5,6 +5,8 @@ pub mod Versions
 pub mod Snapshots
 pub mod Places
 pub mod Tries
+pub mod Numbers
+pub mod Rows
 pub mod Auditing
 pub mod Standing
 pub mod Laws

@@ -22,6 +22,11 @@ pub record AcceptedTry : Type 0 where
   pub version : ℕ
   pub values : List ℕ
 
+-- accepting tries of a database with so many cells
+pub record TryTable : Type 0 where
+  pub cells : ℕ
+  pub list : List AcceptedTry
+
 -- the accepting try whose calls these are, if they are those of a whole one whose reads agree
 abbrev pub accepted_of : Database → ℕ → List Told → Option AcceptedTry
 accepted_of d w calls =

@@ -11,21 +11,11 @@ ghost use Rattle.ec_database.specs.Auditing.{shown, finished_call, found_in, row
 
 use crate::DatabaseShape;
 use crate::lists::{Lists, is_on};
+use crate::tries::{Accepted, AcceptedTries, TryView};
 use ec_core::{Act, Audit, AuditFault, Entry, Kept, Reply, Run, Tracker, walk};
 use ec_count::{Setup, WorkerId};
 use std::alloc::{AllocError, Global};
 use std::marker::Model;
-
-/// An accepting try: the two reads of its count of starts agree.
-#[derive(Debug, PartialEq, Eq, Drop)]
-pub struct Accepted {
-    /// The reader.
-    pub worker: WorkerId,
-    /// The version that both reads answered.
-    pub version: u64,
-    /// The values of the cells, in order.
-    pub values: Vec<u64>,
-}
 
 /// A call on the database that a reader has finished: its place in the reader's try, the version
 /// that the try read first, and what the call answered.
@@ -93,62 +83,53 @@ impl Got {
         }
     }
 
-    /// The accepting try that a reader's call ends, if it ends one.
-    fn ended(
+    /// Adds the accepting try that a reader's call ends, if it ends one.
+    fn add(
         &self,
-        alloc: Global,
         cells: usize,
         call: &ReaderCall,
-    ) -> Result<Option<Accepted>, AllocError>
-        requires { cells ≤ 256 }
-        ensures { IfOk result (λ o. (row : List ℕ) → slice_get self.now.rows call.now.worker ≡ Some row → option_map shown o ≡ try_ended cells row call.now) }
+        tries: &mut AcceptedTries,
+    ) -> Result<(), AllocError>
+        requires few { cells ≤ 256 }
+        requires cells { tries.old.cells ≡ cells }
+        ensures cells { tries.new.cells ≡ tries.old.cells }
+        ensures added { OnOk result ((row : List ℕ) → slice_get self.now.rows call.now.worker ≡ Some row → tries.new.list ≡ tries.old.list ++ option_to_list (try_ended cells row call.now)) }
     {
         if call.at != cells + 2 || call.number != call.version {
-            return Ok(None);
+            return Ok(());
         }
         let row = &self.rows[call.worker.get()];
-        Ok(Some(Accepted {
-            worker: call.worker,
-            version: call.version,
-            values: Vec::from_slice(alloc, &row[..cells])?,
-        }))
+        tries.push(call.worker, call.version, &row[..cells])
     }
 
     /// Takes in the next entry of a run, given what is kept of its worker's list and the act that
-    /// began its call: the accepting try that it ends, if it ends one.
+    /// began its call, and adds the accepting try that it ends.
     fn take(
         &mut self,
-        alloc: Global,
         lists: &Lists,
         kept: &Kept,
         op: &Act,
         entry: &Entry,
-    ) -> Result<Option<Accepted>, AllocError>
-        ensures tries { IfOk result (λ o. (past : List Entry) → ReadsOn lists.now.setup.now lists.now.shape.now kept.now op.now entry.now past
+        tries: &mut AcceptedTries,
+    ) -> Result<(), AllocError>
+        requires { tries.old.cells ≡ lists.now.shape.now.cells }
+        ensures cells { tries.new.cells ≡ tries.old.cells }
+        ensures held { (past : List Entry) → ReadsOn lists.now.setup.now lists.now.shape.now kept.now op.now entry.now past
             → HoldsGot lists.now.shape.now (writes lists.now.setup.now lists.now.shape.now) self.old.rows past
-            → option_map shown o ≡ ended_at lists.now.shape.now (writes lists.now.setup.now lists.now.shape.now) entry.now past) }
-        ensures held { OnOk result ((past : List Entry) → ReadsOn lists.now.setup.now lists.now.shape.now kept.now op.now entry.now past
+            → HoldsGot lists.now.shape.now (writes lists.now.setup.now lists.now.shape.now) self.new.rows (entry.now ∷ past) }
+        ensures tries { OnOk result ((past : List Entry) → ReadsOn lists.now.setup.now lists.now.shape.now kept.now op.now entry.now past
             → HoldsGot lists.now.shape.now (writes lists.now.setup.now lists.now.shape.now) self.old.rows past
-            → HoldsGot lists.now.shape.now (writes lists.now.setup.now lists.now.shape.now) self.new.rows (entry.now ∷ past)) }
+            → tries.old.list ≡ accepted_tries lists.now.shape.now (writes lists.now.setup.now lists.now.shape.now) past
+            → tries.new.list ≡ accepted_tries lists.now.shape.now (writes lists.now.setup.now lists.now.shape.now) (entry.now ∷ past)) }
     {
         let _reader = entry.worker.get();
         let Some(call) = finished_call(lists, kept, op, entry) else {
-            return Ok(None);
+            return Ok(());
         };
         let cells = lists.shape.cells();
         self.keep(cells, &call);
-        self.ended(alloc, cells, &call)
+        self.add(cells, &call, tries)
     }
-}
-
-/// Adds what there is to the list.
-fn add(list: &mut Vec<Accepted>, accepted: Option<Accepted>) -> Result<(), AllocError>
-    ensures { OnOk result (list.new.items ≡ list.old.items ++ option_to_list accepted) }
-{
-    if let Some(accepted) = accepted {
-        list.push(accepted)?;
-    }
-    Ok(())
 }
 
 /// The audit of a database in a walk over a run. An entry whose call is not on the database may be
@@ -158,42 +139,23 @@ pub struct VersionAudit<'a> {
     lists: Lists<'a>,
     tracker: Tracker,
     got: Got,
-    list: Vec<Accepted>,
+    tries: AcceptedTries,
     lacks: bool,
 }
 
 impl<'a> Model for VersionAudit<'a> {
-    ghost use Rattle.std.specs.Prelude.{map};
-    ghost use Rattle.ec_database.specs.Auditing.{shown, Versioning};
+    ghost use Rattle.std.specs.Prelude.{◌≡◌};
+    ghost use Rattle.ec_database.specs.Auditing.{Versioning};
 
     ghost Value = { Versioning };
 
-    ghost view = { λ s. record { shape = s.lists.shape.now; setup = s.lists.setup.now; tracked = s.tracker; rows = s.got.rows; list = map shown s.list.items; lacks = s.lacks } };
+    ghost view = { λ s. record { shape = s.lists.shape.now; setup = s.lists.setup.now; tracked = s.tracker; rows = s.got.rows; list = s.tries.list; lacks = s.lacks } };
+
+    ghost invariant = { λ s. s.tries.cells ≡ s.lists.shape.now.cells };
 }
 
-/// Takes in the next entry, and adds the accepting try that it ends.
-fn add_try(
-    lists: &Lists,
-    kept: &Kept,
-    op: &Act,
-    entry: &Entry,
-    got: &mut Got,
-    list: &mut Vec<Accepted>,
-) -> Result<(), AllocError>
-    ensures held { OnOk result ((past : List Entry) → ReadsOn lists.now.setup.now lists.now.shape.now kept.now op.now entry.now past
-        → HoldsGot lists.now.shape.now (writes lists.now.setup.now lists.now.shape.now) got.old.rows past
-        → HoldsGot lists.now.shape.now (writes lists.now.setup.now lists.now.shape.now) got.new.rows (entry.now ∷ past)) }
-    ensures tries { OnOk result ((past : List Entry) → ReadsOn lists.now.setup.now lists.now.shape.now kept.now op.now entry.now past
-        → HoldsGot lists.now.shape.now (writes lists.now.setup.now lists.now.shape.now) got.old.rows past
-        → map shown list.old.items ≡ accepted_tries lists.now.shape.now (writes lists.now.setup.now lists.now.shape.now) past
-        → map shown list.new.items ≡ accepted_tries lists.now.shape.now (writes lists.now.setup.now lists.now.shape.now) (entry.now ∷ past)) }
-{
-    let accepted = got.take(*list.allocator(), lists, kept, op, entry)?;
-    add(list, accepted)?;
-    Ok(())
-}
-
-/// The same, unless there was no memory for an earlier one. The answer is whether one is lacking.
+/// Takes in the next entry, and adds the accepting try that it ends, unless there was no memory for
+/// an earlier one. The answer is whether one is lacking.
 fn lacks_after(
     lacks: bool,
     lists: &Lists,
@@ -201,18 +163,20 @@ fn lacks_after(
     op: &Act,
     entry: &Entry,
     got: &mut Got,
-    list: &mut Vec<Accepted>,
+    tries: &mut AcceptedTries,
 ) -> bool
+    requires { tries.old.cells ≡ lists.now.shape.now.cells }
+    ensures cells { tries.new.cells ≡ tries.old.cells }
     ensures before { result ≡ false → lacks ≡ false }
     ensures held { result ≡ false → (past : List Entry) → ReadsOn lists.now.setup.now lists.now.shape.now kept.now op.now entry.now past
         → HoldsGot lists.now.shape.now (writes lists.now.setup.now lists.now.shape.now) got.old.rows past
         → HoldsGot lists.now.shape.now (writes lists.now.setup.now lists.now.shape.now) got.new.rows (entry.now ∷ past) }
     ensures tries { result ≡ false → (past : List Entry) → ReadsOn lists.now.setup.now lists.now.shape.now kept.now op.now entry.now past
         → HoldsGot lists.now.shape.now (writes lists.now.setup.now lists.now.shape.now) got.old.rows past
-        → map shown list.old.items ≡ accepted_tries lists.now.shape.now (writes lists.now.setup.now lists.now.shape.now) past
-        → map shown list.new.items ≡ accepted_tries lists.now.shape.now (writes lists.now.setup.now lists.now.shape.now) (entry.now ∷ past) }
+        → tries.old.list ≡ accepted_tries lists.now.shape.now (writes lists.now.setup.now lists.now.shape.now) past
+        → tries.new.list ≡ accepted_tries lists.now.shape.now (writes lists.now.setup.now lists.now.shape.now) (entry.now ∷ past) }
 {
-    lacks || add_try(lists, kept, op, entry, got, list).is_err()
+    lacks || got.take(lists, kept, op, entry, tries).is_err()
 }
 
 impl<'a> Audit for VersionAudit<'a> {
@@ -225,11 +189,11 @@ impl<'a> Audit for VersionAudit<'a> {
             lists,
             tracker,
             got,
-            list,
+            tries,
             lacks,
         } = self;
         let kept = tracker.kept(entry.worker);
-        *lacks = lacks_after(*lacks, lists, &kept, op, entry, got, list);
+        *lacks = lacks_after(*lacks, lists, &kept, op, entry, got, tries);
         tracker.take(lists, place, op, entry);
     }
 }
@@ -247,7 +211,7 @@ impl<'a> VersionAudit<'a> {
             lists,
             tracker,
             got: Got::new(),
-            list: Vec::new(alloc),
+            tries: AcceptedTries::new(alloc, shape.cells()),
             lacks: false,
         }
     }
@@ -267,28 +231,28 @@ impl<'a> VersionAudit<'a> {
         if self.lacks {
             None
         } else {
-            Some(self.list.len())
+            Some(self.tries.len())
         }
     }
 
     /// The accepting try with this place among those so far, if there are so many.
-    pub fn accepted(&self, place: usize) -> Option<&Accepted>
-        ensures { option_map (λ a. shown a.now) result ≡ slice_get self.now.list place }
+    pub fn accepted(&self, place: usize) -> Option<TryView<'_>>
+        ensures { result ≡ slice_get self.now.list place }
     {
-        self.list.get(place)
+        self.tries.get(place)
     }
 
     /// The accepting tries after the entries so far, as `versions` lists them.
-    pub fn finish(self) -> Result<Vec<Accepted>, AuditFault>
+    pub fn finish(self) -> Result<AcceptedTries, AuditFault>
         ensures followed { (h : List Entry) → EndsAt self.entry.setup (IsVersioning self.entry) h → OnOk result (FollowsDatabase self.entry.setup self.entry.shape (reverse h)) }
-        ensures tries { (h : List Entry) → EndsAt self.entry.setup (IsVersioning self.entry) h → IfOk result (λ list. ListsTries self.entry.setup self.entry.shape h (map shown list.items)) }
-        ensures undisturbed { (h : List Entry) → EndsAt self.entry.setup (IsVersioning self.entry) h → IfOk result (λ list. AreUndisturbed self.entry.setup self.entry.shape h (map shown list.items)) }
+        ensures tries { (h : List Entry) → EndsAt self.entry.setup (IsVersioning self.entry) h → IfOk result (λ tries. ListsTries self.entry.setup self.entry.shape h tries.list) }
+        ensures undisturbed { (h : List Entry) → EndsAt self.entry.setup (IsVersioning self.entry) h → IfOk result (λ tries. AreUndisturbed self.entry.setup self.entry.shape h tries.list) }
         ensures err { (h : List Entry) → EndsAt self.entry.setup (IsVersioning self.entry) h → IfErr result (IsAuditFault (database_rules self.entry.setup self.entry.shape) h) }
     {
         let VersionAudit {
             lists,
             tracker,
-            list,
+            tries,
             lacks,
             ..
         } = self;
@@ -299,16 +263,16 @@ impl<'a> VersionAudit<'a> {
         if lacks {
             return Err(AuditFault::Memory);
         }
-        Ok(list)
+        Ok(tries)
     }
 
     /// The accepting tries after all entries of a run, as `versions` lists them.
-    pub fn versions(self, run: &Run) -> Result<Vec<Accepted>, AuditFault>
+    pub fn versions(self, run: &Run) -> Result<AcceptedTries, AuditFault>
         requires setup { self.setup ≡ run.now.setup }
         requires stands { IsVersioning self (reverse run.now.entries) }
         ensures followed { OnOk result (FollowsDatabase run.now.setup self.entry.shape (reverse run.now.entries)) }
-        ensures tries { IfOk result (λ list. ListsTries run.now.setup self.entry.shape run.now.entries (map shown list.items)) }
-        ensures undisturbed { IfOk result (λ list. AreUndisturbed run.now.setup self.entry.shape run.now.entries (map shown list.items)) }
+        ensures tries { IfOk result (λ tries. ListsTries run.now.setup self.entry.shape run.now.entries tries.list) }
+        ensures undisturbed { IfOk result (λ tries. AreUndisturbed run.now.setup self.entry.shape run.now.entries tries.list) }
         ensures err { IfErr result (IsAuditFault (database_rules run.now.setup self.entry.shape) run.now.entries) }
     {
         run.known();
@@ -331,5 +295,9 @@ pub fn versions(
 {
     let mut audit = VersionAudit::new(alloc, shape, run.setup());
     walk(run, &mut audit);
-    audit.versions(run)
+    let tries = audit.versions(run)?;
+    let Ok(list) = tries.to_list(alloc) else {
+        return Err(AuditFault::Memory);
+    };
+    Ok(list)
 }

@@ -7,12 +7,14 @@ mod audit;
 mod ending;
 mod laws;
 mod lists;
+mod numbers;
 mod places;
 mod shape;
 mod snapshot;
+mod tries;
 mod write;
 
-pub use audit::{Accepted, VersionAudit, versions};
+pub use audit::{VersionAudit, versions};
 pub use ending::SnapshotEnd;
 pub use laws::{
     accepted_tries_are_determined, accepted_tries_are_listed, accepted_tries_are_undisturbed,
@@ -22,4 +24,5 @@ pub use laws::{
 pub use lists::is_on;
 pub use shape::{DatabaseShape, declare_database};
 pub use snapshot::Snapshot;
+pub use tries::{Accepted, AcceptedTries, TryView};
 pub use write::WriteAll;

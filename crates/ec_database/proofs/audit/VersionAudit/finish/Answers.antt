@@ -1,11 +1,11 @@
-use Rattle.std.proofs.Common.{List, map, reverse, refl, sym, subst}
+use Rattle.std.proofs.Common.{List, reverse, refl, sym, subst}
 use Rattle.ec_core.specs.Ending.{EndsAt}
 use Rattle.ec_core.specs.Audits.{IsAuditFault}
 use Rattle.ec_core.proofs.shared.Endings.{break_told}
 use Rattle.ec_database.specs.Following.{database_rules, FollowsDatabase}
 use Rattle.ec_database.specs.Places.{kept_of}
 use Rattle.ec_database.specs.Tries.{AcceptedTry, ListsTries, AreUndisturbed}
-use Rattle.ec_database.specs.Auditing.{shown, Versioning, IsVersioning}
+use Rattle.ec_database.specs.Auditing.{Versioning, IsVersioning}
 use Rattle.ec_database.proofs.Listing.{listed, all_undisturbed}
 use Rattle.ec_database.proofs.audit.VersionAudit.finish.Goals as goal
 
@@ -39,7 +39,7 @@ returns-clause-tries c h ended =
     let d = c.self.inside.lists.shape.now in
     let E : Versioning → Type 0 = λ z. EndsAt z.setup (IsVersioning z) h in
     let inside = subst E (sym c.self.view_is) ended in
-    let Q : Versioning → Type 0 = λ z. ListsTries z.setup z.shape h (map shown c.self.inside.list.items) in
+    let Q : Versioning → Type 0 = λ z. ListsTries z.setup z.shape h c.self.inside.tries.list in
     subst Q c.self.view_is (subst (λ (l : List AcceptedTry). ListsTries t d h l) (sym (inside.stands.list c.if-lacks.false)) (listed t d h))
 
 pub returns-clause-undisturbed : goal.returns-clause-undisturbed
@@ -50,5 +50,5 @@ returns-clause-undisturbed c h ended =
     let inside = subst E (sym c.self.view_is) ended in
     let found = c.in_default.ensures (database_rules t d) kept_of h inside.stands.tracked in
     let tries = subst (λ (l : List AcceptedTry). ListsTries t d h l) (sym (inside.stands.list c.if-lacks.false)) (listed t d h) in
-    let R : Versioning → Type 0 = λ z. AreUndisturbed z.setup z.shape h (map shown c.self.inside.list.items) in
+    let R : Versioning → Type 0 = λ z. AreUndisturbed z.setup z.shape h c.self.inside.tries.list in
     subst R c.self.view_is (all_undisturbed t d h _ (record { declared = inside.declared; shape = c.known.ensures; accepted = inside.accepted; followed = found.0.0 refl }) tries)

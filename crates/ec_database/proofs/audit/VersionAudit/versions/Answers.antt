@@ -1,9 +1,9 @@
-use Rattle.std.proofs.Common.{map, reverse, subst, sym}
+use Rattle.std.proofs.Common.{reverse, subst, sym}
 use Rattle.std.specs.Prelude.{IfOk}
 use Rattle.ec_count.specs.Tables.{Tables, IsDeclared}
 use Rattle.ec_core.specs.Acceptance.{IsAccepted}
 use Rattle.ec_core.specs.Ending.{EndsAt}
-use Rattle.ec_database.specs.Auditing.{shown, IsVersioning}
+use Rattle.ec_database.specs.Auditing.{IsVersioning}
 use Rattle.ec_database.specs.Tries.{AreUndisturbed}
 use Rattle.ec_database.proofs.audit.VersionAudit.versions.Goals as goal
 
@@ -13,5 +13,5 @@ returns-clause-undisturbed c =
     let A : Tables → Type 0 = λ u. IsAccepted u (reverse h) in
     let ended : EndsAt c.args.self.setup (IsVersioning c.args.self) h =
     record { declared = subst IsDeclared (sym c.requires.setup) c.known.ensures.declared; accepted = subst A (sym c.requires.setup) c.known.ensures.accepted; stands = c.requires.stands } in
-    let Q : Tables → Type 0 = λ u. IfOk c.finish.result (λ list. AreUndisturbed u c.args.self.shape h (map shown list.items)) in
+    let Q : Tables → Type 0 = λ u. IfOk c.finish.result (λ tries. AreUndisturbed u c.args.self.shape h tries.list) in
     subst Q c.requires.setup (c.finish.ensures.undisturbed h ended)

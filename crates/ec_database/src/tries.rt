@@ -1,0 +1,228 @@
+//! Accepting tries, as they are kept.
+ghost use Rattle.std.specs.Prelude.{◌≡◌, ◌≤◌, [], ◌∷◌, ◌++◌, length, map, take, slice_get, IfOk, OnOk, OnErr};
+ghost use Rattle.ec_database.specs.Auditing.{shown};
+
+use crate::numbers::Numbers;
+use ec_count::WorkerId;
+use std::alloc::{AllocError, Global};
+use std::marker::Model;
+
+/// An accepting try: the two reads of its count of starts agree.
+#[derive(Debug, PartialEq, Eq, Drop)]
+pub struct Accepted {
+    /// The reader.
+    pub worker: WorkerId,
+    /// The version that both reads answered.
+    pub version: u64,
+    /// The values of the cells, in order.
+    pub values: Vec<u64>,
+}
+
+/// An accepting try where it is kept.
+#[derive(Drop)]
+pub struct TryView<'a> {
+    worker: WorkerId,
+    version: u64,
+    numbers: &'a Numbers,
+    /// Where its values begin.
+    first: usize,
+    cells: usize,
+}
+
+impl<'a> Model for TryView<'a> {
+    ghost use Rattle.std.specs.Prelude.{take, drop};
+    ghost use Rattle.ec_database.specs.Tries.{AcceptedTry};
+    ghost use Rattle.ec_database.specs.Rows.{AreWithin};
+
+    ghost Value = { AcceptedTry };
+
+    ghost view = { λ s. record { worker = s.worker; version = s.version; values = take s.cells (drop s.first s.numbers.now) } };
+
+    ghost invariant = { λ s. AreWithin s.first s.cells s.numbers.now };
+}
+
+impl<'a> TryView<'a> {
+    /// The reader.
+    pub fn worker(&self) -> WorkerId
+        ensures { result ≡ self.now.worker }
+    {
+        self.worker
+    }
+
+    /// The version that both reads answered.
+    pub fn version(&self) -> u64
+        ensures { result ≡ self.now.version }
+    {
+        self.version
+    }
+
+    /// How many cells were read.
+    pub fn cells(&self) -> usize
+        ensures { result ≡ length self.now.values }
+    {
+        self.cells
+    }
+
+    /// The value of a cell, by its place.
+    pub fn value(&self, place: usize) -> Option<u64>
+        ensures { result ≡ slice_get self.now.values place }
+    {
+        if place < self.cells {
+            Some(self.numbers.at(self.first + place))
+        } else {
+            None
+        }
+    }
+
+    /// The values of all cells.
+    fn values(&self, alloc: Global) -> Result<Vec<u64>, AllocError>
+        ensures { IfOk result (λ values. values.items ≡ self.now.values) }
+    {
+        let cells = self.cells();
+        let mut values = Vec::with_capacity(alloc, cells)?;
+        for place in 0..cells {
+            if let Some(value) = self.value(place) {
+                values.push(value)?;
+            }
+        }
+        Ok(values)
+    }
+
+    /// The try by itself.
+    pub fn to_accepted(&self, alloc: Global) -> Result<Accepted, AllocError>
+        ensures { IfOk result (λ accepted. shown accepted ≡ self.now) }
+    {
+        Ok(Accepted {
+            worker: self.worker(),
+            version: self.version(),
+            values: self.values(alloc)?,
+        })
+    }
+}
+
+/// Accepting tries of a database, in order: rows of numbers, one behind the other. A row has the
+/// reader, the version and the value of each cell.
+#[derive(Drop)]
+pub struct AcceptedTries {
+    cells: usize,
+    count: usize,
+    numbers: Numbers,
+}
+
+impl Model for AcceptedTries {
+    ghost use Rattle.ec_database.specs.Tries.{TryTable};
+    ghost use Rattle.ec_database.specs.Rows.{tries_in, AreRows};
+
+    ghost Value = { TryTable };
+
+    ghost view = { λ s. record { cells = s.cells; list = tries_in s.cells s.numbers s.count } };
+
+    ghost invariant = { λ s. AreRows s.cells s.numbers s.count };
+}
+
+/// Adds the numbers of a row, or of a front of it.
+fn add_front(
+    numbers: &mut Numbers,
+    reader: u64,
+    version: u64,
+    values: &[u64],
+) -> Result<(), AllocError>
+    ensures ok { OnOk result (numbers.new ≡ numbers.old ++ reader ∷ version ∷ values.now) }
+    ensures front { take (length numbers.old) numbers.new ≡ numbers.old }
+{
+    numbers.push(reader)?;
+    numbers.push(version)?;
+    for value in values {
+        numbers.push(*value)?;
+    }
+    Ok(())
+}
+
+/// Adds the numbers of a row, or changes nothing.
+fn add_row(
+    numbers: &mut Numbers,
+    reader: u64,
+    version: u64,
+    values: &[u64],
+) -> Result<(), AllocError>
+    ensures ok { OnOk result (numbers.new ≡ numbers.old ++ reader ∷ version ∷ values.now) }
+    ensures err { OnErr result (numbers.new ≡ numbers.old) }
+{
+    let before = numbers.len();
+    if add_front(numbers, reader, version, values).is_err() {
+        numbers.truncate(before);
+        return Err(AllocError);
+    }
+    Ok(())
+}
+
+impl AcceptedTries {
+    /// No tries, of a database with so many cells. It takes no memory.
+    pub(crate) fn new(alloc: Global, cells: usize) -> Self
+        requires { cells ≤ 256 }
+        ensures { result ≡ record { cells = cells; list = [] } }
+    {
+        AcceptedTries {
+            cells,
+            count: 0,
+            numbers: Numbers::new(alloc),
+        }
+    }
+
+    /// How many there are.
+    pub fn len(&self) -> usize
+        ensures { result ≡ length self.now.list }
+    {
+        self.count
+    }
+
+    /// The try at a place, counted from 0.
+    pub fn get(&self, place: usize) -> Option<TryView<'_>>
+        ensures { result ≡ slice_get self.now.list place }
+    {
+        let _size = self.numbers.len();
+        if place >= self.count {
+            return None;
+        }
+        let first = place * (self.cells + 2);
+        Some(TryView {
+            worker: WorkerId::new(self.numbers.at(first) as usize).unwrap(),
+            version: self.numbers.at(first + 1),
+            numbers: &self.numbers,
+            first: first + 2,
+            cells: self.cells,
+        })
+    }
+
+    /// Adds one at the end, or changes nothing.
+    pub(crate) fn push(
+        &mut self,
+        worker: WorkerId,
+        version: u64,
+        values: &[u64],
+    ) -> Result<(), AllocError>
+        requires { length values.now ≡ self.old.cells }
+        ensures cells { self.new.cells ≡ self.old.cells }
+        ensures ok { OnOk result (self.new.list ≡ self.old.list ++ record { worker = worker; version = version; values = values.now } ∷ []) }
+        ensures err { OnErr result (self.new.list ≡ self.old.list) }
+    {
+        let AcceptedTries { count, numbers, .. } = self;
+        add_row(numbers, worker.get() as u64, version, values)?;
+        let _size = numbers.len();
+        *count += 1;
+        Ok(())
+    }
+
+    /// Each of them by itself.
+    pub fn to_list(&self, alloc: Global) -> Result<Vec<Accepted>, AllocError>
+        ensures { IfOk result (λ list. map shown list.items ≡ self.now.list) }
+    {
+        let mut list = Vec::with_capacity(alloc, self.len())?;
+        for place in 0..self.len() {
+            if let Some(accepted) = self.get(place) {
+                list.push(accepted.to_accepted(alloc)?)?;
+            }
+        }
+        Ok(list)
+    }
+}
