@@ -3,7 +3,7 @@ ghost use Rattle.std.specs.Prelude.{◌≡◌, ◌+◌, ◌<◌, ◌^◌, List, 
 ghost use Rattle.ec_core.specs.declared.act.Entry.{Entry};
 ghost use Rattle.ec_core.specs.Acceptance.{IsAccepted};
 ghost use Rattle.ec_order.specs.Index.{placed_in};
-ghost use Rattle.ec_order.specs.Timeline.{dated, dated_by_points, dated_point, IsTimeline, TakesIn, TellsGood};
+ghost use Rattle.ec_order.specs.Timeline.{dated, dated_by_points, dated_point, dates, IsTimeline, TakesIn, TellsGood};
 ghost use Rattle.ec_order.specs.Walk.{PutsIn};
 
 use crate::by_points::ByPoints;
@@ -114,14 +114,7 @@ impl<'a> Timeline<'a> {
         if self.lacks {
             return Err(OrderFault::Memory);
         }
-        Ok(InTime {
-            marks: self.marks.as_slice(),
-            alone: &self.alone,
-            readings: &self.readings,
-            position: 0,
-            passed: 0,
-            given: 0,
-        })
+        Ok(InTime::all(&self.marks, &self.alone, &self.readings))
     }
 }
 
@@ -155,6 +148,22 @@ impl<'a> Model for InTime<'a> {
     ghost Value = { List Dated };
 
     ghost view = { λ s. dates s.position (drop s.position s.marks.now) (drop s.passed s.alone.now) (drop s.given s.readings.now) };
+}
+
+impl<'a> InTime<'a> {
+    /// All of them.
+    fn all(marks: &'a [bool], alone: &'a Segments, readings: &'a ByPoints) -> Self
+        ensures { result ≡ dates 0 marks.now alone.now readings.now }
+    {
+        InTime {
+            marks,
+            alone,
+            readings,
+            position: 0,
+            passed: 0,
+            given: 0,
+        }
+    }
 }
 
 /// Whether the entry at a position is a call by itself, where there is one.
