@@ -44,6 +44,23 @@ fn is_put(alloc: Global, n: u64, digits: &str) -> bool {
     out.finish().is_ok() && writer.bytes.as_slice() == digits.as_bytes()
 }
 
+/// Whether a number that is kept with its digits is put as these.
+fn is_put_as_kept(alloc: Global, number: &Decimal, digits: &str) -> bool {
+    let mut writer = Fickle::new(alloc, 7, Trouble::Fails, usize::MAX);
+    let mut out = Out::new(&mut writer);
+    out.put_decimal(number);
+    out.finish().is_ok() && writer.bytes.as_slice() == digits.as_bytes()
+}
+
+#[test]
+fn kept_numbers_are_put_as_their_digits(rt: HostRuntime) {
+    let mut number = Decimal::new(7);
+    for (n, digits) in &STEPS {
+        number.set(*n);
+        assert!(rt; is_put_as_kept(rt.alloc(), &number, digits), "at {digits}");
+    }
+}
+
 #[test]
 fn numbers_are_put_as_their_digits(rt: HostRuntime) {
     for (n, digits) in &STEPS {

@@ -23,6 +23,8 @@ mod memory_tests;
 #[cfg(test)]
 mod note_tests;
 #[cfg(test)]
+mod short_tests;
+#[cfg(test)]
 mod task_tests;
 #[cfg(test)]
 mod texts;
