@@ -303,12 +303,12 @@ pub(crate) fn cut_reply(line: &[u8]) -> Option<(&[u8], Reply)>
 {
     match line {
         [.., b'e'] => Some((line.strip_suffix(b" done".as_slice())?, Reply::Done)),
-        [.., last] if last.is_ascii_digit() => {
+        [.., b'g'] => Some((line.strip_suffix(b" pending".as_slice())?, Reply::Pending)),
+        _ => {
             let space = space_before_number(line)?;
             let answer = number(&line[space + 1..])?;
             Some((&line[..space], Reply::Number(answer)))
         }
-        _ => Some((line.strip_suffix(b" pending".as_slice())?, Reply::Pending)),
     }
 }
 
