@@ -38,6 +38,20 @@ pub struct Watched<A> {
     audit: A,
 }
 
+/// The act that began the call that an act is part of, given the world before it.
+#[inline(always)]
+fn begun_by(world: &World, worker: WorkerId, act: &Act) -> Act
+    ensures { (h : List Entry) → StandsFor world.now h → result ≡ opened act.now (under_way worker (reverse h)) }
+{
+    match *act {
+        Act::Go => match world.under_way(worker) {
+            Some(call) => call.op(),
+            None => Act::Go,
+        },
+        other => other,
+    }
+}
+
 impl<A: Audit> Watched<A> {
     /// Before the first step on these declarations.
     pub fn new(setup: Setup, audit: A) -> Self
@@ -52,26 +66,6 @@ impl<A: Audit> Watched<A> {
         }
     }
 
-    /// Makes a step, given the act that began its call.
-    #[inline(always)]
-    fn step_of(&mut self, op: &Act, worker: WorkerId, act: &Act) -> Result<Reply, StepFault>
-        ensures { (start : Watched A) (h : Recorded) → ⟦<Watched<A> as History>⟧.stands start self.old h → op.now ≡ opened act.now (under_way worker (reverse h.entries))
-            → Enters (⟦<Watched<A> as History>⟧.stands start self.new) h worker act.now result }
-    {
-        let Some(next) = self.place.checked_add(1) else {
-            return Err(StepFault::Memory);
-        };
-        let reply = match self.world.step(worker, *act) {
-            Ok(reply) => reply,
-            Err(refusal) => return Err(StepFault::Refused(refusal)),
-        };
-        let act = *act;
-        let entry = Entry { worker, act, reply };
-        self.audit.take(self.place, op, &entry);
-        self.place = next;
-        Ok(reply)
-    }
-
     /// The world after the last step, and the audit, with what it gathered.
     pub fn into_parts(self) -> (World, A)
         ensures world { result.0 ≡ self.world }
@@ -84,18 +78,19 @@ impl<A: Audit> Watched<A> {
 impl<A: Audit> History for Watched<A> {
     ghost stands = { λ start now h. StandsFor now.world h.entries × (now.world.setup ≡ h.setup) × (now.place ≡ length h.entries) × A.stands start.audit now.audit (reverse h.entries) };
 
-    // (A Go has a copy of the step of its own: there the call under way is looked up once.)
     #[inline(always)]
     fn enter(&mut self, worker: WorkerId, act: Act) -> Result<Reply, StepFault> {
-        match act {
-            Act::Go => {
-                let op = match self.world.under_way(worker) {
-                    Some(call) => call.op(),
-                    None => Act::Go,
-                };
-                self.step_of(&op, worker, &Act::Go)
-            }
-            other => self.step_of(&other, worker, &other),
-        }
+        let Some(next) = self.place.checked_add(1) else {
+            return Err(StepFault::Memory);
+        };
+        let op = begun_by(&self.world, worker, &act);
+        let reply = match self.world.step(worker, act) {
+            Ok(reply) => reply,
+            Err(refusal) => return Err(StepFault::Refused(refusal)),
+        };
+        let entry = Entry { worker, act, reply };
+        self.audit.take(self.place, &op, &entry);
+        self.place = next;
+        Ok(reply)
     }
 }
