@@ -3,7 +3,6 @@ use Rattle.std.proofs.Common.{◌≡◌, ℕ, zero, suc, ◌+◌, ◌<◌, ◌�
 use Rattle.std.specs.Prelude.{◌==◌, ◌||◌, nat_lt, Ok, codes}
 use Rattle.std.proofs.lemmas.Option.{slice_get_within}
 use Rattle.std.specs.List.{AllByRecursion, cons_option}
-use Rattle.std.proofs.lemmas.Simd.{map-map}
 use Rattle.ec_count.specs.Tables.{Tables}
 use Rattle.ec_core.specs.declared.act.Entry.{Entry}
 use Rattle.ec_core.specs.Acceptance.{IsAccepted}
@@ -14,8 +13,6 @@ use Rattle.ec_count.proofs.shared.Disjoint.{roles_of}
 use Rattle.std.proofs.lemmas.Bool.{or_parts, ne_eqb, ltb-false}
 use Rattle.ec_core.proofs.shared.Breaks.{follow_or_break}
 use Rattle.ec_database.specs.Shapes.{Database}
-use Rattle.ec_database.specs.declared.audit.Accepted.{Accepted}
-use Rattle.ec_database.specs.Auditing.{shown}
 use Rattle.ec_database.proofs.shared.OneList as tries
 use Rattle.ec_order.proofs.shared.Matching.{at_index}
 use Rattle.ec_semaphore.specs.Shapes.{Semaphore}
@@ -116,11 +113,8 @@ module _ (h : Headed) (entries : List Entry) (read : IsRead h entries) where
   delivered b name (audits.Balances m n) c shape p q = absurd p.1
   delivered b name (audits.Pairs m n xs) c shape p q = absurd p.1
 
-  versions_of : (name : List ℕ) (xs ys : List Accepted) → map shown xs ≡ map shown ys → map (λ a. version_line h.words name (shown a)) xs ≡ map (λ a. version_line h.words name (shown a)) ys
-  versions_of name xs ys same = sym (map-map (version_line h.words name) shown xs) ∙ ap (map (version_line h.words name)) same ∙ map-map (version_line h.words name) shown ys
-
   told : (d : Database) (name : List ℕ) (a c : Audited) → IsAudited h entries (groups.Database d) a → IsAudited h entries (groups.Database d) c → audited_lines h name a ≡ audited_lines h name c
-  told d name (audits.Versions xs) (audits.Versions ys) p q = versions_of name xs.items ys.items (tries.determined h.setup d entries (map shown xs.items) (map shown ys.items) p.1.0 q.1.0)
+  told d name (audits.Versions xs) (audits.Versions ys) p q = ap (map (version_line h.words name)) (tries.determined h.setup d entries xs.list ys.list p.1.0 q.1.0)
   told d name (audits.Versions xs) (audits.Deliveries ys) p q = absurd q.1
   told d name (audits.Versions xs) (audits.Balances m n) p q = absurd q.1
   told d name (audits.Versions xs) (audits.Pairs m n ys) p q = absurd q.1

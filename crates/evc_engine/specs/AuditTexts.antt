@@ -5,7 +5,6 @@ use Rattle.ec_count.specs.Names.{name_of}
 use Rattle.ec_count.specs.declared.target.Target.TheVariants as targets
 use Rattle.ec_buffer.specs.declared.delivery.Delivery.{Delivery}
 use Rattle.ec_database.specs.Tries.{AcceptedTry}
-use Rattle.ec_database.specs.Auditing.{shown}
 use Rattle.ec_semaphore.specs.declared.parts.Balance.{Balance}
 use Rattle.ec_semaphore.specs.declared.pair.Pair.{Pair}
 use Rattle.ec_heading.specs.declared.group.Group.{Group}
@@ -84,7 +83,7 @@ semaphore_word names i (g ∷ gs) q = if is_line_of q g then group_word names i 
 -- the lines of what the audit of a group found
 abbrev pub audited_lines : Headed → List ℕ → Audited → List (List ℕ)
 audited_lines h name (audits.Deliveries list) = map (delivery_line h.words name) list.items
-audited_lines h name (audits.Versions list) = map (λ a. version_line h.words name (shown a)) list.items
+audited_lines h name (audits.Versions tries) = map (version_line h.words name) tries.list
 audited_lines h name (audits.Balances balance now) = balance_line name balance now ∷ []
 audited_lines h name (audits.Pairs balance now list) = balance_line name balance now ∷ map (pair_line h.words (semaphore_word h.names 0 h.groups)) list.items
 

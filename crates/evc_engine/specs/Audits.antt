@@ -1,11 +1,10 @@
 -- What `audit` answered and wrote, for an input whose bytes are known.
-use Rattle.std.specs.Prelude.{◌≡◌, ◌⊎◌, ⊤, Option, ℕ, ◌<◌, List, length, map, reverse, Some, slice_get, codes}
+use Rattle.std.specs.Prelude.{◌≡◌, ◌⊎◌, ⊤, Option, ℕ, ◌<◌, List, length, reverse, Some, slice_get, codes}
 use Rattle.std.specs.Io.KnownBytes.{Appends, Keeps}
 use Rattle.ec_core.specs.declared.act.Entry.{Entry}
 use Rattle.ec_core.specs.Following.{BreaksAt}
 use Rattle.ec_buffer.specs.Items.{AreDeliveries}
 use Rattle.ec_database.specs.Tries.{ListsTries, AreUndisturbed}
-use Rattle.ec_database.specs.Auditing.{shown}
 use Rattle.ec_semaphore.specs.Shapes.{Semaphore}
 use Rattle.ec_semaphore.specs.Balances.{parts_of}
 use Rattle.ec_semaphore.specs.Pairs.{pairs_of}
@@ -49,7 +48,7 @@ IsPairsOf entries c semaphores a = ⊥
 -- what the audit of a group found is what the history says
 abbrev pub IsFound : Headed → List Entry → Group → Audited → Type 0
 IsFound h entries (groups.Buffer b) (audits.Deliveries list) = AreDeliveries h.setup b entries list.items
-IsFound h entries (groups.Database d) (audits.Versions list) = ListsTries h.setup d entries (map shown list.items) × AreUndisturbed h.setup d entries (map shown list.items)
+IsFound h entries (groups.Database d) (audits.Versions tries) = ListsTries h.setup d entries tries.list × AreUndisturbed h.setup d entries tries.list
 IsFound h entries (groups.Semaphore s) (audits.Balances balance now) = (balance ≡ parts_of s (reverse entries)) × (now ≡ now_of balance)
 IsFound h entries (groups.Both c) a = IsPairsOf entries c (semaphores_of h.groups) a
 IsFound h entries g a = ⊥

@@ -1,7 +1,6 @@
 //! The text that `audit` writes.
 ghost use Rattle.std.specs.Prelude.{◌≡◌, ◌∷◌, [], ◌++◌, ◌+◌, ◌^◌, ◌<◌, length, OnOk, OnErr, decimal, map};
 ghost use Rattle.std.specs.Io.KnownBytes.{Appends};
-ghost use Rattle.ec_database.specs.Auditing.{shown};
 ghost use Rattle.ec_text.specs.Puts.{Puts, AppendsPrefix};
 ghost use Rattle.ec_heading.specs.Spelling.{text_of};
 ghost use Rattle.evc_engine.specs.AuditTexts.{spaced, delivered_words, delivery_line, spaced_numbers, version_words, version_line, balance_words, balance_line, ticket_words, pair_line, group_word, is_line_of, semaphore_word, audited_lines, groups_lines, audit_text};
@@ -9,7 +8,7 @@ ghost use Rattle.evc_engine.specs.AuditTexts.{spaced, delivered_words, delivery_
 use crate::audited::Audited;
 use ec_buffer::Delivery;
 use ec_count::{Names, SeqId, Target};
-use ec_database::Accepted;
+use ec_database::{AcceptedTries, TryView};
 use ec_semaphore::{Balance, Pair};
 use ec_text::{Out, WriteFault};
 use ec_trace::{Group, Heading, Spellings};
@@ -56,24 +55,14 @@ fn put_delivery<W: Write>(
     out.put(b"\n");
 }
 
-/// Puts numbers, each behind a space.
-fn put_spaced_numbers<W: Write>(out: &mut Out<'_, W>, numbers: &[u64])
-    ensures { Puts out.old out.new (spaced_numbers numbers.now) }
-{
-    if let [first, rest @ ..] = numbers {
-        put_spaced_number(out, *first);
-        put_spaced_numbers(out, rest);
-    }
-}
-
 /// Puts the line of an accepting try.
 fn put_version<W: Write>(
     out: &mut Out<'_, W>,
     spellings: &Spellings<'_>,
     name: &[u8],
-    accepted: &Accepted,
+    accepted: &TryView<'_>,
 )
-    ensures { Puts out.old out.new (version_line spellings.now name.now (shown accepted.now) ++ 10 ∷ []) }
+    ensures { Puts out.old out.new (version_line spellings.now name.now accepted.now ++ 10 ∷ []) }
 {
     out.put(b"version ");
     out.put(name);
@@ -82,12 +71,23 @@ fn put_version<W: Write>(
 }
 
 /// Puts what follows the name in the line of an accepting try.
-fn put_accepted<W: Write>(out: &mut Out<'_, W>, spellings: &Spellings<'_>, accepted: &Accepted)
-    ensures { Puts out.old out.new (version_words spellings.now (shown accepted.now)) }
+fn put_accepted<W: Write>(out: &mut Out<'_, W>, spellings: &Spellings<'_>, accepted: &TryView<'_>)
+    ensures { Puts out.old out.new (version_words spellings.now accepted.now) }
 {
-    put_spaced_number(out, accepted.version);
-    put_spaced(out, spellings.worker(accepted.worker));
-    put_spaced_numbers(out, accepted.values.as_slice());
+    put_spaced_number(out, accepted.version());
+    put_spaced(out, spellings.worker(accepted.worker()));
+    put_values(out, accepted);
+}
+
+/// Puts the values of an accepting try, each behind a space.
+fn put_values<W: Write>(out: &mut Out<'_, W>, accepted: &TryView<'_>)
+    ensures { Puts out.old out.new (spaced_numbers accepted.now.values) }
+{
+    for place in 0..accepted.cells() {
+        if let Some(value) = accepted.value(place) {
+            put_spaced_number(out, value);
+        }
+    }
 }
 
 /// Puts what follows the name in the line of a balance.
@@ -191,12 +191,14 @@ fn put_versions<W: Write>(
     out: &mut Out<'_, W>,
     spellings: &Spellings<'_>,
     name: &[u8],
-    list: &[Accepted],
+    tries: &AcceptedTries,
 )
-    ensures { Puts out.old out.new (text_of (map (λ a. version_line spellings.now name.now (shown a)) list.now)) }
+    ensures { Puts out.old out.new (text_of (map (version_line spellings.now name.now) tries.now.list)) }
 {
-    for accepted in list {
-        put_version(out, spellings, name, accepted);
+    for place in 0..tries.len() {
+        if let Some(accepted) = tries.get(place) {
+            put_version(out, spellings, name, &accepted);
+        }
     }
 }
 
@@ -229,7 +231,7 @@ fn put_audited<W: Write>(
         Audited::Deliveries(list) => {
             put_deliveries(out, spellings, name, list.as_slice());
         }
-        Audited::Versions(list) => put_versions(out, spellings, name, list.as_slice()),
+        Audited::Versions(tries) => put_versions(out, spellings, name, tries),
         Audited::Balances(balance, now) => put_balance(out, name, balance, *now),
         Audited::Pairs(balance, now, list) => {
             put_balance(out, name, balance, *now);

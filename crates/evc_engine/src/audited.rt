@@ -1,6 +1,6 @@
 //! What an audit finds.
 use ec_buffer::Delivery;
-use ec_database::Accepted;
+use ec_database::AcceptedTries;
 use ec_semaphore::{Balance, Pair};
 
 /// What the audit of a group found, where its workers follow it.
@@ -9,7 +9,7 @@ pub enum Audited {
     /// The deliveries of a buffer, by number.
     Deliveries(Vec<Delivery>),
     /// The accepting tries of a database, by last step.
-    Versions(Vec<Accepted>),
+    Versions(AcceptedTries),
     /// The parts of a semaphore's balance, and what it is.
     Balances(Balance, u64),
     /// Those of the common semaphore, and the pairs of tickets that were drawn under it.

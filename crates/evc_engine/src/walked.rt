@@ -111,7 +111,7 @@ impl<'a> Auditing<'a> {
                 Err(fault) => Err(fault),
             },
             Auditing::Versions(audit) => match audit.finish() {
-                Ok(list) => Ok(Audited::Versions(list)),
+                Ok(tries) => Ok(Audited::Versions(tries)),
                 Err(fault) => Err(fault),
             },
             Auditing::Balance(audit) => match audit.finish() {

@@ -1,11 +1,11 @@
 -- The audits of groups, one after another.
-use Rattle.std.proofs.Common.{◌≡◌, ℕ, zero, suc, ◌+◌, ◌<◌, List, [], ◌∷◌, ◌++◌, length, Some, refl, sym, ap, ◌∙◌, subst, arith, slice_get, ◌⊎◌, inl, inr, take, map, codes, append_assoc, append-nil, length-append}
+use Rattle.std.proofs.Common.{◌≡◌, ℕ, zero, suc, ◌+◌, ◌<◌, List, [], ◌∷◌, ◌++◌, length, Some, None, refl, sym, ap, ◌∙◌, subst, arith, slice_get, ◌⊎◌, inl, inr, take, map, codes, decimal, add-one, append_assoc, append-nil, length-append}
 use Rattle.std.proofs.lemmas.List.Concat.{flat_map-append}
 use Rattle.ec_text.specs.Puts.{Puts, Outgoing}
 use Rattle.ec_text.proofs.shared.PutLemmas.{puts_then}
 use Rattle.ec_heading.specs.Spelling.{text_of, ended_line}
-use Rattle.evc_engine.specs.AuditTexts.{group_word, audited_lines, groups_lines, audit_text}
-use Rattle.evc_engine.proofs.shared.TotalLemmas.{take_next, line_put}
+use Rattle.evc_engine.specs.AuditTexts.{spaced, spaced_numbers, group_word, audited_lines, groups_lines, audit_text}
+use Rattle.evc_engine.proofs.shared.TotalLemmas.{take_next, take_past, line_put}
 use Rattle.ec_order.proofs.shared.Matching.{at_index}
 use Rattle.ec_core.proofs.shared.Joining.{last_get}
 use Rattle.ec_core.specs.declared.act.Entry.{Entry}
@@ -63,6 +63,18 @@ audited_length found a more is = ap length is ∙ length-append found (a ∷ [])
 pub line_at : {P : Type 0} (a b c : Outgoing) (f : P → List ℕ) (ps : List P) (k : ℕ) (p : P) → slice_get ps k ≡ Some p
     → Puts a b (text_of (map f (take k ps))) → Puts b c (f p ++ 10 ∷ []) → Puts a c (text_of (map f (take (k + 1) ps)))
 line_at a b c f ps k p is before now = subst (λ l. Puts a c (text_of (map f l))) (sym (take_next ps k p is)) (line_put a b c f (take k ps) p before now)
+
+-- one more number at the end
+pub number_at : (a b c : Outgoing) (ns : List ℕ) (k n : ℕ) → slice_get ns k ≡ Some n
+    → Puts a b (spaced_numbers (take k ns)) → Puts b c (spaced (decimal n)) → Puts a c (spaced_numbers (take (k + 1) ns))
+number_at a b c ns k n is before now =
+    (let text : spaced_numbers (take (k + 1) ns) ≡ spaced_numbers (take k ns) ++ spaced (decimal n)
+    = ap spaced_numbers (take_next ns k n is) ∙ flat_map-append (λ m. spaced (decimal m)) (take k ns) (n ∷ []) ∙ ap (λ t. spaced_numbers (take k ns) ++ t) (append-nil (spaced (decimal n))) in
+    subst (Puts a c) (sym text) (puts_then a b c _ _ before now))
+
+-- behind the last there is none more
+pub none_at : {A : Type 0} (xs : List A) (k : ℕ) → slice_get xs k ≡ None → take (k + 1) xs ≡ take k xs
+none_at xs k none = ap (λ n. take n xs) (add-one k) ∙ take_past xs k none
 
 -- before a place of a list stand as many elements as its number says
 pub taken_length : {A : Type 0} (xs : List A) (k : ℕ) (x : A) → slice_get xs k ≡ Some x → length (take k xs) ≡ k

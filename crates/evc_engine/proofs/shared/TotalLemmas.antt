@@ -76,7 +76,8 @@ nothing_put now = λ first all h. rw append-nil h
 pub nothing_put_for : (now : Outgoing) (lines : List (List ℕ)) → lines ≡ [] → Puts now now (text_of lines)
 nothing_put_for now lines none = subst (λ ls. Puts now now (text_of ls)) (sym none) (nothing_put now)
 
-take_past : {A : Type 0} (xs : List A) (k : ℕ) → slice_get xs k ≡ None → take (suc k) xs ≡ take k xs
+-- behind the last element there is none more
+pub take_past : {A : Type 0} (xs : List A) (k : ℕ) → slice_get xs k ≡ None → take (suc k) xs ≡ take k xs
 take_past [] zero h = refl
 take_past [] (suc k) h = refl
 take_past (y ∷ ys) zero h = cc

@@ -1,20 +1,20 @@
-use Rattle.std.proofs.Common.{refl, subst, map}
-use Rattle.std.proofs.lemmas.Option.{slice_get_read}
-use Rattle.std.proofs.lemmas.List.{take_all}
-use Rattle.ec_database.specs.Auditing.{shown}
+use Rattle.std.proofs.Common.{List, ◌+◌, map, take, sym, subst, ◌∙◌}
+use Rattle.ec_database.specs.Tries.{AcceptedTry}
 use Rattle.ec_text.specs.Puts.{Puts}
 use Rattle.ec_heading.specs.Spelling.{text_of}
 use Rattle.evc_engine.specs.AuditTexts.{version_line}
-use Rattle.evc_engine.proofs.shared.AuditLemmas.{line_at}
+use Rattle.evc_engine.proofs.shared.AuditLemmas.{line_at, none_at}
+use Rattle.evc_engine.proofs.audit_text.put_versions.Goals.{in-Some, in_default}
 use Rattle.evc_engine.proofs.audit_text.put_versions.Goals as goal
 
-pub loop-accepted-preserved : goal.loop-accepted-preserved
-loop-accepted-preserved g c =
-    line_at _ _ _ (λ a. version_line c.args.spellings.now c.args.name.now (shown a)) c.args.list.now c.loop-accepted.accepted-index c.accepted-item.result
-    (slice_get_read c.args.list.now _ c.loop-accepted.accepted-index c.accepted-item.result refl c.loop-accepted-test.true c.accepted-item.is)
-    c.loop-accepted.invariant c.put_version.ensures
-
-pub returns : goal.returns
-returns g c =
-    subst (λ xs. Puts c.args.out.now c.loop-accepted.out (text_of (map (λ a. version_line c.args.spellings.now c.args.name.now (shown a)) xs)))
-    (take_all c.loop-accepted.accepted-index c.args.list.now c.loop-accepted-test.false) c.loop-accepted.invariant
+pub loop-place-preserved : goal.loop-place-preserved
+loop-place-preserved g c =
+    let tries = c.args.tries.now.list in
+    let k = c.loop-place.place in
+    let line = version_line c.args.spellings.now c.args.name.now in
+    elim c.match-get.branch [
+      | in-Some w ↦ subst (λ o. Puts c.args.out.now o (text_of (map line (take (k + 1) tries)))) (sym w.out-is)
+          (line_at _ _ _ line tries k w.in-Some.accepted (sym c.get.ensures ∙ w.in-Some.is) c.loop-place.invariant w.put_version.ensures)
+      | in_default w ↦ subst (λ o. Puts c.args.out.now o (text_of (map line (take (k + 1) tries)))) (sym w.out-is)
+          (subst (λ (ts : List AcceptedTry). Puts c.args.out.now c.loop-place.out (text_of (map line ts))) (sym (none_at tries k (sym c.get.ensures ∙ w.in_default.is))) c.loop-place.invariant)
+    ]

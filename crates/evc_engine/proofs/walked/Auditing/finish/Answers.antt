@@ -1,5 +1,4 @@
-use Rattle.std.proofs.Common.{map, reverse, sym, subst}
-use Rattle.ec_database.specs.Auditing.{shown}
+use Rattle.std.proofs.Common.{reverse, sym, subst}
 use Rattle.ec_database.specs.Following.{FollowsDatabase}
 use Rattle.ec_database.specs.Tries.{ListsTries, AreUndisturbed}
 use Rattle.evc_engine.specs.Audits.{IsAudited}
@@ -12,6 +11,6 @@ pub returns-in-Ok-finish : goal.returns-in-Ok-finish
 returns-in-Ok-finish c = λ h entries g e.
     let v = c.in-Ok-finish.ensures in
     let found = of_database h entries g c.in-Versions.audit
-    (λ t d. FollowsDatabase t d (reverse entries) × (ListsTries t d entries (map shown c.in-Ok-finish.list.items) × AreUndisturbed t d entries (map shown c.in-Ok-finish.list.items)))
+    (λ t d. FollowsDatabase t d (reverse entries) × (ListsTries t d entries c.in-Ok-finish.tries.list × AreUndisturbed t d entries c.in-Ok-finish.tries.list))
     (subst (EndsFor h entries g) c.in-Versions.is e) (λ ended. (v.followed entries ended, (v.tries entries ended, v.undisturbed entries ended))) in
-    subst (λ x. IsAudited h entries x (Versions c.in-Ok-finish.list)) (sym found.1) found.2
+    subst (λ x. IsAudited h entries x (Versions c.in-Ok-finish.tries)) (sym found.1) found.2
