@@ -1,5 +1,5 @@
 //! Words and what they stand for.
-use crate::things::{Thing, is_found, target};
+use super::things::{Thing, is_found, target};
 use ec_count::{Vocabulary, WORD_MAX};
 use std::alloc::Global;
 use std::test::Fail;

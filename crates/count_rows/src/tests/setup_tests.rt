@@ -1,6 +1,6 @@
 //! Limits, declarations and their faults.
-use crate::ids::{cell, event, listed, room, sequencer, worker};
 use ec_count::{CellId, Count, EventId, Limit, Members, SeqId, Setup, SetupFault, WorkerId};
+use rows_parts::{cell, event, listed, sequencer, worker};
 use std::test::Fail;
 
 /// The number that a limit of a number tells.
@@ -113,20 +113,17 @@ type Row = (Line, Result<usize, SetupFault>);
 
 /// What a declaration is answered.
 fn answer(setup: &mut Setup, line: &Line) -> Result<usize, SetupFault> {
-    let (mut one, mut other) = (room(), room());
     match *line {
         Line::Worker => setup.add_worker().map(|id| id.get()),
         Line::Event(signal, observe) => setup
-            .add_event(listed(&mut one, signal), listed(&mut other, observe))
+            .add_event(&listed(signal), &listed(observe))
             .map(|id| id.get()),
         Line::FixedEvent(signal, observe) => setup
-            .add_fixed_event(listed(&mut one, signal), listed(&mut other, observe))
+            .add_fixed_event(&listed(signal), &listed(observe))
             .map(|id| id.get()),
-        Line::Sequencer(take) => setup
-            .add_sequencer(listed(&mut one, take))
-            .map(|id| id.get()),
+        Line::Sequencer(take) => setup.add_sequencer(&listed(take)).map(|id| id.get()),
         Line::Cells(n, write, read) => setup
-            .add_cells(n, listed(&mut one, write), listed(&mut other, read))
+            .add_cells(n, &listed(write), &listed(read))
             .map(|id| id.get()),
     }
 }
@@ -178,7 +175,7 @@ enum Right {
 
 /// Whether the signaller of a component is this worker.
 fn is_signaller(setup: &Setup, e: usize, component: usize, right: Option<usize>) -> bool {
-    setup.signaller(event(e), component) == right.map(worker)
+    setup.signaller(event(e), component) == right.map(|n| worker(n))
 }
 
 /// Whether there are so many eventcounts, sequencers and cells.

@@ -1,6 +1,6 @@
 //! What names stand for, by numbers, so that a table can hold it.
-use crate::ids::{cell, event, worker};
 use ec_count::Target;
+use rows_parts::{cell, event, worker};
 
 /// What a name stands for.
 #[derive(Clone, Copy)]
