@@ -1,5 +1,5 @@
 //! What plans hold.
-use crate::drive::{Script, TICKETS, plan_of, text_of};
+use super::drive::{Script, TICKETS, plan_of, text_of};
 use ec_script::Plan;
 use std::alloc::Global;
 use std::test::Fail;

@@ -3,30 +3,18 @@ use ec_script::{Plan, ScriptFault, parse};
 use std::alloc::Global;
 use std::test::Fail;
 
-/// The heading of the script of tickets, and the block of a, who advances twice.
-pub(crate) const A_ADVANCES: &str = "evc-script 1
+/// The heading of the script of a ticket and an await.
+pub(crate) const TICKET_HEADING: &str = "evc-script 1
 limit 10
 workers a c
 eventcount E signal a observe c
 sequencer T take c
-worker a
-advance E
-advance E
-end
-";
-
-/// The block of c, who waits for one more than its ticket.
-pub(crate) const C_WAITS: &str = "worker c
-ticket T
-await E last+1
-read E
-end
 ";
 
 /// The texts that a script is made of, one behind another.
 pub(crate) type Script = &'static [&'static str];
 
-/// The script of tickets with its schedule, line by line.
+/// The script of a ticket and an await with its schedule, line by line.
 pub(crate) static TICKETS: [&str; 15] = [
     "evc-script 1\n",
     "limit 10\n",

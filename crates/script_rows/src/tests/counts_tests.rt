@@ -1,7 +1,7 @@
 //! Two to fifteen workers, all at once.
-use crate::drive::add;
-use crate::gate_tests::AllAtOnce;
-use crate::threads::{Sight, run_text, sees};
+use super::drive::add;
+use super::gate_tests::AllAtOnce;
+use super::threads::{Sight, run_text, sees};
 use ec_core::{Act, Entry, Reply};
 use ec_machine::Outcome;
 use ec_runner::Report;

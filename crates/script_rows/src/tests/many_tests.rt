@@ -1,5 +1,5 @@
 //! Many workers that meet often.
-use crate::threads::{Case, Sight, run_case, sees, shows_often};
+use super::threads::{Case, Sight, run_case, sees, shows_often};
 use ec_core::{Act, Entry};
 use ec_machine::Outcome;
 use ec_runner::{OpenGate, Report};

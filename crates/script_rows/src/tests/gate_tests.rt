@@ -1,5 +1,5 @@
 //! Gates that only threads of their own, and holds of single steps, get through.
-use crate::threads::{Case, Sight, shows_held};
+use super::threads::{Case, Sight, shows_held};
 use ec_core::Reply;
 use ec_count::WorkerId;
 use ec_machine::Outcome;

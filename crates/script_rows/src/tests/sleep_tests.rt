@@ -1,6 +1,6 @@
 //! Gates that see when a worker sleeps, wakes and leaves.
-use crate::gate_tests::{hold_for, hold_until, waited_for};
-use crate::threads::{Case, Sight, shows_held};
+use super::gate_tests::{hold_for, hold_until, waited_for};
+use super::threads::{Case, Sight, shows_held};
 use ec_count::WorkerId;
 use ec_machine::Outcome;
 use ec_runner::Gate;

@@ -1,5 +1,5 @@
 //! Texts that end early, and those that are too long.
-use crate::drive::{LongRow, Row, TICKETS, fault_of, have_faults, have_long_faults, text_of};
+use super::drive::{LongRow, Row, TICKETS, fault_of, have_faults, have_long_faults, text_of};
 use ec_script::SCRIPT_MAX;
 use std::alloc::Global;
 use std::test::Fail;

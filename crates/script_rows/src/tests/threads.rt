@@ -1,5 +1,5 @@
 //! Scripts that workers run on threads, as tables: their lines, and what is seen of the report.
-use crate::drive::{add, plan_of, text_of};
+use super::drive::{add, plan_of, text_of};
 use ec_core::{Entry, Reply};
 use ec_machine::Outcome;
 use ec_runner::{Gate, OpenGate, Report, RunFault, run_workers};
@@ -16,7 +16,7 @@ use std::time::{Clock, Duration};
 /// Names of workers, and the commands of the block of each of them.
 pub(crate) type Block = (&'static [&'static str], &'static str);
 
-/// A script by its heading and its blocks, how many turns a worker has, and what is seen of the report.
+/// A script by its heading and its blocks, or by its whole text, how many turns a worker has, and what is seen of the report.
 #[derive(Clone, Copy)]
 pub(crate) struct Case {
     pub(crate) heading: &'static str,
@@ -103,27 +103,7 @@ fn watch<R: Clock + Abort>(rt: &R, has_ended: &AtomicBool) {
     panic!(rt; "the run did not end");
 }
 
-/// What the run of a plan reports, while another thread looks that it ends.
-fn run_plan<R: Threads + Wait + Clock + Abort + Sync, G: Gate + Sync>(
-    rt: &R,
-    alloc: Global,
-    plan: &Plan,
-    gate: &G,
-    turns: u64,
-) -> Result<Report, Fail> {
-    let has_ended = AtomicBool::new(false);
-    let flag = &has_ended;
-    thread::scope(thread::scope_env(), rt, |scope| {
-        if scope.spawn(move || watch(rt, flag)).is_err() {
-            return Err(Fail::new("no thread that looks"));
-        }
-        let report = report_of(rt, alloc, plan, gate, turns);
-        flag.store(true, Ordering::SeqCst);
-        report
-    })
-}
-
-/// What the run of the script of a text reports.
+/// What the run of the script of a text reports, while another thread looks that it ends.
 pub(crate) fn run_text<R: Threads + Wait + Clock + Abort + Sync, G: Gate + Sync>(
     rt: &R,
     alloc: Global,
@@ -132,7 +112,16 @@ pub(crate) fn run_text<R: Threads + Wait + Clock + Abort + Sync, G: Gate + Sync>
     turns: u64,
 ) -> Result<Report, Fail> {
     let plan = plan_of(alloc, text)?;
-    run_plan(rt, alloc, &plan, gate, turns)
+    let has_ended = AtomicBool::new(false);
+    let flag = &has_ended;
+    thread::scope(thread::scope_env(), rt, |scope| {
+        if scope.spawn(move || watch(rt, flag)).is_err() {
+            return Err(Fail::new("no thread that looks"));
+        }
+        let report = report_of(rt, alloc, &plan, gate, turns);
+        flag.store(true, Ordering::SeqCst);
+        report
+    })
 }
 
 /// What the run of a script reports.

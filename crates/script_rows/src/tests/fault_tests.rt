@@ -1,8 +1,9 @@
 //! Each kind of fault of a line.
-use crate::drive::{
-    A_ADVANCES, C_WAITS, Fault, LongRow, Row, TICKETS, fault_in, have_faults, have_long_faults,
+use super::drive::{
+    Fault, LongRow, Row, TICKET_HEADING, TICKETS, fault_in, have_faults, have_long_faults,
 };
 use ec_script::Kind;
+use rows_parts::TICKET_AND_AWAIT;
 use std::alloc::Global;
 use std::test::Fail;
 
@@ -57,13 +58,6 @@ fn one_line_changed(rt: HostRuntime) -> Result<(), Fail> {
     Ok(())
 }
 
-const DECLARATIONS: &str = "evc-script 1
-limit 10
-workers a c
-eventcount E signal a observe c
-sequencer T take c
-";
-
 static GROUP_AMONG: [Row; 2] = [
     ("buffer B 1 produce a consume a\n", (6, 9)),
     (
@@ -74,7 +68,7 @@ static GROUP_AMONG: [Row; 2] = [
 
 #[test]
 fn a_group_among_the_declarations(rt: HostRuntime) -> Result<(), Fail> {
-    have_faults(rt.alloc(), DECLARATIONS, &GROUP_AMONG)
+    have_faults(rt.alloc(), TICKET_HEADING, &GROUP_AMONG)
 }
 
 /// The first line of a block of worker a, with what is declared before it.
@@ -254,11 +248,11 @@ fn too_many_commands_and_names(rt: HostRuntime) -> Result<(), Fail> {
 
 static LONG_LINES: [LongRow; 2] = [
     (
-        &[(A_ADVANCES, 1), (C_WAITS, 1), ("schedule", 1), (" a", 4092)],
+        &[(TICKET_AND_AWAIT, 1), ("schedule", 1), (" a", 4092)],
         (15, 12),
     ),
     (
-        &[(A_ADVANCES, 1), (C_WAITS, 1), ("schedule", 1), (" a", 4093)],
+        &[(TICKET_AND_AWAIT, 1), ("schedule", 1), (" a", 4093)],
         (15, 2),
     ),
 ];

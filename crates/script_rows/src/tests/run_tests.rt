@@ -1,26 +1,13 @@
 //! Scripts that are run: how their workers end.
-use crate::threads::{Block, Case, Sight, shows_often};
+use super::threads::{Case, Sight, shows_often};
 use ec_core::Refusal;
 use ec_machine::Outcome;
+use rows_parts::TICKET_AND_AWAIT;
 use std::test::Fail;
 
-/// The heading of the script of tickets.
-const TICKETS: &str = "evc-script 1
-limit 10
-workers a c
-eventcount E signal a observe c
-sequencer T take c
-";
-
-/// A worker that advances twice, and one that waits for one more than its ticket.
-const TICKETS_OF_C: [Block; 2] = [
-    (&["a"], "advance E\nadvance E\nend\n"),
-    (&["c"], "ticket T\nawait E last+1\nread E\nend\n"),
-];
-
 static FINISHES: Case = Case {
-    heading: TICKETS,
-    blocks: &TICKETS_OF_C,
+    heading: TICKET_AND_AWAIT,
+    blocks: &[],
     turns: 10_000,
     sights: &[
         Sight::All(2, Outcome::Finished),
@@ -35,8 +22,8 @@ fn the_script_of_tickets_finishes(rt: HostRuntime) -> Result<(), Fail> {
 }
 
 static ONE_TURN: Case = Case {
-    heading: TICKETS,
-    blocks: &TICKETS_OF_C,
+    heading: TICKET_AND_AWAIT,
+    blocks: &[],
     turns: 1,
     sights: &[Sight::All(2, Outcome::OutOfTurns), Sight::Length(2)],
 };

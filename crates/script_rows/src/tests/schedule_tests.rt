@@ -2,31 +2,20 @@
 ghost use Rattle.ec_script.specs.Confined.{IsPlan};
 ghost use Rattle.ec_script.specs.Outcome.{shown_plan};
 
-use crate::drive::{A_ADVANCES, C_WAITS, Script, text_of};
-use crate::ids::{cell, event, sequencer, worker};
-use crate::schedule_tests::Ask::{Advance, Await, Get, Go, Hand, Put, Read, Ticket};
+use super::drive::{Script, TICKET_HEADING, text_of};
 use ec_core::Reply::{Done, Number, Pending};
 use ec_core::{Act, Entry, Refusal, Reply, Run};
 use ec_machine::Outcome;
 use ec_machine::Outcome::{Finished, Running, ValueTooLarge};
 use ec_runner::{Report, SimFault, simulate};
 use ec_script::{Plan, parse};
+use rows_parts::Ask::{Advance, Await, Get, Go, Hand, Put, Read, Ticket};
+use rows_parts::{
+    Ask, TICKET_AND_AWAIT, TICKET_AND_AWAIT_AT_LIMIT_1, TICKET_AND_AWAIT_WITH_SCHEDULE, cell,
+    event, sequencer, steps_of_a_disturbed_try, steps_of_ticket_and_await, worker,
+};
 use std::alloc::Global;
 use std::test::Fail;
-
-/// What a worker asks for, by the number of the object.
-#[derive(Clone, Copy)]
-enum Ask {
-    Advance(usize),
-    Read(usize),
-    Await(usize, u64),
-    Go,
-    Ticket(usize),
-    Put(usize, u64),
-    Get(usize),
-    /// An eventcount, and the worker to whom its component is handed.
-    Hand(usize, usize),
-}
 
 /// The act that is asked for.
 fn act_of(ask: Ask) -> Act {
@@ -160,17 +149,10 @@ fn show(alloc: Global, rows: &[Row]) -> Result<(), Fail> {
     Ok(())
 }
 
-const OF_TICKETS: [Step; 6] = [
-    (1, Ticket(0), Number(0)),
-    (1, Await(0, 1), Pending),
-    (0, Advance(0), Done),
-    (1, Go, Number(1)),
-    (0, Advance(0), Done),
-    (1, Read(0), Number(2)),
-];
+const OF_TICKETS: [Step; 6] = steps_of_ticket_and_await!();
 
 static SCHEDULE_OF_TICKETS: [Row; 1] = [(
-    &[A_ADVANCES, C_WAITS, "schedule c c a c a c\n"],
+    &[TICKET_AND_AWAIT_WITH_SCHEDULE],
     Outcomes::Played(&OF_TICKETS, &[Finished, Finished]),
 )];
 
@@ -180,7 +162,7 @@ fn the_schedule_of_tickets(rt: HostRuntime) -> Result<(), Fail> {
 }
 
 static PAST_AN_END: [Row; 1] = [(
-    &[A_ADVANCES, C_WAITS, "schedule a a a\n"],
+    &[TICKET_AND_AWAIT, "schedule a a a\n"],
     Outcomes::Ended(2, 0),
 )];
 
@@ -189,7 +171,10 @@ fn a_place_of_a_worker_that_has_ended(rt: HostRuntime) -> Result<(), Fail> {
     show(rt.alloc(), &PAST_AN_END)
 }
 
-static NO_SCHEDULE: [Row; 1] = [(&[A_ADVANCES], Outcomes::Played(&[], &[Running, Finished]))];
+static NO_SCHEDULE: [Row; 1] = [(
+    &[TICKET_HEADING, "worker a\nadvance E\nadvance E\nend\n"],
+    Outcomes::Played(&[], &[Running, Finished]),
+)];
 
 #[test]
 fn no_schedule_plays_nothing(rt: HostRuntime) -> Result<(), Fail> {
@@ -213,39 +198,16 @@ const ELEVEN: &str = "schedule c c c a a a a a a c c\n";
 const SIXTEEN: &str = "schedule c c c a a a a a a c c c c c c c\n";
 
 /// The steps of the writer and of the first try.
-const FIRST_TRY: [Step; 11] = [
-    (1, Read(0), Number(0)),
-    (1, Await(1, 0), Number(0)),
-    (1, Get(0), Number(0)),
-    (0, Advance(0), Done),
-    (0, Ticket(0), Number(0)),
-    (0, Await(1, 0), Number(0)),
-    (0, Put(0, 5), Done),
-    (0, Put(1, 6), Done),
-    (0, Advance(1), Done),
-    (1, Get(1), Number(6)),
-    (1, Read(0), Number(1)),
-];
+const FIRST_TRY: [Step; 11] = steps_of_a_disturbed_try!();
 
 /// The same, and the steps of the second try.
-const TWO_TRIES: [Step; 16] = [
-    (1, Read(0), Number(0)),
-    (1, Await(1, 0), Number(0)),
-    (1, Get(0), Number(0)),
-    (0, Advance(0), Done),
-    (0, Ticket(0), Number(0)),
-    (0, Await(1, 0), Number(0)),
-    (0, Put(0, 5), Done),
-    (0, Put(1, 6), Done),
-    (0, Advance(1), Done),
-    (1, Get(1), Number(6)),
-    (1, Read(0), Number(1)),
+const TWO_TRIES: [Step; 16] = steps_of_a_disturbed_try!(
     (1, Read(0), Number(1)),
     (1, Await(1, 1), Number(1)),
     (1, Get(0), Number(5)),
     (1, Get(1), Number(6)),
-    (1, Read(0), Number(1)),
-];
+    (1, Read(0), Number(1))
+);
 
 static TAKEN_AGAIN: [Row; 1] = [(
     &[DISTURBED, "snapshot D 2\nend\n", SIXTEEN],
@@ -306,34 +268,17 @@ fn one_more_than_the_greatest_value(rt: HostRuntime) -> Result<(), Fail> {
     show(rt.alloc(), &ONE_MORE)
 }
 
-/// The script of tickets with limit 1, without its schedule.
-const LIMIT_1: &str = "evc-script 1
-limit 1
-workers a c
-eventcount E signal a observe c
-sequencer T take c
-worker a
-advance E
-advance E
-end
-worker c
-ticket T
-await E last+1
-read E
-end
-";
-
 const REFUSED: Outcome = Outcome::Refused(Refusal::AtLimit);
 
 const ONE_ADVANCE: [Step; 2] = [(0, Advance(0), Done), (1, Ticket(0), Number(0))];
 
 static AT_THE_LIMIT: [Row; 2] = [
     (
-        &[LIMIT_1, "schedule a a c\n"],
+        &[TICKET_AND_AWAIT_AT_LIMIT_1, "schedule a a c\n"],
         Outcomes::Played(&ONE_ADVANCE, &[REFUSED, Running]),
     ),
     (
-        &[LIMIT_1, "schedule a a c\nschedule a\n"],
+        &[TICKET_AND_AWAIT_AT_LIMIT_1, "schedule a a c\nschedule a\n"],
         Outcomes::Ended(3, 0),
     ),
 ];
