@@ -1,8 +1,7 @@
 //! Calls that make something new: where memory is refused they say so, and there is nothing else.
-use crate::ids::event;
-use crate::steps_tests::one_worker;
-use crate::texts::{DATABASE, GROUPS, SCRIPT_OF_TWO, SEMAPHORES, TRACE_OF_TWO};
-use crate::way::{Answer, Call, Want, Way, tell, way_of};
+use super::steps_tests::one_worker;
+use super::texts::{DATABASE, GROUPS, SCRIPT_OF_TWO, SEMAPHORES, TRACE_OF_TWO};
+use super::way::{Answer, Call, Want, Way, tell, way_of};
 use ec_core::Run;
 use ec_count::{Names, Setup, Vocabulary};
 use ec_heading::{Group, Heading, Version};
@@ -10,6 +9,7 @@ use ec_runner::Board;
 use ec_script::{Plan, ScriptFault, parse};
 use ec_semaphore::{Balance, BalanceAudit};
 use ec_trace::{Opened, TraceFault, Traced, Watched, open_trace, read_entries, read_trace};
+use rows_parts::event;
 use std::alloc::Global;
 use std::test::Fail;
 

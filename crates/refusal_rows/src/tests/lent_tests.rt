@@ -1,7 +1,6 @@
 //! Calls that look at a run, which is as before also where memory is refused.
-use crate::ids::{event, worker};
-use crate::texts::{BUFFER, DATABASE, OVERTAKEN_READ, SEMAPHORES};
-use crate::way::{Answer, Call, Want, Way, tell, way_of};
+use super::texts::{DATABASE, SEMAPHORES};
+use super::way::{Answer, Call, Want, Way, tell, way_of};
 use ec_buffer::{Delivery, deliveries};
 use ec_core::{AuditFault, Run, walk, without};
 use ec_database::{Accepted, versions};
@@ -9,6 +8,7 @@ use ec_heading::Group;
 use ec_order::{Placed, Timeline, Verdict, calls, in_order, order, verify};
 use ec_semaphore::{Pair, SemaphoreShape, pairs};
 use ec_trace::{Traced, read_trace};
+use rows_parts::{BUFFER, OVERTAKEN_READ_AND_ANOTHER, event, worker};
 use std::alloc::Global;
 use std::test::Fail;
 
@@ -249,17 +249,14 @@ struct Trace {
 }
 
 /// A trace, and a call that looks at its run.
-struct Row {
-    trace: Trace,
-    look: Look,
-}
+type Row = (Trace, Look);
 
 impl Call for Lent {
     fn make(&mut self) -> Answer {
         let alloc = self.alloc;
         let run = self.traced.run();
         let groups = self.traced.heading().groups();
-        match self.row.look {
+        match self.row.1 {
             Look::Calls(right) => look_at_calls(alloc, run, right),
             Look::Order(right) => look_at_order(alloc, run, right),
             Look::InOrder(right) => look_in_order(alloc, run, right),
@@ -274,7 +271,7 @@ impl Call for Lent {
     }
 
     fn stands(&self) -> bool {
-        let (run, trace) = (self.traced.run(), self.row.trace);
+        let (run, trace) = (self.traced.run(), self.row.0);
         run.len() == trace.entries
             && run.entries().count() == trace.entries
             && run.world().total(event(0)) == Some(trace.total)
@@ -292,8 +289,8 @@ fn order_for(alloc: Global, run: &Run, look: Look) -> Option<Vec<Placed>> {
 
 /// A trace that is to be looked at, unless there is no memory.
 fn lent_by(alloc: Global, row: &'static Row) -> Option<Lent> {
-    let traced = read_trace(alloc, &mut row.trace.text.as_bytes()).ok()?;
-    let placed = order_for(alloc, traced.run(), row.look)?;
+    let traced = read_trace(alloc, &mut row.0.text.as_bytes()).ok()?;
+    let placed = order_for(alloc, traced.run(), row.1)?;
     Some(Lent {
         alloc,
         traced,
@@ -311,121 +308,97 @@ fn way_of_look(alloc: Global, row: &'static Row) -> Way {
 }
 
 const OF_A_READ: Trace = Trace {
-    text: OVERTAKEN_READ,
+    text: OVERTAKEN_READ_AND_ANOTHER,
     entries: 5,
     total: 2,
     is_under_way: true,
 };
 
-static CALLS: Row = Row {
-    trace: OF_A_READ,
-    look: Look::Calls(&[1, 2, 3]),
-};
+static CALLS: Row = (OF_A_READ, Look::Calls(&[1, 2, 3]));
 
 #[test]
 fn the_finished_calls(rt: HostRuntime) -> Result<(), Fail> {
     tell(&rt, way_of_look(rt.alloc(), &CALLS))
 }
 
-static ORDER: Row = Row {
-    trace: OF_A_READ,
-    look: Look::Order(&[1, 2, 2]),
-};
+static ORDER: Row = (OF_A_READ, Look::Order(&[1, 2, 2]));
 
 #[test]
 fn the_order(rt: HostRuntime) -> Result<(), Fail> {
     tell(&rt, way_of_look(rt.alloc(), &ORDER))
 }
 
-static IN_ORDER: Row = Row {
-    trace: OF_A_READ,
-    look: Look::InOrder(&[1, 2, 2]),
-};
+static IN_ORDER: Row = (OF_A_READ, Look::InOrder(&[1, 2, 2]));
 
 #[test]
 fn the_order_one_call_after_another(rt: HostRuntime) -> Result<(), Fail> {
     tell(&rt, way_of_look(rt.alloc(), &IN_ORDER))
 }
 
-static IN_TIME: Row = Row {
-    trace: OF_A_READ,
-    look: Look::Timeline(&[1, 2, 2]),
-};
+static IN_TIME: Row = (OF_A_READ, Look::Timeline(&[1, 2, 2]));
 
 #[test]
 fn the_order_of_a_timeline(rt: HostRuntime) -> Result<(), Fail> {
     tell(&rt, way_of_look(rt.alloc(), &IN_TIME))
 }
 
-static VERIFY: Row = Row {
-    trace: OF_A_READ,
-    look: Look::Verify,
-};
+static VERIFY: Row = (OF_A_READ, Look::Verify);
 
 #[test]
 fn the_verdict_on_an_order(rt: HostRuntime) -> Result<(), Fail> {
     tell(&rt, way_of_look(rt.alloc(), &VERIFY))
 }
 
-static COPY: Row = Row {
-    trace: OF_A_READ,
-    look: Look::Copy,
-};
+static COPY: Row = (OF_A_READ, Look::Copy);
 
 #[test]
 fn a_copy(rt: HostRuntime) -> Result<(), Fail> {
     tell(&rt, way_of_look(rt.alloc(), &COPY))
 }
 
-static WITHOUT_THE_THIRD: Row = Row {
-    trace: OF_A_READ,
-    look: Look::WithoutTheThird(3),
-};
+static WITHOUT_THE_THIRD: Row = (OF_A_READ, Look::WithoutTheThird(3));
 
 #[test]
 fn a_run_without_a_silent_worker(rt: HostRuntime) -> Result<(), Fail> {
     tell(&rt, way_of_look(rt.alloc(), &WITHOUT_THE_THIRD))
 }
 
-static DELIVERIES: Row = Row {
-    trace: Trace {
-        text: BUFFER,
-        entries: 30,
-        total: 2,
-        is_under_way: false,
-    },
-    look: Look::Deliveries(&[7, 8]),
+const OF_A_BUFFER: Trace = Trace {
+    text: BUFFER,
+    entries: 30,
+    total: 2,
+    is_under_way: false,
 };
+
+static DELIVERIES: Row = (OF_A_BUFFER, Look::Deliveries(&[7, 8]));
 
 #[test]
 fn the_deliveries_of_a_buffer(rt: HostRuntime) -> Result<(), Fail> {
     tell(&rt, way_of_look(rt.alloc(), &DELIVERIES))
 }
 
-static VERSIONS: Row = Row {
-    trace: Trace {
-        text: DATABASE,
-        entries: 16,
-        total: 1,
-        is_under_way: false,
-    },
-    look: Look::Versions(&[1]),
+const OF_A_DATABASE: Trace = Trace {
+    text: DATABASE,
+    entries: 16,
+    total: 1,
+    is_under_way: false,
 };
+
+static VERSIONS: Row = (OF_A_DATABASE, Look::Versions(&[1]));
 
 #[test]
 fn the_versions_of_a_database(rt: HostRuntime) -> Result<(), Fail> {
     tell(&rt, way_of_look(rt.alloc(), &VERSIONS))
 }
 
-static PAIRS: Row = Row {
-    trace: Trace {
-        text: SEMAPHORES,
-        entries: 28,
-        total: 2,
-        is_under_way: false,
-    },
-    look: Look::Pairs(&[(0, 0), (1, 1)]),
+const OF_SEMAPHORES: Trace = Trace {
+    text: SEMAPHORES,
+    entries: 28,
+    total: 2,
+    is_under_way: false,
 };
+
+static PAIRS: Row = (OF_SEMAPHORES, Look::Pairs(&[(0, 0), (1, 1)]));
 
 #[test]
 fn the_pairs_of_semaphores(rt: HostRuntime) -> Result<(), Fail> {

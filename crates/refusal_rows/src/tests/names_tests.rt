@@ -1,5 +1,5 @@
 //! Names and words that are added, more than there is room for at first.
-use crate::way::{Answer, Call, Want, Way, tell, way_of_all};
+use super::way::{Answer, Call, Want, Way, tell, way_of_all};
 use ec_count::{NameFault, Names, Target, Vocabulary, WORD_MAX};
 use std::alloc::Global;
 use std::test::Fail;

@@ -1,59 +1,5 @@
 //! The texts of traces and of scripts.
 
-/// Two workers signal an eventcount, which two others observe. A read is overtaken by two advances, and another one is
-/// under way in the end.
-pub(crate) const OVERTAKEN_READ: &str = "evc-trace 1
-limit 10
-workers a b c d
-eventcount E signal a b observe c d
-run
-c read E = pending
-a advance E = done
-b advance E = done
-c go = 1
-d read E = pending
-end
-";
-
-/// Two producers, two consumers and a buffer of one cell.
-pub(crate) const BUFFER: &str = "evc-trace 1
-limit 10
-workers a b c d
-buffer B 1 produce a b consume c d
-run
-a ticket B.put = 0
-b ticket B.put = 1
-a await B.in 0 = pending
-a go = 0
-a await B.out 0 = pending
-a go = 0
-a put B[0] 7 = done
-a advance B.in = done
-b await B.in 1 = pending
-b go = 1
-b await B.out 1 = pending
-b go = pending
-c ticket B.take = 0
-c await B.out 0 = pending
-c go = 0
-c await B.in 1 = pending
-c go = 1
-c get B[0] = 7
-c advance B.out = done
-b go = pending
-b go = 1
-b put B[0] 8 = done
-b advance B.in = done
-d ticket B.take = 1
-d await B.out 1 = pending
-d go = 1
-d await B.in 2 = pending
-d go = 2
-d get B[0] = 8
-d advance B.out = done
-end
-";
-
 /// A snapshot of a database that is disturbed once.
 pub(crate) const DATABASE: &str = "evc-trace 1
 limit 10
@@ -175,50 +121,25 @@ end
 schedule a b b
 ";
 
-/// Four workers that meet often.
-pub(crate) const FOUR_WORKERS: &str = "evc-script 1
+/// Four workers that all signal and observe one eventcount, each with these commands.
+macro_rules! four_workers {
+    ($commands:literal) => {
+        concat!(
+            "evc-script 1
 limit 30
 workers a b c d
 eventcount E signal a b c d observe a b c d
-worker a
-repeat 30
-advance E
-end
-read E
-end
-worker b
-repeat 30
-advance E
-end
-read E
-end
-worker c
-repeat 30
-advance E
-end
-read E
-end
-worker d
-repeat 30
-advance E
-end
-read E
-end
-";
+worker a\n",
+            $commands,
+            "worker b\n",
+            $commands,
+            "worker c\n",
+            $commands,
+            "worker d\n",
+            $commands
+        )
+    };
+}
 
-/// A worker that advances twice, and one that waits for one more than its ticket.
-pub(crate) const TICKET_AND_AWAIT: &str = "evc-script 1
-limit 10
-workers a c
-eventcount E signal a observe c
-sequencer T take c
-worker a
-advance E
-advance E
-end
-worker c
-ticket T
-await E last+1
-read E
-end
-";
+/// Four workers that meet often.
+pub(crate) const FOUR_WORKERS: &str = four_workers!("repeat 30\nadvance E\nend\nread E\nend\n");

@@ -2,8 +2,8 @@
 ghost use Rattle.ec_script.specs.Confined.{IsPlan};
 ghost use Rattle.ec_script.specs.Outcome.{shown_plan};
 
-use crate::texts::GROUPS;
-use crate::way::{Answer, Want, Way, refused, tell};
+use super::texts::GROUPS;
+use super::way::{Answer, Want, Way, refused, tell};
 use ec_machine::Outcome;
 use ec_runner::{Report, SimFault, simulate};
 use ec_script::{Plan, parse};

@@ -1,5 +1,5 @@
 //! Lines of headings: that of the workers, and one of each sort.
-use crate::way::{Answer, Call, Want, Way, tell, way_of, way_of_all};
+use super::way::{Answer, Call, Want, Way, tell, way_of, way_of_all};
 use ec_heading::{HeadFault, Heading, Version};
 use std::alloc::Global;
 use std::test::Fail;
@@ -13,83 +13,47 @@ type Entries = (usize, usize, usize, usize);
 /// What a heading has.
 type Sizes = (Objects, Entries);
 
-/// Lines that are there before, a line, a word that it brings in, and what the heading has before and after it.
-struct Row {
-    first: &'static [&'static str],
-    line: &'static str,
-    word: &'static str,
-    before: Sizes,
-    after: Sizes,
-}
+/// A line, a word that it brings in, and what the heading has after it.
+type Row = (&'static str, &'static str, Sizes);
 
 const WORKERS: &[&str] = &["workers a b"];
 
-/// What a heading has with two workers alone.
+/// What a heading has without a line, and with two workers alone.
+const NOTHING: Sizes = ((0, 0, 0, 0), (0, 0, 0, 0));
+
 const TWO_WORKERS: Sizes = ((2, 0, 0, 0), (2, 2, 0, 0));
 
-static OF_WORKERS: Row = Row {
-    first: &[],
-    line: "workers a b",
-    word: "b",
-    before: ((0, 0, 0, 0), (0, 0, 0, 0)),
-    after: TWO_WORKERS,
-};
+static OF_WORKERS: Row = ("workers a b", "b", TWO_WORKERS);
 
-static OF_AN_EVENTCOUNT: Row = Row {
-    first: WORKERS,
-    line: "eventcount E signal a observe b",
-    word: "E",
-    before: TWO_WORKERS,
-    after: ((2, 1, 0, 0), (3, 3, 0, 1)),
-};
+static OF_AN_EVENTCOUNT: Row = (
+    "eventcount E signal a observe b",
+    "E",
+    ((2, 1, 0, 0), (3, 3, 0, 1)),
+);
 
-static OF_A_SEQUENCER: Row = Row {
-    first: WORKERS,
-    line: "sequencer T take a",
-    word: "T",
-    before: TWO_WORKERS,
-    after: ((2, 0, 1, 0), (3, 3, 0, 1)),
-};
+static OF_A_SEQUENCER: Row = ("sequencer T take a", "T", ((2, 0, 1, 0), (3, 3, 0, 1)));
 
-static OF_CELLS: Row = Row {
-    first: WORKERS,
-    line: "cells X 3 write a read b",
-    word: "X",
-    before: TWO_WORKERS,
-    after: ((2, 0, 0, 3), (3, 3, 0, 1)),
-};
+static OF_CELLS: Row = (
+    "cells X 3 write a read b",
+    "X",
+    ((2, 0, 0, 3), (3, 3, 0, 1)),
+);
 
-static OF_A_BUFFER: Row = Row {
-    first: WORKERS,
-    line: "buffer B 2 produce a consume b",
-    word: "B.out",
-    before: TWO_WORKERS,
-    after: ((2, 2, 2, 2), (3, 7, 1, 1)),
-};
+static OF_A_BUFFER: Row = (
+    "buffer B 2 produce a consume b",
+    "B.out",
+    ((2, 2, 2, 2), (3, 7, 1, 1)),
+);
 
-static OF_A_DATABASE: Row = Row {
-    first: WORKERS,
-    line: "database D 2 write a read b",
-    word: "D.turn",
-    before: TWO_WORKERS,
-    after: ((2, 2, 1, 2), (3, 6, 1, 1)),
-};
+static OF_A_DATABASE: Row = (
+    "database D 2 write a read b",
+    "D.turn",
+    ((2, 2, 1, 2), (3, 6, 1, 1)),
+);
 
-static OF_A_SEMAPHORE: Row = Row {
-    first: WORKERS,
-    line: "semaphore R 1 use a b",
-    word: "R.p",
-    before: TWO_WORKERS,
-    after: ((2, 1, 1, 0), (3, 5, 1, 1)),
-};
+static OF_A_SEMAPHORE: Row = ("semaphore R 1 use a b", "R.p", ((2, 1, 1, 0), (3, 5, 1, 1)));
 
-static OF_BOTH: Row = Row {
-    first: WORKERS,
-    line: "both use a b",
-    word: "both.v",
-    before: TWO_WORKERS,
-    after: ((2, 1, 1, 0), (2, 5, 1, 1)),
-};
+static OF_BOTH: Row = ("both use a b", "both.v", ((2, 1, 1, 0), (2, 5, 1, 1)));
 
 /// What a heading has.
 fn sizes_of(heading: &Heading) -> Sizes {
@@ -115,25 +79,26 @@ fn has(heading: &Heading, right: &Sizes, word: &str, is_there: bool) -> bool {
     sizes_of(heading) == *right && is_found == is_there
 }
 
-/// A line that a heading is to take.
+/// A line that a heading is to take, and what it has before.
 #[derive(Drop)]
 struct Line {
     heading: Heading,
+    before: Sizes,
     row: &'static Row,
 }
 
 impl Call for Line {
     fn make(&mut self) -> Answer {
-        let row = self.row;
-        match self.heading.line(row.line.as_bytes()) {
-            Ok(()) => Answer::of(has(&self.heading, &row.after, row.word, true)),
+        let (line, word, after) = *self.row;
+        match self.heading.line(line.as_bytes()) {
+            Ok(()) => Answer::of(has(&self.heading, &after, word, true)),
             Err(HeadFault::Memory) => Answer::Wants(Want::Memory),
             Err(_) => Answer::Wrong,
         }
     }
 
     fn stands(&self) -> bool {
-        has(&self.heading, &self.row.before, self.row.word, false)
+        has(&self.heading, &self.before, self.row.1, false)
     }
 }
 
@@ -153,17 +118,26 @@ fn headed(alloc: Global, lines: &[&str]) -> Option<Heading> {
     Some(heading)
 }
 
-/// The way of a line.
-fn way_of_line(alloc: Global, row: &'static Row) -> Way {
-    match headed(alloc, row.first) {
-        Some(heading) => way_of(&mut Line { heading, row }),
+/// The way of a line behind others, where a heading has this before.
+fn way_behind(alloc: Global, first: &[&str], before: Sizes, row: &'static Row) -> Way {
+    match headed(alloc, first) {
+        Some(heading) => way_of(&mut Line {
+            heading,
+            before,
+            row,
+        }),
         None => Way::Unready,
     }
 }
 
+/// The way of a line behind that of two workers.
+fn way_of_line(alloc: Global, row: &'static Row) -> Way {
+    way_behind(alloc, WORKERS, TWO_WORKERS, row)
+}
+
 #[test]
 fn a_line_of_workers(rt: HostRuntime) -> Result<(), Fail> {
-    tell(&rt, way_of_line(rt.alloc(), &OF_WORKERS))
+    tell(&rt, way_behind(rt.alloc(), &[], NOTHING, &OF_WORKERS))
 }
 
 #[test]

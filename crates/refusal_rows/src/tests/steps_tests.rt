@@ -1,9 +1,9 @@
 //! Steps that begin a segment of a run, by the run itself and by a board.
-use crate::ids::{event, worker};
-use crate::way::{Answer, Call, Want, Way, tell, way_of};
+use super::way::{Answer, Call, Want, Way, tell, way_of};
 use ec_core::{Act, Reply, Run, StepFault};
 use ec_count::{Limit, Setup};
 use ec_runner::{Board, BoardFault};
+use rows_parts::{event, worker};
 use std::alloc::Global;
 use std::test::Fail;
 

@@ -1,5 +1,5 @@
 //! Command lines that are read.
-use crate::way::{Answer, Call, Want, Way, tell, way_of};
+use super::way::{Answer, Call, Want, Way, tell, way_of};
 use evc_task::{Task, status_of, task};
 use std::alloc::{AllocError, Global};
 use std::test::Fail;

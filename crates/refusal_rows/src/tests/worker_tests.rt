@@ -1,10 +1,11 @@
 //! Workers on threads.
-use crate::texts::{FOUR_WORKERS, TICKET_AND_AWAIT};
-use crate::way::{Answer, Want, Way, refused, tell};
+use super::texts::FOUR_WORKERS;
+use super::way::{Answer, Want, Way, refused, tell};
 use ec_count::WorkerId;
 use ec_machine::Outcome;
 use ec_runner::{Gate, OpenGate, RunFault, run_workers};
 use ec_script::{Plan, parse};
+use rows_parts::TICKET_AND_AWAIT;
 use std::alloc::Global;
 use std::sync::Wait;
 use std::sync::atomic::{AtomicU64, Ordering};
