@@ -3,12 +3,4 @@
 #![tactic(auto)]
 
 #[cfg(test)]
-mod ids;
-#[cfg(test)]
-mod names_tests;
-#[cfg(test)]
-mod setup_tests;
-#[cfg(test)]
-mod things;
-#[cfg(test)]
-mod vocabulary_tests;
+mod tests;

@@ -1,9 +1,9 @@
 //! A board, by calls: who waits, who is let go, and when all are stuck.
 use crate::drive::Ask::{Advance, Await, Go};
 use crate::drive::{Ask, Line, World, act_of, declared, right};
-use crate::ids::worker;
 use ec_core::Reply;
 use ec_runner::{Board, BoardFault, Parked};
+use rows_parts::worker;
 use std::alloc::Global;
 use std::test::Fail;
 

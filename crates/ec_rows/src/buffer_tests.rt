@@ -2,13 +2,13 @@
 use crate::drive::Ask::{Advance, Await, Get, Go, Put, Ticket};
 use crate::drive::Told::{Done, Number, Pending};
 use crate::drive::{
-    FOUR_WORKERS, Line, SIXTEEN_WORKERS, Step, TWO_WORKERS, World, are_right, declared, go_on,
-    is_as_declared, right, run_on,
+    FOUR_WORKERS, Line, SIXTEEN_WORKERS, Step, World, are_right, declared, go_on, right, run_on,
 };
-use crate::ids::{cell, event, listed, room, sequencer, worker};
+use crate::roles::{FAULTS, Fault, Group, are_refused};
 use ec_buffer::{BufferShape, Consume, Delivery, Produce, declare_buffer, deliveries};
-use ec_core::{AuditFault, Run};
+use ec_core::{AuditFault, Run, StepFault};
 use ec_count::{Setup, SetupFault, WorkerId, joined, shares_worker};
+use rows_parts::{cell, event, listed, sequencer, worker};
 use std::alloc::Global;
 use std::test::Fail;
 
@@ -19,13 +19,7 @@ pub(crate) fn declare(
     produce: &[usize],
     consume: &[usize],
 ) -> Result<BufferShape, SetupFault> {
-    let (mut one, mut other) = (room(), room());
-    declare_buffer(
-        setup,
-        n,
-        listed(&mut one, produce),
-        listed(&mut other, consume),
-    )
+    declare_buffer(setup, n, &listed(produce), &listed(consume))
 }
 
 /// Four workers, of whom the first two produce and the last two consume, and their buffer.
@@ -81,22 +75,20 @@ enum Row {
     Breaks(usize, usize),
 }
 
-/// Whether a procedure has ended after so many steps of a worker, or has not.
-fn is_moved(
+/// Whether a procedure has ended after so many steps of a worker.
+fn moved(
     run: &mut Run,
     four: &mut Four,
     n: usize,
     turn: Turn,
     steps: usize,
-    right: bool,
-) -> bool {
-    let ended = match turn {
+) -> Result<bool, StepFault> {
+    match turn {
         Turn::First => go_on(run, worker(n), &mut four.first, steps),
         Turn::Second => go_on(run, worker(n), &mut four.second, steps),
         Turn::One => go_on(run, worker(n), &mut four.one, steps),
         Turn::Another => go_on(run, worker(n), &mut four.another, steps),
-    };
-    ended == Ok(right)
+    }
 }
 
 /// Whether a delivery is that of a row.
@@ -134,7 +126,7 @@ fn is_broken(alloc: Global, run: &Run, shape: &BufferShape, n: usize, entry: usi
 fn is_right(alloc: Global, run: &mut Run, four: &mut Four, shape: &BufferShape, row: &Row) -> bool {
     match *row {
         Row::Steps(steps) => are_right(run, steps),
-        Row::Move(n, turn, steps, ended) => is_moved(run, four, n, turn, steps, ended),
+        Row::Move(n, turn, steps, ended) => moved(run, four, n, turn, steps) == Ok(ended),
         Row::Length(n) => run.len() == n,
         Row::Delivers(rows) => delivers(alloc, run, shape, rows),
         Row::Breaks(n, entry) => is_broken(alloc, run, shape, n, entry),
@@ -308,44 +300,16 @@ fn a_buffer_has_fixed_eventcounts(rt: HostRuntime) -> Result<(), Fail> {
     Ok(())
 }
 
-/// How many cells, who produces, who consumes, and the fault.
-type Fault = (usize, &'static [usize], &'static [usize], SetupFault);
-
-/// Whether a declaration gets its fault.
-fn is_refused(setup: &mut Setup, case: &Fault) -> bool {
-    let (n, produce, consume, fault) = *case;
-    declare(setup, n, produce, consume) == Err(fault)
-}
-
-/// Each declaration on two workers gets its fault, and adds nothing.
-fn are_refused(cases: &[Fault]) -> Result<(), Fail> {
-    let mut setup = declared(&TWO_WORKERS)?;
-    for (place, case) in cases.iter().enumerate() {
-        right(place, is_refused(&mut setup, case))?;
-    }
-    is_as_declared(&setup, &TWO_WORKERS)
-}
-
 static TWO_ROLES: [Fault; 1] = [(1, &[0, 1], &[1], SetupFault::TwoRoles)];
 
 #[test]
 fn a_worker_in_both_roles_adds_nothing() -> Result<(), Fail> {
-    are_refused(&TWO_ROLES)
+    are_refused(Group::Buffer, &TWO_ROLES)
 }
-
-static FAULTS: [Fault; 7] = [
-    (257, &[2], &[0], SetupFault::TooMany),
-    (1, &[0; 17], &[1], SetupFault::TooMany),
-    (1, &[0, 0], &[2], SetupFault::UnknownWorker),
-    (0, &[0, 0], &[1], SetupFault::Repeated),
-    (0, &[0], &[0], SetupFault::Empty),
-    (1, &[], &[1], SetupFault::Empty),
-    (1, &[0], &[], SetupFault::Empty),
-];
 
 #[test]
 fn each_fault_of_a_buffer() -> Result<(), Fail> {
-    are_refused(&FAULTS)
+    are_refused(Group::Buffer, &FAULTS)
 }
 
 /// The first of sixteen workers, and the others.

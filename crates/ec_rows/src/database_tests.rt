@@ -1,19 +1,20 @@
 //! Databases: how they are declared, worked histories, and runs made by procedures.
 ghost use Rattle.std.specs.Prelude.{◌≡◌, ◌<◌};
 
-use crate::drive::Ask::{Advance, Await, Get, Put, Read, Ticket};
-use crate::drive::Told::{Done, Number};
+use crate::drive::Ask::{Await, Get, Read};
+use crate::drive::Told::Number;
 use crate::drive::{
-    Line, Step, TWO_WORKERS, World, are_right, declared, go_on, is_as_declared, is_entry, right,
-    run_on,
+    Line, Step, TWO_WORKERS, World, are_right, declared, go_on, is_entry, right, run_on,
 };
-use crate::ids::{cell, event, listed, room, sequencer, worker};
+use crate::histories::{DISTURBED, UNDISTURBED};
+use crate::roles::{FAULTS, Group, are_refused};
 use arrayvec::ArrayVec;
 use ec_core::{AuditFault, Run};
 use ec_count::{Setup, SetupFault};
 use ec_database::{
     Accepted, DatabaseShape, Snapshot, SnapshotEnd, WriteAll, declare_database, versions,
 };
+use rows_parts::{cell, event, listed, sequencer, worker};
 use std::alloc::Global;
 use std::test::Fail;
 
@@ -24,8 +25,7 @@ pub(crate) fn declare(
     write: &[usize],
     read: &[usize],
 ) -> Result<DatabaseShape, SetupFault> {
-    let (mut one, mut other) = (room(), room());
-    declare_database(setup, n, listed(&mut one, write), listed(&mut other, read))
+    declare_database(setup, n, &listed(write), &listed(read))
 }
 
 /// A writer and a reader, and their database.
@@ -197,30 +197,6 @@ fn shows(alloc: Global, tries: usize, rows: &[Row]) -> Result<(), Fail> {
     let mut run = run_on(alloc, setup)?;
     are_shown(alloc, &mut run, &mut both, &shape, rows)
 }
-
-/// The reader begins a try, the writer writes 5 and 6, and the reader ends the try.
-const DISTURBED: &[Step] = &[
-    (1, Read(0), Number(0)),
-    (1, Await(1, 0), Number(0)),
-    (1, Get(0), Number(0)),
-    (0, Advance(0), Done),
-    (0, Ticket(0), Number(0)),
-    (0, Await(1, 0), Number(0)),
-    (0, Put(0, 5), Done),
-    (0, Put(1, 6), Done),
-    (0, Advance(1), Done),
-    (1, Get(1), Number(6)),
-    (1, Read(0), Number(1)),
-];
-
-/// The reader's next try.
-const UNDISTURBED: &[Step] = &[
-    (1, Read(0), Number(1)),
-    (1, Await(1, 1), Number(1)),
-    (1, Get(0), Number(5)),
-    (1, Get(1), Number(6)),
-    (1, Read(0), Number(1)),
-];
 
 static ACCEPTED: [Row; 4] = [
     Row::Steps(DISTURBED),
@@ -399,36 +375,7 @@ fn a_database_has_fixed_eventcounts(rt: HostRuntime) -> Result<(), Fail> {
     Ok(())
 }
 
-/// How many cells, who writes, who reads, and the fault.
-type Fault = (usize, &'static [usize], &'static [usize], SetupFault);
-
-/// Whether a declaration gets its fault.
-fn is_refused(setup: &mut Setup, case: &Fault) -> bool {
-    let (n, write, read, fault) = *case;
-    declare(setup, n, write, read) == Err(fault)
-}
-
-/// Each declaration on two workers gets its fault, and adds nothing.
-fn are_refused(cases: &[Fault]) -> Result<(), Fail> {
-    let mut setup = declared(&TWO_WORKERS)?;
-    for (place, case) in cases.iter().enumerate() {
-        right(place, is_refused(&mut setup, case))?;
-    }
-    is_as_declared(&setup, &TWO_WORKERS)
-}
-
-static FAULTS: [Fault; 8] = [
-    (257, &[2], &[0], SetupFault::TooMany),
-    (1, &[0; 17], &[1], SetupFault::TooMany),
-    (1, &[0, 0], &[2], SetupFault::UnknownWorker),
-    (0, &[0, 0], &[1], SetupFault::Repeated),
-    (0, &[0], &[0], SetupFault::Empty),
-    (1, &[], &[1], SetupFault::Empty),
-    (1, &[0], &[], SetupFault::Empty),
-    (1, &[0, 1], &[1], SetupFault::TwoRoles),
-];
-
 #[test]
 fn each_fault_of_a_database() -> Result<(), Fail> {
-    are_refused(&FAULTS)
+    are_refused(Group::Database, &FAULTS)
 }

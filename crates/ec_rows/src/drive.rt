@@ -1,23 +1,11 @@
 //! Histories as tables: what is declared, the steps with their answers, and what is seen after them. Workers
 //! and objects are numbers in them.
-use crate::ids::{cell, event, listed, room, sequencer, worker};
 use ec_core::{Act, Entry, Procedure, Refusal, Reply, Run, StepFault};
 use ec_count::{Limit, Setup, WorkerId};
+pub(crate) use rows_parts::Ask;
+use rows_parts::{cell, event, listed, sequencer, worker};
 use std::alloc::Global;
 use std::test::Fail;
-
-/// What a worker asks for.
-#[derive(Clone, Copy)]
-pub(crate) enum Ask {
-    Advance(usize),
-    Read(usize),
-    Await(usize, u64),
-    Go,
-    Ticket(usize),
-    Put(usize, u64),
-    Get(usize),
-    Hand(usize, usize),
-}
 
 /// The act that is asked for.
 pub(crate) fn act_of(ask: Ask) -> Act {
@@ -111,18 +99,13 @@ pub(crate) struct World {
 
 /// Whether a line is declared.
 fn add_line(setup: &mut Setup, line: &Line) -> bool {
-    let (mut one, mut other) = (room(), room());
     match *line {
-        Line::Event(signal, observe) => setup
-            .add_event(listed(&mut one, signal), listed(&mut other, observe))
-            .is_ok(),
+        Line::Event(signal, observe) => setup.add_event(&listed(signal), &listed(observe)).is_ok(),
         Line::FixedEvent(signal, observe) => setup
-            .add_fixed_event(listed(&mut one, signal), listed(&mut other, observe))
+            .add_fixed_event(&listed(signal), &listed(observe))
             .is_ok(),
-        Line::Sequencer(take) => setup.add_sequencer(listed(&mut one, take)).is_ok(),
-        Line::Cells(n, write, read) => setup
-            .add_cells(n, listed(&mut one, write), listed(&mut other, read))
-            .is_ok(),
+        Line::Sequencer(take) => setup.add_sequencer(&listed(take)).is_ok(),
+        Line::Cells(n, write, read) => setup.add_cells(n, &listed(write), &listed(read)).is_ok(),
     }
 }
 
@@ -205,6 +188,19 @@ pub(crate) struct History {
     pub(crate) advances: usize,
     pub(crate) steps: &'static [Step],
 }
+
+/// A history of a world by its steps, one after another.
+macro_rules! history {
+    ($world:expr, $($step:expr),*) => {
+        $crate::drive::History {
+            world: $world,
+            advances: 0,
+            steps: &[$($step),*],
+        }
+    };
+}
+
+pub(crate) use history;
 
 static AN_ADVANCE: Step = (0, Ask::Advance(0), Told::Done);
 

@@ -3,12 +3,12 @@ use crate::buffer_tests::declare;
 use crate::drive::Ask::{Advance, Go, Hand, Read};
 use crate::drive::Told::{Done, Number, Pending, Refused};
 use crate::drive::{
-    FOUR_WORKERS, History, Line, Sight, Step, World, are_right, declared, run_of, run_on, sees,
-    shows,
+    FOUR_WORKERS, History, Line, Sight, Step, World, are_right, declared, history, run_of, run_on,
+    sees, shows,
 };
-use crate::ids::worker;
 use crate::order_tests::{Row, are_shown};
 use ec_core::Refusal;
+use rows_parts::worker;
 use std::test::Fail;
 
 /// Under limit 2 the first of three workers signals an eventcount, and the third observes it.
@@ -18,11 +18,7 @@ const ONE_SIGNALLER: World = World {
     lines: &[Line::Event(&[0], &[2])],
 };
 
-static HANDED: History = History {
-    world: ONE_SIGNALLER,
-    advances: 1,
-    steps: &[(0, Hand(0, 1), Done)],
-};
+static HANDED: History = history!(ONE_SIGNALLER, (0, Advance(0), Done), (0, Hand(0, 1), Done));
 
 static BY_THE_RECEIVER: [Sight; 5] = [
     Sight::Total(0, Some(1)),
@@ -37,23 +33,20 @@ fn the_receiver_signals_and_the_giver_does_not(rt: HostRuntime) -> Result<(), Fa
     shows(rt.alloc(), &HANDED, &BY_THE_RECEIVER)
 }
 
-static THERE_AND_BACK: History = History {
-    world: ONE_SIGNALLER,
-    advances: 0,
-    steps: &[
-        (0, Advance(0), Done),
-        (0, Hand(0, 1), Done),
-        (1, Advance(0), Done),
-        (2, Read(0), Number(2)),
-        (0, Advance(0), Refused(Refusal::NoRight)),
-        (1, Advance(0), Refused(Refusal::AtLimit)),
-        (1, Hand(0, 1), Refused(Refusal::AlreadySignals)),
-        (0, Hand(0, 2), Refused(Refusal::NoRight)),
-        (1, Hand(0, 3), Refused(Refusal::UnknownObject)),
-        (1, Hand(0, 0), Done),
-        (0, Advance(0), Refused(Refusal::AtLimit)),
-    ],
-};
+static THERE_AND_BACK: History = history!(
+    ONE_SIGNALLER,
+    (0, Advance(0), Done),
+    (0, Hand(0, 1), Done),
+    (1, Advance(0), Done),
+    (2, Read(0), Number(2)),
+    (0, Advance(0), Refused(Refusal::NoRight)),
+    (1, Advance(0), Refused(Refusal::AtLimit)),
+    (1, Hand(0, 1), Refused(Refusal::AlreadySignals)),
+    (0, Hand(0, 2), Refused(Refusal::NoRight)),
+    (1, Hand(0, 3), Refused(Refusal::UnknownObject)),
+    (1, Hand(0, 0), Done),
+    (0, Advance(0), Refused(Refusal::AtLimit))
+);
 
 static BACK: [Sight; 4] = [
     Sight::Length(5),
@@ -88,22 +81,19 @@ fn the_eventcounts_of_a_buffer_are_fixed(rt: HostRuntime) -> Result<(), Fail> {
 }
 
 /// A component is handed over between the two entries of a read.
-static HANDED_BEFORE_A_GO: History = History {
-    world: World {
+static HANDED_BEFORE_A_GO: History = history!(
+    World {
         limit: 10,
         workers: 4,
         lines: &[Line::Event(&[0, 1], &[2])],
     },
-    advances: 0,
-    steps: &[
-        (2, Read(0), Pending),
-        (0, Advance(0), Done),
-        (0, Hand(0, 3), Done),
-        (3, Advance(0), Done),
-        (1, Advance(0), Done),
-        (2, Go, Number(1)),
-    ],
-};
+    (2, Read(0), Pending),
+    (0, Advance(0), Done),
+    (0, Hand(0, 3), Done),
+    (3, Advance(0), Done),
+    (1, Advance(0), Done),
+    (2, Go, Number(1))
+);
 
 static AFTER_THE_GO: [Sight; 2] = [Sight::Total(0, Some(3)), Sight::Component(0, 0, Some(2))];
 
@@ -126,36 +116,30 @@ fn a_hand_within_a_read(rt: HostRuntime) -> Result<(), Fail> {
 }
 
 /// The worker that a component is handed to reads the eventcount.
-static TO_A_READER: History = History {
-    world: World {
+static TO_A_READER: History = history!(
+    World {
         limit: 10,
         workers: 3,
         lines: &[Line::Event(&[0, 2], &[1])],
     },
-    advances: 0,
-    steps: &[
-        (1, Read(0), Pending),
-        (0, Hand(0, 1), Done),
-        (1, Go, Number(0)),
-        (1, Advance(0), Done),
-    ],
-};
+    (1, Read(0), Pending),
+    (0, Hand(0, 1), Done),
+    (1, Go, Number(0)),
+    (1, Advance(0), Done)
+);
 
 /// The worker that would hand a component over reads another eventcount.
-static BY_A_READER: History = History {
-    world: World {
+static BY_A_READER: History = history!(
+    World {
         limit: 10,
         workers: 3,
         lines: &[Line::Event(&[0], &[]), Line::Event(&[1, 2], &[0])],
     },
-    advances: 0,
-    steps: &[
-        (0, Read(1), Pending),
-        (0, Hand(0, 1), Refused(Refusal::Busy)),
-        (0, Go, Number(0)),
-        (0, Hand(0, 1), Done),
-    ],
-};
+    (0, Read(1), Pending),
+    (0, Hand(0, 1), Refused(Refusal::Busy)),
+    (0, Go, Number(0)),
+    (0, Hand(0, 1), Done)
+);
 
 static ONE_ADVANCE: [Sight; 1] = [Sight::Total(0, Some(1))];
 
@@ -167,16 +151,14 @@ fn hands_while_a_read_is_under_way(rt: HostRuntime) -> Result<(), Fail> {
     shows(rt.alloc(), &BY_A_READER, &NO_ADVANCE)
 }
 
-static HANDED_ON: History = History {
-    world: ONE_SIGNALLER,
-    advances: 1,
-    steps: &[
-        (0, Hand(0, 1), Done),
-        (1, Hand(0, 2), Done),
-        (2, Hand(0, 1), Done),
-        (1, Advance(0), Done),
-    ],
-};
+static HANDED_ON: History = history!(
+    ONE_SIGNALLER,
+    (0, Advance(0), Done),
+    (0, Hand(0, 1), Done),
+    (1, Hand(0, 2), Done),
+    (2, Hand(0, 1), Done),
+    (1, Advance(0), Done)
+);
 
 static BY_THE_LAST: [Sight; 2] = [
     Sight::Component(0, 0, Some(2)),

@@ -19,8 +19,6 @@ mod hand_tests;
 #[cfg(test)]
 mod histories;
 #[cfg(test)]
-mod ids;
-#[cfg(test)]
 mod machines;
 #[cfg(test)]
 mod order_tests;
@@ -28,6 +26,8 @@ mod order_tests;
 mod program_tests;
 #[cfg(test)]
 mod programs;
+#[cfg(test)]
+mod roles;
 #[cfg(test)]
 mod semaphore_setup_tests;
 #[cfg(test)]

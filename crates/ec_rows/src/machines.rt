@@ -1,10 +1,10 @@
 //! Machines as tables: what is done with those of two programs and a run, or asked of them.
 use crate::drive::Ask::Advance;
 use crate::drive::{Ask, Sight, Step, act_of, are_right, are_seen, right, run_on};
-use crate::ids::worker;
 use crate::programs::{Ground, Objects, Text, declared_on, programs_of};
 use ec_core::{Act, Reply, Run};
 use ec_machine::{Machine, Outcome, Program, follows};
+use rows_parts::worker;
 use std::alloc::Global;
 use std::test::Fail;
 

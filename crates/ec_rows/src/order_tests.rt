@@ -6,9 +6,9 @@ use crate::histories::{
     AWAIT_OF_ROUNDS, AWAIT_OF_ZERO, MANY_ADVANCES, OVERTAKEN_READ, READ_OVERTAKEN_OFTEN, SLOW_READ,
     TOTAL_IN_THE_MIDDLE, TWO_READS,
 };
-use crate::ids::worker;
 use ec_core::{Calls, Entry, Run, walk};
 use ec_order::{Call, Dated, Placed, Timeline, Verdict, calls, in_order, order, verify};
+use rows_parts::worker;
 use std::alloc::Global;
 use std::test::Fail;
 

@@ -1,7 +1,8 @@
 //! Programs, and what machines ask for.
-use crate::drive::Ask::{Advance, Await, Get, Go, Put, Read, Ticket};
+use crate::drive::Ask::{Advance, Await, Get, Put};
 use crate::drive::Told::{Done, Number, Pending};
 use crate::drive::{Sight, Step};
+use crate::histories::{DISTURBED, UNDISTURBED, WAITED};
 use crate::machines::{Case, Row, shows};
 use crate::programs::{Ground, Order, Text};
 use ec_core::VALUE_MAX;
@@ -14,16 +15,6 @@ const WAITS_FOR_ITS_TICKET: Text = &[
     Order::Ticket(0),
     Order::Await(0, Value::LastPlus(1)),
     Order::Read(0),
-];
-
-/// The second worker draws 0, waits for a total of 1, and reads 2.
-const WAITED: &[Step] = &[
-    (1, Ticket(0), Number(0)),
-    (1, Await(0, 1), Pending),
-    (0, Advance(0), Done),
-    (1, Go, Number(1)),
-    (0, Advance(0), Done),
-    (1, Read(0), Number(2)),
 ];
 
 static TICKET_WAITED_FOR: Case = Case {
@@ -207,30 +198,6 @@ fn programs_are_ended_from_outside(rt: HostRuntime) -> Result<(), Fail> {
 
 /// The writing of 5 and of 6 more than the last number, which is 0.
 const WRITES: Text = &[Order::WriteAll(&[Value::Number(5), Value::LastPlus(6)])];
-
-/// The writer writes 5 and 6 while the reader makes a first try of a snapshot.
-const DISTURBED: &[Step] = &[
-    (1, Read(0), Number(0)),
-    (1, Await(1, 0), Number(0)),
-    (1, Get(0), Number(0)),
-    (0, Advance(0), Done),
-    (0, Ticket(0), Number(0)),
-    (0, Await(1, 0), Number(0)),
-    (0, Put(0, 5), Done),
-    (0, Put(1, 6), Done),
-    (0, Advance(1), Done),
-    (1, Get(1), Number(6)),
-    (1, Read(0), Number(1)),
-];
-
-/// The reader makes a second one.
-const UNDISTURBED: &[Step] = &[
-    (1, Read(0), Number(1)),
-    (1, Await(1, 1), Number(1)),
-    (1, Get(0), Number(5)),
-    (1, Get(1), Number(6)),
-    (1, Read(0), Number(1)),
-];
 
 static ONE_TRY: Case = Case {
     ground: Ground::Database,

@@ -1,12 +1,12 @@
 //! Programs as tables: what two workers have, and what is written of their programs.
 use crate::database_tests;
 use crate::drive::{Line, TWO_WORKERS, World, declared};
-use crate::ids::{cell, event, sequencer};
 use crate::semaphores::{Shapes, shapes_in};
 use ec_count::{Setup, SetupFault};
 use ec_database::DatabaseShape;
 use ec_machine::{Command, Program, Value};
 use ec_semaphore::SemaphoreShape;
+use rows_parts::{cell, event, sequencer};
 use std::alloc::Global;
 use std::mem;
 use std::test::Fail;

@@ -1,9 +1,9 @@
 //! How semaphores are declared.
 use crate::drive::{Line, ONE_WORKER, TWO_WORKERS, World, declared, is_as_declared, right};
-use crate::ids::{event, sequencer, worker};
 use crate::semaphores::{Shapes, declare, two_users};
 use ec_count::{Setup, SetupFault};
 use ec_semaphore::{INITIAL_MAX, SemaphoreShape, declare_both};
+use rows_parts::{event, sequencer, worker};
 use std::test::Fail;
 
 /// Whether a semaphore's eventcount and sequencer are those of a number.

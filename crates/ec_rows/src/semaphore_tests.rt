@@ -2,13 +2,13 @@
 use crate::drive::Ask::{Advance, Await, Go, Ticket};
 use crate::drive::Told::{Done, Number, Pending};
 use crate::drive::{Step, TWO_WORKERS, declared, go_on, run_on};
-use crate::ids::worker;
 use crate::semaphores::{
-    Found, Row, Shapes, Turn, Which, declare, down_both, has_balance, is_found, is_moved,
+    Found, Row, Shapes, Turn, Which, declare, down_both, has_balance, is_found, moved,
     procedures_of, shows, two_users,
 };
 use ec_core::{Run, StepFault};
 use ec_semaphore::{Balance, DownBoth, SemaphoreShape};
+use rows_parts::worker;
 use std::alloc::Global;
 use std::test::Fail;
 
@@ -170,9 +170,9 @@ fn waits_for_the_first_v(run: &mut Run, shape: SemaphoreShape) -> bool {
         downs: 1,
         ups: 1,
     };
-    is_moved(run, &mut three, 0, Turn::First, 9, false)
-        && is_moved(run, &mut three, 1, Turn::Up, 9, true)
-        && is_moved(run, &mut three, 0, Turn::First, 9, true)
+    moved(run, &mut three, 0, Turn::First, 9) == Ok(false)
+        && moved(run, &mut three, 1, Turn::Up, 9) == Ok(true)
+        && moved(run, &mut three, 0, Turn::First, 9) == Ok(true)
         && has_balance(run, &shape, right)
 }
 

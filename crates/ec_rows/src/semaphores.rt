@@ -1,12 +1,12 @@
 //! Semaphores as tables: what is done with a run on them, or asked of it.
 use crate::drive::{Step, TWO_WORKERS, are_right, declared, go_on, right, run_on};
-use crate::ids::{listed, room, sequencer, worker};
-use ec_core::{AuditFault, Run};
+use ec_core::{AuditFault, Run, StepFault};
 use ec_count::{Setup, SetupFault};
 use ec_semaphore::{
     Balance, Down, DownBoth, Pair, SemaphoreShape, Up, balance, declare_both, declare_semaphore,
     pairs,
 };
+use rows_parts::{listed, sequencer, worker};
 use std::alloc::Global;
 use std::test::Fail;
 
@@ -16,8 +16,7 @@ pub(crate) fn declare(
     initial: u64,
     users: &[usize],
 ) -> Result<SemaphoreShape, SetupFault> {
-    let mut users_room = room();
-    declare_semaphore(setup, initial, listed(&mut users_room, users))
+    declare_semaphore(setup, initial, &listed(users))
 }
 
 /// Two semaphores R and S, and the common one of both, for the same users.
@@ -34,10 +33,9 @@ pub(crate) fn shapes_in(
     initial: u64,
     users: &[usize],
 ) -> Result<Shapes, SetupFault> {
-    let mut users_room = room();
     let r = declare(setup, initial, users)?;
     let s = declare(setup, 1, users)?;
-    let both = declare_both(setup, listed(&mut users_room, users))?;
+    let both = declare_both(setup, &listed(users))?;
     Ok(Shapes { r, s, both })
 }
 
@@ -126,21 +124,19 @@ pub(crate) enum Row {
     BreaksSecond(Which),
 }
 
-/// Whether a procedure has ended after so many steps of a worker, or has not.
-pub(crate) fn is_moved(
+/// Whether a procedure has ended after so many steps of a worker.
+pub(crate) fn moved(
     run: &mut Run,
     three: &mut Three,
     n: usize,
     turn: Turn,
     steps: usize,
-    right: bool,
-) -> bool {
-    let ended = match turn {
+) -> Result<bool, StepFault> {
+    match turn {
         Turn::First => go_on(run, worker(n), &mut three.first, steps),
         Turn::Second => go_on(run, worker(n), &mut three.second, steps),
         Turn::Up => go_on(run, worker(n), &mut three.up, steps),
-    };
-    ended == Ok(right)
+    }
 }
 
 /// Whether the balance of a semaphore is this one.
@@ -234,7 +230,7 @@ pub(crate) fn is_found(alloc: Global, run: &Run, shapes: &Shapes, row: &Row) -> 
 fn is_right(alloc: Global, run: &mut Run, three: &mut Three, shapes: &Shapes, row: &Row) -> bool {
     match *row {
         Row::Steps(steps) => are_right(run, steps),
-        Row::Move(n, turn, steps, ended) => is_moved(run, three, n, turn, steps, ended),
+        Row::Move(n, turn, steps, ended) => moved(run, three, n, turn, steps) == Ok(ended),
         _ => is_found(alloc, run, shapes, row),
     }
 }

@@ -4,7 +4,6 @@ use crate::database_tests::is_version;
 use crate::drive::Ask::{Advance, Read, Ticket};
 use crate::drive::Told::Number;
 use crate::drive::{Line, Sight, Step, World, are_right, declared, go_on, right, run_on, sees};
-use crate::ids::{event, worker};
 use crate::order_tests::{self, are_shown, are_timed};
 use crate::semaphores::{Shapes, down_both, shapes_in};
 use crate::steps_tests::shows_without_the_third;
@@ -16,6 +15,7 @@ use ec_database::{DatabaseShape, Snapshot, versions};
 use ec_order::{in_order, order};
 use ec_runner::Board;
 use ec_semaphore::{Balance, Pair, SemaphoreShape, Up, balance, pairs};
+use rows_parts::{event, worker};
 use std::alloc::Global;
 use std::test::Fail;
 

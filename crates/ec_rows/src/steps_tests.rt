@@ -2,14 +2,14 @@
 use crate::drive::Ask::{Advance, Await, Get, Go, Put, Read, Ticket};
 use crate::drive::Told::{Done, Number, Pending, Refused};
 use crate::drive::{
-    History, Line, Sight, Step, World, act_of, declared, is_told, run_of, sees, shows,
+    History, Line, Sight, Step, World, act_of, declared, history, is_told, run_of, sees, shows,
 };
 use crate::histories::{
     AWAIT_OF_ROUNDS, AWAIT_OF_ZERO, MANY_ADVANCES, OVERTAKEN_READ, READ_OVERTAKEN_OFTEN,
     TOTAL_IN_THE_MIDDLE, TWO_READS,
 };
-use crate::ids::{event, worker};
 use ec_core::{Refusal, Run, StepFault, VALUE_MAX, World as Worlds, without};
+use rows_parts::{event, worker};
 use std::test::Fail;
 
 static AFTER_OVERTAKEN_READ: [Sight; 2] = [Sight::Length(4), Sight::Total(0, Some(2))];
@@ -53,23 +53,20 @@ const SIGNALLER_AND_OBSERVER: World = World {
     lines: &[Line::Event(&[0, 1], &[1])],
 };
 
-static BEGINS: History = History {
-    world: SIGNALLER_AND_OBSERVER,
-    advances: 0,
-    steps: &[(0, Advance(0), Done), (1, Await(0, 2), Pending)],
-};
+static BEGINS: History = history!(
+    SIGNALLER_AND_OBSERVER,
+    (0, Advance(0), Done),
+    (1, Await(0, 2), Pending)
+);
 
 static HALF_A_ROUND: [Sight; 1] = [Sight::UnderWay(1, Some((Await(0, 2), 1, 1)))];
 
-static FALLS_SHORT: History = History {
-    world: SIGNALLER_AND_OBSERVER,
-    advances: 0,
-    steps: &[
-        (0, Advance(0), Done),
-        (1, Await(0, 2), Pending),
-        (1, Go, Pending),
-    ],
-};
+static FALLS_SHORT: History = history!(
+    SIGNALLER_AND_OBSERVER,
+    (0, Advance(0), Done),
+    (1, Await(0, 2), Pending),
+    (1, Go, Pending)
+);
 
 static NO_ROUND: [Sight; 1] = [Sight::UnderWay(1, Some((Await(0, 2), 0, 0)))];
 
@@ -87,20 +84,17 @@ fn an_await_of_zero_on_three_components(rt: HostRuntime) -> Result<(), Fail> {
 }
 
 /// Two workers signal an eventcount under limit 2, and the third observes it.
-static UP_TO_THE_LIMIT: History = History {
-    world: World {
+static UP_TO_THE_LIMIT: History = history!(
+    World {
         limit: 2,
         workers: 3,
         lines: &[Line::Event(&[0, 1], &[2])],
     },
-    advances: 0,
-    steps: &[
-        (0, Advance(0), Done),
-        (0, Advance(0), Done),
-        (0, Advance(0), Refused(Refusal::AtLimit)),
-        (1, Advance(0), Done),
-    ],
-};
+    (0, Advance(0), Done),
+    (0, Advance(0), Done),
+    (0, Advance(0), Refused(Refusal::AtLimit)),
+    (1, Advance(0), Done)
+);
 
 static AFTER_THE_LIMIT: [Sight; 2] = [Sight::Length(3), Sight::Total(0, Some(3))];
 
@@ -126,19 +120,16 @@ fn those_who_signal_are_those_declared(rt: HostRuntime) -> Result<(), Fail> {
 }
 
 /// One worker takes tickets under limit 2.
-static TICKETS: History = History {
-    world: World {
+static TICKETS: History = history!(
+    World {
         limit: 2,
         workers: 1,
         lines: &[Line::Sequencer(&[0])],
     },
-    advances: 0,
-    steps: &[
-        (0, Ticket(0), Number(0)),
-        (0, Ticket(0), Number(1)),
-        (0, Ticket(0), Refused(Refusal::AtLimit)),
-    ],
-};
+    (0, Ticket(0), Number(0)),
+    (0, Ticket(0), Number(1)),
+    (0, Ticket(0), Refused(Refusal::AtLimit))
+);
 
 static ISSUED: [Sight; 1] = [Sight::Issued(0, Some(2))];
 
@@ -194,25 +185,22 @@ fn eight_thousand_advances_and_a_read(rt: HostRuntime) -> Result<(), Fail> {
 }
 
 /// One worker writes and reads a cell.
-static PUTS: History = History {
-    world: World {
+static PUTS: History = history!(
+    World {
         limit: 10,
         workers: 1,
         lines: &[Line::Cells(1, &[0], &[0])],
     },
-    advances: 0,
-    steps: &[
-        (0, Put(0, 7), Done),
-        (
-            0,
-            Put(0, 1_000_000_000_000_000_000),
-            Refused(Refusal::ValueTooLarge),
-        ),
-        (0, Get(0), Number(7)),
-        (0, Put(0, 999_999_999_999_999_999), Done),
-        (0, Get(0), Number(999_999_999_999_999_999)),
-    ],
-};
+    (0, Put(0, 7), Done),
+    (
+        0,
+        Put(0, 1_000_000_000_000_000_000),
+        Refused(Refusal::ValueTooLarge),
+    ),
+    (0, Get(0), Number(7)),
+    (0, Put(0, 999_999_999_999_999_999), Done),
+    (0, Get(0), Number(999_999_999_999_999_999))
+);
 
 static GREATEST: [Sight; 1] = [Sight::Cell(0, Some(VALUE_MAX))];
 
@@ -222,27 +210,24 @@ fn the_greatest_value_is_put_and_no_greater_one(rt: HostRuntime) -> Result<(), F
 }
 
 /// One worker writes and reads a cell, and waits for totals that never come: with numbers of 32 bits, and with longer ones.
-static LONG_NUMBERS: History = History {
-    world: World {
+static LONG_NUMBERS: History = history!(
+    World {
         limit: 10,
         workers: 1,
         lines: &[Line::Cells(1, &[0], &[0]), Line::Event(&[0], &[0])],
     },
-    advances: 0,
-    steps: &[
-        (0, Put(0, 4_294_967_295), Done),
-        (0, Get(0), Number(4_294_967_295)),
-        (0, Put(0, 4_294_967_296), Done),
-        (0, Get(0), Number(4_294_967_296)),
-        (0, Put(0, 12_884_901_890), Done),
-        (0, Get(0), Number(12_884_901_890)),
-        (0, Put(0, 999_999_999_999_999_999), Done),
-        (0, Get(0), Number(999_999_999_999_999_999)),
-        (0, Put(0, 0), Done),
-        (0, Get(0), Number(0)),
-        (0, Await(0, 12_884_901_890), Pending),
-    ],
-};
+    (0, Put(0, 4_294_967_295), Done),
+    (0, Get(0), Number(4_294_967_295)),
+    (0, Put(0, 4_294_967_296), Done),
+    (0, Get(0), Number(4_294_967_296)),
+    (0, Put(0, 12_884_901_890), Done),
+    (0, Get(0), Number(12_884_901_890)),
+    (0, Put(0, 999_999_999_999_999_999), Done),
+    (0, Get(0), Number(999_999_999_999_999_999)),
+    (0, Put(0, 0), Done),
+    (0, Get(0), Number(0)),
+    (0, Await(0, 12_884_901_890), Pending)
+);
 
 static NUMBERS_ARE_KEPT: [Sight; 10] = [
     Sight::Length(11),
@@ -263,21 +248,18 @@ fn long_numbers_are_kept(rt: HostRuntime) -> Result<(), Fail> {
 }
 
 /// Two workers signal an eventcount, and the third observes it.
-static IDLE_AND_BUSY: History = History {
-    world: World {
+static IDLE_AND_BUSY: History = history!(
+    World {
         limit: 10,
         workers: 3,
         lines: &[Line::Event(&[0, 1], &[2])],
     },
-    advances: 0,
-    steps: &[
-        (2, Go, Refused(Refusal::Idle)),
-        (2, Read(0), Pending),
-        (2, Read(0), Refused(Refusal::Busy)),
-        (2, Go, Number(0)),
-        (2, Go, Refused(Refusal::Idle)),
-    ],
-};
+    (2, Go, Refused(Refusal::Idle)),
+    (2, Read(0), Pending),
+    (2, Read(0), Refused(Refusal::Busy)),
+    (2, Go, Number(0)),
+    (2, Go, Refused(Refusal::Idle))
+);
 
 static TWO_ENTRIES: [Sight; 1] = [Sight::Length(2)];
 
@@ -293,24 +275,21 @@ const ONE_AND_ONE: World = World {
     lines: &[Line::Event(&[0], &[1])],
 };
 
-static NOT_PERMITTED: History = History {
-    world: ONE_AND_ONE,
-    advances: 0,
-    steps: &[
-        (2, Advance(0), Refused(Refusal::UnknownWorker)),
-        (0, Advance(1), Refused(Refusal::UnknownObject)),
-        (0, Ticket(0), Refused(Refusal::UnknownObject)),
-        (0, Get(0), Refused(Refusal::UnknownObject)),
-        (0, Read(0), Refused(Refusal::NoRight)),
-        (1, Advance(0), Refused(Refusal::NoRight)),
-        (
-            1,
-            Await(0, 1_000_000_000_000_000_000),
-            Refused(Refusal::ValueTooLarge),
-        ),
-        (1, Await(0, VALUE_MAX), Pending),
-    ],
-};
+static NOT_PERMITTED: History = history!(
+    ONE_AND_ONE,
+    (2, Advance(0), Refused(Refusal::UnknownWorker)),
+    (0, Advance(1), Refused(Refusal::UnknownObject)),
+    (0, Ticket(0), Refused(Refusal::UnknownObject)),
+    (0, Get(0), Refused(Refusal::UnknownObject)),
+    (0, Read(0), Refused(Refusal::NoRight)),
+    (1, Advance(0), Refused(Refusal::NoRight)),
+    (
+        1,
+        Await(0, 1_000_000_000_000_000_000),
+        Refused(Refusal::ValueTooLarge),
+    ),
+    (1, Await(0, VALUE_MAX), Pending)
+);
 
 static ONE_ENTRY: [Sight; 1] = [Sight::Length(1)];
 

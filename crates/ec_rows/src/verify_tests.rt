@@ -2,10 +2,10 @@
 use crate::drive::Ask::{Advance, Await, Read};
 use crate::drive::{Ask, History, act_of, right, run_of};
 use crate::histories::{AWAIT_OF_ROUNDS, OVERTAKEN_READ};
-use crate::ids::worker;
 use crate::order_tests::{self, is_judged};
 use ec_core::{Reply, Run};
 use ec_order::{Call, Placed, Verdict};
+use rows_parts::worker;
 use std::alloc::Global;
 use std::test::Fail;
 

@@ -1,5 +1,4 @@
 //! The texts of errors.
-use crate::ids::worker;
 use ec_core::{AuditFault, Refusal, StepFault};
 use ec_count::{AtLimit, NameFault, SetupFault};
 use ec_order::OrderFault;
@@ -7,6 +6,7 @@ use ec_runner::{BoardFault, RunFault, SimFault};
 use ec_script::{Kind, ScriptFault};
 use ec_text::WriteFault;
 use ec_trace::{HeadFault, TraceFault};
+use rows_parts::worker;
 use std::alloc::Global;
 use std::fmt::Display;
 use std::test::Fail;

@@ -1,14 +1,16 @@
 //! Each command by its task, over readers and writers that fail.
 use crate::fakes::{Fickle, Pieces, Trouble};
 use crate::texts::{
-    BUFFER, BUFFER_AUDIT, IDLE, ONE_PROGRAM, ONE_PROGRAM_TRACE, OVERTAKEN_READ,
-    OVERTAKEN_READ_ORDER, THREE_ADVANCES, TICKET_AND_AWAIT, TICKET_AND_AWAIT_TRACE, TICKETS,
-    TICKETS_TRACE, UNDER_WAY, UNDER_WAY_IN_TWO,
+    BUFFER_AUDIT, IDLE, ONE_PROGRAM, ONE_PROGRAM_TRACE, OVERTAKEN_READ_ORDER, THREE_ADVANCES,
+    TICKET_AND_AWAIT_TRACE, TICKETS, TICKETS_TRACE,
 };
 use ec_text::Out;
 use evc_engine::Status;
 use evc_scripts::engine;
 use evc_task::Task;
+use rows_parts::{
+    BUFFER, OVERTAKEN_READ, TICKET_AND_AWAIT_WITH_SCHEDULE, UNDER_WAY, UNDER_WAY_IN_TWO,
+};
 use std::alloc::Global;
 use std::sync::Wait;
 use std::test::Fail;
@@ -79,7 +81,7 @@ static SIMULATED: [Worked; 2] = [
     },
     Worked {
         task: Task::Sim,
-        text: TICKET_AND_AWAIT,
+        text: TICKET_AND_AWAIT_WITH_SCHEDULE,
         out: TICKET_AND_AWAIT_TRACE,
         notes: "outcome a finished\noutcome c finished\n",
     },

@@ -1,7 +1,7 @@
 //! A heading, line by line, and what is seen of it then.
-use crate::ids::{cell, event, sequencer, worker};
 use ec_count::Target;
 use ec_trace::{Group, HeadFault, Heading, Version};
+use rows_parts::{cell, event, sequencer, worker};
 use std::alloc::Global;
 use std::test::Fail;
 

@@ -17,8 +17,6 @@ mod form_tests;
 #[cfg(test)]
 mod heading_tests;
 #[cfg(test)]
-mod ids;
-#[cfg(test)]
 mod memory_tests;
 #[cfg(test)]
 mod note_tests;

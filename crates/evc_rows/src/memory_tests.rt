@@ -1,10 +1,11 @@
 //! Commands called on bytes in memory.
 use crate::fakes::{Fickle, Trouble};
-use crate::texts::{BUFFER, BUFFER_AUDIT, IDLE, TICKETS};
+use crate::texts::{BUFFER_AUDIT, IDLE, TICKETS};
 use ec_text::Out;
 use evc_engine::{Status, audit, check};
 use evc_scripts::engine_without_threads;
 use evc_task::Task;
+use rows_parts::BUFFER;
 
 #[test]
 fn an_audit_of_bytes_in_memory(rt: HostRuntime) {

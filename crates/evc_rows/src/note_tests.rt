@@ -1,10 +1,9 @@
 //! The note of a mismatch. No run is known to come to one, so the note is written by itself.
 use crate::fakes::{Fickle, Trouble};
-use crate::ids::worker;
-use crate::texts::OVERTAKEN_READ;
 use crate::writing_tests::read;
 use ec_text::Out;
 use evc_scripts::note_mismatch;
+use rows_parts::{OVERTAKEN_READ, worker};
 use std::alloc::Global;
 use std::io::Write;
 use std::test::Fail;

@@ -1,7 +1,10 @@
 //! The texts that the tests are given.
 
-/// A read after three advances.
-pub(crate) const THREE_ADVANCES: &str = "evc-trace 1
+/// A trace of three advances, and an entry behind them.
+macro_rules! behind_three_advances {
+    ($entry:literal) => {
+        concat!(
+            "evc-trace 1
 limit 10
 workers a c
 eventcount E signal a observe c
@@ -9,36 +12,20 @@ run
 a advance E = done
 a advance E = done
 a advance E = done
-c read E = 3
-end
-";
+",
+            $entry,
+            "\nend\n"
+        )
+    };
+}
+
+/// A read after three advances.
+pub(crate) const THREE_ADVANCES: &str = behind_three_advances!("c read E = 3");
 
 /// The same with a step in the place of the read, where no call is under way.
-pub(crate) const IDLE: &str = "evc-trace 1
-limit 10
-workers a c
-eventcount E signal a observe c
-run
-a advance E = done
-a advance E = done
-a advance E = done
-c go = 3
-end
-";
+pub(crate) const IDLE: &str = behind_three_advances!("c go = 3");
 
-/// A read reads its first component before one advance and its second after two.
-pub(crate) const OVERTAKEN_READ: &str = "evc-trace 1
-limit 10
-workers a b c d
-eventcount E signal a b observe c d
-run
-c read E = pending
-a advance E = done
-b advance E = done
-c go = 1
-end
-";
-
+/// The order of the overtaken read.
 pub(crate) const OVERTAKEN_READ_ORDER: &str = "evc-order 1
 1 a advance E = done
 2 c read E = 1
@@ -48,69 +35,7 @@ eventcount E 2
 end
 ";
 
-/// The same, with the read still under way.
-pub(crate) const UNDER_WAY: &str = "evc-trace 1
-limit 10
-workers a b c d
-eventcount E signal a b observe c d
-run
-c read E = pending
-a advance E = done
-b advance E = done
-end
-";
-
-/// And in version 2.
-pub(crate) const UNDER_WAY_IN_TWO: &str = "evc-trace 2
-limit 10
-workers a b c d
-eventcount E signal a b observe c d
-run
-c read E = pending
-a advance E = done
-b advance E = done
-end
-";
-
-/// Two producers and two consumers of a buffer of one cell, each with one item.
-pub(crate) const BUFFER: &str = "evc-trace 1
-limit 10
-workers a b c d
-buffer B 1 produce a b consume c d
-run
-a ticket B.put = 0
-b ticket B.put = 1
-a await B.in 0 = pending
-a go = 0
-a await B.out 0 = pending
-a go = 0
-a put B[0] 7 = done
-a advance B.in = done
-b await B.in 1 = pending
-b go = 1
-b await B.out 1 = pending
-b go = pending
-c ticket B.take = 0
-c await B.out 0 = pending
-c go = 0
-c await B.in 1 = pending
-c go = 1
-c get B[0] = 7
-c advance B.out = done
-b go = pending
-b go = 1
-b put B[0] 8 = done
-b advance B.in = done
-d ticket B.take = 1
-d await B.out 1 = pending
-d go = 1
-d await B.in 2 = pending
-d go = 2
-d get B[0] = 8
-d advance B.out = done
-end
-";
-
+/// What the buffer of one cell has delivered.
 pub(crate) const BUFFER_AUDIT: &str = "evc-audit 1
 delivery B 0 a c 7
 delivery B 1 b d 8
@@ -155,24 +80,7 @@ a advance Turn = done
 end
 ";
 
-/// A worker that advances twice, and one that waits for one more than its ticket.
-pub(crate) const TICKET_AND_AWAIT: &str = "evc-script 1
-limit 10
-workers a c
-eventcount E signal a observe c
-sequencer T take c
-worker a
-advance E
-advance E
-end
-worker c
-ticket T
-await E last+1
-read E
-end
-schedule c c a c a c
-";
-
+/// What comes of the schedule of the script of a ticket and an await.
 pub(crate) const TICKET_AND_AWAIT_TRACE: &str = "evc-trace 1
 limit 10
 workers a c

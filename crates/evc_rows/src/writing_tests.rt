@@ -1,10 +1,10 @@
 //! Traces and entries as they are written.
 use crate::fakes::{Fickle, Trouble};
-use crate::ids::{event, worker};
-use crate::texts::{OVERTAKEN_READ, THREE_ADVANCES};
+use crate::texts::THREE_ADVANCES;
 use ec_core::{Act, Entry, Reply};
 use ec_text::WriteFault;
 use ec_trace::{Heading, Traced, read_trace, write_entry, write_trace};
+use rows_parts::{OVERTAKEN_READ, event, worker};
 use std::alloc::Global;
 use std::test::Fail;
 

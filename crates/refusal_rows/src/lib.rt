@@ -5,24 +5,4 @@
 #![tactic(auto)]
 
 #[cfg(test)]
-mod heading_tests;
-#[cfg(test)]
-mod ids;
-#[cfg(test)]
-mod lent_tests;
-#[cfg(test)]
-mod names_tests;
-#[cfg(test)]
-mod opening_tests;
-#[cfg(test)]
-mod script_tests;
-#[cfg(test)]
-mod steps_tests;
-#[cfg(test)]
-mod task_tests;
-#[cfg(test)]
-mod texts;
-#[cfg(test)]
-mod way;
-#[cfg(test)]
-mod worker_tests;
+mod tests;
