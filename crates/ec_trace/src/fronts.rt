@@ -56,17 +56,11 @@ fn none_at(alloc: Global, places: usize) -> Result<Vec<Front>, AllocError>
     Ok(slots)
 }
 
-/// The place of a mark among so many, of which there are 2, 4, 8 and so on.
-#[inline(always)]
-fn place_of(mark: usize, places: usize) -> usize {
-    mark & places.wrapping_sub(1)
-}
-
 /// Puts a front at one of its two places: at the first where that is free, else at the second.
 fn put(slots: &mut Vec<Front>, known: Front)
     ensures { (names : Named) → AreKept names slots.old.items → IsKept names known → AreKept names slots.new.items }
 {
-    let first = place_of(known.key.mark(), slots.len());
+    let first = known.key.place(slots.len());
     let place = match slots.get(first) {
         Some(held) if held.key.is_some() => first ^ 1,
         _ => first,
@@ -128,12 +122,12 @@ impl Fronts {
         }
     }
 
-    /// The front at the place of a mark, where it has this key.
+    /// The front at a place, where it has this key.
     #[inline(always)]
-    fn at(&self, mark: usize, key: &Key) -> Option<&Front>
+    fn at(&self, place: usize, key: &Key) -> Option<&Front>
         ensures { (names : Named) → AreKept names self.now → 4 ≤ key.now.len → IfSome result (λ f. Tells names (text_of key.now) f.now.worker f.now.act) }
     {
-        match self.slots.get(place_of(mark, self.slots.len())) {
+        match self.slots.get(place) {
             Some(known) if known.key.is(key) => Some(known),
             _ => None,
         }
@@ -146,10 +140,10 @@ impl Fronts {
         ensures { (names : Named) → AreKept names self.now → IfSome result (λ f. Tells names front.now f.now.worker f.now.act) }
     {
         let key = Key::of(front)?;
-        let mark = key.mark();
-        match self.at(mark, &key) {
+        let place = key.place(self.slots.len());
+        match self.at(place, &key) {
             Some(known) => Some(known),
-            None => self.at(mark ^ 1, &key),
+            None => self.at(place ^ 1, &key),
         }
     }
 

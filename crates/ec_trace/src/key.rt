@@ -109,15 +109,16 @@ impl Key {
             && self.len == other.len
     }
 
-    /// A mark of the key, below 65536, that depends on all of its words. Two keys mostly have different marks.
+    /// The key's place among so many, of which there are 2, 4, 8 and so on up to 65536. It depends on all words of the key: two keys
+    /// mostly have different places.
     #[inline(always)]
-    pub(crate) fn mark(&self) -> usize {
+    pub(crate) fn place(&self, places: usize) -> usize {
         let head = self.first.wrapping_add(self.second.wrapping_mul(9));
         let tail = self.last.wrapping_add(self.third.wrapping_mul(9));
         let mixed = head
             .wrapping_mul(0x9E37_79B9_7F4A_7C15)
             .wrapping_add(tail.wrapping_mul(0xC2B2_AE3D_27D4_EB4F));
-        (mixed >> 48) as usize
+        (mixed >> 48) as usize & places.wrapping_sub(1)
     }
 }
 

@@ -16,20 +16,20 @@ use crate::lines::Lines;
 use crate::opening::{Opened, open_trace};
 use crate::traced::Traced;
 use ec_core::{Act, Entry, Reply, Run, StepFault};
-use ec_heading::{Heading, Version};
+use ec_heading::Heading;
 use std::alloc::Global;
 use std::io::Read;
 
 /// The most bytes that a trace may have.
 pub const TRACE_MAX: usize = 67_108_864;
 
-/// Whether a text of this version may have the act.
+/// Whether a text of the heading's version may have the act.
 #[inline(always)]
-fn can_spell(version: Version, act: &Act) -> bool
-    ensures { result ≡ can_spell version act.now }
+fn can_spell(heading: &Heading, act: &Act) -> bool
+    ensures { result ≡ can_spell heading.now.version act.now }
 {
     match *act {
-        Act::Hand(_, _) => version.has_hand(),
+        Act::Hand(_, _) => heading.version().has_hand(),
         _ => true,
     }
 }
@@ -52,7 +52,7 @@ fn fault_at(number: u64, fault: StageFault) -> TraceFault
 fn enter<H: History>(heading: &Heading, history: &mut H, entry: &Entry) -> Result<(), StageFault>
     ensures { (line : List ℕ) → entry_of heading.now.words line ≡ Some entry.now → TakesLine H.stands heading.now history.old history.new line result }
 {
-    if !can_spell(heading.version(), &entry.act) {
+    if !can_spell(heading, &entry.act) {
         return Err(StageFault::Line(LineFault::Bad));
     }
     match history.enter(entry.worker, entry.act) {
