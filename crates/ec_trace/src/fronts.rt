@@ -307,7 +307,7 @@ pub(crate) fn cut_reply(line: &[u8]) -> Option<(&[u8], Reply)>
 }
 
 /// Where the space is before the digits that a text ends in.
-#[inline(always)]
+#[inline(never)]
 #[tactic(auto, using(crate::proofs::FrontLemmas::last_cuts))]
 fn space_before_number(text: &[u8]) -> Option<usize>
     ensures within { IfSome result (λ place. place < length text.now) }
