@@ -9,7 +9,7 @@ ghost use Rattle.ec_heading.specs.declared.group.Group.TheVariants as groups;
 use crate::Window;
 use ec_core::{Act, Audit, AuditFault, Entry, Run};
 use ec_count::{EventId, Setup};
-use ec_database::{Accepted, DatabaseShape, VersionAudit, is_on};
+use ec_database::{Accepted, DatabaseShape, TryView, VersionAudit, is_on};
 use std::alloc::{AllocError, Global};
 use std::marker::Model;
 
@@ -70,20 +70,15 @@ fn note_start(
 /// Adds a shade, if it is shown.
 fn add_shade(
     shades: &mut Vec<Shade>,
-    accepted: &Accepted,
+    accepted: &TryView<'_>,
     count: EventId,
     window: Window,
     span: Span,
 ) -> Result<(), AllocError>
-    ensures { OnOk result (map seen shades.new.items ≡ map seen shades.old.items ++ filter (is_in window) (seen (record { count = count; span = span; accepted = accepted.now }) ∷ [])) }
+    ensures { OnOk result (map seen shades.new.items ≡ map seen shades.old.items ++ filter (is_in window) (shaded count span accepted.now ∷ [])) }
 {
     if window.meets(span.first, span.last) {
-        let values = Vec::from_slice(*shades.allocator(), accepted.values.as_slice())?;
-        let accepted = Accepted {
-            worker: accepted.worker,
-            version: accepted.version,
-            values,
-        };
+        let accepted = accepted.to_accepted(*shades.allocator())?;
         shades.push(Shade {
             count,
             span,
@@ -111,7 +106,7 @@ fn add_newest(
         return Err(AllocError);
     }
     if let Some(accepted) = audit.accepted(place) {
-        add_shade(shades, accepted, count, window, span)?;
+        add_shade(shades, &accepted, count, window, span)?;
     }
     Ok(())
 }

@@ -233,6 +233,41 @@ fn a_reader_alone(rt: HostRuntime) -> Result<(), Fail> {
     shows(rt.alloc(), 1, &READER_ALONE)
 }
 
+/// A value that takes more than 32 bits.
+const LARGE: u64 = 1 << 40;
+
+static LARGE_VALUE: [Row; 2] = [
+    Row::Steps(&[
+        (1, Read(0), Number(0)),
+        (1, Await(1, 0), Number(0)),
+        (1, Get(0), Number(0)),
+        (1, Get(1), Number(0)),
+        (1, Read(0), Number(0)),
+        (0, Advance(0), Done),
+        (0, Ticket(0), Number(0)),
+        (0, Await(1, 0), Number(0)),
+        (0, Put(0, 5), Done),
+        (0, Put(1, LARGE), Done),
+        (0, Advance(1), Done),
+        (1, Read(0), Number(1)),
+        (1, Await(1, 1), Number(1)),
+        (1, Get(0), Number(5)),
+        (1, Get(1), Number(LARGE)),
+        (1, Read(0), Number(1)),
+        (1, Read(0), Number(1)),
+        (1, Await(1, 1), Number(1)),
+        (1, Get(0), Number(5)),
+        (1, Get(1), Number(LARGE)),
+        (1, Read(0), Number(1)),
+    ]),
+    Row::Versions(&[(0, &[0, 0]), (1, &[5, LARGE]), (1, &[5, LARGE])]),
+];
+
+#[test]
+fn a_large_value_after_small_ones(rt: HostRuntime) -> Result<(), Fail> {
+    shows(rt.alloc(), 1, &LARGE_VALUE)
+}
+
 static EARLY_GET: [Row; 2] = [
     Row::Steps(&[(1, Read(0), Number(0)), (1, Get(0), Number(0))]),
     Row::Breaks(1),
