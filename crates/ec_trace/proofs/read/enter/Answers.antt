@@ -11,12 +11,12 @@ use Rattle.ec_trace.proofs.read.enter.Goals as goal
 pub returns-then-not-can_spell : goal.returns-then-not-can_spell
 returns-then-not-can_spell g c = λ line spells first entries stands.
     other_version (record { heading = c.args.heading.now; entries = entries }) line _ spells
-    (ap (λ v. can_spell v c.args.entry.now.act) (sym c.version.ensures) ∙ sym c.if-not-can_spell.ensures)
+    (sym c.if-not-can_spell.ensures)
 
 pub returns-then-eq : goal.returns-then-eq
 returns-then-eq g c = λ line spells first entries stands.
     let t : Recounted = record { heading = c.args.heading.now; entries = entries } in
-    let may : can_spell c.args.heading.now.version c.args.entry.now.act ≡ true = ap (λ v. can_spell v c.args.entry.now.act) (sym c.version.ensures) ∙ sym c.if-not-can_spell.ensures in
+    let may : can_spell c.args.heading.now.version c.args.entry.now.act ≡ true = sym c.if-not-can_spell.ensures in
     let same : same_reply c.in-Ok.right c.args.entry.now.reply ≡ true = search rules in
     let entered = c.in-Ok.ensures first (history_of c.args.heading.now entries) stands in (
       entries ++ c.args.entry.now ∷ [],
@@ -27,7 +27,7 @@ returns-then-eq g c = λ line spells first entries stands.
 pub returns-else-eq : goal.returns-else-eq
 returns-else-eq g c = λ line spells first entries stands.
     let t : Recounted = record { heading = c.args.heading.now; entries = entries } in
-    let may : can_spell c.args.heading.now.version c.args.entry.now.act ≡ true = ap (λ v. can_spell v c.args.entry.now.act) (sym c.version.ensures) ∙ sym c.if-not-can_spell.ensures in
+    let may : can_spell c.args.heading.now.version c.args.entry.now.act ≡ true = sym c.if-not-can_spell.ensures in
     let other : same_reply c.in-Ok.right c.args.entry.now.reply ≡ false = search rules in
     let entered = c.in-Ok.ensures first (history_of c.args.heading.now entries) stands in
     reply_wrong t line _ spells c.in-Ok.right may entered.0 other
@@ -35,7 +35,7 @@ returns-else-eq g c = λ line spells first entries stands.
 pub returns-in-Err-Refused : goal.returns-in-Err-Refused
 returns-in-Err-Refused g c = λ line spells first entries stands.
     let t : Recounted = record { heading = c.args.heading.now; entries = entries } in
-    let may : can_spell c.args.heading.now.version c.args.entry.now.act ≡ true = ap (λ v. can_spell v c.args.entry.now.act) (sym c.version.ensures) ∙ sym c.if-not-can_spell.ensures in
+    let may : can_spell c.args.heading.now.version c.args.entry.now.act ≡ true = sym c.if-not-can_spell.ensures in
     let entered : Enters (g.H.History.stands first c.enter.new.self) (history_of c.args.heading.now entries) c.args.entry.now.worker c.args.entry.now.act (Err (Refused c.in-Err-Refused.refusal)) =
     subst (λ f. Enters (g.H.History.stands first c.enter.new.self) (history_of c.args.heading.now entries) c.args.entry.now.worker c.args.entry.now.act (Err f)) c.in-Err-Refused.field-0-is (c.in-Err-Refused.ensures first (history_of c.args.heading.now entries) stands) in
     entry_refused t line _ spells c.in-Err-Refused.refusal may entered.0 ∙ ap (λ r. Err (line_faults.Refused r)) (sym c.in-Err-Refused.refusal-is)
