@@ -1,8 +1,8 @@
 //! Databases: how they are declared, worked histories, and runs made by procedures.
 ghost use Rattle.std.specs.Prelude.{◌≡◌, ◌<◌};
 
-use crate::drive::Ask::{Await, Get, Read};
-use crate::drive::Told::Number;
+use crate::drive::Ask::{Advance, Await, Get, Put, Read, Ticket};
+use crate::drive::Told::{Done, Number};
 use crate::drive::{
     Line, Step, TWO_WORKERS, World, are_right, declared, go_on, is_entry, right, run_on,
 };
