@@ -21,6 +21,7 @@ impl Model for CellId {
 
 impl CellId {
     /// The id of cell n; None where n is above 255.
+    #[inline(always)]
     pub fn new(n: usize) -> Option<Self>
         ensures variant { IsSome result ↔ (n < 256) }
         ensures value { IfSome result (λ i. i ≡ n) }
@@ -33,6 +34,7 @@ impl CellId {
     }
 
     /// Its number, from 0 to 255.
+    #[inline(always)]
     pub fn get(self) -> usize
         ensures value { result ≡ self }
         ensures small { result < 256 }

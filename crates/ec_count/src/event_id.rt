@@ -21,6 +21,7 @@ impl Model for EventId {
 
 impl EventId {
     /// The id of eventcount n; None where n is above 31.
+    #[inline(always)]
     pub fn new(n: usize) -> Option<Self>
         ensures variant { IsSome result ↔ (n < 32) }
         ensures value { IfSome result (λ i. i ≡ n) }
@@ -33,6 +34,7 @@ impl EventId {
     }
 
     /// Its number, from 0 to 31.
+    #[inline(always)]
     pub fn get(self) -> usize
         ensures value { result ≡ self }
         ensures small { result < 32 }

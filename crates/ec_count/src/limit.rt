@@ -33,6 +33,7 @@ impl Limit {
     }
 
     /// Its number, from 1 to 281474976710655.
+    #[inline(always)]
     pub fn get(self) -> u64
         ensures value { result ≡ self }
         ensures range { (1 ≤ result) × (result < 2 ^ 48) }

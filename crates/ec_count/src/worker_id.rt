@@ -21,6 +21,7 @@ impl Model for WorkerId {
 
 impl WorkerId {
     /// The id of worker n; None where n is above 15.
+    #[inline(always)]
     pub fn new(n: usize) -> Option<Self>
         ensures variant { IsSome result ↔ (n < 16) }
         ensures value { IfSome result (λ i. i ≡ n) }
@@ -33,6 +34,7 @@ impl WorkerId {
     }
 
     /// Its number, from 0 to 15.
+    #[inline(always)]
     pub fn get(self) -> usize
         ensures value { result ≡ self }
         ensures small { result < 16 }

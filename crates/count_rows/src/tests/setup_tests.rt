@@ -53,6 +53,10 @@ fn another_worker_in_a_place(rt: HostRuntime) {
     members.replace(1, third);
     assert!(rt; members.get(0) == Some(first) && members.get(1) == Some(third));
     assert!(rt; members.len() == 2 && !members.contains(second));
+    assert!(rt; members.contains(first) && members.contains(third));
+    members.replace(0, second);
+    assert!(rt; members == Members::new(&[second, third]));
+    assert!(rt; members.contains(second) && !members.contains(first));
 }
 
 fn worker_number(n: usize) -> Option<usize> {

@@ -97,7 +97,8 @@ found_there w i c (x ∷ ws) h =
       | false ↦ λ e g. (let r = found_there w (i + 1) c ws g in let at : c ≡ i + 1 + r.0 = r.1 in (suc r.0, omega arith, r.2))
     ] refl h
 
-member_at : (w : ℕ) (ws : List ℕ) (k v : ℕ) → is_member w ws ≡ false → slice_get ws k ≡ Some v → (w == v) ≡ false
+-- who is no member stands at no place
+pub member_at : (w : ℕ) (ws : List ℕ) (k v : ℕ) → is_member w ws ≡ false → slice_get ws k ≡ Some v → (w == v) ≡ false
 member_at w [] k v h at = cc
 member_at w (x ∷ ws) zero v h at =
     let p = or_parts (x == w) (is_member w ws) h in

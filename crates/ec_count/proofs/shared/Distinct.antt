@@ -1,5 +1,5 @@
 -- Putting a new worker in a place keeps the workers different.
-use Rattle.std.proofs.Common.{◌≡◌, ℕ, zero, suc, Bool, false, ◌||◌, List, [], ◌∷◌, refl, slice_set, ◌==◌, arith, take, drop, length, ◌++◌}
+use Rattle.std.proofs.Common.{◌≡◌, ℕ, zero, suc, false, List, [], ◌∷◌, refl, slice_set, ◌==◌, arith, take, drop, length, ◌++◌}
 use Rattle.std.proofs.lemmas.Grind.{common_steps}
 use Rattle.std.proofs.lemmas.Bool.{or_parts, or_from}
 use Rattle.ec_count.specs.Members.{is_member, has_repeat}
@@ -12,7 +12,7 @@ member_set v w (x ∷ xs) (suc i) h k =
     let n = or_parts (x == v) (is_member v xs) h in
     or_from (x == v) (is_member v (slice_set xs i w)) n.0 (member_set v w xs i n.1 k)
 
-eq_sym : (a b : ℕ) → (a == b) ≡ false → (b == a) ≡ false
+pub eq_sym : (a b : ℕ) → (a == b) ≡ false → (b == a) ≡ false
 eq_sym a b h = grind arith
 
 pub set_distinct : (ws : List ℕ) (i w : ℕ) → is_member w ws ≡ false → has_repeat ws ≡ false → has_repeat (slice_set ws i w) ≡ false

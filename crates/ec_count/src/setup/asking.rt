@@ -8,6 +8,7 @@ use crate::{CellId, EventId, Limit, SeqId, WorkerId};
 
 impl Setup {
     /// The limit of each component and each sequencer.
+    #[inline(always)]
     pub fn limit(&self) -> Limit
         ensures { result ≡ self.now.limit }
     {
@@ -15,6 +16,7 @@ impl Setup {
     }
 
     /// How many workers are declared.
+    #[inline(always)]
     pub fn workers(&self) -> usize
         ensures value { result ≡ self.now.workers }
         ensures few { result ≤ 16 }
@@ -23,6 +25,7 @@ impl Setup {
     }
 
     /// How many eventcounts are declared.
+    #[inline(always)]
     pub fn events(&self) -> usize
         ensures { result ≡ length self.now.events }
     {
@@ -30,6 +33,7 @@ impl Setup {
     }
 
     /// How many sequencers are declared.
+    #[inline(always)]
     pub fn sequencers(&self) -> usize
         ensures { result ≡ length self.now.takers }
     {
@@ -37,6 +41,7 @@ impl Setup {
     }
 
     /// How many cells are declared.
+    #[inline(always)]
     pub fn cells(&self) -> usize
         ensures { result ≡ length self.now.cells }
     {
@@ -44,6 +49,7 @@ impl Setup {
     }
 
     /// How many components an eventcount has; None where it is not declared.
+    #[inline(always)]
     pub fn components(&self, event: EventId) -> Option<usize>
         ensures value { result ≡ components self.now event }
         ensures few { IfSome result (λ n. n ≤ 16) }
@@ -71,6 +77,7 @@ impl Setup {
     }
 
     /// Whether the worker may read and await the eventcount.
+    #[inline(always)]
     pub fn may_observe(&self, event: EventId, worker: WorkerId) -> bool
         ensures { result ≡ may_observe self.now event worker }
     {
@@ -81,6 +88,7 @@ impl Setup {
     }
 
     /// Whether the eventcount is declared and not fixed, as `add_event` adds it.
+    #[inline(always)]
     pub fn may_hand(&self, event: EventId) -> bool
         ensures { result ≡ may_hand self.now event }
     {
@@ -91,6 +99,7 @@ impl Setup {
     }
 
     /// Whether the worker may draw tickets of the sequencer.
+    #[inline(always)]
     pub fn may_take(&self, sequencer: SeqId, worker: WorkerId) -> bool
         ensures { result ≡ may_take self.now sequencer worker }
     {
@@ -101,6 +110,7 @@ impl Setup {
     }
 
     /// Whether the worker may put into the cell.
+    #[inline(always)]
     pub fn may_write(&self, cell: CellId, worker: WorkerId) -> bool
         ensures { result ≡ may_write self.now cell worker }
     {
@@ -111,6 +121,7 @@ impl Setup {
     }
 
     /// Whether the worker may get the cell's value.
+    #[inline(always)]
     pub fn may_read(&self, cell: CellId, worker: WorkerId) -> bool
         ensures { result ≡ may_read self.now cell worker }
     {
