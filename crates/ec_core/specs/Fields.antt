@@ -1,6 +1,6 @@
 -- What a step does to the fields of a world: plain functions of them, below the definitions over a history.
 use Rattle.std.specs.Prelude.{◌≡◌, ℕ, ◌+◌, ◌<◌, Bool, false, ◌==◌, nat_le, List, [], ◌∷◌, ◌++◌, reverse, Ok, Option, Some, None, is_some, if◌then◌else◌, slice_get, slice_set, slice_index, Result, unwrap_or}
-use Rattle.std.specs.Option.{option_map_or}
+use Rattle.std.specs.Option.{option_map, option_map_or}
 use Rattle.ec_count.specs.Members.{place_of, is_member}
 use Rattle.ec_count.specs.Counted.{Counted, raised}
 use Rattle.ec_core.specs.declared.act.Act.{Act}
@@ -11,12 +11,14 @@ use Rattle.ec_core.specs.declared.act.Entry.{Entry}
 use Rattle.ec_core.specs.declared.act.Refusal.{Refusal}
 use Rattle.ec_core.specs.declared.effect.Effect.{Effect}
 use Rattle.ec_core.specs.declared.effect.Effect.TheVariants as effects
-use Rattle.ec_core.specs.Progress.{Progress}
+use Rattle.ec_core.specs.Progress.{Progress, RoundSoFar}
 use Rattle.ec_core.specs.Counts.{replaced}
 use Rattle.ec_core.specs.Rounds.{event_or, width, round_reply}
 use Rattle.ec_core.specs.declared.act.TheConstants.{VALUE_MAX}
 use Rattle.ec_core.specs.Acceptance.{refused_or, refusal_in, has_right, answer_of}
 use Rattle.ec_core.specs.Standing.{State, count_at, StandsFor}
+use Rattle.ec_core.specs.Calls.{under_way}
+use Rattle.ec_core.specs.Following.{opened}
 use Rattle.ec_core.specs.Values.{TellsAtMost}
 use Rattle.ec_core.specs.Procedures.{IsReply}
 
@@ -59,19 +61,29 @@ abbrev pub value_of : Option Counted → ℕ
 value_of None = 0
 value_of (Some n) = n.value
 
-abbrev pub after_round : Act → Reply → Option Progress
-after_round op Pending = Some (record { op = op; index = 0; sum = 0 })
-after_round op _ = None
+-- what a read comes to that is told this: the call goes on with this round, unless it ends
+abbrev pub read_with : Reply → RoundSoFar → Effect
+read_with (Number n) r = effects.End n
+read_with _ r = effects.GoOn r
 
--- what one more read comes to: the reply, and the call that it leaves under way
+-- what one more read of a call comes to that is under way
 abbrev pub one_read : Act → ℕ → ℕ → ℕ → Effect
 one_read op width index sum =
     if nat_le width (index + 1)
-    then effects.Read (round_reply op sum) (after_round op (round_reply op sum))
-    else effects.Read Pending (Some (record { op = op; index = index + 1; sum = sum }))
+    then read_with (round_reply op sum) (record { index = 0; sum = 0 })
+    else effects.GoOn (record { index = index + 1; sum = sum })
 
 abbrev pub begun : Act → Progress
 begun op = record { op = op; index = 0; sum = 0 }
+
+-- the call once its round has come so far
+abbrev pub gone_to : RoundSoFar → Progress → Progress
+gone_to r u = record { op = u.op; index = r.index; sum = r.sum }
+
+-- what a read comes to as the first of a call, given what it would come to in a call under way
+abbrev pub as_first : Progress → Effect → Effect
+as_first u (effects.GoOn r) = effects.Begin (gone_to r u)
+as_first u e = e
 
 abbrev pub next_read : State → Progress → Effect
 next_read s u = one_read u.op (width s.setup (event_or u.op)) u.index (value_of (count_at s.counts (event_or u.op) u.index) + u.sum)
@@ -79,9 +91,9 @@ next_read s u = one_read u.op (width s.setup (event_or u.op)) u.index (value_of 
 -- what an act of w comes to where nothing refuses it
 abbrev pub effect_in : State → ℕ → Act → Effect
 effect_in s w (Advance e) = effects.Raise e (unwrap_or (component_in s e w) 0)
-effect_in s w (Read e) = next_read s (begun (Read e))
-effect_in s w (Await e v) = next_read s (begun (Await e v))
-effect_in s w Go = option_map_or (next_read s) (kept_call s w) (effects.Read Pending None)
+effect_in s w (Read e) = as_first (begun (Read e)) (next_read s (begun (Read e)))
+effect_in s w (Await e v) = as_first (begun (Await e v)) (next_read s (begun (Await e v)))
+effect_in s w Go = option_map_or (next_read s) (kept_call s w) (effects.GoOn (record { index = 0; sum = 0 }))
 effect_in s w (Ticket q) = effects.Draw q (value_of (slice_get s.issued q))
 effect_in s w (Put x v) = effects.Put x v
 effect_in s w (Get x) = effects.Get (slice_index s.cells x)
@@ -90,7 +102,9 @@ effect_in s w (Hand e b) = effects.Hand e b
 -- the reply of it
 abbrev pub told : Effect → Reply
 told (effects.Raise e c) = Done
-told (effects.Read reply call) = reply
+told (effects.Begin u) = Pending
+told (effects.GoOn r) = Pending
+told (effects.End n) = Number n
 told (effects.Draw q n) = Number n
 told (effects.Put x v) = Done
 told (effects.Get n) = Number n
@@ -103,11 +117,23 @@ changed_at f xs i = option_map_or (λ x. slice_set xs i (f x)) (slice_get xs i) 
 -- the state after it
 abbrev pub changed : State → ℕ → Effect → State
 changed s w (effects.Raise e c) = record s { counts = changed_at (λ row. changed_at raised row c) s.counts e }
-changed s w (effects.Read reply call) = record s { calls = slice_set s.calls w call }
+changed s w (effects.Begin u) = record s { calls = slice_set s.calls w (Some u) }
+changed s w (effects.GoOn r) = record s { calls = changed_at (option_map (gone_to r)) s.calls w }
+changed s w (effects.End n) = record s { calls = slice_set s.calls w None }
 changed s w (effects.Draw q n) = record s { issued = changed_at raised s.issued q }
 changed s w (effects.Put x v) = record s { cells = slice_set s.cells x v }
 changed s w (effects.Get n) = s
 changed s w (effects.Hand e b) = record s { signal = changed_at (λ ws. replaced_new (place_of w ws) b ws) s.signal e }
+
+-- the act that began the call that an act of w is part of, where this call is under way
+abbrev pub op_in : State → ℕ → Act → Act
+op_in s w Go = option_map_or (λ u. u.op) (kept_call s w) Go
+op_in s w act = act
+
+-- the state in which the call that is read is still there: the one before a step that ends it, and the one after any other
+abbrev pub still_there : State → ℕ → Effect → State
+still_there s w (effects.End n) = s
+still_there s w e = changed s w e
 
 -- what each act of the program names
 abbrev pub IsNamed : Act → Type 0
@@ -125,10 +151,11 @@ abbrev pub planned : State → List Entry → ℕ → Act → Result Effect Refu
 planned s past w act =
     refused_or (refusal_in s.setup w act (is_some (kept_call s w)) (right_in s past w act) (is_full_for s w act) (already_in s act)) (effect_in s w act)
 
--- after a history it is the right step of w: what is told, how large and of what kind that is, and what the state after it
--- stands for
+-- after a history it is the right step of w: what is told, how large and of what kind that is, what the state after it
+-- stands for, and the act that began its call
 pub record IsRightStep (s : State) (h : List Entry) (w : ℕ) (act : Act) (e : Effect) : Type 0 where
   pub answer : answer_of s.setup (reverse h) w act ≡ Ok (told e)
   pub small : TellsAtMost VALUE_MAX (told e)
   pub kind : IsReply act (told e)
   pub after : StandsFor (changed s w e) (h ++ record { worker = w; act = act; reply = told e } ∷ [])
+  pub op : op_in (still_there s w e) w act ≡ opened act (under_way w (reverse h))

@@ -8,3 +8,8 @@ pub record Progress : Type 0 where
   pub op : Act
   pub index : ℕ
   pub sum : ℕ
+
+-- of it, how far its round has come
+pub record RoundSoFar : Type 0 where
+  pub index : ℕ
+  pub sum : ℕ

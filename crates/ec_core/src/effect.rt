@@ -1,7 +1,8 @@
 //! What a right step comes to.
 ghost use Rattle.std.specs.Prelude.{◌≡◌};
-ghost use Rattle.ec_core.specs.Fields.{told};
+ghost use Rattle.ec_core.specs.Fields.{told, as_first};
 
+use crate::under_way::Round;
 use crate::{Reply, UnderWay};
 use ec_count::{CellId, EventId, SeqId, WorkerId};
 
@@ -10,8 +11,12 @@ use ec_count::{CellId, EventId, SeqId, WorkerId};
 pub(crate) enum Effect {
     /// The component of the eventcount rises by one.
     Raise(EventId, usize),
-    /// A component is read: the reply, and the call that is left under way.
-    Read(Reply, Option<UnderWay>),
+    /// The first component of a call is read, which is left under way so.
+    Begin(UnderWay),
+    /// A component is read of the call under way, whose round has come so far then.
+    GoOn(Round),
+    /// The last component of a call is read: the sum, and no call is left under way.
+    End(u64),
     /// The sequencer's ticket of this number is drawn.
     Draw(SeqId, u64),
     /// The value is written into the cell.
@@ -24,13 +29,27 @@ pub(crate) enum Effect {
 
 impl Effect {
     /// What the worker is told.
+    #[inline(always)]
     pub(crate) fn reply(self) -> Reply
         ensures { result ≡ told self }
     {
         match self {
             Effect::Raise(_, _) | Effect::Put(_, _) | Effect::Hand(_, _) => Reply::Done,
-            Effect::Read(reply, _) => reply,
-            Effect::Draw(_, number) | Effect::Get(number) => Reply::Number(number),
+            Effect::Begin(_) | Effect::GoOn(_) => Reply::Pending,
+            Effect::End(number) | Effect::Draw(_, number) | Effect::Get(number) => {
+                Reply::Number(number)
+            }
+        }
+    }
+
+    /// What a read comes to as the first of this call, given what it would come to in a call under way.
+    #[inline(always)]
+    pub(crate) fn as_first(self, call: &UnderWay) -> Effect
+        ensures { result ≡ as_first call.now self }
+    {
+        match self {
+            Effect::GoOn(round) => Effect::Begin(call.at(round)),
+            other => other,
         }
     }
 }

@@ -1,12 +1,33 @@
 //! Calls under way, as a world keeps them.
 ghost use Rattle.std.specs.Prelude.{◌≡◌, ◌+◌, ◌*◌, ◌^◌, ◌<◌, ◌≤◌, IsSome, slice_get};
 ghost use Rattle.ec_core.specs.Rounds.{event_or, read_of};
-ghost use Rattle.ec_core.specs.Fields.{begun, one_read, value_of};
+ghost use Rattle.ec_core.specs.Fields.{begun, gone_to, one_read, value_of};
 
+use crate::Act;
 use crate::effect::Effect;
-use crate::{Act, Reply};
 use ec_count::{Count, EventId};
 use std::marker::Model;
+
+/// How far the round of a call has come: the component that the next Go reads, and the sum of those
+/// before it.
+#[derive(Clone, Copy)]
+pub(crate) struct Round {
+    index: usize,
+    sum: u64,
+}
+
+impl Model for Round {
+    ghost use Rattle.std.specs.Prelude.{◌*◌, ◌^◌, ◌<◌, ◌≤◌};
+    ghost use Rattle.ec_core.specs.Progress.{RoundSoFar};
+
+    ghost Value = { RoundSoFar };
+
+    ghost view = { λ r. record { index = r.index; sum = r.sum } };
+
+    ghost invariant = { λ r. (r.index < 16) × (r.sum ≤ r.index * 2 ^ 48) };
+
+    ghost inverse = { λ r. record { index = r.index; sum = r.sum } };
+}
 
 /// A call under way: the act that began it, the component that the next Go reads, and the sum of
 /// its round so far.
@@ -42,6 +63,26 @@ impl UnderWay {
             index: 0,
             sum: 0,
         }
+    }
+
+    /// The same call, whose round has come so far.
+    #[inline(always)]
+    pub(crate) fn at(&self, round: Round) -> Self
+        ensures { result ≡ gone_to round self.now }
+    {
+        UnderWay {
+            op: self.op,
+            index: round.index,
+            sum: round.sum,
+        }
+    }
+
+    /// Goes on: its round has come so far.
+    #[inline(always)]
+    pub(crate) fn go_on(&mut self, round: Round)
+        ensures { self.new ≡ gone_to round self.old }
+    {
+        (self.index, self.sum) = (round.index, round.sum);
     }
 
     /// The act that began it: a Read or an Await.
@@ -87,17 +128,16 @@ impl UnderWay {
         requires { width ≤ 16 }
         ensures { result ≡ one_read self.now.op width self.now.index (value_of (slice_get counts.now self.now.index) + self.now.sum) }
     {
-        let op = self.op;
         let index = self.index + 1;
         let sum = counts[self.index].value() + self.sum;
         if index < width {
-            return Effect::Read(Reply::Pending, Some(UnderWay { op, index, sum }));
+            return Effect::GoOn(Round { index, sum });
         }
-        match op {
+        match self.op {
             Act::Await(_, threshold) if sum < threshold => {
-                Effect::Read(Reply::Pending, Some(UnderWay::begun(op)))
+                Effect::GoOn(Round { index: 0, sum: 0 })
             }
-            _ => Effect::Read(Reply::Number(sum), None),
+            _ => Effect::End(sum),
         }
     }
 }

@@ -2,13 +2,15 @@
 ghost use Rattle.std.specs.Prelude.{reverse, true, false, if◌then◌else◌, nat_lt, ◌≡◌, ◌+◌, ◌*◌, ◌^◌, ◌<◌, ◌≤◌, List, [], ◌∷◌, ◌++◌, length, Some, None, Ok, Err, IfOk, IfSome, OnErr, MatchResult};
 ghost use Rattle.ec_core.specs.declared.act.Entry.{Entry};
 ghost use Rattle.ec_core.specs.Acceptance.{answer_of, refused_or, refusal_in};
-ghost use Rattle.ec_core.specs.Calls.{is_go};
+ghost use Rattle.std.specs.Option.{option_map};
+ghost use Rattle.ec_core.specs.Calls.{is_go, under_way};
+ghost use Rattle.ec_core.specs.Following.{opened};
 ghost use Rattle.ec_core.specs.Rounds.{width};
 ghost use Rattle.ec_core.specs.Counts.{total, signaller_at, component_at, component_total, issued, cell_value};
 ghost use Rattle.ec_core.specs.Standing.{StandsFor, progress_of};
 ghost use Rattle.ec_core.specs.Values.{TellsAtMost};
 ghost use Rattle.ec_core.specs.Procedures.{IsReply};
-ghost use Rattle.ec_core.specs.Fields.{kept_call, component_in, right_in, already_in, is_full_for, next_read, effect_in, planned, changed, IsNamed, IsRightStep};
+ghost use Rattle.ec_core.specs.Fields.{kept_call, component_in, right_in, already_in, is_full_for, next_read, effect_in, planned, changed, gone_to, op_in, still_there, IsNamed, IsRightStep};
 
 use crate::effect::Effect;
 use crate::fields::{
@@ -16,6 +18,7 @@ use crate::fields::{
     raise_in, same_again, sum_of, width,
 };
 use crate::signallers::Signallers;
+use crate::under_way::Round;
 use crate::{Act, Entry, Refusal, Reply, UnderWay, VALUE_MAX};
 use ec_count::{CellId, Count, EventId, SeqId, Setup, WorkerId};
 use std::marker::Model;
@@ -26,6 +29,23 @@ fn refuse_if(test: bool, refusal: Refusal) -> Result<(), Refusal>
     ensures { MatchResult result (λ x. test ≡ false) (λ r. (test ≡ true) × (r ≡ refusal)) }
 {
     if test { Err(refusal) } else { Ok(()) }
+}
+
+/// The call goes on, if there is one: its round has come so far.
+#[inline(always)]
+fn go_on(call: &mut Option<UnderWay>, round: Round)
+    ensures { call.new ≡ option_map (gone_to round) call.old }
+{
+    if let Some(call) = call {
+        call.go_on(round);
+    }
+}
+
+/// A step that was made: the act that began the call that it is part of, and what the worker was told.
+#[derive(Clone, Copy, Debug, PartialEq, Eq)]
+pub struct Step {
+    pub op: Act,
+    pub reply: Reply,
 }
 
 /// The state of a kernel: who signals now, its counts, cells and calls under way.
@@ -204,7 +224,9 @@ impl World {
             Act::Read(event) | Act::Await(event, _) => {
                 refuse_if(!self.setup.may_observe(event, worker), Refusal::NoRight)?;
                 refuse_if(is_too_large(act), Refusal::ValueTooLarge)?;
-                Ok(self.read(&UnderWay::begun(*act)))
+                let call = UnderWay::begun(*act);
+                let effect = self.read(&call);
+                Ok(effect.as_first(&call))
             }
             Act::Go => Err(Refusal::Idle),
             Act::Ticket(sequencer) => {
@@ -240,8 +262,8 @@ impl World {
         ensures is { (past : List Entry) → result ≡ planned self.now past worker act }
     {
         refuse_if(worker.get() >= self.setup.workers(), Refusal::UnknownWorker)?;
-        match (self.calls[worker.get()], act) {
-            (Some(call), Act::Go) => Ok(self.read(&call)),
+        match (&self.calls[worker.get()], act) {
+            (Some(call), Act::Go) => Ok(self.read(call)),
             (Some(_), _) => Err(Refusal::Busy),
             (None, Act::Go) => Err(Refusal::Idle),
             (None, _) => self.begin(worker, &act),
@@ -266,13 +288,49 @@ impl World {
             Effect::Raise(event, component) => {
                 raise_in(&mut self.counts, event.get(), component);
             }
-            Effect::Read(_, call) => self.calls[worker.get()] = call,
+            Effect::Begin(call) => self.calls[worker.get()] = Some(call),
+            Effect::GoOn(round) => {
+                let call = &mut self.calls[worker.get()];
+                go_on(call, round);
+            }
+            Effect::End(_) => self.calls[worker.get()] = None,
             Effect::Draw(sequencer, _) => raise_at(&mut self.issued, sequencer.get()),
             Effect::Put(cell, value) => self.cells[cell.get()] = value,
             Effect::Get(_) => {}
             Effect::Hand(event, to) => {
                 let signallers = &mut self.signal[event.get()];
                 signallers.hand(worker, to);
+            }
+        }
+    }
+
+    /// The act that began the call that an act of the worker is part of, where this call is under way.
+    #[inline(always)]
+    fn begun_by(&self, worker: WorkerId, act: &Act) -> Act
+        ensures { result ≡ op_in self.now worker act.now }
+    {
+        match (*act, &self.calls[worker.get()]) {
+            (Act::Go, Some(call)) => call.op(),
+            (other, _) => other,
+        }
+    }
+
+    /// Makes that change, and tells what began the call. It is asked where it costs least: a call that goes on keeps in place
+    /// what began it, so whoever has no use for it has it read in vain nowhere.
+    #[inline(always)]
+    fn make(&mut self, worker: WorkerId, act: &Act, effect: &Effect) -> Act
+        ensures change { self.new ≡ changed self.old worker effect.now }
+        ensures op { result ≡ op_in (still_there self.old worker effect.now) worker act.now }
+    {
+        match *effect {
+            Effect::End(_) => {
+                let op = self.begun_by(worker, act);
+                self.apply(worker, effect);
+                op
+            }
+            _ => {
+                self.apply(worker, effect);
+                self.begun_by(worker, act)
             }
         }
     }
@@ -301,8 +359,28 @@ impl World {
         ensures setup { self.new.setup ≡ self.old.setup }
         ensures err { OnErr result (self.new ≡ self.old) }
     {
+        match self.step_of_call(worker, act) {
+            Ok(step) => Ok(step.reply),
+            Err(refusal) => Err(refusal),
+        }
+    }
+
+    /// One step, as `step` makes it, told with the act that began its call.
+    #[inline(always)]
+    pub fn step_of_call(&mut self, worker: WorkerId, act: Act) -> Result<Step, Refusal>
+        ensures answer { (h : List Entry) → StandsFor self.old h
+            → MatchResult result (λ s. answer_of self.old.setup (reverse h) worker act ≡ Ok s.reply) (λ r. answer_of self.old.setup (reverse h) worker act ≡ Err r) }
+        ensures op { (h : List Entry) → StandsFor self.old h → IfOk result (λ s. s.op ≡ opened act (under_way worker (reverse h))) }
+        ensures after { (h : List Entry) → StandsFor self.old h
+            → IfOk result (λ s. StandsFor self.new (h ++ record { worker = worker; act = act; reply = s.reply } ∷ [])) }
+        ensures small { (h : List Entry) → StandsFor self.old h → IfOk result (λ s. TellsAtMost VALUE_MAX s.reply) }
+        ensures kind { (h : List Entry) → StandsFor self.old h → IfOk result (λ s. IsReply act s.reply) }
+        ensures setup { self.new.setup ≡ self.old.setup }
+        ensures err { OnErr result (self.new ≡ self.old) }
+    {
         let effect = self.plan(worker, &act)?;
-        self.apply(worker, &effect);
-        Ok(effect.reply())
+        let op = self.make(worker, &act, &effect);
+        let reply = effect.reply();
+        Ok(Step { op, reply })
     }
 }

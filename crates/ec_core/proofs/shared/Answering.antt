@@ -21,7 +21,8 @@ use Rattle.ec_core.specs.Rounds.{event_or, width, sum_read, next_component, roun
 use Rattle.ec_core.specs.Acceptance.{reply_of, answer_of, refusal_of, refused_or, has_right, is_at_limit, IsAccepted, names_unknown_object, is_too_large, is_not_handable, signals_already}
 use Rattle.ec_core.specs.Calls.{is_go}
 use Rattle.ec_core.specs.Standing.{State, Stands, count_at, shown, progress_of}
-use Rattle.ec_core.specs.Fields.{kept_call, component_in, right_in, already_in, is_full, is_full_for, value_of, one_read, after_round, next_read, IsNamed}
+use Rattle.ec_core.specs.Progress.{Progress, RoundSoFar}
+use Rattle.ec_core.specs.Fields.{kept_call, component_in, right_in, already_in, is_full, is_full_for, value_of, read_with, one_read, next_read, IsNamed}
 use Rattle.ec_core.proofs.shared.Signalling.{signallers_length}
 
 -- a place is within the list
@@ -205,23 +206,26 @@ mod_next n k h =
           suc-mod k n ∙ mod-eq_of_lt lt ∙ one)
     ] refl
 
-way_round : (op : Act) (r : Reply) (c : ℕ) (f : ℕ → ℕ) → c ≡ 0 → f 0 ≡ 0 → after_round op r ≡ cond (is_pending r) (Some (record { op = op; index = c; sum = f c })) None
-way_round op Pending c f e z = cc
-way_round op Done c f e z = refl
-way_round op (Number n) c f e z = refl
+-- how far the round of a call has come
+abbrev pub round_of : Progress → RoundSoFar
+round_of u = record { index = u.index; sum = u.sum }
+
+way_round : (reply : Reply) (c : ℕ) (f : ℕ → ℕ) → c ≡ 0 → f 0 ≡ 0 → read_with reply (record { index = 0; sum = 0 }) ≡ read_with reply (record { index = c; sum = f c })
+way_round Pending c f e z = cc
+way_round Done c f e z = cc
+way_round (Number n) c f e z = refl
 
 way_on : (op : Act) (b : Bool) (next c total : ℕ) (f : ℕ → ℕ) → next ≡ cond b 0 (c + 1) → f 0 ≡ 0 → f (c + 1) ≡ total
-    → cond b (effects.Read (round_reply op total) (after_round op (round_reply op total))) (effects.Read Pending (Some (record { op = op; index = c + 1; sum = total })))
-    ≡ effects.Read (cond b (round_reply op total) Pending) (cond (is_pending (cond b (round_reply op total) Pending)) (Some (record { op = op; index = next; sum = f next })) None)
-way_on op true next c total f e z g = ap (effects.Read (round_reply op total)) (way_round op (round_reply op total) next f e z)
+    → cond b (read_with (round_reply op total) (record { index = 0; sum = 0 })) (effects.GoOn (record { index = c + 1; sum = total }))
+    ≡ read_with (cond b (round_reply op total) Pending) (record { index = next; sum = f next })
+way_on op true next c total f e z g = way_round (round_reply op total) next f e z
 way_on op false next c total f e z g = cc
 
--- one more read tells what the history says, and leaves the call of the history under way
+-- one more read tells what the history says, and a call that goes on has come as far as the call of the history
 pub read_is : (s : State) (past : List Entry) (op : Act) (moments : List (List Entry)) → Stands s past → event_or op < 32
     → 0 < width s.setup (event_or op) → next_component s.setup (event_or op) moments < 16
     → next_read s (shown s.setup (record { op = op; moments = moments }))
-    ≡ effects.Read (read_reply s.setup op past moments)
-    (cond (is_pending (read_reply s.setup op past moments)) (Some (shown s.setup (record { op = op; moments = past ∷ moments }))) None)
+    ≡ read_with (read_reply s.setup op past moments) (round_of (shown s.setup (record { op = op; moments = past ∷ moments })))
 unfolding read_reply sum_read
 read_is s past op moments st e some c =
     let n = width s.setup (event_or op) in

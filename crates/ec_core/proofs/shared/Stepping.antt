@@ -1,9 +1,9 @@
 -- A world that stands for a history stands, after a step, for that history with the step's entry.
-use Rattle.std.proofs.Common.{◌≡◌, ℕ, ◌+◌, ◌%◌, ◌<◌, Bool, true, false, ◌&&◌, List, [], ◌∷◌, ◌++◌, reverse, length, Option, Some, None, is_some, nat_le, unwrap_or, not, Result, MatchResult, Ok, Err, refl, ap, sym, ◌∙◌, arith, subst, cond, slice_get, slice_set, ◌==◌}
+use Rattle.std.proofs.Common.{◌≡◌, ℕ, suc, ◌+◌, ◌%◌, ◌<◌, Bool, true, false, ◌&&◌, List, [], ◌∷◌, ◌++◌, reverse, length, Option, Some, None, is_some, nat_le, unwrap_or, not, Result, MatchResult, Ok, Err, refl, ap, sym, ◌∙◌, arith, subst, cond, slice_get, slice_set, ◌==◌}
 use Rattle.std.proofs.lemmas.List.{reverse-append}
 use Rattle.std.specs.Option.{option_map, option_map_or, option_and_then}
 use Rattle.std.proofs.lemmas.Option.{slice_get_within, get_or_from_slice_get}
-use Rattle.std.proofs.lemmas.Bool.{and_parts, eqb-true, leb-false}
+use Rattle.std.proofs.lemmas.Bool.{and_parts, eqb-true, eq-eqb, leb-false}
 use Rattle.std.proofs.lemmas.Nat.{mod_below}
 use Rattle.std.proofs.Math.Nat.{zero-mod, zero-add}
 use Rattle.ec_count.specs.Tables.{Tables, IsDeclared, signallers}
@@ -17,14 +17,15 @@ use Rattle.ec_core.specs.declared.act.Entry.{Entry}
 use Rattle.ec_core.specs.declared.act.Refusal.{Refusal}
 use Rattle.ec_core.specs.declared.effect.Effect.{Effect}
 use Rattle.ec_core.specs.declared.effect.Effect.TheVariants as effects
-use Rattle.ec_core.specs.Progress.{Progress}
+use Rattle.ec_core.specs.Progress.{Progress, RoundSoFar}
+use Rattle.ec_core.specs.Following.{opened}
 use Rattle.ec_core.specs.Counts.{replaced, signallers_at, handed, component_at, component_total, issued, cell_value, is_advance, is_ticket, put_in, is_place}
 use Rattle.ec_core.specs.Calls.{CallSoFar, under_way, is_pending, gone_on}
-use Rattle.ec_core.specs.Rounds.{event_or, width, sum_read, next_component, read_reply, go_reply}
+use Rattle.ec_core.specs.Rounds.{event_or, width, sum_read, next_component, round_reply, read_reply, go_reply}
 use Rattle.ec_core.specs.Acceptance.{reply_of, answer_of, refusal_of, refusal_in, refused_or, has_right, is_at_limit}
 use Rattle.ec_core.specs.Standing.{State, Stands, count_at, shown, progress_of, StandsFor}
-use Rattle.ec_core.specs.Fields.{component_in, right_in, already_in, replaced_new, is_full_for, value_of, begun, next_read, effect_in, told, changed, IsNamed, planned, IsRightStep}
-use Rattle.ec_core.proofs.shared.Answering.{width_few, width_some, kept_is, is_some_map, component_is, right_is, already_is, full_is, read_is, IsReadingCall, IsAllowed, allowed, call_reads, reading_event}
+use Rattle.ec_core.specs.Fields.{component_in, right_in, already_in, replaced_new, is_full_for, value_of, read_with, one_read, begun, next_read, gone_to, as_first, effect_in, told, changed, kept_call, op_in, still_there, IsNamed, planned, IsRightStep}
+use Rattle.ec_core.proofs.shared.Answering.{width_few, width_some, kept_is, is_some_map, component_is, right_is, already_is, full_is, round_of, read_is, IsReadingCall, IsAllowed, allowed, call_reads, reading_event}
 use Rattle.ec_core.proofs.ReplyKinds.{kind_is}
 use Rattle.ec_core.proofs.shared.Bounds.{told_small}
 use Rattle.ec_core.proofs.shared.Handing.{new_signaller}
@@ -103,26 +104,116 @@ shown_if : (t : Tables) (b : Bool) (call : CallSoFar) → cond b (Some (shown t 
 shown_if t true call = refl
 shown_if t false call = refl
 
--- what a read comes to: the reply, and the call that it leaves
-abbrev reading : Tables → List Entry → Reply → Option CallSoFar → Effect
-reading t past reply call = effects.Read reply (option_map (shown t) (cond (is_pending reply) call None))
+-- READS
+
+-- what changes the worker's call alone
+abbrev IsOfCall : Effect → Type 0
+IsOfCall (effects.Begin u) = Unit {0}
+IsOfCall (effects.GoOn r) = Unit {0}
+IsOfCall (effects.End n) = Unit {0}
+IsOfCall _ = ⊥
+
+-- the call that it leaves, given the one before it
+abbrev left_by : Option Progress → Effect → Option Progress
+left_by o (effects.Begin u) = Some u
+left_by o (effects.GoOn r) = option_map (gone_to r) o
+left_by o (effects.End n) = None
+left_by o _ = o
+
+-- what a read comes to: it is told a reply, and leaves a call, given the one before it
+record IsReadAs (reply : Reply) (before after : Option Progress) (e : Effect) : Type 0 where
+  of_call : IsOfCall e
+  told_is : told e ≡ reply
+  left : left_by before e ≡ after
+
+-- what a read may be told
+abbrev IsToRead : Reply → Type 0
+IsToRead Done = ⊥
+IsToRead (Number n) = Unit {0}
+IsToRead Pending = Unit {0}
+
+round_reads : (op : Act) (s : ℕ) → IsToRead (round_reply op s)
+round_reads (Await e v) s = elim (nat_le v s) as (λ b. IsToRead (cond b (Number s) Pending)) [ true ↦ tt | false ↦ tt ]
+round_reads (Advance e) s = tt
+round_reads (Read e) s = tt
+round_reads Go s = tt
+round_reads (Ticket q) s = tt
+round_reads (Put x v) s = tt
+round_reads (Get x) s = tt
+round_reads (Hand e b) s = tt
+
+either_reads : (b : Bool) (op : Act) (s : ℕ) → IsToRead (cond b (round_reply op s) Pending)
+either_reads true op s = round_reads op s
+either_reads false op s = tt
+
+reply_reads : (t : Tables) (op : Act) (past : List Entry) (moments : List (List Entry)) → IsToRead (read_reply t op past moments)
+unfolding read_reply
+reply_reads t op past moments =
+    let c = next_component t (event_or op) moments in
+    either_reads (nat_le (width t (event_or op)) (c + 1)) op (sum_read t (event_or op) (suc c) (past ∷ moments))
+
+with_of_call : (reply : Reply) (r : RoundSoFar) → IsOfCall (read_with reply r)
+with_of_call Done r = tt
+with_of_call (Number n) r = tt
+with_of_call Pending r = tt
+
+first_as : (op : Act) (reply : Reply) (r : RoundSoFar) (o : Option Progress) → IsToRead reply
+    → IsReadAs reply o (cond (is_pending reply) (Some (gone_to r (begun op))) None) (as_first (begun op) (read_with reply r))
+first_as op Done r o h = absurd h
+first_as op (Number n) r o h = record { of_call = tt; told_is = refl; left = refl }
+first_as op Pending r o h = record { of_call = tt; told_is = refl; left = refl }
+
+later_as : (u : Progress) (reply : Reply) (r : RoundSoFar) → IsToRead reply → IsReadAs reply (Some u) (cond (is_pending reply) (Some (gone_to r u)) None) (read_with reply r)
+later_as u Done r h = absurd h
+later_as u (Number n) r h = record { of_call = tt; told_is = refl; left = refl }
+later_as u Pending r h = record { of_call = tt; told_is = refl; left = refl }
 
 -- a first read
-begin_is : (s : State) (past : List Entry) (op : Act) → Stands s past → event_or op < 32 → 0 < width s.setup (event_or op)
-    → next_read s (begun op) ≡ reading s.setup past (read_reply s.setup op past []) (Some (record { op = op; moments = past ∷ [] }))
-begin_is s past op st lt some =
-    ap (next_read s) (sym (begun_is s.setup op)) ∙ read_is s past op [] st lt some (first_small (width s.setup (event_or op)))
-    ∙ ap (effects.Read (read_reply s.setup op past [])) (shown_if s.setup (is_pending (read_reply s.setup op past [])) (record { op = op; moments = past ∷ [] }))
+begin_is : (s : State) (past : List Entry) (op : Act) (o : Option Progress) → Stands s past → event_or op < 32 → 0 < width s.setup (event_or op)
+    → IsReadAs (read_reply s.setup op past []) o (option_map (shown s.setup) (cond (is_pending (read_reply s.setup op past [])) (Some (record { op = op; moments = past ∷ [] })) None))
+    (as_first (begun op) (next_read s (begun op)))
+begin_is s past op o st lt some =
+    let t = s.setup in
+    let reply : Reply = read_reply t op past [] in
+    let call : CallSoFar = record { op = op; moments = past ∷ [] } in
+    let r : RoundSoFar = round_of (shown t call) in
+    let is : next_read s (begun op) ≡ read_with reply r =
+    ap (next_read s) (sym (begun_is t op)) ∙ read_is s past op [] st lt some (first_small (width t (event_or op))) in
+    subst (λ e. IsReadAs reply o (option_map (shown t) (cond (is_pending reply) (Some call) None)) (as_first (begun op) e)) (sym is)
+    (subst (λ after. IsReadAs reply o after (as_first (begun op) (read_with reply r))) (shown_if t (is_pending reply) call) (first_as op reply r o (reply_reads t op past [])))
 
 -- a Go
 go_is : (s : State) (past : List Entry) → Stands s past → (o : Option CallSoFar) → IsReadingCall s.setup o
-    → option_map_or (next_read s) (option_map (shown s.setup) o) (effects.Read Pending None) ≡ reading s.setup past (go_reply s.setup past o) (gone_on Go past o)
-go_is s past st None h = refl
+    → IsReadAs (go_reply s.setup past o) (option_map (shown s.setup) o) (option_map (shown s.setup) (cond (is_pending (go_reply s.setup past o)) (gone_on Go past o) None))
+    (option_map_or (next_read s) (option_map (shown s.setup) o) (effects.GoOn (record { index = 0; sum = 0 })))
+go_is s past st None h = record { of_call = tt; told_is = refl; left = refl }
 go_is s past st (Some call) h =
-    let known : event_or call.op < length s.setup.events = reading_event s.setup call.op h in
-    let some : 0 < width s.setup (event_or call.op) = width_some s.setup (event_or call.op) st.declared known in
-    read_is s past call.op call.moments st (omega (arith, st.declared.few)) some (next_small s.setup (event_or call.op) call.moments st.declared some)
-    ∙ ap (effects.Read (read_reply s.setup call.op past call.moments)) (shown_if s.setup (is_pending (read_reply s.setup call.op past call.moments)) (record { op = call.op; moments = past ∷ call.moments }))
+    let t = s.setup in
+    let known : event_or call.op < length t.events = reading_event t call.op h in
+    let some : 0 < width t (event_or call.op) = width_some t (event_or call.op) st.declared known in
+    let reply : Reply = read_reply t call.op past call.moments in
+    let later : CallSoFar = record { op = call.op; moments = past ∷ call.moments } in
+    let r : RoundSoFar = round_of (shown t later) in
+    let is : next_read s (shown t call) ≡ read_with reply r =
+    read_is s past call.op call.moments st (omega (arith, st.declared.few)) some (next_small t (event_or call.op) call.moments st.declared some) in
+    subst (IsReadAs reply (Some (shown t call)) (option_map (shown t) (cond (is_pending reply) (Some later) None))) (sym is)
+    (subst (λ after. IsReadAs reply (Some (shown t call)) after (read_with reply r)) (shown_if t (is_pending reply) later) (later_as (shown t call) reply r (reply_reads t call.op past call.moments)))
+
+-- a step that goes on with the worker's call
+calls_gone : (s : State) (past : List Entry) (x : Entry) (r : RoundSoFar) → Stands s past
+    → option_map (gone_to r) (progress_of s.setup x.worker past) ≡ option_map (shown s.setup) (cond (is_pending x.reply) (gone_on x.act past (under_way x.worker past)) None)
+    → (v : ℕ) → v < 16 → slice_get (changed s x.worker (effects.GoOn r)).calls v ≡ Some (progress_of s.setup v (x ∷ past))
+unfolding under_way
+calls_gone s past x r st is v lt =
+    get_changed (option_map (gone_to r)) s.calls x.worker v
+    ∙ ap (λ o. cond (x.worker == v) (option_map (option_map (gone_to r)) o) o) (st.calls v lt)
+    ∙ (elim (x.worker == v) as (λ b. (x.worker == v) ≡ b → cond b (Some (option_map (gone_to r) (progress_of s.setup v past))) (Some (progress_of s.setup v past))
+    ≡ Some (option_map (shown s.setup) (cond b (cond (is_pending x.reply) (gone_on x.act past (under_way v past)) None) (under_way v past)))) [
+      | true ↦ λ h.
+          (let same : x.worker ≡ v = eqb-true x.worker v h in
+          subst (λ u. Some (option_map (gone_to r) (progress_of s.setup u past)) ≡ Some (option_map (shown s.setup) (cond (is_pending x.reply) (gone_on x.act past (under_way u past)) None))) same (ap Some is))
+      | false ↦ λ h. refl
+    ] refl)
 
 -- ONE STEP
 
@@ -219,21 +310,35 @@ get_stands s past w x n st h free = record {
   calls = calls_kept s past (entry w (Get x) (Number n)) st refl free;
 }
 
-read_stands : (s : State) (past : List Entry) (x : Entry) (way : Option Progress) → Stands s past → x.worker < 16 → answer_of s.setup past x.worker x.act ≡ Ok x.reply
+read_by : (s : State) (past : List Entry) (x : Entry) (calls : List (Option Progress)) → Stands s past → answer_of s.setup past x.worker x.act ≡ Ok x.reply
     → ((e : ℕ) → is_advance e x.act ≡ false) → ((q : ℕ) → is_ticket q x.act ≡ false) → ((y : ℕ) → put_in y x.act ≡ None)
     → ((e : ℕ) (ws : List ℕ) → handed e x.worker x.act ws ≡ ws)
-    → way ≡ option_map (shown s.setup) (cond (is_pending x.reply) (gone_on x.act past (under_way x.worker past)) None)
-    → Stands (changed s x.worker (effects.Read x.reply way)) (x ∷ past)
+    → ((v : ℕ) → v < 16 → slice_get calls v ≡ Some (progress_of s.setup v (x ∷ past)))
+    → Stands (record s { calls = calls }) (x ∷ past)
 unfolding signallers_at issued cell_value
-read_stands s past x way st small h no_advance no_ticket no_put no_hand is = record {
+read_by s past x calls st h no_advance no_ticket no_put no_hand is = record {
   declared = st.declared;
   accepted = (h, st.accepted);
   signal = λ e le. st.signal e le ∙ ap Some (sym (no_hand e (signallers_at s.setup e past)));
   counts = counts_kept s past x st no_advance;
   issued = issued_kept s past x st no_ticket;
   cells = λ y ly. st.cells y ly ∙ ap (λ o. Some (unwrap_or o (cell_value y past))) (sym (no_put y));
-  calls = calls_set s past x way st small is;
+  calls = is;
 }
+
+read_stands : (s : State) (past : List Entry) (x : Entry) (e : Effect) → Stands s past → x.worker < 16 → answer_of s.setup past x.worker x.act ≡ Ok x.reply
+    → ((e : ℕ) → is_advance e x.act ≡ false) → ((q : ℕ) → is_ticket q x.act ≡ false) → ((y : ℕ) → put_in y x.act ≡ None)
+    → ((e : ℕ) (ws : List ℕ) → handed e x.worker x.act ws ≡ ws) → IsOfCall e
+    → left_by (progress_of s.setup x.worker past) e ≡ option_map (shown s.setup) (cond (is_pending x.reply) (gone_on x.act past (under_way x.worker past)) None)
+    → Stands (changed s x.worker e) (x ∷ past)
+read_stands s past x (effects.Begin u) st small h a t p n of is = read_by s past x (slice_set s.calls x.worker (Some u)) st h a t p n (calls_set s past x (Some u) st small is)
+read_stands s past x (effects.GoOn r) st small h a t p n of is = read_by s past x (changed s x.worker (effects.GoOn r)).calls st h a t p n (calls_gone s past x r st is)
+read_stands s past x (effects.End m) st small h a t p n of is = read_by s past x (slice_set s.calls x.worker None) st h a t p n (calls_set s past x None st small is)
+read_stands s past x (effects.Raise e c) st small h a t p n of is = absurd of
+read_stands s past x (effects.Draw q m) st small h a t p n of is = absurd of
+read_stands s past x (effects.Put y v) st small h a t p n of is = absurd of
+read_stands s past x (effects.Get m) st small h a t p n of is = absurd of
+read_stands s past x (effects.Hand e b) st small h a t p n of is = absurd of
 
 replaced_once : (b : ℕ) (o : Option ℕ) (ws : List ℕ) → is_member b ws ≡ false → cond (is_member b ws) ws (replaced o b ws) ≡ replaced o b ws
 replaced_once b o ws new = ap (λ is. cond is ws (replaced o b ws)) new
@@ -274,10 +379,10 @@ IsRight s past w act reply e = (told e ≡ reply) × Stands (changed s w e) (ent
 
 read_step : (s : State) (past : List Entry) (w : ℕ) (act : Act) (reply : Reply) → Stands s past → w < 16 → answer_of s.setup past w act ≡ Ok reply
     → ((e : ℕ) → is_advance e act ≡ false) → ((q : ℕ) → is_ticket q act ≡ false) → ((y : ℕ) → put_in y act ≡ None) → ((e : ℕ) (ws : List ℕ) → handed e w act ws ≡ ws)
-    → effect_in s w act ≡ reading s.setup past reply (gone_on act past (under_way w past)) → IsRight s past w act reply (effect_in s w act)
+    → IsReadAs reply (progress_of s.setup w past) (option_map (shown s.setup) (cond (is_pending reply) (gone_on act past (under_way w past)) None)) (effect_in s w act)
+    → IsRight s past w act reply (effect_in s w act)
 read_step s past w act reply st lt h no_advance no_ticket no_put no_hand is =
-    let way : Option Progress = option_map (shown s.setup) (cond (is_pending reply) (gone_on act past (under_way w past)) None) in
-    subst (IsRight s past w act reply) (sym is) (refl, read_stands s past (entry w act reply) way st lt h no_advance no_ticket no_put no_hand refl)
+    (is.told_is, read_stands s past (entry w act reply) (effect_in s w act) st lt h no_advance no_ticket no_put no_hand is.of_call is.left)
 
 step_is : (s : State) (past : List Entry) (w : ℕ) (act : Act) → Stands s past → w < 16 → IsNamed act → IsAllowed s.setup past w act
     → answer_of s.setup past w act ≡ Ok (reply_of s.setup past w act) → IsRight s past w act (reply_of s.setup past w act) (effect_in s w act)
@@ -290,13 +395,17 @@ step_is s past w (Advance e) st lt named a h =
     (refl, advance_stands s past w e (unwrap_or (component_at s.setup e past w) 0) st h (none_of (under_way w past) a.free) at room)
 step_is s past w (Read e) st lt named a h =
     read_step s past w (Read e) _ st lt h (λ e. refl) (λ q. refl) (λ y. refl) (λ e ws. refl)
-    (begin_is s past (Read e) st named (width_some s.setup e st.declared (known_below (length s.setup.events) e a.known)))
+    (begin_is s past (Read e) (progress_of s.setup w past) st named (width_some s.setup e st.declared (known_below (length s.setup.events) e a.known)))
 step_is s past w (Await e v) st lt named a h =
     read_step s past w (Await e v) _ st lt h (λ e. refl) (λ q. refl) (λ y. refl) (λ e ws. refl)
-    (begin_is s past (Await e v) st named (width_some s.setup e st.declared (known_below (length s.setup.events) e a.known)))
+    (begin_is s past (Await e v) (progress_of s.setup w past) st named (width_some s.setup e st.declared (known_below (length s.setup.events) e a.known)))
 step_is s past w Go st lt named a h =
     read_step s past w Go _ st lt h (λ e. refl) (λ q. refl) (λ y. refl) (λ e ws. refl)
-    (ap (λ o. option_map_or (next_read s) o (effects.Read Pending None)) (kept_is s past w st lt) ∙ go_is s past st (under_way w past) (call_reads s.setup past w st.accepted))
+    (subst
+    (λ o. IsReadAs (go_reply s.setup past (under_way w past)) (progress_of s.setup w past)
+    (option_map (shown s.setup) (cond (is_pending (go_reply s.setup past (under_way w past))) (gone_on Go past (under_way w past)) None))
+    (option_map_or (next_read s) o (effects.GoOn (record { index = 0; sum = 0 }))))
+    (sym (kept_is s past w st lt)) (go_is s past st (under_way w past) (call_reads s.setup past w st.accepted)))
 step_is s past w (Ticket q) st lt named a h =
     subst (λ o. IsRight s past w (Ticket q) (Number (issued q past)) (effects.Draw q (value_of o))) (sym (st.issued q named))
     (refl, ticket_stands s past w q (issued q past) st h (none_of (under_way w past) a.free) a.room)
@@ -304,6 +413,69 @@ step_is s past w (Put x v) st lt named a h = (refl, put_stands s past w x v st n
 step_is s past w (Get x) st lt named a h =
     (ap Number (get_or_from_slice_get s.cells x (cell_value x past) 0 (st.cells x named)), get_stands s past w x (cell_value x past) st h (none_of (under_way w past) a.free))
 step_is s past w (Hand e b) st lt named a h = (refl, hand_stands s past w e b st h (none_of (under_way w past) a.free) a.fresh)
+
+-- WHAT BEGAN THE CALL
+
+opened_is : (t : Tables) (o : Option CallSoFar) → option_map_or (λ (u : Progress). u.op) (option_map (shown t) o) Go ≡ opened Go o
+opened_is t None = refl
+opened_is t (Some call) = refl
+
+-- a world has what began the call that an act is part of, as its history says
+op_is : (s : State) (past : List Entry) (w : ℕ) (act : Act) → Stands s past → w < 16 → op_in s w act ≡ opened act (under_way w past)
+op_is s past w Go st lt = ap (λ (o : Option Progress). option_map_or (λ (u : Progress). u.op) o Go) (kept_is s past w st lt) ∙ opened_is s.setup (under_way w past)
+op_is s past w (Advance e) st lt = refl
+op_is s past w (Read e) st lt = refl
+op_is s past w (Await e v) st lt = refl
+op_is s past w (Ticket q) st lt = refl
+op_is s past w (Put x v) st lt = refl
+op_is s past w (Get x) st lt = refl
+op_is s past w (Hand e b) st lt = refl
+
+opened_on : (past : List Entry) (o : Option CallSoFar) → opened Go (gone_on Go past o) ≡ opened Go o
+opened_on past None = refl
+opened_on past (Some call) = refl
+
+-- after a go that is told Pending the same act began the call
+op_after : (s : State) (past : List Entry) (w : ℕ) (reply : Reply) → Stands s (entry w Go reply ∷ past) → w < 16 → Pending ≡ reply → op_in s w Go ≡ opened Go (under_way w past)
+unfolding under_way
+op_after s past w reply st lt told =
+    op_is s (entry w Go reply ∷ past) w Go st lt
+    ∙ ap (λ b. opened Go (cond b (cond (is_pending reply) (gone_on Go past (under_way w past)) None) (under_way w past))) (eq-eqb w w refl)
+    ∙ ap (λ p. opened Go (cond (is_pending p) (gone_on Go past (under_way w past)) None)) (sym told) ∙ opened_on past (under_way w past)
+
+one_of_call : (op : Act) (width index sum : ℕ) → IsOfCall (one_read op width index sum)
+one_of_call op width index sum =
+    elim (nat_le width (index + 1)) as (λ b. IsOfCall (cond b (read_with (round_reply op sum) (record { index = 0; sum = 0 })) (effects.GoOn (record { index = index + 1; sum = sum })))) [
+      | true ↦ with_of_call (round_reply op sum) (record { index = 0; sum = 0 })
+      | false ↦ tt
+    ]
+
+next_of_call : (s : State) (o : Option Progress) → IsOfCall (option_map_or (next_read s) o (effects.GoOn (record { index = 0; sum = 0 })))
+next_of_call s None = tt
+next_of_call s (Some u) = one_of_call u.op (width s.setup (event_or u.op)) u.index (value_of (count_at s.counts (event_or u.op) u.index) + u.sum)
+
+go_op : (s : State) (past : List Entry) (w : ℕ) (reply : Reply) (e : Effect) → Stands s past → w < 16 → IsOfCall e → IsRight s past w Go reply e
+    → op_in (still_there s w e) w Go ≡ opened Go (under_way w past)
+go_op s past w reply (effects.Begin u) st lt of k = op_after (changed s w (effects.Begin u)) past w reply k.1 lt k.0
+go_op s past w reply (effects.GoOn r) st lt of k = op_after (changed s w (effects.GoOn r)) past w reply k.1 lt k.0
+go_op s past w reply (effects.End n) st lt of k = op_is s past w Go st lt
+go_op s past w reply (effects.Raise e c) st lt of k = absurd of
+go_op s past w reply (effects.Draw q n) st lt of k = absurd of
+go_op s past w reply (effects.Put x v) st lt of k = absurd of
+go_op s past w reply (effects.Get n) st lt of k = absurd of
+go_op s past w reply (effects.Hand e b) st lt of k = absurd of
+
+-- where the call is still there, the world has what began it
+op_right : (s : State) (past : List Entry) (w : ℕ) (act : Act) (reply : Reply) → Stands s past → w < 16 → IsRight s past w act reply (effect_in s w act)
+    → op_in (still_there s w (effect_in s w act)) w act ≡ opened act (under_way w past)
+op_right s past w Go reply st lt k = go_op s past w reply (effect_in s w Go) st lt (next_of_call s (kept_call s w)) k
+op_right s past w (Advance e) reply st lt k = refl
+op_right s past w (Read e) reply st lt k = refl
+op_right s past w (Await e v) reply st lt k = refl
+op_right s past w (Ticket q) reply st lt k = refl
+op_right s past w (Put x v) reply st lt k = refl
+op_right s past w (Get x) reply st lt k = refl
+op_right s past w (Hand e b) reply st lt k = refl
 
 -- THE FIRST STATE
 
@@ -341,6 +513,7 @@ plan_by s h w act st lt named None is =
       small = told_small s.setup (reverse h) w act (told e) st.declared st.accepted answer;
       kind = kind_is s.setup (reverse h) w act (told e) st.declared st.accepted answer;
       after = rw (past_after h (entry w act (told e))) (subst (λ r. Stands (changed s w e) (entry w act r ∷ reverse h)) (sym k.0) k.1);
+      op = op_right s (reverse h) w act (reply_of s.setup (reverse h) w act) st lt k;
     }
 
 -- what is planned by the fields of a world is right after its history
