@@ -4,11 +4,24 @@ use ec_text::{cut_line, cut_word, has_blank};
 /// A text, and its first line with what stands behind the LF.
 type Line = (&'static str, Option<(&'static str, &'static str)>);
 
-static LINES: [Line; 4] = [
+static LINES: [Line; 8] = [
     ("", None),
     ("a b", None),
     ("a b\nc\n", Some(("a b", "c\n"))),
     ("\n", Some(("", ""))),
+    (
+        "alice await S00.v 12 = pending\nbob go = pending\n",
+        Some(("alice await S00.v 12 = pending", "bob go = pending\n")),
+    ),
+    (
+        "alice await S00.v 123 = pending\nb",
+        Some(("alice await S00.v 123 = pending", "b")),
+    ),
+    (
+        "alice await S00.v 1234 = pending\nb",
+        Some(("alice await S00.v 1234 = pending", "b")),
+    ),
+    ("alice await S00.v 1234567 = pending", None),
 ];
 
 /// A line, its first word, what stands behind the space, and whether a word is empty.
