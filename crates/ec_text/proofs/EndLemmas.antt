@@ -1,13 +1,12 @@
 -- Numbers that are read from the end of a text.
-use Rattle.std.proofs.Common.{◌≡◌, ℕ, zero, suc, ◌+◌, ◌*◌, ◌-◌, ◌<◌, ◌≤◌, ◌^◌, List, [], ◌∷◌, ◌++◌, length, take, drop, get_or, cond, Bool, true, false, eqb, ◌&&◌, ◌||◌, Option, None, Some, refl, sym, ap, ◌∙◌, arith, rules, add-one, drop-cons, length-drop, length-append, length-take, true≢false, ne_eqb, inl, inr, subst}
+use Rattle.std.proofs.Common.{◌≡◌, ℕ, zero, suc, ◌+◌, ◌*◌, ◌-◌, ◌<◌, ◌≤◌, ◌^◌, List, [], ◌∷◌, ◌++◌, length, take, drop, get_or, true, false, eqb, Some, refl, sym, ap, ◌∙◌, arith, rules, add-one, drop-cons, length-drop, length-append, length-take, true≢false, ne_eqb, inl, inr}
 use Rattle.std.specs.Char.{is_ascii_digit}
-use Rattle.std.specs.List.{list_all}
 use Rattle.std.specs.Str.{all_ascii_digits}
 use Rattle.std.proofs.lemmas.Bool.{and_parts, and_from, cond-true, cases_lt}
 use Rattle.std.proofs.lemmas.List.{take-append-drop, take_all, get_or-drop}
 use Rattle.std.proofs.lemmas.List.Elements.{All-from_get_or}
 use Rattle.std.proofs.Math.Nat.{pow-succ', pow-le-pow_right, mul-le-mul_right}
-use Rattle.ec_text.specs.Words.{digits_from, number_of, has_form, value_from, IsWord, IsCutAt, EndsInNumber, AreDigits}
+use Rattle.ec_text.specs.Words.{number_of, has_form, value_from, IsWord, EndsInNumber, AreDigits}
 use Rattle.ec_text.proofs.shared.NumberLemmas.{guarded, reads, spelled, number_is_form}
 
 -- a number before digits stands before theirs

@@ -1,4 +1,4 @@
-use Rattle.std.proofs.Common.{rules, arith, ◌≡◌, ◌≤◌, ◌-◌, ◌+◌, ◌<◌, true, length, get_or}
+use Rattle.std.proofs.Common.{rules, arith, ◌≡◌, ◌-◌, true, get_or}
 use Rattle.std.specs.Char.{is_ascii_digit}
 use Rattle.ec_text.proofs.EndLemmas.{IsRead, is_read, only_digits}
 use Rattle.ec_text.proofs.numbers.by_digit.Goals as goal

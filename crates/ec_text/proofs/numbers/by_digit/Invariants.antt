@@ -1,4 +1,4 @@
-use Rattle.std.proofs.Common.{◌≡◌, ◌<◌, ◌-◌, ◌^◌, drop, length}
+use Rattle.std.proofs.Common.{◌≡◌, ◌-◌, ◌^◌, drop, length}
 use Rattle.ec_text.specs.Words.{AreDigits}
 use Rattle.ec_text.proofs.numbers.by_digit.Given as goal
 
