@@ -1,7 +1,8 @@
 -- The words of a line, and which of them are numbers.
-use Rattle.std.specs.Prelude.{◌≡◌, ◌+◌, ◌*◌, ◌-◌, ℕ, List, [], ◌∷◌, length, Bool, false, Option, Some, None, ◌==◌, ◌&&◌, ◌||◌, if◌then◌else◌, nat_lt, not, slice_index}
+use Rattle.std.specs.Prelude.{◌≡◌, ◌+◌, ◌*◌, ◌-◌, ℕ, List, [], ◌∷◌, ◌++◌, length, take, drop, Bool, true, false, Option, Some, None, ◌==◌, ◌&&◌, ◌||◌, if◌then◌else◌, nat_lt, not, slice_index}
 use Rattle.std.specs.List.{slice_split, list_all, All, AllByRecursion}
 use Rattle.std.specs.Char.{is_ascii_digit}
+use Rattle.std.specs.Str.{all_ascii_digits}
 
 -- words are what lies between single spaces
 abbrev pub words_of : List ℕ → List (List ℕ)
@@ -26,6 +27,24 @@ has_form w = (length w == 1) || (nat_lt 0 (length w) && not (slice_index w 0 == 
 -- the number that a word spells, where it is at most 18 digits without a leading zero
 abbrev pub number_of : List ℕ → Option ℕ
 number_of w = if has_form w then digits_from 0 w else None
+
+-- at this place of a text is a space, and behind it a word
+abbrev pub IsCutAt : List ℕ → ℕ → Type 0
+IsCutAt text place = (text ≡ take place text ++ 32 ∷ drop (place + 1) text) × IsWord (drop (place + 1) text)
+
+-- behind the space at this place is a word, the last of the text, and it spells this number
+abbrev pub EndsInNumber : List ℕ → ℕ → ℕ → Type 0
+EndsInNumber text place n = IsCutAt text place × (number_of (drop (place + 1) text) ≡ Some n)
+
+-- the number that digits spell, of any count, after the number n
+abbrev pub value_from : ℕ → List ℕ → ℕ
+value_from n [] = n
+value_from n (c ∷ cs) = value_from (10 * n + (c - 48)) cs
+
+-- these are digits, if any, and they spell this number
+pub record AreDigits (word : List ℕ) (n : ℕ) : Type 0 where
+  pub digits : all_ascii_digits word ≡ true
+  pub value : n ≡ value_from 0 word
 
 -- digits of any count without a leading zero
 abbrev pub is_number_form : List ℕ → Bool

@@ -18,7 +18,7 @@ pub use laws::{
     split_is_undone, words_have_no_space,
 };
 pub use lines::cut_line;
-pub use numbers::{is_number_form, number};
+pub use numbers::{is_number_form, number, number_at_end};
 pub use output::Out;
 pub use table::ShortText;
 pub use words::{cut_word, has_blank};

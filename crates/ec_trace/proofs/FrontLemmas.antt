@@ -1,11 +1,8 @@
 -- A line is cut before its last word; and what an entry's front tells of one reply it tells of each.
-use Rattle.std.proofs.Common.{◌≡◌, ℕ, zero, suc, replicate, ◌+◌, ◌-◌, ◌<◌, ◌≤◌, List, [], ◌∷◌, ◌++◌, length, take, drop, get_or, Bool, true, false, cond, eqb, Option, None, Some, refl, sym, ap, subst, ◌∙◌, arith, codes, add-one, drop-cons, length-drop, ne_eqb, true≢false, inl, inr, ◌⊎◌}
+use Rattle.std.proofs.Common.{◌≡◌, ℕ, zero, suc, replicate, ◌+◌, ◌-◌, ◌<◌, List, [], ◌∷◌, ◌++◌, length, take, drop, Bool, true, false, cond, eqb, Option, None, Some, refl, sym, ap, subst, ◌∙◌, arith, codes, true≢false, inl, inr, ◌⊎◌}
 use Rattle.std.specs.Prelude.{bytes_eq, slice_get, slice_set, ◌==◌}
 use Rattle.std.specs.List.{onto_first}
-use Rattle.std.specs.Char.{is_ascii_digit}
-use Rattle.std.proofs.lemmas.Bool.{cases_lt}
-use Rattle.std.proofs.lemmas.List.{take-append-drop, take_all, get_or-drop}
-use Rattle.std.proofs.lemmas.List.Elements.{All-from_get_or}
+use Rattle.std.proofs.lemmas.List.{take-append-drop}
 use Rattle.std.proofs.lemmas.Slice.Eq.{bytes_eq-Decides}
 use Rattle.ec_core.proofs.shared.Places.{get_set}
 use Rattle.ec_core.specs.declared.act.Act.{Act}
@@ -13,44 +10,16 @@ use Rattle.ec_core.specs.declared.act.Act.TheVariants as acts
 use Rattle.ec_core.specs.declared.act.Reply.{Reply}
 use Rattle.ec_core.specs.declared.act.Reply.TheVariants.{Done, Number, Pending}
 use Rattle.ec_core.specs.declared.act.Entry.{Entry}
-use Rattle.ec_text.specs.Words.{words_of, number_of, digits_from, IsWord}
+use Rattle.ec_text.specs.Words.{words_of, number_of, digits_from, IsWord, EndsInNumber}
 use Rattle.ec_text.proofs.shared.WordLemmas.{HasFirst, has_first, words_alone, literal_word}
 use Rattle.ec_text.proofs.shared.NumberLemmas.{guarded}
 use Rattle.ec_heading.specs.Spelled.{Named, event_in, sequencer_in, cell_in_word}
 use Rattle.ec_heading.specs.Lists.{worker_in}
 use Rattle.ec_trace.specs.Entries.{◌>>=◌, act_alone, act_on, act_with, reply_of, entry_by, entry_in, entry_of}
-use Rattle.ec_trace.specs.Fronts.{with_reply, with_value, with_both, is_valued, headed, HasFront, HasValue, IsCutAt, EndsIn, Tells, IsKept, AreKept}
+use Rattle.ec_trace.specs.Fronts.{with_reply, with_value, with_both, is_valued, headed, HasFront, HasNumber, EndsIn, Tells, IsKept, AreKept}
 use Rattle.ec_trace.specs.Keys.{text_of}
 use Rattle.ec_trace.specs.declared.key.Key.{Key}
 use Rattle.ec_trace.specs.declared.fronts.Front.{Front}
-
--- the text up to a space, the space, and the rest
-pub last_whole : (text : List ℕ) (i : ℕ) → i < length text → get_or text i 0 ≡ 32 → text ≡ take i text ++ 32 ∷ drop (i + 1) text
-last_whole text i within at =
-    let f : drop i text ≡ 32 ∷ drop (i + 1) text = rw (add-one, drop-cons text i 0) (rw at) in
-    sym (take-append-drop i text) ∙ ap (λ (r : List ℕ). take i text ++ r) f
-
-pub last_word : (text : List ℕ) (i : ℕ) → i < length text → ((k : ℕ) → i + 1 ≤ k → k < length text → get_or text k 0 ≡ 32 → ⊥) → IsWord (drop (i + 1) text)
-last_word text i within none =
-    All-from_get_or (λ b. eqb b 32 ≡ false) (drop (i + 1) text) 0 (λ k h.
-    ne_eqb _ _ (λ at. none (i + 1 + k) (omega arith) (omega (arith, length-drop (i + 1) text)) (sym (get_or-drop (i + 1) text k 0) ∙ at)))
-
--- a digit is no space
-pub digit_no_space : (b : ℕ) → is_ascii_digit b ≡ true → b ≡ 32 → ⊥
-digit_no_space b is space = (let no : is_ascii_digit 32 ≡ true = sym (ap is_ascii_digit space) ∙ is in cc)
-
--- one more digit
-pub digits_on : (text : List ℕ) (i : ℕ) → is_ascii_digit (get_or text i 0) ≡ true → ((k : ℕ) → i + 1 ≤ k → k < length text → get_or text k 0 ≡ 32 → ⊥) → (k : ℕ) → i ≤ k → k < length text → get_or text k 0 ≡ 32 → ⊥
-digits_on text i is none k from within at = elim (cases_lt i k) [
-  | inl less ↦ none k (omega arith) within at
-  | inr more ↦ (let same : i ≡ k = omega arith in digit_no_space (get_or text i 0) is (ap (λ (j : ℕ). get_or text j 0) same ∙ at))
-]
-
--- as the code's `&text[i + 1..]` says what is behind the space
-pub behind_all : (text : List ℕ) (i : ℕ) → take (length text - (i + 1)) (drop (i + 1) text) ≡ drop (i + 1) text
-behind_all text i = take_all _ _ (omega (arith, length-drop (i + 1) text))
-
-pub ruleset last_cuts = (last_whole, last_word, digits_on)
 
 onto_front : (b : ℕ) (ws vs : List (List ℕ)) (w : List ℕ) → onto_first b ((w ∷ ws) ++ vs) ≡ onto_first b (w ∷ ws) ++ vs
 onto_front b ws vs w = refl
@@ -239,9 +208,11 @@ lined_value opening value answer v r =
     ∙ ap (λ (ws : List (List ℕ)). ws ++ codes "=" ∷ []) (lined opening value v))
 
 -- an opening that one entry has, whose act has a value
-pub opens : (names : Named) (line front opening value : List ℕ) (e : Entry) → HasFront line front → HasValue front opening value → entry_of names line ≡ Some e → is_valued e.act ≡ true → Tells names opening e.worker e.act
+pub opens : (names : Named) (line front opening : List ℕ) (n : ℕ) (e : Entry) → HasFront line front → HasNumber front opening n → entry_of names line ≡ Some e → is_valued e.act ≡ true → Tells names opening e.worker e.act
 unfolding entry_of
-opens names line front opening value e has cut h valued =
+opens names line front opening n e has spelled h valued =
+    let value = spelled.0 in
+    let cut = spelled.1 in
     let is : line ≡ headed opening value ++ 32 ∷ has.0 = has.1 ∙ ap (λ (f : List ℕ). f ++ 32 ∷ has.0) cut.0 in
     let one : entry_in names (((words_of opening ++ value ∷ []) ++ codes "=" ∷ []) ++ has.0 ∷ []) ≡ Some e = sym (ap (entry_in names) (ap words_of is ∙ lined_value opening value has.0 cut.1 has.2)) ∙ h in
     record {
@@ -250,11 +221,12 @@ opens names line front opening value e has cut h valued =
     }
 
 -- a known opening, and the value and the reply behind it
-pub opened : (names : Named) (line front opening value : List ℕ) (w : ℕ) (a : Act) (n : ℕ) (r : Reply) → EndsIn line front r → HasValue front opening value → Tells names opening w a → is_valued a ≡ true → number_of value ≡ Some n
+pub opened : (names : Named) (line front opening : List ℕ) (w : ℕ) (a : Act) (n : ℕ) (r : Reply) → EndsIn line front r → HasNumber front opening n → Tells names opening w a → is_valued a ≡ true
     → entry_of names line ≡ Some (record { worker = w; act = with_value a n; reply = r })
-opened names line front opening value w a n r ends cut tell valued known =
-    let is : line ≡ headed opening value ++ 32 ∷ ends.0 = ends.1 ∙ ap (λ (f : List ℕ). f ++ 32 ∷ ends.0) cut.0 in
-    ap (entry_of names) is ∙ tell.valued valued value ends.0 cut.1 ends.2 ∙ ap (λ (o : Option ℕ). with_both w a o (reply_of ends.0)) known ∙ ap (with_reply w (with_value a n)) ends.3
+opened names line front opening w a n r ends has tell valued =
+    let cut = has.1 in
+    let is : line ≡ headed opening has.0 ++ 32 ∷ ends.0 = ends.1 ∙ ap (λ (f : List ℕ). f ++ 32 ∷ ends.0) cut.0 in
+    ap (entry_of names) is ∙ tell.valued valued has.0 ends.0 cut.1 ends.2 ∙ ap (λ (o : Option ℕ). with_both w a o (reply_of ends.0)) has.2 ∙ ap (with_reply w (with_value a n)) ends.3
 
 -- what stands before a reply that was found at the end
 before : (line front tail : List ℕ) → bytes_eq (drop (length line - length tail) line) tail ≡ true → front ≡ take (length line - length tail) line → line ≡ front ++ tail
@@ -280,19 +252,20 @@ spells_number word n false true other is h =
     cc
 spells_number word n false false one two h = rw (one, two, h) refl
 
-pub ends_number : (line : List ℕ) (i n : ℕ) → IsCutAt line i → number_of (take (length line - (i + 1)) (drop (i + 1) line)) ≡ Some n → EndsIn line (take i line) (Number n)
-ends_number line i n cut h = (drop (i + 1) line, cut.0, cut.1, spells_number (drop (i + 1) line) n _ _ refl refl (ap number_of (sym (behind_all line i)) ∙ h))
+pub ends_number : (line : List ℕ) (i n : ℕ) → EndsInNumber line i n → EndsIn line (take i line) (Number n)
+ends_number line i n ends = (drop (i + 1) line, ends.0.0, ends.0.1, spells_number (drop (i + 1) line) n _ _ refl refl ends.1)
 
-pub ruleset ends = (ends_done, ends_pending)
+pub ruleset ends = (ends_done, ends_pending, ends_number)
 
 -- a known front without a value, and the reply behind it
 pub told : (names : Named) (line front : List ℕ) (w : ℕ) (a : Act) (r : Reply) → EndsIn line front r → Tells names front w a → is_valued a ≡ false → entry_of names line ≡ Some (record { worker = w; act = a; reply = r })
 told names line front w a r ends tell plain = ap (entry_of names) ends.1 ∙ tell.whole plain ends.0 ends.2 ∙ ap (with_reply w a) ends.3
 
-pub value_so : (front head : List ℕ) (i : ℕ) → bytes_eq (drop (length front - length (codes " =")) front) (codes " =") ≡ true → head ≡ take (length front - length (codes " =")) front → IsCutAt head i → HasValue front (take i head) (take (length head - (i + 1)) (drop (i + 1) head))
-value_so front head i same is cut = (
-  before front head (codes " =") same is ∙ ap (λ (h : List ℕ). h ++ codes " =") (cut.0 ∙ ap (λ (r : List ℕ). take i head ++ 32 ∷ r) (sym (behind_all head i))),
-  subst IsWord (sym (behind_all head i)) cut.1,
+pub value_so : (front head : List ℕ) (i n : ℕ) → bytes_eq (drop (length front - length (codes " =")) front) (codes " =") ≡ true → head ≡ take (length front - length (codes " =")) front → EndsInNumber head i n → HasNumber front (take i head) n
+value_so front head i n same is ends = (
+  drop (i + 1) head,
+  (before front head (codes " =") same is ∙ ap (λ (h : List ℕ). h ++ codes " =") ends.0.0, ends.0.1),
+  ends.1,
 )
 
 kept_at : (names : Named) (b : Bool) (o : Option Front) (f g : Front) → cond b (Some f) o ≡ Some g → IsKept names f → (o ≡ Some g → IsKept names g) → IsKept names g

@@ -1,5 +1,5 @@
 -- Fronts of entries: what stands in a line before the space of the reply, and what it spells.
-use Rattle.std.specs.Prelude.{◌≡◌, ℕ, ◌+◌, ◌≤◌, take, drop, Bool, true, false, List, ◌++◌, ◌∷◌, Option, Some, None, slice_get, codes}
+use Rattle.std.specs.Prelude.{◌≡◌, ℕ, ◌≤◌, Bool, true, false, List, ◌++◌, ◌∷◌, Option, Some, None, slice_get, codes}
 use Rattle.ec_core.specs.declared.act.Act.{Act}
 use Rattle.ec_core.specs.declared.act.Act.TheVariants as acts
 use Rattle.ec_core.specs.declared.act.Reply.{Reply}
@@ -9,10 +9,6 @@ use Rattle.ec_trace.specs.Entries.{reply_of, entry_of}
 use Rattle.ec_heading.specs.Spelled.{Named}
 use Rattle.ec_trace.specs.Keys.{text_of}
 use Rattle.ec_trace.specs.declared.fronts.Front.{Front}
-
--- at this place of a text is a space, and behind it a word
-abbrev pub IsCutAt : List ℕ → ℕ → Type 0
-IsCutAt text place = (text ≡ take place text ++ 32 ∷ drop (place + 1) text) × IsWord (drop (place + 1) text)
 
 -- a line is this front, a space, and a word
 abbrev pub HasFront : List ℕ → List ℕ → Type 0
@@ -49,6 +45,10 @@ headed opening value = (opening ++ 32 ∷ value) ++ 32 ∷ codes "="
 
 abbrev pub HasValue : List ℕ → List ℕ → List ℕ → Type 0
 HasValue front opening value = (front ≡ headed opening value) × IsWord value
+
+-- the same, and the value spells this number
+abbrev pub HasNumber : List ℕ → List ℕ → ℕ → Type 0
+HasNumber front opening n = (value : List ℕ) × HasValue front opening value × (number_of value ≡ Some n)
 
 -- whatever word follows, the entry is of this worker and this act, and that word spells its reply; and of an act with a value, whatever words
 -- follow as value and reply, they spell those of the entry

@@ -3,9 +3,9 @@
 //! The front of an entry is its line up to the space before the reply. But for the values in them, the entries of a
 //! trace have few different fronts, so that one which was read lately is found again by its bytes: then the reply alone
 //! is read anew, and the value of an await or a put. A key holds the bytes, so that no loop compares them.
-ghost use Rattle.std.specs.Prelude.{◌≡◌, ◌≤◌, ◌<◌, ℕ, List, Some, IfOk, IfSome, length};
+ghost use Rattle.std.specs.Prelude.{◌≡◌, ◌≤◌, ℕ, List, Some, IfOk, IfSome};
 ghost use Rattle.ec_trace.specs.Entries.{entry_of};
-ghost use Rattle.ec_trace.specs.Fronts.{HasFront, HasValue, IsCutAt, EndsIn, Tells, IsKept, AreKept, is_valued, with_value};
+ghost use Rattle.ec_trace.specs.Fronts.{HasFront, HasNumber, EndsIn, Tells, IsKept, AreKept, is_valued, with_value};
 ghost use Rattle.ec_trace.specs.Keys.{text_of};
 ghost use Rattle.ec_heading.specs.Spelled.{Named};
 
@@ -14,7 +14,7 @@ use crate::key::Key;
 use ec_core::{Act, Entry, Reply};
 use ec_count::WorkerId;
 use ec_heading::Heading;
-use ec_text::number;
+use ec_text::number_at_end;
 use std::alloc::{AllocError, Global};
 use std::marker::Model;
 
@@ -236,8 +236,8 @@ impl Fronts {
 
     /// The entry that a front spells with a reply, by its value and what stands before that, where the latter was read lately.
     #[inline(always)]
-    pub(crate) fn valued(&self, opening: &[u8], value: &[u8], reply: Reply) -> Option<Entry>
-        ensures { (names : Named) (line front : List ℕ) → AreKept names self.now → EndsIn line front reply → HasValue front opening.now value.now → IfSome result (λ e. entry_of names line ≡ Some e) }
+    pub(crate) fn valued(&self, opening: &[u8], value: u64, reply: Reply) -> Option<Entry>
+        ensures { (names : Named) (line front : List ℕ) → AreKept names self.now → EndsIn line front reply → HasNumber front opening.now value → IfSome result (λ e. entry_of names line ≡ Some e) }
     {
         let known = self.find(opening)?;
         if !is_valued(&known.act) {
@@ -245,7 +245,7 @@ impl Fronts {
         }
         Some(Entry {
             worker: known.worker,
-            act: with_value(known.act, number(value)?),
+            act: with_value(known.act, value),
             reply,
         })
     }
@@ -277,16 +277,16 @@ fn with_value(act: Act, value: u64) -> Act
 
 /// The value before the `=` that ends a front, and what stands before the space before it.
 #[inline(always)]
-pub(crate) fn cut_value(front: &[u8]) -> Option<(&[u8], &[u8])>
-    ensures { IfSome result (λ p. HasValue front.now p.0.now p.1.now) }
+pub(crate) fn cut_value(front: &[u8]) -> Option<(&[u8], u64)>
+    ensures { IfSome result (λ p. HasNumber front.now p.0.now p.1) }
 {
     match front {
         [.., last, _, _] if last.is_ascii_digit() => {}
         _ => return None,
     }
     let head = front.strip_suffix(b" =".as_slice())?;
-    let space = space_before_number(head)?;
-    Some((&head[..space], &head[space + 1..]))
+    let (space, value) = number_at_end(head)?;
+    Some((&head[..space], value))
 }
 
 /// The reply that the last word of a line spells, and what stands before the space before it.
@@ -299,28 +299,8 @@ pub(crate) fn cut_reply(line: &[u8]) -> Option<(&[u8], Reply)>
         [.., b'e'] => Some((line.strip_suffix(b" done".as_slice())?, Reply::Done)),
         [.., b'g'] => Some((line.strip_suffix(b" pending".as_slice())?, Reply::Pending)),
         _ => {
-            let space = space_before_number(line)?;
-            let answer = number(&line[space + 1..])?;
+            let (space, answer) = number_at_end(line)?;
             Some((&line[..space], Reply::Number(answer)))
         }
     }
-}
-
-/// Where the space is before the digits that a text ends in.
-#[inline(never)]
-#[tactic(auto, using(crate::proofs::FrontLemmas::last_cuts))]
-fn space_before_number(text: &[u8]) -> Option<usize>
-    ensures within { IfSome result (λ place. place < length text.now) }
-    ensures cut { IfSome result (IsCutAt text.now) }
-{
-    for place in (0..text.len()).rev() {
-        if !text[place].is_ascii_digit() {
-            return if text[place] == b' ' {
-                Some(place)
-            } else {
-                None
-            };
-        }
-    }
-    None
 }

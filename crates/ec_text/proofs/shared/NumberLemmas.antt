@@ -11,7 +11,7 @@ use Rattle.std.proofs.lemmas.List.Elements.{All-from_get_or}
 use Rattle.std.proofs.lemmas.Slice.Eq.{bytes_eq-Decides}
 use Rattle.std.proofs.lemmas.List.{drop_all}
 use Rattle.std.proofs.Math.Nat.{pow-succ', pow-le-pow_right}
-use Rattle.ec_text.specs.Words.{digits_from, number_of, has_form, is_number_form, IsWord}
+use Rattle.ec_text.specs.Words.{digits_from, number_of, has_form, is_number_form, value_from, IsWord}
 
 pub digits_from_step : (n i : ℕ) (word : List ℕ) → i < length word → digits_from n (drop i word) ≡ cond (is_ascii_digit (get_or word i 0) && ltb n 100000000000000000) (digits_from (10 * n + (get_or word i 0 - 48)) (drop (i + 1) word)) None
 unfolding digits_from
@@ -30,11 +30,6 @@ pub guarded : {X : Type 0} (b : Bool) (x : Option X) (m : X) → cond b x None �
 guarded true x m e = (refl, e)
 guarded false x m e = cc
 
--- the number that digits spell
-abbrev pub value_from : ℕ → List ℕ → ℕ
-value_from n [] = n
-value_from n (c ∷ cs) = value_from (10 * n + (c - 48)) cs
-
 -- the test for digits alone, and the number that they spell, mean what they mean in std
 pub own : IsNumeralModel (λ ds. all_ascii_digits ds ≡ true) (value_from 0)
 own = numerals_by_fold _ (search rules) value_from (search rules)
@@ -44,7 +39,7 @@ value_from-ge n [] = omega arith
 value_from-ge n (c ∷ w) = omega (arith, value_from-ge (10 * n + (c - 48)) w)
 
 -- what is read is spelled so
-reads : (n m : ℕ) (w : List ℕ) → n < 1000000000000000000 → digits_from n w ≡ Some m → (all_ascii_digits w ≡ true) × (m ≡ value_from n w) × (m < 1000000000000000000)
+pub reads : (n m : ℕ) (w : List ℕ) → n < 1000000000000000000 → digits_from n w ≡ Some m → (all_ascii_digits w ≡ true) × (m ≡ value_from n w) × (m < 1000000000000000000)
 unfolding digits_from
 reads n m [] small e = let same : m ≡ n = cc in (refl, same, omega arith)
 reads n m (c ∷ w) small e =
@@ -56,7 +51,7 @@ reads n m (c ∷ w) small e =
     (and_from _ _ p.0 r.0, r.1, r.2)
 
 -- what is spelled so is read
-spelled : (n : ℕ) (w : List ℕ) → all_ascii_digits w ≡ true → value_from n w < 1000000000000000000 → digits_from n w ≡ Some (value_from n w)
+pub spelled : (n : ℕ) (w : List ℕ) → all_ascii_digits w ≡ true → value_from n w < 1000000000000000000 → digits_from n w ≡ Some (value_from n w)
 unfolding digits_from
 spelled n [] d small = refl
 spelled n (c ∷ w) d small =

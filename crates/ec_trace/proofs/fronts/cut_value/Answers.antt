@@ -9,4 +9,4 @@ returns c =
     let head = c.in_ok-head.head.now in
     let same : bytes_eq (drop (length front - length (codes " =")) front) (codes " =") ≡ true = search rules in
     let is : head ≡ take (length front - length (codes " =")) front = search rules in
-    value_so front head c.in_ok-space.space same is c.in_ok-space.ensures.cut
+    value_so front head c.in_ok-space.space c.in_ok-space.value same is c.in_ok-space.ensures.ends

@@ -1,7 +1,6 @@
 use Rattle.std.proofs.Common.{rules, ◌≡◌, ◌∙◌, true, Some, sym, ap}
 use Rattle.ec_core.specs.declared.act.Act.{Act}
 use Rattle.ec_core.specs.declared.act.Entry.{Entry}
-use Rattle.ec_text.specs.Words.{number_of}
 use Rattle.ec_trace.specs.Fronts.{is_valued}
 use Rattle.ec_trace.proofs.FrontLemmas.{opened}
 use Rattle.ec_trace.proofs.fronts.Fronts.valued.Goals as goal
@@ -9,6 +8,5 @@ use Rattle.ec_trace.proofs.fronts.Fronts.valued.Goals as goal
 pub returns : goal.returns
 returns c names line front kept ends has =
     let valued : is_valued c.in_ok-known.known.now.act ≡ true = search rules in
-    let known : number_of c.args.value.now ≡ Some c.in_ok-number.field-0 = search rules in
-    opened names line _ _ _ _ _ _ _ ends has (c.in_ok-known.ensures names kept) valued known
+    opened names line _ _ _ _ _ _ ends has (c.in_ok-known.ensures names kept) valued
     ∙ ap (λ (a : Act). let e : Entry = record { worker = c.in_ok-known.known.now.worker; act = a; reply = c.args.reply } in Some e) (sym c.with_value.ensures)
