@@ -7,7 +7,6 @@ ghost use Rattle.ec_text.specs.Puts.{Outgoing, Holds, Puts, AppendsPrefix, IsFre
 use crate::decimal::Decimal;
 use crate::table::{ShortText, Table};
 use crate::writing::{WriteFault, write_out};
-use itoa::Buffer;
 use std::io::Write;
 use std::marker::Model;
 
@@ -204,8 +203,7 @@ impl<'a, W: Write> Out<'a, W> {
             → self.new ≡ with_bytes self.old (decimal n) }
         ensures stays { self.old.failed ≡ true → self.new ≡ self.old }
     {
-        let mut digits = Buffer::new();
-        self.put(digits.format(n).as_bytes());
+        self.put_short(&ShortText::spelled(n));
     }
 
     /// Puts pieces, one behind the other.

@@ -1,6 +1,7 @@
 //! Bytes in tables of fixed size.
-ghost use Rattle.std.specs.Prelude.{◌≡◌, ◌↔◌, ◌+◌, ◌≤◌, ◌++◌, [], List, IsTrue, false, length, take, ◌-◌, ◌<◌, slice_get, slice_set};
+ghost use Rattle.std.specs.Prelude.{◌≡◌, ◌↔◌, ◌+◌, ◌≤◌, ◌++◌, [], List, IsTrue, false, length, take, ◌-◌, ◌<◌, slice_get, slice_set, decimal};
 
+use itoa::write_digits;
 use std::marker::Model;
 use std::simd::prelude::*;
 
@@ -57,6 +58,19 @@ impl ShortText {
         }
     }
 
+    /// The decimal digits of a number. They are written into a longer table, and the 32 bytes from the first digit on are copied at once.
+    #[inline(always)]
+    pub(crate) fn spelled(n: u64) -> Self
+        ensures { result ≡ decimal n }
+    {
+        let mut table = [0; 52];
+        let start = write_digits(n, &mut table, 20);
+        let mut text = ShortText::new();
+        write_32(&mut text.bytes, 0, &table[start..start + 32]);
+        text.len = 20 - start;
+        text
+    }
+
     /// Takes bytes in behind those that are there, where the text stays short, and tells whether it did.
     #[inline(always)]
     pub fn take_in(&mut self, bytes: &[u8]) -> bool
@@ -70,14 +84,6 @@ impl ShortText {
         write_at(&mut self.bytes, self.len, bytes);
         self.len += bytes.len();
         true
-    }
-
-    /// The last byte, where there is one.
-    #[inline(always)]
-    pub(crate) fn last(&self) -> Option<u8>
-        ensures { result ≡ slice_get self.now (length self.now - 1) }
-    {
-        self.bytes().last().copied()
     }
 
     /// Writes over the last byte.

@@ -1,5 +1,5 @@
 //! Writes entries and traces.
-ghost use Rattle.std.specs.Prelude.{◌≡◌, ◌∷◌, ◌++◌, codes, map, slice_get, OnOk, OnErr};
+ghost use Rattle.std.specs.Prelude.{◌≡◌, ◌∷◌, ◌++◌, codes, decimal, map, slice_get, OnOk, OnErr};
 ghost use Rattle.std.specs.Io.KnownBytes.{Appends};
 ghost use Rattle.std.specs.List.{join_with_byte};
 ghost use Rattle.ec_text.specs.Puts.{Puts, AppendsPrefix};
@@ -12,7 +12,7 @@ use crate::write_heading::put_opening;
 use ec_core::{Act, Entry, Reply, Run};
 use ec_count::CellId;
 use ec_heading::Heading;
-use ec_text::{Out, WriteFault};
+use ec_text::{Decimal, Out, WriteFault};
 use std::io::Write;
 
 /// Puts the name of a cell.
@@ -23,9 +23,45 @@ pub fn put_cell<W: Write>(out: &mut Out<'_, W>, spellings: &Spellings<'_>, cell:
     spellings.put_cell(out, cell);
 }
 
+/// The numbers that were put last, each sort with its digits: the next of a sort mostly lies near it.
+#[derive(Drop)]
+pub struct LastNumbers {
+    value: Decimal,
+    read: Decimal,
+    ticket: Decimal,
+    got: Decimal,
+}
+
+impl LastNumbers {
+    /// Noughts, before any number was put.
+    #[inline(never)]
+    pub fn new() -> Self {
+        LastNumbers {
+            value: Decimal::new(0),
+            read: Decimal::new(0),
+            ticket: Decimal::new(0),
+            got: Decimal::new(0),
+        }
+    }
+}
+
+/// Puts a number, and keeps it as the last.
+#[inline(always)]
+fn put_next<W: Write>(out: &mut Out<'_, W>, last: &mut Decimal, n: u64)
+    ensures { Puts out.old out.new (decimal n) }
+{
+    last.set(n);
+    out.put_decimal(last);
+}
+
 /// Puts what a worker asks for, behind a space.
 #[inline(always)]
-fn put_act<W: Write>(out: &mut Out<'_, W>, spellings: &Spellings<'_>, act: &Act)
+fn put_act<W: Write>(
+    out: &mut Out<'_, W>,
+    spellings: &Spellings<'_>,
+    last: &mut LastNumbers,
+    act: &Act,
+)
     ensures { Puts out.old out.new (32 ∷ join_with_byte 32 (act_words spellings.now act.now)) }
 {
     match *act {
@@ -41,7 +77,7 @@ fn put_act<W: Write>(out: &mut Out<'_, W>, spellings: &Spellings<'_>, act: &Act)
             out.put(b" await ");
             spellings.put_event(out, event);
             out.put_byte(b' ');
-            out.put_number(threshold);
+            put_next(out, &mut last.value, threshold);
         }
         Act::Go => out.put(b" go"),
         Act::Ticket(sequencer) => {
@@ -52,7 +88,7 @@ fn put_act<W: Write>(out: &mut Out<'_, W>, spellings: &Spellings<'_>, act: &Act)
             out.put(b" put ");
             put_cell(out, spellings, cell);
             out.put_byte(b' ');
-            out.put_number(value);
+            put_next(out, &mut last.value, value);
         }
         Act::Get(cell) => {
             out.put(b" get ");
@@ -79,30 +115,54 @@ pub fn put_reply<W: Write>(out: &mut Out<'_, W>, reply: &Reply)
     }
 }
 
+/// Puts a number that a worker is told.
+#[inline(always)]
+fn put_told<W: Write>(out: &mut Out<'_, W>, last: &mut LastNumbers, act: &Act, n: u64)
+    ensures { Puts out.old out.new (decimal n) }
+{
+    match *act {
+        Act::Ticket(_) => put_next(out, &mut last.ticket, n),
+        Act::Get(_) => put_next(out, &mut last.got, n),
+        _ => put_next(out, &mut last.read, n),
+    }
+}
+
 /// Puts what a worker is told, behind an equals sign between spaces.
 #[inline(always)]
-fn put_answer<W: Write>(out: &mut Out<'_, W>, reply: &Reply)
-    ensures { Puts out.old out.new (codes " = " ++ reply_word reply.now) }
+fn put_answer<W: Write>(out: &mut Out<'_, W>, last: &mut LastNumbers, entry: &Entry)
+    ensures { Puts out.old out.new (codes " = " ++ reply_word entry.now.reply) }
 {
-    match *reply {
+    match entry.reply {
         Reply::Done => out.put(b" = done"),
         Reply::Pending => out.put(b" = pending"),
         Reply::Number(n) => {
             out.put(b" = ");
-            out.put_number(n);
+            put_told(out, last, &entry.act, n);
         }
     }
 }
 
-/// Puts an entry, without LF.
+/// Puts an entry that follows others, without LF. Numbers that lie near the last ones need little work.
 #[inline(always)]
 #[tactic(auto, using(crate::proofs::EntryParts::entry_parts))]
-pub fn put_entry<W: Write>(out: &mut Out<'_, W>, spellings: &Spellings<'_>, entry: &Entry)
+pub fn put_next_entry<W: Write>(
+    out: &mut Out<'_, W>,
+    spellings: &Spellings<'_>,
+    last: &mut LastNumbers,
+    entry: &Entry,
+)
     ensures { Puts out.old out.new (entry_line spellings.now entry.now) }
 {
     spellings.put_worker(out, entry.worker);
-    put_act(out, spellings, &entry.act);
-    put_answer(out, &entry.reply);
+    put_act(out, spellings, last, &entry.act);
+    put_answer(out, last, entry);
+}
+
+/// Puts an entry, without LF.
+pub fn put_entry<W: Write>(out: &mut Out<'_, W>, spellings: &Spellings<'_>, entry: &Entry)
+    ensures { Puts out.old out.new (entry_line spellings.now entry.now) }
+{
+    put_next_entry(out, spellings, &mut LastNumbers::new(), entry);
 }
 
 /// Writes an entry, without LF, as a trace has it. What has no name is spelled by no bytes.
@@ -124,11 +184,17 @@ pub fn write_entry<W: Write>(
 }
 
 /// Puts the line of the entry at a place of a run, if there is one.
-fn put_entry_at<W: Write>(out: &mut Out<'_, W>, spellings: &Spellings<'_>, run: &Run, place: usize)
+fn put_entry_at<W: Write>(
+    out: &mut Out<'_, W>,
+    spellings: &Spellings<'_>,
+    last: &mut LastNumbers,
+    run: &Run,
+    place: usize,
+)
     ensures { Puts out.old out.new (entry_text spellings.now (slice_get run.now.entries place)) }
 {
     if let Some(entry) = run.entry(place) {
-        put_entry(out, spellings, &entry);
+        put_next_entry(out, spellings, last, &entry);
         out.put_byte(b'\n');
     }
 }
@@ -138,8 +204,9 @@ fn put_entry_at<W: Write>(out: &mut Out<'_, W>, spellings: &Spellings<'_>, run: 
 fn put_entries<W: Write>(out: &mut Out<'_, W>, spellings: &Spellings<'_>, run: &Run)
     ensures { Puts out.old out.new (text_of (map (entry_line spellings.now) run.now.entries)) }
 {
+    let mut last = LastNumbers::new();
     for place in 0..run.len() {
-        put_entry_at(out, spellings, run, place);
+        put_entry_at(out, spellings, &mut last, run, place);
     }
 }
 

@@ -11,7 +11,7 @@ use crate::totals::put_totals;
 use ec_core::World;
 use ec_order::{Dated, InTime};
 use ec_text::{Decimal, Out, WriteFault};
-use ec_trace::{Heading, Spellings, put_entry};
+use ec_trace::{Heading, LastNumbers, Spellings, put_next_entry};
 use std::io::Write;
 
 /// Puts the line of a call, and has its point in `point` then. The line's point is mostly that of the line before, or one more, so
@@ -20,6 +20,7 @@ fn put_dated<W: Write>(
     out: &mut Out<'_, W>,
     spellings: &Spellings<'_>,
     point: &mut Decimal,
+    last: &mut LastNumbers,
     dated: &Dated,
 )
     ensures { Puts out.old out.new (dated_line spellings.now dated.now ++ 10 ∷ []) }
@@ -27,7 +28,7 @@ fn put_dated<W: Write>(
     point.set(dated.point as u64);
     out.put_decimal(point);
     out.put(b" ");
-    put_entry(out, spellings, &dated.entry);
+    put_next_entry(out, spellings, last, &dated.entry);
     out.put(b"\n");
 }
 
@@ -36,8 +37,9 @@ fn put_order<W: Write>(out: &mut Out<'_, W>, spellings: &Spellings<'_>, calls: I
     ensures { Puts out.old out.new (text_of (map (dated_line spellings.now) calls.entry)) }
 {
     let mut point = Decimal::new(0);
+    let mut last = LastNumbers::new();
     for dated in calls {
-        put_dated(out, spellings, &mut point, &dated);
+        put_dated(out, spellings, &mut point, &mut last, &dated);
     }
 }
 
