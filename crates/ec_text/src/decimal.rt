@@ -1,39 +1,31 @@
 //! Numbers that are kept with their digits.
-ghost use Rattle.std.specs.Prelude.{◌≡◌, ◌+◌, ◌<◌, ◌^◌, ◌/◌, ◌%◌, ℕ, decimal, length};
+ghost use Rattle.std.specs.Prelude.{◌≡◌, ◌+◌, ◌-◌, ◌<◌, decimal, length, slice_set};
 
 use crate::table::ShortText;
 use std::marker::Model;
 
 /// A number and its decimal digits, so that one that is put again and again isn't spelled anew each time.
 ///
-/// Meant for a number that mostly stays or changes by little, as the points of lines do: `set` then writes the last digit alone.
+/// Meant for a number that mostly stays or changes by little, as the points of lines do: `set` then keeps another last digit alone.
 /// Any number may follow any other, and is spelled anew where the last digit isn't enough.
 #[derive(Drop)]
 pub struct Decimal {
     /// The number with a last digit of 0.
     tens: u64,
-    value: u64,
+    /// The last digit. It is not written among the others: a copy of them all would have to wait for it.
+    last: u8,
+    /// The digits of `tens`.
     digits: ShortText,
 }
 
 impl Model for Decimal {
-    ghost use Rattle.std.specs.Prelude.{◌≡◌, ◌+◌, ◌%◌, ℕ, decimal};
+    ghost use Rattle.std.specs.Prelude.{◌≡◌, ◌+◌, ◌%◌, ◌<◌, ◌^◌, ℕ, decimal};
 
     ghost Value = { ℕ };
 
-    ghost view = { λ d. d.value };
+    ghost view = { λ d. d.tens + d.last };
 
-    ghost invariant = { λ d. (d.digits ≡ decimal d.value) × (d.tens + d.value % 10 ≡ d.value) };
-}
-
-/// Writes another last digit: the digits are then those of the number that differs by it alone.
-#[inline(always)]
-fn change_last(digits: &mut ShortText, last: u8)
-    requires { (0 < length digits.old) × (last < 10) }
-    ensures { (m n : ℕ) → m < 2 ^ 64 → n < 2 ^ 64 → digits.old ≡ decimal m → n / 10 ≡ m / 10 → n % 10 ≡ last
-        → digits.new ≡ decimal n }
-{
-    digits.set_last(b'0' + last);
+    ghost invariant = { λ d. (d.tens % 10 ≡ 0) × (d.last < 10) × (d.tens + d.last < 2 ^ 64) × (d.digits ≡ decimal d.tens) };
 }
 
 impl Decimal {
@@ -42,24 +34,22 @@ impl Decimal {
     pub fn new(n: u64) -> Self
         ensures { result ≡ n }
     {
+        let last = n % 10;
+        let tens = n - last;
         Decimal {
-            tens: n - n % 10,
-            value: n,
-            digits: ShortText::spelled(n),
+            tens,
+            last: last as u8,
+            digits: ShortText::spelled(tens),
         }
     }
 
     /// Takes another number in place of this one.
     #[inline(always)]
-    #[tactic(auto, using(crate::proofs::shared::DecimalLemmas::some_digit))]
     pub fn set(&mut self, n: u64)
         ensures { self.new ≡ n }
     {
         match n.checked_sub(self.tens) {
-            Some(last) if last < 10 => {
-                change_last(&mut self.digits, last as u8);
-                self.value = n;
-            }
+            Some(last) if last < 10 => self.last = last as u8,
             _ => self.spell(n),
         }
     }
@@ -72,19 +62,19 @@ impl Decimal {
         *self = Decimal::new(n);
     }
 
-    /// The decimal digits of the number, ready to be put.
+    /// The decimal digits of the number but for the last one, in whose place any other stands, and the last one, ready to be put.
     #[inline(always)]
-    pub(crate) fn text(&self) -> &ShortText
-        ensures { result.now ≡ decimal self.now }
+    pub(crate) fn ending(&self) -> (&ShortText, u8)
+        ensures some { 0 < length result.0.now }
+        ensures digits { slice_set result.0.now (length result.0.now - 1) result.1 ≡ decimal self.now }
     {
-        &self.digits
+        (&self.digits, b'0' + self.last)
     }
 
     /// The decimal digits of the number.
-    #[inline(always)]
-    pub fn digits(&self) -> &[u8]
-        ensures { result.now ≡ decimal self.now }
+    pub fn digits(&self) -> ShortText
+        ensures { result ≡ decimal self.now }
     {
-        self.digits.bytes()
+        ShortText::spelled(self.tens + u64::from(self.last))
     }
 }

@@ -1,5 +1,5 @@
 //! A writer with a table of bytes before it.
-ghost use Rattle.std.specs.Prelude.{◌≡◌, ◌∷◌, [], List, ℕ, false, true, IsOk, IsErr, OnOk, OnErr, IsTrue, decimal, length, ◌+◌, ◌≤◌};
+ghost use Rattle.std.specs.Prelude.{◌≡◌, ◌∷◌, [], List, ℕ, false, true, IsOk, IsErr, OnOk, OnErr, IsTrue, decimal, length, slice_set, ◌+◌, ◌-◌, ◌<◌, ◌≤◌};
 ghost use Rattle.std.specs.List.{flat_map};
 ghost use Rattle.std.specs.Io.KnownBytes.{Appends};
 ghost use Rattle.ec_text.specs.Puts.{Outgoing, Holds, Puts, AppendsPrefix, IsFresh, IsWrittenOut, at_first, with_bytes};
@@ -120,6 +120,18 @@ impl<'a, W: Write> Out<'a, W> {
         self.put_at_end(text);
     }
 
+    /// Takes a short text in with another last byte, as `take_in_short` does.
+    #[inline(always)]
+    fn take_in_ending(&mut self, text: &ShortText, last: u8) -> bool
+        requires { 0 < length text.now }
+        ensures puts { IsTrue result → Puts self.old self.new (slice_set text.now (length text.now - 1) last) }
+        ensures full { result ≡ false → self.new ≡ self.old }
+        ensures stays { self.old.failed ≡ true → self.new ≡ self.old }
+        ensures taken { self.old.failed ≡ false → result ≡ true → self.new ≡ with_bytes self.old (slice_set text.now (length text.now - 1) last) }
+    {
+        self.bytes.take_in_ending(text, last)
+    }
+
     /// Puts the digits of a number that is kept with them.
     #[inline(always)]
     pub fn put_decimal(&mut self, number: &Decimal)
@@ -128,7 +140,11 @@ impl<'a, W: Write> Out<'a, W> {
             → self.new ≡ with_bytes self.old (decimal number.now) }
         ensures stays { self.old.failed ≡ true → self.new ≡ self.old }
     {
-        self.put_short(number.text());
+        let (digits, last) = number.ending();
+        if self.take_in_ending(digits, last) {
+            return;
+        }
+        self.put_at_end(&number.digits());
     }
 
     /// Puts a short text near the end of the table.

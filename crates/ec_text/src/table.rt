@@ -86,15 +86,6 @@ impl ShortText {
         true
     }
 
-    /// Writes over the last byte.
-    #[inline(always)]
-    pub(crate) fn set_last(&mut self, byte: u8)
-        requires { 0 < length self.old }
-        ensures { self.new ≡ slice_set self.old (length self.old - 1) byte }
-    {
-        self.bytes[self.len - 1] = byte;
-    }
-
     /// The bytes of the text.
     #[inline(always)]
     pub fn bytes(&self) -> &[u8]
@@ -174,5 +165,28 @@ impl Table {
         write_32(&mut self.bytes, self.len, &text.bytes);
         self.len += text.len;
         true
+    }
+
+    /// Takes in a short text with another last byte, as `take_in_short` does.
+    #[inline(always)]
+    pub(crate) fn take_in_ending(&mut self, text: &ShortText, last: u8) -> bool
+        requires { 0 < length text.now }
+        ensures taken { IsTrue result → self.new ≡ self.old ++ slice_set text.now (length text.now - 1) last }
+        ensures kept { result ≡ false → self.new ≡ self.old }
+    {
+        if !self.take_in_short(text) {
+            return false;
+        }
+        self.set_last(last);
+        true
+    }
+
+    /// Writes over the last byte.
+    #[inline(always)]
+    fn set_last(&mut self, byte: u8)
+        requires { 0 < length self.old }
+        ensures { self.new ≡ slice_set self.old (length self.old - 1) byte }
+    {
+        self.bytes[self.len - 1] = byte;
     }
 }

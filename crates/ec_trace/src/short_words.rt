@@ -54,7 +54,7 @@ fn short_cell(cell: &Option<CellName<'_>>) -> Option<ShortText>
     let number = Decimal::new(name.place as u64);
     let fits = text.take_in(name.block)
         && text.take_in(b"[")
-        && text.take_in(number.digits())
+        && text.take_in(number.digits().bytes())
         && text.take_in(b"]");
     if fits { Some(text) } else { None }
 }

@@ -44,13 +44,13 @@ static STEPS: [(u64, &str); 34] = [
 #[test]
 fn digits_of_numbers_that_are_set(rt: HostRuntime) {
     let mut number = Decimal::new(7);
-    assert!(rt; number.digits() == b"7".as_slice());
+    assert!(rt; number.digits().bytes() == b"7".as_slice());
     for (n, digits) in &STEPS {
         number.set(*n);
-        assert!(rt; number.digits() == digits.as_bytes(), "at {digits}");
+        assert!(rt; number.digits().bytes() == digits.as_bytes(), "at {digits}");
     }
     number.set(0);
-    assert!(rt; number.digits() == b"0".as_slice());
+    assert!(rt; number.digits().bytes() == b"0".as_slice());
 }
 
 /// Whether a number is put as these digits.
