@@ -1,4 +1,5 @@
 //! What steps are answered, and what stands after them.
+use crate::drive::Ask;
 use crate::drive::Ask::{Advance, Await, Get, Go, Put, Read, Ticket};
 use crate::drive::Told::{Done, Number, Pending, Refused};
 use crate::drive::{
@@ -363,6 +364,37 @@ fn a_world_alone(rt: HostRuntime) -> Result<(), Fail> {
         assert!(rt; steps(&mut world, step));
     }
     assert!(rt; world.under_way(worker(0)).is_none());
+    Ok(())
+}
+
+/// Steps, each with what began its call: a read, and an await that falls short once.
+static CALLS: [(Step, Ask); 9] = [
+    ((0, Advance(0), Done), Advance(0)),
+    ((1, Read(0), Pending), Read(0)),
+    ((1, Go, Number(1)), Read(0)),
+    ((1, Await(0, 2), Pending), Await(0, 2)),
+    ((1, Go, Pending), Await(0, 2)),
+    ((0, Advance(0), Done), Advance(0)),
+    ((1, Go, Pending), Await(0, 2)),
+    ((1, Go, Number(2)), Await(0, 2)),
+    ((1, Go, Refused(Refusal::Idle)), Go),
+];
+
+/// Whether a world gives a step its answer, and tells what began its call.
+fn steps_of(world: &mut Worlds, step: &Step, op: Ask) -> bool {
+    let (n, ask, told) = *step;
+    match world.step_of_call(worker(n), act_of(ask)) {
+        Ok(made) => made.op == act_of(op) && is_told(Ok(made.reply), told),
+        Err(refusal) => is_told(Err(StepFault::Refused(refusal)), told),
+    }
+}
+
+#[test]
+fn steps_told_with_what_began_their_calls(rt: HostRuntime) -> Result<(), Fail> {
+    let mut world = opened(&SIGNALLER_AND_OBSERVER)?;
+    for (place, (step, op)) in CALLS.iter().enumerate() {
+        assert!(rt; steps_of(&mut world, step, *op), "at {place}");
+    }
     Ok(())
 }
 

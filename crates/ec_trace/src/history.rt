@@ -1,13 +1,11 @@
 //! Who is handed the steps of a trace.
 ghost use Rattle.std.specs.Prelude.{◌≡◌, List, [], reverse, length};
-ghost use Rattle.ec_core.specs.Calls.{under_way};
-ghost use Rattle.ec_core.specs.Following.{opened};
 ghost use Rattle.ec_core.specs.Recorded.{Recorded};
 ghost use Rattle.ec_core.specs.Standing.{StandsFor};
 ghost use Rattle.ec_core.specs.declared.act.Entry.{Entry};
 ghost use Rattle.ec_trace.specs.Histories.{Enters};
 
-use ec_core::{Act, Audit, Entry, Reply, Run, StepFault, World};
+use ec_core::{Act, Audit, Entry, Reply, Run, Step, StepFault, World};
 use ec_count::{Setup, WorkerId};
 
 /// Who stands for a history, and makes its next step. A `Run` keeps the history, a `Watched` doesn't.
@@ -36,20 +34,6 @@ pub struct Watched<A> {
     world: World,
     place: usize,
     audit: A,
-}
-
-/// The act that began the call that an act is part of, given the world before it.
-#[inline(always)]
-fn begun_by(world: &World, worker: WorkerId, act: &Act) -> Act
-    ensures { (h : List Entry) → StandsFor world.now h → result ≡ opened act.now (under_way worker (reverse h)) }
-{
-    match *act {
-        Act::Go => match world.under_way(worker) {
-            Some(call) => call.op(),
-            None => Act::Go,
-        },
-        other => other,
-    }
 }
 
 impl<A: Audit> Watched<A> {
@@ -83,9 +67,9 @@ impl<A: Audit> History for Watched<A> {
         let Some(next) = self.place.checked_add(1) else {
             return Err(StepFault::Memory);
         };
-        let op = begun_by(&self.world, worker, &act);
-        let reply = match self.world.step(worker, act) {
-            Ok(reply) => reply,
+        let asked = act;
+        let Step { op, reply } = match self.world.step_of_call(worker, asked) {
+            Ok(step) => step,
             Err(refusal) => return Err(StepFault::Refused(refusal)),
         };
         let entry = Entry { worker, act, reply };
