@@ -1,6 +1,6 @@
 -- Calls under way. A worker's entries are cut, in order, into calls: a read or an await goes on with that
 -- worker's following goes, up to its first entry whose reply is not Pending; every other act is a call of one entry.
-use Rattle.std.specs.Prelude.{ℕ, Bool, true, false, ◌==◌, List, [], ◌∷◌, Option, Some, None, if◌then◌else◌}
+use Rattle.std.specs.Prelude.{ℕ, Bool, true, false, ◌==◌, ◌&&◌, List, [], ◌∷◌, Option, Some, None, if◌then◌else◌}
 use Rattle.ec_core.specs.declared.act.Act.{Act}
 use Rattle.ec_core.specs.declared.act.Act.TheVariants.{Go}
 use Rattle.ec_core.specs.declared.act.Reply.{Reply}
@@ -14,6 +14,10 @@ is_pending _ = false
 abbrev pub is_go : Act → Bool
 is_go Go = true
 is_go _ = false
+
+-- whether an entry goes on with a call, and does not end it
+abbrev pub goes_on : Entry → Bool
+goes_on x = is_go x.act && is_pending x.reply
 
 -- a call so far: the act that began it, and the past of each of its entries, the newest first
 pub record CallSoFar : Type 0 where

@@ -2,12 +2,12 @@
 ghost use Rattle.std.specs.Prelude.{◌≡◌, ℕ, List, [], ◌∷◌, length, reverse};
 ghost use Rattle.ec_core.specs.declared.act.Entry.{Entry};
 ghost use Rattle.ec_core.specs.declared.protocol.Kept.{Kept};
-ghost use Rattle.ec_core.specs.Calls.{under_way};
+ghost use Rattle.ec_core.specs.Calls.{under_way, is_pending};
 ghost use Rattle.ec_core.specs.Following.{Told, Rule, opened, block};
 ghost use Rattle.ec_core.specs.Scanning.{IsFinding, IsTracked, Finds};
 
 use crate::fields::all_alike;
-use crate::{Act, AuditFault, Entry, Kept, Protocol};
+use crate::{Act, AuditFault, Entry, Kept, Protocol, Reply};
 use ec_count::WorkerId;
 use std::marker::Model;
 
@@ -39,6 +39,7 @@ impl Tracker {
     }
 
     /// What is kept of the list that the worker is in.
+    #[inline(always)]
     pub fn kept(&self, worker: WorkerId) -> Kept
         ensures { (rules : ℕ → Rule) (keeps : List Told → Kept) (past : List Entry) → IsTracked rules keeps self.now past
             → result ≡ keeps (block (rules worker) worker past) }
@@ -59,41 +60,49 @@ impl Tracker {
     }
 
     /// Takes an entry in, given its place in the run and the act that began its call.
+    #[inline(always)]
     pub fn take<P: Protocol>(&mut self, protocol: &P, place: usize, op: &Act, entry: &Entry)
         ensures { (past : List Entry) → place ≡ length past → op.now ≡ opened entry.now.act (under_way entry.now.worker past)
             → IsTracked (P.rules protocol.now) (P.keeps protocol.now) self.old past
             → IsTracked (P.rules protocol.now) (P.keeps protocol.now) self.new (entry.now ∷ past) }
     {
         let kept = self.kept(entry.worker);
-        let worker = entry.worker.get();
-        self.fault = found(protocol, self.fault, &kept, place, entry);
-        self.kept[worker] = protocol.after(entry.worker, &kept, op, entry.reply);
+        find(protocol, &mut self.fault, &kept, place, entry);
+        if is_pending(entry.reply) {
+            return;
+        }
+        self.kept[entry.worker.get()] = protocol.after(entry.worker, &kept, op, entry.reply);
     }
 }
 
-/// What was found, with one more entry.
-fn found<P: Protocol>(
+/// Whether a call goes on.
+#[inline(always)]
+fn is_pending(reply: Reply) -> bool
+    ensures { result ≡ is_pending reply }
+{
+    matches!(reply, Reply::Pending)
+}
+
+/// Finds whether one more entry is the first that breaks the lists.
+#[inline(always)]
+fn find<P: Protocol>(
     protocol: &P,
-    before: Option<AuditFault>,
+    fault: &mut Option<AuditFault>,
     kept: &Kept,
     place: usize,
     entry: &Entry,
-) -> Option<AuditFault>
+)
     ensures { (past : List Entry) → place ≡ length past
         → kept.now ≡ P.keeps protocol.now (block (P.rules protocol.now entry.now.worker) entry.now.worker past)
-        → IsFinding (P.rules protocol.now) before past → IsFinding (P.rules protocol.now) result (entry.now ∷ past) }
+        → IsFinding (P.rules protocol.now) fault.old past → IsFinding (P.rules protocol.now) fault.new (entry.now ∷ past) }
 {
-    match before {
-        Some(fault) => Some(fault),
-        None => {
-            if protocol.is_right(entry.worker, kept, &entry.act) {
-                None
-            } else {
-                Some(AuditFault::NotFollowed {
-                    worker: entry.worker,
-                    entry: place,
-                })
-            }
-        }
+    if fault.is_some() {
+        return;
+    }
+    if !protocol.is_right(entry.worker, kept, &entry.act) {
+        *fault = Some(AuditFault::NotFollowed {
+            worker: entry.worker,
+            entry: place,
+        });
     }
 }

@@ -1,4 +1,4 @@
--- What is kept of a group may be left out of an entry whose call is not on it.
+-- What is kept of a group may be left out of an entry whose call is not on it, and of a go that ends no call.
 use Rattle.std.proofs.Common.{◌≡◌, ℕ, suc, ◌+◌, ◌-◌, ◌<◌, ◌≤◌, ◌==◌, ◌&&◌, ◌||◌, not, nat_le, min, Bool, true, false, List, [], ◌∷◌, ◌++◌, length, replicate, Option, None, Some, is_some, refl, ap, sym, ◌∙◌, arith, cond, subst, true≢false, append-nil, append_assoc}
 use Rattle.std.specs.Option.{option_map, option_to_list}
 use Rattle.std.specs.List.{filter}
@@ -9,23 +9,24 @@ use Rattle.ec_count.specs.Tables.{Tables}
 use Rattle.ec_core.specs.declared.act.Act.{Act}
 use Rattle.ec_core.specs.declared.act.Act.TheVariants.{Advance, Read, Await, Go, Ticket, Put, Get, Hand}
 use Rattle.ec_core.specs.declared.act.Entry.{Entry}
-use Rattle.ec_core.specs.Calls.{CallSoFar, under_way, is_go, is_pending}
+use Rattle.ec_core.specs.Calls.{CallSoFar, under_way, is_go, is_pending, goes_on}
 use Rattle.ec_core.specs.Counts.{total, is_advance}
-use Rattle.ec_core.specs.Following.{Told, block, opened}
+use Rattle.ec_core.specs.Following.{Told, Rule, block, opened}
 use Rattle.ec_core.proofs.shared.Following.{op_at}
+use Rattle.ec_core.proofs.shared.Tracking.{going, by_going}
 use Rattle.ec_buffer.specs.Shapes.{Buffer}
 use Rattle.ec_buffer.specs.Follows as buffers
-use Rattle.ec_buffer.proofs.shared.LeftOut.{delivering_off}
+use Rattle.ec_buffer.proofs.shared.LeftOut.{delivering_off, delivering_going}
 use Rattle.ec_database.specs.Shapes.{Database}
 use Rattle.ec_database.specs.Following as databases
 use Rattle.ec_database.specs.Following.{write_rule, try_rule, writes, database_rules}
 use Rattle.ec_database.specs.Tries.{accepted_of, ended_at}
-use Rattle.ec_database.proofs.shared.LeftOut.{versioning_off}
+use Rattle.ec_database.proofs.shared.LeftOut.{versioning_off, versioning_going, none_going}
 use Rattle.ec_semaphore.specs.Shapes.{Semaphore}
 use Rattle.ec_semaphore.specs.Uses as semaphores
 use Rattle.ec_semaphore.specs.Auditing.{Balancing, IsCounted}
 use Rattle.ec_semaphore.specs.Balances.{ups}
-use Rattle.ec_semaphore.proofs.shared.LeftOut.{counted_off}
+use Rattle.ec_semaphore.proofs.shared.LeftOut.{counted_off, counted_going, pairing_going}
 use Rattle.ec_walk.specs.Walks.{is_on}
 use Rattle.ec_draw.specs.declared.window.Window.{Window}
 use Rattle.ec_draw.specs.declared.arrow.Move.{Move}
@@ -122,12 +123,12 @@ few_kept s w past n hs was =
     let rest = length-replicate (m - length hs) n in
     omega arith
 
-course_off : (c : Course) (x : Entry) (past : List Entry) → semaphores.is_on c.audit.shape (op_at x past) ≡ false → IsCourse c past → IsCourse c (x ∷ past)
+-- it has as much after an entry that its audit leaves out
+course_kept : (c : Course) (x : Entry) (past : List Entry) → IsCounted c.audit (x ∷ past) → IsCourse c past → IsCourse c (x ∷ past)
 unfolding lefts
-course_off c x past off is =
+course_kept c x past counted is =
     let s = c.audit.shape in
     let w = c.window in
-    let counted = counted_off c.audit x past off is.counted in
     record {
       counted = counted;
       heights = λ ok small.
@@ -137,6 +138,12 @@ course_off c x past off is =
           ap (padded c) one ∙ pad_more w (length past) (left_by c.audit) c.heights few ∙ ap (λ l. l ++ told_at w (length past + 1) (left_by c.audit)) was
           ∙ ap (λ n. lefts s w past ++ told_at w (length past + 1) n) (left_is c.audit (x ∷ past) counted));
     }
+
+course_off : (c : Course) (x : Entry) (past : List Entry) → semaphores.is_on c.audit.shape (op_at x past) ≡ false → IsCourse c past → IsCourse c (x ∷ past)
+course_off c x past off is = course_kept c x past (counted_off c.audit x past off is.counted) is
+
+course_going : (c : Course) (x : Entry) (past : List Entry) → goes_on x ≡ true → IsCourse c past → IsCourse c (x ∷ past)
+course_going c x past on is = course_kept c x past (counted_going c.audit x past on is.counted) is
 
 -- TRIES
 
@@ -188,6 +195,33 @@ trying_off a x past off is = record {
   shades = λ ok. is.shades ok ∙ sym (shades_off a.audit.setup a.shape a.window x past off);
 }
 
+begins_going : (r : Rule) (calls : List Told) → begins_list r calls Go ≡ false
+begins_going r [] = refl
+begins_going r (c ∷ calls) = refl
+
+start_going : (r : Rule) (v w : ℕ) (past : List Entry) → list_start r v (going w ∷ past) ≡ list_start r v past
+unfolding list_start
+start_going r v w past = ap (λ b. cond (w == v && b) (length past) (list_start r v past)) (begins_going r (block r v past)) ∙ none (w == v)
+  where
+    none : (b : Bool) → cond (b && false) (length past) (list_start r v past) ≡ list_start r v past
+    none true = refl
+    none false = refl
+
+shades_going : (t : Tables) (d : Database) (w : Window) (v : ℕ) (past : List Entry) → shades_shown t d w (going v ∷ past) ≡ shades_shown t d w past
+unfolding shades_in
+shades_going t d w v past =
+    ap (λ o. filter (is_in w) (shades_in t d past ++ option_to_list (option_map (shaded d.start (span_at t d (going v) past)) o))) (none_going d (writes t d) v past)
+    ∙ ap (filter (is_in w)) (append-nil (shades_in t d past))
+
+trying_going : (a : Trying) (x : Entry) (past : List Entry) → goes_on x ≡ true → IsTrying a past → IsTrying a (x ∷ past)
+trying_going a x past on is =
+    by_going (λ y. goes_on y ≡ true → IsTrying a (y ∷ past)) (λ v on. record {
+      shape = is.shape;
+      audit = versioning_going a.audit (going v) past on is.audit;
+      starts = λ w lt. is.starts w lt ∙ ap Some (sym (start_going (database_rules a.audit.setup a.shape w) w v past));
+      shades = λ ok. is.shades ok ∙ sym (shades_going a.audit.setup a.shape a.window v past);
+    }) x on on
+
 -- MOVES
 
 move_off : (m : Move) (b : Buffer) (act : Act) (o : Option CallSoFar) → buffers.is_on b (opened act o) ≡ false → is_move m b act ≡ false
@@ -220,6 +254,23 @@ moving_off m x past off is = record {
   gets = λ ok. is.gets ok ∙ sym (places_off moves.Get m.shape x past off);
 }
 
+move_going : (m : Move) (b : Buffer) → is_move m b Go ≡ false
+move_going moves.Put b = refl
+move_going moves.Get b = refl
+
+places_going : (m : Move) (b : Buffer) (w : ℕ) (past : List Entry) → places m b (going w ∷ past) ≡ places m b past
+unfolding places
+places_going m b w past = ap (λ c. places m b past ++ cond c (length past ∷ []) []) (move_going m b) ∙ append-nil (places m b past)
+
+moving_going : (m : Moving) (x : Entry) (past : List Entry) → goes_on x ≡ true → IsMoving m past → IsMoving m (x ∷ past)
+moving_going m x past on is =
+    by_going (λ y. goes_on y ≡ true → IsMoving m (y ∷ past)) (λ w on. record {
+      shape = is.shape;
+      audit = delivering_going m.audit (going w) past on is.audit;
+      puts = λ ok. is.puts ok ∙ sym (places_going moves.Put m.shape w past);
+      gets = λ ok. is.gets ok ∙ sym (places_going moves.Get m.shape w past);
+    }) x on on
+
 -- ALL GROUPS
 
 pub finds_off : (start now : Finding) (x : Entry) (past : List Entry) → is_on (group_of start) (op_at x past) ≡ false → FindsOn start now past → FindsOn start now (x ∷ past)
@@ -231,3 +282,11 @@ finds_off (finds.Moves a) (finds.Moves b) x past off on =
     (on.0, on.1, moving_off b x past (subst (λ (s : Buffer). buffers.is_on s (op_at x past) ≡ false) (sym on.0) off) on.2)
 finds_off (finds.Both a) now x past off on = absurd (true≢false off)
 finds_off start now x past off on = absurd on
+
+pub finds_stay : (start now : Finding) (x : Entry) (past : List Entry) → goes_on x ≡ true → FindsOn start now past → FindsOn start now (x ∷ past)
+finds_stay (finds.Balance a) (finds.Balance b) x past on is = (is.0, is.1, course_going b x past on is.2)
+finds_stay (finds.Tries a) (finds.Tries b) x past on is = (is.0, is.1, is.2, trying_going b x past on is.3)
+finds_stay (finds.Moves a) (finds.Moves b) x past on is = (is.0, is.1, moving_going b x past on is.2)
+finds_stay (finds.Both a) (finds.Both b) x past on (course, pairs) =
+    ((course.0, course.1, course_going b.course x past on course.2), (pairs.0, pairs.1, pairing_going b.pairs x past on pairs.2))
+finds_stay start now x past on is = absurd is

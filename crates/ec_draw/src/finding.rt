@@ -84,11 +84,13 @@ impl<'a> Audit for Finding<'a> {
 impl<'a> GroupAudit for Finding<'a> {
     ghost use Rattle.ec_draw.specs.Following.{follows};
     ghost use Rattle.ec_draw.specs.Findings.{group_of};
-    ghost use Rattle.ec_draw.specs.LeftOut.{finds_off};
+    ghost use Rattle.ec_draw.specs.LeftOut.{finds_off, finds_stay};
 
     ghost group = { group_of };
 
     ghost passes = { finds_off };
+
+    ghost stays = { finds_stay };
 }
 
 /// What is kept of groups before the first entry.

@@ -7,6 +7,7 @@ use Rattle.std.proofs.lemmas.Option.{slice_get_within}
 use Rattle.ec_core.specs.declared.act.Act.{Act}
 use Rattle.ec_core.specs.declared.act.Act.TheVariants.{Advance, Read, Await, Put, Get, Hand}
 use Rattle.ec_core.specs.declared.act.Entry.{Entry}
+use Rattle.ec_core.specs.Calls.{goes_on}
 use Rattle.ec_core.proofs.shared.Following.{op_at}
 use Rattle.ec_core.proofs.shared.Places.{get_set}
 use Rattle.ec_heading.specs.declared.group.Group.{Group}
@@ -175,6 +176,13 @@ module _ {A : Type 0} (stands : A → A → List Entry → Type 0) (gs : List Gr
               ] refl,
         ),
       )
+
+-- A GO THAT ENDS NO CALL
+
+-- each audit stands after it as before
+pub each_stays : {A : Type 0} (group : A → Group) (stands : A → A → List Entry → Type 0) (stays : (start now : A) (x : Entry) (past : List Entry) → goes_on x ≡ true → stands start now past → stands start now (x ∷ past))
+    (gs : List Group) (starts now : List A) (x : Entry) (past : List Entry) → goes_on x ≡ true → AreWalked group stands gs starts now past → AreWalked group stands gs starts now (x ∷ past)
+each_stays group stands stays gs starts now x past on each = λ i g here. (let k = each i g here in (k.0, k.1, k.2, k.3, k.4, stays k.0 k.1 x past on k.5))
 
 -- BOTH HANDS
 

@@ -1,23 +1,28 @@
 //! The audits of all groups, in one walk over the entries.
-ghost use Rattle.std.specs.Prelude.{◌≡◌, ℕ, ◌+◌, ◌<◌, ◌^◌, Bool, false, List, [], ◌∷◌, reverse};
+ghost use Rattle.std.specs.Prelude.{◌≡◌, ℕ, ◌+◌, ◌<◌, ◌^◌, Bool, true, false, List, [], ◌∷◌, reverse};
 ghost use Rattle.ec_core.specs.declared.act.Entry.{Entry};
-ghost use Rattle.ec_core.specs.Calls.{under_way};
+ghost use Rattle.ec_core.specs.Calls.{under_way, goes_on};
 ghost use Rattle.ec_core.specs.Following.{opened};
 ghost use Rattle.ec_heading.specs.declared.group.Group.{Group};
-ghost use Rattle.ec_walk.specs.Walks.{is_on, is_wide_at, HandsTo, HandsAmong, AreWalked, IsTable};
+ghost use Rattle.ec_walk.specs.Walks.{is_on, is_wide, is_wide_at, Covers, HandsTo, HandsAmong, AreWalked, IsTable};
 
 use crate::table::{Span, Table, is_wide};
-use ec_core::{Act, Audit, Entry, Run, walk};
+use ec_core::{Act, Audit, Entry, Reply, Run, walk};
 use ec_heading::Group;
 use std::marker::Model;
 
-/// The audit of a group, which may be left out of an entry whose call is not on the group.
+/// The audit of a group, which may be left out of an entry whose call is not on the group, and of a
+/// go that ends no call.
 pub trait GroupAudit: Audit {
     // The group that it is the audit of.
     ghost group: { Self → Group };
 
     // After an entry whose call is not on the group it stands as before.
     ghost passes: { (start now : Self) (entry : Entry) (past : List Entry) → is_on (group start) (opened entry.act (under_way entry.worker past)) ≡ false
+        → Self.stands start now past → Self.stands start now (entry ∷ past) };
+
+    // After a go that ends no call it does, too.
+    ghost stays: { (start now : Self) (entry : Entry) (past : List Entry) → goes_on entry ≡ true
         → Self.stands start now past → Self.stands start now (entry ∷ past) };
 }
 
@@ -39,10 +44,24 @@ impl<'a, A> Model for Walked<'a, A> {
     ghost view = { λ s. record { groups = s.groups.now; audits = s.audits.items } };
 }
 
-/// Whether the group with a number, if there is one, is wide.
-fn is_wide_at(groups: &[Group], number: usize) -> bool
+/// Whether an entry goes on with a call, and does not end it.
+#[inline(always)]
+fn goes_on(entry: &Entry) -> bool
+    ensures { result ≡ goes_on entry.now }
+{
+    matches!(entry.act, Act::Go) && matches!(entry.reply, Reply::Pending)
+}
+
+/// Whether the group with a number, if there is one, is wide, where those that are wide are among
+/// these.
+#[inline(always)]
+fn is_wide_at(groups: &[Group], among: Span, number: usize) -> bool
+    requires { Covers groups.now is_wide among }
     ensures { result ≡ is_wide_at groups.now number }
 {
+    if number < among.first || among.end <= number {
+        return false;
+    }
     match groups.get(number) {
         Some(group) => is_wide(group),
         None => false,
@@ -50,20 +69,23 @@ fn is_wide_at(groups: &[Group], number: usize) -> bool
 }
 
 /// Hands an entry to the audit with a number, if there is one and its group is wide, or not, as it
-/// is asked.
+/// is asked. Those that are wide are among these.
+#[inline(always)]
 fn hand_to<A: Audit>(
     groups: &[Group],
     audits: &mut [A],
+    among: Span,
     wide: bool,
     number: usize,
     place: usize,
     op: &Act,
     entry: &Entry,
 )
-    requires { place + 1 < 2 ^ 64 }
+    requires place { place + 1 < 2 ^ 64 }
+    requires among { Covers groups.now is_wide among }
     ensures { HandsTo A.stands groups.now wide number place op.now entry.now audits.old audits.new }
 {
-    if is_wide_at(groups, number) != wide {
+    if is_wide_at(groups, among, number) != wide {
         return;
     }
     if number < audits.len() {
@@ -71,22 +93,25 @@ fn hand_to<A: Audit>(
     }
 }
 
-/// Hands an entry to the audits of those groups among some that are wide, or not, as it is asked.
+/// Hands an entry to the audits of those groups of a span that are wide, or not, as it is asked.
+/// Those that are wide are among these.
 #[inline(always)]
 fn hand<A: Audit>(
     groups: &[Group],
     audits: &mut [A],
+    among: Span,
     wide: bool,
     span: Span,
     place: usize,
     op: &Act,
     entry: &Entry,
 )
-    requires { place + 1 < 2 ^ 64 }
+    requires place { place + 1 < 2 ^ 64 }
+    requires among { Covers groups.now is_wide among }
     ensures { HandsAmong A.stands groups.now wide span.first span.end place op.now entry.now audits.old audits.new }
 {
     for number in span.first..span.end {
-        hand_to(groups, audits, wide, number, place, op, entry);
+        hand_to(groups, audits, among, wide, number, place, op, entry);
     }
 }
 
@@ -122,6 +147,9 @@ impl<'a, A: GroupAudit> Audit for Walked<'a, A> {
         if self.groups.is_empty() {
             return;
         }
+        if goes_on(entry) {
+            return;
+        }
         let named = self.table.of(op);
         let wide = self.table.wide();
         if named.is_empty() && wide.is_empty() {
@@ -130,8 +158,8 @@ impl<'a, A: GroupAudit> Audit for Walked<'a, A> {
         // (copies: so an entry that no audit is handed needs no place in memory)
         let (op, entry) = (*op, *entry);
         let audits = self.audits.as_mut_slice();
-        hand(self.groups, audits, false, named, place, &op, &entry);
-        hand(self.groups, audits, true, wide, place, &op, &entry);
+        hand(self.groups, audits, wide, false, named, place, &op, &entry);
+        hand(self.groups, audits, wide, true, wide, place, &op, &entry);
     }
 }
 

@@ -140,11 +140,13 @@ impl<'a> Audit for Auditing<'a> {
 
 impl<'a> GroupAudit for Auditing<'a> {
     ghost use Rattle.evc_engine.specs.Walks.{group_of};
-    ghost use Rattle.evc_engine.specs.LeftOut.{audits_off};
+    ghost use Rattle.evc_engine.specs.LeftOut.{audits_off, audits_stay};
 
     ghost group = { group_of };
 
     ghost passes = { audits_off };
+
+    ghost stays = { audits_stay };
 }
 
 /// The audits of groups before the first entry, where these are all semaphores.

@@ -4,11 +4,11 @@ use Rattle.ec_count.specs.Tables.{may_take}
 use Rattle.ec_core.specs.declared.act.Act.{Act}
 use Rattle.ec_core.specs.declared.act.Act.TheVariants.{Advance, Read, Await, Go, Ticket, Put, Get, Hand}
 use Rattle.ec_core.specs.declared.act.Entry.{Entry}
-use Rattle.ec_core.specs.Calls.{CallSoFar, under_way}
+use Rattle.ec_core.specs.Calls.{CallSoFar, under_way, goes_on}
 use Rattle.ec_core.specs.Following.{opened}
 use Rattle.ec_core.proofs.shared.Following.{op_at}
 use Rattle.ec_core.specs.JoinedLists.{SpeaksOf}
-use Rattle.ec_core.proofs.shared.Tracking.{tracked_off}
+use Rattle.ec_core.proofs.shared.Tracking.{tracked_off, tracked_going, going, by_going}
 use Rattle.ec_buffer.specs.Auditing.{Delivering, IsDelivering}
 use Rattle.ec_buffer.specs.Collecting.{place_of, put_place, get_place, writers_after, list_after, writers_of, collected}
 use Rattle.ec_buffer.specs.Follows.{is_on, is_cell, produce_rule, consume_rule, buffer_rules}
@@ -56,3 +56,20 @@ delivering_off a x past off s = record {
   writers = s.writers ∙ sym (writers_off a.shape x past off);
   list = λ ok. s.list ok ∙ sym (collected_off a.shape x past off);
 }
+
+-- nor need it take in a go that ends no call
+writers_going : (b : Buffer) (w : ℕ) (past : List Entry) → writers_of b (going w ∷ past) ≡ writers_of b past
+unfolding writers_of
+writers_going b w past = refl
+
+collected_going : (b : Buffer) (w : ℕ) (past : List Entry) → collected b (going w ∷ past) ≡ collected b past
+unfolding collected
+collected_going b w past = refl
+
+pub delivering_going : (a : Delivering) (x : Entry) (past : List Entry) → goes_on x ≡ true → IsDelivering a past → IsDelivering a (x ∷ past)
+delivering_going a x past on s =
+    by_going (λ y. IsDelivering a (y ∷ past)) (λ w. record {
+      tracked = tracked_going (buffer_rules a.setup a.shape) kept_of a.tracked w past s.tracked;
+      writers = s.writers ∙ sym (writers_going a.shape w past);
+      list = λ ok. s.list ok ∙ sym (collected_going a.shape w past);
+    }) x on

@@ -37,6 +37,15 @@ pending_after r b op Pending h = refl
 pending_after r b op Done h = cc
 pending_after r b op (Number n) h = cc
 
+-- an entry that is told pending leaves the lists of all workers as they are
+pub block_pending : (r : Rule) (w : ℕ) (x : Entry) (past : List Entry) → is_pending x.reply ≡ true → block r w (x ∷ past) ≡ block r w past
+unfolding block
+block_pending r w x past h =
+    elim (x.worker == w) as (λ b. cond b (block_after r (block r w past) (opened x.act (under_way w past)) x.reply) (block r w past) ≡ block r w past) [
+      | true ↦ pending_after r (block r w past) (opened x.act (under_way w past)) x.reply h
+      | false ↦ refl
+    ]
+
 -- THE ACT THAT BEGAN A CALL
 
 pub opened_is : (t : Tables) (act : Act) (o : Option CallSoFar) → (not (is_some o) && is_go act) ≡ false → IsReadingCall t o

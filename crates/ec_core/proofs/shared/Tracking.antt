@@ -1,21 +1,23 @@
 -- A walk keeps what it says it keeps, also where entries whose calls are not on a group are left out.
-use Rattle.std.proofs.Common.{◌≡◌, ℕ, zero, suc, ◌+◌, ◌<◌, Bool, true, false, not, ◌||◌, List, [], ◌∷◌, ◌++◌, Option, Some, None, refl, ap, sym, ◌∙◌, subst, ◌==◌, add-one, take, length, reverse, slice_get, slice_set}
-use Rattle.std.proofs.lemmas.Bool.{eqb-true}
+use Rattle.std.proofs.Common.{◌≡◌, ℕ, zero, suc, ◌+◌, ◌<◌, Bool, true, false, not, ◌||◌, List, [], ◌∷◌, ◌++◌, Option, Some, None, is_some, refl, ap, sym, ◌∙◌, subst, ◌==◌, add-one, take, length, reverse, slice_get, slice_set}
+use Rattle.std.proofs.lemmas.Bool.{eqb-true, and_parts}
 use Rattle.std.proofs.lemmas.List.{reverse-append, reverse-reverse, length-reverse}
 use Rattle.ec_core.specs.declared.act.Act.{Act}
 use Rattle.ec_core.specs.declared.act.Act.TheVariants.{Advance, Read, Await, Go, Ticket, Put, Get, Hand}
 use Rattle.ec_core.specs.declared.act.Entry.{Entry}
+use Rattle.ec_core.specs.declared.act.Reply.{Reply}
+use Rattle.ec_core.specs.declared.act.Reply.TheVariants.{Done, Number, Pending}
 use Rattle.ec_core.specs.declared.audit.AuditFault.{AuditFault}
 use Rattle.ec_core.specs.declared.audit.AuditFault.TheVariants.{NotFollowed, Memory}
 use Rattle.ec_core.specs.declared.protocol.Kept.{Kept}
 use Rattle.ec_core.specs.Audits.{IsFirstBreak}
-use Rattle.ec_core.specs.Calls.{CallSoFar, under_way}
+use Rattle.ec_core.specs.Calls.{CallSoFar, under_way, is_go, is_pending, goes_on}
 use Rattle.ec_core.specs.Counts.{past_at}
 use Rattle.ec_core.specs.Following.{Told, Rule, opened, block_after, block, is_right, Follow, BreaksAt}
 use Rattle.ec_core.specs.JoinedLists.{SpeaksOf}
 use Rattle.ec_core.specs.Scanning.{Tracked, AreKept, IsFinding, IsTracked}
 use Rattle.ec_core.proofs.shared.Breaks.{break_at, follow_or_break}
-use Rattle.ec_core.proofs.shared.Following.{op_at, off_block, other_block}
+use Rattle.ec_core.proofs.shared.Following.{op_at, off_block, other_block, block_pending}
 use Rattle.ec_core.proofs.shared.Moments.{past_next}
 use Rattle.ec_core.proofs.shared.Scans.{lists_after}
 
@@ -56,6 +58,14 @@ pub found_stays : (rules : ℕ → Rule) (fault : AuditFault) (x : Entry) (past 
 found_stays rules (NotFollowed w k) x past b = subst (λ h. BreaksAt rules h w k) (newest_last x past) (break_stays rules (reverse past) x w k b)
 found_stays rules Memory x past b = b
 
+pub found_before : (rules : ℕ → Rule) (fault : Option AuditFault) (x : Entry) (past : List Entry) → is_some fault ≡ true → IsFinding rules fault past → IsFinding rules fault (x ∷ past)
+found_before rules None x past is b = cc
+found_before rules (Some fault) x past is b = found_stays rules fault x past b
+
+pub none_before : (rules : ℕ → Rule) (fault : Option AuditFault) (past : List Entry) → is_some fault ≡ false → IsFinding rules fault past → Follow rules past
+none_before rules None past is f = f
+none_before rules (Some fault) past is b = cc
+
 -- an entry that is not right is the first break of a past that followed
 pub found_break : (rules : ℕ → Rule) (x : Entry) (past : List Entry) (place : ℕ) (right : Bool) → place ≡ length past → Follow rules past
     → right ≡ is_right (rules x.worker) (block (rules x.worker) x.worker past) x.act → right ≡ false → IsFinding rules (Some (NotFollowed x.worker place)) (x ∷ past)
@@ -82,6 +92,15 @@ pub tracked_first : (rules : ℕ → Rule) (keeps : List Told → Kept) (kept : 
     → ((w : ℕ) → w < 16 → slice_get kept w ≡ Some start) → IsTracked rules keeps (tracked kept None) []
 unfolding block
 tracked_first rules keeps kept start e k = record { lists = λ w lt. k w lt ∙ ap Some e; finding = tt }
+
+-- what is kept of the lists stays where a call goes on
+lists_pending : (rules : ℕ → Rule) (keeps : List Told → Kept) (kept : List Kept) (x : Entry) (past : List Entry) → is_pending x.reply ≡ true → AreKept rules keeps kept past → AreKept rules keeps kept (x ∷ past)
+lists_pending rules keeps kept x past pending s = λ w lt. s w lt ∙ ap (λ b. Some (keeps b)) (sym (block_pending (rules w) w x past pending))
+
+-- one more entry whose call goes on, in the words of the code
+pub tracked_pending : (rules : ℕ → Rule) (keeps : List Told → Kept) (kept : List Kept) (fault found : Option AuditFault) (x : Entry) (past : List Entry)
+    → IsTracked rules keeps (tracked kept fault) past → is_pending x.reply ≡ true → IsFinding rules found (x ∷ past) → IsTracked rules keeps (tracked kept found) (x ∷ past)
+tracked_pending rules keeps kept fault found x past s pending finding = record { lists = lists_pending rules keeps kept x past pending s.lists; finding = finding }
 
 -- one more entry, in the words of the code
 pub tracked_take : (rules : ℕ → Rule) (keeps : List Told → Kept) (kept : List Kept) (fault found : Option AuditFault) (x : Entry) (past : List Entry) (i : ℕ) (was k : Kept) (op : Act)
@@ -138,3 +157,41 @@ tracked_off rules keeps is_on z x past speaks off s =
       lists = λ w lt. s.lists w lt ∙ ap (λ b. Some (keeps b)) (sym (block_off rules x past w apart));
       finding = found_off rules z.fault x past (right_off (rules x.worker) (block (rules x.worker) x.worker past) x.act (under_way x.worker past) apart) s.finding;
     }
+
+go_is : (act : Act) → is_go act ≡ true → act ≡ Go
+go_is Go h = refl
+go_is (Advance e) h = cc
+go_is (Read e) h = cc
+go_is (Await e v) h = cc
+go_is (Ticket q) h = cc
+go_is (Put y v) h = cc
+go_is (Get y) h = cc
+go_is (Hand e f) h = cc
+
+pending_is : (reply : Reply) → is_pending reply ≡ true → reply ≡ Pending
+pending_is Pending h = refl
+pending_is Done h = cc
+pending_is (Number n) h = cc
+
+abbrev entry_of : ℕ → Act → Reply → Entry
+entry_of w act reply = record { worker = w; act = act; reply = reply }
+
+-- the go of a worker that ends no call
+abbrev pub going : ℕ → Entry
+going w = record { worker = w; act = Go; reply = Pending }
+
+going_is : (x : Entry) → goes_on x ≡ true → going x.worker ≡ x
+going_is x on =
+    let k = and_parts (is_go x.act) (is_pending x.reply) on in
+    let act : x.act ≡ Go = go_is x.act k.0 in
+    let reply : x.reply ≡ Pending = pending_is x.reply k.1 in
+    ap (λ a. entry_of x.worker a Pending) (sym act) ∙ ap (λ p. entry_of x.worker x.act p) (sym reply)
+
+-- what holds after each go that ends no call
+pub by_going : (P : Entry → Type 0) → ((w : ℕ) → P (going w)) → (x : Entry) → goes_on x ≡ true → P x
+by_going P each x on = subst P (going_is x on) (each x.worker)
+
+-- such a go changes nothing
+pub tracked_going : (rules : ℕ → Rule) (keeps : List Told → Kept) (z : Tracked) (w : ℕ) (past : List Entry) → IsTracked rules keeps z past → IsTracked rules keeps z (going w ∷ past)
+tracked_going rules keeps z w past s =
+    record { lists = lists_pending rules keeps z.kept (going w) past refl s.lists; finding = found_off rules z.fault (going w) past refl s.finding }

@@ -1,16 +1,22 @@
 -- The audit of a semaphore may leave out the entries whose calls are not on it.
-use Rattle.std.proofs.Common.{◌≡◌, ℕ, ◌+◌, ◌&&◌, false, not, List, ◌∷◌, Option, refl, ap, sym, ◌∙◌, arith, cond}
+use Rattle.std.proofs.Common.{◌≡◌, ℕ, ◌+◌, ◌&&◌, Bool, true, false, not, List, [], ◌∷◌, ◌++◌, Option, None, refl, ap, sym, subst, ◌∙◌, arith, cond, append-nil}
+use Rattle.std.specs.Option.{option_to_list}
 use Rattle.ec_core.specs.declared.act.Act.{Act}
 use Rattle.ec_core.specs.declared.act.Act.TheVariants.{Advance, Read, Await, Go, Ticket, Put, Get, Hand}
 use Rattle.ec_core.specs.declared.act.Entry.{Entry}
 use Rattle.ec_core.specs.Counts.{total, is_advance}
-use Rattle.ec_core.specs.Calls.{CallSoFar, under_way, is_pending}
-use Rattle.ec_core.specs.Following.{opened}
-use Rattle.ec_core.proofs.shared.Following.{op_at}
-use Rattle.ec_core.proofs.shared.Tracking.{tracked_off}
+use Rattle.ec_core.specs.Calls.{CallSoFar, under_way, is_pending, goes_on}
+use Rattle.ec_core.specs.Following.{Told, opened, block}
+use Rattle.ec_core.proofs.shared.Following.{op_at, block_pending}
+use Rattle.ec_core.proofs.shared.Tracking.{tracked_off, tracked_going, going, by_going}
 use Rattle.ec_semaphore.specs.Shapes.{Semaphore}
-use Rattle.ec_semaphore.specs.Auditing.{Balancing, IsCounted}
-use Rattle.ec_semaphore.specs.Keeping.{kept_of_use}
+use Rattle.ec_semaphore.specs.Auditing.{Balancing, IsCounted, Pairing, ArePaired, IsPairing}
+use Rattle.ec_semaphore.specs.declared.pair.Pair.{Pair}
+use Rattle.ec_semaphore.specs.declared.pairing.Drawn.{Drawn}
+use Rattle.ec_semaphore.specs.Both.{is_line, both_rule, both_rules}
+use Rattle.ec_semaphore.specs.Completing.{IsDrawn}
+use Rattle.ec_semaphore.specs.Pairs.{pair_with, pairs_in}
+use Rattle.ec_semaphore.specs.Keeping.{kept_of_use, kept_of_both}
 use Rattle.ec_semaphore.specs.Uses.{is_on, use_rules}
 use Rattle.ec_semaphore.specs.Balances.{is_await, is_down, downs, ups}
 
@@ -54,3 +60,49 @@ counted_off a x past off s = record {
   downs = s.downs ∙ sym (downs_off a.shape x past off);
   ups = s.ups ∙ sym (ups_off a.shape x past off);
 }
+
+-- A GO THAT ENDS NO CALL
+
+none : (n : ℕ) → 0 + n ≡ n
+none n = omega arith
+
+downs_going : (s : Semaphore) (w : ℕ) (past : List Entry) → downs s (going w ∷ past) ≡ downs s past
+unfolding downs
+downs_going s w past = elim (is_await s.count (op_at (going w) past)) as (λ b. cond {A = ℕ} (b && false) 1 0 + downs s past ≡ downs s past) [ true ↦ none (downs s past) | false ↦ none (downs s past) ]
+
+ups_going : (s : Semaphore) (w : ℕ) (past : List Entry) → ups s (going w ∷ past) ≡ ups s past
+unfolding total
+ups_going s w past = none (total s.count past)
+
+pub counted_going : (a : Balancing) (x : Entry) (past : List Entry) → goes_on x ≡ true → IsCounted a past → IsCounted a (x ∷ past)
+counted_going a x past on s =
+    by_going (λ y. IsCounted a (y ∷ past)) (λ w. record {
+      tracked = tracked_going (use_rules a.shape) kept_of_use a.tracked w past s.tracked;
+      downs = s.downs ∙ sym (downs_going a.shape w past);
+      ups = s.ups ∙ sym (ups_going a.shape w past);
+    }) x on
+
+no_pair : (calls : List Told) (w : ℕ) → pair_with calls (going w) ≡ None
+no_pair [] w = refl
+no_pair (t ∷ []) w = refl
+no_pair (t ∷ a ∷ []) w = refl
+no_pair (t ∷ a ∷ r ∷ []) w = refl
+no_pair (t ∷ a ∷ r ∷ c ∷ calls) w = refl
+
+pairs_going : (c : Semaphore) (lines : ℕ → Bool) (w : ℕ) (past : List Entry) → pairs_in c lines (going w ∷ past) ≡ pairs_in c lines past
+unfolding pairs_in
+pairs_going c lines w past = ap (λ o. pairs_in c lines past ++ option_to_list o) (no_pair (block (both_rule c lines) w past) w) ∙ append-nil (pairs_in c lines past)
+
+paired_going : (c : Semaphore) (lines : ℕ → Bool) (latest : List Drawn) (list : List Pair) (w : ℕ) (past : List Entry) → ArePaired c lines latest list past → ArePaired c lines latest list (going w ∷ past)
+paired_going c lines latest list w past p = record {
+  drawn = λ v d at. (let P : List Told → Type 0 = λ calls. IsDrawn d calls in subst P (sym (block_pending (both_rule c lines) v (going w) past refl)) (p.drawn v d at));
+  pairs = p.pairs ∙ sym (pairs_going c lines w past);
+}
+
+pub pairing_going : (a : Pairing) (x : Entry) (past : List Entry) → goes_on x ≡ true → IsPairing a past → IsPairing a (x ∷ past)
+pairing_going a x past on s =
+    let lines = is_line a.common a.shapes in
+    by_going (λ y. IsPairing a (y ∷ past)) (λ w. record {
+      tracked = tracked_going (both_rules a.common lines) kept_of_both a.tracked w past s.tracked;
+      paired = λ ok t declared accepted follow. paired_going a.common lines a.latest a.pairs w past (s.paired ok t declared accepted.1 follow.1);
+    }) x on

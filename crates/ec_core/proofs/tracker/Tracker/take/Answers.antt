@@ -1,6 +1,6 @@
-use Rattle.std.proofs.Common.{subst, sym}
+use Rattle.std.proofs.Common.{subst, sym, ◌∙◌}
 use Rattle.ec_core.specs.Scanning.{Tracked, IsTracked}
-use Rattle.ec_core.proofs.shared.Tracking.{tracked_take}
+use Rattle.ec_core.proofs.shared.Tracking.{tracked, tracked_take, tracked_pending}
 use Rattle.ec_core.proofs.tracker.Tracker.take.Goals as goal
 
 pub returns : goal.returns
@@ -9,7 +9,17 @@ returns g c = λ past at op s.
     let keeps = g.P.Protocol.keeps c.args.protocol.now in
     let P : Tracked → Type 0 = λ z. IsTracked rules keeps z past in
     let inside = subst P (sym c.self.view_is) s in
-    tracked_take rules keeps c.self.inside.kept c.self.inside.fault c.found-self-inside.result c.args.entry.now past
-    c.get-worker.result c.kept-kept.result c.after.result c.args.op.now inside c.get-worker.ensures.value c.get-worker.ensures.small
+    tracked_take rules keeps c.self.inside.kept c.self.inside.fault c.find.new.fault c.args.entry.now past
+    c.get.result c.kept-kept.result c.after.result c.args.op.now inside c.get.ensures.value c.get.ensures.small
     (c.kept-kept.ensures rules keeps past s) op c.after.ensures
-    (c.found-self-inside.ensures past at (c.kept-kept.ensures rules keeps past s) inside.finding))
+    (c.find.ensures past at (c.kept-kept.ensures rules keeps past s) inside.finding))
+
+-- its call goes on
+pub returns-then-is_pending : goal.returns-then-is_pending
+returns-then-is_pending g c = λ past at op s.
+    (let rules = g.P.Protocol.rules c.args.protocol.now in
+    let keeps = g.P.Protocol.keeps c.args.protocol.now in
+    let P : Tracked → Type 0 = λ z. IsTracked rules keeps z past in
+    let inside = subst P (sym c.self.view_is) s in
+    tracked_pending rules keeps c.self.inside.kept c.self.inside.fault c.find.new.fault c.args.entry.now past inside (sym c.is_pending.ensures ∙ c.if-is_pending.true)
+    (c.find.ensures past at (c.kept-kept.ensures rules keeps past s) inside.finding))

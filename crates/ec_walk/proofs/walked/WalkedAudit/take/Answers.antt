@@ -1,9 +1,9 @@
-use Rattle.std.proofs.Common.{◌≡◌, ◌∷◌, List, true, false, rules, subst, sym}
+use Rattle.std.proofs.Common.{◌≡◌, ◌∷◌, ◌∙◌, List, true, false, rules, subst, sym}
 use Rattle.std.proofs.lemmas.List.{with_items_is, places}
 use Rattle.std.specs.Vec.{with_items}
 use Rattle.ec_heading.specs.declared.group.Group.{Group}
 use Rattle.ec_walk.specs.Walks.{Walking, WalksOn, HandsAmong, AreWalked}
-use Rattle.ec_walk.proofs.WalkLemmas.{each_taken, hands_nowhere}
+use Rattle.ec_walk.proofs.WalkLemmas.{each_taken, each_stays, hands_nowhere}
 use Rattle.ec_walk.proofs.walked.WalkedAudit.take.Goals as goal
 
 pub returns : goal.returns
@@ -42,3 +42,11 @@ returns-then-is_empty-3 g c = λ start past at is s.
     (hands_nowhere stands gs true c.args.place c.args.op.now x wide.first wide.end old (c.is_empty-then-is_empty-2.ensures c.if-is_empty-3.true)) here in
     let walks : WalksOn group stands start (record { groups = gs; audits = old }) (x ∷ past) = (was.0, subst (λ (l : List Group). AreWalked group stands l start.audits old (x ∷ past)) was.0 taken) in
     subst (λ (w : Walking g.row.A.Denot). WalksOn group stands start w (x ∷ past)) c.self.view_is walks)
+
+-- a go that ends no call
+pub returns-then-goes_on : goal.returns-then-goes_on
+returns-then-goes_on g c = λ start past at is s.
+    (let group = g.A.GroupAudit.group in
+    let stands = g.A.Audit.stands in
+    let x = c.args.entry.now in
+    (s.0, each_stays group stands g.met.A.GroupAudit.stays start.groups start.audits c.args.self.now.audits x past (sym c.goes_on.ensures ∙ c.if-goes_on.true) s.1))
