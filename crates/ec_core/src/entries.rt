@@ -1,11 +1,11 @@
-//! The entries of a run, in order.
+//! The entries of a list, in order.
 ghost use Rattle.std.specs.Prelude.{◌≡◌};
 
 use crate::Entry;
 use crate::segments::Segments;
 use std::marker::Model;
 
-/// An iterator over the entries of a run, in order. A contract sees it as the list of those that
+/// An iterator over the entries of a run or of another list, in order. A contract sees it as the list of those that
 /// are left.
 #[derive(Drop)]
 pub struct Entries<'a> {
@@ -24,7 +24,7 @@ impl<'a> Model for Entries<'a> {
 
 impl<'a> Entries<'a> {
     /// All entries of a list.
-    pub(crate) fn all(list: &'a Segments) -> Self
+    pub fn all(list: &'a Segments) -> Self
         ensures { result ≡ list.now }
     {
         Entries { list, next: 0 }
