@@ -19,7 +19,7 @@ use std::marker::Model;
 
 /// The finished calls of a history by their points, gathered while the history goes past: each entry is handed to it once, by
 /// `take`. Of an advance, a ticket, a put, a get or a hand it keeps the entry; of a finished read or await one entry that tells it,
-/// and its point; of an advance its moment too; and of every entry one byte.
+/// and its point; of an advance its moment too; and of every entry one bit.
 #[derive(Drop)]
 pub struct Timeline<'a> {
     setup: &'a Setup,
@@ -91,13 +91,13 @@ impl<'a> Timeline<'a> {
         ensures kept { OnOk result (TakesIn self.old place entry.now self.new) }
     {
         self.setup.known();
-        note(&mut self.moments, entry.act, place + 1)?;
-        let alone = is_alone(entry.act);
-        self.marks.push(alone)?;
-        if alone {
+        if is_alone(entry.act) {
+            note(&mut self.moments, entry.act, place + 1)?;
+            self.marks.push(true)?;
             self.alone.push(*entry)?;
             return Ok(());
         }
+        self.marks.push(false)?;
         if let Some(call) = take_in(&mut self.under_way, self.setup, entry, place) {
             keep(&mut self.readings, &self.moments, &call)?;
             return Ok(());
@@ -126,7 +126,9 @@ impl<'a> Audit for Timeline<'a> {
 
     #[inline(always)]
     fn take(&mut self, place: usize, _op: &Act, entry: &Entry) {
-        self.lacks = self.lacks || self.gather(place, entry).is_err();
+        if !self.lacks && self.gather(place, entry).is_err() {
+            self.lacks = true;
+        }
     }
 }
 

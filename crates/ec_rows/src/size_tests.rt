@@ -9,7 +9,7 @@ use crate::semaphores::{Shapes, down_both, shapes_in};
 use crate::steps_tests::shows_without_the_third;
 use crate::{board_tests, buffer_tests, database_tests};
 use ec_buffer::{BufferShape, Consume, Produce, deliveries};
-use ec_core::{Act, Entry, Procedure, Reply, Run, Segments};
+use ec_core::{Act, Entries, Entry, Procedure, Reply, Run, Segments};
 use ec_count::{Setup, SetupFault};
 use ec_database::{DatabaseShape, Snapshot, versions};
 use ec_order::{in_order, order};
@@ -166,14 +166,16 @@ fn entry_at(place: usize) -> Entry {
     }
 }
 
-/// Whether a list has so many entries, each in its place.
+/// Whether a list has so many entries, each in its place, and one after another.
 fn has_entries(list: &Segments, many: usize) -> bool {
+    let mut entries = Entries::all(list);
     for place in 0..many {
-        if list.get(place) != Some(entry_at(place)) {
+        let right = Some(entry_at(place));
+        if list.get(place) != right || entries.next() != right {
             return false;
         }
     }
-    list.len() == many && list.get(many).is_none()
+    list.len() == many && list.get(many).is_none() && entries.next().is_none()
 }
 
 #[test]
