@@ -161,7 +161,7 @@ impl<'a> InTime<'a> {
     {
         InTime {
             marks: marks.iter(),
-            alone: Entries::all(alone),
+            alone: alone.entries(),
             readings,
             position: 0,
             given: 0,

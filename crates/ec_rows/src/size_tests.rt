@@ -9,7 +9,7 @@ use crate::semaphores::{Shapes, down_both, shapes_in};
 use crate::steps_tests::shows_without_the_third;
 use crate::{board_tests, buffer_tests, database_tests};
 use ec_buffer::{BufferShape, Consume, Produce, deliveries};
-use ec_core::{Act, Entries, Entry, Procedure, Reply, Run, Segments};
+use ec_core::{Act, Entry, Procedure, Reply, Run, Segments};
 use ec_count::{Setup, SetupFault};
 use ec_database::{DatabaseShape, Snapshot, versions};
 use ec_order::{in_order, order};
@@ -168,7 +168,7 @@ fn entry_at(place: usize) -> Entry {
 
 /// Whether a list has so many entries, each in its place, and one after another.
 fn has_entries(list: &Segments, many: usize) -> bool {
-    let mut entries = Entries::all(list);
+    let mut entries = list.entries();
     for place in 0..many {
         let right = Some(entry_at(place));
         if list.get(place) != right || entries.next() != right {
