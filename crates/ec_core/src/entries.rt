@@ -1,33 +1,45 @@
-//! The entries of a run, in order.
-ghost use Rattle.std.specs.Prelude.{◌≡◌};
+//! The entries of a list, in order.
+ghost use Rattle.std.specs.Prelude.{◌≡◌, ◌+◌, ◌^◌, ◌<◌, ◌∷◌, ◌++◌, [], None, Some, slice_get, IfSome};
+ghost use Rattle.std.specs.Option.{IfNone};
+ghost use Rattle.ec_core.specs.Segmented.{joined};
 
 use crate::Entry;
-use crate::segments::Segments;
+use crate::segment::Segment;
 use std::marker::Model;
 
-/// An iterator over the entries of a run, in order. A contract sees it as the list of those that
-/// are left.
+/// An iterator over the entries of a run or of another list, in order. A contract sees it as the list of those that
+/// are left: those of a segment from a place on, and those of the segments behind it.
 #[derive(Drop)]
 pub struct Entries<'a> {
-    list: &'a Segments,
-    next: usize,
+    full: &'a [Segment],
+    last: &'a Segment,
+    begun: usize,
+    segment: &'a Segment,
+    place: usize,
 }
 
 impl<'a> Model for Entries<'a> {
-    ghost use Rattle.std.specs.Prelude.{List, drop};
+    ghost use Rattle.std.specs.Prelude.{List, ◌++◌, ◌∷◌, [], drop};
+    ghost use Rattle.std.specs.List.{flat_map};
     ghost use Rattle.ec_core.specs.declared.act.Entry.{Entry};
 
     ghost Value = { List Entry };
 
-    ghost view = { λ s. drop s.next s.list.now };
+    ghost view = { λ s. drop s.place s.segment.now ++ flat_map (λ xs. xs) (drop s.begun (s.full.now ++ s.last.now ∷ [])) };
 }
 
 impl<'a> Entries<'a> {
-    /// All entries of a list.
-    pub(crate) fn all(list: &'a Segments) -> Self
-        ensures { result ≡ list.now }
+    /// All entries of some segments.
+    pub(crate) fn of(full: &'a [Segment], last: &'a Segment) -> Self
+        ensures { result ≡ joined full.now last.now }
     {
-        Entries { list, next: 0 }
+        Entries {
+            full,
+            last,
+            begun: 0,
+            segment: last,
+            place: last.len(),
+        }
     }
 }
 
@@ -42,12 +54,32 @@ impl<'a> Iterator for Entries<'a> {
 
     #[inline(always)]
     fn next(&mut self) -> Option<Entry> {
-        match self.list.get(self.next) {
-            Some(entry) => {
-                self.next += 1;
-                Some(entry)
+        loop {
+            if let Some(entry) = self.segment.get(self.place) {
+                self.place += 1;
+                return Some(entry);
             }
-            None => None,
+            let Some(segment) = segment_at(self.full, self.last, self.begun) else {
+                return None;
+            };
+            self.segment = segment;
+            self.begun += 1;
+            self.place = 0;
         }
+    }
+}
+
+/// The segment at a place, counted from 0, of which the last stands behind the full ones.
+fn segment_at<'a>(full: &'a [Segment], last: &'a Segment, place: usize) -> Option<&'a Segment>
+    ensures some { IfSome result (λ segment. slice_get (full.now ++ last.now ∷ []) place ≡ Some segment.now) }
+    ensures within { IfSome result (λ _. place + 1 < 2 ^ 64) }
+    ensures none { IfNone result (slice_get (full.now ++ last.now ∷ []) place ≡ None) }
+{
+    if place < full.len() {
+        Some(&full[place])
+    } else if place == full.len() {
+        Some(last)
+    } else {
+        None
     }
 }

@@ -24,48 +24,51 @@ pub struct Ongoing {
     pub index: usize,
 }
 
-/// A read or an await with one more entry, at this position.
-fn next_read(setup: &Setup, call: Ongoing, at: usize) -> Ongoing
-    ensures { result ≡ next_read setup.now call at }
+/// Takes one more entry into a read or an await, at this position.
+#[inline(always)]
+fn read_on(setup: &Setup, call: &mut Ongoing, at: usize)
+    ensures { call.new ≡ next_read setup.now call.old at }
 {
     let width = width(setup, event_or(call.op));
     if call.index < width && call.index + 1 < width {
-        Ongoing {
-            index: call.index + 1,
-            ..call
-        }
+        call.index += 1;
     } else {
-        Ongoing {
-            round: at,
-            index: 0,
-            ..call
+        call.round = at;
+        call.index = 0;
+    }
+}
+
+/// Makes of a worker's call under way the call that its next act is part of, with it. Of one that goes on it changes no more than its
+/// numbers.
+#[inline(always)]
+fn go_on(setup: &Setup, act: Act, call: &mut Option<Ongoing>, place: usize)
+    ensures { call.new ≡ went_on setup.now act call.old place }
+{
+    match act {
+        Act::Go => {
+            if let Some(call) = call {
+                read_on(setup, call, place);
+            }
+        }
+        op => {
+            *call = Some(Ongoing {
+                op,
+                first: place,
+                round: place,
+                index: 0,
+            });
         }
     }
 }
 
-/// The call that an act is part of, with it, given its worker's call under way.
-fn went_on(setup: &Setup, act: Act, call: Option<Ongoing>, place: usize) -> Option<Ongoing>
-    ensures { result ≡ went_on setup.now act call place }
-{
-    match (act, call) {
-        (Act::Go, None) => None,
-        (Act::Go, Some(call)) => Some(next_read(setup, call, place)),
-        (op, _) => Some(Ongoing {
-            op,
-            first: place,
-            round: place,
-            index: 0,
-        }),
-    }
-}
-
-/// What a reply leaves of a call.
-fn left(reply: Reply, call: &Option<Ongoing>) -> Option<Ongoing>
-    ensures { result ≡ left reply call.now }
+/// Drops a call that a reply ends.
+#[inline(always)]
+fn end_by(reply: Reply, call: &mut Option<Ongoing>)
+    ensures { call.new ≡ left reply call.old }
 {
     match reply {
-        Reply::Pending => *call,
-        Reply::Done | Reply::Number(_) => None,
+        Reply::Pending => {}
+        Reply::Done | Reply::Number(_) => *call = None,
     }
 }
 
@@ -96,15 +99,17 @@ impl Calls {
 
     /// Takes the next entry in, at this position, and gives the call that it is part of, up to it; None where it is a Go that
     /// goes on with no call.
+    #[inline(always)]
     pub fn take(&mut self, setup: &Setup, place: usize, entry: &Entry) -> Option<Ongoing>
         ensures { (past : List Entry) → IsAccepted setup.now past → place ≡ length past → AreCalls setup.now self.old past
             → Takes setup.now past entry.now result self.new }
     {
         setup.known();
         let worker = entry.worker.get();
-        let was = self.calls[worker];
-        let call = went_on(setup, entry.act, was, place);
-        self.calls[worker] = left(entry.reply, &call);
-        call
+        let call = &mut self.calls[worker];
+        go_on(setup, entry.act, call, place);
+        let told = *call;
+        end_by(entry.reply, call);
+        told
     }
 }

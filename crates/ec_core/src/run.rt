@@ -114,7 +114,7 @@ impl Run {
         ensures small { length self.now.entries < 2 ^ 64 }
     {
         let _count = self.len();
-        Entries::all(&self.entries)
+        self.entries.entries()
     }
 
     /// Whether the worker is declared, signals no eventcount at any moment of the run, takes from no

@@ -1,5 +1,5 @@
 //! One segment of a list of entries.
-ghost use Rattle.std.specs.Prelude.{◌≡◌, ◌<◌, ◌≤◌, List, [], ◌∷◌, ◌++◌, length, slice_get, vec_capacity, IfOk, OnOk, OnErr};
+ghost use Rattle.std.specs.Prelude.{◌≡◌, ◌+◌, ◌^◌, ◌<◌, ◌≤◌, List, [], ◌∷◌, ◌++◌, length, slice_get, vec_capacity, IfOk, IfSome, OnOk, OnErr};
 
 use crate::Entry;
 use crate::stored::{Stored, add, number_in, value_in};
@@ -56,7 +56,8 @@ impl Segment {
     /// The entry at a place, counted from 0.
     #[inline(always)]
     pub(crate) fn get(&self, i: usize) -> Option<Entry>
-        ensures { result ≡ slice_get self.now i }
+        ensures value { result ≡ slice_get self.now i }
+        ensures within { IfSome result (λ _. i + 1 < 2 ^ 64) }
     {
         match self.stored.get(i) {
             Some(stored) => Some(stored.entry(&self.words)),

@@ -65,12 +65,19 @@ impl Segments {
         entry_at(&self.full, &self.last, i)
     }
 
+    /// Its entries in order.
+    pub fn entries(&self) -> Entries<'_>
+        ensures { result ≡ self.now }
+    {
+        Entries::of(&self.full, &self.last)
+    }
+
     /// The same list again, by the same allocator.
     pub(crate) fn copy(&self) -> Result<Self, AllocError>
         ensures { IfOk result (λ list. list ≡ self.now) }
     {
         let mut list = Segments::open(self.allocator())?;
-        for entry in Entries::all(self) {
+        for entry in self.entries() {
             list.push(entry)?;
         }
         Ok(list)

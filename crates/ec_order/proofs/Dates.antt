@@ -52,19 +52,6 @@ dates_of k past d acc s =
 
 -- A STEP OF IT
 
-drop_at : {X : Type 0} (xs : List X) (i : ℕ) (x : X) → slice_get xs i ≡ Some x → drop i xs ≡ x ∷ drop (i + 1) xs
-drop_at [] i x at = cc
-drop_at (y ∷ xs) zero x at = (let is : y ≡ x = cc in ap (λ z. z ∷ xs) is)
-drop_at (y ∷ xs) (suc i) x at =
-    let next : suc i + 1 ≡ suc (i + 1) = omega arith in
-    drop_at xs i x at ∙ ap (λ n. x ∷ drop n (y ∷ xs)) (sym next)
-
-drop_none : {X : Type 0} (xs : List X) (i : ℕ) → slice_get xs i ≡ None → drop i xs ≡ []
-drop_none [] zero at = refl
-drop_none [] (suc i) at = refl
-drop_none (y ∷ xs) zero at = cc
-drop_none (y ∷ xs) (suc i) at = drop_none xs i at
-
 -- none is due of those from the i-th on
 abbrev pub NoneDue : List Dated → ℕ → ℕ → Type 0
 NoneDue rs i k = (d : Dated) → slice_get rs i ≡ Some d → k < d.point
@@ -74,29 +61,20 @@ pub dates_due : (k : ℕ) (ms : List Bool) (xs : List Entry) (rs : List Dated) (
 dates_due k ms xs rs i d at due = due_next dated_point k (dates_on k ms xs) rs i d at due
 
 -- where none is due, a call by itself does
-pub dates_own : (k : ℕ) (ms : List Bool) (xs : List Entry) (j : ℕ) (x : Entry) (rs : List Dated) (i : ℕ) → NoneDue rs i k → slice_get ms k ≡ Some true → slice_get xs j ≡ Some x
-    → dates k (drop k ms) (drop j xs) (drop i rs) ≡ record { point = k; entry = x } ∷ dates (k + 1) (drop (k + 1) ms) (drop (j + 1) xs) (drop i rs)
+pub dates_own : (k : ℕ) (ms : List Bool) (x : Entry) (xs : List Entry) (rs : List Dated) (i : ℕ) → NoneDue rs i k
+    → dates k (true ∷ ms) (x ∷ xs) (drop i rs) ≡ record { point = k; entry = x } ∷ dates (k + 1) ms xs (drop i rs)
 unfolding dates_on
-dates_own k ms xs j x rs i none mark at =
-    none_due dated_point k (dates_on k (drop k ms) (drop j xs)) rs i none
-    ∙ ap (λ bs. dates_on k bs (drop j xs) (drop i rs)) (drop_at ms k true mark)
-    ∙ ap (λ ys. dates_on k (true ∷ drop (k + 1) ms) ys (drop i rs)) (drop_at xs j x at)
+dates_own k ms x xs rs i none = none_due dated_point k (dates_on k (true ∷ ms) (x ∷ xs)) rs i none
 
 -- any other entry is passed
-pub dates_pass : (k : ℕ) (ms : List Bool) (xs : List Entry) (rs : List Dated) (i : ℕ) → NoneDue rs i k → slice_get ms k ≡ Some false
-    → dates k (drop k ms) xs (drop i rs) ≡ dates (k + 1) (drop (k + 1) ms) xs (drop i rs)
+pub dates_pass : (k : ℕ) (b : Bool) (ms : List Bool) (xs : List Entry) (rs : List Dated) (i : ℕ) → NoneDue rs i k → (b ≡ true → xs ≡ [])
+    → dates k (b ∷ ms) xs (drop i rs) ≡ dates (k + 1) ms xs (drop i rs)
 unfolding dates_on
-dates_pass k ms xs rs i none mark =
-    none_due dated_point k (dates_on k (drop k ms) xs) rs i none ∙ ap (λ bs. dates_on k bs xs (drop i rs)) (drop_at ms k false mark)
+dates_pass k true ms [] rs i none out = none_due dated_point k (dates_on k (true ∷ ms) []) rs i none
+dates_pass k true ms (x ∷ xs) rs i none out = (let e = out refl in cc)
+dates_pass k false ms xs rs i none out = none_due dated_point k (dates_on k (false ∷ ms) xs) rs i none
 
 -- behind the last entry there is none
-pub dates_end : (k : ℕ) (ms : List Bool) (xs : List Entry) (rs : List Dated) (i : ℕ) → NoneDue rs i k → slice_get ms k ≡ None → dates k (drop k ms) xs (drop i rs) ≡ []
+pub dates_end : (k : ℕ) (xs : List Entry) (rs : List Dated) (i : ℕ) → NoneDue rs i k → dates k [] xs (drop i rs) ≡ []
 unfolding dates_on
-dates_end k ms xs rs i none mark =
-    none_due dated_point k (dates_on k (drop k ms) xs) rs i none ∙ ap (λ bs. dates_on k bs xs (drop i rs)) (drop_none ms k mark)
-
-pub dates_out : (k : ℕ) (ms : List Bool) (xs : List Entry) (j : ℕ) (rs : List Dated) (i : ℕ) → NoneDue rs i k → slice_get ms k ≡ Some true → slice_get xs j ≡ None → dates k (drop k ms) (drop j xs) (drop i rs) ≡ []
-unfolding dates_on
-dates_out k ms xs j rs i none mark at =
-    none_due dated_point k (dates_on k (drop k ms) (drop j xs)) rs i none ∙ ap (λ bs. dates_on k bs (drop j xs) (drop i rs)) (drop_at ms k true mark)
-    ∙ ap (λ ys. dates_on k (true ∷ drop (k + 1) ms) ys (drop i rs)) (drop_none xs j at)
+dates_end k xs rs i none = none_due dated_point k (dates_on k [] xs) rs i none

@@ -5,6 +5,8 @@ use Rattle.std.specs.List.{filter, insert}
 use Rattle.std.proofs.lemmas.List.{map-append, length-map, reverse-append}
 use Rattle.std.proofs.lemmas.List.Elements.{filter-append}
 use Rattle.ec_count.specs.Tables.{Tables, IsDeclared}
+use Rattle.ec_core.specs.declared.act.Act.{Act}
+use Rattle.ec_core.specs.declared.act.Act.TheVariants.{Advance}
 use Rattle.ec_core.specs.declared.act.Entry.{Entry}
 use Rattle.ec_core.specs.declared.ongoing.Ongoing.{Ongoing}
 use Rattle.ec_core.specs.Acceptance.{IsAccepted}
@@ -14,10 +16,10 @@ use Rattle.ec_order.specs.declared.dated.Dated.{Dated}
 use Rattle.ec_order.specs.declared.placed.Placed.{Placed}
 use Rattle.ec_order.specs.Calls.{finished_calls, EndsCall, Ending}
 use Rattle.ec_order.specs.Points.{by_moments}
-use Rattle.ec_order.specs.Index.{advanced, moments_in, placed_in, point_in, IsIndex, NotesAct}
+use Rattle.ec_order.specs.Index.{advanced, moments_in, placed_in, point_in, raised_by, IsIndex, NotesAct}
 use Rattle.ec_order.specs.Timeline.{Timed, IsTimed, TakesIn, dated, dated_point, stands_alone}
 use Rattle.ec_order.specs.Walk.{is_alone, placed_point, readings, IsPlaceFor, PutsIn}
-use Rattle.ec_order.proofs.Indexing.{index_next}
+use Rattle.ec_order.proofs.Indexing.{index_next, noted_none}
 use Rattle.ec_order.proofs.Inserting.{map_insert}
 use Rattle.ec_order.proofs.Gathering.{alone_leaves, by_moments_none, readings_alone, readings_none, readings_one}
 
@@ -103,37 +105,44 @@ timed_one t calls calls' lists lists' marks marks' alone rs rs' lacks x past c d
       ∙ ap (map dated) (readings_one t x past c lists' n puts.at ps d acc is ended.call index (omega arith) refl place);
 }
 
+-- an act of a read or an await advances nothing
+not_raised : (act : Act) → is_alone act ≡ false → None ≡ raised_by act
+not_raised (Advance e) is = cc
+not_raised act is = refl
+
 -- WHERE WHAT IS KEPT IS SEEN AS A WHOLE
 -- These are the ways of `gather`, by the facts that its calls leave.
 
 -- a call by itself
 pub takes_alone : (t : Tables) (calls : List (Option Ongoing)) (lists lists' : List (Vec ℕ Global)) (marks marks' : List Bool) (alone alone' : List Entry) (rs : List Dated) (lacks b : Bool) (old : Timed) (x : Entry) (place : ℕ)
-    → kept t calls lists marks alone rs lacks ≡ old → IsDeclared t → NotesAct lists x.act (place + 1) lists' → b ≡ is_alone x.act → b ≡ true → marks' ≡ marks ++ b ∷ [] → alone' ≡ alone ++ x ∷ []
+    → kept t calls lists marks alone rs lacks ≡ old → IsDeclared t → NotesAct lists x.act (place + 1) lists' → b ≡ is_alone x.act → b ≡ true → marks' ≡ marks ++ true ∷ [] → alone' ≡ alone ++ x ∷ []
     → TakesIn old place x (kept t calls lists' marks' alone' rs lacks)
 takes_alone t calls lists lists' marks marks' alone alone' rs lacks b old x place were d notes kind is more one =
     subst (λ k. TakesIn k place x (kept t calls lists' marks' alone' rs lacks)) were (record {
       timed = λ past here acc s.
-          timed_alone t calls lists lists' marks marks' alone alone' rs lacks x past d acc (sym kind ∙ is) s (index_next x past place lists lists' here s.index notes) (more ∙ ap (λ c. marks ++ c ∷ []) is) one;
+          timed_alone t calls lists lists' marks marks' alone alone' rs lacks x past d acc (sym kind ∙ is) s (index_next x past place lists lists' here s.index notes) more one;
     })
 
 -- an entry of a read or an await: where it ends none
-pub takes_none : (t : Tables) (calls calls' : List (Option Ongoing)) (lists lists' : List (Vec ℕ Global)) (marks marks' : List Bool) (alone : List Entry) (rs : List Dated) (lacks b : Bool) (old : Timed) (x : Entry) (place : ℕ) (told : Option Call)
-    → kept t calls lists marks alone rs lacks ≡ old → IsDeclared t → NotesAct lists x.act (place + 1) lists' → b ≡ is_alone x.act → b ≡ false → marks' ≡ marks ++ b ∷ [] → Ending calls place x told calls' t → told ≡ None
-    → TakesIn old place x (kept t calls' lists' marks' alone rs lacks)
-takes_none t calls calls' lists lists' marks marks' alone rs lacks b old x place told were d notes kind is more ends none =
-    subst (λ k. TakesIn k place x (kept t calls' lists' marks' alone rs lacks)) were (record {
+pub takes_none : (t : Tables) (calls calls' : List (Option Ongoing)) (lists : List (Vec ℕ Global)) (marks marks' : List Bool) (alone : List Entry) (rs : List Dated) (lacks b : Bool) (old : Timed) (x : Entry) (place : ℕ) (told : Option Call)
+    → kept t calls lists marks alone rs lacks ≡ old → IsDeclared t → b ≡ is_alone x.act → b ≡ false → marks' ≡ marks ++ false ∷ [] → Ending calls place x told calls' t → told ≡ None
+    → TakesIn old place x (kept t calls' lists marks' alone rs lacks)
+takes_none t calls calls' lists marks marks' alone rs lacks b old x place told were d kind is more ends none =
+    subst (λ k. TakesIn k place x (kept t calls' lists marks' alone rs lacks)) were (record {
       timed = λ past here acc s.
-          timed_none t calls calls' lists lists' marks marks' alone rs lacks x past d acc (sym kind ∙ is) s (index_next x past place lists lists' here s.index notes) (more ∙ ap (λ c. marks ++ c ∷ []) is)
+          timed_none t calls calls' lists lists marks marks' alone rs lacks x past d acc (sym kind ∙ is) s
+          (index_next x past place lists lists here s.index (noted_none lists x.act (place + 1) (not_raised x.act (sym kind ∙ is)))) more
           (subst (λ o. EndsCall t past x o calls') none (ends.ends past acc.1 here s.under_way));
     })
 
 -- where it ends one
-pub takes_one : (t : Tables) (calls calls' : List (Option Ongoing)) (lists lists' ls : List (Vec ℕ Global)) (marks marks' : List Bool) (alone : List Entry) (rs rs' : List Dated) (lacks b : Bool) (old : Timed) (x : Entry) (place : ℕ) (c : Call)
-    → kept t calls lists marks alone rs lacks ≡ old → IsDeclared t → NotesAct lists x.act (place + 1) lists' → b ≡ is_alone x.act → b ≡ false → marks' ≡ marks ++ b ∷ [] → Ending calls place x (Some c) calls' t
-    → ls ≡ lists' → PutsIn dated_point rs rs' (dated (placed_in ls c)) → TakesIn old place x (kept t calls' lists' marks' alone rs' lacks)
-takes_one t calls calls' lists lists' ls marks marks' alone rs rs' lacks b old x place c were d notes kind is more ends same puts =
-    subst (λ k. TakesIn k place x (kept t calls' lists' marks' alone rs' lacks)) were (record {
+pub takes_one : (t : Tables) (calls calls' : List (Option Ongoing)) (lists ls : List (Vec ℕ Global)) (marks marks' : List Bool) (alone : List Entry) (rs rs' : List Dated) (lacks b : Bool) (old : Timed) (x : Entry) (place : ℕ) (c : Call)
+    → kept t calls lists marks alone rs lacks ≡ old → IsDeclared t → b ≡ is_alone x.act → b ≡ false → marks' ≡ marks ++ false ∷ [] → Ending calls place x (Some c) calls' t
+    → ls ≡ lists → PutsIn dated_point rs rs' (dated (placed_in ls c)) → TakesIn old place x (kept t calls' lists marks' alone rs' lacks)
+takes_one t calls calls' lists ls marks marks' alone rs rs' lacks b old x place c were d kind is more ends same puts =
+    subst (λ k. TakesIn k place x (kept t calls' lists marks' alone rs' lacks)) were (record {
       timed = λ past here acc s.
-          timed_one t calls calls' lists lists' marks marks' alone rs rs' lacks x past c d acc (sym kind ∙ is) s (index_next x past place lists lists' here s.index notes) (more ∙ ap (λ c. marks ++ c ∷ []) is)
+          timed_one t calls calls' lists lists marks marks' alone rs rs' lacks x past c d acc (sym kind ∙ is) s
+          (index_next x past place lists lists here s.index (noted_none lists x.act (place + 1) (not_raised x.act (sym kind ∙ is)))) more
           (ends.ends past acc.1 here s.under_way) (subst (λ zs. PutsIn dated_point rs rs' (dated (placed_in zs c))) same puts);
     })

@@ -79,7 +79,7 @@ TimesOn start now past = (now.setup ≡ start.setup) × IsTimeline now past
 -- themselves, and these are those that are, and the reads and awaits that are left
 unfoldable pub dates_on : ℕ → List Bool → List Entry → List Dated → List Dated
 dates_on k [] alone readings = []
-dates_on k (true ∷ marks) [] readings = []
+dates_on k (true ∷ marks) [] readings = due_then dated_point (k + 1) (dates_on (k + 1) marks []) readings
 dates_on k (true ∷ marks) (x ∷ alone) readings = record { point = k; entry = x } ∷ due_then dated_point (k + 1) (dates_on (k + 1) marks alone) readings
 dates_on k (false ∷ marks) alone readings = due_then dated_point (k + 1) (dates_on (k + 1) marks alone) readings
 

@@ -10,6 +10,7 @@ use ec_core::{Act, Calls, Run};
 use std::alloc::{AllocError, Global};
 
 /// Whether an entry with this act is a whole call. A read or an await is none: it may go on by `go` entries.
+#[inline(always)]
 pub(crate) fn is_alone(act: Act) -> bool
     ensures { result ≡ is_alone act }
 {

@@ -8,6 +8,7 @@ use ec_core::{Act, Reply, Run};
 use std::alloc::{AllocError, Global};
 
 /// The number that a reply tells; 0 where it tells none.
+#[inline(always)]
 fn number_of(reply: Reply) -> u64
     ensures { result ≡ number_of reply }
 {
@@ -18,6 +19,7 @@ fn number_of(reply: Reply) -> u64
 }
 
 /// The eventcount that an act advances.
+#[inline(always)]
 fn advanced(act: Act) -> Option<usize>
     ensures value { result ≡ raised_by act }
     ensures small { IfSome result (λ e. e < 32) }
@@ -30,6 +32,7 @@ fn advanced(act: Act) -> Option<usize>
 
 /// A moment or a place in the 32 bits that are kept of it. One that does not fit is told as want of memory: by then the history has
 /// more than four thousand million entries.
+#[inline(always)]
 pub(crate) fn short(number: usize) -> Result<u32, AllocError>
     ensures { IfOk result (λ n. n ≡ number) }
 {
@@ -51,6 +54,7 @@ fn add_moment(lists: &mut Vec<Vec<u32>>, event: usize, moment: usize) -> Result<
 }
 
 /// Adds the moment after an act to those of the eventcount that it advances, if it advances one.
+#[inline(always)]
 pub(crate) fn note(lists: &mut Vec<Vec<u32>>, act: Act, moment: usize) -> Result<(), AllocError>
     requires { length lists.old.items ≡ 32 }
     ensures long { length lists.new.items ≡ 32 }
@@ -89,6 +93,7 @@ pub(crate) fn index(alloc: Global, run: &Run) -> Result<Vec<Vec<u32>>, AllocErro
 }
 
 /// The moment after the r-th advance, by the list of the moments after each advance; moment 0 for r = 0.
+#[inline(always)]
 fn moment_of(moments: &[u32], r: u64) -> usize
     ensures { result ≡ moment_of moments.now r }
 {
@@ -101,6 +106,7 @@ fn moment_of(moments: &[u32], r: u64) -> usize
 
 /// The point of a call: of a read or an await the greater of its round's start and the moment after the advance that
 /// made the total its answer, of any other call its position.
+#[inline(always)]
 pub(crate) fn point(lists: &[Vec<u32>], call: &Call) -> usize
     requires { length lists.now ≡ 32 }
     ensures { result ≡ point_in lists.now call.now }

@@ -10,6 +10,7 @@ use ec_count::Setup;
 use std::alloc::{AllocError, Global};
 
 /// Whether a reply ends a call.
+#[inline(always)]
 fn is_last(reply: Reply) -> bool
     ensures { result ≡ not (is_pending reply) }
 {
@@ -20,6 +21,7 @@ fn is_last(reply: Reply) -> bool
 }
 
 /// The call that the entry at position i ends, if it ends one, given its call up to it.
+#[inline(always)]
 fn ended(entry: &Entry, call: &Option<Ongoing>, i: usize) -> Option<Call>
     ensures { result ≡ call_told entry.now i call.now }
 {
@@ -40,6 +42,7 @@ fn ended(entry: &Entry, call: &Option<Ongoing>, i: usize) -> Option<Call>
 }
 
 /// Takes in the entry at position i, which may end a call.
+#[inline(always)]
 pub(crate) fn take_in(under_way: &mut Calls, setup: &Setup, entry: &Entry, i: usize) -> Option<Call>
     ensures { Ending under_way.old i entry.now result under_way.new setup.now }
 {

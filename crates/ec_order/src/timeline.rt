@@ -1,5 +1,5 @@
 //! The finished calls of a history by their points, gathered while the history goes past.
-ghost use Rattle.std.specs.Prelude.{◌≡◌, ◌+◌, ◌<◌, ◌^◌, List, [], ◌∷◌, length, slice_get, IfOk, OnOk};
+ghost use Rattle.std.specs.Prelude.{◌≡◌, ◌+◌, ◌<◌, ◌^◌, List, [], ◌∷◌, length, IfOk, OnOk};
 ghost use Rattle.ec_core.specs.declared.act.Entry.{Entry};
 ghost use Rattle.ec_core.specs.Acceptance.{IsAccepted};
 ghost use Rattle.ec_order.specs.Index.{placed_in};
@@ -9,22 +9,23 @@ ghost use Rattle.ec_order.specs.Walk.{PutsIn};
 use crate::by_points::ByPoints;
 use crate::gather::is_alone;
 use crate::index::{no_moments, note, point};
+use crate::marks::{Marks, MarksLeft};
 use crate::scan::take_in;
 use crate::{Call, Dated, OrderFault};
-use ec_core::{Act, Audit, Calls, Entry, Segments};
+use ec_core::{Act, Audit, Calls, Entries, Entry, Segments};
 use ec_count::Setup;
 use std::alloc::{AllocError, Global};
 use std::marker::Model;
 
 /// The finished calls of a history by their points, gathered while the history goes past: each entry is handed to it once, by
 /// `take`. Of an advance, a ticket, a put, a get or a hand it keeps the entry; of a finished read or await one entry that tells it,
-/// and its point; of an advance its moment too; and of every entry one byte.
+/// and its point; of an advance its moment too; and of every entry one bit.
 #[derive(Drop)]
 pub struct Timeline<'a> {
     setup: &'a Setup,
     under_way: Calls,
     moments: Vec<Vec<u32>>,
-    marks: Vec<bool>,
+    marks: Marks,
     alone: Segments,
     readings: ByPoints,
     lacks: bool,
@@ -36,7 +37,7 @@ impl<'a> Model for Timeline<'a> {
 
     ghost Value = { Timed };
 
-    ghost view = { λ s. record { setup = s.setup.now; under_way = s.under_way; moments = s.moments.items; marks = s.marks.items; alone = s.alone; readings = s.readings; lacks = s.lacks } };
+    ghost view = { λ s. record { setup = s.setup.now; under_way = s.under_way; moments = s.moments.items; marks = s.marks; alone = s.alone; readings = s.readings; lacks = s.lacks } };
 
     ghost invariant = { λ s. length s.moments.items ≡ 32 };
 }
@@ -74,7 +75,7 @@ impl<'a> Timeline<'a> {
             setup,
             under_way: Calls::new(),
             moments: no_moments(alloc)?,
-            marks: Vec::new(alloc),
+            marks: Marks::new(alloc),
             alone: Segments::open(alloc)?,
             readings: ByPoints::open(alloc)?,
             lacks: false,
@@ -90,13 +91,13 @@ impl<'a> Timeline<'a> {
         ensures kept { OnOk result (TakesIn self.old place entry.now self.new) }
     {
         self.setup.known();
-        note(&mut self.moments, entry.act, place + 1)?;
-        let alone = is_alone(entry.act);
-        self.marks.push(alone)?;
-        if alone {
+        if is_alone(entry.act) {
+            note(&mut self.moments, entry.act, place + 1)?;
+            self.marks.push(true)?;
             self.alone.push(*entry)?;
             return Ok(());
         }
+        self.marks.push(false)?;
         if let Some(call) = take_in(&mut self.under_way, self.setup, entry, place) {
             keep(&mut self.readings, &self.moments, &call)?;
             return Ok(());
@@ -125,52 +126,47 @@ impl<'a> Audit for Timeline<'a> {
 
     #[inline(always)]
     fn take(&mut self, place: usize, _op: &Act, entry: &Entry) {
-        self.lacks = self.lacks || self.gather(place, entry).is_err();
+        if !self.lacks && self.gather(place, entry).is_err() {
+            self.lacks = true;
+        }
     }
 }
 
 /// Finished calls by their points, one after another. A contract sees it as the list of those that are left.
 #[derive(Drop)]
 pub struct InTime<'a> {
-    marks: &'a [bool],
-    alone: &'a Segments,
+    marks: MarksLeft<'a>,
+    alone: Entries<'a>,
     readings: &'a ByPoints,
     position: usize,
-    passed: usize,
     given: usize,
 }
 
 impl<'a> Model for InTime<'a> {
-    ghost use Rattle.std.specs.Prelude.{List, drop};
+    ghost use Rattle.std.specs.Prelude.{◌+◌, ◌<◌, ◌^◌, List, drop, length};
     ghost use Rattle.ec_order.specs.declared.dated.Dated.{Dated};
     ghost use Rattle.ec_order.specs.Timeline.{dates};
 
     ghost Value = { List Dated };
 
-    ghost view = { λ s. dates s.position (drop s.position s.marks.now) (drop s.passed s.alone.now) (drop s.given s.readings.now) };
+    ghost view = { λ s. dates s.position s.marks s.alone (drop s.given s.readings.now) };
+
+    ghost invariant = { λ s. s.position + length s.marks < 2 ^ 64 };
 }
 
 impl<'a> InTime<'a> {
     /// All of them.
-    fn all(marks: &'a [bool], alone: &'a Segments, readings: &'a ByPoints) -> Self
+    fn all(marks: &'a Marks, alone: &'a Segments, readings: &'a ByPoints) -> Self
         ensures { result ≡ dates 0 marks.now alone.now readings.now }
     {
         InTime {
-            marks,
-            alone,
+            marks: marks.iter(),
+            alone: alone.entries(),
             readings,
             position: 0,
-            passed: 0,
             given: 0,
         }
     }
-}
-
-/// Whether the entry at a position is a call by itself, where there is one.
-fn mark(marks: &[bool], position: usize) -> Option<bool>
-    ensures { result ≡ slice_get marks.now position }
-{
-    marks.get(position).copied()
 }
 
 impl<'a> Iterator for InTime<'a> {
@@ -188,22 +184,16 @@ impl<'a> Iterator for InTime<'a> {
                 self.given += 1;
                 return Some(dated);
             }
-            let position = self.position;
-            let Some(alone) = mark(self.marks, position) else {
+            let point = self.position;
+            let Some(is_alone) = self.marks.next() else {
                 return None;
             };
-            if alone {
-                let Some(entry) = self.alone.get(self.passed) else {
-                    return None;
-                };
-                self.position += 1;
-                self.passed += 1;
-                return Some(Dated {
-                    point: position,
-                    entry,
-                });
-            }
             self.position += 1;
+            if is_alone {
+                if let Some(entry) = self.alone.next() {
+                    return Some(Dated { point, entry });
+                }
+            }
         }
     }
 }

@@ -166,14 +166,16 @@ fn entry_at(place: usize) -> Entry {
     }
 }
 
-/// Whether a list has so many entries, each in its place.
+/// Whether a list has so many entries, each in its place, and one after another.
 fn has_entries(list: &Segments, many: usize) -> bool {
+    let mut entries = list.entries();
     for place in 0..many {
-        if list.get(place) != Some(entry_at(place)) {
+        let right = Some(entry_at(place));
+        if list.get(place) != right || entries.next() != right {
             return false;
         }
     }
-    list.len() == many && list.get(many).is_none()
+    list.len() == many && list.get(many).is_none() && entries.next().is_none()
 }
 
 #[test]

@@ -1,5 +1,26 @@
 //! The texts of traces and of scripts.
 
+/// Eight times a line.
+macro_rules! eight {
+    ($line:literal) => {
+        concat!($line, $line, $line, $line, $line, $line, $line, $line)
+    };
+}
+
+/// 65 reads of an eventcount that is not advanced.
+pub(crate) const MANY_READS: &str = concat!(
+    "evc-trace 1\nlimit 10\nworkers a b c d\neventcount E signal a observe c d\nrun\n",
+    eight!("c read E = 0\n"),
+    eight!("c read E = 0\n"),
+    eight!("c read E = 0\n"),
+    eight!("c read E = 0\n"),
+    eight!("c read E = 0\n"),
+    eight!("c read E = 0\n"),
+    eight!("c read E = 0\n"),
+    eight!("c read E = 0\n"),
+    "c read E = 0\nend\n"
+);
+
 /// A snapshot of a database that is disturbed once.
 pub(crate) const DATABASE: &str = "evc-trace 1
 limit 10

@@ -1,46 +1,63 @@
-use Rattle.std.proofs.Common.{◌≡◌, Some, None, true, false, rules, sym, ◌∙◌, ap, drop, slice_get}
-use Rattle.ec_order.proofs.Dates.{NoneDue, dates_due, dates_own, dates_pass, dates_end, dates_out}
+use Rattle.std.proofs.Common.{◌≡◌, List, Bool, Some, None, true, false, ◌∷◌, ◌+◌, [], rules, arith, sym, ◌∙◌, ap, drop, length}
+use Rattle.ec_core.specs.declared.act.Entry.{Entry}
+use Rattle.ec_order.specs.declared.dated.Dated.{Dated}
+use Rattle.ec_order.specs.Timeline.{dates}
+use Rattle.ec_order.proofs.Dates.{NoneDue, dates_due, dates_own, dates_pass, dates_end}
 use Rattle.ec_order.proofs.timeline.InTimeIterator.next.Goals as goal
 
 pub returns-in-Some-clause-steps : goal.returns-in-Some-clause-steps
 returns-in-Some-clause-steps c =
     let s = c.loop-dated.self-inside in
-    sym c.self.view_is ∙ sym c.loop-dated.invariant
-    ∙ dates_due s.position (drop s.position s.marks.now) (drop s.passed s.alone.now) s.readings.now s.given c.in-Some.dated c.in-Some.ensures.value.0 c.in-Some.ensures.value.1
+    sym c.self.view_is ∙ sym c.loop-dated.invariant.left
+    ∙ dates_due s.position s.marks s.alone s.readings.now s.given c.in-Some.dated c.in-Some.ensures.value.0 c.in-Some.ensures.value.1
 
 pub returns-in-Some-clause-goes : goal.returns-in-Some-clause-goes
 returns-in-Some-clause-goes c = let e = returns-in-Some-clause-steps c in search (rules, e)
 
-pub returns-in_default-mark-clause-steps : goal.returns-in_default-mark-clause-steps
-returns-in_default-mark-clause-steps c =
+pub returns-in_default-next-clause-steps : goal.returns-in_default-next-clause-steps
+returns-in_default-next-clause-steps c =
     let s = c.loop-dated.self-inside in
     let none : NoneDue s.readings.now s.given s.position = λ d at. c.in_default.ensures.value d at in
-    let past : slice_get s.marks.now s.position ≡ None = sym c.mark.ensures ∙ c.in_default-mark.is in
-    let ends = dates_end s.position s.marks.now (drop s.passed s.alone.now) s.readings.now s.given none past in
-    (sym c.self.view_is ∙ sym c.loop-dated.invariant ∙ ends, ends)
+    let left : List Bool → List Dated = λ ms. dates s.position ms s.alone (drop s.given s.readings.now) in
+    let ends = dates_end s.position s.alone s.readings.now s.given none in (
+      sym c.self.view_is ∙ sym c.loop-dated.invariant.left ∙ ap left c.in_default-next.ensures.steps.0 ∙ ends,
+      ap left c.in_default-next.ensures.steps.1 ∙ ends,
+    )
 
-pub returns-in_default-get-clause-steps : goal.returns-in_default-get-clause-steps
-returns-in_default-get-clause-steps c =
+pub returns-in-Some-next-2-clause-steps : goal.returns-in-Some-next-2-clause-steps
+returns-in-Some-next-2-clause-steps c =
     let s = c.loop-dated.self-inside in
     let none : NoneDue s.readings.now s.given s.position = λ d at. c.in_default.ensures.value d at in
-    let mark : slice_get s.marks.now s.position ≡ Some true = sym c.in-Some-mark.ensures ∙ ap (λ b. Some b) c.if-alone.true in
-    let ends = dates_out s.position s.marks.now s.alone.now s.passed s.readings.now s.given none mark (sym c.get.ensures.value ∙ c.in_default-get.is) in
-    (sym c.self.view_is ∙ sym c.loop-dated.invariant ∙ ends, ends)
+    let marks : s.marks ≡ true ∷ c.next.new.self = c.in-Some-next.ensures.steps ∙ ap (λ b. b ∷ c.next.new.self) c.if-is_alone.true in
+    let alone : s.alone ≡ c.in-Some-next-2.entry ∷ c.next-then-is_alone.new.self = c.in-Some-next-2.ensures.steps in
+    sym c.self.view_is ∙ sym c.loop-dated.invariant.left
+    ∙ ap (λ ms. dates s.position ms s.alone (drop s.given s.readings.now)) marks ∙ ap (λ xs. dates s.position (true ∷ c.next.new.self) xs (drop s.given s.readings.now)) alone
+    ∙ dates_own s.position c.next.new.self c.in-Some-next-2.entry c.next-then-is_alone.new.self s.readings.now s.given none
 
-pub returns-then-alone-clause-steps : goal.returns-then-alone-clause-steps
-returns-then-alone-clause-steps c =
+pub returns-in-Some-next-2-clause-goes : goal.returns-in-Some-next-2-clause-goes
+returns-in-Some-next-2-clause-goes c = let e = returns-in-Some-next-2-clause-steps c in search (rules, e)
+
+pub loop-dated-preserved-in_default-next-2 : goal.loop-dated-preserved-in_default-next-2
+loop-dated-preserved-in_default-next-2 c =
     let s = c.loop-dated.self-inside in
     let none : NoneDue s.readings.now s.given s.position = λ d at. c.in_default.ensures.value d at in
-    let mark : slice_get s.marks.now s.position ≡ Some true = sym c.in-Some-mark.ensures ∙ ap (λ b. Some b) c.if-alone.true in
-    sym c.self.view_is ∙ sym c.loop-dated.invariant
-    ∙ dates_own s.position s.marks.now s.alone.now s.passed c.in-Some-get.entry s.readings.now s.given none mark (sym c.get.ensures.value ∙ c.in-Some-get.is)
-
-pub returns-then-alone-clause-goes : goal.returns-then-alone-clause-goes
-returns-then-alone-clause-goes c = let e = returns-then-alone-clause-steps c in search (rules, e)
+    let rest = drop s.given s.readings.now in
+    let out = c.in_default-next-2.ensures.steps in
+    record {
+      left = ap (λ xs. dates (s.position + 1) c.next.new.self xs rest) (out.1 ∙ sym out.0)
+          ∙ sym (ap (λ ms. dates s.position ms s.alone rest) c.in-Some-next.ensures.steps ∙ dates_pass s.position c.in-Some-next.is_alone c.next.new.self s.alone s.readings.now s.given none (λ e. out.0))
+          ∙ c.loop-dated.invariant.left;
+      small = omega (arith, ap length c.in-Some-next.ensures.steps, c.loop-dated.invariant.small);
+    }
 
 pub loop-dated-preserved : goal.loop-dated-preserved
 loop-dated-preserved c =
     let s = c.loop-dated.self-inside in
     let none : NoneDue s.readings.now s.given s.position = λ d at. c.in_default.ensures.value d at in
-    let mark : slice_get s.marks.now s.position ≡ Some false = sym c.in-Some-mark.ensures ∙ ap (λ b. Some b) c.if-alone.false in
-    sym (dates_pass s.position s.marks.now (drop s.passed s.alone.now) s.readings.now s.given none mark) ∙ c.loop-dated.invariant
+    let is = c.if-is_alone.false in
+    record {
+      left = sym (
+          ap (λ ms. dates s.position ms s.alone (drop s.given s.readings.now)) c.in-Some-next.ensures.steps
+          ∙ dates_pass s.position c.in-Some-next.is_alone c.next.new.self s.alone s.readings.now s.given none (λ e. cc)) ∙ c.loop-dated.invariant.left;
+      small = omega (arith, ap length c.in-Some-next.ensures.steps, c.loop-dated.invariant.small);
+    }

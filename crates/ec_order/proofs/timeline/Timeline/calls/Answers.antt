@@ -11,8 +11,7 @@ returns-clause-value c = λ past s acc.
     let k = c.args.self.now in
     let lacks : k.lacks ≡ false = ap (λ (z : Timed). z.lacks) (sym c.self.view_is) ∙ c.if-self.false in
     let declared : IsDeclared k.setup = subst IsDeclared (ap (λ (z : Timed). z.setup) c.self.view_is) c.known.ensures in
-    c.all.ensures ∙ ap (λ ms. dates 0 ms c.self.inside.alone c.self.inside.readings) c.deref.ensures.value
-    ∙ ap (λ (z : Timed). dates 0 z.marks z.alone z.readings) c.self.view_is ∙ dates_of k past declared acc (s lacks acc)
+    c.all.ensures ∙ ap (λ (z : Timed). dates 0 z.marks z.alone z.readings) c.self.view_is ∙ dates_of k past declared acc (s lacks acc)
 
 pub returns-clause-good : goal.returns-clause-good
 returns-clause-good c = λ past s acc.
