@@ -2,7 +2,7 @@
 ghost use Rattle.std.specs.Prelude.{◌≡◌, ℕ, false, ◌<◌, ◌≤◌, length, slice_get, Some};
 ghost use Rattle.ec_count.specs.Counted.{raised};
 ghost use Rattle.ec_count.specs.Tables.{signallers};
-ghost use Rattle.ec_core.specs.Acceptance.{names_unknown_object, is_too_large};
+ghost use Rattle.ec_core.specs.Acceptance.{is_too_large};
 ghost use Rattle.ec_core.specs.Rounds.{event_or, width};
 ghost use Rattle.ec_core.specs.Counts.{sum_to};
 ghost use Rattle.ec_core.specs.Standing.{count_at};
@@ -31,21 +31,6 @@ pub(crate) fn declared(setup: &Setup) -> [Signallers; 32]
         }
     }
     signal
-}
-
-/// Whether the act names something that is not declared.
-pub(crate) fn names_unknown_object(setup: &Setup, act: &Act) -> bool
-    ensures { result ≡ names_unknown_object setup.now act.now }
-{
-    match *act {
-        Act::Advance(event) | Act::Read(event) | Act::Await(event, _) => {
-            event.get() >= setup.events()
-        }
-        Act::Go => false,
-        Act::Ticket(sequencer) => sequencer.get() >= setup.sequencers(),
-        Act::Put(cell, _) | Act::Get(cell) => cell.get() >= setup.cells(),
-        Act::Hand(event, to) => event.get() >= setup.events() || to.get() >= setup.workers(),
-    }
 }
 
 /// Whether a put or a threshold is above the greatest value.

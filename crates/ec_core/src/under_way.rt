@@ -86,6 +86,7 @@ impl UnderWay {
     }
 
     /// The act that began it: a Read or an Await.
+    #[inline(always)]
     pub fn op(&self) -> Act
         ensures { result ≡ self.now.op }
     {

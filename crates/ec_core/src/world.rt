@@ -1,5 +1,5 @@
 //! The state of a kernel.
-ghost use Rattle.std.specs.Prelude.{reverse, true, false, if◌then◌else◌, nat_lt, ◌≡◌, ◌+◌, ◌*◌, ◌^◌, ◌<◌, ◌≤◌, List, [], ◌∷◌, ◌++◌, length, Some, None, Ok, Err, IfOk, IfSome, OnErr, MatchResult};
+ghost use Rattle.std.specs.Prelude.{reverse, true, false, if◌then◌else◌, nat_lt, nat_le, ◌≡◌, ◌+◌, ◌*◌, ◌^◌, ◌<◌, ◌≤◌, List, [], ◌∷◌, ◌++◌, length, Some, None, Ok, Err, IfOk, IfSome, OnErr, MatchResult};
 ghost use Rattle.ec_core.specs.declared.act.Entry.{Entry};
 ghost use Rattle.ec_core.specs.Acceptance.{answer_of, refused_or, refusal_in};
 ghost use Rattle.std.specs.Option.{option_map};
@@ -14,8 +14,8 @@ ghost use Rattle.ec_core.specs.Fields.{kept_call, component_in, right_in, alread
 
 use crate::effect::Effect;
 use crate::fields::{
-    all_alike, count_in, count_of, declared, is_too_large, names_unknown_object, raise_at,
-    raise_in, same_again, sum_of, width,
+    all_alike, count_in, count_of, declared, is_too_large, raise_at, raise_in, same_again, sum_of,
+    width,
 };
 use crate::signallers::Signallers;
 use crate::under_way::Round;
@@ -202,6 +202,22 @@ impl World {
         call.read(width, counts)
     }
 
+    /// The refusal, where the eventcount is not declared.
+    #[inline(always)]
+    fn known_event(&self, event: EventId) -> Result<(), Refusal>
+        ensures { MatchResult result (λ x. nat_le (length self.now.setup.events) event ≡ false) (λ r. (nat_le (length self.now.setup.events) event ≡ true) × (r ≡ Refusal.UnknownObject)) }
+    {
+        refuse_if(event.get() >= self.setup.events(), Refusal::UnknownObject)
+    }
+
+    /// The refusal, where the cell is not declared.
+    #[inline(always)]
+    fn known_cell(&self, cell: CellId) -> Result<(), Refusal>
+        ensures { MatchResult result (λ x. nat_le (length self.now.setup.cells) cell ≡ false) (λ r. (nat_le (length self.now.setup.cells) cell ≡ true) × (r ≡ Refusal.UnknownObject)) }
+    {
+        refuse_if(cell.get() >= self.setup.cells(), Refusal::UnknownObject)
+    }
+
     /// What an act comes to that begins a call, or the first refusal after those that ask for the worker and its call.
     #[inline(always)]
     fn begin(&self, worker: WorkerId, act: &Act) -> Result<Effect, Refusal>
@@ -209,12 +225,9 @@ impl World {
         requires begins { is_go act.now ≡ false }
         ensures { (past : List Entry) → result ≡ refused_or (refusal_in self.now.setup worker act.now false (right_in self.now past worker act.now) (is_full_for self.now worker act.now) (already_in self.now act.now)) (effect_in self.now worker act.now) }
     {
-        refuse_if(
-            names_unknown_object(&self.setup, act),
-            Refusal::UnknownObject,
-        )?;
         match *act {
             Act::Advance(event) => {
+                self.known_event(event)?;
                 let own = self.own_component(event, worker);
                 let component = own.ok_or(Refusal::NoRight)?;
                 let count = count_in(&self.counts, event.get(), component);
@@ -222,6 +235,7 @@ impl World {
                 Ok(Effect::Raise(event, component))
             }
             Act::Read(event) | Act::Await(event, _) => {
+                self.known_event(event)?;
                 refuse_if(!self.setup.may_observe(event, worker), Refusal::NoRight)?;
                 refuse_if(is_too_large(act), Refusal::ValueTooLarge)?;
                 let call = UnderWay::begun(*act);
@@ -230,21 +244,29 @@ impl World {
             }
             Act::Go => Err(Refusal::Idle),
             Act::Ticket(sequencer) => {
+                refuse_if(
+                    sequencer.get() >= self.setup.sequencers(),
+                    Refusal::UnknownObject,
+                )?;
                 refuse_if(!self.setup.may_take(sequencer, worker), Refusal::NoRight)?;
                 let count = count_of(&self.issued, sequencer.get());
                 refuse_if(count.is_full(), Refusal::AtLimit)?;
                 Ok(Effect::Draw(sequencer, count.value()))
             }
             Act::Put(cell, value) => {
+                self.known_cell(cell)?;
                 refuse_if(!self.setup.may_write(cell, worker), Refusal::NoRight)?;
                 refuse_if(is_too_large(act), Refusal::ValueTooLarge)?;
                 Ok(Effect::Put(cell, value))
             }
             Act::Get(cell) => {
+                self.known_cell(cell)?;
                 refuse_if(!self.setup.may_read(cell, worker), Refusal::NoRight)?;
                 Ok(Effect::Get(self.cells[cell.get()]))
             }
             Act::Hand(event, to) => {
+                self.known_event(event)?;
+                refuse_if(to.get() >= self.setup.workers(), Refusal::UnknownObject)?;
                 let own = self.own_component(event, worker);
                 refuse_if(own.is_none(), Refusal::NoRight)?;
                 refuse_if(!self.setup.may_hand(event), Refusal::NotHandable)?;

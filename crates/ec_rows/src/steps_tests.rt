@@ -1,9 +1,8 @@
 //! What steps are answered, and what stands after them.
-use crate::drive::Ask;
 use crate::drive::Ask::{Advance, Await, Get, Go, Put, Read, Ticket};
 use crate::drive::Told::{Done, Number, Pending, Refused};
 use crate::drive::{
-    History, Line, Sight, Step, World, act_of, declared, history, is_told, run_of, sees, shows,
+    Ask, History, Line, Sight, Step, World, act_of, declared, history, is_told, run_of, sees, shows,
 };
 use crate::histories::{
     AWAIT_OF_ROUNDS, AWAIT_OF_ZERO, MANY_ADVANCES, OVERTAKEN_READ, READ_OVERTAKEN_OFTEN,
