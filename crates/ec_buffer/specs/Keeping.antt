@@ -1,5 +1,6 @@
 -- What is kept of a list of calls, to judge the next call of its worker or to ask for it.
-use Rattle.std.specs.Prelude.{ℕ, ◌+◌, ◌==◌, List, length, Option, slice_get, if◌then◌else◌}
+use Rattle.std.specs.Prelude.{◌≡◌, ℕ, ◌+◌, ◌<◌, ◌==◌, Bool, List, length, Option, Some, slice_get, if◌then◌else◌}
+use Rattle.ec_count.specs.Tables.{Tables, may_take}
 use Rattle.ec_core.specs.declared.act.Act.{Act}
 use Rattle.ec_core.specs.declared.act.Reply.{Reply}
 use Rattle.ec_core.specs.declared.protocol.Kept.{Kept}
@@ -7,6 +8,7 @@ use Rattle.ec_core.specs.Calls.{is_pending}
 use Rattle.ec_core.specs.CallLists.{number_of}
 use Rattle.ec_core.specs.Following.{Told}
 use Rattle.ec_buffer.specs.CallLists.{turn_of}
+use Rattle.ec_buffer.specs.Shapes.{Buffer}
 
 -- the place in the list, and the ticket
 abbrev pub kept_of : List Told → Kept
@@ -23,3 +25,7 @@ turn_after at turn reply = if is_pending reply then turn else (if at == 0 then n
 -- the call that comes after further calls, where so many are finished and the first of them drew this ticket
 abbrev pub rest_of : (ℕ → List Act) → ℕ → ℕ → List Told → Option Act
 rest_of list at turn calls = slice_get (list (if at == 0 then turn_of calls else turn)) (at + length calls)
+
+-- whether each of the first n workers is a producer, by number
+abbrev pub AreProducers : Tables → Buffer → ℕ → List Bool → Type 0
+AreProducers t b n table = (w : ℕ) → w < n → slice_get table w ≡ Some (may_take t b.put_seq w)

@@ -133,12 +133,12 @@ impl<'a> Audit for DeliveryAudit<'a> {
 
     ghost stands = { DeliversOn };
 
+    #[inline(never)]
     fn take(&mut self, place: usize, op: &Act, entry: &Entry) {
-        let lists = self.lists;
-        let shape = lists.shape;
+        let shape = self.lists.shape;
         self.lacks = lacks_after(self.lacks, shape, entry, &self.writers, &mut self.list);
         note_put(shape, entry, &mut self.writers);
-        self.tracker.take(&lists, place, op, entry);
+        self.tracker.take(&self.lists, place, op, entry);
     }
 }
 
@@ -149,10 +149,11 @@ impl<'a> DeliveryAudit<'a> {
         ensures setup { result.setup ≡ setup.now }
         ensures first { IsDelivering result [] }
     {
-        let lists = Lists { shape, setup };
+        let lists = Lists::new(shape, setup);
+        let tracker = Tracker::new(&lists);
         DeliveryAudit {
             lists,
-            tracker: Tracker::new(&lists),
+            tracker,
             writers: no_writers(),
             list: Vec::new(alloc),
             lacks: false,

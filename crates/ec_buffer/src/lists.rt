@@ -1,11 +1,12 @@
 //! The call lists of a buffer, for the workers of a setup.
-ghost use Rattle.std.specs.Prelude.{◌≡◌, ℕ, ◌+◌, ◌==◌, Bool, true, List, [], ◌∷◌, Option, Some};
+ghost use Rattle.std.specs.Prelude.{◌≡◌, ℕ, ◌+◌, ◌<◌, ◌==◌, Bool, true, List, [], ◌∷◌, Option, Some};
+ghost use Rattle.ec_count.specs.Tables.{may_take};
 ghost use Rattle.ec_core.specs.declared.act.Act.{Act};
 ghost use Rattle.ec_core.specs.declared.protocol.Kept.{Kept};
 ghost use Rattle.ec_core.specs.Following.{Told, Rule, block_after, is_right};
 ghost use Rattle.ec_core.specs.CallLists.{is_due, unvalued};
 ghost use Rattle.ec_buffer.specs.Follows.{is_on, is_cell, buffer_rules};
-ghost use Rattle.ec_buffer.specs.Keeping.{kept_of};
+ghost use Rattle.ec_buffer.specs.Keeping.{kept_of, AreProducers};
 
 use crate::BufferShape;
 use crate::consume::consume_at;
@@ -14,10 +15,13 @@ use ec_core::{Act, Kept, Protocol, Reply, is_due};
 use ec_count::{EventId, SeqId, Setup, WorkerId};
 
 /// The call lists of a buffer.
-#[derive(Clone, Copy)]
+#[derive(Drop)]
 pub(crate) struct Lists<'a> {
     pub(crate) shape: &'a BufferShape,
     pub(crate) setup: &'a Setup,
+    /// Which workers are producers, since each entry of a run asks that.
+    producers: [bool; 16],
+    ghost known: { AreProducers setup.now shape.now 16 producers },
 }
 
 fn is_count(shape: &BufferShape, event: EventId) -> bool
@@ -61,6 +65,42 @@ fn is_wait(shape: &BufferShape, number: u64, act: &Act) -> bool
     }
 }
 
+/// Whether the worker of a number is a producer; false where there is no such worker.
+fn is_producer(shape: &BufferShape, setup: &Setup, number: usize) -> bool
+    requires { number < 16 }
+    ensures { result ≡ may_take setup.now shape.now.put_seq number }
+{
+    match WorkerId::new(number) {
+        Some(worker) => setup.may_take(shape.put_seq(), worker),
+        None => false,
+    }
+}
+
+impl<'a> Lists<'a> {
+    pub(crate) fn new(shape: &'a BufferShape, setup: &'a Setup) -> Self
+        ensures shape { result.shape.now ≡ shape.now }
+        ensures setup { result.setup.now ≡ setup.now }
+    {
+        let mut producers = [false; 16];
+        for number in 0..16 {
+            producers[number] = is_producer(shape, setup, number);
+        }
+        Lists {
+            shape,
+            setup,
+            producers,
+        }
+    }
+
+    /// Whether the worker is a producer.
+    #[inline(always)]
+    fn produces(&self, worker: WorkerId) -> bool
+        ensures { result ≡ may_take self.now.setup.now self.now.shape.now.put_seq worker }
+    {
+        self.producers[worker.get()]
+    }
+}
+
 impl<'a> Protocol for Lists<'a> {
     ghost rules = { λ s. buffer_rules s.setup.now s.shape.now };
 
@@ -78,7 +118,7 @@ impl<'a> Protocol for Lists<'a> {
         if !is_on(self.shape, act) {
             return true;
         }
-        if self.setup.may_take(self.shape.put_seq(), worker) {
+        if self.produces(worker) {
             is_due(&produce_at(self.shape, 0, kept.at, kept.first), act)
         } else if kept.at == 2 {
             is_wait(self.shape, kept.first, act)

@@ -184,6 +184,7 @@ impl<'a> Audit for VersionAudit<'a> {
 
     ghost stands = { VersionsOn };
 
+    #[inline(never)]
     fn take(&mut self, place: usize, op: &Act, entry: &Entry) {
         let VersionAudit {
             lists,

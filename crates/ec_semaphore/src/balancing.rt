@@ -36,14 +36,13 @@ fn is_up(shape: &SemaphoreShape, act: &Act) -> bool
     }
 }
 
-/// One more where it holds. The greatest number stays as it is.
-fn counted(count: u64, holds: bool) -> u64
-    ensures { count + 1 < 2 ^ 64 → result ≡ count + (if holds then 1 else 0) }
+/// Counts one more where it holds. The greatest number stays as it is.
+#[inline(always)]
+fn count(count: &mut u64, holds: bool)
+    ensures { count.old + 1 < 2 ^ 64 → count.new ≡ count.old + (if holds then 1 else 0) }
 {
-    if holds && count < u64::MAX {
-        count + 1
-    } else {
-        count
+    if holds && *count < u64::MAX {
+        *count += 1;
     }
 }
 
@@ -70,12 +69,12 @@ impl Audit for BalanceAudit {
 
     ghost stands = { BalancesOn };
 
+    #[inline(never)]
     fn take(&mut self, place: usize, op: &Act, entry: &Entry) {
-        let uses = self.uses;
-        let shape = uses.shape();
-        self.downs = counted(self.downs, is_down(&shape, op, entry.reply));
-        self.ups = counted(self.ups, is_up(&shape, &entry.act));
-        self.tracker.take(&uses, place, op, entry);
+        let shape = self.uses.shape();
+        count(&mut self.downs, is_down(shape, op, entry.reply));
+        count(&mut self.ups, is_up(shape, &entry.act));
+        self.tracker.take(&self.uses, place, op, entry);
     }
 }
 

@@ -126,6 +126,7 @@ impl<'a> Audit for PairAudit<'a> {
 
     ghost stands = { PairsOn };
 
+    #[inline(never)]
     fn take(&mut self, place: usize, op: &Act, entry: &Entry) {
         let kept = self.tracker.kept(entry.worker);
         let pair = note_drawn(&kept, entry, &mut self.latest);

@@ -30,10 +30,11 @@ impl Uses {
     }
 
     /// The semaphore.
-    pub(crate) fn shape(&self) -> SemaphoreShape
-        ensures { result ≡ self.now.shape }
+    #[inline(always)]
+    pub(crate) fn shape(&self) -> &SemaphoreShape
+        ensures { result.now ≡ self.now.shape }
     {
-        self.shape
+        &self.shape
     }
 }
 

@@ -128,6 +128,7 @@ impl<'a> Audit for Auditing<'a> {
 
     ghost stands = { AuditsOn };
 
+    #[inline(always)]
     fn take(&mut self, place: usize, op: &Act, entry: &Entry) {
         match self {
             Auditing::Deliveries(audit) => audit.take(place, op, entry),

@@ -16,9 +16,9 @@ returns c = λ start past at op was.
       ap (λ (z : Balancing). z.shape) c.self.view_is ∙ was.0,
       record {
         tracked = c.take.ensures past at op inside.tracked;
-        downs = down_more s x past c.args.place c.self.inside.downs c.counted-self-inside.result c.args.op.now c.is_down.result at c.requires inside.downs op
-            (c.is_down.ensures ∙ ap (λ (z : Semaphore). is_await z.count c.args.op.now && not (is_pending x.reply)) c.shape-shape.ensures) c.counted-self-inside.ensures;
-        ups = up_more s x past c.args.place c.self.inside.ups c.counted-self-inside-2.result c.is_up.result at c.requires inside.ups
-            (c.is_up.ensures ∙ ap (λ (z : Semaphore). is_advance z.count x.act) c.shape-shape.ensures) c.counted-self-inside-2.ensures;
+        downs = down_more s x past c.args.place c.self.inside.downs c.count.new.count c.args.op.now c.is_down.result at c.requires inside.downs op
+            (c.is_down.ensures ∙ ap (λ (z : Semaphore). is_await z.count c.args.op.now && not (is_pending x.reply)) c.shape-shape.ensures) c.count.ensures;
+        ups = up_more s x past c.args.place c.self.inside.ups c.count-2.new.count c.is_up.result at c.requires inside.ups
+            (c.is_up.ensures ∙ ap (λ (z : Semaphore). is_advance z.count x.act) c.shape-shape.ensures) c.count-2.ensures;
       },
     ))
