@@ -350,16 +350,18 @@ const OF_MANY_READS: Trace = Trace {
 };
 
 /// The points of reads that each have one entry, one after another.
-static EACH_POINT: [usize; 65] = [
+const EACH_POINT: &[usize] = &[
     0, 1, 2, 3, 4, 5, 6, 7, 8, 9, 10, 11, 12, 13, 14, 15, 16, 17, 18, 19, 20, 21, 22, 23, 24, 25,
     26, 27, 28, 29, 30, 31, 32, 33, 34, 35, 36, 37, 38, 39, 40, 41, 42, 43, 44, 45, 46, 47, 48, 49,
     50, 51, 52, 53, 54, 55, 56, 57, 58, 59, 60, 61, 62, 63, 64,
 ];
 
-static MANY_IN_TIME: Row = (OF_MANY_READS, Look::Timeline(&EACH_POINT));
+static MANY_IN_TIME: Row = (OF_MANY_READS, Look::Timeline(EACH_POINT));
 
 #[test]
-fn the_order_of_a_timeline_of_more_entries_than_a_word_has_marks(rt: HostRuntime) -> Result<(), Fail> {
+fn the_order_of_a_timeline_of_more_entries_than_a_word_has_marks(
+    rt: HostRuntime,
+) -> Result<(), Fail> {
     tell(&rt, way_of_look(rt.alloc(), &MANY_IN_TIME))
 }
 

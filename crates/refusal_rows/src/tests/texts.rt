@@ -1,24 +1,41 @@
 //! The texts of traces and of scripts.
 
-/// Eight times a line.
-macro_rules! eight {
-    ($line:literal) => {
-        concat!($line, $line, $line, $line, $line, $line, $line, $line)
+/// A trace of reads of an eventcount that is not advanced: eight times these, and one more.
+macro_rules! many_reads {
+    ($reads:literal) => {
+        concat!(
+            "evc-trace 1
+limit 10
+workers a b c d
+eventcount E signal a observe c d
+run
+",
+            $reads,
+            $reads,
+            $reads,
+            $reads,
+            $reads,
+            $reads,
+            $reads,
+            $reads,
+            "c read E = 0
+end
+"
+        )
     };
 }
 
-/// 65 reads of an eventcount that is not advanced.
-pub(crate) const MANY_READS: &str = concat!(
-    "evc-trace 1\nlimit 10\nworkers a b c d\neventcount E signal a observe c d\nrun\n",
-    eight!("c read E = 0\n"),
-    eight!("c read E = 0\n"),
-    eight!("c read E = 0\n"),
-    eight!("c read E = 0\n"),
-    eight!("c read E = 0\n"),
-    eight!("c read E = 0\n"),
-    eight!("c read E = 0\n"),
-    eight!("c read E = 0\n"),
-    "c read E = 0\nend\n"
+/// 65 reads.
+pub(crate) const MANY_READS: &str = many_reads!(
+    "c read E = 0
+c read E = 0
+c read E = 0
+c read E = 0
+c read E = 0
+c read E = 0
+c read E = 0
+c read E = 0
+"
 );
 
 /// A snapshot of a database that is disturbed once.
