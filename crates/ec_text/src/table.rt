@@ -162,17 +162,20 @@ impl Table {
         true
     }
 
-    /// Takes a short text in where there is room for the longest, and tells whether it did.
+    /// Takes bytes in, and a short text behind them, where there is room for the longest, and tells whether it did. Of bytes there are
+    /// at most 32 here.
     #[inline(always)]
-    pub(crate) fn take_in_short(&mut self, text: &ShortText) -> bool
-        ensures taken { IsTrue result → self.new ≡ self.old ++ text.now }
+    pub(crate) fn take_in_short(&mut self, before: &[u8], text: &ShortText) -> bool
+        ensures taken { IsTrue result → self.new ≡ self.old ++ (before.now ++ text.now) }
         ensures kept { result ≡ false → self.new ≡ self.old }
     {
-        if self.len > 8192 - 32 {
+        if before.len() > 32 || self.len > 8192 - 64 {
             return false;
         }
-        write_32(&mut self.bytes, self.len, &text.bytes);
-        self.len += text.len;
+        let place = self.len + before.len();
+        write_at(&mut self.bytes, self.len, before);
+        write_32(&mut self.bytes, place, &text.bytes);
+        self.len = place + text.len;
         true
     }
 }
