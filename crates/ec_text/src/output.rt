@@ -1,5 +1,5 @@
 //! A writer with a table of bytes before it.
-ghost use Rattle.std.specs.Prelude.{◌≡◌, ◌∷◌, [], List, ℕ, false, true, IsOk, IsErr, OnOk, OnErr, IsTrue, decimal, length, slice_set, ◌+◌, ◌-◌, ◌<◌, ◌≤◌};
+ghost use Rattle.std.specs.Prelude.{◌≡◌, ◌∷◌, ◌++◌, [], List, ℕ, false, true, IsOk, IsErr, OnOk, OnErr, IsTrue, decimal, length, slice_set, ◌+◌, ◌-◌, ◌<◌, ◌≤◌};
 ghost use Rattle.std.specs.List.{flat_map};
 ghost use Rattle.std.specs.Io.KnownBytes.{Appends};
 ghost use Rattle.ec_text.specs.Puts.{Outgoing, Holds, Puts, AppendsPrefix, IsFresh, IsWrittenOut, at_first, with_bytes};
@@ -95,15 +95,56 @@ impl<'a, W: Write> Out<'a, W> {
         self.put_behind(bytes);
     }
 
-    /// Takes a short text in as `take_in` does, where there is room for the longest.
+    /// Takes bytes and a short text in as `take_in` does, where there is room for the longest.
     #[inline(always)]
-    fn take_in_short(&mut self, text: &ShortText) -> bool
-        ensures puts { IsTrue result → Puts self.old self.new text.now }
+    fn take_in_short(&mut self, before: &[u8], text: &ShortText) -> bool
+        ensures puts { IsTrue result → Puts self.old self.new (before.now ++ text.now) }
         ensures full { result ≡ false → self.new ≡ self.old }
         ensures stays { self.old.failed ≡ true → self.new ≡ self.old }
-        ensures taken { self.old.failed ≡ false → result ≡ true → self.new ≡ with_bytes self.old text.now }
+        ensures taken { self.old.failed ≡ false → result ≡ true → self.new ≡ with_bytes self.old (before.now ++ text.now) }
     {
-        self.bytes.take_in_short(text)
+        self.bytes.take_in_short(before, text)
+    }
+
+    /// Puts bytes, and a short text behind them. Where the bytes are a literal that costs little more than the text alone.
+    #[inline(always)]
+    pub fn put_with_short(&mut self, before: &[u8], text: &ShortText)
+        ensures puts { Puts self.old self.new (before.now ++ text.now) }
+        ensures room { self.old.failed ≡ false → length self.old.waiting + length (before.now ++ text.now) ≤ 8192
+            → self.new ≡ with_bytes self.old (before.now ++ text.now) }
+        ensures stays { self.old.failed ≡ true → self.new ≡ self.old }
+    {
+        if self.take_in_short(before, text) {
+            return;
+        }
+        self.put_at_end(before, text);
+    }
+
+    /// Takes bytes and a short text with another last byte in, as `take_in_short` does.
+    #[inline(always)]
+    fn take_in_ending(&mut self, before: &[u8], text: &ShortText, last: u8) -> bool
+        requires { 0 < length text.now }
+        ensures puts { IsTrue result → Puts self.old self.new (before.now ++ slice_set text.now (length text.now - 1) last) }
+        ensures full { result ≡ false → self.new ≡ self.old }
+        ensures stays { self.old.failed ≡ true → self.new ≡ self.old }
+        ensures taken { self.old.failed ≡ false → result ≡ true → self.new ≡ with_bytes self.old (before.now ++ slice_set text.now (length text.now - 1) last) }
+    {
+        self.bytes.take_in_ending(before, text, last)
+    }
+
+    /// Puts bytes, and the digits of a number that is kept with them.
+    #[inline(always)]
+    pub fn put_with_decimal(&mut self, before: &[u8], number: &Decimal)
+        ensures puts { Puts self.old self.new (before.now ++ decimal number.now) }
+        ensures room { self.old.failed ≡ false → length self.old.waiting + length (before.now ++ decimal number.now) ≤ 8192
+            → self.new ≡ with_bytes self.old (before.now ++ decimal number.now) }
+        ensures stays { self.old.failed ≡ true → self.new ≡ self.old }
+    {
+        let (digits, last) = number.ending();
+        if self.take_in_ending(before, digits, last) {
+            return;
+        }
+        self.put_at_end(before, &number.digits());
     }
 
     /// Puts a short text. It costs less than `put` of its bytes.
@@ -114,22 +155,7 @@ impl<'a, W: Write> Out<'a, W> {
             → self.new ≡ with_bytes self.old text.now }
         ensures stays { self.old.failed ≡ true → self.new ≡ self.old }
     {
-        if self.take_in_short(text) {
-            return;
-        }
-        self.put_at_end(text);
-    }
-
-    /// Takes a short text in with another last byte, as `take_in_short` does.
-    #[inline(always)]
-    fn take_in_ending(&mut self, text: &ShortText, last: u8) -> bool
-        requires { 0 < length text.now }
-        ensures puts { IsTrue result → Puts self.old self.new (slice_set text.now (length text.now - 1) last) }
-        ensures full { result ≡ false → self.new ≡ self.old }
-        ensures stays { self.old.failed ≡ true → self.new ≡ self.old }
-        ensures taken { self.old.failed ≡ false → result ≡ true → self.new ≡ with_bytes self.old (slice_set text.now (length text.now - 1) last) }
-    {
-        self.bytes.take_in_ending(text, last)
+        self.put_with_short(b"", text);
     }
 
     /// Puts the digits of a number that is kept with them.
@@ -140,22 +166,19 @@ impl<'a, W: Write> Out<'a, W> {
             → self.new ≡ with_bytes self.old (decimal number.now) }
         ensures stays { self.old.failed ≡ true → self.new ≡ self.old }
     {
-        let (digits, last) = number.ending();
-        if self.take_in_ending(digits, last) {
-            return;
-        }
-        self.put_at_end(&number.digits());
+        self.put_with_decimal(b"", number);
     }
 
-    /// Puts a short text near the end of the table.
+    /// Puts bytes and a short text near the end of the table.
     #[cold]
     #[inline(never)]
-    fn put_at_end(&mut self, text: &ShortText)
-        ensures puts { Puts self.old self.new text.now }
-        ensures room { self.old.failed ≡ false → length self.old.waiting + length text.now ≤ 8192
-            → self.new ≡ with_bytes self.old text.now }
+    fn put_at_end(&mut self, before: &[u8], text: &ShortText)
+        ensures puts { Puts self.old self.new (before.now ++ text.now) }
+        ensures room { self.old.failed ≡ false → length self.old.waiting + length (before.now ++ text.now) ≤ 8192
+            → self.new ≡ with_bytes self.old (before.now ++ text.now) }
         ensures stays { self.old.failed ≡ true → self.new ≡ self.old }
     {
+        self.put(before);
         self.put(text.bytes());
     }
 

@@ -153,28 +153,31 @@ impl Table {
         true
     }
 
-    /// Takes a short text in where there is room for the longest, and tells whether it did.
+    /// Takes bytes in, and a short text behind them, where there is room for the longest, and tells whether it did. Of bytes there are
+    /// at most 32 here.
     #[inline(always)]
-    pub(crate) fn take_in_short(&mut self, text: &ShortText) -> bool
-        ensures taken { IsTrue result → self.new ≡ self.old ++ text.now }
+    pub(crate) fn take_in_short(&mut self, before: &[u8], text: &ShortText) -> bool
+        ensures taken { IsTrue result → self.new ≡ self.old ++ (before.now ++ text.now) }
         ensures kept { result ≡ false → self.new ≡ self.old }
     {
-        if self.len > 8192 - 32 {
+        if before.len() > 32 || self.len > 8192 - 64 {
             return false;
         }
-        write_32(&mut self.bytes, self.len, &text.bytes);
-        self.len += text.len;
+        let place = self.len + before.len();
+        write_at(&mut self.bytes, self.len, before);
+        write_32(&mut self.bytes, place, &text.bytes);
+        self.len = place + text.len;
         true
     }
 
-    /// Takes in a short text with another last byte, as `take_in_short` does.
+    /// Takes in bytes and a short text with another last byte, as `take_in_short` does.
     #[inline(always)]
-    pub(crate) fn take_in_ending(&mut self, text: &ShortText, last: u8) -> bool
+    pub(crate) fn take_in_ending(&mut self, before: &[u8], text: &ShortText, last: u8) -> bool
         requires { 0 < length text.now }
-        ensures taken { IsTrue result → self.new ≡ self.old ++ slice_set text.now (length text.now - 1) last }
+        ensures taken { IsTrue result → self.new ≡ self.old ++ (before.now ++ slice_set text.now (length text.now - 1) last) }
         ensures kept { result ≡ false → self.new ≡ self.old }
     {
-        if !self.take_in_short(text) {
+        if !self.take_in_short(before, text) {
             return false;
         }
         self.set_last(last);

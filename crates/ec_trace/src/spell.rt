@@ -1,5 +1,5 @@
 //! The words of names, each found once.
-ghost use Rattle.std.specs.Prelude.{◌≡◌, ℕ, ◌+◌, ◌<◌, ◌-◌, ◌==◌, ◌&&◌, [], ◌∷◌, List, length, Some, slice_get, nat_le, nat_lt, if◌then◌else◌};
+ghost use Rattle.std.specs.Prelude.{◌≡◌, ℕ, ◌+◌, ◌<◌, ◌-◌, ◌==◌, ◌&&◌, [], ◌∷◌, ◌++◌, List, length, Some, slice_get, nat_le, nat_lt, if◌then◌else◌};
 ghost use Rattle.ec_trace.specs.WordTables.{Spells, word_at, cell_at, cell_name_bytes, with_block, short_at};
 ghost use Rattle.ec_text.specs.Puts.{Puts};
 ghost use Rattle.ec_heading.specs.Spelling.{Named, word_of, cell_word};
@@ -124,56 +124,62 @@ impl<'a> Spellings<'a> {
         cell_in(&self.words.cells, cell.get())
     }
 
-    /// Puts the name of a worker.
+    /// Puts bytes, and the name of a worker.
     #[inline(always)]
-    pub(crate) fn put_worker<W: Write>(&self, out: &mut Out<'_, W>, worker: WorkerId)
-        ensures { Puts out.old out.new (word_of self.now (Worker worker)) }
+    pub(crate) fn put_worker<W: Write>(&self, out: &mut Out<'_, W>, before: &[u8], worker: WorkerId)
+        ensures { Puts out.old out.new (before.now ++ word_of self.now (Worker worker)) }
     {
         match short_in(&self.short.workers, worker.get()) {
-            Some(text) => out.put_short(text),
-            None => put_long(out, self.worker(worker)),
+            Some(text) => out.put_with_short(before, text),
+            None => put_long(out, before, self.worker(worker)),
         }
     }
 
-    /// Puts the name of an eventcount.
+    /// Puts bytes, and the name of an eventcount.
     #[inline(always)]
-    pub(crate) fn put_event<W: Write>(&self, out: &mut Out<'_, W>, event: EventId)
-        ensures { Puts out.old out.new (word_of self.now (Event event)) }
+    pub(crate) fn put_event<W: Write>(&self, out: &mut Out<'_, W>, before: &[u8], event: EventId)
+        ensures { Puts out.old out.new (before.now ++ word_of self.now (Event event)) }
     {
         match short_in(&self.short.events, event.get()) {
-            Some(text) => out.put_short(text),
-            None => put_long(out, self.event(event)),
+            Some(text) => out.put_with_short(before, text),
+            None => put_long(out, before, self.event(event)),
         }
     }
 
-    /// Puts the name of a sequencer.
+    /// Puts bytes, and the name of a sequencer.
     #[inline(always)]
-    pub(crate) fn put_sequencer<W: Write>(&self, out: &mut Out<'_, W>, sequencer: SeqId)
-        ensures { Puts out.old out.new (word_of self.now (Sequencer sequencer)) }
+    pub(crate) fn put_sequencer<W: Write>(
+        &self,
+        out: &mut Out<'_, W>,
+        before: &[u8],
+        sequencer: SeqId,
+    )
+        ensures { Puts out.old out.new (before.now ++ word_of self.now (Sequencer sequencer)) }
     {
         match short_in(&self.short.sequencers, sequencer.get()) {
-            Some(text) => out.put_short(text),
-            None => put_long(out, self.sequencer(sequencer)),
+            Some(text) => out.put_with_short(before, text),
+            None => put_long(out, before, self.sequencer(sequencer)),
         }
     }
 
-    /// Puts the name of a cell.
+    /// Puts bytes, and the name of a cell.
     #[inline(always)]
-    pub(crate) fn put_cell<W: Write>(&self, out: &mut Out<'_, W>, cell: CellId)
-        ensures { Puts out.old out.new (cell_word self.now cell) }
+    pub(crate) fn put_cell<W: Write>(&self, out: &mut Out<'_, W>, before: &[u8], cell: CellId)
+        ensures { Puts out.old out.new (before.now ++ cell_word self.now cell) }
     {
         match short_in(&self.short.cells, cell.get()) {
-            Some(text) => out.put_short(text),
-            None => self.put_long_cell(out, cell),
+            Some(text) => out.put_with_short(before, text),
+            None => self.put_long_cell(out, before, cell),
         }
     }
 
-    /// Puts the name of a cell, in parts.
+    /// Puts bytes, and the name of a cell in parts.
     #[cold]
     #[inline(never)]
-    fn put_long_cell<W: Write>(&self, out: &mut Out<'_, W>, cell: CellId)
-        ensures { Puts out.old out.new (cell_word self.now cell) }
+    fn put_long_cell<W: Write>(&self, out: &mut Out<'_, W>, before: &[u8], cell: CellId)
+        ensures { Puts out.old out.new (before.now ++ cell_word self.now cell) }
     {
+        out.put(before);
         if let Some(name) = self.cell(cell) {
             out.put(name.block);
             out.put_byte(b'[');
@@ -183,12 +189,13 @@ impl<'a> Spellings<'a> {
     }
 }
 
-/// Puts a word that may be long.
+/// Puts bytes, and a word that may be long.
 #[cold]
 #[inline(never)]
-fn put_long<W: Write>(out: &mut Out<'_, W>, word: &[u8])
-    ensures { Puts out.old out.new word.now }
+fn put_long<W: Write>(out: &mut Out<'_, W>, before: &[u8], word: &[u8])
+    ensures { Puts out.old out.new (before.now ++ word.now) }
 {
+    out.put(before);
     out.put(word);
 }
 

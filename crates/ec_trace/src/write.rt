@@ -20,7 +20,7 @@ use std::io::Write;
 pub fn put_cell<W: Write>(out: &mut Out<'_, W>, spellings: &Spellings<'_>, cell: CellId)
     ensures { Puts out.old out.new (cell_word spellings.now cell) }
 {
-    spellings.put_cell(out, cell);
+    spellings.put_cell(out, b"", cell);
 }
 
 /// The numbers that were put last, each sort with its digits: the next of a sort mostly lies near it.
@@ -45,13 +45,13 @@ impl LastNumbers {
     }
 }
 
-/// Puts a number, and keeps it as the last.
+/// Puts bytes, and a number that it keeps as the last.
 #[inline(always)]
-fn put_next<W: Write>(out: &mut Out<'_, W>, last: &mut Decimal, n: u64)
-    ensures { Puts out.old out.new (decimal n) }
+fn put_next<W: Write>(out: &mut Out<'_, W>, before: &[u8], last: &mut Decimal, n: u64)
+    ensures { Puts out.old out.new (before.now ++ decimal n) }
 {
     last.set(n);
-    out.put_decimal(last);
+    out.put_with_decimal(before, last);
 }
 
 /// Puts what a worker asks for, behind a space.
@@ -66,39 +66,29 @@ fn put_act<W: Write>(
 {
     match *act {
         Act::Advance(event) => {
-            out.put(b" advance ");
-            spellings.put_event(out, event);
+            spellings.put_event(out, b" advance ", event);
         }
         Act::Read(event) => {
-            out.put(b" read ");
-            spellings.put_event(out, event);
+            spellings.put_event(out, b" read ", event);
         }
         Act::Await(event, threshold) => {
-            out.put(b" await ");
-            spellings.put_event(out, event);
-            out.put_byte(b' ');
-            put_next(out, &mut last.value, threshold);
+            spellings.put_event(out, b" await ", event);
+            put_next(out, b" ", &mut last.value, threshold);
         }
         Act::Go => out.put(b" go"),
         Act::Ticket(sequencer) => {
-            out.put(b" ticket ");
-            spellings.put_sequencer(out, sequencer);
+            spellings.put_sequencer(out, b" ticket ", sequencer);
         }
         Act::Put(cell, value) => {
-            out.put(b" put ");
-            put_cell(out, spellings, cell);
-            out.put_byte(b' ');
-            put_next(out, &mut last.value, value);
+            spellings.put_cell(out, b" put ", cell);
+            put_next(out, b" ", &mut last.value, value);
         }
         Act::Get(cell) => {
-            out.put(b" get ");
-            put_cell(out, spellings, cell);
+            spellings.put_cell(out, b" get ", cell);
         }
         Act::Hand(event, to) => {
-            out.put(b" hand ");
-            spellings.put_event(out, event);
-            out.put_byte(b' ');
-            spellings.put_worker(out, to);
+            spellings.put_event(out, b" hand ", event);
+            spellings.put_worker(out, b" ", to);
         }
     }
 }
@@ -115,15 +105,15 @@ pub fn put_reply<W: Write>(out: &mut Out<'_, W>, reply: &Reply)
     }
 }
 
-/// Puts a number that a worker is told.
+/// Puts a number that a worker is told, behind an equals sign between spaces.
 #[inline(always)]
 fn put_told<W: Write>(out: &mut Out<'_, W>, last: &mut LastNumbers, act: &Act, n: u64)
-    ensures { Puts out.old out.new (decimal n) }
+    ensures { Puts out.old out.new (codes " = " ++ decimal n) }
 {
     match *act {
-        Act::Ticket(_) => put_next(out, &mut last.ticket, n),
-        Act::Get(_) => put_next(out, &mut last.got, n),
-        _ => put_next(out, &mut last.read, n),
+        Act::Ticket(_) => put_next(out, b" = ", &mut last.ticket, n),
+        Act::Get(_) => put_next(out, b" = ", &mut last.got, n),
+        _ => put_next(out, b" = ", &mut last.read, n),
     }
 }
 
@@ -135,25 +125,23 @@ fn put_answer<W: Write>(out: &mut Out<'_, W>, last: &mut LastNumbers, entry: &En
     match entry.reply {
         Reply::Done => out.put(b" = done"),
         Reply::Pending => out.put(b" = pending"),
-        Reply::Number(n) => {
-            out.put(b" = ");
-            put_told(out, last, &entry.act, n);
-        }
+        Reply::Number(n) => put_told(out, last, &entry.act, n),
     }
 }
 
-/// Puts an entry that follows others, without LF. Numbers that lie near the last ones need little work.
+/// Puts bytes, and an entry that follows others, without LF. Numbers that lie near the last ones need little work.
 #[inline(always)]
 #[tactic(auto, using(crate::proofs::EntryParts::entry_parts))]
 pub fn put_next_entry<W: Write>(
     out: &mut Out<'_, W>,
+    before: &[u8],
     spellings: &Spellings<'_>,
     last: &mut LastNumbers,
     entry: &Entry,
 )
-    ensures { Puts out.old out.new (entry_line spellings.now entry.now) }
+    ensures { Puts out.old out.new (before.now ++ entry_line spellings.now entry.now) }
 {
-    spellings.put_worker(out, entry.worker);
+    spellings.put_worker(out, before, entry.worker);
     put_act(out, spellings, last, &entry.act);
     put_answer(out, last, entry);
 }
@@ -162,7 +150,7 @@ pub fn put_next_entry<W: Write>(
 pub fn put_entry<W: Write>(out: &mut Out<'_, W>, spellings: &Spellings<'_>, entry: &Entry)
     ensures { Puts out.old out.new (entry_line spellings.now entry.now) }
 {
-    put_next_entry(out, spellings, &mut LastNumbers::new(), entry);
+    put_next_entry(out, b"", spellings, &mut LastNumbers::new(), entry);
 }
 
 /// Writes an entry, without LF, as a trace has it. What has no name is spelled by no bytes.
@@ -194,7 +182,7 @@ fn put_entry_at<W: Write>(
     ensures { Puts out.old out.new (entry_text spellings.now (slice_get run.now.entries place)) }
 {
     if let Some(entry) = run.entry(place) {
-        put_next_entry(out, spellings, last, &entry);
+        put_next_entry(out, b"", spellings, last, &entry);
         out.put_byte(b'\n');
     }
 }

@@ -1,5 +1,6 @@
 //! The text that `check` writes.
 ghost use Rattle.std.specs.Prelude.{◌∷◌, [], ◌++◌, List, OnOk, OnErr, map};
+ghost use Rattle.std.specs.List.{flat_map};
 ghost use Rattle.std.specs.Io.KnownBytes.{Appends};
 ghost use Rattle.ec_core.specs.Standing.{StandsFor};
 ghost use Rattle.ec_core.specs.declared.act.Entry.{Entry};
@@ -14,7 +15,7 @@ use ec_text::{Decimal, Out, WriteFault};
 use ec_trace::{Heading, LastNumbers, Spellings, put_next_entry};
 use std::io::Write;
 
-/// Puts the line of a call, and has its point in `point` then. The line's point is mostly that of the line before, or one more, so
+/// Puts LF and the line of a call, and has its point in `point` then. The line's point is mostly that of the line before, or one more, so
 /// that its digits need little work.
 fn put_dated<W: Write>(
     out: &mut Out<'_, W>,
@@ -23,18 +24,16 @@ fn put_dated<W: Write>(
     last: &mut LastNumbers,
     dated: &Dated,
 )
-    ensures { Puts out.old out.new (dated_line spellings.now dated.now ++ 10 ∷ []) }
+    ensures { Puts out.old out.new (10 ∷ dated_line spellings.now dated.now) }
 {
     point.set(dated.point as u64);
-    out.put_decimal(point);
-    out.put(b" ");
-    put_next_entry(out, spellings, last, &dated.entry);
-    out.put(b"\n");
+    out.put_with_decimal(b"\n", point);
+    put_next_entry(out, b" ", spellings, last, &dated.entry);
 }
 
-/// Puts the lines of the calls, in order.
+/// Puts the lines of the calls, in order, each behind LF.
 fn put_order<W: Write>(out: &mut Out<'_, W>, spellings: &Spellings<'_>, calls: InTime<'_>)
-    ensures { Puts out.old out.new (text_of (map (dated_line spellings.now) calls.entry)) }
+    ensures { Puts out.old out.new (flat_map (λ d. 10 ∷ dated_line spellings.now d) calls.entry) }
 {
     let mut point = Decimal::new(0);
     let mut last = LastNumbers::new();
@@ -48,9 +47,9 @@ fn put_text<W: Write>(out: &mut Out<'_, W>, heading: &Heading, world: &World, ca
     ensures { (entries : List Entry) → StandsFor world.now entries → Puts out.old out.new (text_of (told_lines heading.now entries (map (dated_line heading.now.words) calls.entry))) }
 {
     let spellings = Spellings::new(heading.words());
-    out.put(b"evc-order 1\n");
+    out.put(b"evc-order 1");
     put_order(out, &spellings, calls);
-    out.put(b"totals\n");
+    out.put(b"\ntotals\n");
     put_totals(out, heading, world);
     out.put(b"end\n");
 }

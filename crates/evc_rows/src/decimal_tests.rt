@@ -79,6 +79,18 @@ fn kept_numbers_are_put_as_their_digits(rt: HostRuntime) {
 }
 
 #[test]
+fn kept_numbers_are_put_with_bytes_before_them(rt: HostRuntime) {
+    let mut writer = Fickle::new(rt.alloc(), 7, Trouble::Fails, usize::MAX);
+    let mut out = Out::new(&mut writer);
+    let mut number = Decimal::new(17);
+    out.put_with_decimal(b"from ", &number);
+    number.set(20);
+    out.put_with_decimal(b" to ", &number);
+    assert!(rt; out.finish().is_ok());
+    assert!(rt; writer.bytes.as_slice() == b"from 17 to 20".as_slice());
+}
+
+#[test]
 fn numbers_are_put_as_their_digits(rt: HostRuntime) {
     for (n, digits) in &STEPS {
         assert!(rt; is_put(rt.alloc(), *n, digits), "at {digits}");

@@ -9,8 +9,15 @@ static LONGEST: &[u8] = b"abcdefghijklmnopqrstuvwxyz012345";
 /// As many bytes as wait before a writer.
 static WHOLE: [u8; 8192] = [b'x'; 8192];
 
-/// How many bytes wait before the longest text is put: from 8161 on there is no room for it beside them.
-static BEFORE: [usize; 6] = [0, 8159, 8160, 8161, 8191, 8192];
+/// How many bytes wait before the longest text is put: from 8129 on it isn't copied as a whole, and from 8161 on there is no room for
+/// it beside them.
+static BEFORE: [usize; 9] = [0, 8127, 8128, 8129, 8159, 8160, 8161, 8191, 8192];
+
+/// Bytes to be put with a short text.
+static DASHES: [u8; 33] = [b'-'; 33];
+
+/// How many of these are put: more than 32 are put by themselves.
+static WITH: [usize; 5] = [0, 1, 3, 32, 33];
 
 #[test]
 fn short_texts_have_32_bytes_at_most(rt: HostRuntime) {
@@ -54,6 +61,34 @@ fn is_put_behind(alloc: Global, before: usize) -> bool {
 fn short_texts_are_put(rt: HostRuntime) {
     for before in &BEFORE {
         assert!(rt; is_put_behind(rt.alloc(), *before), "at {before}");
+    }
+}
+
+/// Whether so many dashes and the longest text are put behind so many bytes.
+fn is_put_with(alloc: Global, before: usize, dashes: usize) -> bool {
+    let mut longest = ShortText::new();
+    let fits = longest.take_in(LONGEST);
+    let mut writer = Fickle::new(alloc, 8192, Trouble::Fails, usize::MAX);
+    let mut out = Out::new(&mut writer);
+    out.put(&WHOLE[..before.min(8192)]);
+    out.put_with_short(&DASHES[..dashes.min(33)], &longest);
+    let done = out.finish().is_ok();
+    let bytes = writer.bytes.as_slice();
+    fits && done
+        && bytes.len() == before.min(8192) + dashes.min(33) + 32
+        && bytes.ends_with(LONGEST)
+        && bytes[before.min(8192)..].starts_with(&DASHES[..dashes.min(33)])
+}
+
+#[test]
+fn short_texts_are_put_with_bytes_before_them(rt: HostRuntime) {
+    for before in &BEFORE {
+        for dashes in &WITH {
+            assert!(rt;
+                is_put_with(rt.alloc(), *before, *dashes),
+                "{dashes} at {before}"
+            );
+        }
     }
 }
 
