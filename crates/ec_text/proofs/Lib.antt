@@ -3,3 +3,4 @@ pub mod AppendLemmas
 pub mod LineCuts
 mod InputLemmas
 mod EndLemmas
+mod EightLemmas

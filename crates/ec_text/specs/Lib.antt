@@ -2,3 +2,4 @@ pub mod Words
 pub mod Spelling
 pub mod Puts
 pub mod Inputs
+pub mod Eight

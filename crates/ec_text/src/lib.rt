@@ -1,6 +1,7 @@
 //! Texts: the bytes of an input, lines, the words of a line, numbers and their digits, and bytes on their way to a writer.
 #![tactic(auto)]
 
+mod at_end;
 mod decimal;
 mod input;
 mod laws;
@@ -11,6 +12,7 @@ mod table;
 mod words;
 mod writing;
 
+pub use at_end::number_at_end;
 pub use decimal::Decimal;
 pub use input::{Input, read_piece, read_up_to};
 pub use laws::{
@@ -18,7 +20,7 @@ pub use laws::{
     split_is_undone, words_have_no_space,
 };
 pub use lines::cut_line;
-pub use numbers::{is_number_form, number, number_at_end};
+pub use numbers::{is_number_form, number};
 pub use output::Out;
 pub use table::ShortText;
 pub use words::{cut_word, has_blank};

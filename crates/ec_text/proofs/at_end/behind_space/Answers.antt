@@ -1,8 +1,8 @@
 use Rattle.std.proofs.Common.{rules, ◌≡◌, true, take, drop, length, get_or, ◌-◌, ◌+◌}
 use Rattle.ec_text.specs.Words.{has_form}
 use Rattle.ec_text.proofs.EndLemmas.{ends_so, ends_not}
-use Rattle.ec_text.proofs.numbers.behind_space.Goals as goal
-use Rattle.ec_text.proofs.numbers.behind_space.Goals.{else-text-place-eq32-via-then-text-place-eq32+else-has_form, else-text-place-eq32-via-else-text-place-eq32}
+use Rattle.ec_text.proofs.at_end.behind_space.Goals as goal
+use Rattle.ec_text.proofs.at_end.behind_space.Goals.{else-text-place-eq32-via-then-text-place-eq32+else-has_form, else-text-place-eq32-via-else-text-place-eq32}
 
 pub returns-then-has_form-clause-ends : goal.returns-then-has_form-clause-ends
 returns-then-has_form-clause-ends c =
