@@ -7,6 +7,8 @@ mod cut_tests;
 #[cfg(test)]
 mod decimal_tests;
 #[cfg(test)]
+mod end_tests;
+#[cfg(test)]
 mod error_tests;
 #[cfg(test)]
 mod fakes;
