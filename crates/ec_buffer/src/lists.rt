@@ -99,6 +99,20 @@ impl<'a> Lists<'a> {
     {
         self.producers[worker.get()]
     }
+
+    /// Whether an act begins the call that the worker's list has next.
+    #[inline(always)]
+    fn is_next(&self, worker: WorkerId, kept: &Kept, act: &Act) -> bool
+        ensures { (calls : List Told) → kept.now ≡ kept_of calls → result ≡ (buffer_rules self.now.setup.now self.now.shape.now worker).fits calls act.now }
+    {
+        if self.produces(worker) {
+            is_due(&produce_at(self.shape, 0, kept.at, kept.first), act)
+        } else if kept.at == 2 {
+            is_wait(self.shape, kept.first, act)
+        } else {
+            is_due(&consume_at(self.shape, kept.at, kept.first), act)
+        }
+    }
 }
 
 impl<'a> Protocol for Lists<'a> {
@@ -115,16 +129,8 @@ impl<'a> Protocol for Lists<'a> {
     }
 
     fn is_right(&self, worker: WorkerId, kept: &Kept, act: &Act) -> bool {
-        if !is_on(self.shape, act) {
-            return true;
-        }
-        if self.produces(worker) {
-            is_due(&produce_at(self.shape, 0, kept.at, kept.first), act)
-        } else if kept.at == 2 {
-            is_wait(self.shape, kept.first, act)
-        } else {
-            is_due(&consume_at(self.shape, kept.at, kept.first), act)
-        }
+        // (the call that comes next is asked for first, since in a run that follows most are that)
+        self.is_next(worker, kept, act) || !is_on(self.shape, act)
     }
 
     fn after(&self, _worker: WorkerId, kept: &Kept, op: &Act, reply: Reply) -> Kept {

@@ -1,10 +1,9 @@
 -- The call lists by place are the call lists.
-use Rattle.std.proofs.Common.{◌≡◌, ◌≢◌, ℕ, zero, suc, ◌+◌, ◌-◌, ◌<◌, ◌≤◌, Bool, true, false, List, [], ◌∷◌, length, Option, Some, None, nat_lt, get_or, refl, ap, sym, ◌∙◌, arith, cond, ◌==◌}
+use Rattle.std.proofs.Common.{◌≡◌, ◌≢◌, ℕ, zero, suc, ◌+◌, ◌-◌, ◌<◌, ◌≤◌, true, false, List, [], ◌∷◌, length, Some, None, nat_lt, get_or, refl, ap, sym, ◌∙◌, arith, cond, ◌==◌}
 use Rattle.std.proofs.lemmas.Bool.{eqb-true, eqb-false, eq-eqb, ne_eqb, ltb-true, ltb-false, lt-ltb, le-ltb}
-use Rattle.ec_core.specs.declared.act.Act.{Act}
-use Rattle.ec_core.specs.declared.act.Act.TheVariants.{Advance, Read, Await, Go, Ticket, Put, Get, Hand}
-use Rattle.ec_core.specs.Following.{Told, is_right}
-use Rattle.ec_core.specs.CallLists.{is_due, unvalued, number_of, rule_of}
+use Rattle.ec_core.specs.declared.act.Act.TheVariants.{Advance, Put}
+use Rattle.ec_core.specs.Following.{Told}
+use Rattle.ec_core.specs.CallLists.{number_of}
 use Rattle.ec_database.specs.Shapes.{Database}
 use Rattle.ec_database.specs.Calls.{turn_of, write_call}
 use Rattle.ec_database.specs.Places.{write_at, turn_after, write_rest}
@@ -71,14 +70,3 @@ write_call_at d [] = refl
 write_call_at d (a ∷ []) = refl
 write_call_at d (a ∷ t ∷ []) = refl
 write_call_at d (a ∷ t ∷ i ∷ puts) = sym (write_at_put d (length puts) (number_of t.reply))
-
--- an act on the objects of a list is right where it is the one that is due
-pub right_due : (on : Act → Bool) (list : List Told → Option Act) (calls : List Told) (act : Act) → on Go ≡ false → on act ≡ true → is_right (rule_of on list) calls act ≡ is_due (list calls) (unvalued act)
-right_due on list calls Go off h = cc
-right_due on list calls (Advance e) off h = rw h refl
-right_due on list calls (Read e) off h = rw h refl
-right_due on list calls (Await e v) off h = rw h refl
-right_due on list calls (Ticket q) off h = rw h refl
-right_due on list calls (Put x v) off h = rw h refl
-right_due on list calls (Get x) off h = rw h refl
-right_due on list calls (Hand e b) off h = rw h refl

@@ -92,6 +92,18 @@ impl<'a> Lists<'a> {
         self.writers[worker.get()]
     }
 
+    /// Whether an act begins the call that the worker's list has next.
+    #[inline(always)]
+    fn is_next(&self, worker: WorkerId, kept: &Kept, act: &Act) -> bool
+        ensures { (calls : List Told) → kept.now ≡ kept_of calls → result ≡ (rules self.now.shape.now (writes self.now.setup.now self.now.shape.now) worker).fits calls act.now }
+    {
+        if self.writes(worker) {
+            is_due(&write_at(self.shape, kept.at, kept.second, 0), act)
+        } else {
+            is_due(&try_at(self.shape, kept.at, kept.first), act)
+        }
+    }
+
     /// The place of the last call of the worker's list.
     fn last(&self, worker: WorkerId) -> usize
         ensures { result ≡ (if writes self.now.setup.now self.now.shape.now worker then self.now.shape.now.cells + 3 else self.now.shape.now.cells + 2) }
@@ -118,14 +130,8 @@ impl Protocol for Lists<'_> {
     }
 
     fn is_right(&self, worker: WorkerId, kept: &Kept, act: &Act) -> bool {
-        if !is_on(self.shape, act) {
-            return true;
-        }
-        if self.writes(worker) {
-            is_due(&write_at(self.shape, kept.at, kept.second, 0), act)
-        } else {
-            is_due(&try_at(self.shape, kept.at, kept.first), act)
-        }
+        // (the call that comes next is asked for first, since in a run that follows most are that)
+        self.is_next(worker, kept, act) || !is_on(self.shape, act)
     }
 
     fn after(&self, worker: WorkerId, kept: &Kept, op: &Act, reply: Reply) -> Kept {
