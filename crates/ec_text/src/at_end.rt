@@ -17,13 +17,14 @@ pub fn number_at_end(text: &[u8]) -> Option<(usize, u64)>
     ensures ends { IfSome result (λ p. EndsInNumber text.now p.0 p.1) }
     ensures none { result ≡ None → (place n : ℕ) → EndsInNumber text.now place n → ⊥ }
 {
-    if text.len() < 8 {
-        return by_digit(text);
+    if text.len() >= 8 {
+        if let Some((at, number)) = last_digits(last_eight(text)) {
+            return behind_space(text, text.len() - 8 + at, number);
+        }
     }
-    match last_digits(last_eight(text)) {
-        Some((at, number)) => behind_space(text, text.len() - 8 + at, number),
-        None => by_digit(text),
-    }
+    // Taken apart and put together again, so that neither way hands the pair on through memory.
+    let (place, number) = by_digit(text)?;
+    Some((place, number))
 }
 
 /// As `number_at_end`, digit by digit. More than 18 digits spell no number; so up to 19 bytes are looked at, of which a u64 holds
