@@ -41,8 +41,8 @@ fn ended(entry: &Entry, call: &Option<Ongoing>, i: usize) -> Option<Call>
     }
 }
 
-/// Takes in the entry at position i, which may end a call.
-#[inline(always)]
+/// Takes in the entry at position i, which may end a call. (It has no `#[inline(always)]`: the compiler drops that of a function that would
+/// grow very large, as that which enters an entry of a trace would by this.)
 pub(crate) fn take_in(under_way: &mut Calls, setup: &Setup, entry: &Entry, i: usize) -> Option<Call>
     ensures { Ending under_way.old i entry.now result under_way.new setup.now }
 {
