@@ -23,7 +23,7 @@ use Rattle.evc_engine.specs.declared.status.Status.{Status}
 use Rattle.evc_engine.specs.declared.status.Status.TheVariants as statuses
 use Rattle.evc_engine.specs.Halts.{IsOf, IsReadInto}
 use Rattle.evc_engine.specs.Notes.{fault_note, fault_status}
-use Rattle.evc_engine.specs.Texts.{dated_line, placed_line, told_lines, check_lines, check_text}
+use Rattle.evc_engine.specs.Texts.{dated_line, placed_line, told_lines, check_text}
 use Rattle.evc_engine.specs.Checks.{Checks, Outlets, Notes, ReadsAs, Writes, text_for, TellsGoodOrder}
 
 -- a text of two lists of lines between three lines

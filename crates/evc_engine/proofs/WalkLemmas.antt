@@ -1,5 +1,5 @@
 -- The audits of groups in one walk.
-use Rattle.std.proofs.Common.{◌≡◌, ℕ, List, [], ◌∷◌, length, refl, ap, ◌∙◌, subst}
+use Rattle.std.proofs.Common.{sym, ◌≡◌, ℕ, List, [], ◌∷◌, length, refl, ap, ◌∙◌, subst}
 use Rattle.ec_count.specs.Tables.{Tables}
 use Rattle.ec_core.specs.declared.act.Act.{Act}
 use Rattle.ec_core.specs.declared.act.Entry.{Entry}
@@ -47,7 +47,7 @@ stands_first : (t : Tables) (all : List Semaphore) (g : Group) (a : Auditing) �
 stands_first t all (groups.Buffer b) (audits.Deliveries a) stands = (ap groups.Buffer stands.0, (refl, refl, stands.2))
 stands_first t all (groups.Database d) (audits.Versions a) stands = (ap groups.Database stands.0, (refl, refl, stands.2))
 stands_first t all (groups.Semaphore s) (audits.Balance a) stands = (ap groups.Semaphore stands.0, (refl, stands.1))
-stands_first t all (groups.Both c) (audits.Both a) stands = (ap groups.Both stands.2, ((refl, stands.1), (refl, refl, stands.4)))
+stands_first t all (groups.Both c) (audits.Both a) stands = (ap groups.Both stands.2, ((refl, stands.1), (refl, refl, stands.4), stands.5 ∙ sym stands.0))
 stands_first t all (groups.Buffer b) a stands = absurd stands
 stands_first t all (groups.Database d) a stands = absurd stands
 stands_first t all (groups.Semaphore s) a stands = absurd stands
@@ -62,7 +62,7 @@ stands_last t all (groups.Buffer s) (audits.Deliveries a) (audits.Deliveries b) 
 stands_last t all (groups.Database d) (audits.Versions a) (audits.Versions b) past stands on = (on.0 ∙ stands.0, on.1 ∙ stands.1, on.2)
 stands_last t all (groups.Semaphore s) (audits.Balance a) (audits.Balance b) past stands on = (on.0 ∙ stands.0, on.1)
 stands_last t all (groups.Both c) (audits.Both a) (audits.Both b) past stands on =
-    (on.0.0 ∙ stands.0, on.0.1, on.1.0 ∙ stands.2, on.1.1 ∙ stands.3, on.1.2)
+    (on.0.0 ∙ stands.0, on.0.1, on.1.0 ∙ stands.2, on.1.1 ∙ stands.3, on.1.2, on.2 ∙ on.0.0 ∙ stands.0)
 stands_last t all (groups.Buffer s) (audits.Deliveries a) b past stands on = absurd on
 stands_last t all (groups.Database d) (audits.Versions a) b past stands on = absurd on
 stands_last t all (groups.Semaphore s) (audits.Balance a) b past stands on = absurd on

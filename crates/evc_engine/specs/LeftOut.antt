@@ -33,6 +33,6 @@ pub audits_stay : (start now : Auditing) (x : Entry) (past : List Entry) → goe
 audits_stay (audits.Deliveries a) (audits.Deliveries b) x past on stands = (stands.0, stands.1, delivering_going b x past on stands.2)
 audits_stay (audits.Versions a) (audits.Versions b) x past on stands = (stands.0, stands.1, versioning_going b x past on stands.2)
 audits_stay (audits.Balance a) (audits.Balance b) x past on stands = (stands.0, counted_going b x past on stands.1)
-audits_stay (audits.Both a) (audits.Both b) x past on (balance, pairs) =
-    ((balance.0, counted_going b.balance x past on balance.1), (pairs.0, pairs.1, pairing_going b.pairs x past on pairs.2))
+audits_stay (audits.Both a) (audits.Both b) x past on (balance, pairs, common) =
+    ((balance.0, counted_going b.balance x past on balance.1), (pairs.0, pairs.1, pairing_going b.pairs x past on pairs.2), common)
 audits_stay start now x past on stands = absurd stands

@@ -37,7 +37,7 @@ CountsFor s a past = ⊥
 -- those of `both`, where these are all semaphores
 abbrev pub PairsFor : Semaphore → List Semaphore → Auditing → List Entry → Type 0
 PairsFor c all (audits.Both a) past =
-    (a.balance.shape ≡ c) × IsCounted a.balance past × (a.pairs.common ≡ c) × (a.pairs.shapes ≡ all) × IsPairing a.pairs past
+    (a.balance.shape ≡ c) × IsCounted a.balance past × (a.pairs.common ≡ c) × (a.pairs.shapes ≡ all) × IsPairing a.pairs past × (a.common ≡ c)
 PairsFor c all a past = ⊥
 
 -- the audit is that of the group, under these declarations and with these semaphores, after a past
@@ -75,7 +75,7 @@ group_of (audits.Both a) = groups.Both a.pairs.common
 
 -- of the same `both`, after a past
 abbrev pub BothOn : BothAudit → BothAudit → List Entry → Type 0
-BothOn start now past = BalancesOn start.balance now.balance past × PairsOn start.pairs now.pairs past
+BothOn start now past = BalancesOn start.balance now.balance past × PairsOn start.pairs now.pairs past × (now.common ≡ now.balance.shape)
 
 -- of the same group, after a past
 abbrev pub AuditsOn : Auditing → Auditing → List Entry → Type 0

@@ -1,7 +1,10 @@
 //! The audits of a trace's groups, for one walk over its entries.
-ghost use Rattle.std.specs.Prelude.{◌≡◌, ◌+◌, ◌^◌, ◌<◌, List, [], IfOk, MatchResult};
+ghost use Rattle.std.specs.Prelude.{◌≡◌, ◌+◌, ◌^◌, ◌<◌, List, [], ◌∷◌, length, IfOk, MatchResult};
 ghost use Rattle.ec_core.specs.declared.act.Entry.{Entry};
 ghost use Rattle.ec_core.specs.Audits.{IsAuditFault};
+ghost use Rattle.ec_core.specs.Calls.{under_way};
+ghost use Rattle.ec_core.specs.Following.{opened};
+ghost use Rattle.ec_semaphore.specs.Auditing.{Balancing, BalancesOn};
 ghost use Rattle.ec_heading.specs.Headed.{Headed};
 ghost use Rattle.ec_heading.specs.Rules.{group_rules};
 ghost use Rattle.ec_heading.specs.declared.group.Group.{Group};
@@ -14,7 +17,7 @@ use ec_buffer::DeliveryAudit;
 use ec_core::{Act, Audit, AuditFault, Entry};
 use ec_count::Setup;
 use ec_database::VersionAudit;
-use ec_semaphore::{Balance, BalanceAudit, PairAudit, SemaphoreShape};
+use ec_semaphore::{Balance, BalanceAudit, PairAudit, SemaphoreShape, is_on};
 use ec_trace::Group;
 use ec_walk::GroupAudit;
 use std::alloc::{AllocError, Global};
@@ -32,6 +35,7 @@ fn now_of(parts: &Balance) -> u64
 /// The audits of `both`: of its common semaphore, and of its guarded parts.
 #[derive(Drop)]
 pub(crate) struct BothAudit<'a> {
+    pub(crate) common: SemaphoreShape,
     pub(crate) balance: BalanceAudit,
     pub(crate) pairs: PairAudit<'a>,
 }
@@ -42,7 +46,11 @@ impl<'a> BothAudit<'a> {
         ensures { (h : Headed) (entries : List Entry) (g : Group) → EndsFor h entries g (Auditing.Both self.entry)
             → MatchResult result (λ a. IsAudited h entries g a) (λ fault. IsAuditFault (group_rules h.setup h.groups g) entries fault) }
     {
-        let BothAudit { balance, pairs } = self;
+        let BothAudit {
+            common: _,
+            balance,
+            pairs,
+        } = self;
         match pairs.finish() {
             Ok(list) => {
                 let parts = balance.so_far();
@@ -53,13 +61,31 @@ impl<'a> BothAudit<'a> {
     }
 }
 
+/// Takes an entry into the audit of a semaphore, unless its call is on another object: then the audit stands as before.
+#[inline(always)]
+fn take_on(
+    audit: &mut BalanceAudit,
+    semaphore: &SemaphoreShape,
+    place: usize,
+    op: &Act,
+    entry: &Entry,
+)
+    requires { place + 1 < 2 ^ 64 }
+    ensures { (start : Balancing) (past : List Entry) → place ≡ length past → op.now ≡ opened entry.now.act (under_way entry.now.worker past)
+        → semaphore.now ≡ audit.old.shape → BalancesOn start audit.old past → BalancesOn start audit.new (entry.now ∷ past) }
+{
+    if is_on(semaphore, op) {
+        audit.take(place, op, entry);
+    }
+}
+
 impl<'a> Audit for BothAudit<'a> {
     ghost use Rattle.evc_engine.specs.Walks.{BothOn};
 
     ghost stands = { BothOn };
 
     fn take(&mut self, place: usize, op: &Act, entry: &Entry) {
-        self.balance.take(place, op, entry);
+        take_on(&mut self.balance, &self.common, place, op, entry);
         self.pairs.take(place, op, entry);
     }
 }
@@ -92,6 +118,7 @@ impl<'a> Auditing<'a> {
             Group::Database(shape) => Auditing::Versions(VersionAudit::new(alloc, shape, setup)),
             Group::Semaphore(shape) => Auditing::Balance(BalanceAudit::new(*shape)),
             Group::Both(shape) => Auditing::Both(BothAudit {
+                common: *shape,
                 balance: BalanceAudit::new(*shape),
                 pairs: PairAudit::new(alloc, *shape, semaphores),
             }),
