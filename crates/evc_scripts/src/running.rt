@@ -146,6 +146,8 @@ fn run_text<H: Threads + Wait + Sync, W: Write, N: Write>(
 /// schedule of the script is checked, and not used.
 ///
 /// Nothing is written to `out` before all workers have ended.
+// (Put into its caller, it would have that hold its half a megabyte of tables under each other task too.)
+#[inline(never)]
 pub fn run<H: Threads + Wait + Sync, R: Read, W: Write, N: Write>(
     rt: &H,
     alloc: Global,

@@ -107,6 +107,8 @@ fn sim_text<W: Write, N: Write>(
 /// each worker's program has ended. Where the script or its schedule is refused, a note says why.
 ///
 /// Nothing is written to `out` before the schedule was played to its end.
+// (Put into its caller, it would have that hold its half a megabyte of tables under each other task too.)
+#[inline(never)]
 pub fn sim<R: Read, W: Write, N: Write>(
     alloc: Global,
     reader: &mut R,
