@@ -1,5 +1,5 @@
 -- A line is cut before its last word; and what an entry's front tells of one reply it tells of each.
-use Rattle.std.proofs.Common.{◌≡◌, ℕ, zero, suc, replicate, ◌+◌, ◌-◌, ◌<◌, List, [], ◌∷◌, ◌++◌, length, take, drop, Bool, true, false, cond, eqb, Option, None, Some, refl, sym, ap, subst, ◌∙◌, arith, codes, true≢false, inl, inr, ◌⊎◌}
+use Rattle.std.proofs.Common.{◌≡◌, ℕ, zero, suc, ◌+◌, ◌-◌, ◌<◌, List, [], ◌∷◌, ◌++◌, length, take, drop, Bool, true, false, cond, eqb, Option, None, Some, refl, sym, ap, subst, ◌∙◌, arith, codes, true≢false, inl, inr, ◌⊎◌}
 use Rattle.std.specs.Prelude.{bytes_eq, slice_get, slice_set, ◌==◌}
 use Rattle.std.specs.List.{onto_first}
 use Rattle.std.proofs.lemmas.List.{take-append-drop}
@@ -284,8 +284,12 @@ told_of names front k w a is new = rw is new
 pub found : (names : Named) (front : List ℕ) (k : Key) (w : ℕ) (a : Act) → text_of k ≡ front → Tells names (text_of k) w a → Tells names front w a
 found names front k w a is kept = subst (λ (xs : List ℕ). Tells names xs w a) is kept
 
--- no front is kept yet
-pub none_kept : (names : Named) (n : ℕ) (none : Front) → none.key.len ≡ 0 → AreKept names (replicate n none)
-none_kept names zero none empty i f at = cc
-none_kept names (suc n) none empty zero f at = (λ has. let is : none ≡ f = cc in let len : f.key.len ≡ 0 = sym (ap (λ (x : Front). x.key.len) is) ∙ empty in absurd (omega arith))
-none_kept names (suc n) none empty (suc i) f at = none_kept names n none empty i f at
+-- one more front is kept behind the others
+behind : (names : Named) (fronts : List Front) (f g : Front) (i : ℕ) → slice_get (fronts ++ f ∷ []) i ≡ Some g → AreKept names fronts → IsKept names f → IsKept names g
+behind names [] f g zero at all new = (let is : f ≡ g = cc in subst (λ (x : Front). IsKept names x) is new)
+behind names [] f g (suc i) at all new = cc
+behind names (h ∷ fronts) f g zero at all new = all zero g at
+behind names (h ∷ fronts) f g (suc i) at all new = behind names fronts f g i at (λ j x. all (suc j) x) new
+
+pub kept_behind : (names : Named) (fronts : List Front) (f : Front) → AreKept names fronts → IsKept names f → AreKept names (fronts ++ f ∷ [])
+kept_behind names fronts f all new i g at = behind names fronts f g i at all new

@@ -56,9 +56,9 @@ pub record Tells (names : Named) (front : List ℕ) (w : ℕ) (a : Act) : Type 0
   pub whole : is_valued a ≡ false → (answer : List ℕ) → IsWord answer → entry_of names (front ++ 32 ∷ answer) ≡ with_reply w a (reply_of answer)
   pub valued : is_valued a ≡ true → (value answer : List ℕ) → IsWord value → IsWord answer → entry_of names (headed front value ++ 32 ∷ answer) ≡ with_both w a (number_of value) (reply_of answer)
 
--- what is kept at a place tells its worker and its act, where it has the key of a front
+-- what is kept of a front tells its worker and its act
 abbrev pub IsKept : Named → Front → Type 0
-IsKept names f = 4 ≤ f.key.len → Tells names (text_of f.key) f.worker f.act
+IsKept names f = Tells names (text_of f.key) f.worker f.act
 
 abbrev pub AreKept : Named → List Front → Type 0
 AreKept names fronts = (i : ℕ) (f : Front) → slice_get fronts i ≡ Some f → IsKept names f

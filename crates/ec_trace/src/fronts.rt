@@ -3,7 +3,7 @@
 //! The front of an entry is its line up to the space before the reply. But for the values in them, the entries of a
 //! trace have few different fronts, so that one which was read lately is found again by its bytes: then the reply alone
 //! is read anew, and the value of an await or a put. A key holds the bytes, so that no loop compares them.
-ghost use Rattle.std.specs.Prelude.{◌≡◌, ◌≤◌, ℕ, List, Some, IfOk, IfSome};
+ghost use Rattle.std.specs.Prelude.{◌≡◌, ℕ, List, Some, IfSome};
 ghost use Rattle.ec_trace.specs.Entries.{entry_of};
 ghost use Rattle.ec_trace.specs.Fronts.{HasFront, HasNumber, EndsIn, Tells, IsKept, AreKept, is_valued, with_value};
 ghost use Rattle.ec_trace.specs.Keys.{text_of};
@@ -20,12 +20,15 @@ use std::marker::Model;
 
 /// How many places fronts have at first. Where these are too few, they get four times as many, up to the greatest number:
 /// that is enough for the puts and gets of 16 workers on 256 cells.
-const PLACES: usize = 512;
+const PLACES: usize = 256;
 
-const PLACES_MAX: usize = 32768;
+const PLACES_MAX: usize = 65536;
+
+/// What stands at a place without a front: no front has this number.
+const FREE: u16 = u16::MAX;
 
 /// The key of a front, and the worker and the act of each entry with this front. Of an await or a put the front is what
-/// stands before the value, and the act has any value. Where the key is of no text, this is no front.
+/// stands before the value, and the act has any value.
 #[derive(Clone, Copy)]
 pub(crate) struct Front {
     key: Key,
@@ -33,70 +36,50 @@ pub(crate) struct Front {
     act: Act,
 }
 
-impl Front {
-    /// No front.
-    fn none() -> Front
-        ensures { result.key.len ≡ 0 }
-    {
-        Front {
-            key: Key::none(),
-            worker: WorkerId::default(),
-            act: Act::Go,
-        }
+/// The first of a key's two places where that is free, else the second.
+fn place_for(numbers: &[u16], key: &Key) -> usize {
+    let first = key.place(numbers.len());
+    match numbers.get(first) {
+        Some(&FREE) => first,
+        _ => first ^ 1,
     }
 }
 
-/// No fronts at so many places.
-#[tactic(auto, using(crate::proofs::FrontLemmas::none_kept))]
-fn none_at(alloc: Global, places: usize) -> Result<Vec<Front>, AllocError>
-    ensures { (names : Named) → IfOk result (λ v. AreKept names v.items) }
-{
-    let mut slots = Vec::with_capacity(alloc, places)?;
-    slots.resize(places, Front::none())?;
-    Ok(slots)
-}
-
-/// Puts a front at one of its two places: at the first where that is free, else at the second.
-fn put(slots: &mut Vec<Front>, known: Front)
-    ensures { (names : Named) → AreKept names slots.old.items → IsKept names known → AreKept names slots.new.items }
-{
-    let first = known.key.place(slots.len());
-    let place = match slots.get(first) {
-        Some(held) if held.key.is_some() => first ^ 1,
-        _ => first,
-    };
-    if place < slots.len() {
-        slots[place] = known;
+/// Puts the number of a front at a place, if there is such a place.
+fn put_at(numbers: &mut [u16], place: usize, number: usize) {
+    if let (Some(held), Ok(number)) = (numbers.get_mut(place), u16::try_from(number)) {
+        *held = number;
     }
 }
 
-/// Puts the front at a place of some among others, if there is one.
-fn put_again(slots: &mut Vec<Front>, place: usize, from: &[Front])
-    ensures { (names : Named) → AreKept names slots.old.items → AreKept names from.now → AreKept names slots.new.items }
+/// The numbers of these fronts at so many places.
+fn spread(alloc: Global, fronts: &[Front], places: usize) -> Result<Vec<u16>, AllocError> {
+    let mut numbers = Vec::with_capacity(alloc, places)?;
+    numbers.resize(places, FREE)?;
+    for (number, known) in fronts.iter().enumerate() {
+        let place = place_for(&numbers, &known.key);
+        put_at(&mut numbers, place, number);
+    }
+    Ok(numbers)
+}
+
+/// Puts a front in the stead of another.
+#[tactic(auto, using(crate::proofs::FrontLemmas::kept))]
+fn replace(fronts: &mut Vec<Front>, number: usize, known: Front)
+    ensures { (names : Named) → AreKept names fronts.old.items → IsKept names known → AreKept names fronts.new.items }
 {
-    if let Some(known) = from.get(place) {
-        if known.key.is_some() {
-            put(slots, *known);
-        }
+    if number < fronts.len() {
+        fronts[number] = known;
     }
 }
 
-/// The same fronts at so many places.
-fn spread(alloc: Global, slots: &[Front], places: usize) -> Result<Vec<Front>, AllocError>
-    ensures { (names : Named) → AreKept names slots.now → IfOk result (λ v. AreKept names v.items) }
-{
-    let mut wider = none_at(alloc, places)?;
-    for place in 0..slots.len() {
-        put_again(&mut wider, place, slots);
-    }
-    Ok(wider)
-}
-
-/// The fronts that were read lately, each at one of two places that its bytes give. The more fronts a trace has, the more
-/// places they get.
+/// The fronts that were read lately, one beside the other as they came, and the number of each at one of two places that its bytes
+/// give. So where there are many fronts, they lie close together and the free places take little. The more fronts a trace has, the
+/// more places they get.
 #[derive(Drop)]
 pub(crate) struct Fronts {
-    slots: Vec<Front>,
+    fronts: Vec<Front>,
+    numbers: Vec<u16>,
     /// How many were put since they have so many places.
     put: usize,
 }
@@ -107,17 +90,17 @@ impl Model for Fronts {
 
     ghost Value = { List Front };
 
-    ghost view = { λ s. s.slots.items };
+    ghost view = { λ s. s.fronts.items };
 }
 
 impl Fronts {
     /// No fronts, and no places yet.
-    #[tactic(auto, using(crate::proofs::FrontLemmas::none_kept))]
     pub(crate) fn none(alloc: Global) -> Self
         ensures { (names : Named) → AreKept names result }
     {
         Fronts {
-            slots: Vec::new(alloc),
+            fronts: Vec::new(alloc),
+            numbers: Vec::new(alloc),
             put: 0,
         }
     }
@@ -125,9 +108,10 @@ impl Fronts {
     /// The front at a place, where it has this key.
     #[inline(always)]
     fn at(&self, place: usize, key: &Key) -> Option<&Front>
-        ensures { (names : Named) → AreKept names self.now → 4 ≤ key.now.len → IfSome result (λ f. Tells names (text_of key.now) f.now.worker f.now.act) }
+        ensures { (names : Named) → AreKept names self.now → IfSome result (λ f. Tells names (text_of key.now) f.now.worker f.now.act) }
     {
-        match self.slots.get(place) {
+        let number = *self.numbers.get(place)?;
+        match self.fronts.get(number as usize) {
             Some(known) if known.key.is(key) => Some(known),
             _ => None,
         }
@@ -140,30 +124,53 @@ impl Fronts {
         ensures { (names : Named) → AreKept names self.now → IfSome result (λ f. Tells names front.now f.now.worker f.now.act) }
     {
         let key = Key::of(front)?;
-        let place = key.place(self.slots.len());
+        let place = key.place(self.numbers.len());
         match self.at(place, &key) {
             Some(known) => Some(known),
             None => self.at(place ^ 1, &key),
         }
     }
 
+    /// Adds a front, whose number stands at a place then, if there is memory for it.
+    #[tactic(auto, using(crate::proofs::FrontLemmas::kept_behind))]
+    fn add(&mut self, place: usize, known: Front)
+        ensures { (names : Named) → AreKept names self.old → IsKept names known → AreKept names self.new }
+    {
+        let _act = known.act;
+        let number = self.fronts.len();
+        if number < FREE as usize && self.fronts.push(known).is_ok() {
+            put_at(&mut self.numbers, place, number);
+        }
+    }
+
+    /// Puts a front at one of its two places, in the stead of another where neither is free.
+    fn put(&mut self, known: Front)
+        ensures { (names : Named) → AreKept names self.old → IsKept names known → AreKept names self.new }
+    {
+        let place = place_for(&self.numbers, &known.key);
+        match self.numbers.get(place) {
+            Some(&FREE) => self.add(place, known),
+            Some(&number) => replace(&mut self.fronts, number as usize, known),
+            None => {}
+        }
+    }
+
     /// Gives the fronts so many places, if there is memory for that.
     #[cold]
     fn widen(&mut self, places: usize)
-        ensures { (names : Named) → AreKept names self.old → AreKept names self.new }
+        ensures { self.new ≡ self.old }
     {
-        let alloc = *self.slots.allocator();
-        let Ok(wider) = spread(alloc, self.slots.as_slice(), places) else {
-            return;
-        };
-        self.slots = wider;
+        let alloc = *self.numbers.allocator();
+        if let Ok(wider) = spread(alloc, &self.fronts, places) {
+            self.numbers = wider;
+        }
     }
 
     /// Counts one more front that is put, and gives the fronts more places where that is half as many as they have.
     fn make_room(&mut self)
-        ensures { (names : Named) → AreKept names self.old → AreKept names self.new }
+        ensures { self.new ≡ self.old }
     {
-        let places = self.slots.len();
+        let places = self.numbers.len();
         if self.put < places / 2 {
             self.put += 1;
             return;
@@ -188,7 +195,7 @@ impl Fronts {
             worker: entry.worker,
             act: entry.act,
         };
-        put(&mut self.slots, known);
+        self.put(known);
     }
 
     /// Keeps the front of an entry, or what stands in it before the value.

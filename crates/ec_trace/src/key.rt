@@ -20,30 +20,10 @@ pub(crate) struct Key {
 impl Key {
     ghost use Rattle.ec_trace.specs.Keys.{text_of};
 
-    /// The key of no text.
-    pub(crate) fn none() -> Self
-        ensures { result.len ≡ 0 }
-    {
-        Key {
-            first: 0,
-            second: 0,
-            third: 0,
-            last: 0,
-            len: 0,
-        }
-    }
-
-    /// Whether it is the key of a text.
-    #[inline(always)]
-    pub(crate) fn is_some(&self) -> bool {
-        self.len > 0
-    }
-
     /// The key of a text, where it has one.
     #[inline(always)]
     pub(crate) fn of(text: &[u8]) -> Option<Self>
-        ensures len { IfSome result (λ k. 4 ≤ k.len) }
-        ensures text { IfSome result (λ k. text_of k ≡ text.now) }
+        ensures { IfSome result (λ k. text_of k ≡ text.now) }
     {
         let n = text.len();
         if n > 32 {
@@ -64,8 +44,7 @@ impl Key {
     fn by_eight(text: &[u8]) -> Self
         requires least { 8 ≤ length text.now }
         requires most { length text.now ≤ 32 }
-        ensures len { result.len ≡ length text.now }
-        ensures text { text_of result ≡ text.now }
+        ensures { text_of result ≡ text.now }
     {
         let n = text.len();
         let last = n - 8;
@@ -84,8 +63,7 @@ impl Key {
     fn by_four(text: &[u8]) -> Self
         requires least { 4 ≤ length text.now }
         requires most { length text.now < 8 }
-        ensures len { result.len ≡ length text.now }
-        ensures text { text_of result ≡ text.now }
+        ensures { text_of result ≡ text.now }
     {
         let n = text.len();
         Key {

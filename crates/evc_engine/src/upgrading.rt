@@ -32,6 +32,8 @@ fn write_upgraded<W: Write, N: Write>(traced: Traced, out: &mut W, notes: &mut O
 /// notes say what is wrong. A trace of version 2 comes out as it was.
 ///
 /// Nothing is written to `out` before the trace was read to its end.
+// (Put into its caller, it would have that hold its half a megabyte of tables under each other task too.)
+#[inline(never)]
 #[tactic(auto, using(crate::proofs::UpgradeLemmas::upgraded_so))]
 pub fn upgrade<R: Read, W: Write, N: Write>(
     alloc: Global,
