@@ -71,7 +71,7 @@ impl Advances {
     }
 
     /// The point of the read or await that the entry at hand ends: to be asked before that entry is taken in.
-    #[tactic(auto, using(crate::proofs::Raising::point_none, crate::proofs::Raising::point_one))]
+    #[tactic(auto, using(crate::proofs::KeptPoints::point_none, crate::proofs::KeptPoints::point_one))]
     pub(crate) fn point(&self, call: &Call) -> usize
         ensures { IsPointBy self.now call.now result }
     {
