@@ -1,5 +1,5 @@
 -- The scan that gathers the finished reads and awaits by their points.
-use Rattle.std.proofs.Common.{◌≡◌, ℕ, zero, suc, ◌+◌, ◌-◌, ◌<◌, ◌≤◌, inl, inr, Bool, true, false, not, ◌&&◌, is_some, List, [], ◌∷◌, ◌++◌, length, map, Option, Some, None, refl, ap, sym, ◌∙◌, arith, cond, subst, ◌==◌, append-nil, reverse, take, drop, take_all, slice_get, Vec, Global}
+use Rattle.std.proofs.Common.{◌≡◌, ℕ, zero, suc, ◌+◌, ◌-◌, ◌<◌, ◌≤◌, inl, inr, Bool, true, false, not, ◌&&◌, is_some, List, [], ◌∷◌, ◌++◌, length, map, Option, Some, None, refl, ap, sym, ◌∙◌, arith, cond, subst, ◌==◌, append-nil, reverse, take, drop, take_all, slice_get}
 use Rattle.std.specs.Option.{option_map, option_to_list}
 use Rattle.std.specs.List.{All, Contains, filter, insert}
 use Rattle.std.proofs.lemmas.Bool.{eqb-true}
@@ -19,7 +19,7 @@ use Rattle.ec_core.specs.declared.ongoing.Ongoing.{Ongoing}
 use Rattle.ec_order.specs.Calls.{call_of_entries, ended_by, finished_calls, is_reading, number_of, Ending}
 use Rattle.ec_order.specs.Points.{first_entries, first_moment, point_of, with_point, by_moments}
 use Rattle.ec_core.specs.Ongoing.{ongoing, AreCalls}
-use Rattle.ec_order.specs.Index.{point_in, IsIndex}
+use Rattle.ec_order.specs.Raised.{Raised, AreRaised, NotesAlone, FollowsReading, IsPointBy}
 use Rattle.ec_order.specs.Walk.{is_alone, placed_point, reads, readings, readings_by_points, IsPlaceFor, PutsIn}
 use Rattle.ec_order.specs.Cuts.{IsFinishedCall}
 use Rattle.ec_order.specs.Readings.{Readings, IsOf, call_at, entry_or}
@@ -28,8 +28,6 @@ use Rattle.ec_order.proofs.Ends.{Ends, ends}
 use Rattle.ec_order.proofs.Finished.{each_cut, call_is}
 use Rattle.ec_order.proofs.Fits.{Fits, all_fit, point_bounds}
 use Rattle.ec_order.proofs.Scanning.{prefix_more, prefix_accepted, prefix_long, ended_next}
-use Rattle.ec_order.proofs.Indexing.{IsIndexed}
-use Rattle.ec_order.proofs.Reaching.{placed_is}
 use Rattle.ec_order.proofs.Walking.{alone_from}
 use Rattle.ec_order.proofs.Inserting.{inserted}
 
@@ -80,7 +78,7 @@ alone_adds t x past whole alone (inr (inr a)) =
     ap (λ cs. filter reads (map (with_point whole) cs)) a.is ∙ ap (λ b. cond b (p ∷ []) []) a.acting
 
 -- what any other entry ends is one
-others_read : (t : Tables) (x : Entry) (past : List Entry) → is_alone x.act ≡ false → Ends t x past (under_way x.worker past)
+pub others_read : (t : Tables) (x : Entry) (past : List Entry) → is_alone x.act ≡ false → Ends t x past (under_way x.worker past)
     → All (λ (c : Call). is_reading c.op ≡ true) (ended_by t x (gone_on x.act past (under_way x.worker past)))
 others_read t x past other (inl n) = rw n.is (All-nil (λ (c : Call). is_reading c.op ≡ true))
 others_read t x past other (inr (inl r)) = rw r.is (All-cons (λ (c : Call). is_reading c.op ≡ true) (call_of_entries t x r.op (past ∷ r.rest)) [] r.reading (All-nil (λ (c : Call). is_reading c.op ≡ true)))
@@ -113,7 +111,7 @@ alone_leaves t x past w d acc alone =
     ] refl
 
 -- a call that ends at an entry is one of those of the past with it
-known_call : (t : Tables) (x : Entry) (past : List Entry) (c : Call) → ended_by t x (call_with x past) ≡ option_to_list (Some c) → Contains (finished_calls t (x ∷ past)) c
+pub known_call : (t : Tables) (x : Entry) (past : List Entry) (c : Call) → ended_by t x (call_with x past) ≡ option_to_list (Some c) → Contains (finished_calls t (x ∷ past)) c
 unfolding finished_calls
 known_call t x past c is =
     Contains-append_right (finished_calls t past) (ended_by t x (gone_on x.act past (under_way x.worker past))) c (subst (λ cs. Contains cs c) (sym is) (zero, omega arith, refl))
@@ -131,15 +129,16 @@ readings_none t x past d acc none =
     added t x past d acc ∙ ap (λ cs. readings t past ++ filter reads (map (with_point (x ∷ past)) cs)) none ∙ append-nil (readings t past)
 
 -- the call that another one ends is put in
-pub readings_one : (t : Tables) (x : Entry) (past : List Entry) (c : Call) (lists : List (Vec ℕ Global)) (n at : ℕ) (ps : List Placed) → IsDeclared t → IsAccepted t (x ∷ past) → is_alone x.act ≡ false
-    → ended_by t x (call_with x past) ≡ c ∷ [] → IsIndex (x ∷ past) lists → length past < n → ps ≡ by_moments (readings t past) n → IsPlaceFor placed_point ps (point_in lists c) at
-    → insert ps at (record { call = c; point = point_in lists c }) ≡ by_moments (readings t (x ∷ past)) n
-readings_one t x past c lists n at ps d acc other is index lt same place =
+pub readings_one : (t : Tables) (x : Entry) (past : List Entry) (c : Call) (k n at : ℕ) (ps : List Placed) → IsDeclared t → IsAccepted t (x ∷ past) → is_alone x.act ≡ false
+    → ended_by t x (call_with x past) ≡ c ∷ [] → k ≡ point_of (x ∷ past) c → length past < n → ps ≡ by_moments (readings t past) n → IsPlaceFor placed_point ps k at
+    → insert ps at (record { call = c; point = k }) ≡ by_moments (readings t (x ∷ past)) n
+readings_one t x past c k n at ps d acc other is there lt same place =
     let reading : is_reading c.op ≡ true = All-head (λ (c : Call). is_reading c.op ≡ true) c [] (subst (All (λ (c : Call). is_reading c.op ≡ true)) is (others_read t x past other (ends t x past d acc))) in
     let known : Contains (finished_calls t (x ∷ past)) c = known_call t x past c is in
     let fits : Fits (x ∷ past) c = All-contains (Fits (x ∷ past)) (finished_calls t (x ∷ past)) c (all_fit t (x ∷ past) d acc) known in
     let p = with_point (x ∷ past) c in
-    let placed : record { call = c; point = point_in lists c } ≡ p = placed_is (x ∷ past) lists c index fits in
+    let on : ℕ → Placed = λ j. record { call = c; point = j } in
+    let placed : on k ≡ p = ap on there in
     let one : readings t (x ∷ past) ≡ readings t past ++ p ∷ [] =
     added t x past d acc ∙ ap (λ cs. readings t past ++ filter reads (map (with_point (x ∷ past)) cs)) is ∙ ap (λ b. readings t past ++ cond b (p ∷ []) []) reading in
     let low : p.point < n = (let below : point_of (x ∷ past) c < suc (length past) = (point_bounds (x ∷ past) c fits).2 in omega arith) in
@@ -155,41 +154,46 @@ by_moments_none zero = refl
 by_moments_none (suc n) = ap (λ ps. ps ++ []) (by_moments_none n)
 
 -- what is so after the scan of the first i entries
-pub record IsGathered (t : Tables) (h : List Entry) (i : ℕ) (calls : List (Option Ongoing)) (lists : List (Vec ℕ Global)) (rs : Readings) : Type 0 where
-  pub kept : AreCalls t calls (reverse (take i h))
-  pub index : IsIndexed h i lists
+pub record IsGathered (t : Tables) (h : List Entry) (i : ℕ) (calls : List (Option Ongoing)) (kept : List Raised) (rs : Readings) : Type 0 where
+  pub under_way : AreCalls t calls (reverse (take i h))
+  pub advances : AreRaised kept (reverse (take i h))
   pub of : rs.history ≡ h
   pub gathered : rs.placed ≡ by_moments (readings t (reverse (take i h))) (length h)
 
-pub gathered_start : (t : Tables) (h : List Entry) (calls : List (Option Ongoing)) (lists : List (Vec ℕ Global)) → AreCalls t calls [] → IsIndexed h 0 lists → IsGathered t h 0 calls lists (record { history = h; placed = [] })
+pub gathered_start : (t : Tables) (h : List Entry) (calls : List (Option Ongoing)) (kept : List Raised) → AreCalls t calls [] → AreRaised kept [] → IsGathered t h 0 calls kept (record { history = h; placed = [] })
 unfolding finished_calls
-gathered_start t h calls lists empty index = record { kept = empty; index = index; of = refl; gathered = sym (by_moments_none (length h)) }
+gathered_start t h calls kept empty none = record { under_way = empty; advances = none; of = refl; gathered = sym (by_moments_none (length h)) }
 
 -- the scan of one call by itself
-pub gathered_alone : (t : Tables) (h : List Entry) (i : ℕ) (x : Entry) (calls : List (Option Ongoing)) (lists lists' : List (Vec ℕ Global)) (rs : Readings) → IsDeclared t → IsAccepted t (reverse h)
-    → Some x ≡ slice_get h i → is_alone x.act ≡ true → IsIndexed h (i + 1) lists' → IsGathered t h i calls lists rs → IsGathered t h (i + 1) calls lists' rs
-gathered_alone t h i x calls lists lists' rs d acc at alone index s =
+pub gathered_alone : (t : Tables) (h : List Entry) (i : ℕ) (x : Entry) (calls : List (Option Ongoing)) (kept kept' : List Raised) (rs : Readings) → IsDeclared t → IsAccepted t (reverse h)
+    → Some x ≡ slice_get h i → is_alone x.act ≡ true → NotesAlone kept x.act (i + 1) kept' → IsGathered t h i calls kept rs → IsGathered t h (i + 1) calls kept' rs
+gathered_alone t h i x calls kept kept' rs d acc at alone notes s =
     let past = reverse (take i h) in
     let more : reverse (take (i + 1) h) ≡ x ∷ past = prefix_more h i x (sym at) in
     let acc' : IsAccepted t (x ∷ past) = subst (IsAccepted t) more (prefix_accepted t h (i + 1) acc) in
     let same : readings t (reverse (take (i + 1) h)) ≡ readings t past = ap (readings t) more ∙ readings_alone t x past d acc' alone in
     record {
-      kept = λ w lt. s.kept w lt ∙ ap (λ o. Some (option_map (ongoing t) o)) (sym (ap (under_way w) more ∙ alone_leaves t x past w d acc' alone));
-      index = index;
+      under_way = λ w lt. s.under_way w lt ∙ ap (λ o. Some (option_map (ongoing t) o)) (sym (ap (under_way w) more ∙ alone_leaves t x past w d acc' alone));
+      advances = subst (AreRaised kept') (sym more) (notes.after t past x d acc' refl alone (ap (λ k. k + 1) (prefix_long h i x (sym at))) s.advances);
       of = s.of;
       gathered = s.gathered ∙ ap (λ qs. by_moments qs (length h)) (sym same);
     }
 
 -- the scan of one entry of a read or an await: where it ends none
-pub gathered_none : (t u : Tables) (h : List Entry) (i : ℕ) (x : Entry) (told : Option Call) (calls calls' : List (Option Ongoing)) (lists lists' : List (Vec ℕ Global)) (rs : Readings) → IsDeclared t → IsAccepted t (reverse h)
-    → Some x ≡ slice_get h i → IsIndexed h (i + 1) lists' → IsGathered t h i calls lists rs → u ≡ t → Ending calls i x told calls' u → told ≡ None → IsGathered t h (i + 1) calls' lists' rs
-gathered_none t u h i x told calls calls' lists lists' rs d acc at index s same ending is =
+pub gathered_none : (t u : Tables) (h : List Entry) (i : ℕ) (x : Entry) (told : Option Call) (calls calls' : List (Option Ongoing)) (kept kept' : List Raised) (rs : Readings) → IsDeclared t → IsAccepted t (reverse h)
+    → Some x ≡ slice_get h i → is_alone x.act ≡ false → FollowsReading kept x.act None kept' → IsGathered t h i calls kept rs → u ≡ t → Ending calls i x told calls' u → told ≡ None → IsGathered t h (i + 1) calls' kept' rs
+gathered_none t u h i x told calls calls' kept kept' rs d acc at other follows s same ending is =
     let past = reverse (take i h) in
     let more : reverse (take (i + 1) h) ≡ x ∷ past = prefix_more h i x (sym at) in
     let acc' : IsAccepted t (x ∷ past) = subst (IsAccepted t) more (prefix_accepted t h (i + 1) acc) in
-    let next = ended_next t u h i x told calls calls' acc at s.kept same ending in
+    let next = ended_next t u h i x told calls calls' acc at s.under_way same ending in
     let none : readings t (reverse (take (i + 1) h)) ≡ readings t past = ap (readings t) more ∙ readings_none t x past d acc' (next.call ∙ ap option_to_list is) in
-    record { kept = subst (AreCalls t calls') (sym more) next.after; index = index; of = s.of; gathered = s.gathered ∙ ap (λ qs. by_moments qs (length h)) (sym none) }
+    record {
+      under_way = subst (AreCalls t calls') (sym more) next.after;
+      advances = subst (AreRaised kept') (sym more) (follows.after t past x d acc' refl other (next.call ∙ ap option_to_list is) s.advances);
+      of = s.of;
+      gathered = s.gathered ∙ ap (λ qs. by_moments qs (length h)) (sym none);
+    }
 
 -- a finished call stands in its history where it says
 cut_stands : (t : Tables) (h : List Entry) (c : Call) → IsFinishedCall t h c → IsOf h c
@@ -206,43 +210,41 @@ cut_stands t h c k =
     }
 
 -- it stands in the history where it says
-pub call_stands : (t u : Tables) (h : List Entry) (i : ℕ) (x : Entry) (c : Call) (calls calls' : List (Option Ongoing)) (lists : List (Vec ℕ Global)) (rs : Readings) → IsDeclared t → IsAccepted t (reverse h)
-    → Some x ≡ slice_get h i → IsGathered t h i calls lists rs → u ≡ t → Ending calls i x (Some c) calls' u → IsOf rs.history c
-call_stands t u h i x c calls calls' lists rs d acc at s same ending =
+pub call_stands : (t u : Tables) (h : List Entry) (i : ℕ) (x : Entry) (c : Call) (calls calls' : List (Option Ongoing)) (kept : List Raised) (rs : Readings) → IsDeclared t → IsAccepted t (reverse h)
+    → Some x ≡ slice_get h i → IsGathered t h i calls kept rs → u ≡ t → Ending calls i x (Some c) calls' u → IsOf rs.history c
+call_stands t u h i x c calls calls' kept rs d acc at s same ending =
     let past = reverse (take i h) in
     let more : reverse (take (i + 1) h) ≡ x ∷ past = prefix_more h i x (sym at) in
     let acc' : IsAccepted t (x ∷ past) = subst (IsAccepted t) more (prefix_accepted t h (i + 1) acc) in
-    let next = ended_next t u h i x (Some c) calls calls' acc at s.kept same ending in
+    let next = ended_next t u h i x (Some c) calls calls' acc at s.under_way same ending in
     let whole : reverse h ≡ reverse (drop (i + 1) h) ++ (x ∷ past) =
     ap reverse (sym (take-append-drop (i + 1) h)) ∙ reverse-append (take (i + 1) h) (drop (i + 1) h) ∙ ap (λ zs. reverse (drop (i + 1) h) ++ zs) more in
     let cut : IsFinishedCall t h c = subst (λ z. IsFinishedCall t z c) (reverse-reverse h) (each_cut t (reverse h) (reverse (drop (i + 1) h)) (x ∷ past) d acc' whole c (known_call t x past c next.call)) in
     subst (λ z. IsOf z c) (sym s.of) (cut_stands t h c cut)
 
 -- where it ends one
-pub gathered_one : (t u : Tables) (h : List Entry) (i : ℕ) (x : Entry) (c : Call) (calls calls' : List (Option Ongoing)) (lists lists' ls : List (Vec ℕ Global)) (k : ℕ) (rs rs' : Readings) → IsDeclared t → IsAccepted t (reverse h)
-    → Some x ≡ slice_get h i → is_alone x.act ≡ false → IsIndexed h (i + 1) lists' → IsGathered t h i calls lists rs → u ≡ t → Ending calls i x (Some c) calls' u
-    → ls ≡ lists' → k ≡ point_in ls c → PutsIn placed_point rs.placed rs'.placed (record { call = c; point = k }) → rs'.history ≡ rs.history → IsGathered t h (i + 1) calls' lists' rs'
-gathered_one t u h i x c calls calls' lists lists' ls k rs rs' d acc at other index s same ending here there puts stays =
+pub gathered_one : (t u : Tables) (h : List Entry) (i : ℕ) (x : Entry) (c : Call) (calls calls' : List (Option Ongoing)) (kept kept' : List Raised) (k : ℕ) (rs rs' : Readings) → IsDeclared t → IsAccepted t (reverse h)
+    → Some x ≡ slice_get h i → is_alone x.act ≡ false → IsPointBy kept c k → FollowsReading kept x.act (Some c) kept' → IsGathered t h i calls kept rs → u ≡ t → Ending calls i x (Some c) calls' u
+    → PutsIn placed_point rs.placed rs'.placed (record { call = c; point = k }) → rs'.history ≡ rs.history → IsGathered t h (i + 1) calls' kept' rs'
+gathered_one t u h i x c calls calls' kept kept' k rs rs' d acc at other there follows s same ending puts stays =
     let past = reverse (take i h) in
     let more : reverse (take (i + 1) h) ≡ x ∷ past = prefix_more h i x (sym at) in
     let acc' : IsAccepted t (x ∷ past) = subst (IsAccepted t) more (prefix_accepted t h (i + 1) acc) in
-    let next = ended_next t u h i x (Some c) calls calls' acc at s.kept same ending in
-    let at' : ℕ → Placed = λ j. record { call = c; point = j } in
-    let puts' : PutsIn placed_point rs.placed rs'.placed (at' (point_in lists' c)) = subst (λ j. PutsIn placed_point rs.placed rs'.placed (at' j)) (there ∙ ap (λ zs. point_in zs c) here) puts in
+    let next = ended_next t u h i x (Some c) calls calls' acc at s.under_way same ending in
     let in' : i < length h = slice_get_within h i x (sym at) in
     let long : i ≡ length past = prefix_long h i x (sym at) in
     record {
-      kept = subst (AreCalls t calls') (sym more) next.after;
-      index = index;
+      under_way = subst (AreCalls t calls') (sym more) next.after;
+      advances = subst (AreRaised kept') (sym more) (follows.after t past x d acc' refl other next.call s.advances);
       of = stays ∙ s.of;
-      gathered = puts'.is ∙ readings_one t x past c lists' (length h) puts'.at rs.placed d acc' other next.call (subst (λ q. IsIndex q lists') more index.index) (omega arith) s.gathered puts'.place
+      gathered = puts.is ∙ readings_one t x past c k (length h) puts.at rs.placed d acc' other next.call (there.is t past x d acc' other next.call s.advances) (omega arith) s.gathered puts.place
           ∙ ap (λ z. by_moments (readings t z) (length h)) (sym more);
     }
 
 -- at the end of the history
-pub gathered_all : (t : Tables) (h : List Entry) (i : ℕ) (calls : List (Option Ongoing)) (lists : List (Vec ℕ Global)) (rs : Readings) → IsGathered t h i calls lists rs → length h ≤ i
+pub gathered_all : (t : Tables) (h : List Entry) (i : ℕ) (calls : List (Option Ongoing)) (kept : List Raised) (rs : Readings) → IsGathered t h i calls kept rs → length h ≤ i
     → rs ≡ record { history = h; placed = readings_by_points t (reverse h) }
-gathered_all t h i calls lists rs s le =
+gathered_all t h i calls kept rs s le =
     let all : rs.placed ≡ readings_by_points t (reverse h) = s.gathered ∙ ap (λ g. by_moments (readings t (reverse g)) (length h)) (take_all i h le) ∙ ap (by_moments (readings t (reverse h))) (sym (length-reverse h)) in
     let of : List Entry → List Placed → Readings = λ z ps. record { history = z; placed = ps } in
     ap (λ z. of z rs.placed) s.of ∙ ap (of h) all

@@ -34,11 +34,11 @@ moments_set lists e f v low =
           ap (λ (xs : List (List ℕ)). get_or xs f []) (map-set items lists e v) ∙ get_or-set_other (map items lists) e f v.items [] other)
     ] refl
 
-raises : (act : Act) (f e : ℕ) → raised_by act ≡ Some e → is_advance f act ≡ (e == f)
+pub raises : (act : Act) (f e : ℕ) → raised_by act ≡ Some e → is_advance f act ≡ (e == f)
 raises (Advance g) f e h = (let same : g ≡ e = cc in ap (λ k. k == f) same)
 raises act f e h = cc
 
-raises_none : (act : Act) (f : ℕ) → raised_by act ≡ None → is_advance f act ≡ false
+pub raises_none : (act : Act) (f : ℕ) → raised_by act ≡ None → is_advance f act ≡ false
 raises_none (Advance g) f h = cc
 raises_none act f h = refl
 

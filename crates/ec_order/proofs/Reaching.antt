@@ -13,7 +13,7 @@ use Rattle.ec_order.specs.Index.{advanced, moment_of, moments_in, IsIndex, point
 use Rattle.ec_order.proofs.Points.{first_at, first_next}
 use Rattle.ec_order.proofs.Fits.{Fits, acts_there}
 
-total_upto : (e k : ℕ) (past : List Entry) → total e (first_entries k past) ≤ total e past
+pub total_upto : (e k : ℕ) (past : List Entry) → total e (first_entries k past) ≤ total e past
 unfolding total first_entries
 total_upto e k [] = omega arith
 total_upto e k (x ∷ past) =
@@ -27,7 +27,7 @@ unfolding first_entries
 first_all k [] h = refl
 first_all k (x ∷ past) h = ap (λ b. cond b (first_entries k past) (x ∷ past)) (lt-leb k (length past) (omega arith))
 
-total_mono : (e j k : ℕ) (past : List Entry) → j ≤ k → total e (first_entries j past) ≤ total e (first_entries k past)
+pub total_mono : (e j k : ℕ) (past : List Entry) → j ≤ k → total e (first_entries j past) ≤ total e (first_entries k past)
 unfolding first_entries
 total_mono e j k [] h = omega arith
 total_mono e j k (x ∷ past) h =
@@ -36,7 +36,7 @@ total_mono e j k (x ∷ past) h =
       | false ↦ λ t. total_upto e j (x ∷ past)
     ] refl
 
-length_advanced : (e : ℕ) (past : List Entry) → length (advanced e past) ≡ total e past
+pub length_advanced : (e : ℕ) (past : List Entry) → length (advanced e past) ≡ total e past
 unfolding advanced total
 length_advanced e [] = refl
 length_advanced e (x ∷ past) =
@@ -111,7 +111,7 @@ first_unique test m k (suc n) is low high before =
           ap (λ b. cond b k (first_moment test (k + 1) n)) (ap test (sym same) ∙ is) ∙ sym same)
     ]
 
-not_later : (f : ℕ → ℕ) (r m k : ℕ) → ((j : ℕ) → j < m → f j < r) → r ≤ f k → m ≤ k
+pub not_later : (f : ℕ → ℕ) (r m k : ℕ) → ((j : ℕ) → j < m → f j < r) → r ≤ f k → m ≤ k
 not_later f r m k before le =
     elim (cases_lt k m) [
       | inl lt ↦ (let less : f k < r = before k lt in absurd (omega arith))

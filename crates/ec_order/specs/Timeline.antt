@@ -1,7 +1,6 @@
 -- The finished calls of a history by their points, as they are gathered while the history goes past.
-use Rattle.std.specs.Prelude.{◌≡◌, ℕ, ◌+◌, ◌≤◌, Bool, true, false, List, [], ◌∷◌, length, map, reverse, Option, Vec}
+use Rattle.std.specs.Prelude.{◌≡◌, ℕ, ◌+◌, ◌≤◌, Bool, true, false, List, [], ◌∷◌, length, map, reverse, Option}
 use Rattle.std.specs.List.{filter}
-use Rattle.std.specs.declared.alloc.Global.{Global}
 use Rattle.ec_count.specs.Tables.{Tables}
 use Rattle.ec_core.specs.declared.act.Entry.{Entry}
 use Rattle.ec_core.specs.declared.ongoing.Ongoing.{Ongoing}
@@ -10,10 +9,10 @@ use Rattle.ec_core.specs.Ongoing.{AreCalls}
 use Rattle.ec_order.specs.declared.call.Call.{Call}
 use Rattle.ec_order.specs.declared.dated.Dated.{Dated}
 use Rattle.ec_order.specs.declared.placed.Placed.{Placed}
-use Rattle.ec_order.specs.Index.{IsIndex}
 use Rattle.ec_order.specs.Points.{by_moments, ordered_by_points}
+use Rattle.ec_order.specs.Raised.{Raised, AreRaised, IsPointBy}
 use Rattle.ec_order.specs.Verdicts.{IsGood}
-use Rattle.ec_order.specs.Walk.{is_alone, due_then, readings}
+use Rattle.ec_order.specs.Walk.{is_alone, due_then, readings, PutsIn}
 
 -- a call, told as one entry: what it asked for, and what it was told in the end
 abbrev pub call_entry : Call → Entry
@@ -38,12 +37,13 @@ dated_by_points t past = map dated (ordered_by_points t past)
 
 -- WHAT IS KEPT
 
--- of the declarations: the calls under way, the moments after the advances of each eventcount, of each entry whether it is a call by
--- itself, those that are, the finished reads and awaits by their points, and whether memory was refused for one
+-- of the declarations: the calls under way; the advances of each eventcount, of which the moments are kept of those alone that were
+-- made while a read or an await of it is under way; of each entry whether it is a call by itself, those that are, the finished reads
+-- and awaits by their points, and whether memory was refused for one
 pub record Timed : Type 0 where
   pub setup : Tables
   pub under_way : List (Option Ongoing)
-  pub moments : List (Vec ℕ Global)
+  pub advances : List Raised
   pub marks : List Bool
   pub alone : List Entry
   pub readings : List Dated
@@ -56,10 +56,16 @@ stands_alone x = is_alone x.act
 -- it is that after an accepted past
 pub record IsTimed (k : Timed) (past : List Entry) : Type 0 where
   pub under_way : AreCalls k.setup k.under_way past
-  pub index : IsIndex past k.moments
+  pub advances : AreRaised k.advances past
   pub marks : k.marks ≡ map stands_alone (reverse past)
   pub alone : k.alone ≡ filter stands_alone (reverse past)
   pub readings : (n : ℕ) → length past ≤ n → k.readings ≡ map dated (by_moments (readings k.setup past) n)
+
+-- a call that an entry ends is put in by its point, found by the advances that are kept before that entry is taken in
+pub record PutsByPoint (kept : List Raised) (c : Call) (old new : List Dated) : Type 0 where
+  pub point : ℕ
+  pub is : IsPointBy kept c point
+  pub puts : PutsIn dated_point old new (dated (record { call = c; point = point }))
 
 -- one more entry, at this position, is taken in
 pub record TakesIn (old : Timed) (place : ℕ) (x : Entry) (new : Timed) : Type 0 where

@@ -3,7 +3,7 @@ ghost use Rattle.std.specs.Prelude.{◌≡◌, reverse, IfOk};
 ghost use Rattle.ec_order.specs.Walk.{is_alone, readings_by_points};
 
 use crate::Placed;
-use crate::index::{no_moments, note, point};
+use crate::advances::Advances;
 use crate::readings::Readings;
 use crate::scan::take_in;
 use ec_core::{Act, Calls, Run};
@@ -31,16 +31,18 @@ pub(crate) fn readings_by_points<'a>(
 {
     run.known();
     let mut under_way = Calls::new();
-    let mut lists = no_moments(alloc)?;
+    let mut advances = Advances::none(alloc)?;
     let mut readings = Readings::new(alloc, run);
     for i in 0..run.len() {
         if let Some(entry) = run.entry(i) {
-            note(&mut lists, entry.act, i + 1)?;
-            if !is_alone(entry.act) {
-                if let Some(call) = take_in(&mut under_way, run.setup(), &entry, i) {
-                    let point = point(&lists, &call);
-                    readings.put(&Placed { call, point })?;
-                }
+            if is_alone(entry.act) {
+                advances.note(entry.act, i + 1)?;
+            } else if let Some(call) = take_in(&mut under_way, run.setup(), &entry, i) {
+                let point = advances.point(&call);
+                advances.end(entry.act, &call);
+                readings.put(&Placed { call, point })?;
+            } else {
+                advances.begin(entry.act);
             }
         }
     }

@@ -9,7 +9,7 @@ use std::alloc::{AllocError, Global};
 
 /// The number that a reply tells; 0 where it tells none.
 #[inline(always)]
-fn number_of(reply: Reply) -> u64
+pub(crate) fn number_of(reply: Reply) -> u64
     ensures { result ≡ number_of reply }
 {
     match reply {
@@ -20,7 +20,7 @@ fn number_of(reply: Reply) -> u64
 
 /// The eventcount that an act advances.
 #[inline(always)]
-fn advanced(act: Act) -> Option<usize>
+pub(crate) fn advanced(act: Act) -> Option<usize>
     ensures value { result ≡ raised_by act }
     ensures small { IfSome result (λ e. e < 32) }
 {
@@ -54,8 +54,7 @@ fn add_moment(lists: &mut Vec<Vec<u32>>, event: usize, moment: usize) -> Result<
 }
 
 /// Adds the moment after an act to those of the eventcount that it advances, if it advances one.
-#[inline(always)]
-pub(crate) fn note(lists: &mut Vec<Vec<u32>>, act: Act, moment: usize) -> Result<(), AllocError>
+fn note(lists: &mut Vec<Vec<u32>>, act: Act, moment: usize) -> Result<(), AllocError>
     requires { length lists.old.items ≡ 32 }
     ensures long { length lists.new.items ≡ 32 }
     ensures notes { OnOk result (NotesAct lists.old.items act moment lists.new.items) }
@@ -67,7 +66,7 @@ pub(crate) fn note(lists: &mut Vec<Vec<u32>>, act: Act, moment: usize) -> Result
 }
 
 /// An index with no moment.
-pub(crate) fn no_moments(alloc: Global) -> Result<Vec<Vec<u32>>, AllocError>
+fn no_moments(alloc: Global) -> Result<Vec<Vec<u32>>, AllocError>
     ensures long { IfOk result (λ ls. length ls.items ≡ 32) }
     ensures value { IfOk result (λ ls. (e : ℕ) → moments_in ls.items e ≡ []) }
 {

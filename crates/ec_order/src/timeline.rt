@@ -1,14 +1,13 @@
 //! The finished calls of a history by their points, gathered while the history goes past.
-ghost use Rattle.std.specs.Prelude.{◌≡◌, ◌+◌, ◌<◌, ◌^◌, List, [], ◌∷◌, length, IfOk, OnOk};
+ghost use Rattle.std.specs.Prelude.{◌≡◌, ◌+◌, ◌<◌, ◌^◌, List, [], Some, IfOk, OnOk};
 ghost use Rattle.ec_core.specs.declared.act.Entry.{Entry};
 ghost use Rattle.ec_core.specs.Acceptance.{IsAccepted};
-ghost use Rattle.ec_order.specs.Index.{placed_in};
-ghost use Rattle.ec_order.specs.Timeline.{dated, dated_by_points, dated_point, dates, IsTimeline, TakesIn, TellsGood};
-ghost use Rattle.ec_order.specs.Walk.{PutsIn};
+ghost use Rattle.ec_order.specs.Raised.{FollowsReading};
+ghost use Rattle.ec_order.specs.Timeline.{dated, dated_by_points, dates, IsTimeline, PutsByPoint, TakesIn, TellsGood};
 
+use crate::advances::Advances;
 use crate::by_points::ByPoints;
 use crate::gather::is_alone;
-use crate::index::{no_moments, note, point};
 use crate::marks::{Marks, MarksLeft};
 use crate::scan::take_in;
 use crate::{Call, Dated, OrderFault};
@@ -19,12 +18,13 @@ use std::marker::Model;
 
 /// The finished calls of a history by their points, gathered while the history goes past: each entry is handed to it once, by
 /// `take`. Of an advance, a ticket, a put, a get or a hand it keeps the entry; of a finished read or await one entry that tells it,
-/// and its point; of an advance its moment too; and of every entry one bit.
+/// and its point; and of every entry one bit. The moment of an advance is kept only while a read or an await of its eventcount is
+/// under way.
 #[derive(Drop)]
 pub struct Timeline<'a> {
     setup: &'a Setup,
     under_way: Calls,
-    moments: Vec<Vec<u32>>,
+    advances: Advances,
     marks: Marks,
     alone: Segments,
     readings: ByPoints,
@@ -32,14 +32,11 @@ pub struct Timeline<'a> {
 }
 
 impl<'a> Model for Timeline<'a> {
-    ghost use Rattle.std.specs.Prelude.{◌≡◌, length};
     ghost use Rattle.ec_order.specs.Timeline.{Timed};
 
     ghost Value = { Timed };
 
-    ghost view = { λ s. record { setup = s.setup.now; under_way = s.under_way; moments = s.moments.items; marks = s.marks; alone = s.alone; readings = s.readings; lacks = s.lacks } };
-
-    ghost invariant = { λ s. length s.moments.items ≡ 32 };
+    ghost view = { λ s. record { setup = s.setup.now; under_way = s.under_way; advances = s.advances; marks = s.marks; alone = s.alone; readings = s.readings; lacks = s.lacks } };
 }
 
 /// The call, told as one entry with its point.
@@ -56,12 +53,18 @@ fn dated(call: &Call, point: usize) -> Dated
     }
 }
 
-/// Puts a finished read or await in by its point.
-fn keep(readings: &mut ByPoints, lists: &[Vec<u32>], call: &Call) -> Result<(), AllocError>
-    requires { length lists.now ≡ 32 }
-    ensures { OnOk result (PutsIn dated_point readings.old readings.new (dated (placed_in lists.now call.now))) }
+/// Takes in an entry that ends a read or an await, by its act and the call, which is put in by its point.
+fn keep(
+    readings: &mut ByPoints,
+    advances: &mut Advances,
+    act: Act,
+    call: &Call,
+) -> Result<(), AllocError>
+    ensures kept { OnOk result (PutsByPoint advances.old call.now readings.old readings.new) }
+    ensures followed { FollowsReading advances.old act (Some call.now) advances.new }
 {
-    let point = point(lists, call);
+    let point = advances.point(call);
+    advances.end(act, call);
     readings.put(&dated(call, point))
 }
 
@@ -74,7 +77,7 @@ impl<'a> Timeline<'a> {
         Ok(Timeline {
             setup,
             under_way: Calls::new(),
-            moments: no_moments(alloc)?,
+            advances: Advances::none(alloc)?,
             marks: Marks::new(alloc),
             alone: Segments::open(alloc)?,
             readings: ByPoints::open(alloc)?,
@@ -92,17 +95,19 @@ impl<'a> Timeline<'a> {
     {
         self.setup.known();
         if is_alone(entry.act) {
-            note(&mut self.moments, entry.act, place + 1)?;
+            self.advances.note(entry.act, place + 1)?;
             self.marks.push(true)?;
             self.alone.push(*entry)?;
             return Ok(());
         }
         self.marks.push(false)?;
-        if let Some(call) = take_in(&mut self.under_way, self.setup, entry, place) {
-            keep(&mut self.readings, &self.moments, &call)?;
-            return Ok(());
+        match take_in(&mut self.under_way, self.setup, entry, place) {
+            Some(call) => keep(&mut self.readings, &mut self.advances, entry.act, &call),
+            None => {
+                self.advances.begin(entry.act);
+                Ok(())
+            }
         }
-        Ok(())
     }
 
     /// The finished calls after the entries so far, by their points, one after another: a legal order of them. Err where memory

@@ -50,6 +50,43 @@ pub(crate) static TOTAL_IN_THE_MIDDLE: History = history!(
     (2, Go, Number(2))
 );
 
+/// Two reads go on while advances are made, and one of them ends first. Then each reader reads once more, the one over advances made
+/// meanwhile.
+pub(crate) static READS_THAT_OVERLAP: History = history!(
+    TWO_SIGNALLERS,
+    (0, Advance(0), Done),
+    (2, Read(0), Pending),
+    (1, Advance(0), Done),
+    (3, Read(0), Pending),
+    (0, Advance(0), Done),
+    (2, Go, Number(2)),
+    (1, Advance(0), Done),
+    (3, Go, Number(3)),
+    (0, Advance(0), Done),
+    (2, Read(0), Pending),
+    (1, Advance(0), Done),
+    (0, Advance(0), Done),
+    (2, Go, Number(6)),
+    (3, Read(0), Pending),
+    (3, Go, Number(7))
+);
+
+/// An await that falls short and a read go on at one eventcount while it is advanced: the await's last round begins when the read is
+/// over.
+pub(crate) static AWAIT_AND_READ_THAT_OVERLAP: History = history!(
+    TWO_SIGNALLERS,
+    (0, Advance(0), Done),
+    (2, Await(0, 3), Pending),
+    (3, Read(0), Pending),
+    (1, Advance(0), Done),
+    (2, Go, Pending),
+    (3, Go, Number(2)),
+    (2, Go, Pending),
+    (1, Advance(0), Done),
+    (0, Advance(0), Done),
+    (2, Go, Number(3))
+);
+
 /// An await falls short in its first round, which it had begun before the advances.
 pub(crate) static AWAIT_OF_ROUNDS: History = history!(
     TWO_SIGNALLERS,

@@ -3,8 +3,8 @@ use crate::drive::Ask::{Advance, Await, Read};
 use crate::drive::Told::{Done, Number};
 use crate::drive::{History, Step, act_of, is_told, right, run_of};
 use crate::histories::{
-    AWAIT_OF_ROUNDS, AWAIT_OF_ZERO, MANY_ADVANCES, OVERTAKEN_READ, READ_OVERTAKEN_OFTEN, SLOW_READ,
-    TOTAL_IN_THE_MIDDLE, TWO_READS,
+    AWAIT_AND_READ_THAT_OVERLAP, AWAIT_OF_ROUNDS, AWAIT_OF_ZERO, MANY_ADVANCES, OVERTAKEN_READ,
+    READ_OVERTAKEN_OFTEN, READS_THAT_OVERLAP, SLOW_READ, TOTAL_IN_THE_MIDDLE, TWO_READS,
 };
 use ec_core::{Calls, Entry, Run, walk};
 use ec_order::{Call, Dated, Placed, Timeline, Verdict, calls, in_order, order, verify};
@@ -255,6 +255,45 @@ static IN_THE_MIDDLE: [Row; 1] = [Row::Order(&[
 #[test]
 fn a_total_that_stood_in_the_middle(rt: HostRuntime) -> Result<(), Fail> {
     shows(rt.alloc(), &TOTAL_IN_THE_MIDDLE, &IN_THE_MIDDLE)
+}
+
+static OVERLAPPING: [Row; 2] = [
+    Row::Order(&[
+        (0, (0, Advance(0), Done)),
+        (2, (1, Advance(0), Done)),
+        (3, (2, Read(0), Number(2))),
+        (4, (0, Advance(0), Done)),
+        (5, (3, Read(0), Number(3))),
+        (6, (1, Advance(0), Done)),
+        (8, (0, Advance(0), Done)),
+        (10, (1, Advance(0), Done)),
+        (11, (2, Read(0), Number(6))),
+        (11, (0, Advance(0), Done)),
+        (13, (3, Read(0), Number(7))),
+    ]),
+    Row::Good,
+];
+
+#[test]
+fn reads_that_go_on_when_another_ends(rt: HostRuntime) -> Result<(), Fail> {
+    shows(rt.alloc(), &READS_THAT_OVERLAP, &OVERLAPPING)
+}
+
+static AWAIT_AND_READ: [Row; 2] = [
+    Row::Order(&[
+        (0, (0, Advance(0), Done)),
+        (3, (1, Advance(0), Done)),
+        (4, (3, Read(0), Number(2))),
+        (7, (1, Advance(0), Done)),
+        (8, (2, Await(0, 3), Number(3))),
+        (8, (0, Advance(0), Done)),
+    ]),
+    Row::Good,
+];
+
+#[test]
+fn an_await_that_goes_on_when_a_read_ends(rt: HostRuntime) -> Result<(), Fail> {
+    shows(rt.alloc(), &AWAIT_AND_READ_THAT_OVERLAP, &AWAIT_AND_READ)
 }
 
 static THREE_ROUNDS: [Row; 1] = [Row::Order(&[

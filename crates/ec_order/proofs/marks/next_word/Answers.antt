@@ -1,4 +1,4 @@
-use Rattle.std.proofs.Common.{◌≡◌, ◌≤◌, ◌∙◌, ◌++◌, length, drop, ap, sym, arith, subst}
+use Rattle.std.proofs.Common.{◌≤◌, ◌∙◌, ◌++◌, length, drop, ap, sym, arith}
 use Rattle.std.proofs.lemmas.Bool.Decides.{nat_tests}
 use Rattle.ec_order.specs.Marks.{marks_of, marks_in}
 use Rattle.ec_order.proofs.Marking.{left_none, left_last}

@@ -1,4 +1,4 @@
-use Rattle.std.proofs.Common.{◌≡◌, ◌<◌, ◌∙◌, ◌^◌, ap, subst, length, List, Bool}
+use Rattle.std.proofs.Common.{◌<◌, ◌∙◌, ◌^◌, ap, subst, length, List, Bool}
 use Rattle.ec_order.specs.Marks.{low_marks, marks_in}
 use Rattle.ec_order.proofs.Marking.{marks_few}
 use Rattle.ec_order.proofs.marks.Marks.iter.Goals as goal

@@ -1,5 +1,4 @@
-use Rattle.std.proofs.Common.{◌≡◌, List, Bool, Some, None, true, false, ◌∷◌, ◌+◌, [], rules, arith, sym, ◌∙◌, ap, drop, length}
-use Rattle.ec_core.specs.declared.act.Entry.{Entry}
+use Rattle.std.proofs.Common.{◌≡◌, List, Bool, true, ◌∷◌, ◌+◌, rules, arith, sym, ◌∙◌, ap, drop, length}
 use Rattle.ec_order.specs.declared.dated.Dated.{Dated}
 use Rattle.ec_order.specs.Timeline.{dates}
 use Rattle.ec_order.proofs.Dates.{NoneDue, dates_due, dates_own, dates_pass, dates_end}

@@ -8,8 +8,8 @@ use Rattle.ec_order.proofs.timeline.Timeline.open.Goals as goal
 pub returns-clause-first : goal.returns-clause-first
 returns-clause-first c = λ lacks acc.
     let t = c.args.setup.now in
-    let lists = c.in_ok-no_moments.field-0.items in
-    let with_marks = λ (ms : List Bool) (xs : List Entry) (ds : List Dated). IsTimed (kept t c.new.result lists ms xs ds false) [] in
+    let ks = c.in_ok-none.field-0 in
+    let with_marks = λ (ms : List Bool) (xs : List Entry) (ds : List Dated). IsTimed (kept t c.new.result ks ms xs ds false) [] in
     subst (λ ms. with_marks ms c.in_ok-open.field-0 c.in_ok-open-2.field-0) (sym c.new-2.ensures)
     (subst (λ xs. with_marks [] xs c.in_ok-open-2.field-0) (sym c.in_ok-open.ensures)
-    (subst (λ ds. with_marks [] [] ds) (sym c.in_ok-open-2.ensures) (timed_start t c.new.result lists false (c.new.ensures t) c.in_ok-no_moments.ensures.value)))
+    (subst (λ ds. with_marks [] [] ds) (sym c.in_ok-open-2.ensures) (timed_start t c.new.result ks false (c.new.ensures t) c.in_ok-none.ensures)))

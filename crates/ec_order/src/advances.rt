@@ -1,0 +1,118 @@
+//! The advances of all eventcounts, as a walk over a history keeps them.
+ghost use Rattle.std.specs.Prelude.{◌≡◌, ◌<◌, Some, None, [], length, IfOk, IfSome, OnOk};
+ghost use Rattle.ec_core.specs.Rounds.{read_of};
+ghost use Rattle.ec_order.specs.Raised.{AreRaised, FollowsReading, IsPointBy, NotesAlone, left_of};
+
+use crate::Call;
+use crate::index::{advanced, number_of};
+use crate::raised::Raised;
+use ec_core::Act;
+use std::alloc::{AllocError, Global};
+use std::marker::Model;
+
+/// The advances of each eventcount so far: what the points of the calls want that are under way, or begin later.
+#[derive(Drop)]
+pub(crate) struct Advances {
+    events: Vec<Raised>,
+}
+
+impl Model for Advances {
+    ghost use Rattle.std.specs.Prelude.{◌≡◌, List, length};
+    ghost use Rattle.ec_order.specs.Raised.{Raised};
+
+    ghost Value = { List Raised };
+
+    ghost view = { λ s. s.events.items };
+
+    ghost invariant = { λ s. length s.events.items ≡ 32 };
+}
+
+impl Advances {
+    /// Before the first entry.
+    pub(crate) fn none(alloc: Global) -> Result<Self, AllocError>
+        ensures { IfOk result (λ advances. AreRaised advances []) }
+    {
+        Ok(Advances {
+            events: unraised(alloc)?,
+        })
+    }
+
+    /// Takes in an entry that is a call by itself, by its act and the moment after it.
+    #[tactic(auto, using(crate::proofs::Raising::notes_none, crate::proofs::Raising::notes_one))]
+    #[inline(always)]
+    pub(crate) fn note(&mut self, act: Act, moment: usize) -> Result<(), AllocError>
+        ensures { OnOk result (NotesAlone self.old act moment self.new) }
+    {
+        if let Some(event) = advanced(act) {
+            self.events[event].raise(moment)?;
+        }
+        Ok(())
+    }
+
+    /// Takes in an entry of a read or an await that ends no call, by its act.
+    #[tactic(auto, using(crate::proofs::Raising::begins_none, crate::proofs::Raising::begins_one))]
+    pub(crate) fn begin(&mut self, act: Act)
+        ensures { FollowsReading self.old act None self.new }
+    {
+        if let Some(event) = read_by(act) {
+            self.events[event].begin();
+        }
+    }
+
+    /// Takes in an entry that ends a read or an await, by its act and the call.
+    #[tactic(auto, using(crate::proofs::Raising::ends_none, crate::proofs::Raising::ends_one))]
+    pub(crate) fn end(&mut self, act: Act, call: &Call)
+        ensures { FollowsReading self.old act (Some call.now) self.new }
+    {
+        let _last = call.last;
+        if let Some(event) = left_by(act, call.op) {
+            self.events[event].end();
+        }
+    }
+
+    /// The point of the read or await that the entry at hand ends: to be asked before that entry is taken in.
+    #[tactic(auto, using(crate::proofs::KeptPoints::point_none, crate::proofs::KeptPoints::point_one))]
+    pub(crate) fn point(&self, call: &Call) -> usize
+        ensures { IsPointBy self.now call.now result }
+    {
+        match read_by(call.op) {
+            Some(event) => self.events[event].point(call.round, number_of(call.reply)),
+            None => call.last,
+        }
+    }
+}
+
+/// The eventcount that an act reads or awaits.
+fn read_by(act: Act) -> Option<usize>
+    ensures value { result ≡ read_of act }
+    ensures small { IfSome result (λ e. e < 32) }
+{
+    match act {
+        Act::Read(event) | Act::Await(event, _) => Some(event.get()),
+        _ => None,
+    }
+}
+
+/// The eventcount that a call was under way on, by the act that ends it and the one that began it: a call that is told at once never was.
+fn left_by(act: Act, op: Act) -> Option<usize>
+    ensures value { result ≡ left_of act op }
+    ensures small { IfSome result (λ e. e < 32) }
+{
+    match act {
+        Act::Go => read_by(op),
+        _ => None,
+    }
+}
+
+/// Each of the 32 eventcounts with no advance.
+#[tactic(auto, using(crate::proofs::Raising::none_raised))]
+fn unraised(alloc: Global) -> Result<Vec<Raised>, AllocError>
+    ensures long { IfOk result (λ events. length events.items ≡ 32) }
+    ensures value { IfOk result (λ events. AreRaised events.items []) }
+{
+    let mut events = Vec::new(alloc);
+    for event in 0..32usize {
+        events.push(Raised::new(alloc))?;
+    }
+    Ok(events)
+}

@@ -1,0 +1,92 @@
+//! The advances of one eventcount.
+ghost use Rattle.std.specs.Prelude.{◌≡◌, ◌+◌, ◌-◌, ◌^◌, ◌<◌, max, [], ◌∷◌, ◌++◌, length, OnOk};
+ghost use Rattle.ec_order.specs.Raised.{moment_since};
+
+use crate::index::short;
+use std::alloc::{AllocError, Global};
+use std::marker::Model;
+
+/// The advances of one eventcount: how many came before those whose moments are kept, the moments after these, and how many reads
+/// and awaits of it are under way. A moment is kept only while such a call is under way. (Each number stays where it is at its
+/// greatest; in an accepted history none comes there.)
+#[derive(Drop)]
+pub(crate) struct Raised {
+    before: usize,
+    moments: Vec<u32>,
+    readers: u8,
+}
+
+impl Model for Raised {
+    ghost use Rattle.ec_order.specs.Raised.{Raised};
+
+    ghost Value = { Raised };
+
+    ghost view = { λ s. record { before = s.before; moments = s.moments.items; readers = s.readers } };
+}
+
+impl Raised {
+    /// No advance, and no call under way.
+    pub(crate) fn new(alloc: Global) -> Self
+        ensures { result ≡ record { before = 0; moments = []; readers = 0 } }
+    {
+        Raised {
+            before: 0,
+            moments: Vec::new(alloc),
+            readers: 0,
+        }
+    }
+
+    /// One more advance, and the moment after it.
+    #[inline(always)]
+    pub(crate) fn raise(&mut self, moment: usize) -> Result<(), AllocError>
+        ensures unread { OnOk result (self.old.readers ≡ 0 → self.old.before + 1 < 2 ^ 64 → self.new ≡ record self.old { before = self.old.before + 1 }) }
+        ensures read { OnOk result (0 < self.old.readers → self.new ≡ record self.old { moments = self.old.moments ++ moment ∷ [] }) }
+    {
+        if self.readers == 0 {
+            self.before = self.before.saturating_add(1);
+            return Ok(());
+        }
+        keep(&mut self.moments, moment)
+    }
+
+    /// One more read or await is under way.
+    pub(crate) fn begin(&mut self)
+        ensures { self.old.readers < 255 → self.new ≡ record self.old { readers = self.old.readers + 1 } }
+    {
+        self.readers = self.readers.saturating_add(1);
+    }
+
+    /// A read or an await that was under way has ended. With the last one the moments go, and the room for them is used again.
+    pub(crate) fn end(&mut self)
+        ensures others { 1 < self.old.readers → self.new ≡ record self.old { readers = self.old.readers - 1 } }
+        ensures last { self.old.readers ≡ 1 → self.old.before + length self.old.moments < 2 ^ 64
+            → self.new ≡ record { before = self.old.before + length self.old.moments; moments = []; readers = 0 } }
+    {
+        self.readers = self.readers.saturating_sub(1);
+        if self.readers > 0 {
+            return;
+        }
+        self.before = self.before.saturating_add(self.moments.len());
+        self.moments.clear();
+    }
+
+    /// The point of a read or an await whose last round began there, and which was answered this number.
+    pub(crate) fn point(&self, round: usize, number: u64) -> usize
+        ensures { result ≡ max round (moment_since self.now number) }
+    {
+        let before = self.before as u64;
+        if number <= before {
+            return round;
+        }
+        let place = (number - before - 1) as usize;
+        round.max(self.moments.get(place).copied().unwrap_or(0) as usize)
+    }
+}
+
+/// Adds a moment to those that are kept.
+fn keep(moments: &mut Vec<u32>, moment: usize) -> Result<(), AllocError>
+    ensures { OnOk result (moments.new.items ≡ moments.old.items ++ moment ∷ []) }
+{
+    moments.push(short(moment)?)?;
+    Ok(())
+}
