@@ -13,6 +13,7 @@ use ec_core::{Act, Entry, Reply, Run};
 use ec_count::CellId;
 use ec_heading::Heading;
 use ec_text::{Decimal, Out, WriteFault};
+use std::array;
 use std::io::Write;
 
 /// Puts the name of a cell.
@@ -23,13 +24,14 @@ pub fn put_cell<W: Write>(out: &mut Out<'_, W>, spellings: &Spellings<'_>, cell:
     spellings.put_cell(out, b"", cell);
 }
 
-/// The numbers that were put last, each sort with its digits: the next of a sort mostly lies near it.
+/// How many numbers are kept with their digits.
+const KEPT: usize = 64;
+
+/// Numbers that were put lately, each with its digits, at a place that all digits but the last give: a number mostly comes again, or
+/// lies near one that was put lately.
 #[derive(Drop)]
 pub struct LastNumbers {
-    value: Decimal,
-    read: Decimal,
-    ticket: Decimal,
-    got: Decimal,
+    numbers: [Decimal; KEPT],
 }
 
 impl LastNumbers {
@@ -37,21 +39,19 @@ impl LastNumbers {
     #[inline(never)]
     pub fn new() -> Self {
         LastNumbers {
-            value: Decimal::new(0),
-            read: Decimal::new(0),
-            ticket: Decimal::new(0),
-            got: Decimal::new(0),
+            numbers: array::from_fn(|_| Decimal::new(0)),
         }
     }
 }
 
-/// Puts bytes, and a number that it keeps as the last.
+/// Puts bytes, and a number that is kept then.
 #[inline(always)]
-fn put_next<W: Write>(out: &mut Out<'_, W>, before: &[u8], last: &mut Decimal, n: u64)
+fn put_next<W: Write>(out: &mut Out<'_, W>, before: &[u8], last: &mut LastNumbers, n: u64)
     ensures { Puts out.old out.new (before.now ++ decimal n) }
 {
-    last.set(n);
-    out.put_with_decimal(before, last);
+    let number = &mut last.numbers[(n / 10) as usize % KEPT];
+    number.set(n);
+    out.put_with_decimal(before, number);
 }
 
 /// Puts what a worker asks for, behind a space.
@@ -73,7 +73,7 @@ fn put_act<W: Write>(
         }
         Act::Await(event, threshold) => {
             spellings.put_event(out, b" await ", event);
-            put_next(out, b" ", &mut last.value, threshold);
+            put_next(out, b" ", last, threshold);
         }
         Act::Go => out.put(b" go"),
         Act::Ticket(sequencer) => {
@@ -81,7 +81,7 @@ fn put_act<W: Write>(
         }
         Act::Put(cell, value) => {
             spellings.put_cell(out, b" put ", cell);
-            put_next(out, b" ", &mut last.value, value);
+            put_next(out, b" ", last, value);
         }
         Act::Get(cell) => {
             spellings.put_cell(out, b" get ", cell);
@@ -105,27 +105,15 @@ pub fn put_reply<W: Write>(out: &mut Out<'_, W>, reply: &Reply)
     }
 }
 
-/// Puts a number that a worker is told, behind an equals sign between spaces.
-#[inline(always)]
-fn put_told<W: Write>(out: &mut Out<'_, W>, last: &mut LastNumbers, act: &Act, n: u64)
-    ensures { Puts out.old out.new (codes " = " ++ decimal n) }
-{
-    match *act {
-        Act::Ticket(_) => put_next(out, b" = ", &mut last.ticket, n),
-        Act::Get(_) => put_next(out, b" = ", &mut last.got, n),
-        _ => put_next(out, b" = ", &mut last.read, n),
-    }
-}
-
 /// Puts what a worker is told, behind an equals sign between spaces.
 #[inline(always)]
-fn put_answer<W: Write>(out: &mut Out<'_, W>, last: &mut LastNumbers, entry: &Entry)
-    ensures { Puts out.old out.new (codes " = " ++ reply_word entry.now.reply) }
+fn put_answer<W: Write>(out: &mut Out<'_, W>, last: &mut LastNumbers, reply: &Reply)
+    ensures { Puts out.old out.new (codes " = " ++ reply_word reply.now) }
 {
-    match entry.reply {
+    match *reply {
         Reply::Done => out.put(b" = done"),
         Reply::Pending => out.put(b" = pending"),
-        Reply::Number(n) => put_told(out, last, &entry.act, n),
+        Reply::Number(n) => put_next(out, b" = ", last, n),
     }
 }
 
@@ -143,7 +131,7 @@ pub fn put_next_entry<W: Write>(
 {
     spellings.put_worker(out, before, entry.worker);
     put_act(out, spellings, last, &entry.act);
-    put_answer(out, last, entry);
+    put_answer(out, last, &entry.reply);
 }
 
 /// Puts an entry, without LF.
