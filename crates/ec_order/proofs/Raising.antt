@@ -17,7 +17,7 @@ use Rattle.ec_core.proofs.shared.Scans.{call_own, call_other}
 use Rattle.ec_order.specs.declared.call.Call.{Call}
 use Rattle.ec_order.specs.Calls.{call_of_entries, ended_by}
 use Rattle.ec_order.specs.Index.{advanced, raised_by}
-use Rattle.ec_order.specs.Raised.{Raised, left_of, is_reading_of, readers, opening_past, IsRaised, AreRaised, NotesAlone, FollowsReading}
+use Rattle.ec_order.specs.Raised.{Raised, left_of, is_reading_of, readers, opening_past, IsRaisedOnce, IsBegun, IsLeft, IsRaised, AreRaised, NotesAlone, FollowsReading}
 use Rattle.ec_order.specs.Walk.{is_alone}
 use Rattle.ec_order.proofs.Chains.{IsChain, IsGone, call_chain, gone_chain}
 use Rattle.ec_order.proofs.Indexing.{raises, raises_none}
@@ -196,14 +196,13 @@ raised_one t e x past moment was now d acc alone one here small unread read s =
           subst (IsRaised e (x ∷ past)) (sym (unread none fits)) (counted_next e x past was one same none s))
     ]
 
-pub notes_one : (old kept : List Raised) (act : Act) (moment e : ℕ) (was now : Raised) → kept ≡ old → Some e ≡ raised_by act → e < length kept → was ≡ get_or kept e was → moment < 2 ^ 64
-    → (was.readers ≡ 0 → was.before + 1 < 2 ^ 64 → now ≡ record was { before = was.before + 1 }) → (0 < was.readers → now ≡ record was { moments = was.moments ++ moment ∷ [] })
+pub notes_one : (old kept : List Raised) (act : Act) (moment e : ℕ) (was now : Raised) → kept ≡ old → Some e ≡ raised_by act → length kept ≡ 32 → e < 32 → was ≡ get_or kept e was → moment < 2 ^ 64 → IsRaisedOnce was moment now
     → NotesAlone old act moment (slice_set kept e now)
-notes_one old kept act moment e was now view raised low at small unread read = record {
+notes_one old kept act moment e was now view raised long low at small once = record {
   after = λ t past x d acc is alone here s.
       let advances : (f : ℕ) → is_advance f x.act ≡ (e == f) = λ f. ap (is_advance f) (sym is) ∙ raises act f e (sym raised) in
-      one_changes kept past (x ∷ past) e was now low at
-      (raised_one t e x past moment was now d acc alone (advances e ∙ eq-eqb e e refl) here small unread read)
+      one_changes kept past (x ∷ past) e was now (omega arith) at
+      (raised_one t e x past moment was now d acc alone (advances e ∙ eq-eqb e e refl) here small once.unread once.read)
       (λ f k other one. same_next f x past k (advances f ∙ other) (readers_alone t f x past d acc alone) one) (subst (λ ks. AreRaised ks past) (sym view) s);
 }
 
@@ -225,13 +224,13 @@ begun_one t e x past was now d acc other ended reads more s =
     let next : readers e (x ∷ past) ≡ readers e past + 1 = readers_begun t e x past d acc other ended ∙ ap (λ b. readers e past + cond b 1 0) reads in
     subst (IsRaised e (x ∷ past)) (sym (more few)) (kept_next e x past was (was.readers + 1) (not_advance x.act e other) (omega (arith, s.readers)) (λ none. absurd (omega arith)) s)
 
-pub begins_one : (old kept : List Raised) (act : Act) (e : ℕ) (was now : Raised) → kept ≡ old → Some e ≡ read_of act → e < length kept → was ≡ get_or kept e was
-    → (was.readers < 255 → now ≡ record was { readers = was.readers + 1 }) → FollowsReading old act None (slice_set kept e now)
-begins_one old kept act e was now view read low at more = record {
+pub begins_one : (old kept : List Raised) (act : Act) (e : ℕ) (was now : Raised) → kept ≡ old → Some e ≡ read_of act → length kept ≡ 32 → e < 32 → was ≡ get_or kept e was
+    → IsBegun was now → FollowsReading old act None (slice_set kept e now)
+begins_one old kept act e was now view read long low at begun = record {
   after = λ t past x d acc is other ended s.
       let reads : (f : ℕ) → is_reading_of f x.act ≡ (e == f) = λ f. ap (is_reading_of f) (sym is) ∙ reads_read act f e (sym read) in
-      one_changes kept past (x ∷ past) e was now low at
-      (begun_one t e x past was now d acc other ended (reads e ∙ eq-eqb e e refl) more)
+      one_changes kept past (x ∷ past) e was now (omega arith) at
+      (begun_one t e x past was now d acc other ended (reads e ∙ eq-eqb e e refl) begun.readers)
       (λ f k off one.
       let same : readers f (x ∷ past) ≡ readers f past + 0 = readers_begun t f x past d acc other ended ∙ ap (λ b. readers f past + cond b 1 0) (reads f ∙ off) in
       same_next f x past k (not_advance x.act f other) (omega arith) one) (subst (λ ks. AreRaised ks past) (sym view) s);
@@ -292,16 +291,14 @@ ended_with t x past c is = ended_of t x past c (call_with x past) refl (gone_cha
 last_of : (t : Tables) (x : Entry) (past : List Entry) (c : Call) → IsEnded t x past c → c.last ≡ length past
 last_of t x past c n = sym (ap (λ (z : Call). z.last) n.is) ∙ ap (λ ms. length (get_or ms 0 [])) n.moments
 
-pub ends_one : (old kept : List Raised) (act : Act) (c : Call) (e : ℕ) (was now : Raised) → kept ≡ old → Some e ≡ left_of act c.op → e < length kept → was ≡ get_or kept e was → c.last < 2 ^ 64
-    → (1 < was.readers → now ≡ record was { readers = was.readers - 1 })
-    → (was.readers ≡ 1 → was.before + length was.moments < 2 ^ 64 → now ≡ record { before = was.before + length was.moments; moments = []; readers = 0 })
+pub ends_one : (old kept : List Raised) (act : Act) (c : Call) (e : ℕ) (was now : Raised) → kept ≡ old → Some e ≡ left_of act c.op → length kept ≡ 32 → e < 32 → was ≡ get_or kept e was → c.last < 2 ^ 64 → IsLeft was now
     → FollowsReading old act (Some c) (slice_set kept e now)
-ends_one old kept act c e was now view left low at fits others last = record {
+ends_one old kept act c e was now view left long low at fits done = record {
   after = λ t past x d acc is other ended s.
       let on : (f : ℕ) → left_on f x.act c ≡ cond (e == f) 1 0 = λ f. ap (λ a. left_on f a c) (sym is) ∙ left_one act c f e (sym left) in
       let small : length past < 2 ^ 64 = omega (arith, last_of t x past c (ended_with t x past c ended)) in
-      one_changes kept past (x ∷ past) e was now low at
-      (ended_one t e x past c was now d acc other ended (on e ∙ ap (λ b. cond b 1 0) (eq-eqb e e refl)) small others last)
+      one_changes kept past (x ∷ past) e was now (omega arith) at
+      (ended_one t e x past c was now d acc other ended (on e ∙ ap (λ b. cond b 1 0) (eq-eqb e e refl)) small done.others done.last)
       (λ f k off one.
       let told : readers f (x ∷ past) + left_on f x.act c ≡ readers f past = readers_told t f x past c d acc other ended in
       let none : left_on f x.act c ≡ 0 = on f ∙ ap (λ b. cond b 1 0) off in

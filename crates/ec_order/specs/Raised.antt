@@ -1,7 +1,7 @@
--- The advances of each eventcount, as a walk over a history keeps them. The point of a read or an await is no earlier than its last round,
--- and so an advance that came before the call matters to it by its number alone. Where no read or await of an eventcount is under way,
--- no call yet to end began before its advances, and of these no more than the number is kept.
-use Rattle.std.specs.Prelude.{◌≡◌, ℕ, ◌+◌, ◌-◌, ◌<◌, ◌≤◌, ◌==◌, Bool, true, false, nat_le, List, [], ◌∷◌, ◌++◌, length, Option, Some, None, if◌then◌else◌, slice_get, slice_index, slice_index_or}
+-- The advances of each eventcount, as a walk over a history keeps them for the points of its calls. The point of a read or an await is no
+-- earlier than the start of its last round, and so of an advance that came before the call no more than the number matters to it. The
+-- moment after an advance is kept only while a read or an await of the eventcount is under way.
+use Rattle.std.specs.Prelude.{◌≡◌, ℕ, ◌+◌, ◌-◌, ◌^◌, ◌<◌, ◌≤◌, ◌==◌, Bool, true, false, nat_le, List, [], ◌∷◌, ◌++◌, length, Option, Some, None, if◌then◌else◌, slice_get, slice_index, slice_index_or}
 use Rattle.std.specs.Option.{option_to_list}
 use Rattle.ec_count.specs.Tables.{Tables, IsDeclared}
 use Rattle.ec_core.specs.declared.act.Act.{Act}
@@ -27,6 +27,20 @@ pub record Raised : Type 0 where
 -- the moment after the r-th advance, if it is kept, and else moment 0
 abbrev pub moment_since : Raised → ℕ → ℕ
 moment_since k r = if nat_le r k.before then 0 else slice_index k.moments (r - k.before - 1)
+
+-- one more advance: where nobody reads it is counted, and else the moment after it is kept
+pub record IsRaisedOnce (old : Raised) (moment : ℕ) (new : Raised) : Type 0 where
+  pub unread : old.readers ≡ 0 → old.before + 1 < 2 ^ 64 → new ≡ record old { before = old.before + 1 }
+  pub read : 0 < old.readers → new ≡ record old { moments = old.moments ++ moment ∷ [] }
+
+-- one more read or await is under way
+pub record IsBegun (old new : Raised) : Type 0 where
+  pub readers : old.readers < 255 → new ≡ record old { readers = old.readers + 1 }
+
+-- one of those under way has ended: with the last one the moments go
+pub record IsLeft (old new : Raised) : Type 0 where
+  pub others : 1 < old.readers → new ≡ record old { readers = old.readers - 1 }
+  pub last : old.readers ≡ 1 → old.before + length old.moments < 2 ^ 64 → new ≡ record { before = old.before + length old.moments; moments = []; readers = 0 }
 
 -- WHAT THEY STAND FOR
 

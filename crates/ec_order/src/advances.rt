@@ -64,6 +64,7 @@ impl Advances {
     pub(crate) fn end(&mut self, act: Act, call: &Call)
         ensures { FollowsReading self.old act (Some call.now) self.new }
     {
+        // It is read for the proof: a position fits its type.
         let _last = call.last;
         if let Some(event) = left_by(act, call.op) {
             self.events[event].end();

@@ -1,14 +1,14 @@
 //! The advances of one eventcount.
 ghost use Rattle.std.specs.Prelude.{◌≡◌, ◌+◌, ◌-◌, ◌^◌, ◌<◌, max, [], ◌∷◌, ◌++◌, length, OnOk};
-ghost use Rattle.ec_order.specs.Raised.{moment_since};
+ghost use Rattle.ec_order.specs.Raised.{moment_since, IsBegun, IsLeft, IsRaisedOnce};
 
 use crate::index::short;
 use std::alloc::{AllocError, Global};
 use std::marker::Model;
 
 /// The advances of one eventcount: how many came before those whose moments are kept, the moments after these, and how many reads
-/// and awaits of it are under way. A moment is kept only while such a call is under way. (Each number stays where it is at its
-/// greatest; in an accepted history none comes there.)
+/// and awaits of it are under way. A moment is kept only while such a call is under way. (The numbers saturate: in an accepted history
+/// none comes to its greatest.)
 #[derive(Drop)]
 pub(crate) struct Raised {
     before: usize,
@@ -39,8 +39,7 @@ impl Raised {
     /// One more advance, and the moment after it.
     #[inline(always)]
     pub(crate) fn raise(&mut self, moment: usize) -> Result<(), AllocError>
-        ensures unread { OnOk result (self.old.readers ≡ 0 → self.old.before + 1 < 2 ^ 64 → self.new ≡ record self.old { before = self.old.before + 1 }) }
-        ensures read { OnOk result (0 < self.old.readers → self.new ≡ record self.old { moments = self.old.moments ++ moment ∷ [] }) }
+        ensures { OnOk result (IsRaisedOnce self.old moment self.new) }
     {
         if self.readers == 0 {
             self.before = self.before.saturating_add(1);
@@ -51,16 +50,14 @@ impl Raised {
 
     /// One more read or await is under way.
     pub(crate) fn begin(&mut self)
-        ensures { self.old.readers < 255 → self.new ≡ record self.old { readers = self.old.readers + 1 } }
+        ensures { IsBegun self.old self.new }
     {
         self.readers = self.readers.saturating_add(1);
     }
 
     /// A read or an await that was under way has ended. With the last one the moments go, and the room for them is used again.
     pub(crate) fn end(&mut self)
-        ensures others { 1 < self.old.readers → self.new ≡ record self.old { readers = self.old.readers - 1 } }
-        ensures last { self.old.readers ≡ 1 → self.old.before + length self.old.moments < 2 ^ 64
-            → self.new ≡ record { before = self.old.before + length self.old.moments; moments = []; readers = 0 } }
+        ensures { IsLeft self.old self.new }
     {
         self.readers = self.readers.saturating_sub(1);
         if self.readers > 0 {
