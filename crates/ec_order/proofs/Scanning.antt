@@ -58,6 +58,11 @@ call_ended t past x i g told calls here is taken = record {
   after = taken.after;
 }
 
+-- a call that goes on is not ended
+pub call_going : (t : Tables) (past : List Entry) (x : Entry) (i : ℕ) (g : Option Ongoing) (calls : List (Option Ongoing)) → i ≡ length past → is_pending x.reply ≡ true
+    → Takes t past x g calls → EndsCall t past x None calls
+call_going t past x i g calls here is taken = call_ended t past x i g None calls here (sym (ap (λ b. cond b None (option_map (call_from x i) g)) is)) taken
+
 pub ended_next : (t u : Tables) (h : List Entry) (i : ℕ) (x : Entry) (told : Option Call) (calls calls' : List (Option Ongoing)) → IsAccepted t (reverse h)
     → Some x ≡ slice_get h i → AreCalls t calls (reverse (take i h)) → u ≡ t → Ending calls i x told calls' u → EndsCall t (reverse (take i h)) x told calls'
 ended_next t u h i x told calls calls' acc at s same ending =

@@ -1,5 +1,5 @@
 //! The finished calls of a run.
-ghost use Rattle.std.specs.Prelude.{◌≡◌, not, count_by, reverse, IfOk};
+ghost use Rattle.std.specs.Prelude.{◌≡◌, true, None, not, count_by, reverse, IfOk};
 ghost use Rattle.ec_core.specs.Calls.{is_pending};
 ghost use Rattle.ec_core.specs.declared.act.Entry.{Entry};
 ghost use Rattle.ec_order.specs.Calls.{finished_calls, call_told, Ending};
@@ -11,7 +11,7 @@ use std::alloc::{AllocError, Global};
 
 /// Whether a reply ends a call.
 #[inline(always)]
-fn is_last(reply: Reply) -> bool
+pub(crate) fn is_last(reply: Reply) -> bool
     ensures { result ≡ not (is_pending reply) }
 {
     match reply {
@@ -41,12 +41,20 @@ fn ended(entry: &Entry, call: &Option<Ongoing>, i: usize) -> Option<Call>
     }
 }
 
-/// Takes in the entry at position i, which may end a call. (It has no `#[inline(always)]`: the compiler drops that of a function that would
-/// grow very large, as that which enters an entry of a trace would by this.)
+/// Takes in the entry at position i, which may end a call. (This and `go_on` have no `#[inline(always)]`: the compiler drops that of a function
+/// that would grow very large, as that which enters an entry of a trace would by them.)
 pub(crate) fn take_in(under_way: &mut Calls, setup: &Setup, entry: &Entry, i: usize) -> Option<Call>
     ensures { Ending under_way.old i entry.now result under_way.new setup.now }
 {
     ended(entry, &under_way.take(setup, i, entry), i)
+}
+
+/// Takes in the entry at position i, after which its call goes on.
+pub(crate) fn go_on(under_way: &mut Calls, setup: &Setup, entry: &Entry, i: usize)
+    requires { is_pending entry.now.reply ≡ true }
+    ensures { Ending under_way.old i entry.now None under_way.new setup.now }
+{
+    let _ = under_way.take(setup, i, entry);
 }
 
 /// How many entries of a run end a call, as those do that are told more than Pending.

@@ -1,15 +1,16 @@
 //! The finished calls of a history by their points, gathered while the history goes past.
-ghost use Rattle.std.specs.Prelude.{◌≡◌, ◌+◌, ◌<◌, ◌^◌, List, [], Some, IfOk, OnOk};
+ghost use Rattle.std.specs.Prelude.{◌≡◌, ◌+◌, ◌<◌, ◌^◌, false, List, [], Some, IfOk, OnOk};
 ghost use Rattle.ec_core.specs.declared.act.Entry.{Entry};
 ghost use Rattle.ec_core.specs.Acceptance.{IsAccepted};
 ghost use Rattle.ec_order.specs.Raised.{FollowsReading};
+ghost use Rattle.ec_order.specs.Walk.{is_alone};
 ghost use Rattle.ec_order.specs.Timeline.{dated, dated_by_points, dates, IsTimeline, PutsByPoint, TakesIn, TellsGood};
 
 use crate::advances::Advances;
 use crate::by_points::ByPoints;
 use crate::gather::is_alone;
 use crate::marks::{Marks, MarksLeft};
-use crate::scan::take_in;
+use crate::scan::{go_on, is_last, take_in};
 use crate::{Call, Dated, OrderFault};
 use ec_core::{Act, Audit, Calls, Entries, Entry, Segments};
 use ec_count::Setup;
@@ -86,7 +87,7 @@ impl<'a> Timeline<'a> {
     }
 
     /// Takes the next entry in, at this position.
-    #[tactic(auto, using(crate::proofs::Timing::takes_alone, crate::proofs::Timing::takes_none, crate::proofs::Timing::takes_one))]
+    #[tactic(auto, using(crate::proofs::Timing::takes_alone, crate::proofs::Timing::takes_none))]
     #[inline(always)]
     fn gather(&mut self, place: usize, entry: &Entry) -> Result<(), AllocError>
         requires { place + 1 < 2 ^ 64 }
@@ -100,6 +101,24 @@ impl<'a> Timeline<'a> {
             self.alone.push(*entry)?;
             return Ok(());
         }
+        if is_last(entry.reply) {
+            return self.end(place, entry);
+        }
+        self.marks.push(false)?;
+        go_on(&mut self.under_way, self.setup, entry, place);
+        self.advances.begin(entry.act);
+        Ok(())
+    }
+
+    /// Takes in an entry of a read or an await that ends it, at this position. (Apart from `gather`, whose other ways build no call.)
+    #[tactic(auto, using(crate::proofs::Timing::takes_none, crate::proofs::Timing::takes_one))]
+    #[inline(never)]
+    fn end(&mut self, place: usize, entry: &Entry) -> Result<(), AllocError>
+        requires { is_alone entry.now.act ≡ false }
+        ensures setup { self.new.setup ≡ self.old.setup }
+        ensures kept { OnOk result (TakesIn self.old place entry.now self.new) }
+    {
+        self.setup.known();
         self.marks.push(false)?;
         match take_in(&mut self.under_way, self.setup, entry, place) {
             Some(call) => keep(&mut self.readings, &mut self.advances, entry.act, &call),
