@@ -84,7 +84,7 @@ others_read t x past other (inl n) = rw n.is (All-nil (λ (c : Call). is_reading
 others_read t x past other (inr (inl r)) = rw r.is (All-cons (λ (c : Call). is_reading c.op ≡ true) (call_of_entries t x r.op (past ∷ r.rest)) [] r.reading (All-nil (λ (c : Call). is_reading c.op ≡ true)))
 others_read t x past other (inr (inr a)) = (let alone : is_alone x.act ≡ true = alone_from x.act a.begins a.acting in cc)
 
--- A CALL BY ITSELF LEAVES THE TABLE
+-- A CALL THAT IS TOLD AT ONCE LEAVES THE TABLE
 
 not_some : (o : Option CallSoFar) → is_some o ≡ false → o ≡ None
 not_some None h = refl
@@ -99,16 +99,20 @@ alone_acts t x past alone (inl n) = (let other : is_alone x.act ≡ false = n.go
 alone_acts t x past alone (inr (inl r)) = (let other : is_alone x.act ≡ false = r.goes_on in cc)
 alone_acts t x past alone (inr (inr a)) = (a.final, a.begins)
 
-pub alone_leaves : (t : Tables) (x : Entry) (past : List Entry) (w : ℕ) → IsDeclared t → IsAccepted t (x ∷ past) → is_alone x.act ≡ true → under_way w (x ∷ past) ≡ under_way w past
+pub told_leaves : (t : Tables) (x : Entry) (past : List Entry) (w : ℕ) → IsDeclared t → IsAccepted t (x ∷ past) → is_pending x.reply ≡ false → is_go x.act ≡ false → under_way w (x ∷ past) ≡ under_way w past
 unfolding under_way
-alone_leaves t x past w d acc alone =
+told_leaves t x past w d acc final begins =
     let k = allowed t past x.worker x.act x.reply acc.0 in
-    let act = alone_acts t x past alone (ends t x past d acc) in
-    let none : under_way x.worker past ≡ None = not_some (under_way x.worker past) (and_true (is_some (under_way x.worker past)) (is_go x.act) k.0.free act.1) in
+    let none : under_way x.worker past ≡ None = not_some (under_way x.worker past) (and_true (is_some (under_way x.worker past)) (is_go x.act) k.0.free begins) in
     elim (x.worker == w) as (λ b. (x.worker == w) ≡ b → cond b (cond (is_pending x.reply) (gone_on x.act past (under_way w past)) None) (under_way w past) ≡ under_way w past) [
-      | true ↦ λ e. ap (λ b. cond b (gone_on x.act past (under_way w past)) None) act.0 ∙ sym none ∙ ap (λ v. under_way v past) (eqb-true x.worker w e)
+      | true ↦ λ e. ap (λ b. cond b (gone_on x.act past (under_way w past)) None) final ∙ sym none ∙ ap (λ v. under_way v past) (eqb-true x.worker w e)
       | false ↦ λ e. refl
     ] refl
+
+pub alone_leaves : (t : Tables) (x : Entry) (past : List Entry) (w : ℕ) → IsDeclared t → IsAccepted t (x ∷ past) → is_alone x.act ≡ true → under_way w (x ∷ past) ≡ under_way w past
+alone_leaves t x past w d acc alone =
+    let act = alone_acts t x past alone (ends t x past d acc) in
+    told_leaves t x past w d acc act.0 act.1
 
 -- a call that ends at an entry is one of those of the past with it
 pub known_call : (t : Tables) (x : Entry) (past : List Entry) (c : Call) → ended_by t x (call_with x past) ≡ option_to_list (Some c) → Contains (finished_calls t (x ∷ past)) c

@@ -1,5 +1,6 @@
 -- What a timeline keeps, with one more entry.
-use Rattle.std.proofs.Common.{◌≡◌, ℕ, zero, suc, ◌+◌, ◌-◌, ◌≤◌, Bool, true, false, List, [], ◌∷◌, ◌++◌, length, map, Option, Some, None, refl, ap, sym, ◌∙◌, arith, cond, subst, append-nil, reverse, slice_get}
+use Rattle.std.proofs.Common.{◌≡◌, ℕ, zero, suc, ◌+◌, ◌-◌, ◌%◌, ◌≤◌, ◌==◌, Bool, true, false, List, [], ◌∷◌, ◌++◌, length, map, Option, Some, None, refl, ap, sym, ◌∙◌, arith, cond, subst, append-nil, reverse, slice_get}
+use Rattle.std.proofs.Math.Nat.{mod-le}
 use Rattle.std.specs.Option.{option_map}
 use Rattle.std.specs.List.{filter, insert}
 use Rattle.std.proofs.lemmas.List.{map-append, length-map, reverse-append}
@@ -7,18 +8,24 @@ use Rattle.std.proofs.lemmas.List.Elements.{filter-append}
 use Rattle.ec_count.specs.Tables.{Tables, IsDeclared}
 use Rattle.ec_core.specs.declared.act.Entry.{Entry}
 use Rattle.ec_core.specs.declared.ongoing.Ongoing.{Ongoing}
+use Rattle.ec_core.specs.Calls.{CallSoFar, call_with, gone_on, is_go, is_pending, under_way}
+use Rattle.ec_core.specs.Counts.{total}
+use Rattle.ec_core.specs.Rounds.{event_or, position_of, width}
+use Rattle.ec_core.specs.declared.act.Act.{Act}
+use Rattle.ec_core.specs.declared.act.Act.TheVariants.{Go}
 use Rattle.ec_core.specs.Acceptance.{IsAccepted}
 use Rattle.ec_core.specs.Ongoing.{ongoing, AreCalls}
 use Rattle.ec_order.specs.declared.call.Call.{Call}
 use Rattle.ec_order.specs.declared.dated.Dated.{Dated}
 use Rattle.ec_order.specs.declared.placed.Placed.{Placed}
-use Rattle.ec_order.specs.Calls.{finished_calls, EndsCall, Ending}
-use Rattle.ec_order.specs.Points.{by_moments}
-use Rattle.ec_order.specs.Raised.{Raised, AreRaised, NotesAlone, FollowsReading}
+use Rattle.ec_order.specs.Calls.{call_of_entries, ended_by, finished_calls, is_reading, number_of, EndsCall, Ending}
+use Rattle.ec_order.specs.Points.{by_moments, first_entries, first_moment, point_of}
+use Rattle.ec_order.specs.Raised.{Raised, AreRaised, NotesAlone, FollowsReading, left_of}
 use Rattle.ec_order.specs.Timeline.{Timed, IsTimed, PutsByPoint, TakesIn, dated, dated_point, stands_alone}
-use Rattle.ec_order.specs.Walk.{is_alone, placed_point, readings, IsPlaceFor}
+use Rattle.ec_order.specs.Walk.{is_alone, placed_point, readings, IsPlaceFor, PutsIn}
+use Rattle.ec_order.proofs.Raising.{ends_none}
 use Rattle.ec_order.proofs.Inserting.{map_insert}
-use Rattle.ec_order.proofs.Gathering.{alone_leaves, by_moments_none, readings_alone, readings_none, readings_one}
+use Rattle.ec_order.proofs.Gathering.{alone_leaves, told_leaves, by_moments_none, readings_alone, readings_none, readings_one}
 
 -- READS AND AWAITS BY THEIR POINTS
 
@@ -135,4 +142,57 @@ takes_one t calls calls' ks ks' marks marks' alone rs rs' lacks b old x place c 
     subst (λ k. TakesIn k place x (kept t calls' ks' marks' alone rs' lacks)) were (record {
       timed = λ past here acc s.
           timed_one t calls calls' ks ks' marks marks' alone rs rs' lacks x past c d acc (sym kind ∙ is) s follows more (ends.ends past acc.1 here s.under_way) put;
+    })
+
+-- A READ OR AN AWAIT THAT IS TOLD AT ONCE
+
+-- its call
+abbrev told_call : Entry → ℕ → Call
+told_call x i = record { worker = x.worker; op = x.act; reply = x.reply; first = i; round = i; last = i }
+
+begun : (act : Act) (past : List Entry) (o : Option CallSoFar) → is_go act ≡ false → gone_on act past o ≡ Some (record { op = act; moments = past ∷ [] })
+begun Go past o is = cc
+begun act past o is = refl
+
+told_ends : (t : Tables) (x : Entry) (past : List Entry) → is_pending x.reply ≡ false → is_go x.act ≡ false → ended_by t x (call_with x past) ≡ told_call x (length past) ∷ []
+told_ends t x past final begins =
+    let n = width t (event_or x.act) in
+    let first : 0 % n ≡ 0 = (let le : 0 % n ≤ 0 = mod-le 0 n in omega arith) in
+    ap (ended_by t x) (begun x.act past (under_way x.worker past) begins)
+    ∙ ap (λ b. cond b [] (call_of_entries t x x.act (past ∷ []) ∷ [])) final
+    ∙ ap (λ k. record (told_call x (length past)) { round = position_of (past ∷ []) k } ∷ []) first
+
+never_left : (act op : Act) → is_go act ≡ false → None ≡ left_of act op
+never_left Go op is = cc
+never_left act op is = refl
+
+-- its point is its position
+point_told : (whole : List Entry) (x : Entry) (i : ℕ) → point_of whole (told_call x i) ≡ i
+unfolding first_moment
+point_told whole x i =
+    let test = λ (k : ℕ). total (event_or x.act) (first_entries k whole) == number_of x.reply in
+    let none : i - i ≡ 0 = omega arith in
+    elim (is_reading x.act) as (λ b. cond b (first_moment test i (i - i)) i ≡ i) [
+      | true ↦ ap (first_moment test i) none
+      | false ↦ refl
+    ]
+
+pub takes_told : (t : Tables) (calls : List (Option Ongoing)) (ks : List Raised) (marks marks' : List Bool) (alone : List Entry) (rs rs' : List Dated) (lacks : Bool) (old : Timed) (x : Entry) (place : ℕ)
+    → kept t calls ks marks alone rs lacks ≡ old → IsDeclared t → is_alone x.act ≡ false → is_pending x.reply ≡ false → is_go x.act ≡ false → marks' ≡ marks ++ false ∷ []
+    → PutsIn dated_point rs rs' (record { point = place; entry = x }) → TakesIn old place x (kept t calls ks marks' alone rs' lacks)
+takes_told t calls ks marks marks' alone rs rs' lacks old x place were d other final begins more puts =
+    subst (λ k. TakesIn k place x (kept t calls ks marks' alone rs' lacks)) were (record {
+      timed = λ past here acc s.
+          let i = length past in
+          let c = told_call x i in
+          let ended : EndsCall t past x (Some c) calls = record {
+            call = told_ends t x past final begins;
+            after = λ w lt. s.under_way w lt ∙ ap (λ o. Some (option_map (ongoing t) o)) (sym (told_leaves t x past w d acc final begins));
+          } in
+          let put : PutsByPoint ks c rs rs' = record {
+            point = i;
+            is = record { is = λ u p y declared accepted kind ends kept. sym (point_told (y ∷ p) x i) };
+            puts = subst (λ k. PutsIn dated_point rs rs' (record { point = k; entry = x })) here puts;
+          } in
+          timed_one t calls calls ks ks marks marks' alone rs rs' lacks x past c d acc other s (ends_none ks x.act c (never_left x.act c.op begins)) more ended put;
     })

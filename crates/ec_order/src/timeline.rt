@@ -2,6 +2,7 @@
 ghost use Rattle.std.specs.Prelude.{◌≡◌, ◌+◌, ◌<◌, ◌^◌, false, List, [], Some, IfOk, OnOk};
 ghost use Rattle.ec_core.specs.declared.act.Entry.{Entry};
 ghost use Rattle.ec_core.specs.Acceptance.{IsAccepted};
+ghost use Rattle.ec_core.specs.Calls.{is_go, is_pending};
 ghost use Rattle.ec_order.specs.Raised.{FollowsReading};
 ghost use Rattle.ec_order.specs.Walk.{is_alone};
 ghost use Rattle.ec_order.specs.Timeline.{dated, dated_by_points, dates, IsTimeline, PutsByPoint, TakesIn, TellsGood};
@@ -38,6 +39,17 @@ impl<'a> Model for Timeline<'a> {
     ghost Value = { Timed };
 
     ghost view = { λ s. record { setup = s.setup.now; under_way = s.under_way; advances = s.advances; marks = s.marks; alone = s.alone; readings = s.readings; lacks = s.lacks } };
+}
+
+/// Whether an act goes on with a call.
+#[inline(always)]
+fn is_go(act: Act) -> bool
+    ensures { result ≡ is_go act }
+{
+    match act {
+        Act::Go => true,
+        _ => false,
+    }
 }
 
 /// The call, told as one entry with its point.
@@ -110,16 +122,25 @@ impl<'a> Timeline<'a> {
         Ok(())
     }
 
-    /// Takes in an entry of a read or an await that ends it, at this position. (Apart from `gather`, whose other ways build no call.)
-    #[tactic(auto, using(crate::proofs::Timing::takes_none, crate::proofs::Timing::takes_one))]
+    /// Takes in an entry of a read or an await that ends it, at this position. One that is told at once has its point there. (Apart from
+    /// `gather`, whose other ways build no call.)
+    #[tactic(auto, using(crate::proofs::Timing::takes_told, crate::proofs::Timing::takes_none, crate::proofs::Timing::takes_one))]
     #[inline(never)]
     fn end(&mut self, place: usize, entry: &Entry) -> Result<(), AllocError>
-        requires { is_alone entry.now.act ≡ false }
+        requires reads { is_alone entry.now.act ≡ false }
+        requires ends { is_pending entry.now.reply ≡ false }
         ensures setup { self.new.setup ≡ self.old.setup }
         ensures kept { OnOk result (TakesIn self.old place entry.now self.new) }
     {
         self.setup.known();
         self.marks.push(false)?;
+        if !is_go(entry.act) {
+            let entry = *entry;
+            return self.readings.put(&Dated {
+                point: place,
+                entry,
+            });
+        }
         match take_in(&mut self.under_way, self.setup, entry, place) {
             Some(call) => keep(&mut self.readings, &mut self.advances, entry.act, &call),
             None => {
