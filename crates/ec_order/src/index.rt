@@ -36,7 +36,10 @@ pub(crate) fn advanced(act: Act) -> Option<usize>
 pub(crate) fn short(number: usize) -> Result<u32, AllocError>
     ensures { IfOk result (λ n. n ≡ number) }
 {
-    u32::try_from(number).map_err(|_| AllocError)
+    if number > u32::MAX as usize {
+        return Err(AllocError);
+    }
+    Ok(number as u32)
 }
 
 /// Adds a moment to those of eventcount e.

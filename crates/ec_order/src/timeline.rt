@@ -41,17 +41,6 @@ impl<'a> Model for Timeline<'a> {
     ghost view = { λ s. record { setup = s.setup.now; under_way = s.under_way; advances = s.advances; marks = s.marks; alone = s.alone; readings = s.readings; lacks = s.lacks } };
 }
 
-/// Whether an act goes on with a call.
-#[inline(always)]
-fn is_go(act: Act) -> bool
-    ensures { result ≡ is_go act }
-{
-    match act {
-        Act::Go => true,
-        _ => false,
-    }
-}
-
 /// The call, told as one entry with its point.
 fn dated(call: &Call, point: usize) -> Dated
     ensures { result ≡ dated (record { call = call.now; point = point }) }
@@ -114,7 +103,10 @@ impl<'a> Timeline<'a> {
             return Ok(());
         }
         if is_last(entry.reply) {
-            return self.end(place, entry);
+            return match entry.act {
+                Act::Go => self.end(place, entry),
+                _ => self.tell(place, entry),
+            };
         }
         self.marks.push(false)?;
         go_on(&mut self.under_way, self.setup, entry, place);
@@ -122,25 +114,36 @@ impl<'a> Timeline<'a> {
         Ok(())
     }
 
-    /// Takes in an entry of a read or an await that ends it, at this position. One that is told at once has its point there. (Apart from
-    /// `gather`, whose other ways build no call.)
-    #[tactic(auto, using(crate::proofs::Timing::takes_told, crate::proofs::Timing::takes_none, crate::proofs::Timing::takes_one))]
+    /// Takes in a read or an await that is told at once, at this position: that is its point. (This and `end` stand apart from `gather`,
+    /// which is put into a function that is large by then.)
+    #[tactic(auto, using(crate::proofs::Timing::takes_told))]
     #[inline(never)]
-    fn end(&mut self, place: usize, entry: &Entry) -> Result<(), AllocError>
+    fn tell(&mut self, place: usize, entry: &Entry) -> Result<(), AllocError>
         requires reads { is_alone entry.now.act ≡ false }
+        requires begins { is_go entry.now.act ≡ false }
         requires ends { is_pending entry.now.reply ≡ false }
         ensures setup { self.new.setup ≡ self.old.setup }
         ensures kept { OnOk result (TakesIn self.old place entry.now self.new) }
     {
         self.setup.known();
         self.marks.push(false)?;
-        if !is_go(entry.act) {
-            let entry = *entry;
-            return self.readings.put(&Dated {
-                point: place,
-                entry,
-            });
-        }
+        let entry = *entry;
+        self.readings.put(&Dated {
+            point: place,
+            entry,
+        })
+    }
+
+    /// Takes in a go that ends a read or an await, at this position.
+    #[tactic(auto, using(crate::proofs::Timing::takes_none, crate::proofs::Timing::takes_one))]
+    #[inline(never)]
+    fn end(&mut self, place: usize, entry: &Entry) -> Result<(), AllocError>
+        requires { is_alone entry.now.act ≡ false }
+        ensures setup { self.new.setup ≡ self.old.setup }
+        ensures kept { OnOk result (TakesIn self.old place entry.now self.new) }
+    {
+        self.setup.known();
+        self.marks.push(false)?;
         match take_in(&mut self.under_way, self.setup, entry, place) {
             Some(call) => keep(&mut self.readings, &mut self.advances, entry.act, &call),
             None => {
