@@ -5,7 +5,7 @@ ghost use Rattle.ec_core.specs.Acceptance.{IsAccepted};
 ghost use Rattle.ec_core.specs.Calls.{is_go, is_pending};
 ghost use Rattle.ec_order.specs.Raised.{FollowsReading};
 ghost use Rattle.ec_order.specs.Walk.{is_alone};
-ghost use Rattle.ec_order.specs.Timeline.{dated, dated_by_points, dates, IsTimeline, PutsByPoint, TakesIn, TellsGood};
+ghost use Rattle.ec_order.specs.Timeline.{call_entry, dated_by_points, dates, IsTimeline, PutsByPoint, TakesIn, TellsGood};
 
 use crate::advances::Advances;
 use crate::by_points::ByPoints;
@@ -41,17 +41,14 @@ impl<'a> Model for Timeline<'a> {
     ghost view = { λ s. record { setup = s.setup.now; under_way = s.under_way; advances = s.advances; marks = s.marks; alone = s.alone; readings = s.readings; lacks = s.lacks } };
 }
 
-/// The call, told as one entry with its point.
-fn dated(call: &Call, point: usize) -> Dated
-    ensures { result ≡ dated (record { call = call.now; point = point }) }
+/// The call, told as one entry.
+fn told(call: &Call) -> Entry
+    ensures { result ≡ call_entry call.now }
 {
-    Dated {
-        point,
-        entry: Entry {
-            worker: call.worker,
-            act: call.op,
-            reply: call.reply,
-        },
+    Entry {
+        worker: call.worker,
+        act: call.op,
+        reply: call.reply,
     }
 }
 
@@ -67,7 +64,7 @@ fn keep(
 {
     let point = advances.point(call);
     advances.end(act, call);
-    readings.put(&dated(call, point))
+    readings.put(point, &told(call))
 }
 
 impl<'a> Timeline<'a> {
@@ -127,11 +124,7 @@ impl<'a> Timeline<'a> {
     {
         self.setup.known();
         self.marks.push(false)?;
-        let entry = *entry;
-        self.readings.put(&Dated {
-            point: place,
-            entry,
-        })
+        self.readings.put(place, entry)
     }
 
     /// Takes in a go that ends a read or an await, at this position.
