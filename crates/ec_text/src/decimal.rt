@@ -71,7 +71,8 @@ impl Decimal {
         (&self.digits, b'0' + self.last)
     }
 
-    /// The decimal digits of the number.
+    /// The decimal digits of the number. (Put into a function that mostly needs none, it would have that clear the room for them each time.)
+    #[inline(never)]
     pub fn digits(&self) -> ShortText
         ensures { result ≡ decimal self.now }
     {
