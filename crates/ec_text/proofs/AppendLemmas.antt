@@ -1,6 +1,6 @@
 -- Writes, one after another.
 use Rattle.std.proofs.Common.{◌≡◌, ℕ, ◌+◌, ◌-◌, ◌≤◌, ◌<◌, List, ◌++◌, length, take, drop, Option, None, Some, sym, ap, ◌∙◌, arith, append_assoc, length-drop, length-take, subst}
-use Rattle.std.proofs.lemmas.List.{length-append, take-append-drop, take_all}
+use Rattle.std.proofs.lemmas.List.{length-append, length-take-le, take-append-drop, take-take, take_all}
 use Rattle.std.proofs.Math.Seq.{take-append-add}
 use Rattle.std.specs.Io.KnownBytes.{Appends, Keeps}
 use Rattle.ec_text.specs.Puts.{AppendsPrefix}
@@ -50,3 +50,11 @@ pub prefix_longer : (a c : Option (List ℕ)) (x y : List ℕ) → AppendsPrefix
 prefix_longer None c x y p = tt
 prefix_longer (Some xs) None x y p = absurd p
 prefix_longer (Some xs) (Some ys) x y p = (p.0, p.1 ++ y, ap (λ (r : List ℕ). r ++ y) p.2 ∙ append_assoc p.0 p.1 y, p.3, omega (arith, length-append p.1 y, p.4))
+
+-- bytes that were written behind a front, of which those from the t-th on are left out
+pub front_kept : (n t p : ℕ) (old new bytes : List ℕ) → take (p + n) new ≡ take p old ++ bytes → t ≤ n → p ≤ length old → take (p + t) new ≡ take p old ++ take t bytes
+front_kept n t p old new bytes front few within =
+    sym (take-take (p + t) (p + n) new (omega arith))
+    ∙ ap (take (p + t)) front
+    ∙ ap (λ (k : ℕ). take (k + t) (take p old ++ bytes)) (sym (length-take-le p old within))
+    ∙ take-append-add (take p old) bytes t

@@ -71,8 +71,7 @@ impl Decimal {
         (&self.digits, b'0' + self.last)
     }
 
-    /// The decimal digits of the number. (Put into a function that mostly needs none, it would have that clear the room for them each time.)
-    #[inline(never)]
+    /// The decimal digits of the number.
     pub fn digits(&self) -> ShortText
         ensures { result ≡ decimal self.now }
     {

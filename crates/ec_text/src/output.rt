@@ -144,7 +144,7 @@ impl<'a, W: Write> Out<'a, W> {
         if self.take_in_ending(before, digits, last) {
             return;
         }
-        self.put_at_end(before, &number.digits());
+        self.put_decimal_at_end(before, number);
     }
 
     /// Puts a short text. It costs less than `put` of its bytes.
@@ -180,6 +180,19 @@ impl<'a, W: Write> Out<'a, W> {
     {
         self.put(before);
         self.put(text.bytes());
+    }
+
+    /// Puts bytes, and the digits of a number that is kept with them, near the end of the table. (The text of all its digits is made here:
+    /// a function that mostly needs none would clear the room for one each time.)
+    #[cold]
+    #[inline(never)]
+    fn put_decimal_at_end(&mut self, before: &[u8], number: &Decimal)
+        ensures puts { Puts self.old self.new (before.now ++ decimal number.now) }
+        ensures room { self.old.failed ≡ false → length self.old.waiting + length (before.now ++ decimal number.now) ≤ 8192
+            → self.new ≡ with_bytes self.old (before.now ++ decimal number.now) }
+        ensures stays { self.old.failed ≡ true → self.new ≡ self.old }
+    {
+        self.put_at_end(before, &number.digits());
     }
 
     /// Puts bytes for which the table has no room beside those that wait.

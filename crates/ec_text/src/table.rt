@@ -5,25 +5,46 @@ use itoa::write_digits;
 use std::marker::Model;
 use std::simd::prelude::*;
 
-/// Writes bytes into a table, over those from a place on.
+/// Writes the first N bytes of a list into a table, over those from a place on. It is one load and one store.
 #[inline(always)]
+fn write_front<const N: usize>(table: &mut [u8], place: usize, bytes: &[u8])
+    requires bytes { N ≤ length bytes.now }
+    requires room { place + N ≤ length table.old }
+    ensures front { take (place + N) table.new ≡ take place table.old ++ take N bytes.now }
+    ensures len { length table.new ≡ length table.old }
+{
+    Simd::<u8, N>::from_slice(bytes).copy_to_slice(&mut table[place..]);
+}
+
+/// Writes N to 2 N bytes into a table, over those from a place on: the first N of them, and the last N.
+fn write_ends<const N: usize>(table: &mut [u8], place: usize, bytes: &[u8])
+    requires covers { (N ≤ length bytes.now) × (length bytes.now ≤ N + N) }
+    requires room { place + length bytes.now ≤ length table.old }
+    ensures front { take (place + length bytes.now) table.new ≡ take place table.old ++ bytes.now }
+    ensures len { length table.new ≡ length table.old }
+{
+    let last = bytes.len() - N;
+    write_front::<N>(table, place, bytes);
+    write_front::<N>(table, place + last, &bytes[last..]);
+}
+
+/// Writes bytes into a table, over those from a place on. At most 32 of them are two stores of one size, which may overlap; where they are
+/// a literal, a compiler chooses that size. (It is put into its callers without `#[inline(always)]`, by which these would be taken for very
+/// large, and called.)
 fn write_at(table: &mut [u8], place: usize, bytes: &[u8])
     requires { place + length bytes.now ≤ length table.old }
     ensures front { take (place + length bytes.now) table.new ≡ take place table.old ++ bytes.now }
     ensures len { length table.new ≡ length table.old }
 {
-    table[place..place + bytes.len()].copy_from_slice(bytes);
-}
-
-/// Writes 32 bytes into a table, over those from a place on. It is one load and one store.
-#[inline(always)]
-fn write_32(table: &mut [u8], place: usize, bytes: &[u8])
-    requires bytes { length bytes.now ≡ 32 }
-    requires room { place + 32 ≤ length table.old }
-    ensures front { take (place + 32) table.new ≡ take place table.old ++ bytes.now }
-    ensures len { length table.new ≡ length table.old }
-{
-    u8x32::from_slice(bytes).copy_to_slice(&mut table[place..]);
+    match bytes.len() {
+        0 => {}
+        1 => write_ends::<1>(table, place, bytes),
+        2..=3 => write_ends::<2>(table, place, bytes),
+        4..=7 => write_ends::<4>(table, place, bytes),
+        8..=15 => write_ends::<8>(table, place, bytes),
+        16..=32 => write_ends::<16>(table, place, bytes),
+        many => table[place..place + many].copy_from_slice(bytes),
+    }
 }
 
 /// A text of at most 32 bytes, ready to be put.
@@ -66,7 +87,7 @@ impl ShortText {
         let mut table = [0; 52];
         let start = write_digits(n, &mut table, 20);
         let mut text = ShortText::new();
-        write_32(&mut text.bytes, 0, &table[start..start + 32]);
+        write_front::<32>(&mut text.bytes, 0, &table[start..]);
         text.len = 20 - start;
         text
     }
@@ -165,7 +186,7 @@ impl Table {
         }
         let place = self.len + before.len();
         write_at(&mut self.bytes, self.len, before);
-        write_32(&mut self.bytes, place, &text.bytes);
+        write_front::<32>(&mut self.bytes, place, &text.bytes);
         self.len = place + text.len;
         true
     }
