@@ -1,5 +1,5 @@
 -- How entries are kept beside the words of their numbers.
-use Rattle.std.proofs.Common.{◌≡◌, ℕ, zero, suc, ◌+◌, ◌*◌, ◌/◌, ◌%◌, ◌^◌, ◌<◌, ◌≤◌, Bool, true, false, cond, List, [], ◌∷◌, ◌++◌, append_assoc, length, length-append, map, nat_lt, slice_index, Option, Some, None, refl, ap, sym, ◌∙◌, arith}
+use Rattle.std.proofs.Common.{◌≡◌, ℕ, zero, suc, ◌+◌, ◌*◌, ◌/◌, ◌%◌, ◌^◌, ◌≤◌, true, false, cond, List, [], ◌∷◌, ◌++◌, append_assoc, length, length-append, nat_lt, slice_index, Option, Some, None, refl, ap, sym, ◌∙◌, arith}
 use Rattle.std.specs.List.{All}
 use Rattle.std.proofs.lemmas.List.{get_or_append_left, map-append}
 use Rattle.std.proofs.lemmas.List.Elements.{All-head, All-tail, All-push, All-weaker}
@@ -13,7 +13,7 @@ use Rattle.ec_core.specs.declared.stored.Verb.TheVariants as verbs
 use Rattle.ec_core.specs.declared.stored.Answer.{Answer}
 use Rattle.ec_core.specs.declared.stored.Answer.TheVariants as answers
 use Rattle.ec_core.specs.declared.stored.Stored.{Stored}
-use Rattle.ec_core.specs.Stored.{words_of_number, words_of, words_in, short_at, long_at, verb_in, value_in, act_at, answer_in, number_in, reply_at, value_width, number_width, stored_entry, stored_entries, end_of, IsSegment}
+use Rattle.ec_core.specs.Stored.{words_of, words_in, short_at, long_at, verb_in, value_in, act_at, answer_in, number_in, reply_at, value_width, number_width, stored_entry, stored_entries, end_of, IsSegment}
 
 -- WHAT WAS ADDED IS READ
 

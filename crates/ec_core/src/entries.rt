@@ -1,5 +1,6 @@
 //! The entries of a list, in order.
-ghost use Rattle.std.specs.Prelude.{◌≡◌, ◌+◌, ◌^◌, ◌<◌, ◌∷◌, ◌++◌, [], None, Some, slice_get, IfSome};
+ghost use Rattle.std.specs.Prelude.{◌≡◌, ◌+◌, ◌^◌, ◌<◌, ◌∷◌, ◌++◌, [], None, Some, drop, slice_get, IfSome};
+ghost use Rattle.std.specs.List.{flat_map};
 ghost use Rattle.std.specs.Option.{IfNone};
 ghost use Rattle.ec_core.specs.Segmented.{joined};
 
@@ -41,6 +42,36 @@ impl<'a> Entries<'a> {
             place: last.len(),
         }
     }
+
+    /// The next of them, which is still the next one then.
+    #[inline(always)]
+    pub fn peek(&self) -> Option<Entry>
+        ensures { result ≡ slice_get self.now 0 }
+    {
+        first_entry(self.full, self.last, self.begun, self.segment, self.place)
+    }
+}
+
+/// The first of the entries that are left. (It is handed their parts, so that these may stand in registers where they are gone on with.)
+#[cold]
+#[inline(never)]
+fn first_entry(
+    full: &[Segment],
+    last: &Segment,
+    begun: usize,
+    segment: &Segment,
+    place: usize,
+) -> Option<Entry>
+    ensures { result ≡ slice_get (drop place segment.now ++ flat_map (λ xs. xs) (drop begun (full.now ++ last.now ∷ []))) 0 }
+{
+    let mut entries = Entries {
+        full,
+        last,
+        begun,
+        segment,
+        place,
+    };
+    entries.next()
 }
 
 impl<'a> Iterator for Entries<'a> {

@@ -83,6 +83,7 @@ impl Segment {
 }
 
 /// One more at the end, which moves nothing where there is room for it.
+#[inline(always)]
 fn append<T: Copy>(list: &mut Vec<T>, value: T) -> Result<(), AllocError>
     ensures ok { OnOk result (list.new.items ≡ list.old.items ++ value ∷ []) }
     ensures room { vec_capacity list.old ≤ vec_capacity list.new }

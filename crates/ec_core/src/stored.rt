@@ -4,6 +4,7 @@ ghost use Rattle.ec_core.specs.Stored.{verb_in, answer_in, value_in, number_in, 
 
 use crate::{Act, Entry, Reply};
 use ec_count::{CellId, EventId, SeqId, WorkerId};
+use std::marker::Model;
 
 /// The least number that takes two words.
 const LONG: u64 = 1 << 32;
@@ -33,14 +34,51 @@ pub(crate) enum Answer {
     Pending,
 }
 
+/// A place among words, in two bytes that may stand at any address.
+#[derive(Clone, Copy)]
+struct Place {
+    low: u8,
+    high: u8,
+}
+
+impl Model for Place {
+    ghost use Rattle.std.specs.Prelude.{◌+◌, ◌*◌, ◌/◌, ◌%◌, ◌<◌, ℕ};
+
+    ghost Value = { ℕ };
+
+    ghost view = { λ p. p.low + 256 * p.high };
+
+    ghost invariant = { λ p. (p.low < 256) × (p.high < 256) };
+
+    ghost inverse = { λ n. record { low = n % 256; high = n / 256 } };
+}
+
+impl Place {
+    #[inline(always)]
+    fn new(place: u16) -> Self
+        ensures { result ≡ place }
+    {
+        let [low, high] = place.to_le_bytes();
+        Place { low, high }
+    }
+
+    #[inline(always)]
+    fn get(self) -> usize
+        ensures value { result ≡ self }
+        ensures small { result < 2 ^ 16 }
+    {
+        u16::from_le_bytes([self.low, self.high]) as usize
+    }
+}
+
 /// An entry without its numbers, the value of its act and the number of its reply. They stand in a list of words for many
-/// entries, from a place on, and take none there where the entry has none. So this takes 8 bytes, where an `Entry` takes 40.
+/// entries, from a place on, and take none there where the entry has none. So this takes 7 bytes, where an `Entry` takes 40.
 #[derive(Clone, Copy)]
 pub(crate) struct Stored {
     worker: WorkerId,
     answer: Answer,
     verb: Verb,
-    place: u16,
+    place: Place,
 }
 
 impl Stored {
@@ -54,7 +92,7 @@ impl Stored {
             worker: entry.worker,
             answer: answer_in(&entry.reply),
             verb: verb_in(&entry.act),
-            place,
+            place: Place::new(place),
         }
     }
 
@@ -63,7 +101,7 @@ impl Stored {
     pub(crate) fn entry(&self, words: &[u32]) -> Entry
         ensures { result ≡ stored_entry words.now self.now }
     {
-        let place = self.place as usize;
+        let place = self.place.get();
         let (act, next) = match self.verb {
             Verb::Advance(event) => (Act::Advance(event), place),
             Verb::Read(event) => (Act::Read(event), place),

@@ -6,7 +6,7 @@ use std::marker::Model;
 /// A cell.
 #[derive(Clone, Copy, Debug, PartialEq, Eq)]
 pub struct CellId {
-    number: u16,
+    number: u8,
 }
 
 impl Model for CellId {
@@ -27,7 +27,7 @@ impl CellId {
         ensures value { IfSome result (λ i. i ≡ n) }
     {
         if n < 256 {
-            Some(CellId { number: n as u16 })
+            Some(CellId { number: n as u8 })
         } else {
             None
         }

@@ -132,7 +132,7 @@ pub record OwnFirst (w : ℕ) (op : Act) (late p : List Entry) : Type 0 where
   pub act_is : entry.act ≡ op
   pub told : entry.reply ≡ Pending
 
-own_first : (w : ℕ) (op : Act) (late : List Entry) (ps : List (List Entry)) → Own w op late ps → OwnFirst w op late (first_past ps)
+pub own_first : (w : ℕ) (op : Act) (late : List Entry) (ps : List (List Entry)) → Own w op late ps → OwnFirst w op late (first_past ps)
 own_first w op late [] h = absurd h
 own_first w op late (p ∷ []) h = record { entry = h.entry; in_late = latest_in w late p op h; own = h.own; act_is = h.act_is; told = h.told }
 own_first w op late (p ∷ q ∷ ps) h =
@@ -359,6 +359,14 @@ whole_gone w x p a op (q ∷ ps) rest own go h gone =
     let same : a ≡ op = same_op a op (p ∷ q ∷ ps) (p ∷ rest) gone in
     let tail : q ∷ ps ≡ rest = same_rest a op p (q ∷ ps) rest gone in
     subst (IsWhole w op x p) tail (subst (λ o. IsWhole w o x p (q ∷ ps)) same (whole_more w a x p q ps own go h.1 h.0))
+
+-- the entries before a go
+pub rest_own : (w : ℕ) (p : List Entry) (o : Option CallSoFar) (op : Act) (rest : List (List Entry)) → OwnCall w p o → gone_on Go p o ≡ Some (so_far op (p ∷ rest)) → Own w op p rest
+rest_own w p None op rest h gone = cc
+rest_own w p (Some call) op rest h gone =
+    let same : call.op ≡ op = same_op call.op op (p ∷ call.moments) (p ∷ rest) gone in
+    let tail : call.moments ≡ rest = same_rest call.op op p call.moments rest gone in
+    subst (Own w op p) tail (subst (λ o. Own w o p call.moments) same h.0)
 
 -- what the call is that x goes on with
 pub whole_from : (w : ℕ) (x : Entry) (act : Act) (p : List Entry) (o : Option CallSoFar) (op : Act) (rest : List (List Entry)) → x.worker ≡ w → x.act ≡ act → OwnCall w p o

@@ -1,45 +1,127 @@
 -- One after another, a timeline gives the finished calls by their points.
-use Rattle.std.proofs.Common.{◌≡◌, ℕ, ◌+◌, ◌<◌, ◌≤◌, Bool, true, false, nat_le, List, [], ◌∷◌, ◌++◌, length, map, Some, refl, ap, sym, ◌∙◌, arith, cond, subst, reverse, drop, slice_get}
-use Rattle.std.specs.List.{filter}
-use Rattle.std.proofs.lemmas.List.{reverse-reverse}
+use Rattle.std.proofs.Common.{◌≡◌, ℕ, zero, suc, ◌+◌, ◌<◌, ◌≤◌, Bool, true, false, not, ◌&&◌, List, [], ◌∷◌, ◌++◌, length, map, Some, refl, ap, sym, ◌∙◌, arith, cond, subst, add-zero, zero-add, append_assoc, append-nil, reverse, drop, slice_get}
+use Rattle.std.specs.List.{All, filter}
+use Rattle.std.proofs.lemmas.Bool.{le-leb, lt-leb}
+use Rattle.std.proofs.lemmas.List.{map-append, length-reverse, reverse-reverse}
+use Rattle.std.proofs.lemmas.List.Elements.{All-append, All-head, All-tail, All-weaker}
 use Rattle.ec_count.specs.Tables.{Tables, IsDeclared}
 use Rattle.ec_core.specs.declared.act.Entry.{Entry}
 use Rattle.ec_core.specs.Acceptance.{IsAccepted}
 use Rattle.ec_order.specs.declared.dated.Dated.{Dated}
 use Rattle.ec_order.specs.declared.placed.Placed.{Placed}
-use Rattle.ec_order.specs.Timeline.{Timed, IsTimed, dated, dated_by_points, dated_point, stands_alone, dates_on, dates}
-use Rattle.ec_order.specs.Walk.{alone_at, placed_point, due_then, walk_on, readings_by_points}
-use Rattle.ec_order.proofs.Walking.{due_next, none_due, walk_is}
+use Rattle.ec_order.specs.Calls.{stands_alone}
+use Rattle.ec_order.specs.Points.{at_moment, by_moments}
+use Rattle.ec_order.specs.Timeline.{Timed, IsTimed, dated, dated_by_points, dates, dates_on, due_moment, long_readings, read_comes}
+use Rattle.ec_order.specs.Walk.{alone_at, due_then, is_alone, own_calls}
+use Rattle.ec_order.proofs.Gathering.{placed}
+use Rattle.ec_order.proofs.Moments.{IsMoment, moment_of, told_calls}
+use Rattle.ec_order.proofs.Sorting.{moment_is}
+use Rattle.ec_order.proofs.Walking.{by_moments_from, due_next, from_moment, from_points, none_due}
+
+-- ONE MOMENT
+
+-- those that are due come first
+due_early : (at : Dated → ℕ) (k : ℕ) (f : List Dated → List Dated) (ps : List Placed) (ds : List Dated) → All (λ p. at (dated p) ≤ k) ps
+    → due_then at k f (map dated ps ++ ds) ≡ map dated ps ++ due_then at k f ds
+due_early at k f [] ds h = refl
+due_early at k f (p ∷ ps) ds h =
+    ap (λ b. cond b (dated p ∷ due_then at k f (map dated ps ++ ds)) (f (dated p ∷ map dated ps ++ ds))) (le-leb (at (dated p)) k (All-head (λ q. at (dated q) ≤ k) p ps h))
+    ∙ ap (λ z. dated p ∷ z) (due_early at k f ps ds (All-tail (λ q. at (dated q) ≤ k) p ps h))
+
+-- and where none is, the rest does
+due_late : (at : Dated → ℕ) (k : ℕ) (f : List Dated → List Dated) (ps : List Placed) → All (λ p. k < at (dated p)) ps → due_then at k f (map dated ps) ≡ f (map dated ps)
+due_late at k f [] h = refl
+due_late at k f (p ∷ ps) h =
+    ap (λ b. cond b (dated p ∷ due_then at k f (map dated ps)) (f (map dated (p ∷ ps)))) (lt-leb (at (dated p)) k (All-head (λ q. k < at (dated q)) p ps h))
+
+due_within : (b : Bool) (d : Dated) → due_moment b d ≤ d.point + 1
+due_within true d = omega arith
+due_within false d = omega arith
+
+module _ (k : ℕ) (x : Entry) (ms : List Bool) (xs : List Entry) (here late : List Placed) (now : All (λ (p : Placed). p.point ≡ k) here) (later : All (λ (p : Placed). k + 1 ≤ p.point) late) where
+  abbrev rest : List Dated
+  rest = dates (k + 1) ms xs (map dated late)
+
+  -- where no read or await comes that is told at once
+  on_time : (f : List Dated → List Dated) → due_then (due_moment false) k f (map dated here ++ map dated late) ≡ map dated here ++ f (map dated late)
+  on_time f =
+      due_early (due_moment false) k f here (map dated late) (All-weaker (λ (p : Placed). p.point ≡ k) (λ (p : Placed). p.point ≤ k) (λ p e. omega arith) here now)
+      ∙ ap (λ z. map dated here ++ z) (due_late (due_moment false) k f late (All-weaker (λ (p : Placed). k + 1 ≤ p.point) (λ (p : Placed). k < p.point) (λ p le. omega arith) late later))
+
+  act_comes : due_then (due_moment false) k (dates_on k (true ∷ ms) (x ∷ xs)) (map dated here ++ map dated late) ≡ map dated (here ++ alone_at k x ∷ []) ++ rest
+  unfolding dates_on
+  act_comes =
+      on_time (dates_on k (true ∷ ms) (x ∷ xs)) ∙ sym (append_assoc (map dated here) (dated (alone_at k x) ∷ []) rest) ∙ ap (λ z. z ++ rest) (sym (map-append dated here (alone_at k x ∷ [])))
+
+  passes : due_then (due_moment false) k (dates_on k (false ∷ ms) xs) (map dated here ++ map dated late) ≡ map dated (here ++ []) ++ rest
+  unfolding dates_on
+  passes = on_time (dates_on k (false ∷ ms) xs) ∙ ap (λ ps. map dated ps ++ rest) (sym (append-nil here))
+
+  -- the others of its moment come after it
+  told_comes : due_then (due_moment true) k (dates_on k (true ∷ ms) (x ∷ xs)) (map dated here ++ map dated late) ≡ map dated (alone_at k x ∷ (here ++ [])) ++ rest
+  unfolding dates_on
+  told_comes =
+      let at = due_moment (read_comes ms xs) in
+      let waits : All (λ (p : Placed). k < p.point + 1) (here ++ late) =
+      All-append (λ (p : Placed). k < p.point + 1) here late (All-weaker (λ (p : Placed). p.point ≡ k) (λ (p : Placed). k < p.point + 1) (λ p e. omega arith) here now)
+      (All-weaker (λ (p : Placed). k + 1 ≤ p.point) (λ (p : Placed). k < p.point + 1) (λ p le. omega arith) late later) in
+      ap (due_then (due_moment true) k (dates_on k (true ∷ ms) (x ∷ xs))) (sym (map-append dated here late))
+      ∙ due_late (due_moment true) k (dates_on k (true ∷ ms) (x ∷ xs)) (here ++ late) waits
+      ∙ ap (λ ds. dated (alone_at k x) ∷ due_then at (k + 1) (dates_on (k + 1) ms xs) ds) (map-append dated here late)
+      ∙ ap (λ ds. dated (alone_at k x) ∷ ds)
+      (due_early at (k + 1) (dates_on (k + 1) ms xs) here (map dated late)
+      (All-weaker (λ (p : Placed). p.point ≡ k) (λ p. at (dated p) ≤ k + 1) (λ p e. (let w : at (dated p) ≤ p.point + 1 = due_within (read_comes ms xs) (dated p) in omega arith)) here now))
+      ∙ ap (λ ps. dated (alone_at k x) ∷ (map dated ps ++ rest)) (sym (append-nil here))
+
+  moment_comes : (is_alone x.act ≡ true → stands_alone x ≡ true)
+      → dates k (stands_alone x ∷ ms) (cond (stands_alone x) (x ∷ xs) xs) (map dated here ++ map dated late) ≡ map dated (told_calls k x ++ (here ++ own_calls k x)) ++ rest
+  moment_comes whole =
+      elim (stands_alone x) as (λ s. (is_alone x.act ≡ true → s ≡ true) → dates k (s ∷ ms) (cond s (x ∷ xs) xs) (map dated here ++ map dated late)
+      ≡ map dated (cond (s && not (is_alone x.act)) (alone_at k x ∷ []) [] ++ (here ++ cond (is_alone x.act) (alone_at k x ∷ []) [])) ++ rest) [
+        | true ↦ λ h.
+            (elim (is_alone x.act) as (λ a. due_then (due_moment (not a)) k (dates_on k (true ∷ ms) (x ∷ xs)) (map dated here ++ map dated late)
+            ≡ map dated (cond (not a) (alone_at k x ∷ []) [] ++ (here ++ cond a (alone_at k x ∷ []) [])) ++ rest) [
+              | true ↦ act_comes
+              | false ↦ told_comes
+            ])
+        | false ↦ λ h.
+            (elim (is_alone x.act) as (λ a. (a ≡ true → false ≡ true) → dates k (false ∷ ms) xs (map dated here ++ map dated late) ≡ map dated (here ++ cond a (alone_at k x ∷ []) []) ++ rest) [
+              | true ↦ λ g. (let e : false ≡ true = g refl in cc)
+              | false ↦ λ g. passes
+            ] h)
+      ] whole
 
 -- THE WHOLE OF IT
 
-due_map : (k : ℕ) (f : List Dated → List Dated) (g : List Placed → List Placed) → ((ps : List Placed) → f (map dated ps) ≡ map dated (g ps)) → (ps : List Placed)
-    → due_then dated_point k f (map dated ps) ≡ map dated (due_then placed_point k g ps)
-due_map k f g h [] = h []
-due_map k f g h (p ∷ ps) =
-    elim (nat_le p.point k) as (λ b. cond b (dated p ∷ due_then dated_point k f (map dated ps)) (f (map dated (p ∷ ps))) ≡ map dated (cond b (p ∷ due_then placed_point k g ps) (g (p ∷ ps)))) [
-      | true ↦ ap (λ ds. dated p ∷ ds) (due_map k f g h ps)
-      | false ↦ h (p ∷ ps)
-    ]
+moments_come : (all longs : List Placed) (k : ℕ) (xs : List Entry) → ((i : ℕ) (x : Entry) → slice_get xs i ≡ Some x → IsMoment all longs (k + i) x)
+    → dates k (map stands_alone xs) (filter stands_alone xs) (map dated (from_moment longs k (length xs))) ≡ map dated (from_moment all k (length xs))
+unfolding dates_on
+moments_come all longs k [] h = refl
+moments_come all longs k (x ∷ xs) h =
+    let n = length xs in
+    let here = at_moment longs k in
+    let late = from_moment longs (k + 1) n in
+    let first : IsMoment all longs k x = subst (λ j. IsMoment all longs j x) (add-zero k) (h zero x refl) in
+    let rest : (i : ℕ) (y : Entry) → slice_get xs i ≡ Some y → IsMoment all longs (k + 1 + i) y =
+    λ i y at. (let next : k + suc i ≡ k + 1 + i = omega arith in subst (λ j. IsMoment all longs j y) next (h (suc i) y at)) in
+    ap (dates k (map stands_alone (x ∷ xs)) (filter stands_alone (x ∷ xs))) (map-append dated here late)
+    ∙ moment_comes k x (map stands_alone xs) (filter stands_alone xs) here late (moment_is longs k) (from_points longs (k + 1) n) first.whole
+    ∙ ap (λ ps. map dated ps ++ dates (k + 1) (map stands_alone xs) (filter stands_alone xs) (map dated late)) (sym first.calls)
+    ∙ ap (λ ds. map dated (at_moment all k) ++ ds) (moments_come all longs (k + 1) xs rest)
+    ∙ sym (map-append dated (at_moment all k) (from_moment all (k + 1) n))
 
-dates_map : (k : ℕ) (h : List Entry) (ps : List Placed) → dates_on k (map stands_alone h) (filter stands_alone h) (map dated ps) ≡ map dated (walk_on k h ps)
-unfolding dates_on walk_on
-dates_map k [] ps = refl
-dates_map k (x ∷ h) ps =
-    let rest = due_map (k + 1) (dates_on (k + 1) (map stands_alone h) (filter stands_alone h)) (walk_on (k + 1) h) (dates_map (k + 1) h) ps in
-    elim (stands_alone x) as (λ b. dates_on k (b ∷ map stands_alone h) (cond b (x ∷ filter stands_alone h) (filter stands_alone h)) (map dated ps)
-    ≡ map dated (cond b (alone_at k x ∷ []) [] ++ due_then placed_point (k + 1) (walk_on (k + 1) h) ps)) [
-      | true ↦ ap (λ ds. dated (alone_at k x) ∷ ds) rest
-      | false ↦ rest
-    ]
-
-dates_are : (t : Tables) (h : List Entry) (ds : List Dated) → IsDeclared t → IsAccepted t (reverse h) → ds ≡ map dated (readings_by_points t (reverse h))
+dates_are : (t : Tables) (h : List Entry) (ds : List Dated) → IsDeclared t → IsAccepted t (reverse h) → ds ≡ map dated (by_moments (long_readings t (reverse h)) (length (reverse h)))
     → dates 0 (map stands_alone h) (filter stands_alone h) ds ≡ dated_by_points t (reverse h)
+unfolding by_moments
 dates_are t h ds d acc is =
-    let rs = readings_by_points t (reverse h) in
-    ap (dates 0 (map stands_alone h) (filter stands_alone h)) is
-    ∙ due_map 0 (dates_on 0 (map stands_alone h) (filter stands_alone h)) (walk_on 0 h) (dates_map 0 h) rs
-    ∙ ap (map dated) (walk_is t h rs d acc refl)
+    let past = reverse h in
+    let all = placed t past in
+    let longs = long_readings t past in
+    let n = length h in
+    let from : (ps : List Placed) → by_moments ps (length past) ≡ from_moment ps 0 n = λ ps. ap (by_moments ps) (length-reverse h ∙ sym (zero-add n)) ∙ by_moments_from ps 0 n in
+    let each : (i : ℕ) (x : Entry) → slice_get h i ≡ Some x → IsMoment all longs (0 + i) x =
+    λ i x at. moment_of t past (0 + i) x d acc (ap (λ g. slice_get g (0 + i)) (reverse-reverse h) ∙ ap (slice_get h) (zero-add i) ∙ at) in
+    ap (dates 0 (map stands_alone h) (filter stands_alone h)) (is ∙ ap (map dated) (from longs)) ∙ moments_come all longs 0 h each ∙ ap (map dated) (sym (from all))
 
 -- what is kept of an accepted past gives its finished calls by their points
 pub dates_of : (k : Timed) (past : List Entry) → IsDeclared k.setup → IsAccepted k.setup past → IsTimed k past → dates 0 k.marks k.alone k.readings ≡ dated_by_points k.setup past
@@ -47,34 +129,35 @@ dates_of k past d acc s =
     let h = reverse past in
     let back : reverse h ≡ past = reverse-reverse past in
     ap (λ ms. dates 0 ms k.alone k.readings) s.marks ∙ ap (λ xs. dates 0 (map stands_alone h) xs k.readings) s.alone
-    ∙ dates_are k.setup h k.readings d (subst (IsAccepted k.setup) (sym back) acc) (s.readings (length past) (omega arith) ∙ ap (λ xs. map dated (readings_by_points k.setup xs)) (sym back))
+    ∙ dates_are k.setup h k.readings d (subst (IsAccepted k.setup) (sym back) acc) (s.readings (length past) (omega arith) ∙ ap (λ xs. map dated (by_moments (long_readings k.setup xs) (length xs))) (sym back))
     ∙ ap (dated_by_points k.setup) back
 
 -- A STEP OF IT
 
 -- none is due of those from the i-th on
-abbrev pub NoneDue : List Dated → ℕ → ℕ → Type 0
-NoneDue rs i k = (d : Dated) → slice_get rs i ≡ Some d → k < d.point
+abbrev pub NoneDue : List Dated → ℕ → ℕ → Bool → Type 0
+NoneDue rs i k waits = (d : Dated) → slice_get rs i ≡ Some d → k < due_moment waits d
 
--- a read or an await that is due comes next
-pub dates_due : (k : ℕ) (ms : List Bool) (xs : List Entry) (rs : List Dated) (i : ℕ) (d : Dated) → slice_get rs i ≡ Some d → d.point ≤ k → dates k ms xs (drop i rs) ≡ d ∷ dates k ms xs (drop (i + 1) rs)
-dates_due k ms xs rs i d at due = due_next dated_point k (dates_on k ms xs) rs i d at due
+-- a read or an await of more entries that is due comes next
+pub dates_due : (k : ℕ) (ms : List Bool) (xs : List Entry) (rs : List Dated) (i : ℕ) (d : Dated) → slice_get rs i ≡ Some d → due_moment (read_comes ms xs) d ≤ k
+    → dates k ms xs (drop i rs) ≡ d ∷ dates k ms xs (drop (i + 1) rs)
+dates_due k ms xs rs i d at due = due_next (due_moment (read_comes ms xs)) k (dates_on k ms xs) rs i d at due
 
--- where none is due, a call by itself does
-pub dates_own : (k : ℕ) (ms : List Bool) (x : Entry) (xs : List Entry) (rs : List Dated) (i : ℕ) → NoneDue rs i k
+-- where none is due, a whole call does
+pub dates_own : (k : ℕ) (ms : List Bool) (x : Entry) (xs : List Entry) (rs : List Dated) (i : ℕ) → NoneDue rs i k (read_comes (true ∷ ms) (x ∷ xs))
     → dates k (true ∷ ms) (x ∷ xs) (drop i rs) ≡ record { point = k; entry = x } ∷ dates (k + 1) ms xs (drop i rs)
 unfolding dates_on
-dates_own k ms x xs rs i none = none_due dated_point k (dates_on k (true ∷ ms) (x ∷ xs)) rs i none
+dates_own k ms x xs rs i none = none_due (due_moment (read_comes (true ∷ ms) (x ∷ xs))) k (dates_on k (true ∷ ms) (x ∷ xs)) rs i none
 
 -- any other entry is passed
-pub dates_pass : (k : ℕ) (b : Bool) (ms : List Bool) (xs : List Entry) (rs : List Dated) (i : ℕ) → NoneDue rs i k → (b ≡ true → xs ≡ [])
+pub dates_pass : (k : ℕ) (b : Bool) (ms : List Bool) (xs : List Entry) (rs : List Dated) (i : ℕ) → NoneDue rs i k (read_comes (b ∷ ms) xs) → (b ≡ true → xs ≡ [])
     → dates k (b ∷ ms) xs (drop i rs) ≡ dates (k + 1) ms xs (drop i rs)
 unfolding dates_on
-dates_pass k true ms [] rs i none out = none_due dated_point k (dates_on k (true ∷ ms) []) rs i none
+dates_pass k true ms [] rs i none out = none_due (due_moment false) k (dates_on k (true ∷ ms) []) rs i none
 dates_pass k true ms (x ∷ xs) rs i none out = (let e = out refl in cc)
-dates_pass k false ms xs rs i none out = none_due dated_point k (dates_on k (false ∷ ms) xs) rs i none
+dates_pass k false ms xs rs i none out = none_due (due_moment false) k (dates_on k (false ∷ ms) xs) rs i none
 
 -- behind the last entry there is none
-pub dates_end : (k : ℕ) (xs : List Entry) (rs : List Dated) (i : ℕ) → NoneDue rs i k → dates k [] xs (drop i rs) ≡ []
+pub dates_end : (k : ℕ) (xs : List Entry) (rs : List Dated) (i : ℕ) → NoneDue rs i k (read_comes [] xs) → dates k [] xs (drop i rs) ≡ []
 unfolding dates_on
-dates_end k xs rs i none = none_due dated_point k (dates_on k [] xs) rs i none
+dates_end k xs rs i none = none_due (due_moment false) k (dates_on k [] xs) rs i none

@@ -16,7 +16,7 @@ use Rattle.ec_core.proofs.shared.Answering.{allowed}
 use Rattle.ec_order.specs.declared.call.Call.{Call}
 use Rattle.ec_order.specs.declared.placed.Placed.{Placed}
 use Rattle.ec_core.specs.declared.ongoing.Ongoing.{Ongoing}
-use Rattle.ec_order.specs.Calls.{call_of_entries, ended_by, finished_calls, is_reading, number_of, Ending}
+use Rattle.ec_order.specs.Calls.{call_of_entries, ended_by, finished_calls, is_reading, number_of, stands_alone, Ending}
 use Rattle.ec_order.specs.Points.{first_entries, first_moment, point_of, with_point, by_moments}
 use Rattle.ec_core.specs.Ongoing.{ongoing, AreCalls}
 use Rattle.ec_order.specs.Raised.{Raised, AreRaised, NotesAlone, FollowsReading, IsPointBy}
@@ -29,7 +29,7 @@ use Rattle.ec_order.proofs.Finished.{each_cut, call_is}
 use Rattle.ec_order.proofs.Fits.{Fits, all_fit, point_bounds}
 use Rattle.ec_order.proofs.Scanning.{prefix_more, prefix_accepted, prefix_long, ended_next}
 use Rattle.ec_order.proofs.Walking.{alone_from}
-use Rattle.ec_order.proofs.Inserting.{inserted}
+use Rattle.ec_order.proofs.Inserting.{AllRead, inserted}
 
 -- A POINT STAYS
 
@@ -58,15 +58,24 @@ placed_later x past (c ∷ cs) h =
 
 -- WHAT AN ENTRY ADDS
 
-added : (t : Tables) (x : Entry) (past : List Entry) → IsDeclared t → IsAccepted t (x ∷ past)
-    → readings t (x ∷ past) ≡ readings t past ++ filter reads (map (with_point (x ∷ past)) (ended_by t x (gone_on x.act past (under_way x.worker past))))
+-- the finished calls with their points
+abbrev pub placed : Tables → List Entry → List Placed
+placed t past = map (with_point past) (finished_calls t past)
+
+pub placed_more : (t : Tables) (x : Entry) (past : List Entry) → IsDeclared t → IsAccepted t (x ∷ past)
+    → placed t (x ∷ past) ≡ placed t past ++ map (with_point (x ∷ past)) (ended_by t x (gone_on x.act past (under_way x.worker past)))
 unfolding finished_calls
-added t x past d acc =
+placed_more t x past d acc =
     let f = with_point (x ∷ past) in
     let cs = finished_calls t past in
     let more = ended_by t x (gone_on x.act past (under_way x.worker past)) in
-    ap (filter reads) (map-append f cs more) ∙ filter-append reads (map f cs) (map f more)
-    ∙ ap (λ ps. filter reads ps ++ filter reads (map f more)) (placed_later x past cs (all_fit t past d acc.1))
+    map-append f cs more ∙ ap (λ ps. ps ++ map f more) (placed_later x past cs (all_fit t past d acc.1))
+
+pub added : (t : Tables) (x : Entry) (past : List Entry) → IsDeclared t → IsAccepted t (x ∷ past)
+    → readings t (x ∷ past) ≡ readings t past ++ filter reads (map (with_point (x ∷ past)) (ended_by t x (gone_on x.act past (under_way x.worker past))))
+added t x past d acc =
+    let more = ended_by t x (gone_on x.act past (under_way x.worker past)) in
+    ap (filter reads) (placed_more t x past d acc) ∙ filter-append reads (placed t past) (map (with_point (x ∷ past)) more)
 
 -- a call by itself is none of them
 alone_adds : (t : Tables) (x : Entry) (past whole : List Entry) → is_alone x.act ≡ true → Ends t x past (under_way x.worker past)
@@ -84,7 +93,7 @@ others_read t x past other (inl n) = rw n.is (All-nil (λ (c : Call). is_reading
 others_read t x past other (inr (inl r)) = rw r.is (All-cons (λ (c : Call). is_reading c.op ≡ true) (call_of_entries t x r.op (past ∷ r.rest)) [] r.reading (All-nil (λ (c : Call). is_reading c.op ≡ true)))
 others_read t x past other (inr (inr a)) = (let alone : is_alone x.act ≡ true = alone_from x.act a.begins a.acting in cc)
 
--- A CALL THAT IS TOLD AT ONCE LEAVES THE TABLE
+-- A WHOLE CALL LEAVES THE TABLE
 
 not_some : (o : Option CallSoFar) → is_some o ≡ false → o ≡ None
 not_some None h = refl
@@ -94,25 +103,34 @@ and_true : (a b : Bool) → (a && not b) ≡ false → b ≡ false → a ≡ fal
 and_true true b h is = sym (ap not is) ∙ h
 and_true false b h is = refl
 
-alone_acts : (t : Tables) (x : Entry) (past : List Entry) → is_alone x.act ≡ true → Ends t x past (under_way x.worker past) → (is_pending x.reply ≡ false) × (is_go x.act ≡ false)
-alone_acts t x past alone (inl n) = (let other : is_alone x.act ≡ false = n.goes_on in cc)
-alone_acts t x past alone (inr (inl r)) = (let other : is_alone x.act ≡ false = r.goes_on in cc)
-alone_acts t x past alone (inr (inr a)) = (a.final, a.begins)
+neither : (a b : Bool) → (not a && not b) ≡ true → (a ≡ false) × (b ≡ false)
+neither true b h = cc
+neither false true h = cc
+neither false false h = (refl, refl)
 
-pub told_leaves : (t : Tables) (x : Entry) (past : List Entry) (w : ℕ) → IsDeclared t → IsAccepted t (x ∷ past) → is_pending x.reply ≡ false → is_go x.act ≡ false → under_way w (x ∷ past) ≡ under_way w past
+-- it is no go, and not told Pending
+pub whole_parts : (x : Entry) → stands_alone x ≡ true → (is_go x.act ≡ false) × (is_pending x.reply ≡ false)
+whole_parts x whole = neither (is_go x.act) (is_pending x.reply) whole
+
+pub whole_from : (x : Entry) → is_go x.act ≡ false → is_pending x.reply ≡ false → stands_alone x ≡ true
+whole_from x begins final = ap (λ a. not a && not (is_pending x.reply)) begins ∙ ap not final
+
+-- so is each act but a read, an await and a go
+pub alone_whole : (t : Tables) (x : Entry) (past : List Entry) → is_alone x.act ≡ true → Ends t x past (under_way x.worker past) → stands_alone x ≡ true
+alone_whole t x past alone (inl n) = (let other : is_alone x.act ≡ false = n.goes_on in cc)
+alone_whole t x past alone (inr (inl r)) = (let other : is_alone x.act ≡ false = r.goes_on in cc)
+alone_whole t x past alone (inr (inr a)) = whole_from x a.begins a.final
+
+pub whole_leaves : (t : Tables) (x : Entry) (past : List Entry) (w : ℕ) → IsDeclared t → IsAccepted t (x ∷ past) → stands_alone x ≡ true → under_way w (x ∷ past) ≡ under_way w past
 unfolding under_way
-told_leaves t x past w d acc final begins =
+whole_leaves t x past w d acc whole =
+    let parts = whole_parts x whole in
     let k = allowed t past x.worker x.act x.reply acc.0 in
-    let none : under_way x.worker past ≡ None = not_some (under_way x.worker past) (and_true (is_some (under_way x.worker past)) (is_go x.act) k.0.free begins) in
+    let none : under_way x.worker past ≡ None = not_some (under_way x.worker past) (and_true (is_some (under_way x.worker past)) (is_go x.act) k.0.free parts.0) in
     elim (x.worker == w) as (λ b. (x.worker == w) ≡ b → cond b (cond (is_pending x.reply) (gone_on x.act past (under_way w past)) None) (under_way w past) ≡ under_way w past) [
-      | true ↦ λ e. ap (λ b. cond b (gone_on x.act past (under_way w past)) None) final ∙ sym none ∙ ap (λ v. under_way v past) (eqb-true x.worker w e)
+      | true ↦ λ e. ap (λ b. cond b (gone_on x.act past (under_way w past)) None) parts.1 ∙ sym none ∙ ap (λ v. under_way v past) (eqb-true x.worker w e)
       | false ↦ λ e. refl
     ] refl
-
-pub alone_leaves : (t : Tables) (x : Entry) (past : List Entry) (w : ℕ) → IsDeclared t → IsAccepted t (x ∷ past) → is_alone x.act ≡ true → under_way w (x ∷ past) ≡ under_way w past
-alone_leaves t x past w d acc alone =
-    let act = alone_acts t x past alone (ends t x past d acc) in
-    told_leaves t x past w d acc act.0 act.1
 
 -- a call that ends at an entry is one of those of the past with it
 pub known_call : (t : Tables) (x : Entry) (past : List Entry) (c : Call) → ended_by t x (call_with x past) ≡ option_to_list (Some c) → Contains (finished_calls t (x ∷ past)) c
@@ -132,23 +150,43 @@ pub readings_none : (t : Tables) (x : Entry) (past : List Entry) → IsDeclared 
 readings_none t x past d acc none =
     added t x past d acc ∙ ap (λ cs. readings t past ++ filter reads (map (with_point (x ∷ past)) cs)) none ∙ append-nil (readings t past)
 
--- the call that another one ends is put in
-pub readings_one : (t : Tables) (x : Entry) (past : List Entry) (c : Call) (k n at : ℕ) (ps : List Placed) → IsDeclared t → IsAccepted t (x ∷ past) → is_alone x.act ≡ false
-    → ended_by t x (call_with x past) ≡ c ∷ [] → k ≡ point_of (x ∷ past) c → length past < n → ps ≡ by_moments (readings t past) n → IsPlaceFor placed_point ps k at
-    → insert ps at (record { call = c; point = k }) ≡ by_moments (readings t (x ∷ past)) n
-readings_one t x past c k n at ps d acc other is there lt same place =
+-- the call that another one ends is added
+pub record AddsReading (t : Tables) (x : Entry) (past : List Entry) (p : Placed) : Type 0 where
+  pub reading : reads p ≡ true
+  pub fits : Fits (x ∷ past) p.call
+  pub low : p.point < suc (length past)
+  pub is : readings t (x ∷ past) ≡ readings t past ++ p ∷ []
+
+pub readings_more : (t : Tables) (x : Entry) (past : List Entry) (c : Call) → IsDeclared t → IsAccepted t (x ∷ past) → is_alone x.act ≡ false → ended_by t x (call_with x past) ≡ c ∷ []
+    → AddsReading t x past (with_point (x ∷ past) c)
+readings_more t x past c d acc other is =
     let reading : is_reading c.op ≡ true = All-head (λ (c : Call). is_reading c.op ≡ true) c [] (subst (All (λ (c : Call). is_reading c.op ≡ true)) is (others_read t x past other (ends t x past d acc))) in
     let known : Contains (finished_calls t (x ∷ past)) c = known_call t x past c is in
     let fits : Fits (x ∷ past) c = All-contains (Fits (x ∷ past)) (finished_calls t (x ∷ past)) c (all_fit t (x ∷ past) d acc) known in
     let p = with_point (x ∷ past) c in
+    record {
+      reading = reading;
+      fits = fits;
+      low = (point_bounds (x ∷ past) c fits).2;
+      is = added t x past d acc ∙ ap (λ cs. readings t past ++ filter reads (map (with_point (x ∷ past)) cs)) is ∙ ap (λ b. readings t past ++ cond b (p ∷ []) []) reading;
+    }
+
+-- and put in by its point, among these that are kept
+pub put_among : (rs : List Placed) (x : Entry) (past : List Entry) (c : Call) (k n at : ℕ) (ps : List Placed) → AllRead rs → is_reading c.op ≡ true
+    → k ≡ point_of (x ∷ past) c → point_of (x ∷ past) c < suc (length past) → length past < n → ps ≡ by_moments rs n → IsPlaceFor placed_point ps k at
+    → insert ps at (record { call = c; point = k }) ≡ by_moments (rs ++ with_point (x ∷ past) c ∷ []) n
+put_among rs x past c k n at ps all reading there below lt same place =
+    let p = with_point (x ∷ past) c in
     let on : ℕ → Placed = λ j. record { call = c; point = j } in
-    let placed : on k ≡ p = ap on there in
-    let one : readings t (x ∷ past) ≡ readings t past ++ p ∷ [] =
-    added t x past d acc ∙ ap (λ cs. readings t past ++ filter reads (map (with_point (x ∷ past)) cs)) is ∙ ap (λ b. readings t past ++ cond b (p ∷ []) []) reading in
-    let low : p.point < n = (let below : point_of (x ∷ past) c < suc (length past) = (point_bounds (x ∷ past) c fits).2 in omega arith) in
-    ap (insert ps at) placed
-    ∙ inserted (readings t past) ps p n at (filter_passes reads (map (with_point past) (finished_calls t past))) reading low same (subst (λ j. IsPlaceFor placed_point ps j at) (ap (λ (q : Placed). q.point) placed) place)
-    ∙ ap (λ qs. by_moments qs n) (sym one)
+    let low : p.point < n = omega arith in
+    ap (λ j. insert ps at (on j)) there ∙ inserted rs ps p n at all reading low same (subst (λ j. IsPlaceFor placed_point ps j at) there place)
+
+pub readings_one : (t : Tables) (x : Entry) (past : List Entry) (c : Call) (k n at : ℕ) (ps : List Placed) → IsDeclared t → IsAccepted t (x ∷ past) → is_alone x.act ≡ false
+    → ended_by t x (call_with x past) ≡ c ∷ [] → k ≡ point_of (x ∷ past) c → length past < n → ps ≡ by_moments (readings t past) n → IsPlaceFor placed_point ps k at
+    → insert ps at (record { call = c; point = k }) ≡ by_moments (readings t (x ∷ past)) n
+readings_one t x past c k n at ps d acc other is there lt same place =
+    let more = readings_more t x past c d acc other is in
+    put_among (readings t past) x past c k n at ps (filter_passes reads (placed t past)) more.reading there more.low lt same place ∙ ap (λ qs. by_moments qs n) (sym more.is)
 
 -- THE SCAN
 
@@ -176,9 +214,10 @@ gathered_alone t h i x calls kept kept' rs d acc at alone notes s =
     let more : reverse (take (i + 1) h) ≡ x ∷ past = prefix_more h i x (sym at) in
     let acc' : IsAccepted t (x ∷ past) = subst (IsAccepted t) more (prefix_accepted t h (i + 1) acc) in
     let same : readings t (reverse (take (i + 1) h)) ≡ readings t past = ap (readings t) more ∙ readings_alone t x past d acc' alone in
+    let whole : stands_alone x ≡ true = alone_whole t x past alone (ends t x past d acc') in
     record {
-      under_way = λ w lt. s.under_way w lt ∙ ap (λ o. Some (option_map (ongoing t) o)) (sym (ap (under_way w) more ∙ alone_leaves t x past w d acc' alone));
-      advances = subst (AreRaised kept') (sym more) (notes.after t past x d acc' refl alone (ap (λ k. k + 1) (prefix_long h i x (sym at))) s.advances);
+      under_way = λ w lt. s.under_way w lt ∙ ap (λ o. Some (option_map (ongoing t) o)) (sym (ap (under_way w) more ∙ whole_leaves t x past w d acc' whole));
+      advances = subst (AreRaised kept') (sym more) (notes.after t past x d acc' refl whole (ap (λ k. k + 1) (prefix_long h i x (sym at))) s.advances);
       of = s.of;
       gathered = s.gathered ∙ ap (λ qs. by_moments qs (length h)) (sym same);
     }

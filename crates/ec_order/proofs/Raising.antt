@@ -15,14 +15,14 @@ use Rattle.ec_core.specs.Rounds.{read_of}
 use Rattle.ec_core.proofs.shared.Places.{get_set}
 use Rattle.ec_core.proofs.shared.Scans.{call_own, call_other}
 use Rattle.ec_order.specs.declared.call.Call.{Call}
-use Rattle.ec_order.specs.Calls.{call_of_entries, ended_by}
+use Rattle.ec_order.specs.Calls.{call_of_entries, ended_by, stands_alone}
 use Rattle.ec_order.specs.Index.{advanced, raised_by}
 use Rattle.ec_order.specs.Raised.{Raised, left_of, is_reading_of, readers, opening_past, IsRaisedOnce, IsBegun, IsLeft, IsRaised, AreRaised, NotesAlone, FollowsReading}
 use Rattle.ec_order.specs.Walk.{is_alone}
 use Rattle.ec_order.proofs.Chains.{IsChain, IsGone, call_chain, gone_chain}
 use Rattle.ec_order.proofs.Indexing.{raises, raises_none}
 use Rattle.ec_order.proofs.Reaching.{length_advanced}
-use Rattle.ec_order.proofs.Readers.{few_readers, left_on, no_readers, none_reads, readers_alone, readers_begun, readers_told, reads_none, reads_read, told_final}
+use Rattle.ec_order.proofs.Readers.{few_readers, left_on, no_readers, none_reads, readers_whole, readers_begun, readers_told, reads_none, reads_read, told_final}
 
 -- WHAT IS KNOWN OF AN ACCEPTED ENTRY
 
@@ -175,19 +175,19 @@ one_changes kept past late i was now within read changes stays s = λ e lt.
 
 -- THE WAYS OF THE CODE, by the facts that its calls leave
 
--- an entry that is a call by itself
+-- an entry that is a whole call
 
 pub notes_none : (kept : List Raised) (act : Act) (moment : ℕ) → None ≡ raised_by act → NotesAlone kept act moment kept
 notes_none kept act moment none = record {
-  after = λ t past x d acc is alone here s.
-      all_stay kept past (x ∷ past) (λ e k one. same_next e x past k (ap (is_advance e) (sym is) ∙ raises_none act e (sym none)) (readers_alone t e x past d acc alone) one) s;
+  after = λ t past x d acc is whole here s.
+      all_stay kept past (x ∷ past) (λ e k one. same_next e x past k (ap (is_advance e) (sym is) ∙ raises_none act e (sym none)) (readers_whole t e x past d acc whole) one) s;
 }
 
-raised_one : (t : Tables) (e : ℕ) (x : Entry) (past : List Entry) (moment : ℕ) (was now : Raised) → IsDeclared t → IsAccepted t (x ∷ past) → is_alone x.act ≡ true → is_advance e x.act ≡ true
+raised_one : (t : Tables) (e : ℕ) (x : Entry) (past : List Entry) (moment : ℕ) (was now : Raised) → IsDeclared t → IsAccepted t (x ∷ past) → stands_alone x ≡ true → is_advance e x.act ≡ true
     → moment ≡ length past + 1 → moment < 2 ^ 64 → (was.readers ≡ 0 → was.before + 1 < 2 ^ 64 → now ≡ record was { before = was.before + 1 })
     → (0 < was.readers → now ≡ record was { moments = was.moments ++ moment ∷ [] }) → IsRaised e past was → IsRaised e (x ∷ past) now
-raised_one t e x past moment was now d acc alone one here small unread read s =
-    let same : readers e (x ∷ past) ≡ readers e past = readers_alone t e x past d acc alone in
+raised_one t e x past moment was now d acc whole one here small unread read s =
+    let same : readers e (x ∷ past) ≡ readers e past = readers_whole t e x past d acc whole in
     elim (cases_lt 0 was.readers) [
       | inl some ↦ subst (IsRaised e (x ∷ past)) (sym (read some)) (noted_next e x past was moment one same some here s)
       | inr few ↦
@@ -199,11 +199,11 @@ raised_one t e x past moment was now d acc alone one here small unread read s =
 pub notes_one : (old kept : List Raised) (act : Act) (moment e : ℕ) (was now : Raised) → kept ≡ old → Some e ≡ raised_by act → length kept ≡ 32 → e < 32 → was ≡ get_or kept e was → moment < 2 ^ 64 → IsRaisedOnce was moment now
     → NotesAlone old act moment (slice_set kept e now)
 notes_one old kept act moment e was now view raised long low at small once = record {
-  after = λ t past x d acc is alone here s.
+  after = λ t past x d acc is whole here s.
       let advances : (f : ℕ) → is_advance f x.act ≡ (e == f) = λ f. ap (is_advance f) (sym is) ∙ raises act f e (sym raised) in
       one_changes kept past (x ∷ past) e was now (omega arith) at
-      (raised_one t e x past moment was now d acc alone (advances e ∙ eq-eqb e e refl) here small once.unread once.read)
-      (λ f k other one. same_next f x past k (advances f ∙ other) (readers_alone t f x past d acc alone) one) (subst (λ ks. AreRaised ks past) (sym view) s);
+      (raised_one t e x past moment was now d acc whole (advances e ∙ eq-eqb e e refl) here small once.unread once.read)
+      (λ f k other one. same_next f x past k (advances f ∙ other) (readers_whole t f x past d acc whole) one) (subst (λ ks. AreRaised ks past) (sym view) s);
 }
 
 -- one of a read or an await

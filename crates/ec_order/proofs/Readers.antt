@@ -12,10 +12,10 @@ use Rattle.ec_core.specs.Rounds.{read_of}
 use Rattle.ec_core.proofs.shared.Answering.{allowed}
 use Rattle.ec_core.proofs.shared.Scans.{call_own, call_other}
 use Rattle.ec_order.specs.declared.call.Call.{Call}
-use Rattle.ec_order.specs.Calls.{call_of_entries, ended_by}
+use Rattle.ec_order.specs.Calls.{call_of_entries, ended_by, stands_alone}
 use Rattle.ec_order.specs.Raised.{is_reading_of, reads_event, readers}
 use Rattle.ec_order.specs.Walk.{is_alone}
-use Rattle.ec_order.proofs.Gathering.{alone_leaves}
+use Rattle.ec_order.proofs.Gathering.{whole_leaves}
 
 -- COUNTS OF WORKERS
 
@@ -167,9 +167,9 @@ free_at t x past acc = (let k = (allowed t past x.worker x.act x.reply acc.0).0 
 
 -- WITH ONE MORE ENTRY
 
--- a call by itself
-pub readers_alone : (t : Tables) (e : ℕ) (x : Entry) (past : List Entry) → IsDeclared t → IsAccepted t (x ∷ past) → is_alone x.act ≡ true → readers e (x ∷ past) ≡ readers e past
-readers_alone t e x past d acc alone = readers_same e x past (λ w. alone_leaves t x past w d acc alone)
+-- a whole call
+pub readers_whole : (t : Tables) (e : ℕ) (x : Entry) (past : List Entry) → IsDeclared t → IsAccepted t (x ∷ past) → stands_alone x ≡ true → readers e (x ∷ past) ≡ readers e past
+readers_whole t e x past d acc whole = readers_same e x past (λ w. whole_leaves t x past w d acc whole)
 
 -- one of a read or an await: where it ends no call
 pub readers_begun : (t : Tables) (e : ℕ) (x : Entry) (past : List Entry) → IsDeclared t → IsAccepted t (x ∷ past) → is_alone x.act ≡ false → ended_by t x (call_with x past) ≡ []

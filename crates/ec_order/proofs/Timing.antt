@@ -1,31 +1,28 @@
 -- What a timeline keeps, with one more entry.
-use Rattle.std.proofs.Common.{◌≡◌, ℕ, zero, suc, ◌+◌, ◌-◌, ◌%◌, ◌≤◌, ◌==◌, Bool, true, false, List, [], ◌∷◌, ◌++◌, length, map, Option, Some, None, refl, ap, sym, ◌∙◌, arith, cond, subst, append-nil, reverse, slice_get}
-use Rattle.std.proofs.Math.Nat.{mod-le}
+use Rattle.std.proofs.Common.{◌≡◌, ℕ, zero, suc, ◌+◌, ◌-◌, ◌≤◌, Bool, true, false, not, ◌&&◌, List, [], ◌∷◌, ◌++◌, length, map, Option, Some, None, refl, ap, sym, ◌∙◌, arith, cond, subst, append-nil, reverse, slice_get}
 use Rattle.std.specs.Option.{option_map}
-use Rattle.std.specs.List.{filter, insert}
+use Rattle.std.specs.List.{All, filter, insert}
+use Rattle.std.proofs.lemmas.Bool.{not-true}
 use Rattle.std.proofs.lemmas.List.{map-append, length-map, reverse-append}
-use Rattle.std.proofs.lemmas.List.Elements.{filter-append}
+use Rattle.std.proofs.lemmas.List.Elements.{All-head, filter-append}
 use Rattle.ec_count.specs.Tables.{Tables, IsDeclared}
 use Rattle.ec_core.specs.declared.act.Entry.{Entry}
 use Rattle.ec_core.specs.declared.ongoing.Ongoing.{Ongoing}
-use Rattle.ec_core.specs.Calls.{CallSoFar, call_with, gone_on, is_go, is_pending, under_way}
-use Rattle.ec_core.specs.Counts.{total}
-use Rattle.ec_core.specs.Rounds.{event_or, position_of, width}
-use Rattle.ec_core.specs.declared.act.Act.{Act}
-use Rattle.ec_core.specs.declared.act.Act.TheVariants.{Go}
+use Rattle.ec_core.specs.Calls.{call_with, is_go, is_pending}
 use Rattle.ec_core.specs.Acceptance.{IsAccepted}
 use Rattle.ec_core.specs.Ongoing.{ongoing, AreCalls}
 use Rattle.ec_order.specs.declared.call.Call.{Call}
 use Rattle.ec_order.specs.declared.dated.Dated.{Dated}
 use Rattle.ec_order.specs.declared.placed.Placed.{Placed}
-use Rattle.ec_order.specs.Calls.{call_of_entries, ended_by, finished_calls, is_reading, number_of, EndsCall, Ending}
-use Rattle.ec_order.specs.Points.{by_moments, first_entries, first_moment, point_of}
-use Rattle.ec_order.specs.Raised.{Raised, AreRaised, NotesAlone, FollowsReading, left_of}
-use Rattle.ec_order.specs.Timeline.{Timed, IsTimed, PutsByPoint, TakesIn, dated, dated_point, stands_alone}
-use Rattle.ec_order.specs.Walk.{is_alone, placed_point, readings, IsPlaceFor, PutsIn}
-use Rattle.ec_order.proofs.Raising.{ends_none}
+use Rattle.ec_order.specs.Calls.{ended_by, finished_calls, stands_alone, EndsCall, Ending}
+use Rattle.ec_order.specs.Points.{by_moments, with_point}
+use Rattle.ec_order.specs.Raised.{Raised, AreRaised, NotesAlone, FollowsReading}
+use Rattle.ec_order.specs.Timeline.{Timed, IsTimed, PutsByPoint, TakesIn, dated, dated_point, is_long, long_readings}
+use Rattle.ec_order.specs.Walk.{alone_at, is_alone, placed_point, reads, readings, IsPlaceFor}
+use Rattle.ec_order.proofs.Ends.{ends}
 use Rattle.ec_order.proofs.Inserting.{map_insert}
-use Rattle.ec_order.proofs.Gathering.{alone_leaves, told_leaves, by_moments_none, readings_alone, readings_none, readings_one}
+use Rattle.ec_order.proofs.Gathering.{AddsReading, added, alone_whole, by_moments_none, put_among, readings_more, readings_none, whole_from, whole_leaves}
+use Rattle.ec_order.proofs.Wholes.{IsLongReading, long_read, others_long, placed_whole, whole_short}
 
 -- READS AND AWAITS BY THEIR POINTS
 
@@ -64,135 +61,129 @@ pub timed_start : (t : Tables) (calls : List (Option Ongoing)) (ks : List Raised
 unfolding finished_calls
 timed_start t calls ks lacks empty none = record { under_way = empty; advances = none; marks = refl; alone = refl; readings = λ n le. ap (map dated) (sym (by_moments_none n)) }
 
--- a call by itself
+-- a whole call adds no long one
+long_whole : (t : Tables) (x : Entry) (past : List Entry) → IsDeclared t → IsAccepted t (x ∷ past) → stands_alone x ≡ true → long_readings t (x ∷ past) ≡ long_readings t past
+long_whole t x past d acc whole =
+    let p = alone_at (length past) x in
+    ap (filter is_long) (added t x past d acc ∙ ap (λ ps. readings t past ++ filter reads ps) (placed_whole t x past (x ∷ past) whole))
+    ∙ filter-append is_long (readings t past) (filter reads (p ∷ [])) ∙ ap (λ ps. long_readings t past ++ ps) (whole_short (length past) x) ∙ append-nil (long_readings t past)
+
+-- a whole call
 pub timed_alone : (t : Tables) (calls : List (Option Ongoing)) (ks ks' : List Raised) (marks marks' : List Bool) (alone alone' : List Entry) (rs : List Dated) (lacks : Bool) (x : Entry) (past : List Entry) → IsDeclared t → IsAccepted t (x ∷ past)
-    → is_alone x.act ≡ true → IsTimed (kept t calls ks marks alone rs lacks) past → NotesAlone ks x.act (length past + 1) ks' → marks' ≡ marks ++ true ∷ [] → alone' ≡ alone ++ x ∷ []
+    → stands_alone x ≡ true → IsTimed (kept t calls ks marks alone rs lacks) past → NotesAlone ks x.act (length past + 1) ks' → marks' ≡ marks ++ true ∷ [] → alone' ≡ alone ++ x ∷ []
     → IsTimed (kept t calls ks' marks' alone' rs lacks) (x ∷ past)
 timed_alone t calls ks ks' marks marks' alone alone' rs lacks x past d acc is s notes more one = record {
-  under_way = λ w lt. s.under_way w lt ∙ ap (λ o. Some (option_map (ongoing t) o)) (sym (alone_leaves t x past w d acc is));
+  under_way = λ w lt. s.under_way w lt ∙ ap (λ o. Some (option_map (ongoing t) o)) (sym (whole_leaves t x past w d acc is));
   advances = notes.after t past x d acc refl is refl s.advances;
   marks = more ∙ marked x past marks true is s.marks;
   alone = one ∙ ap (λ b. alone ++ cond b (x ∷ []) []) (sym is) ∙ left_alone x past alone s.alone;
-  readings = λ n le. s.readings n (omega arith) ∙ ap (λ ps. map dated (by_moments ps n)) (sym (readings_alone t x past d acc is));
+  readings = λ n le. s.readings n (omega arith) ∙ ap (λ ps. map dated (by_moments ps n)) (sym (long_whole t x past d acc is));
 }
 
-others_stay : (x : Entry) (past : List Entry) (alone : List Entry) → is_alone x.act ≡ false → alone ≡ filter stands_alone (reverse past) → alone ≡ filter stands_alone (reverse (x ∷ past))
+others_stay : (x : Entry) (past : List Entry) (alone : List Entry) → stands_alone x ≡ false → alone ≡ filter stands_alone (reverse past) → alone ≡ filter stands_alone (reverse (x ∷ past))
 others_stay x past alone is same = sym (append-nil alone) ∙ ap (λ b. alone ++ cond b (x ∷ []) []) (sym is) ∙ left_alone x past alone same
+
+same_no : (b : Bool) → (b ≡ true → true ≡ false) → b ≡ false
+same_no true h = h refl
+same_no false h = refl
+
+-- what is no whole call is one of a read or an await
+part_reads : (t : Tables) (x : Entry) (past : List Entry) → IsDeclared t → IsAccepted t (x ∷ past) → stands_alone x ≡ false → is_alone x.act ≡ false
+part_reads t x past d acc part = same_no (is_alone x.act) (λ alone. sym (alone_whole t x past alone (ends t x past d acc)) ∙ part)
 
 -- one of a read or an await: where it ends none
 pub timed_none : (t : Tables) (calls calls' : List (Option Ongoing)) (ks ks' : List Raised) (marks marks' : List Bool) (alone : List Entry) (rs : List Dated) (lacks : Bool) (x : Entry) (past : List Entry) → IsDeclared t → IsAccepted t (x ∷ past)
-    → is_alone x.act ≡ false → IsTimed (kept t calls ks marks alone rs lacks) past → FollowsReading ks x.act None ks' → marks' ≡ marks ++ false ∷ [] → EndsCall t past x None calls'
+    → stands_alone x ≡ false → IsTimed (kept t calls ks marks alone rs lacks) past → FollowsReading ks x.act None ks' → marks' ≡ marks ++ false ∷ [] → EndsCall t past x None calls'
     → IsTimed (kept t calls' ks' marks' alone rs lacks) (x ∷ past)
 timed_none t calls calls' ks ks' marks marks' alone rs lacks x past d acc is s follows more ended = record {
   under_way = ended.after;
-  advances = follows.after t past x d acc refl is ended.call s.advances;
+  advances = follows.after t past x d acc refl (part_reads t x past d acc is) ended.call s.advances;
   marks = more ∙ marked x past marks false is s.marks;
   alone = others_stay x past alone is s.alone;
-  readings = λ n le. s.readings n (omega arith) ∙ ap (λ ps. map dated (by_moments ps n)) (sym (readings_none t x past d acc ended.call));
+  readings = λ n le. s.readings n (omega arith) ∙ ap (λ ps. map dated (by_moments (filter is_long ps) n)) (sym (readings_none t x past d acc ended.call));
 }
+
+-- the call that one of more entries is comes last of the long ones
+long_more : (t : Tables) (x : Entry) (past : List Entry) (c : Call) → IsDeclared t → IsAccepted t (x ∷ past) → stands_alone x ≡ false → ended_by t x (call_with x past) ≡ c ∷ []
+    → AddsReading t x past (with_point (x ∷ past) c) → long_readings t (x ∷ past) ≡ long_readings t past ++ with_point (x ∷ past) c ∷ []
+long_more t x past c d acc part is adds =
+    let p = with_point (x ∷ past) c in
+    let long : IsLongReading c = All-head IsLongReading c [] (subst (All IsLongReading) is (others_long t x past part (ends t x past d acc))) in
+    ap (filter is_long) adds.is ∙ filter-append is_long (readings t past) (p ∷ []) ∙ ap (λ b. long_readings t past ++ cond b (p ∷ []) []) long.1
 
 -- where it ends one
 pub timed_one : (t : Tables) (calls calls' : List (Option Ongoing)) (ks ks' : List Raised) (marks marks' : List Bool) (alone : List Entry) (rs rs' : List Dated) (lacks : Bool) (x : Entry) (past : List Entry) (c : Call) → IsDeclared t → IsAccepted t (x ∷ past)
-    → is_alone x.act ≡ false → IsTimed (kept t calls ks marks alone rs lacks) past → FollowsReading ks x.act (Some c) ks' → marks' ≡ marks ++ false ∷ [] → EndsCall t past x (Some c) calls'
+    → stands_alone x ≡ false → IsTimed (kept t calls ks marks alone rs lacks) past → FollowsReading ks x.act (Some c) ks' → marks' ≡ marks ++ false ∷ [] → EndsCall t past x (Some c) calls'
     → PutsByPoint ks c rs rs' → IsTimed (kept t calls' ks' marks' alone rs' lacks) (x ∷ past)
-timed_one t calls calls' ks ks' marks marks' alone rs rs' lacks x past c d acc is s follows more ended put = record {
-  under_way = ended.after;
-  advances = follows.after t past x d acc refl is ended.call s.advances;
-  marks = more ∙ marked x past marks false is s.marks;
-  alone = others_stay x past alone is s.alone;
-  readings = λ n le.
-      let puts = put.puts in
-      let p : Placed = record { call = c; point = put.point } in
-      let ps = by_moments (readings t past) n in
-      let same : rs ≡ map dated ps = s.readings n (omega arith) in
-      let place : IsPlaceFor placed_point ps p.point puts.at = place_told ps p.point puts.at (subst (λ ds. IsPlaceFor dated_point ds p.point puts.at) same puts.place) in
-      puts.is ∙ ap (λ ds. insert ds puts.at (dated p)) same ∙ sym (map_insert dated ps puts.at p)
-      ∙ ap (map dated) (readings_one t x past c put.point n puts.at ps d acc is ended.call (put.is.is t past x d acc is ended.call s.advances) (omega arith) refl place);
-}
+timed_one t calls calls' ks ks' marks marks' alone rs rs' lacks x past c d acc part s follows more ended put =
+    let is : is_alone x.act ≡ false = part_reads t x past d acc part in
+    let adds = readings_more t x past c d acc is ended.call in
+    record {
+      under_way = ended.after;
+      advances = follows.after t past x d acc refl is ended.call s.advances;
+      marks = more ∙ marked x past marks false part s.marks;
+      alone = others_stay x past alone part s.alone;
+      readings = λ n le.
+          let puts = put.puts in
+          let p : Placed = record { call = c; point = put.point } in
+          let ps = by_moments (long_readings t past) n in
+          let same : rs ≡ map dated ps = s.readings n (omega arith) in
+          let place : IsPlaceFor placed_point ps p.point puts.at = place_told ps p.point puts.at (subst (λ ds. IsPlaceFor dated_point ds p.point puts.at) same puts.place) in
+          puts.is ∙ ap (λ ds. insert ds puts.at (dated p)) same ∙ sym (map_insert dated ps puts.at p)
+          ∙ ap (map dated)
+          (put_among (long_readings t past) x past c put.point n puts.at ps (long_read t past) adds.reading (put.is.is t past x d acc is ended.call s.advances) adds.low (omega arith) refl place
+          ∙ ap (λ qs. by_moments qs n) (sym (long_more t x past c d acc part ended.call adds)));
+    }
 
 -- WHERE WHAT IS KEPT IS SEEN AS A WHOLE
--- These are the ways of `gather`, by the facts that its calls leave.
+-- These are the ways of `gather` and `end`, by the facts that their calls leave.
 
--- a call by itself
+-- a whole call
 pub takes_alone : (t : Tables) (calls : List (Option Ongoing)) (ks ks' : List Raised) (marks marks' : List Bool) (alone alone' : List Entry) (rs : List Dated) (lacks b : Bool) (old : Timed) (x : Entry) (place : ℕ)
-    → kept t calls ks marks alone rs lacks ≡ old → IsDeclared t → NotesAlone ks x.act (place + 1) ks' → b ≡ is_alone x.act → b ≡ true → marks' ≡ marks ++ true ∷ [] → alone' ≡ alone ++ x ∷ []
+    → kept t calls ks marks alone rs lacks ≡ old → IsDeclared t → NotesAlone ks x.act (place + 1) ks' → b ≡ not (is_pending x.reply) → b ≡ true → is_go x.act ≡ false → marks' ≡ marks ++ true ∷ [] → alone' ≡ alone ++ x ∷ []
     → TakesIn old place x (kept t calls ks' marks' alone' rs lacks)
-takes_alone t calls ks ks' marks marks' alone alone' rs lacks b old x place were d notes kind is more one =
+takes_alone t calls ks ks' marks marks' alone alone' rs lacks b old x place were d notes kind is begins more one =
     subst (λ k. TakesIn k place x (kept t calls ks' marks' alone' rs lacks)) were (record {
       timed = λ past here acc s.
-          timed_alone t calls ks ks' marks marks' alone alone' rs lacks x past d acc (sym kind ∙ is) s (subst (λ n. NotesAlone ks x.act (n + 1) ks') here notes) more one;
+          timed_alone t calls ks ks' marks marks' alone alone' rs lacks x past d acc (whole_from x begins (not-true (is_pending x.reply) (sym kind ∙ is))) s (subst (λ n. NotesAlone ks x.act (n + 1) ks') here notes) more one;
     })
 
--- an entry of a read or an await: where it ends none
-pub takes_none : (t : Tables) (calls calls' : List (Option Ongoing)) (ks ks' : List Raised) (marks marks' : List Bool) (alone : List Entry) (rs : List Dated) (lacks b : Bool) (old : Timed) (x : Entry) (place : ℕ) (told : Option Call)
-    → kept t calls ks marks alone rs lacks ≡ old → IsDeclared t → b ≡ is_alone x.act → b ≡ false → marks' ≡ marks ++ false ∷ [] → Ending calls place x told calls' t → told ≡ None
+none_taken : (t : Tables) (calls calls' : List (Option Ongoing)) (ks ks' : List Raised) (marks marks' : List Bool) (alone : List Entry) (rs : List Dated) (lacks : Bool) (old : Timed) (x : Entry) (place : ℕ)
+    → kept t calls ks marks alone rs lacks ≡ old → IsDeclared t → stands_alone x ≡ false → marks' ≡ marks ++ false ∷ [] → Ending calls place x None calls' t
     → FollowsReading ks x.act None ks' → TakesIn old place x (kept t calls' ks' marks' alone rs lacks)
-takes_none t calls calls' ks ks' marks marks' alone rs lacks b old x place told were d kind is more ends none follows =
+none_taken t calls calls' ks ks' marks marks' alone rs lacks old x place were d part more ends follows =
     subst (λ k. TakesIn k place x (kept t calls' ks' marks' alone rs lacks)) were (record {
-      timed = λ past here acc s.
-          timed_none t calls calls' ks ks' marks marks' alone rs lacks x past d acc (sym kind ∙ is) s follows more
-          (subst (λ o. EndsCall t past x o calls') none (ends.ends past acc.1 here s.under_way));
+      timed = λ past here acc s. timed_none t calls calls' ks ks' marks marks' alone rs lacks x past d acc part s follows more (ends.ends past acc.1 here s.under_way);
     })
 
--- where it ends one
-pub takes_one : (t : Tables) (calls calls' : List (Option Ongoing)) (ks ks' : List Raised) (marks marks' : List Bool) (alone : List Entry) (rs rs' : List Dated) (lacks b : Bool) (old : Timed) (x : Entry) (place : ℕ) (c : Call)
-    → kept t calls ks marks alone rs lacks ≡ old → IsDeclared t → b ≡ is_alone x.act → b ≡ false → marks' ≡ marks ++ false ∷ [] → Ending calls place x (Some c) calls' t
+go_part : (x : Entry) → is_go x.act ≡ true → stands_alone x ≡ false
+go_part x go = ap (λ a. not a && not (is_pending x.reply)) go
+
+neither_way : (b : Bool) → (b && false) ≡ false
+neither_way true = refl
+neither_way false = refl
+
+-- an entry after which its call goes on
+pub takes_pending : (t : Tables) (calls calls' : List (Option Ongoing)) (ks ks' : List Raised) (marks marks' : List Bool) (alone : List Entry) (rs : List Dated) (lacks b : Bool) (old : Timed) (x : Entry) (place : ℕ)
+    → kept t calls ks marks alone rs lacks ≡ old → IsDeclared t → b ≡ not (is_pending x.reply) → b ≡ false → marks' ≡ marks ++ false ∷ [] → Ending calls place x None calls' t
+    → FollowsReading ks x.act None ks' → TakesIn old place x (kept t calls' ks' marks' alone rs lacks)
+takes_pending t calls calls' ks ks' marks marks' alone rs lacks b old x place were d kind is more ends follows =
+    let part : stands_alone x ≡ false = ap (λ r. not (is_go x.act) && r) (sym kind ∙ is) ∙ neither_way (not (is_go x.act)) in
+    none_taken t calls calls' ks ks' marks marks' alone rs lacks old x place were d part more ends follows
+
+-- a go that ends none
+pub takes_none : (t : Tables) (calls calls' : List (Option Ongoing)) (ks ks' : List Raised) (marks marks' : List Bool) (alone : List Entry) (rs : List Dated) (lacks : Bool) (old : Timed) (x : Entry) (place : ℕ) (told : Option Call)
+    → kept t calls ks marks alone rs lacks ≡ old → IsDeclared t → is_go x.act ≡ true → marks' ≡ marks ++ false ∷ [] → Ending calls place x told calls' t → told ≡ None
+    → FollowsReading ks x.act None ks' → TakesIn old place x (kept t calls' ks' marks' alone rs lacks)
+takes_none t calls calls' ks ks' marks marks' alone rs lacks old x place told were d go more ends none follows =
+    none_taken t calls calls' ks ks' marks marks' alone rs lacks old x place were d (go_part x go) more (subst (λ o. Ending calls place x o calls' t) none ends) follows
+
+-- and one that ends one
+pub takes_one : (t : Tables) (calls calls' : List (Option Ongoing)) (ks ks' : List Raised) (marks marks' : List Bool) (alone : List Entry) (rs rs' : List Dated) (lacks : Bool) (old : Timed) (x : Entry) (place : ℕ) (c : Call)
+    → kept t calls ks marks alone rs lacks ≡ old → IsDeclared t → is_go x.act ≡ true → marks' ≡ marks ++ false ∷ [] → Ending calls place x (Some c) calls' t
     → PutsByPoint ks c rs rs' → FollowsReading ks x.act (Some c) ks' → TakesIn old place x (kept t calls' ks' marks' alone rs' lacks)
-takes_one t calls calls' ks ks' marks marks' alone rs rs' lacks b old x place c were d kind is more ends put follows =
+takes_one t calls calls' ks ks' marks marks' alone rs rs' lacks old x place c were d go more ends put follows =
     subst (λ k. TakesIn k place x (kept t calls' ks' marks' alone rs' lacks)) were (record {
       timed = λ past here acc s.
-          timed_one t calls calls' ks ks' marks marks' alone rs rs' lacks x past c d acc (sym kind ∙ is) s follows more (ends.ends past acc.1 here s.under_way) put;
-    })
-
--- A READ OR AN AWAIT THAT IS TOLD AT ONCE
-
--- its call
-abbrev told_call : Entry → ℕ → Call
-told_call x i = record { worker = x.worker; op = x.act; reply = x.reply; first = i; round = i; last = i }
-
-begun : (act : Act) (past : List Entry) (o : Option CallSoFar) → is_go act ≡ false → gone_on act past o ≡ Some (record { op = act; moments = past ∷ [] })
-begun Go past o is = cc
-begun act past o is = refl
-
-told_ends : (t : Tables) (x : Entry) (past : List Entry) → is_pending x.reply ≡ false → is_go x.act ≡ false → ended_by t x (call_with x past) ≡ told_call x (length past) ∷ []
-told_ends t x past final begins =
-    let n = width t (event_or x.act) in
-    let first : 0 % n ≡ 0 = (let le : 0 % n ≤ 0 = mod-le 0 n in omega arith) in
-    ap (ended_by t x) (begun x.act past (under_way x.worker past) begins)
-    ∙ ap (λ b. cond b [] (call_of_entries t x x.act (past ∷ []) ∷ [])) final
-    ∙ ap (λ k. record (told_call x (length past)) { round = position_of (past ∷ []) k } ∷ []) first
-
-never_left : (act op : Act) → is_go act ≡ false → None ≡ left_of act op
-never_left Go op is = cc
-never_left act op is = refl
-
--- its point is its position
-point_told : (whole : List Entry) (x : Entry) (i : ℕ) → point_of whole (told_call x i) ≡ i
-unfolding first_moment
-point_told whole x i =
-    let test = λ (k : ℕ). total (event_or x.act) (first_entries k whole) == number_of x.reply in
-    let none : i - i ≡ 0 = omega arith in
-    elim (is_reading x.act) as (λ b. cond b (first_moment test i (i - i)) i ≡ i) [
-      | true ↦ ap (first_moment test i) none
-      | false ↦ refl
-    ]
-
-pub takes_told : (t : Tables) (calls : List (Option Ongoing)) (ks : List Raised) (marks marks' : List Bool) (alone : List Entry) (rs rs' : List Dated) (lacks : Bool) (old : Timed) (x : Entry) (place : ℕ)
-    → kept t calls ks marks alone rs lacks ≡ old → IsDeclared t → is_alone x.act ≡ false → is_pending x.reply ≡ false → is_go x.act ≡ false → marks' ≡ marks ++ false ∷ []
-    → PutsIn dated_point rs rs' (record { point = place; entry = x }) → TakesIn old place x (kept t calls ks marks' alone rs' lacks)
-takes_told t calls ks marks marks' alone rs rs' lacks old x place were d other final begins more puts =
-    subst (λ k. TakesIn k place x (kept t calls ks marks' alone rs' lacks)) were (record {
-      timed = λ past here acc s.
-          let i = length past in
-          let c = told_call x i in
-          let ended : EndsCall t past x (Some c) calls = record {
-            call = told_ends t x past final begins;
-            after = λ w lt. s.under_way w lt ∙ ap (λ o. Some (option_map (ongoing t) o)) (sym (told_leaves t x past w d acc final begins));
-          } in
-          let put : PutsByPoint ks c rs rs' = record {
-            point = i;
-            is = record { is = λ u p y declared accepted kind ends kept. sym (point_told (y ∷ p) x i) };
-            puts = subst (λ k. PutsIn dated_point rs rs' (record { point = k; entry = x })) here puts;
-          } in
-          timed_one t calls calls ks ks marks marks' alone rs rs' lacks x past c d acc other s (ends_none ks x.act c (never_left x.act c.op begins)) more ended put;
+          timed_one t calls calls' ks ks' marks marks' alone rs rs' lacks x past c d acc (go_part x go) s follows more (ends.ends past acc.1 here s.under_way) put;
     })

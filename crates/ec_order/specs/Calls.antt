@@ -1,7 +1,7 @@
 -- Finished calls. A worker's entries are cut, in order, into calls: a read or an await goes on with that worker's
 -- following goes, up to its first entry whose reply is not Pending; every other act is a call of one entry. A call is
 -- finished where its last reply is not Pending. A past is the list of the entries before a moment, the newest first.
-use Rattle.std.specs.Prelude.{◌≡◌, ℕ, ◌-◌, Bool, true, false, List, [], ◌∷◌, ◌++◌, length, Option, Some, None, if◌then◌else◌}
+use Rattle.std.specs.Prelude.{◌≡◌, ℕ, ◌-◌, Bool, true, false, not, ◌&&◌, List, [], ◌∷◌, ◌++◌, length, Option, Some, None, if◌then◌else◌}
 use Rattle.std.specs.Option.{option_map, option_to_list}
 use Rattle.ec_count.specs.Tables.{Tables}
 use Rattle.ec_core.specs.declared.act.Act.{Act}
@@ -11,7 +11,7 @@ use Rattle.ec_core.specs.declared.act.Reply.TheVariants.{Number}
 use Rattle.ec_core.specs.declared.act.Entry.{Entry}
 use Rattle.ec_core.specs.declared.ongoing.Ongoing.{Ongoing}
 use Rattle.ec_core.specs.Acceptance.{IsAccepted}
-use Rattle.ec_core.specs.Calls.{CallSoFar, under_way, gone_on, call_with, is_pending}
+use Rattle.ec_core.specs.Calls.{CallSoFar, under_way, gone_on, call_with, is_go, is_pending}
 use Rattle.ec_core.specs.Ongoing.{AreCalls}
 use Rattle.ec_core.specs.Rounds.{event_or, position_of, round_start}
 use Rattle.ec_order.specs.declared.call.Call.{Call}
@@ -21,6 +21,10 @@ abbrev pub is_reading : Act → Bool
 is_reading (Read e) = true
 is_reading (Await e v) = true
 is_reading _ = false
+
+-- whether an entry is a whole call: it begins one, and ends it
+abbrev pub stands_alone : Entry → Bool
+stands_alone x = not (is_go x.act) && not (is_pending x.reply)
 
 -- the number that a reply tells; 0 where it tells none
 abbrev pub number_of : Reply → ℕ

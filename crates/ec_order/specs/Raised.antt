@@ -12,7 +12,7 @@ use Rattle.ec_core.specs.Calls.{CallSoFar, under_way, call_with}
 use Rattle.ec_core.specs.Counts.{total, sum_to}
 use Rattle.ec_core.specs.Rounds.{read_of}
 use Rattle.ec_order.specs.declared.call.Call.{Call}
-use Rattle.ec_order.specs.Calls.{ended_by}
+use Rattle.ec_order.specs.Calls.{ended_by, stands_alone}
 use Rattle.ec_order.specs.Index.{advanced}
 use Rattle.ec_order.specs.Points.{point_of}
 use Rattle.ec_order.specs.Walk.{is_alone}
@@ -84,9 +84,9 @@ abbrev pub left_of : Act → Act → Option ℕ
 left_of Go op = read_of op
 left_of _ op = None
 
--- an entry with this act, which is a call by itself, is taken in; the moment is the one after it
+-- an entry with this act, which is a whole call, is taken in; the moment is the one after it
 pub record NotesAlone (old : List Raised) (act : Act) (moment : ℕ) (new : List Raised) : Type 0 where
-  pub after : (t : Tables) (past : List Entry) (x : Entry) → IsDeclared t → IsAccepted t (x ∷ past) → act ≡ x.act → is_alone x.act ≡ true → moment ≡ length past + 1
+  pub after : (t : Tables) (past : List Entry) (x : Entry) → IsDeclared t → IsAccepted t (x ∷ past) → act ≡ x.act → stands_alone x ≡ true → moment ≡ length past + 1
       → AreRaised old past → AreRaised new (x ∷ past)
 
 -- an entry with this act, which is one of a read or an await, is taken in, and the call that it ends, if it ends one

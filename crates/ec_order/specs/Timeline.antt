@@ -1,5 +1,5 @@
 -- The finished calls of a history by their points, as they are gathered while the history goes past.
-use Rattle.std.specs.Prelude.{◌≡◌, ℕ, ◌+◌, ◌≤◌, Bool, true, false, List, [], ◌∷◌, length, map, reverse, Option}
+use Rattle.std.specs.Prelude.{◌≡◌, ℕ, ◌+◌, ◌≤◌, Bool, true, false, not, nat_lt, List, [], ◌∷◌, length, map, reverse, Option, if◌then◌else◌}
 use Rattle.std.specs.List.{filter}
 use Rattle.ec_count.specs.Tables.{Tables}
 use Rattle.ec_core.specs.declared.act.Entry.{Entry}
@@ -9,6 +9,7 @@ use Rattle.ec_core.specs.Ongoing.{AreCalls}
 use Rattle.ec_order.specs.declared.call.Call.{Call}
 use Rattle.ec_order.specs.declared.dated.Dated.{Dated}
 use Rattle.ec_order.specs.declared.placed.Placed.{Placed}
+use Rattle.ec_order.specs.Calls.{stands_alone}
 use Rattle.ec_order.specs.Points.{by_moments, ordered_by_points}
 use Rattle.ec_order.specs.Raised.{Raised, AreRaised, IsPointBy}
 use Rattle.ec_order.specs.Verdicts.{IsGood}
@@ -38,8 +39,8 @@ dated_by_points t past = map dated (ordered_by_points t past)
 -- WHAT IS KEPT
 
 -- of the declarations: the calls under way; the advances of each eventcount, of which the moments are kept of those alone that were
--- made while a read or an await of it is under way; of each entry whether it is a call by itself, those that are, the finished reads
--- and awaits by their points, and whether memory was refused for one
+-- made while a read or an await of it is under way; of each entry whether it is a whole call, those that are, the finished reads and
+-- awaits of more entries by their points, and whether memory was refused for one
 pub record Timed : Type 0 where
   pub setup : Tables
   pub under_way : List (Option Ongoing)
@@ -49,9 +50,13 @@ pub record Timed : Type 0 where
   pub readings : List Dated
   pub lacks : Bool
 
--- whether an entry is a call by itself
-abbrev pub stands_alone : Entry → Bool
-stands_alone x = is_alone x.act
+-- whether a call has more than one entry
+abbrev pub is_long : Placed → Bool
+is_long p = nat_lt p.call.first p.call.last
+
+-- the finished reads and awaits of more than one entry, by their last entries
+abbrev pub long_readings : Tables → List Entry → List Placed
+long_readings t past = filter is_long (readings t past)
 
 -- it is that after an accepted past
 pub record IsTimed (k : Timed) (past : List Entry) : Type 0 where
@@ -59,7 +64,7 @@ pub record IsTimed (k : Timed) (past : List Entry) : Type 0 where
   pub advances : AreRaised k.advances past
   pub marks : k.marks ≡ map stands_alone (reverse past)
   pub alone : k.alone ≡ filter stands_alone (reverse past)
-  pub readings : (n : ℕ) → length past ≤ n → k.readings ≡ map dated (by_moments (readings k.setup past) n)
+  pub readings : (n : ℕ) → length past ≤ n → k.readings ≡ map dated (by_moments (long_readings k.setup past) n)
 
 -- a call that an entry ends is put in by its point, found by the advances that are kept before that entry is taken in
 pub record PutsByPoint (kept : List Raised) (c : Call) (old new : List Dated) : Type 0 where
@@ -80,15 +85,27 @@ abbrev pub TimesOn : Timed → Timed → List Entry → Type 0
 TimesOn start now past = (now.setup ≡ start.setup) × IsTimeline now past
 
 -- ONE AFTER ANOTHER
+-- Marks say of the entries from a position on whether they are whole calls, and beside them stand those that are.
 
--- what comes after those whose point is moment k, where these say of the entries from position k on whether they are calls by
--- themselves, and these are those that are, and the reads and awaits that are left
+-- whether the next entry is a read or an await that is a whole call
+abbrev pub read_comes : List Bool → List Entry → Bool
+read_comes (true ∷ marks) (x ∷ alone) = not (is_alone x.act)
+read_comes marks alone = false
+
+-- the moment at which a read or an await of more entries comes: that of its point, but the one after it where it waits for a read or an
+-- await that is a whole call, and so has its point there and ends no later
+abbrev pub due_moment : Bool → Dated → ℕ
+due_moment waits d = if waits then d.point + 1 else d.point
+
+-- what comes after those that are due at moment k, where these are the entries from position k on, and the reads and awaits of more
+-- entries that are left
 unfoldable pub dates_on : ℕ → List Bool → List Entry → List Dated → List Dated
 dates_on k [] alone readings = []
-dates_on k (true ∷ marks) [] readings = due_then dated_point (k + 1) (dates_on (k + 1) marks []) readings
-dates_on k (true ∷ marks) (x ∷ alone) readings = record { point = k; entry = x } ∷ due_then dated_point (k + 1) (dates_on (k + 1) marks alone) readings
-dates_on k (false ∷ marks) alone readings = due_then dated_point (k + 1) (dates_on (k + 1) marks alone) readings
+dates_on k (true ∷ marks) [] readings = due_then (due_moment (read_comes marks [])) (k + 1) (dates_on (k + 1) marks []) readings
+dates_on k (true ∷ marks) (x ∷ alone) readings =
+    record { point = k; entry = x } ∷ due_then (due_moment (read_comes marks alone)) (k + 1) (dates_on (k + 1) marks alone) readings
+dates_on k (false ∷ marks) alone readings = due_then (due_moment (read_comes marks alone)) (k + 1) (dates_on (k + 1) marks alone) readings
 
 -- the calls from moment k on
 abbrev pub dates : ℕ → List Bool → List Entry → List Dated → List Dated
-dates k marks alone readings = due_then dated_point k (dates_on k marks alone) readings
+dates k marks alone readings = due_then (due_moment (read_comes marks alone)) k (dates_on k marks alone) readings

@@ -37,7 +37,7 @@ impl Advances {
         })
     }
 
-    /// Takes in an entry that is a call by itself, by its act and the moment after it.
+    /// Takes in an entry that is a whole call, by its act and the moment after it.
     #[tactic(auto, using(crate::proofs::Raising::notes_none, crate::proofs::Raising::notes_one))]
     #[inline(always)]
     pub(crate) fn note(&mut self, act: Act, moment: usize) -> Result<(), AllocError>

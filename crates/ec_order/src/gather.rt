@@ -9,7 +9,7 @@ use crate::scan::take_in;
 use ec_core::{Act, Calls, Run};
 use std::alloc::{AllocError, Global};
 
-/// Whether an entry with this act is a whole call. A read or an await is none: it may go on by `go` entries.
+/// Whether each entry with this act is a whole call. One of a read or an await may not be: it may go on by `go` entries.
 #[inline(always)]
 pub(crate) fn is_alone(act: Act) -> bool
     ensures { result ≡ is_alone act }

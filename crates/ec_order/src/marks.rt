@@ -1,6 +1,6 @@
 //! Marks, in a bit each.
-ghost use Rattle.std.specs.Prelude.{◌≡◌, ◌+◌, ◌^◌, ◌<◌, ◌≤◌, [], ◌∷◌, ◌++◌, drop, length, OnOk};
-ghost use Rattle.ec_order.specs.Marks.{marks_of, marks_in, AreMarks};
+ghost use Rattle.std.specs.Prelude.{◌≡◌, ◌+◌, ◌^◌, ◌<◌, ◌≤◌, [], ◌∷◌, ◌++◌, drop, length, slice_get, OnOk};
+ghost use Rattle.ec_order.specs.Marks.{low_marks, marks_of, marks_in, AreMarks};
 
 use std::alloc::{AllocError, Global};
 use std::marker::Model;
@@ -127,6 +127,34 @@ impl<'a> Model for MarksLeft<'a> {
     ghost view = { λ s. low_marks s.left s.word ++ marks_in (drop s.place s.words.now) s.last };
 
     ghost invariant = { λ s. (AreMarks s.words.now s.last) × (s.left < 64) };
+}
+
+impl<'a> MarksLeft<'a> {
+    /// The next of them.
+    #[inline(always)]
+    pub(crate) fn peek(&self) -> Option<bool>
+        ensures { result ≡ slice_get self.now 0 }
+    {
+        first_mark(self.words, self.last, self.place, self.word, self.left)
+    }
+}
+
+/// The first of the marks that are left. (It is handed their parts, so that these may stand in registers where they are gone on with.)
+#[cold]
+#[inline(never)]
+fn first_mark(words: &[u64], last: u64, place: usize, word: u64, left: u32) -> Option<bool>
+    requires are { AreMarks words.now last }
+    requires few { left < 64 }
+    ensures { result ≡ slice_get (low_marks left word ++ marks_in (drop place words.now) last) 0 }
+{
+    let mut marks = MarksLeft {
+        words,
+        last,
+        place,
+        word,
+        left,
+    };
+    marks.next()
 }
 
 impl<'a> Iterator for MarksLeft<'a> {

@@ -1,11 +1,11 @@
 //! The finished calls of a history by their points, gathered while the history goes past.
-ghost use Rattle.std.specs.Prelude.{◌≡◌, ◌+◌, ◌<◌, ◌^◌, false, List, [], Some, IfOk, OnOk};
+ghost use Rattle.std.specs.Prelude.{◌≡◌, ◌+◌, ◌<◌, ◌^◌, true, false, List, [], Some, IfOk, IfSome, OnOk};
 ghost use Rattle.ec_core.specs.declared.act.Entry.{Entry};
 ghost use Rattle.ec_core.specs.Acceptance.{IsAccepted};
-ghost use Rattle.ec_core.specs.Calls.{is_go, is_pending};
+ghost use Rattle.ec_core.specs.Calls.{is_go};
 ghost use Rattle.ec_order.specs.Raised.{FollowsReading};
-ghost use Rattle.ec_order.specs.Walk.{is_alone};
-ghost use Rattle.ec_order.specs.Timeline.{call_entry, dated_by_points, dates, IsTimeline, PutsByPoint, TakesIn, TellsGood};
+ghost use Rattle.ec_order.specs.Walk.{IsDue};
+ghost use Rattle.ec_order.specs.Timeline.{call_entry, dated_by_points, dates, due_moment, read_comes, IsTimeline, PutsByPoint, TakesIn, TellsGood};
 
 use crate::advances::Advances;
 use crate::by_points::ByPoints;
@@ -19,9 +19,9 @@ use std::alloc::{AllocError, Global};
 use std::marker::Model;
 
 /// The finished calls of a history by their points, gathered while the history goes past: each entry is handed to it once, by
-/// `take`. Of an advance, a ticket, a put, a get or a hand it keeps the entry; of a finished read or await one entry that tells it,
-/// and its point; and of every entry one bit. The moment of an advance is kept only while a read or an await of its eventcount is
-/// under way.
+/// `take`. Of a call of one entry, as each advance is, and each read that is told at once, it keeps that entry; of a finished read or await
+/// of more entries one entry that tells it, and its point; and of every entry one bit. The moment of an advance is kept only while a read
+/// or an await of its eventcount is under way.
 #[derive(Drop)]
 pub struct Timeline<'a> {
     setup: &'a Setup,
@@ -85,7 +85,7 @@ impl<'a> Timeline<'a> {
     }
 
     /// Takes the next entry in, at this position.
-    #[tactic(auto, using(crate::proofs::Timing::takes_alone, crate::proofs::Timing::takes_none))]
+    #[tactic(auto, using(crate::proofs::Timing::takes_alone, crate::proofs::Timing::takes_pending))]
     #[inline(always)]
     fn gather(&mut self, place: usize, entry: &Entry) -> Result<(), AllocError>
         requires { place + 1 < 2 ^ 64 }
@@ -93,17 +93,14 @@ impl<'a> Timeline<'a> {
         ensures kept { OnOk result (TakesIn self.old place entry.now self.new) }
     {
         self.setup.known();
-        if is_alone(entry.act) {
+        if is_last(entry.reply) {
+            if let Act::Go = entry.act {
+                return self.end(place, entry);
+            }
             self.advances.note(entry.act, place + 1)?;
             self.marks.push(true)?;
             self.alone.push(*entry)?;
             return Ok(());
-        }
-        if is_last(entry.reply) {
-            return match entry.act {
-                Act::Go => self.end(place, entry),
-                _ => self.tell(place, entry),
-            };
         }
         self.marks.push(false)?;
         go_on(&mut self.under_way, self.setup, entry, place);
@@ -111,27 +108,12 @@ impl<'a> Timeline<'a> {
         Ok(())
     }
 
-    /// Takes in a read or an await that is told at once, at this position: that is its point. (This and `end` stand apart from `gather`,
-    /// which is put into a function that is large by then.)
-    #[tactic(auto, using(crate::proofs::Timing::takes_told))]
-    #[inline(never)]
-    fn tell(&mut self, place: usize, entry: &Entry) -> Result<(), AllocError>
-        requires reads { is_alone entry.now.act ≡ false }
-        requires begins { is_go entry.now.act ≡ false }
-        requires ends { is_pending entry.now.reply ≡ false }
-        ensures setup { self.new.setup ≡ self.old.setup }
-        ensures kept { OnOk result (TakesIn self.old place entry.now self.new) }
-    {
-        self.setup.known();
-        self.marks.push(false)?;
-        self.readings.put(place, entry)
-    }
-
-    /// Takes in a go that ends a read or an await, at this position.
+    /// Takes in a go that ends a read or an await, at this position. (It stands apart from `gather`, which is put into a function that is
+    /// large by then.)
     #[tactic(auto, using(crate::proofs::Timing::takes_none, crate::proofs::Timing::takes_one))]
     #[inline(never)]
     fn end(&mut self, place: usize, entry: &Entry) -> Result<(), AllocError>
-        requires { is_alone entry.now.act ≡ false }
+        requires { is_go entry.now.act ≡ true }
         ensures setup { self.new.setup ≡ self.old.setup }
         ensures kept { OnOk result (TakesIn self.old place entry.now self.new) }
     {
@@ -171,6 +153,40 @@ impl<'a> Audit for Timeline<'a> {
             self.lacks = true;
         }
     }
+}
+
+/// Whether the next entry is a read or an await that is told at once.
+#[inline(always)]
+fn read_comes(marks: &MarksLeft<'_>, alone: &Entries<'_>) -> bool
+    ensures { result ≡ read_comes marks.now alone.now }
+{
+    let Some(true) = marks.peek() else {
+        return false;
+    };
+    match alone.peek() {
+        Some(entry) => !is_alone(entry.act),
+        None => false,
+    }
+}
+
+/// The read or await at a place among those of more than one entry, if it is due at a moment. Of those whose point is one moment the
+/// first is the one that is told at once, since it ends there.
+#[inline(always)]
+fn due(
+    readings: &ByPoints,
+    i: usize,
+    moment: usize,
+    marks: &MarksLeft<'_>,
+    alone: &Entries<'_>,
+) -> Option<Dated>
+    ensures value { IsDue (due_moment (read_comes marks.now alone.now)) readings.now i moment result }
+    ensures within { IfSome result (λ _. i + 1 < 2 ^ 64) }
+{
+    let dated = readings.due(i, moment)?;
+    if dated.point == moment && read_comes(marks, alone) {
+        return None;
+    }
+    Some(dated)
 }
 
 /// Finished calls by their points, one after another. A contract sees it as the list of those that are left.
@@ -221,7 +237,13 @@ impl<'a> Iterator for InTime<'a> {
 
     fn next(&mut self) -> Option<Dated> {
         loop {
-            if let Some(dated) = self.readings.due(self.given, self.position) {
+            if let Some(dated) = due(
+                self.readings,
+                self.given,
+                self.position,
+                &self.marks,
+                &self.alone,
+            ) {
                 self.given += 1;
                 return Some(dated);
             }

@@ -98,6 +98,25 @@ pub(crate) static AWAIT_OF_ROUNDS: History = history!(
     (2, Go, Number(2))
 );
 
+/// The same, and an eventcount that the first signals alone and the last observes.
+const TWO_SIGNALLERS_AND_ONE: World = World {
+    limit: 10,
+    workers: 4,
+    lines: &[Line::Event(&[0, 1], &[2, 3]), Line::Event(&[0], &[3])],
+};
+
+/// While a read goes on, an advance makes the total that it will tell. At the moment after that another worker's read is told at once, and
+/// then its await.
+pub(crate) static READ_AND_READS_AT_ONCE: History = history!(
+    TWO_SIGNALLERS_AND_ONE,
+    (2, Read(0), Pending),
+    (0, Advance(0), Done),
+    (3, Read(1), Number(0)),
+    (3, Await(1, 0), Number(0)),
+    (1, Advance(0), Done),
+    (2, Go, Number(1))
+);
+
 /// Four workers, of whom the third observes an eventcount of the others.
 const THREE_SIGNALLERS: World = World {
     limit: 10,

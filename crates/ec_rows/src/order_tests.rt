@@ -4,7 +4,8 @@ use crate::drive::Told::{Done, Number};
 use crate::drive::{History, Step, act_of, is_told, right, run_of};
 use crate::histories::{
     AWAIT_AND_READ_THAT_OVERLAP, AWAIT_OF_ROUNDS, AWAIT_OF_ZERO, MANY_ADVANCES, OVERTAKEN_READ,
-    READ_OVERTAKEN_OFTEN, READS_THAT_OVERLAP, SLOW_READ, TOTAL_IN_THE_MIDDLE, TWO_READS,
+    READ_AND_READS_AT_ONCE, READ_OVERTAKEN_OFTEN, READS_THAT_OVERLAP, SLOW_READ,
+    TOTAL_IN_THE_MIDDLE, TWO_READS,
 };
 use ec_core::{Calls, Entry, Run, walk};
 use ec_order::{Call, Dated, Placed, Timeline, Verdict, calls, in_order, order, verify};
@@ -294,6 +295,22 @@ static AWAIT_AND_READ: [Row; 2] = [
 #[test]
 fn an_await_that_goes_on_when_a_read_ends(rt: HostRuntime) -> Result<(), Fail> {
     shows(rt.alloc(), &AWAIT_AND_READ_THAT_OVERLAP, &AWAIT_AND_READ)
+}
+
+static AT_ONCE_FIRST: [Row; 2] = [
+    Row::Order(&[
+        (1, (0, Advance(0), Done)),
+        (2, (3, Read(1), Number(0))),
+        (2, (2, Read(0), Number(1))),
+        (3, (3, Await(1, 0), Number(0))),
+        (4, (1, Advance(0), Done)),
+    ]),
+    Row::Good,
+];
+
+#[test]
+fn a_read_told_at_once_before_a_longer_one_of_its_moment(rt: HostRuntime) -> Result<(), Fail> {
+    shows(rt.alloc(), &READ_AND_READS_AT_ONCE, &AT_ONCE_FIRST)
 }
 
 static THREE_ROUNDS: [Row; 1] = [Row::Order(&[

@@ -171,11 +171,14 @@ fn has_entries(list: &Segments, many: usize) -> bool {
     let mut entries = list.entries();
     for place in 0..many {
         let right = Some(entry_at(place));
-        if list.get(place) != right || entries.next() != right {
+        if list.get(place) != right || entries.peek() != right || entries.next() != right {
             return false;
         }
     }
-    list.len() == many && list.get(many).is_none() && entries.next().is_none()
+    list.len() == many
+        && list.get(many).is_none()
+        && entries.peek().is_none()
+        && entries.next().is_none()
 }
 
 #[test]

@@ -54,7 +54,8 @@ fn put_text<W: Write>(out: &mut Out<'_, W>, heading: &Heading, world: &World, ca
     out.put(b"end\n");
 }
 
-/// Writes the text, or a front of it.
+/// Writes the text, or a front of it. (It stands apart from its caller, which reads the trace: each way has the registers to itself.)
+#[inline(never)]
 pub fn write_text<W: Write>(
     out: &mut W,
     heading: &Heading,

@@ -1,6 +1,6 @@
 use Rattle.std.proofs.Common.{◌≡◌, ◌+◌, ◌*◌, ◌<◌, ◌≤◌, ◌∙◌, [], ◌∷◌, ◌++◌, append_assoc, length, vec_capacity, ap, sym, subst, arith}
 use Rattle.std.proofs.lemmas.List.{length-map}
-use Rattle.ec_core.specs.Stored.{words_of, words_in, stored_entry, stored_entries, end_of, value_in, number_in, IsSegment}
+use Rattle.ec_core.specs.Stored.{words_of, words_in, stored_entry, stored_entries, end_of, value_in, IsSegment}
 use Rattle.ec_core.proofs.Keeping.{one_more, is_segment_still}
 use Rattle.ec_core.proofs.segment.Segment.push.Goals as goal
 

@@ -1,6 +1,6 @@
 use Rattle.std.proofs.Common.{subst, sym, ◌∙◌}
 use Rattle.ec_core.specs.Scanning.{Tracked, IsTracked}
-use Rattle.ec_core.proofs.shared.Tracking.{tracked, tracked_take, tracked_pending}
+use Rattle.ec_core.proofs.shared.Tracking.{tracked_take, tracked_pending}
 use Rattle.ec_core.proofs.tracker.Tracker.take.Goals as goal
 
 pub returns : goal.returns

@@ -1,6 +1,6 @@
-use Rattle.std.proofs.Common.{◌≡◌, List, Bool, true, ◌∷◌, ◌+◌, rules, arith, sym, ◌∙◌, ap, drop, length}
+use Rattle.std.proofs.Common.{◌≡◌, List, Bool, true, [], ◌∷◌, ◌+◌, rules, arith, subst, sym, ◌∙◌, ap, drop, length}
 use Rattle.ec_order.specs.declared.dated.Dated.{Dated}
-use Rattle.ec_order.specs.Timeline.{dates}
+use Rattle.ec_order.specs.Timeline.{dates, read_comes}
 use Rattle.ec_order.proofs.Dates.{NoneDue, dates_due, dates_own, dates_pass, dates_end}
 use Rattle.ec_order.proofs.timeline.InTimeIterator.next.Goals as goal
 
@@ -16,7 +16,8 @@ returns-in-Some-clause-goes c = let e = returns-in-Some-clause-steps c in search
 pub returns-in_default-next-clause-steps : goal.returns-in_default-next-clause-steps
 returns-in_default-next-clause-steps c =
     let s = c.loop-dated.self-inside in
-    let none : NoneDue s.readings.now s.given s.position = λ d at. c.in_default.ensures.value d at in
+    let due : NoneDue s.readings.now s.given s.position (read_comes s.marks s.alone) = λ d at. c.in_default.ensures.value d at in
+    let none : NoneDue s.readings.now s.given s.position (read_comes [] s.alone) = subst (NoneDue s.readings.now s.given s.position) (ap (λ ms. read_comes ms s.alone) c.in_default-next.ensures.steps.0) due in
     let left : List Bool → List Dated = λ ms. dates s.position ms s.alone (drop s.given s.readings.now) in
     let ends = dates_end s.position s.alone s.readings.now s.given none in (
       sym c.self.view_is ∙ sym c.loop-dated.invariant.left ∙ ap left c.in_default-next.ensures.steps.0 ∙ ends,
@@ -26,9 +27,11 @@ returns-in_default-next-clause-steps c =
 pub returns-in-Some-next-2-clause-steps : goal.returns-in-Some-next-2-clause-steps
 returns-in-Some-next-2-clause-steps c =
     let s = c.loop-dated.self-inside in
-    let none : NoneDue s.readings.now s.given s.position = λ d at. c.in_default.ensures.value d at in
+    let due : NoneDue s.readings.now s.given s.position (read_comes s.marks s.alone) = λ d at. c.in_default.ensures.value d at in
     let marks : s.marks ≡ true ∷ c.next.new.self = c.in-Some-next.ensures.steps ∙ ap (λ b. b ∷ c.next.new.self) c.if-is_alone.true in
     let alone : s.alone ≡ c.in-Some-next-2.entry ∷ c.next-then-is_alone.new.self = c.in-Some-next-2.ensures.steps in
+    let none : NoneDue s.readings.now s.given s.position (read_comes (true ∷ c.next.new.self) (c.in-Some-next-2.entry ∷ c.next-then-is_alone.new.self)) =
+    subst (NoneDue s.readings.now s.given s.position) (ap (λ ms. read_comes ms s.alone) marks ∙ ap (read_comes (true ∷ c.next.new.self)) alone) due in
     sym c.self.view_is ∙ sym c.loop-dated.invariant.left
     ∙ ap (λ ms. dates s.position ms s.alone (drop s.given s.readings.now)) marks ∙ ap (λ xs. dates s.position (true ∷ c.next.new.self) xs (drop s.given s.readings.now)) alone
     ∙ dates_own s.position c.next.new.self c.in-Some-next-2.entry c.next-then-is_alone.new.self s.readings.now s.given none
@@ -39,7 +42,8 @@ returns-in-Some-next-2-clause-goes c = let e = returns-in-Some-next-2-clause-ste
 pub loop-dated-preserved-in_default-next-2 : goal.loop-dated-preserved-in_default-next-2
 loop-dated-preserved-in_default-next-2 c =
     let s = c.loop-dated.self-inside in
-    let none : NoneDue s.readings.now s.given s.position = λ d at. c.in_default.ensures.value d at in
+    let due : NoneDue s.readings.now s.given s.position (read_comes s.marks s.alone) = λ d at. c.in_default.ensures.value d at in
+    let none : NoneDue s.readings.now s.given s.position (read_comes (c.in-Some-next.is_alone ∷ c.next.new.self) s.alone) = subst (NoneDue s.readings.now s.given s.position) (ap (λ ms. read_comes ms s.alone) c.in-Some-next.ensures.steps) due in
     let rest = drop s.given s.readings.now in
     let out = c.in_default-next-2.ensures.steps in
     record {
@@ -52,7 +56,8 @@ loop-dated-preserved-in_default-next-2 c =
 pub loop-dated-preserved : goal.loop-dated-preserved
 loop-dated-preserved c =
     let s = c.loop-dated.self-inside in
-    let none : NoneDue s.readings.now s.given s.position = λ d at. c.in_default.ensures.value d at in
+    let due : NoneDue s.readings.now s.given s.position (read_comes s.marks s.alone) = λ d at. c.in_default.ensures.value d at in
+    let none : NoneDue s.readings.now s.given s.position (read_comes (c.in-Some-next.is_alone ∷ c.next.new.self) s.alone) = subst (NoneDue s.readings.now s.given s.position) (ap (λ ms. read_comes ms s.alone) c.in-Some-next.ensures.steps) due in
     let is = c.if-is_alone.false in
     record {
       left = sym (
