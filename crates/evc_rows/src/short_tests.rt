@@ -14,10 +14,11 @@ static WHOLE: [u8; 8192] = [b'x'; 8192];
 static BEFORE: [usize; 9] = [0, 8127, 8128, 8129, 8159, 8160, 8161, 8191, 8192];
 
 /// Bytes to be put with a short text.
-static DASHES: [u8; 33] = [b'-'; 33];
+static LETTERS: &[u8; 33] = b"ABCDEFGHIJKLMNOPQRSTUVWXYZ-+*/<>=";
 
-/// How many of these are put: more than 32 are put by themselves.
-static WITH: [usize; 5] = [0, 1, 3, 32, 33];
+/// How many of these are put: so many that each way to write a few is gone, by its least and its greatest number; and more than 32 are
+/// put by themselves.
+static WITH: [usize; 12] = [0, 1, 2, 3, 4, 7, 8, 15, 16, 31, 32, 33];
 
 #[test]
 fn short_texts_have_32_bytes_at_most(rt: HostRuntime) {
@@ -64,29 +65,29 @@ fn short_texts_are_put(rt: HostRuntime) {
     }
 }
 
-/// Whether so many dashes and the longest text are put behind so many bytes.
-fn is_put_with(alloc: Global, before: usize, dashes: usize) -> bool {
+/// Whether so many letters and the longest text are put behind so many bytes.
+fn is_put_with(alloc: Global, before: usize, letters: usize) -> bool {
     let mut longest = ShortText::new();
     let fits = longest.take_in(LONGEST);
     let mut writer = Fickle::new(alloc, 8192, Trouble::Fails, usize::MAX);
     let mut out = Out::new(&mut writer);
     out.put(&WHOLE[..before.min(8192)]);
-    out.put_with_short(&DASHES[..dashes.min(33)], &longest);
+    out.put_with_short(&LETTERS[..letters.min(33)], &longest);
     let done = out.finish().is_ok();
     let bytes = writer.bytes.as_slice();
     fits && done
-        && bytes.len() == before.min(8192) + dashes.min(33) + 32
+        && bytes.len() == before.min(8192) + letters.min(33) + 32
         && bytes.ends_with(LONGEST)
-        && bytes[before.min(8192)..].starts_with(&DASHES[..dashes.min(33)])
+        && bytes[before.min(8192)..].starts_with(&LETTERS[..letters.min(33)])
 }
 
 #[test]
 fn short_texts_are_put_with_bytes_before_them(rt: HostRuntime) {
     for before in &BEFORE {
-        for dashes in &WITH {
+        for letters in &WITH {
             assert!(rt;
-                is_put_with(rt.alloc(), *before, *dashes),
-                "{dashes} at {before}"
+                is_put_with(rt.alloc(), *before, *letters),
+                "{letters} at {before}"
             );
         }
     }
