@@ -156,6 +156,8 @@ fn write_found<W: Write, N: Write>(
 ///
 /// The trace goes past once, and nothing is kept of its entries but what the audits find. Nothing is
 /// written to `out` before the trace was read to its end and each group was audited.
+// (Put into its caller, it would share the registers with each other task.)
+#[inline(never)]
 pub fn audit<R: Read, W: Write, N: Write>(
     alloc: Global,
     reader: &mut R,

@@ -109,6 +109,8 @@ fn write_checked<W: Write, N: Write>(
 /// Reads a trace, and writes the order of its finished calls and the totals; notes say what is wrong.
 ///
 /// The trace goes past once, and no run of it is kept. Nothing is written to `out` before the trace was read to its end.
+// (Put into its caller, it would share the registers with each other task.)
+#[inline(never)]
 pub fn check<R: Read, W: Write, N: Write>(
     alloc: Global,
     reader: &mut R,
