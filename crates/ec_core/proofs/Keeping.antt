@@ -1,8 +1,7 @@
 -- How entries are kept beside the words of their numbers.
-use Rattle.std.proofs.Common.{◌≡◌, ℕ, zero, suc, ◌+◌, ◌*◌, ◌/◌, ◌%◌, ◌^◌, ◌≤◌, true, false, cond, List, [], ◌∷◌, ◌++◌, append_assoc, length, length-append, nat_lt, slice_index, Option, Some, None, refl, ap, sym, ◌∙◌, arith}
-use Rattle.std.specs.List.{All}
-use Rattle.std.proofs.lemmas.List.{get_or_append_left, map-append}
-use Rattle.std.proofs.lemmas.List.Elements.{All-head, All-tail, All-push, All-weaker}
+use Rattle.std.proofs.Common.{◌≡◌, ℕ, zero, suc, ◌+◌, ◌-◌, ◌*◌, ◌/◌, ◌%◌, ◌^◌, ◌<◌, ◌≤◌, true, false, cond, List, [], ◌∷◌, ◌++◌, append-nil, drop, take, length, length-append, nat_lt, slice_get, Some, refl, ap, sym, ◌∙◌, arith}
+use Rattle.std.proofs.lemmas.Bool.{lt-ltb}
+use Rattle.std.proofs.lemmas.List.{drop-append-le, drop-drop, length-drop, nil_from_length, take-append-le, take_all}
 use Rattle.ec_core.specs.declared.act.Act.{Act}
 use Rattle.ec_core.specs.declared.act.Act.TheVariants as acts
 use Rattle.ec_core.specs.declared.act.Reply.{Reply}
@@ -13,67 +12,53 @@ use Rattle.ec_core.specs.declared.stored.Verb.TheVariants as verbs
 use Rattle.ec_core.specs.declared.stored.Answer.{Answer}
 use Rattle.ec_core.specs.declared.stored.Answer.TheVariants as answers
 use Rattle.ec_core.specs.declared.stored.Stored.{Stored}
-use Rattle.ec_core.specs.Stored.{words_of, words_in, short_at, long_at, verb_in, value_in, act_at, answer_in, number_in, reply_at, value_width, number_width, stored_entry, stored_entries, end_of, IsSegment}
+use Rattle.ec_core.specs.Stored.{words_of, words_in, short_of, long_of, verb_in, value_in, receiver_in, receiver_of, act_of, answer_in, number_in, reply_of, value_width, number_width, width, widths, kept_of, stored_entry, stored_entries, AreStarts, IsSegment}
 
 -- WHAT WAS ADDED IS READ
 
-first_word : (ws more : List ℕ) (x i : ℕ) → i ≡ length ws → slice_index (ws ++ x ∷ more) i ≡ x
-first_word [] more x zero h = refl
-first_word [] more x (suc i) h = absurd (omega arith)
-first_word (w ∷ ws) more x zero h = absurd (omega arith)
-first_word (w ∷ ws) more x (suc i) h = first_word ws more x i (omega arith)
+long_again : (n : ℕ) (more : List ℕ) → long_of ((n % 2 ^ 32) ∷ (n / 2 ^ 32) ∷ more) ≡ n
+long_again n more = omega arith
 
-second_word : (ws more : List ℕ) (x y j : ℕ) → j ≡ length ws + 1 → slice_index (ws ++ x ∷ y ∷ more) j ≡ y
-second_word [] more x y zero h = absurd (omega arith)
-second_word [] more x y (suc zero) h = refl
-second_word [] more x y (suc (suc j)) h = absurd (omega arith)
-second_word (w ∷ ws) more x y zero h = absurd (omega arith)
-second_word (w ∷ ws) more x y (suc j) h = second_word ws more x y j (omega arith)
-
-long_again : (ws more : List ℕ) (n i : ℕ) → i ≡ length ws → long_at (ws ++ (n % 2 ^ 32) ∷ (n / 2 ^ 32) ∷ more) i ≡ n
-long_again ws more n i h =
-    let low : slice_index (ws ++ (n % 2 ^ 32) ∷ (n / 2 ^ 32) ∷ more) i ≡ n % 2 ^ 32 = first_word ws ((n / 2 ^ 32) ∷ more) (n % 2 ^ 32) i h in
-    let high : slice_index (ws ++ (n % 2 ^ 32) ∷ (n / 2 ^ 32) ∷ more) (i + 1) ≡ n / 2 ^ 32 = second_word ws more (n % 2 ^ 32) (n / 2 ^ 32) (i + 1) (omega arith) in
-    omega arith
-
-act_again : (ws more : List ℕ) (act : Act) (i : ℕ) → i ≡ length ws → act_at (verb_in act) (ws ++ (words_of (value_in act) ++ more)) i ≡ act
-act_again ws more (acts.Advance e) i h = refl
-act_again ws more (acts.Read e) i h = refl
-act_again ws more (acts.Await e v) i h =
-    elim (nat_lt v (2 ^ 32)) as (λ b. act_at (cond b (verbs.Await e) (verbs.AwaitLong e)) (ws ++ (cond b (v ∷ []) ((v % 2 ^ 32) ∷ (v / 2 ^ 32) ∷ []) ++ more)) i ≡ acts.Await e v) [
-      | true ↦ ap (acts.Await e) (first_word ws more v i h)
-      | false ↦ ap (acts.Await e) (long_again ws more v i h)
+act_again : (act : Act) (more : List ℕ) → receiver_in act < 16 → act_of (verb_in act) (words_of (value_in act) ++ more) ≡ act
+act_again (acts.Advance e) more h = refl
+act_again (acts.Read e) more h = refl
+act_again (acts.Await e v) more h =
+    elim (nat_lt v (2 ^ 32)) as (λ b. act_of (cond b (verbs.Await e) (verbs.AwaitLong e)) (cond b (v ∷ []) ((v % 2 ^ 32) ∷ (v / 2 ^ 32) ∷ []) ++ more) ≡ acts.Await e v) [
+      | true ↦ refl
+      | false ↦ ap (acts.Await e) (long_again v more)
     ]
-act_again ws more acts.Go i h = refl
-act_again ws more (acts.Ticket q) i h = refl
-act_again ws more (acts.Put x v) i h =
-    elim (nat_lt v (2 ^ 32)) as (λ b. act_at (cond b (verbs.Put x) (verbs.PutLong x)) (ws ++ (cond b (v ∷ []) ((v % 2 ^ 32) ∷ (v / 2 ^ 32) ∷ []) ++ more)) i ≡ acts.Put x v) [
-      | true ↦ ap (acts.Put x) (first_word ws more v i h)
-      | false ↦ ap (acts.Put x) (long_again ws more v i h)
+act_again acts.Go more h = refl
+act_again (acts.Ticket q) more h = refl
+act_again (acts.Put x v) more h =
+    elim (nat_lt v (2 ^ 32)) as (λ b. act_of (cond b (verbs.Put x) (verbs.PutLong x)) (cond b (v ∷ []) ((v % 2 ^ 32) ∷ (v / 2 ^ 32) ∷ []) ++ more) ≡ acts.Put x v) [
+      | true ↦ refl
+      | false ↦ ap (acts.Put x) (long_again v more)
     ]
-act_again ws more (acts.Get x) i h = refl
-act_again ws more (acts.Hand e b) i h = refl
+act_again (acts.Get x) more h = refl
+act_again (acts.Hand e b) more h =
+    ap (λ t. acts.Hand e (receiver_of (short_of (cond t (b ∷ []) ((b % 2 ^ 32) ∷ (b / 2 ^ 32) ∷ []) ++ more)))) (lt-ltb b (2 ^ 32) (omega arith))
+    ∙ ap (λ t. acts.Hand e (cond t b 0)) (lt-ltb b 16 h)
 
-reply_again : (ws : List ℕ) (reply : Reply) (i : ℕ) → i ≡ length ws → reply_at (answer_in reply) (ws ++ words_of (number_in reply)) i ≡ reply
-reply_again ws replies.Done i h = refl
-reply_again ws (replies.Number n) i h =
-    elim (nat_lt n (2 ^ 32)) as (λ b. reply_at (cond b answers.Number answers.LongNumber) (ws ++ cond b (n ∷ []) ((n % 2 ^ 32) ∷ (n / 2 ^ 32) ∷ [])) i ≡ replies.Number n) [
-      | true ↦ ap replies.Number (first_word ws [] n i h)
-      | false ↦ ap replies.Number (long_again ws [] n i h)
+reply_again : (reply : Reply) (more : List ℕ) → reply_of (answer_in reply) (words_of (number_in reply) ++ more) ≡ reply
+reply_again replies.Done more = refl
+reply_again (replies.Number n) more =
+    elim (nat_lt n (2 ^ 32)) as (λ b. reply_of (cond b answers.Number answers.LongNumber) (cond b (n ∷ []) ((n % 2 ^ 32) ∷ (n / 2 ^ 32) ∷ []) ++ more) ≡ replies.Number n) [
+      | true ↦ refl
+      | false ↦ ap replies.Number (long_again n more)
     ]
-reply_again ws replies.Pending i h = refl
+reply_again replies.Pending more = refl
 
-value_counted : (act : Act) → length (words_of (value_in act)) ≡ value_width (verb_in act)
-value_counted (acts.Advance e) = refl
-value_counted (acts.Read e) = refl
-value_counted (acts.Await e v) =
+value_counted : (act : Act) → receiver_in act < 16 → length (words_of (value_in act)) ≡ value_width (verb_in act)
+value_counted (acts.Advance e) h = refl
+value_counted (acts.Read e) h = refl
+value_counted (acts.Await e v) h =
     elim (nat_lt v (2 ^ 32)) as (λ b. length (cond b (v ∷ []) ((v % 2 ^ 32) ∷ (v / 2 ^ 32) ∷ [])) ≡ value_width (cond b (verbs.Await e) (verbs.AwaitLong e))) [ true ↦ refl | false ↦ refl ]
-value_counted acts.Go = refl
-value_counted (acts.Ticket q) = refl
-value_counted (acts.Put x v) =
+value_counted acts.Go h = refl
+value_counted (acts.Ticket q) h = refl
+value_counted (acts.Put x v) h =
     elim (nat_lt v (2 ^ 32)) as (λ b. length (cond b (v ∷ []) ((v % 2 ^ 32) ∷ (v / 2 ^ 32) ∷ [])) ≡ value_width (cond b (verbs.Put x) (verbs.PutLong x))) [ true ↦ refl | false ↦ refl ]
-value_counted (acts.Get x) = refl
-value_counted (acts.Hand e b) = refl
+value_counted (acts.Get x) h = refl
+value_counted (acts.Hand e b) h = ap (λ t. length (cond t (b ∷ []) ((b % 2 ^ 32) ∷ (b / 2 ^ 32) ∷ []))) (lt-ltb b (2 ^ 32) (omega arith))
 
 number_counted : (reply : Reply) → length (words_of (number_in reply)) ≡ number_width (answer_in reply)
 number_counted replies.Done = refl
@@ -81,111 +66,186 @@ number_counted (replies.Number n) =
     elim (nat_lt n (2 ^ 32)) as (λ b. length (cond b (n ∷ []) ((n % 2 ^ 32) ∷ (n / 2 ^ 32) ∷ [])) ≡ number_width (cond b answers.Number answers.LongNumber)) [ true ↦ refl | false ↦ refl ]
 number_counted replies.Pending = refl
 
--- what is kept of an entry whose words begin at a place
-abbrev pub kept_of : Entry → ℕ → Stored
-kept_of e place = record { worker = e.worker; answer = answer_in e.reply; verb = verb_in e.act; place = place }
-
-pub end_counted : (e : Entry) (place : ℕ) → end_of (kept_of e place) ≡ place + length (words_in e)
-end_counted e place =
-    let value : length (words_of (value_in e.act)) ≡ value_width (verb_in e.act) = value_counted e.act in
+pub width_counted : (e : Entry) → receiver_in e.act < 16 → length (words_in e) ≡ width (kept_of e)
+width_counted e h =
+    let value : length (words_of (value_in e.act)) ≡ value_width (verb_in e.act) = value_counted e.act h in
     let number : length (words_of (number_in e.reply)) ≡ number_width (answer_in e.reply) = number_counted e.reply in
     let both : length (words_in e) ≡ length (words_of (value_in e.act)) + length (words_of (number_in e.reply)) = length-append (words_of (value_in e.act)) (words_of (number_in e.reply)) in
     omega arith
 
--- an entry whose words stand behind these is the one that was kept
-pub entry_again : (ws : List ℕ) (e : Entry) (place : ℕ) → place ≡ length ws → stored_entry (ws ++ words_in e) (kept_of e place) ≡ e
-entry_again ws e place at =
+past_front : (front more : List ℕ) (n : ℕ) → length front ≡ n → drop n (front ++ more) ≡ more
+past_front [] more zero h = refl
+past_front [] more (suc n) h = absurd (omega arith)
+past_front (w ∷ front) more zero h = absurd (omega arith)
+past_front (w ∷ front) more (suc n) h = past_front front more n (omega arith)
+
+-- an entry whose words are these is the one that was kept
+entry_again : (e : Entry) → receiver_in e.act < 16 → stored_entry (words_in e) (kept_of e) ≡ e
+entry_again e h =
     let vs = words_of (value_in e.act) in
     let ns = words_of (number_in e.reply) in
-    let next = place + value_width (verb_in e.act) in
-    let value : length vs ≡ value_width (verb_in e.act) = value_counted e.act in
-    let front : length (ws ++ vs) ≡ length ws + length vs = length-append ws vs in
-    let behind : next ≡ length (ws ++ vs) = omega arith in
-    let act : act_at (verb_in e.act) (ws ++ (vs ++ ns)) place ≡ e.act = act_again ws ns e.act place at in
-    let reply : reply_at (answer_in e.reply) (ws ++ (vs ++ ns)) next ≡ e.reply =
-    ap (λ zs. reply_at (answer_in e.reply) zs next) (sym (append_assoc ws vs ns)) ∙ reply_again (ws ++ vs) e.reply next behind in
     let one : Act → Reply → Entry = λ a r. record { worker = e.worker; act = a; reply = r } in
-    ap (λ a. one a (reply_at (answer_in e.reply) (ws ++ (vs ++ ns)) next)) act ∙ ap (one e.act) reply
+    let rest : drop (value_width (verb_in e.act)) (vs ++ ns) ≡ ns = past_front vs ns (value_width (verb_in e.act)) (value_counted e.act h) in
+    let reply : reply_of (answer_in e.reply) ns ≡ e.reply = ap (reply_of (answer_in e.reply)) (sym (append-nil ns)) ∙ reply_again e.reply [] in
+    ap (λ a. one a (reply_of (answer_in e.reply) (drop (value_width (verb_in e.act)) (vs ++ ns)))) (act_again e.act ns h)
+    ∙ ap (λ zs. one e.act (reply_of (answer_in e.reply) zs)) rest ∙ ap (one e.act) reply
 
 -- WHAT WAS THERE STAYS
 
-short_still : (ws more : List ℕ) (i : ℕ) → i + 1 ≤ length ws → short_at (ws ++ more) i ≡ short_at ws i
-short_still ws more i h = get_or_append_left ws more 0 i (omega arith)
+short_still : (ws more : List ℕ) → 1 ≤ length ws → short_of (ws ++ more) ≡ short_of ws
+short_still [] more h = absurd (omega arith)
+short_still (w ∷ ws) more h = refl
 
-long_still : (ws more : List ℕ) (i : ℕ) → i + 2 ≤ length ws → long_at (ws ++ more) i ≡ long_at ws i
-long_still ws more i h =
-    let low : slice_index (ws ++ more) i ≡ slice_index ws i = get_or_append_left ws more 0 i (omega arith) in
-    let high : slice_index (ws ++ more) (i + 1) ≡ slice_index ws (i + 1) = get_or_append_left ws more 0 (i + 1) (omega arith) in
-    omega arith
+long_still : (ws more : List ℕ) → 2 ≤ length ws → long_of (ws ++ more) ≡ long_of ws
+long_still [] more h = absurd (omega arith)
+long_still (w ∷ []) more h = absurd (omega arith)
+long_still (w ∷ x ∷ ws) more h = refl
 
-act_still : (ws more : List ℕ) (v : Verb) (i : ℕ) → i + value_width v ≤ length ws → act_at v (ws ++ more) i ≡ act_at v ws i
-act_still ws more (verbs.Advance e) i h = refl
-act_still ws more (verbs.Read e) i h = refl
-act_still ws more (verbs.Await e) i h = ap (acts.Await e) (short_still ws more i h)
-act_still ws more (verbs.AwaitLong e) i h = ap (acts.Await e) (long_still ws more i h)
-act_still ws more verbs.Go i h = refl
-act_still ws more (verbs.Ticket q) i h = refl
-act_still ws more (verbs.Put x) i h = ap (acts.Put x) (short_still ws more i h)
-act_still ws more (verbs.PutLong x) i h = ap (acts.Put x) (long_still ws more i h)
-act_still ws more (verbs.Get x) i h = refl
-act_still ws more (verbs.Hand e b) i h = refl
+act_still : (ws more : List ℕ) (v : Verb) → value_width v ≤ length ws → act_of v (ws ++ more) ≡ act_of v ws
+act_still ws more (verbs.Advance e) h = refl
+act_still ws more (verbs.Read e) h = refl
+act_still ws more (verbs.Await e) h = ap (acts.Await e) (short_still ws more h)
+act_still ws more (verbs.AwaitLong e) h = ap (acts.Await e) (long_still ws more h)
+act_still ws more verbs.Go h = refl
+act_still ws more (verbs.Ticket q) h = refl
+act_still ws more (verbs.Put x) h = ap (acts.Put x) (short_still ws more h)
+act_still ws more (verbs.PutLong x) h = ap (acts.Put x) (long_still ws more h)
+act_still ws more (verbs.Get x) h = refl
+act_still ws more (verbs.Hand e) h = ap (λ n. acts.Hand e (receiver_of n)) (short_still ws more h)
 
-reply_still : (ws more : List ℕ) (a : Answer) (i : ℕ) → i + number_width a ≤ length ws → reply_at a (ws ++ more) i ≡ reply_at a ws i
-reply_still ws more answers.Done i h = refl
-reply_still ws more answers.Number i h = ap replies.Number (short_still ws more i h)
-reply_still ws more answers.LongNumber i h = ap replies.Number (long_still ws more i h)
-reply_still ws more answers.Pending i h = refl
+reply_still : (ws more : List ℕ) (a : Answer) → number_width a ≤ length ws → reply_of a (ws ++ more) ≡ reply_of a ws
+reply_still ws more answers.Done h = refl
+reply_still ws more answers.Number h = ap replies.Number (short_still ws more h)
+reply_still ws more answers.LongNumber h = ap replies.Number (long_still ws more h)
+reply_still ws more answers.Pending h = refl
 
-entry_still : (ws more : List ℕ) (s : Stored) → end_of s ≤ length ws → stored_entry (ws ++ more) s ≡ stored_entry ws s
+entry_still : (ws more : List ℕ) (s : Stored) → width s ≤ length ws → stored_entry (ws ++ more) s ≡ stored_entry ws s
 entry_still ws more s h =
-    let next = s.place + value_width s.verb in
-    let act : act_at s.verb (ws ++ more) s.place ≡ act_at s.verb ws s.place = act_still ws more s.verb s.place (omega arith) in
-    let reply : reply_at s.answer (ws ++ more) next ≡ reply_at s.answer ws next = reply_still ws more s.answer next h in
+    let n = value_width s.verb in
     let one : Act → Reply → Entry = λ a r. record { worker = s.worker; act = a; reply = r } in
-    ap (λ a. one a (reply_at s.answer (ws ++ more) next)) act ∙ ap (one (act_at s.verb ws s.place)) reply
-
--- the numbers of each entry stand among these words
-abbrev AreThere : List ℕ → List Stored → Type 0
-AreThere ws = All (λ s. end_of s ≤ length ws)
-
-entries_still : (ws more : List ℕ) (ss : List Stored) → AreThere ws ss → stored_entries (ws ++ more) ss ≡ stored_entries ws ss
-entries_still ws more [] h = refl
-entries_still ws more (s ∷ ss) h =
-    let first : end_of s ≤ length ws = All-head (λ t. end_of t ≤ length ws) s ss h in
-    let rest : stored_entries (ws ++ more) ss ≡ stored_entries ws ss = entries_still ws more ss (All-tail (λ t. end_of t ≤ length ws) s ss h) in
-    ap (λ e. e ∷ stored_entries (ws ++ more) ss) (entry_still ws more s first) ∙ ap (λ es. stored_entry ws s ∷ es) rest
+    let act : act_of s.verb (ws ++ more) ≡ act_of s.verb ws = act_still ws more s.verb (omega arith) in
+    let rest : drop n (ws ++ more) ≡ drop n ws ++ more = drop-append-le n ws more (omega arith) in
+    let left : length (drop n ws) ≡ length ws - n = length-drop n ws in
+    let reply : reply_of s.answer (drop n ws ++ more) ≡ reply_of s.answer (drop n ws) = reply_still (drop n ws) more s.answer (omega arith) in
+    ap (λ a. one a (reply_of s.answer (drop n (ws ++ more)))) act ∙ ap (λ zs. one (act_of s.verb ws) (reply_of s.answer zs)) rest ∙ ap (one (act_of s.verb ws)) reply
 
 -- ONE MORE
 
-pub one_more : (ws : List ℕ) (ss : List Stored) (s : Stored) (e : Entry) → AreThere ws ss → stored_entry (ws ++ words_in e) s ≡ e
-    → stored_entries (ws ++ words_in e) (ss ++ s ∷ []) ≡ stored_entries ws ss ++ e ∷ []
-one_more ws ss s e there is =
-    let f = stored_entry (ws ++ words_in e) in
-    map-append f ss (s ∷ []) ∙ ap (λ es. es ++ f s ∷ []) (entries_still ws (words_in e) ss there) ∙ ap (λ x. stored_entries ws ss ++ x ∷ []) is
+pub one_more : (ws : List ℕ) (ss : List Stored) (e : Entry) → receiver_in e.act < 16 → length ws ≡ widths ss
+    → stored_entries (ws ++ words_in e) (ss ++ kept_of e ∷ []) ≡ stored_entries ws ss ++ e ∷ []
+unfolding widths stored_entries
+one_more ws [] e h is =
+    ap (λ zs. stored_entry (zs ++ words_in e) (kept_of e) ∷ []) (nil_from_length ws is) ∙ ap (λ x. x ∷ []) (entry_again e h)
+one_more ws (s ∷ ss) e h is =
+    let rest : drop (width s) (ws ++ words_in e) ≡ drop (width s) ws ++ words_in e = drop-append-le (width s) ws (words_in e) (omega arith) in
+    let left : length (drop (width s) ws) ≡ length ws - width s = length-drop (width s) ws in
+    ap (λ x. x ∷ stored_entries (drop (width s) (ws ++ words_in e)) (ss ++ kept_of e ∷ [])) (entry_still ws (words_in e) s (omega arith))
+    ∙ ap (λ zs. stored_entry ws s ∷ stored_entries zs (ss ++ kept_of e ∷ [])) rest
+    ∙ ap (λ es. stored_entry ws s ∷ es) (one_more (drop (width s) ws) ss e h (omega arith))
 
-two_at_most : (o : Option ℕ) → length (words_of o) ≤ 2
-two_at_most None = omega arith
-two_at_most (Some n) = elim (nat_lt n (2 ^ 32)) as (λ b. length (cond b (n ∷ []) ((n % 2 ^ 32) ∷ (n / 2 ^ 32) ∷ [])) ≤ 2) [ true ↦ omega arith | false ↦ omega arith ]
+pub widths_more : (ss : List Stored) (s : Stored) → widths (ss ++ s ∷ []) ≡ widths ss + width s
+unfolding widths
+widths_more [] s = omega arith
+widths_more (t ∷ ss) s = let rest : widths (ss ++ s ∷ []) ≡ widths ss + width s = widths_more ss s in omega arith
 
-four_at_most : (e : Entry) → length (words_in e) ≤ 4
-four_at_most e =
-    let both : length (words_in e) ≡ length (words_of (value_in e.act)) + length (words_of (number_in e.reply)) = length-append (words_of (value_in e.act)) (words_of (number_in e.reply)) in
-    let first : length (words_of (value_in e.act)) ≤ 2 = two_at_most (value_in e.act) in
-    let second : length (words_of (number_in e.reply)) ≤ 2 = two_at_most (number_in e.reply) in
+value_small : (v : Verb) → value_width v ≤ 2
+value_small (verbs.Advance e) = omega arith
+value_small (verbs.Read e) = omega arith
+value_small (verbs.Await e) = omega arith
+value_small (verbs.AwaitLong e) = omega arith
+value_small verbs.Go = omega arith
+value_small (verbs.Ticket q) = omega arith
+value_small (verbs.Put x) = omega arith
+value_small (verbs.PutLong x) = omega arith
+value_small (verbs.Get x) = omega arith
+value_small (verbs.Hand e) = omega arith
+
+number_small : (a : Answer) → number_width a ≤ 2
+number_small answers.Done = omega arith
+number_small answers.Number = omega arith
+number_small answers.LongNumber = omega arith
+number_small answers.Pending = omega arith
+
+pub width_small : (s : Stored) → width s ≤ 4
+width_small s =
+    let value : value_width s.verb ≤ 2 = value_small s.verb in
+    let number : number_width s.answer ≤ 2 = number_small s.answer in
     omega arith
 
-pub is_segment_still : (ws : List ℕ) (ss : List Stored) (s : Stored) (e : Entry) (room more : ℕ) → IsSegment ws ss room → room ≤ more → end_of s ≡ length ws + length (words_in e)
-    → IsSegment (ws ++ words_in e) (ss ++ s ∷ []) more
-is_segment_still ws ss s e room more is le ends =
-    let new = words_in e in
-    let long : length (ws ++ new) ≡ length ws + length new = length-append ws new in
+pub widths_small : (ss : List Stored) → widths ss ≤ 4 * length ss
+unfolding widths
+widths_small [] = omega arith
+widths_small (s ∷ ss) =
+    let rest : widths ss ≤ 4 * length ss = widths_small ss in
+    let first : width s ≤ 4 = width_small s in
+    omega arith
+
+-- WHERE THE WORDS OF AN ENTRY BEGIN
+
+pub widths_cut : (a b : ℕ) (ss : List Stored) → widths (take (a + b) ss) ≡ widths (take a ss) + widths (take b (drop a ss))
+unfolding widths
+widths_cut zero b ss = (let on : 0 + b ≡ b = omega arith in ap (λ n. widths (take n ss)) on ∙ omega arith)
+widths_cut (suc a) b [] =
+    let on : suc a + b ≡ suc (a + b) = omega arith in
+    let none : List Stored = [] in
+    let nothing : widths (take b none) ≡ 0 = ap widths (take_all b none (omega arith)) in
+    ap (λ n. widths (take n none)) on ∙ omega arith
+widths_cut (suc a) b (s ∷ ss) =
+    let on : suc a + b ≡ suc (a + b) = omega arith in
+    let rest : widths (take (a + b) ss) ≡ widths (take a ss) + widths (take b (drop a ss)) = widths_cut a b ss in
+    ap (λ n. widths (take n (s ∷ ss))) on ∙ omega arith
+
+-- one more of them
+pub widths_step : (ss : List Stored) (i : ℕ) (s : Stored) → slice_get ss i ≡ Some s → widths (take (suc i) ss) ≡ widths (take i ss) + width s
+unfolding widths
+widths_step [] i s h = cc
+widths_step (t ∷ ss) zero s h = (let same : t ≡ s = cc in ap (λ x. widths (x ∷ [])) same ∙ omega arith)
+widths_step (t ∷ ss) (suc i) s h = let rest : widths (take (suc i) ss) ≡ widths (take i ss) + width s = widths_step ss i s h in omega arith
+
+pub widths_within : (i : ℕ) (ss : List Stored) → widths (take i ss) ≤ widths ss
+unfolding widths
+widths_within zero ss = omega arith
+widths_within (suc i) [] = omega arith
+widths_within (suc i) (s ∷ ss) = let rest : widths (take i ss) ≤ widths ss = widths_within i ss in omega arith
+
+pub entry_at : (ws : List ℕ) (ss : List Stored) (i : ℕ) (s : Stored) → slice_get ss i ≡ Some s
+    → slice_get (stored_entries ws ss) i ≡ Some (stored_entry (drop (widths (take i ss)) ws) s)
+unfolding widths stored_entries
+entry_at ws [] i s h = cc
+entry_at ws (t ∷ ss) zero s h = let same : t ≡ s = cc in ap (λ x. Some (stored_entry ws x)) same
+entry_at ws (t ∷ ss) (suc i) s h =
+    entry_at (drop (width t) ws) ss i s h ∙ ap (λ zs. Some (stored_entry zs s)) (drop-drop (widths (take i ss)) (width t) ws)
+
+pub length_kept : (ws : List ℕ) (ss : List Stored) → length (stored_entries ws ss) ≡ length ss
+unfolding stored_entries
+length_kept ws [] = refl
+length_kept ws (s ∷ ss) = ap suc (length_kept (drop (width s) ws) ss)
+
+-- STARTS
+
+pub starts_still : (ss : List Stored) (s : Stored) (starts : List ℕ) → AreStarts ss starts → length ss < 16 * length starts → AreStarts (ss ++ s ∷ []) starts
+starts_still ss s starts are more =
+    let few : 16 * length starts ≤ length ss + 16 = are.few in
     let longer : length (ss ++ s ∷ []) ≡ length ss + 1 = length-append ss (s ∷ []) in
-    let four : length new ≤ 4 = four_at_most e in
-    let few : length ws ≤ 4 * length ss = is.few in
-    let wide : 4096 ≤ room = is.room in
     record {
-      there = All-push (λ t. end_of t ≤ length (ws ++ new)) ss s
-          (All-weaker (λ t. end_of t ≤ length ws) (λ t. end_of t ≤ length (ws ++ new)) (λ t h. omega arith) ss is.there) (omega arith);
+      each = λ k h. are.each k h ∙ ap widths (sym (take-append-le (16 * k) ss (s ∷ []) (omega arith)));
+      many = omega arith;
       few = omega arith;
-      room = omega arith;
     }
+
+pub none_begun : (room words_room : ℕ) → 4096 ≤ room → IsSegment [] [] [] room words_room
+unfolding widths
+none_begun room words_room h =
+    record { whole = refl; begun = record { each = λ k less. absurd (omega arith); many = omega arith; few = omega arith }; room = h; spare = omega arith }
+
+-- ONE AFTER ANOTHER
+
+pub first_kept : (ws : List ℕ) (ss : List Stored) (s : Stored) → slice_get ss 0 ≡ Some s → stored_entries ws ss ≡ stored_entry ws s ∷ stored_entries (drop (width s) ws) (drop 1 ss)
+unfolding stored_entries
+first_kept ws [] s h = cc
+first_kept ws (t ∷ ss) s h = (let same : t ≡ s = cc in ap (λ x. stored_entry ws x ∷ stored_entries (drop (width x) ws) ss) same)
+
+pub none_kept : (ws : List ℕ) (ss : List Stored) → length ss < 1 → stored_entries ws ss ≡ []
+unfolding stored_entries
+none_kept ws [] h = refl
+none_kept ws (s ∷ ss) h = absurd (omega arith)

@@ -5,18 +5,17 @@ ghost use Rattle.std.specs.Option.{IfNone};
 ghost use Rattle.ec_core.specs.Segmented.{joined};
 
 use crate::Entry;
-use crate::segment::Segment;
+use crate::segment::{Kept, Segment};
 use std::marker::Model;
 
 /// An iterator over the entries of a run or of another list, in order. A contract sees it as the list of those that
-/// are left: those of a segment from a place on, and those of the segments behind it.
+/// are left: those of a segment, and those of the segments behind it.
 #[derive(Drop)]
 pub struct Entries<'a> {
     full: &'a [Segment],
     last: &'a Segment,
     begun: usize,
-    segment: &'a Segment,
-    place: usize,
+    left: Kept<'a>,
 }
 
 impl<'a> Model for Entries<'a> {
@@ -26,7 +25,7 @@ impl<'a> Model for Entries<'a> {
 
     ghost Value = { List Entry };
 
-    ghost view = { λ s. drop s.place s.segment.now ++ flat_map (λ xs. xs) (drop s.begun (s.full.now ++ s.last.now ∷ [])) };
+    ghost view = { λ s. s.left ++ flat_map (λ xs. xs) (drop s.begun (s.full.now ++ s.last.now ∷ [])) };
 }
 
 impl<'a> Entries<'a> {
@@ -38,8 +37,7 @@ impl<'a> Entries<'a> {
             full,
             last,
             begun: 0,
-            segment: last,
-            place: last.len(),
+            left: Kept::none(),
         }
     }
 
@@ -48,28 +46,21 @@ impl<'a> Entries<'a> {
     pub fn peek(&self) -> Option<Entry>
         ensures { result ≡ slice_get self.now 0 }
     {
-        first_entry(self.full, self.last, self.begun, self.segment, self.place)
+        first_entry(self.full, self.last, self.begun, self.left.copy())
     }
 }
 
 /// The first of the entries that are left. (It is handed their parts, so that these may stand in registers where they are gone on with.)
 #[cold]
 #[inline(never)]
-fn first_entry(
-    full: &[Segment],
-    last: &Segment,
-    begun: usize,
-    segment: &Segment,
-    place: usize,
-) -> Option<Entry>
-    ensures { result ≡ slice_get (drop place segment.now ++ flat_map (λ xs. xs) (drop begun (full.now ++ last.now ∷ []))) 0 }
+fn first_entry(full: &[Segment], last: &Segment, begun: usize, left: Kept<'_>) -> Option<Entry>
+    ensures { result ≡ slice_get (left.entry ++ flat_map (λ xs. xs) (drop begun (full.now ++ last.now ∷ []))) 0 }
 {
     let mut entries = Entries {
         full,
         last,
         begun,
-        segment,
-        place,
+        left,
     };
     entries.next()
 }
@@ -86,16 +77,14 @@ impl<'a> Iterator for Entries<'a> {
     #[inline(always)]
     fn next(&mut self) -> Option<Entry> {
         loop {
-            if let Some(entry) = self.segment.get(self.place) {
-                self.place += 1;
+            if let Some(entry) = self.left.next() {
                 return Some(entry);
             }
             let Some(segment) = segment_at(self.full, self.last, self.begun) else {
                 return None;
             };
-            self.segment = segment;
+            self.left = segment.entries();
             self.begun += 1;
-            self.place = 0;
         }
     }
 }

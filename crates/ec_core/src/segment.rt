@@ -1,13 +1,20 @@
 //! One segment of a list of entries.
-ghost use Rattle.std.specs.Prelude.{◌≡◌, ◌+◌, ◌^◌, ◌<◌, ◌≤◌, List, [], ◌∷◌, ◌++◌, length, slice_get, vec_capacity, IfOk, IfSome, OnOk, OnErr};
+ghost use Rattle.std.specs.Prelude.{◌≡◌, ◌+◌, ◌*◌, ◌^◌, ◌<◌, ◌≤◌, List, [], ◌∷◌, ◌++◌, drop, take, length, slice_get, vec_capacity, IfOk, IfSome, OnOk, OnErr};
+ghost use Rattle.ec_core.specs.Stored.{widths, AreStarts};
 
 use crate::Entry;
-use crate::stored::{Stored, add, number_in, value_in};
+use crate::stored::{Stored, Words, add, number_in, value_in, widths};
 use std::alloc::{AllocError, Global};
 use std::marker::Model;
 
 /// How many entries a full segment has.
 pub(crate) const SEGMENT: usize = 4096;
+
+/// The place among the words at which the numbers of each entry of so many begin is kept.
+const STRIDE: usize = 16;
+
+/// The most words that so many entries have.
+const WORDS: usize = 4 * STRIDE;
 
 /// Some entries in order, as a run keeps them, and the words of their numbers beside them. There is room for a full segment from the
 /// beginning, so that no entry in it ever moves, and for a word of each entry, so that most words don't either.
@@ -15,6 +22,7 @@ pub(crate) const SEGMENT: usize = 4096;
 pub(crate) struct Segment {
     stored: Vec<Stored>,
     words: Vec<u32>,
+    starts: Vec<u16>,
 }
 
 impl Model for Segment {
@@ -27,7 +35,7 @@ impl Model for Segment {
 
     ghost view = { λ s. stored_entries s.words.items s.stored.items };
 
-    ghost invariant = { λ s. IsSegment s.words.items s.stored.items (vec_capacity s.stored) };
+    ghost invariant = { λ s. IsSegment s.words.items s.stored.items s.starts.items (vec_capacity s.stored) (vec_capacity s.words) };
 }
 
 impl Segment {
@@ -36,8 +44,13 @@ impl Segment {
         ensures { IfOk result (λ segment. segment ≡ []) }
     {
         let stored = Vec::with_capacity(alloc, SEGMENT)?;
-        let words = Vec::with_capacity(alloc, SEGMENT + 4)?;
-        Ok(Segment { stored, words })
+        let words = Vec::with_capacity(alloc, SEGMENT + WORDS)?;
+        let starts = Vec::with_capacity(alloc, SEGMENT / STRIDE)?;
+        Ok(Segment {
+            stored,
+            words,
+            starts,
+        })
     }
 
     /// The allocator that the segment was opened with.
@@ -59,9 +72,22 @@ impl Segment {
         ensures value { result ≡ slice_get self.now i }
         ensures within { IfSome result (λ _. i + 1 < 2 ^ 64) }
     {
-        match self.stored.get(i) {
-            Some(stored) => Some(stored.entry(&self.words)),
-            None => None,
+        if i >= self.stored.len() {
+            return None;
+        }
+        let start = start_of(&self.stored, &self.starts, i);
+        let mut words = Words::of(&self.words, start);
+        Some(self.stored[i].entry(&mut words))
+    }
+
+    /// Its entries in order.
+    #[inline(always)]
+    pub(crate) fn entries(&self) -> Kept<'_>
+        ensures { result ≡ self.now }
+    {
+        Kept {
+            stored: &self.stored,
+            words: Words::of(&self.words, 0),
         }
     }
 
@@ -73,22 +99,119 @@ impl Segment {
         ensures ok { OnOk result (self.new ≡ self.old ++ entry.now ∷ []) }
         ensures err { OnErr result (self.new ≡ self.old) }
     {
-        self.words.reserve(4)?;
-        let place = self.words.len() as u16;
-        append(&mut self.stored, Stored::of(entry, place))?;
+        make_room(&self.stored, &mut self.words, &mut self.starts)?;
+        self.stored.push_reserved(Stored::of(entry));
         add(&mut self.words, value_in(&entry.act));
         add(&mut self.words, number_in(&entry.reply));
         Ok(())
     }
 }
 
-/// One more at the end, which moves nothing where there is room for it.
+/// Makes room for the words of the next entry. Where it is a sixteenth, that is for those of all before the next such entry, and where
+/// its own begin is kept.
 #[inline(always)]
-fn append<T: Copy>(list: &mut Vec<T>, value: T) -> Result<(), AllocError>
-    ensures ok { OnOk result (list.new.items ≡ list.old.items ++ value ∷ []) }
-    ensures room { vec_capacity list.old ≤ vec_capacity list.new }
-    ensures err { OnErr result (list.new.items ≡ list.old.items) }
+fn make_room(
+    stored: &[Stored],
+    words: &mut Vec<u32>,
+    starts: &mut Vec<u16>,
+) -> Result<(), AllocError>
+    requires begun { AreStarts stored.now starts.old.items }
+    requires whole { length words.old.items ≡ widths stored.now }
+    requires spare { length words.old.items + 64 * length starts.old.items ≤ vec_capacity words.old + 4 * length stored.now }
+    requires few { length stored.now < 4096 }
+    ensures begun { AreStarts stored.now starts.new.items }
+    ensures words { words.new.items ≡ words.old.items }
+    ensures spare { length words.new.items + 64 * length starts.new.items ≤ vec_capacity words.new + 4 * length stored.now }
+    ensures ok { OnOk result (length stored.now < 16 * length starts.new.items) }
 {
-    list.push(value)?;
+    if starts.len() * STRIDE <= stored.len() {
+        return begin(words, starts);
+    }
     Ok(())
+}
+
+/// Makes room for the words of so many entries, and keeps where they begin; or changes no list.
+#[cold]
+#[inline(never)]
+fn begin(words: &mut Vec<u32>, starts: &mut Vec<u16>) -> Result<(), AllocError>
+    requires { length words.old.items < 2 ^ 16 }
+    ensures words { words.new.items ≡ words.old.items }
+    ensures room { vec_capacity words.old ≤ vec_capacity words.new }
+    ensures spare { OnOk result (length words.new.items + 64 ≤ vec_capacity words.new) }
+    ensures ok { OnOk result (starts.new.items ≡ starts.old.items ++ length words.old.items ∷ []) }
+    ensures err { OnErr result (starts.new.items ≡ starts.old.items) }
+{
+    words.reserve(WORDS)?;
+    starts.push(words.len() as u16)?;
+    Ok(())
+}
+
+/// Where the words of the entry at a place begin.
+fn start_of(stored: &[Stored], starts: &[u16], i: usize) -> usize
+    requires starts { AreStarts stored.now starts.now }
+    requires within { i < length stored.now }
+    ensures { result ≡ widths (take i stored.now) }
+{
+    let mark = i / STRIDE;
+    starts[mark] as usize + widths(&stored[mark * STRIDE..i])
+}
+
+/// Entries of a segment, in order, and the words of their numbers. A contract sees it as the list of those that are left.
+#[derive(Drop)]
+pub(crate) struct Kept<'a> {
+    stored: &'a [Stored],
+    words: Words<'a>,
+}
+
+impl<'a> Model for Kept<'a> {
+    ghost use Rattle.std.specs.Prelude.{List};
+    ghost use Rattle.ec_core.specs.declared.act.Entry.{Entry};
+    ghost use Rattle.ec_core.specs.Stored.{stored_entries};
+
+    ghost Value = { List Entry };
+
+    ghost view = { λ s. stored_entries s.words s.stored.now };
+}
+
+impl<'a> Kept<'a> {
+    /// None.
+    pub(crate) fn none() -> Self
+        ensures { result ≡ [] }
+    {
+        Kept {
+            stored: &[],
+            words: Words::of(&[], 0),
+        }
+    }
+
+    /// The same entries again.
+    #[inline(always)]
+    pub(crate) fn copy(&self) -> Self
+        ensures { result ≡ self.now }
+    {
+        Kept {
+            stored: self.stored,
+            words: self.words.copy(),
+        }
+    }
+}
+
+impl<'a> Iterator for Kept<'a> {
+    ghost use Rattle.std.specs.Iterator.{YieldsFirst, item_count};
+
+    type Item = Entry;
+
+    ghost next_gives = { YieldsFirst (λ s. s) };
+
+    ghost remaining = { item_count (λ s. s) };
+
+    #[inline(always)]
+    fn next(&mut self) -> Option<Entry> {
+        let [first, rest @ ..] = self.stored else {
+            return None;
+        };
+        let entry = first.entry(&mut self.words);
+        self.stored = rest;
+        Some(entry)
+    }
 }

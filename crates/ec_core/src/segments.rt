@@ -11,7 +11,7 @@ use std::mem;
 /// The greatest number of full segments: far more than fit in any memory.
 const SEGMENTS_MAX: usize = 1 << 51;
 
-/// A list of entries that grows by segments, so that no entry in it ever moves. An entry takes 7 bytes in it, and 4 more for
+/// A list of entries that grows by segments, so that no entry in it ever moves. An entry takes 4 bytes in it, and 4 more for
 /// most numbers; a segment has room for one such number an entry, and grows where there are more.
 #[derive(Drop)]
 pub struct Segments {

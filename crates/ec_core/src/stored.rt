@@ -1,6 +1,6 @@
 //! Entries as a run keeps them.
-ghost use Rattle.std.specs.Prelude.{◌≡◌, ◌+◌, ◌^◌, ◌<◌, ◌≤◌, ℕ, List, length, ◌++◌, vec_len, vec_capacity};
-ghost use Rattle.ec_core.specs.Stored.{verb_in, answer_in, value_in, number_in, words_of, words_in, end_of, short_at, long_at, stored_entry};
+ghost use Rattle.std.specs.Prelude.{◌≡◌, ◌+◌, ◌^◌, ◌<◌, ◌≤◌, ℕ, List, ◌++◌, drop, length, vec_len, vec_capacity};
+ghost use Rattle.ec_core.specs.Stored.{verb_in, answer_in, value_in, number_in, receiver_in, receiver_of, words_of, kept_of, short_of, long_of, act_of, reply_of, value_width, number_width, width, widths, stored_entry};
 
 use crate::{Act, Entry, Reply};
 use ec_count::{CellId, EventId, SeqId, WorkerId};
@@ -9,8 +9,8 @@ use std::marker::Model;
 /// The least number that takes two words.
 const LONG: u64 = 1 << 32;
 
-/// An act without its value. Of the acts that have one, there are two kinds: those whose value takes one word of 32 bits,
-/// and those whose value takes two.
+/// An act without its value. Of the acts whose value may be long, there are two kinds: those whose value takes one word of 32
+/// bits, and those whose value takes two. The value of a hand is the number of its receiver.
 #[derive(Clone, Copy)]
 pub(crate) enum Verb {
     Advance(EventId),
@@ -22,7 +22,7 @@ pub(crate) enum Verb {
     Put(CellId),
     PutLong(CellId),
     Get(CellId),
-    Hand(EventId, WorkerId),
+    Hand(EventId),
 }
 
 /// A reply without its number, which takes one word or two.
@@ -34,92 +34,104 @@ pub(crate) enum Answer {
     Pending,
 }
 
-/// A place among words, in two bytes that may stand at any address.
-#[derive(Clone, Copy)]
-struct Place {
-    low: u8,
-    high: u8,
+/// Words that are left to read. A contract sees it as the list of them.
+#[derive(Drop)]
+pub(crate) struct Words<'a> {
+    left: &'a [u32],
 }
 
-impl Model for Place {
-    ghost use Rattle.std.specs.Prelude.{◌+◌, ◌*◌, ◌/◌, ◌%◌, ◌<◌, ℕ};
+impl<'a> Model for Words<'a> {
+    ghost use Rattle.std.specs.Prelude.{ℕ, List};
 
-    ghost Value = { ℕ };
+    ghost Value = { List ℕ };
 
-    ghost view = { λ p. p.low + 256 * p.high };
-
-    ghost invariant = { λ p. (p.low < 256) × (p.high < 256) };
-
-    ghost inverse = { λ n. record { low = n % 256; high = n / 256 } };
+    ghost view = { λ s. s.left.now };
 }
 
-impl Place {
+impl<'a> Words<'a> {
+    /// These, from a place on.
     #[inline(always)]
-    fn new(place: u16) -> Self
-        ensures { result ≡ place }
+    pub(crate) fn of(words: &'a [u32], start: usize) -> Self
+        requires { start ≤ length words.now }
+        ensures { result ≡ drop start words.now }
     {
-        let [low, high] = place.to_le_bytes();
-        Place { low, high }
+        Words {
+            left: &words[start..],
+        }
     }
 
+    /// The same words again.
     #[inline(always)]
-    fn get(self) -> usize
-        ensures value { result ≡ self }
-        ensures small { result < 2 ^ 16 }
+    pub(crate) fn copy(&self) -> Self
+        ensures { result ≡ self.now }
     {
-        u16::from_le_bytes([self.low, self.high]) as usize
+        Words { left: self.left }
+    }
+
+    /// Takes the number of one word off the front. Where there is none it is 0.
+    #[inline(always)]
+    fn short(&mut self) -> u64
+        ensures value { result ≡ short_of self.old }
+        ensures small { result < 2 ^ 32 }
+        ensures rest { self.new ≡ drop 1 self.old }
+    {
+        let [first, rest @ ..] = self.left else {
+            return 0;
+        };
+        self.left = rest;
+        *first as u64
+    }
+
+    /// Takes the number of two words off the front, the low one first.
+    #[inline(always)]
+    fn long(&mut self) -> u64
+        ensures value { result ≡ long_of self.old }
+        ensures rest { self.new ≡ drop 2 self.old }
+    {
+        let low = self.short();
+        low + LONG * self.short()
     }
 }
 
 /// An entry without its numbers, the value of its act and the number of its reply. They stand in a list of words for many
-/// entries, from a place on, and take none there where the entry has none. So this takes 7 bytes, where an `Entry` takes 40.
+/// entries, one entry behind another, and take none there where the entry has none. So this takes 4 bytes, where an `Entry` takes 40.
 #[derive(Clone, Copy)]
 pub(crate) struct Stored {
     worker: WorkerId,
     answer: Answer,
     verb: Verb,
-    place: Place,
 }
 
 impl Stored {
-    /// The entry, with its numbers from a place on.
+    /// The entry without its numbers.
     #[inline(always)]
-    pub(crate) fn of(entry: &Entry, place: u16) -> Self
-        ensures entry { (words : List ℕ) → place ≡ length words → stored_entry (words ++ words_in entry.now) result ≡ entry.now }
-        ensures end { end_of result ≡ place + length (words_in entry.now) }
+    pub(crate) fn of(entry: &Entry) -> Self
+        ensures { result ≡ kept_of entry.now }
     {
         Stored {
             worker: entry.worker,
             answer: answer_in(&entry.reply),
             verb: verb_in(&entry.act),
-            place: Place::new(place),
         }
     }
 
-    /// The entry that is kept, by the words of many.
+    /// How many words its numbers take.
     #[inline(always)]
-    pub(crate) fn entry(&self, words: &[u32]) -> Entry
-        ensures { result ≡ stored_entry words.now self.now }
+    pub(crate) fn width(&self) -> usize
+        ensures value { result ≡ width self.now }
+        ensures small { result ≤ 4 }
     {
-        let place = self.place.get();
-        let (act, next) = match self.verb {
-            Verb::Advance(event) => (Act::Advance(event), place),
-            Verb::Read(event) => (Act::Read(event), place),
-            Verb::Await(event) => (Act::Await(event, short_at(words, place)), place + 1),
-            Verb::AwaitLong(event) => (Act::Await(event, long_at(words, place)), place + 2),
-            Verb::Go => (Act::Go, place),
-            Verb::Ticket(sequencer) => (Act::Ticket(sequencer), place),
-            Verb::Put(cell) => (Act::Put(cell, short_at(words, place)), place + 1),
-            Verb::PutLong(cell) => (Act::Put(cell, long_at(words, place)), place + 2),
-            Verb::Get(cell) => (Act::Get(cell), place),
-            Verb::Hand(event, to) => (Act::Hand(event, to), place),
-        };
-        let reply = match self.answer {
-            Answer::Done => Reply::Done,
-            Answer::Number => Reply::Number(short_at(words, next)),
-            Answer::LongNumber => Reply::Number(long_at(words, next)),
-            Answer::Pending => Reply::Pending,
-        };
+        value_width(self.verb) + number_width(self.answer)
+    }
+
+    /// The entry that is kept. Its numbers are the first of these words, and are taken off them.
+    #[inline(always)]
+    pub(crate) fn entry(&self, words: &mut Words<'_>) -> Entry
+        ensures value { result ≡ stored_entry words.old self.now }
+        ensures rest { words.new ≡ drop (width self.now) words.old }
+    {
+        let act = act_of(self.verb, words);
+        let reply = reply_of(self.answer, words);
         Entry {
             worker: self.worker,
             act,
@@ -128,21 +140,84 @@ impl Stored {
     }
 }
 
-/// The number of one word at a place, and 0 behind the last.
-#[inline(always)]
-fn short_at(words: &[u32], place: usize) -> u64
-    ensures { result ≡ short_at words.now place }
+/// How many words some entries take.
+pub(crate) fn widths(stored: &[Stored]) -> usize
+    requires { length stored.now < 2 ^ 32 }
+    ensures { result ≡ widths stored.now }
 {
-    words.get(place).copied().unwrap_or(0) as u64
+    let mut sum = 0;
+    for one in stored {
+        sum += one.width();
+    }
+    sum
 }
 
-/// The number of two words at a place, the low one first.
+/// How many words the value of an act of this kind takes.
 #[inline(always)]
-fn long_at(words: &[u32], place: usize) -> u64
-    requires { place + 1 < 2 ^ 64 }
-    ensures { result ≡ long_at words.now place }
+fn value_width(verb: Verb) -> usize
+    ensures value { result ≡ value_width verb }
+    ensures small { result ≤ 2 }
 {
-    short_at(words, place) + LONG * short_at(words, place + 1)
+    match verb {
+        Verb::Await(_) | Verb::Put(_) | Verb::Hand(_) => 1,
+        Verb::AwaitLong(_) | Verb::PutLong(_) => 2,
+        Verb::Advance(_) | Verb::Read(_) | Verb::Go | Verb::Ticket(_) | Verb::Get(_) => 0,
+    }
+}
+
+/// How many words the number of a reply of this kind takes.
+#[inline(always)]
+fn number_width(answer: Answer) -> usize
+    ensures value { result ≡ number_width answer }
+    ensures small { result ≤ 2 }
+{
+    match answer {
+        Answer::Number => 1,
+        Answer::LongNumber => 2,
+        Answer::Done | Answer::Pending => 0,
+    }
+}
+
+/// The act of a kind. Its value is taken off the words.
+#[inline(always)]
+fn act_of(verb: Verb, words: &mut Words<'_>) -> Act
+    ensures value { result ≡ act_of verb words.old }
+    ensures rest { words.new ≡ drop (value_width verb) words.old }
+{
+    match verb {
+        Verb::Advance(event) => Act::Advance(event),
+        Verb::Read(event) => Act::Read(event),
+        Verb::Await(event) => Act::Await(event, words.short()),
+        Verb::AwaitLong(event) => Act::Await(event, words.long()),
+        Verb::Go => Act::Go,
+        Verb::Ticket(sequencer) => Act::Ticket(sequencer),
+        Verb::Put(cell) => Act::Put(cell, words.short()),
+        Verb::PutLong(cell) => Act::Put(cell, words.long()),
+        Verb::Get(cell) => Act::Get(cell),
+        Verb::Hand(event) => Act::Hand(event, receiver_of(words.short())),
+    }
+}
+
+/// The worker of a number.
+#[inline(always)]
+fn receiver_of(number: u64) -> WorkerId
+    ensures { result ≡ receiver_of number }
+{
+    WorkerId::new(number as usize).unwrap_or_default()
+}
+
+/// The reply of a kind. Its number is taken off the words.
+#[inline(always)]
+fn reply_of(answer: Answer, words: &mut Words<'_>) -> Reply
+    ensures value { result ≡ reply_of answer words.old }
+    ensures rest { words.new ≡ drop (number_width answer) words.old }
+{
+    match answer {
+        Answer::Done => Reply::Done,
+        Answer::Number => Reply::Number(words.short()),
+        Answer::LongNumber => Reply::Number(words.long()),
+        Answer::Pending => Reply::Pending,
+    }
 }
 
 /// Adds a number's words, if there is one, to a list that has room for two.
@@ -150,12 +225,12 @@ fn long_at(words: &[u32], place: usize) -> u64
 pub(crate) fn add(words: &mut Vec<u32>, number: Option<u64>)
     requires { vec_len words.old + 2 ≤ vec_capacity words.old }
     ensures items { words.new.items ≡ words.old.items ++ words_of number }
-    ensures room { vec_capacity words.old ≤ vec_capacity words.new }
+    ensures room { vec_capacity words.new ≡ vec_capacity words.old }
 {
     if let Some(number) = number {
-        let _ = words.push((number % LONG) as u32);
+        words.push_reserved((number % LONG) as u32);
         if number >= LONG {
-            let _ = words.push((number / LONG) as u32);
+            words.push_reserved((number / LONG) as u32);
         }
     }
 }
@@ -173,18 +248,19 @@ fn verb_in(act: &Act) -> Verb
         Act::Put(cell, value) if value < LONG => Verb::Put(cell),
         Act::Put(cell, _) => Verb::PutLong(cell),
         Act::Get(cell) => Verb::Get(cell),
-        Act::Hand(event, to) => Verb::Hand(event, to),
+        Act::Hand(event, _) => Verb::Hand(event),
     }
 }
 
 /// The value of an act, where it has one.
 pub(crate) fn value_in(act: &Act) -> Option<u64>
-    ensures { result ≡ value_in act.now }
+    ensures value { result ≡ value_in act.now }
+    ensures receiver { receiver_in act.now < 16 }
 {
     match *act {
         Act::Await(_, value) | Act::Put(_, value) => Some(value),
-        Act::Advance(_) | Act::Read(_) | Act::Go | Act::Ticket(_) | Act::Get(_) | Act::Hand(_, _) =>
-            None,
+        Act::Hand(_, to) => Some(to.get() as u64),
+        Act::Advance(_) | Act::Read(_) | Act::Go | Act::Ticket(_) | Act::Get(_) => None,
     }
 }
 

@@ -43,6 +43,8 @@ pub(crate) fn note_unread<N: Write>(fault: &TraceFault, notes: &mut Out<'_, N>) 
 }
 
 /// Reads the entries of a trace: the world after the last of them, and the finished calls by their points.
+// (Put into its caller, it would have its room there also while the heading is read and while the text is written.)
+#[inline(never)]
 fn gathered<'a, R: Read>(
     alloc: Global,
     heading: &'a Heading,

@@ -77,17 +77,14 @@ drop_none (y ∷ ys) zero h = cc
 drop_none (y ∷ ys) (suc i) h = drop_none ys i h
 
 -- ONE AFTER ANOTHER
--- What is left is a list from a place on, and the lists from a place on behind it.
+-- What is left of some lists is those from a place on.
 
-pub left_next : {X : Type 0} (xs rest : List X) (i : ℕ) (x : X) → slice_get xs i ≡ Some x → drop i xs ++ rest ≡ x ∷ (drop (i + 1) xs ++ rest)
-left_next xs rest i x at = ap (λ ys. ys ++ rest) (drop_next xs i x at)
+pub left_begins : {X : Type 0} (all : List (List X)) (b : ℕ) (ys : List X) → slice_get all b ≡ Some ys
+    → flat_map (λ zs. zs) (drop b all) ≡ ys ++ flat_map (λ zs. zs) (drop (b + 1) all)
+left_begins all b ys at = ap (flat_map (λ zs. zs)) (drop_next all b ys at)
 
-pub left_begins : {X : Type 0} (xs : List X) (all : List (List X)) (i b : ℕ) (ys : List X) → slice_get xs i ≡ None → slice_get all b ≡ Some ys
-    → drop i xs ++ flat_map (λ zs. zs) (drop b all) ≡ ys ++ flat_map (λ zs. zs) (drop (b + 1) all)
-left_begins xs all i b ys none at = ap (λ zs. zs ++ flat_map (λ ws. ws) (drop b all)) (drop_none xs i none) ∙ ap (flat_map (λ zs. zs)) (drop_next all b ys at)
-
-pub left_ends : {X : Type 0} (xs : List X) (all : List (List X)) (i b : ℕ) → slice_get xs i ≡ None → slice_get all b ≡ None → drop i xs ++ flat_map (λ zs. zs) (drop b all) ≡ []
-left_ends xs all i b none out = ap (λ zs. zs ++ flat_map (λ ws. ws) (drop b all)) (drop_none xs i none) ∙ ap (flat_map (λ zs. zs)) (drop_none all b out)
+pub left_ends : {X : Type 0} (all : List (List X)) (b : ℕ) → slice_get all b ≡ None → flat_map (λ zs. zs) (drop b all) ≡ []
+left_ends all b out = ap (flat_map (λ zs. zs)) (drop_none all b out)
 
 -- a list with one more at its end is as long as that
 pub last_within : {X : Type 0} (xs : List X) (y x : X) (i : ℕ) → slice_get (xs ++ y ∷ []) i ≡ Some x → i < length xs + 1

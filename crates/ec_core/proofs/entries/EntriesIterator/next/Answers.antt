@@ -1,22 +1,15 @@
-use Rattle.std.proofs.Common.{◌+◌, ◌-◌, ◌<◌, ◌∙◌, ◌++◌, [], ◌∷◌, length, drop, sym, arith, rules}
+use Rattle.std.proofs.Common.{◌+◌, ◌-◌, ◌<◌, ◌∙◌, ◌++◌, [], ◌∷◌, length, drop, ap, sym, arith}
 use Rattle.std.specs.List.{flat_map}
-use Rattle.ec_core.proofs.shared.Joining.{left_next, left_begins, left_ends, last_within}
+use Rattle.ec_core.proofs.shared.Joining.{left_begins, left_ends, last_within}
 use Rattle.ec_core.proofs.entries.EntriesIterator.next.Goals as goal
-
-pub returns-in-Some-clause-steps : goal.returns-in-Some-clause-steps
-returns-in-Some-clause-steps c =
-    let s = c.loop-entry.self-inside in
-    sym c.self.view_is ∙ sym c.loop-entry.invariant
-    ∙ left_next s.segment.now (flat_map (λ xs. xs) (drop s.begun (s.full.now ++ s.last.now ∷ []))) s.place c.in-Some.entry (sym c.get.ensures.value ∙ c.in-Some.is)
-
-pub returns-in-Some-clause-goes : goal.returns-in-Some-clause-goes
-returns-in-Some-clause-goes c = let e = returns-in-Some-clause-steps c in search (rules, e)
 
 pub returns-in_default-segment_at-clause-steps : goal.returns-in_default-segment_at-clause-steps
 returns-in_default-segment_at-clause-steps c =
     let s = c.loop-entry.self-inside in
-    let ends = left_ends s.segment.now (s.full.now ++ s.last.now ∷ []) s.place s.begun (sym c.get.ensures.value ∙ c.in_default.is) c.in_default-segment_at.ensures.none in
-    (sym c.self.view_is ∙ sym c.loop-entry.invariant ∙ ends, ends)
+    let all = s.full.now ++ s.last.now ∷ [] in
+    let ends = left_ends all s.begun c.in_default-segment_at.ensures.none in
+    let steps = c.in_default.ensures.steps in
+    (sym c.self.view_is ∙ sym c.loop-entry.invariant ∙ ap (λ xs. xs ++ flat_map (λ xs. xs) (drop s.begun all)) steps.0 ∙ ends, ap (λ xs. xs ++ flat_map (λ xs. xs) (drop s.begun all)) steps.1 ∙ ends)
 
 pub loop-entry-smaller : goal.loop-entry-smaller
 loop-entry-smaller c =
@@ -28,5 +21,8 @@ loop-entry-smaller c =
 pub loop-entry-preserved : goal.loop-entry-preserved
 loop-entry-preserved c =
     let s = c.loop-entry.self-inside in
-    sym (left_begins s.segment.now (s.full.now ++ s.last.now ∷ []) s.place s.begun c.in-Some-segment_at.segment.now (sym c.get.ensures.value ∙ c.in_default.is) c.in-Some-segment_at.ensures.some)
+    let all = s.full.now ++ s.last.now ∷ [] in
+    ap (λ xs. xs ++ flat_map (λ xs. xs) (drop (s.begun + 1) all)) c.entries-self-inside.ensures
+    ∙ sym (left_begins all s.begun c.in-Some-segment_at.segment.now c.in-Some-segment_at.ensures.some)
+    ∙ ap (λ xs. xs ++ flat_map (λ xs. xs) (drop s.begun all)) (sym c.in_default.ensures.steps.0)
     ∙ c.loop-entry.invariant

@@ -1,42 +1,65 @@
-use Rattle.std.proofs.Common.{◌≡◌, ◌+◌, ◌*◌, ◌<◌, ◌≤◌, ◌∙◌, [], ◌∷◌, ◌++◌, append_assoc, length, vec_capacity, ap, sym, subst, arith}
-use Rattle.std.proofs.lemmas.List.{length-map}
-use Rattle.ec_core.specs.Stored.{words_of, words_in, stored_entry, stored_entries, end_of, value_in, IsSegment}
-use Rattle.ec_core.proofs.Keeping.{one_more, is_segment_still}
+use Rattle.std.proofs.Common.{◌≡◌, ◌+◌, ◌*◌, ◌<◌, ◌≤◌, ◌∙◌, [], ◌∷◌, ◌++◌, append_assoc, length, length-append, vec_capacity, ap, sym, subst, arith}
+use Rattle.ec_core.specs.Stored.{words_of, words_in, stored_entries, value_in, kept_of, width, widths, AreStarts, IsSegment}
+use Rattle.ec_core.proofs.Keeping.{length_kept, one_more, starts_still, width_counted, width_small, widths_more}
 use Rattle.ec_core.proofs.segment.Segment.push.Goals as goal
+
+pub make_room-requires-clause-few : goal.make_room-requires-clause-few
+make_room-requires-clause-few c =
+    let short : length c.args.self.now < 4096 = c.requires in
+    let long : length c.args.self.now ≡ length c.self.inside.stored.items = ap length (sym c.self.view_is) ∙ length_kept c.self.inside.words.items c.self.inside.stored.items in
+    let same : length c.deref.result.now ≡ length c.self.inside.stored.items = ap length c.deref.ensures.value in
+    omega arith
+
+pub push_reserved-requires : goal.push_reserved-requires
+push_reserved-requires c =
+    let short : length c.args.self.now < 4096 = c.requires in
+    let long : length c.args.self.now ≡ length c.self.inside.stored.items = ap length (sym c.self.view_is) ∙ length_kept c.self.inside.words.items c.self.inside.stored.items in
+    let wide : 4096 ≤ vec_capacity c.self.inside.stored = c.self.invariant.room in
+    omega arith
 
 -- the words once those of the entry are there
 all_words : (c : goal.After-add-2) → c.add-2.new.words.items ≡ c.self.inside.words.items ++ words_in c.args.entry.now
 all_words c =
     let ws = c.self.inside.words.items in
     let e = c.args.entry.now in
-    c.add-2.ensures.items ∙ ap (λ xs. xs ++ words_of c.number_in.result) (c.add.ensures.items ∙ ap (λ xs. xs ++ words_of c.value_in.result) c.reserve.ensures.items)
+    c.add-2.ensures.items ∙ ap (λ xs. xs ++ words_of c.number_in.result) (c.add.ensures.items ∙ ap (λ xs. xs ++ words_of c.value_in.result) c.make_room.ensures.words)
     ∙ append_assoc ws (words_of c.value_in.result) (words_of c.number_in.result)
-    ∙ ap (λ o. ws ++ (words_of o ++ words_of c.number_in.result)) c.value_in.ensures ∙ ap (λ o. ws ++ (words_of (value_in e.act) ++ words_of o)) c.number_in.ensures
+    ∙ ap (λ o. ws ++ (words_of o ++ words_of c.number_in.result)) c.value_in.ensures.value ∙ ap (λ o. ws ++ (words_of (value_in e.act) ++ words_of o)) c.number_in.ensures
+
+-- the entries without their numbers, once the entry is there
+all_stored : (c : goal.After-add-2) → c.push_reserved.new.self.items ≡ c.self.inside.stored.items ++ kept_of c.args.entry.now ∷ []
+all_stored c = c.push_reserved.ensures.items ∙ ap (λ s. c.self.inside.stored.items ++ s ∷ []) c.of.ensures
 
 pub invariant_of-self-2 : goal.invariant_of-self-2
 invariant_of-self-2 c =
     let ws = c.self.inside.words.items in
     let ss = c.self.inside.stored.items in
     let e = c.args.entry.now in
-    let s = c.of.result in
-    let kept : c.append.new.list.items ≡ ss ++ s ∷ [] = c.in_ok-append.ensures.ok in
-    let short : length c.args.self.now < 4096 = c.requires in
-    let long : length c.args.self.now ≡ length ss = ap length (sym c.self.view_is) ∙ length-map ss (stored_entry ws) in
-    let few : length ws ≤ 4 * length ss = c.self.invariant.few in
-    let same : length c.reserve.new.self.items ≡ length ws = ap length c.reserve.ensures.items in
-    let end : end_of s ≡ length ws + length (words_in e) = c.of.ensures.end ∙ omega arith in
-    let still : IsSegment (ws ++ words_in e) (ss ++ s ∷ []) (vec_capacity c.append.new.list) = is_segment_still ws ss s e (vec_capacity c.self.inside.stored) (vec_capacity c.append.new.list) c.self.invariant c.append.ensures.room end in
-    subst (λ xs. IsSegment xs c.append.new.list.items (vec_capacity c.append.new.list)) (sym (all_words c))
-    (subst (λ xs. IsSegment (ws ++ words_in e) xs (vec_capacity c.append.new.list)) (sym kept) still)
+    let whole : length ws ≡ widths ss = c.self.invariant.whole in
+    let more : length (ws ++ words_in e) ≡ length ws + length (words_in e) = length-append ws (words_in e) in
+    let own : length (words_in e) ≡ width (kept_of e) = width_counted e c.value_in.ensures.receiver in
+    let sum : widths (ss ++ kept_of e ∷ []) ≡ widths ss + width (kept_of e) = widths_more ss (kept_of e) in
+    let same : c.deref.result.now ≡ ss = c.deref.ensures.value in
+    let starts : AreStarts ss c.make_room.new.starts.items = subst (λ xs. AreStarts xs c.make_room.new.starts.items) same c.make_room.ensures.begun in
+    let marked : length ss < 16 * length c.make_room.new.starts.items = subst (λ xs. length xs < 16 * length c.make_room.new.starts.items) same c.in_ok-make_room.ensures.ok in
+    let words : length c.make_room.new.words.items ≡ length ws = ap length c.make_room.ensures.words in
+    let spare : length c.make_room.new.words.items + 64 * length c.make_room.new.starts.items ≤ vec_capacity c.make_room.new.words + 4 * length ss =
+    subst (λ xs. length c.make_room.new.words.items + 64 * length c.make_room.new.starts.items ≤ vec_capacity c.make_room.new.words + 4 * length xs) same c.make_room.ensures.spare in
+    let one : length (ss ++ kept_of e ∷ []) ≡ length ss + 1 = length-append ss (kept_of e ∷ []) in
+    let few : width (kept_of e) ≤ 4 = width_small (kept_of e) in
+    let first : vec_capacity c.add.new.words ≡ vec_capacity c.make_room.new.words = c.add.ensures.room in
+    let second : vec_capacity c.add-2.new.words ≡ vec_capacity c.add.new.words = c.add-2.ensures.room in
+    let place : vec_capacity c.push_reserved.new.self ≡ vec_capacity c.self.inside.stored = c.push_reserved.ensures.capacity in
+    let wide : 4096 ≤ vec_capacity c.self.inside.stored = c.self.invariant.room in
+    let is : IsSegment (ws ++ words_in e) (ss ++ kept_of e ∷ []) c.make_room.new.starts.items (vec_capacity c.push_reserved.new.self) (vec_capacity c.add-2.new.words) =
+    record { whole = omega arith; begun = starts_still ss (kept_of e) c.make_room.new.starts.items starts marked; room = omega arith; spare = omega arith } in
+    subst (λ xs. IsSegment xs c.push_reserved.new.self.items c.make_room.new.starts.items (vec_capacity c.push_reserved.new.self) (vec_capacity c.add-2.new.words)) (sym (all_words c))
+    (subst (λ xs. IsSegment (ws ++ words_in e) xs c.make_room.new.starts.items (vec_capacity c.push_reserved.new.self) (vec_capacity c.add-2.new.words)) (sym (all_stored c)) is)
 
 pub returns-clause-ok : goal.returns-clause-ok
 returns-clause-ok c =
     let ws = c.self.inside.words.items in
     let ss = c.self.inside.stored.items in
     let e = c.args.entry.now in
-    let s = c.of.result in
-    let same : length c.reserve.new.self.items ≡ length ws = ap length c.reserve.ensures.items in
-    let is : stored_entry (ws ++ words_in e) s ≡ e = c.of.ensures.entry ws (omega arith) in
-    let kept : c.append.new.list.items ≡ ss ++ s ∷ [] = c.in_ok-append.ensures.ok in
-    ap (λ xs. stored_entries xs c.append.new.list.items) (all_words c) ∙ ap (stored_entries (ws ++ words_in e)) kept
-    ∙ one_more ws ss s e c.self.invariant.there is ∙ ap (λ es. es ++ e ∷ []) c.self.view_is
+    ap (λ xs. stored_entries xs c.push_reserved.new.self.items) (all_words c) ∙ ap (stored_entries (ws ++ words_in e)) (all_stored c)
+    ∙ one_more ws ss e c.value_in.ensures.receiver c.self.invariant.whole ∙ ap (λ es. es ++ e ∷ []) c.self.view_is
