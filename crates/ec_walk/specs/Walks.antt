@@ -1,5 +1,5 @@
 -- One walk over the entries of a run, for the audits of all groups.
-use Rattle.std.specs.Prelude.{◌≡◌, ◌⊎◌, ℕ, ◌+◌, ◌<◌, ◌≤◌, Bool, true, false, ◌||◌, List, ◌∷◌, length, Some, slice_get}
+use Rattle.std.specs.Prelude.{◌≡◌, ◌⊎◌, ℕ, ◌<◌, ◌≤◌, Bool, true, false, ◌||◌, List, ◌∷◌, length, Some, slice_get}
 use Rattle.std.specs.Option.{option_map_or}
 use Rattle.ec_core.specs.declared.act.Act.{Act}
 use Rattle.ec_core.specs.declared.act.Act.TheVariants.{Read, Ticket, Get}
@@ -83,6 +83,11 @@ abbrev pub HandsAmong : {A : Type 0} → (A → A → List Entry → Type 0) →
 HandsAmong {A} stands gs wide first end place op x old new = (i : ℕ) (a : A) → slice_get old i ≡ Some a
     → (b : A) × (slice_get new i ≡ Some b)
     × ((Hands stands place op x a b × (is_wide_at gs i ≡ wide)) ⊎ ((b ≡ a) × (first ≤ i → i < end → is_wide_at gs i ≡ wide → ⊥)))
+
+-- so have those that an act names, and then those that are wide
+abbrev pub HandsBoth : {A : Type 0} → (A → A → List Entry → Type 0) → List Group → Span → Span → ℕ → Act → Entry → List A → List A → Type 0
+HandsBoth {A} stands gs named wide place op x old new =
+    (list : List A) × HandsAmong stands gs false named.first named.end place op x old list × HandsAmong stands gs true wide.first wide.end place op x list new
 
 -- each group had its audit, in order, and has it after a past: what that would be if it had walked alone
 abbrev pub AreWalked : {A : Type 0} → (A → Group) → (A → A → List Entry → Type 0) → List Group → List A → List A → List Entry → Type 0

@@ -23,6 +23,14 @@ impl Span {
     {
         self.end <= self.first
     }
+
+    /// Whether there is just one.
+    #[inline(always)]
+    pub(crate) fn is_one(&self) -> bool
+        ensures { IsTrue result → self.now.end ≡ self.now.first + 1 }
+    {
+        self.first < self.end && self.end - self.first == 1
+    }
 }
 
 /// No group.

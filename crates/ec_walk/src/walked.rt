@@ -4,7 +4,7 @@ ghost use Rattle.ec_core.specs.declared.act.Entry.{Entry};
 ghost use Rattle.ec_core.specs.Calls.{under_way, goes_on};
 ghost use Rattle.ec_core.specs.Following.{opened};
 ghost use Rattle.ec_heading.specs.declared.group.Group.{Group};
-ghost use Rattle.ec_walk.specs.Walks.{is_on, is_wide, is_wide_at, Covers, HandsTo, HandsAmong, AreWalked, IsTable};
+ghost use Rattle.ec_walk.specs.Walks.{is_on, is_wide, is_wide_at, Covers, HandsTo, HandsAmong, HandsBoth, AreWalked, IsTable};
 
 use crate::table::{Span, Table, is_wide};
 use ec_core::{Act, Audit, Entry, Reply, Run, walk};
@@ -115,6 +115,67 @@ fn hand<A: Audit>(
     }
 }
 
+/// Hands an entry to the audit of the one group of a span, if it is wide, or not, as it is asked. Those that are wide are among these.
+#[inline(always)]
+fn hand_one<A: Audit>(
+    groups: &[Group],
+    audits: &mut [A],
+    among: Span,
+    wide: bool,
+    span: Span,
+    place: usize,
+    op: &Act,
+    entry: &Entry,
+)
+    requires place { place + 1 < 2 ^ 64 }
+    requires among { Covers groups.now is_wide among }
+    requires one { span.end ≡ span.first + 1 }
+    ensures { HandsAmong A.stands groups.now wide span.first span.end place op.now entry.now audits.old audits.new }
+{
+    hand_to(groups, audits, among, wide, span.first, place, op, entry);
+}
+
+/// Hands an entry to the audits of the groups that its call names, and then to those of the wide ones.
+#[inline(never)]
+fn hand_each<A: Audit>(
+    groups: &[Group],
+    audits: &mut [A],
+    named: Span,
+    wide: Span,
+    place: usize,
+    op: &Act,
+    entry: &Entry,
+)
+    requires place { place + 1 < 2 ^ 64 }
+    requires wide { Covers groups.now is_wide wide }
+    ensures { HandsBoth A.stands groups.now named wide place op.now entry.now audits.old audits.new }
+{
+    hand(groups, audits, wide, false, named, place, op, entry);
+    hand(groups, audits, wide, true, wide, place, op, entry);
+}
+
+/// Hands it to the same audits. (Mostly a call names one group, and none is wide.)
+#[inline(always)]
+fn hand_out<A: Audit>(
+    groups: &[Group],
+    audits: &mut [A],
+    named: Span,
+    wide: Span,
+    place: usize,
+    op: &Act,
+    entry: &Entry,
+)
+    requires place { place + 1 < 2 ^ 64 }
+    requires wide { Covers groups.now is_wide wide }
+    ensures { HandsBoth A.stands groups.now named wide place op.now entry.now audits.old audits.new }
+{
+    if wide.is_empty() && named.is_one() {
+        hand_one(groups, audits, wide, false, named, place, op, entry);
+        return;
+    }
+    hand_each(groups, audits, named, wide, place, op, entry);
+}
+
 impl<'a, A: GroupAudit> Walked<'a, A> {
     /// Before the first entry, with the audits of the groups, in order.
     pub fn new(groups: &'a [Group], audits: Vec<A>) -> Self
@@ -158,8 +219,7 @@ impl<'a, A: GroupAudit> Audit for Walked<'a, A> {
         // (copies: so an entry that no audit is handed needs no place in memory)
         let (op, entry) = (*op, *entry);
         let audits = self.audits.as_mut_slice();
-        hand(self.groups, audits, wide, false, named, place, &op, &entry);
-        hand(self.groups, audits, wide, true, wide, place, &op, &entry);
+        hand_out(self.groups, audits, named, wide, place, &op, &entry);
     }
 }
 

@@ -1,4 +1,4 @@
-use Rattle.std.proofs.Common.{ℕ, refl, ◌∙◌, arith}
+use Rattle.std.proofs.Common.{ℕ, ◌∙◌, arith}
 use Rattle.std.proofs.Math.ListN.{length-set}
 use Rattle.ec_core.specs.declared.act.Act.TheVariants.{Get}
 use Rattle.ec_walk.proofs.WalkLemmas.{covers_more}

@@ -2,7 +2,7 @@ use Rattle.std.proofs.Common.{◌≡◌, ◌∷◌, ◌∙◌, List, true, false
 use Rattle.std.proofs.lemmas.List.{with_items_is, places}
 use Rattle.std.specs.Vec.{with_items}
 use Rattle.ec_heading.specs.declared.group.Group.{Group}
-use Rattle.ec_walk.specs.Walks.{Walking, WalksOn, HandsAmong, AreWalked}
+use Rattle.ec_walk.specs.Walks.{Walking, WalksOn, HandsBoth, AreWalked}
 use Rattle.ec_walk.proofs.WalkLemmas.{each_taken, each_stays, hands_nowhere}
 use Rattle.ec_walk.proofs.walked.WalkedAudit.take.Goals as goal
 
@@ -12,13 +12,13 @@ returns g c = λ start past at is s.
     let stands = g.A.Audit.stands in
     let gs = c.self.inside.groups.now in
     let old = c.self.inside.audits in
-    let new = c.hand-2.new.audits in
+    let new = c.hand_out.new.audits in
     let x = c.args.entry.now in
     let was = subst (λ (w : Walking g.row.A.Denot). WalksOn group stands start w past) (sym c.self.view_is) s in
     let here = subst (λ (l : List Group). AreWalked group stands l start.audits old.items past) (sym was.0) was.1 in
-    let one = subst (λ (l : List g.row.A.Denot). HandsAmong stands gs false c.of-named.result.first c.of-named.result.end c.args.place c.args.op.now x l c.hand.new.audits) c.as_mut_slice-audits.ensures.value c.hand.ensures in
+    let both = subst (λ (l : List g.row.A.Denot). HandsBoth stands gs c.of-named.result c.wide-wide.result c.args.place c.args.op.now x l new) c.as_mut_slice-audits.ensures.value c.hand_out.ensures in
     let taken = each_taken group stands g.met.A.GroupAudit.passes gs c.args.place c.args.op.now x past at is c.of-named.result c.wide-wide.result (c.of-named.ensures gs c.self.inside.tabled)
-    (c.wide-wide.ensures gs c.self.inside.tabled) start.audits old.items c.hand.new.audits new one c.hand-2.ensures here in
+    (c.wide-wide.ensures gs c.self.inside.tabled) start.audits old.items both.0 new both.1 both.2 here in
     let back = subst (λ (l : List Group). AreWalked group stands l start.audits new (x ∷ past)) was.0 taken in
     let same : (with_items old new).items ≡ new = with_items_is old new (search (rules, places)) in (
       was.0,
