@@ -71,6 +71,8 @@ fn read_version<R: Read>(lines: &mut Lines, reader: &mut R) -> Result<Version, T
 }
 
 /// Reads the line of the limit.
+// (Put into its caller, it would have its room there while the declarations are read, too.)
+#[inline(never)]
 fn read_limit<R: Read>(
     alloc: Global,
     version: Version,

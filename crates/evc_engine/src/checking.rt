@@ -50,7 +50,7 @@ fn gathered<'a, R: Read>(
     heading: &'a Heading,
     lines: Lines,
     reader: &mut R,
-) -> Result<(World, Timeline<'a>), TraceFault>
+) -> Result<Watched<Timeline<'a>>, TraceFault>
     ensures { (bytes : List ℕ) → IsOpened bytes (R.remaining reader.old) lines heading.now → GathersIn bytes (R.remaining reader.new) heading.now result }
 {
     let Ok(timeline) = Timeline::open(alloc, heading.setup()) else {
@@ -58,7 +58,7 @@ fn gathered<'a, R: Read>(
     };
     let mut watched = Watched::new(heading.setup().copy(), timeline);
     match read_entries(alloc, lines, reader, heading, &mut watched) {
-        Ok(()) => Ok(watched.into_parts()),
+        Ok(()) => Ok(watched),
         Err(fault) => Err(fault),
     }
 }
@@ -92,7 +92,7 @@ fn write_order<W: Write, N: Write>(
 /// Writes the text of a trace, or notes why there is none.
 fn write_checked<W: Write, N: Write>(
     heading: &Heading,
-    gathered: Result<(World, Timeline<'_>), TraceFault>,
+    gathered: Result<Watched<Timeline<'_>>, TraceFault>,
     out: &mut W,
     notes: &mut Out<'_, N>,
 ) -> Status
@@ -101,11 +101,13 @@ fn write_checked<W: Write, N: Write>(
         (record { out = W.contents out.new; notes = notes.new }) }
     ensures written { IsWrittenOut notes.old → IsWrittenOut notes.new }
 {
-    let (world, timeline) = match gathered {
-        Ok(gathered) => gathered,
-        Err(fault) => return note_unread(&fault, notes),
-    };
-    write_order(heading, &world, &timeline, out, notes)
+    match gathered {
+        Ok(watched) => {
+            let (world, timeline) = watched.into_parts();
+            write_order(heading, &world, &timeline, out, notes)
+        }
+        Err(fault) => note_unread(&fault, notes),
+    }
 }
 
 /// Reads a trace, and writes the order of its finished calls and the totals; notes say what is wrong.

@@ -1,7 +1,5 @@
-use Rattle.std.proofs.Common.{sym, ◌∙◌, ap, subst}
-use Rattle.ec_core.specs.Standing.{State}
+use Rattle.std.proofs.Common.{◌∙◌, ap}
 use Rattle.ec_order.specs.Timeline.{Timed}
-use Rattle.evc_engine.specs.Halts.{IsReadInto}
 use Rattle.evc_engine.proofs.checking.gathered.Goals as goal
 
 pub returns-in-Ok-read_entries : goal.returns-in-Ok-read_entries
@@ -12,13 +10,12 @@ returns-in-Ok-read_entries g c = λ bytes begun.
     let now = c.read_entries.new.history in (
       told.0,
       told.1,
-      subst (λ (w : State). IsReadInto h told.0 w c.into_parts.result.1) (sym c.into_parts.ensures.world)
-          (subst (λ (t : Timed). IsReadInto h told.0 now.world t) (sym c.into_parts.ensures.audit) (record {
-            world_stands = told.2.0;
-            world_setup = told.2.1;
-            setup = told.2.3.0 ∙ ap (λ (t : Timed). t.setup) c.new-watched.ensures.audit ∙ c.in-Ok.ensures.setup ∙ c.setup.ensures;
-            stands = told.2.3.1;
-          })),
+      record {
+        world_stands = told.2.0;
+        world_setup = told.2.1;
+        setup = told.2.3.0 ∙ ap (λ (t : Timed). t.setup) c.new-watched.ensures.audit ∙ c.in-Ok.ensures.setup ∙ c.setup.ensures;
+        stands = told.2.3.1;
+      },
     )
 
 pub returns : goal.returns

@@ -1,6 +1,8 @@
 use Rattle.std.proofs.Common.{sym, subst}
 use Rattle.evc_engine.specs.Checks.{Checks, Outlets}
-use Rattle.evc_engine.specs.Halts.{GathersIn}
+use Rattle.ec_core.specs.Standing.{State}
+use Rattle.ec_order.specs.Timeline.{Timed}
+use Rattle.evc_engine.specs.Halts.{GathersIn, IsReadInto}
 use Rattle.evc_engine.proofs.CheckLemmas.{fault_checked, written_checked}
 use Rattle.evc_engine.proofs.FoundWritten.{stays}
 use Rattle.evc_engine.proofs.checking.write_checked.Goals as goal
@@ -13,7 +15,11 @@ returns-in-Err-clause-ends g c = λ bytes left f.
     subst (λ s. Checks bytes left s old new) (sym c.note_unread.ensures.status)
     (fault_checked bytes left c.in-Err.fault old new told (stays (g.W.Write.contents c.args.out.now)) (c.note_unread.ensures.note, c.note_unread.ensures.written))
 
-pub returns-clause-ends : goal.returns-clause-ends
-returns-clause-ends g c = λ bytes left f.
-    let told = subst (GathersIn bytes left c.args.heading.now) c.in-Ok.is f in
-    written_checked bytes left c.args.heading.now told.0 c.write_order.result _ _ told.1 (c.write_order.ensures.ends told.0 told.2)
+pub returns-in-Ok-clause-ends : goal.returns-in-Ok-clause-ends
+returns-in-Ok-clause-ends g c = λ bytes left f.
+    let h = c.args.heading.now in
+    let told = subst (GathersIn bytes left h) c.in-Ok.is f in
+    let parts = c.into_parts-world in
+    let read = subst (λ (w : State). IsReadInto h told.0 w parts.result.1) (sym parts.ensures.world)
+    (subst (λ (t : Timed). IsReadInto h told.0 c.in-Ok.watched.world t) (sym parts.ensures.audit) told.2) in
+    written_checked bytes left h told.0 c.write_order.result _ _ told.1 (c.write_order.ensures.ends told.0 read)
