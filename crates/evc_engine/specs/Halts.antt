@@ -8,8 +8,6 @@ use Rattle.ec_order.specs.Timeline.{Timed, IsTimeline}
 use Rattle.ec_trace.specs.Outcome.{outcome, Tells}
 use Rattle.ec_trace.specs.declared.read.TheConstants.{TRACE_MAX}
 use Rattle.evc_engine.specs.Audits.{AreAudited, IsStop}
-use Rattle.ec_trace.specs.declared.fault.TraceFault.{TraceFault}
-use Rattle.ec_trace.specs.declared.history.Watched.{Watched}
 use Rattle.evc_engine.specs.declared.audited.Audited.{Audited}
 use Rattle.evc_engine.specs.declared.auditing.Halt.{Halt}
 use Rattle.evc_engine.specs.declared.auditing.Halt.TheVariants.{Stopped, Unread, Memory}
@@ -32,8 +30,3 @@ pub record IsReadInto (h : Headed) (entries : List Entry) (world : State) (timel
   pub world_setup : world.setup ≡ h.setup
   pub setup : timeline.setup ≡ h.setup
   pub stands : IsTimeline timeline (reverse entries)
-
--- the bytes are a trace under the heading, and this was gathered of it; or its fault is told
-abbrev pub GathersIn : List ℕ → Option (List ℕ) → Headed → Result (Watched Timed) TraceFault → Type 0
-GathersIn bytes left h (Ok watched) = (entries : List Entry) × IsOf bytes h entries × IsReadInto h entries watched.world watched.audit
-GathersIn bytes left h (Err fault) = Tells TRACE_MAX bytes left (Err fault)

@@ -4,7 +4,7 @@ ghost use Rattle.ec_core.specs.declared.act.Entry.{Entry};
 ghost use Rattle.ec_text.specs.Puts.{Puts, IsWrittenOut};
 ghost use Rattle.ec_trace.specs.Reading.{IsOpened};
 ghost use Rattle.evc_engine.specs.Checks.{Checks, Writes};
-ghost use Rattle.evc_engine.specs.Halts.{IsReadInto, GathersIn};
+ghost use Rattle.evc_engine.specs.Halts.{IsReadInto};
 ghost use Rattle.evc_engine.specs.Notes.{fault_note, fault_status};
 
 use crate::notes::say_fault;
@@ -42,27 +42,6 @@ pub(crate) fn note_unread<N: Write>(fault: &TraceFault, notes: &mut Out<'_, N>) 
     status_of(fault)
 }
 
-/// Reads the entries of a trace: the world after the last of them, and the finished calls by their points.
-// (Put into its caller, it would have its room there also while the heading is read and while the text is written.)
-#[inline(never)]
-fn gathered<'a, R: Read>(
-    alloc: Global,
-    heading: &'a Heading,
-    lines: Lines,
-    reader: &mut R,
-) -> Result<Watched<Timeline<'a>>, TraceFault>
-    ensures { (bytes : List ℕ) → IsOpened bytes (R.remaining reader.old) lines heading.now → GathersIn bytes (R.remaining reader.new) heading.now result }
-{
-    let Ok(timeline) = Timeline::open(alloc, heading.setup()) else {
-        return Err(TraceFault::Memory);
-    };
-    let mut watched = Watched::new(heading.setup().copy(), timeline);
-    match read_entries(alloc, lines, reader, heading, &mut watched) {
-        Ok(()) => Ok(watched),
-        Err(fault) => Err(fault),
-    }
-}
-
 /// Writes the text of a trace, of which this was gathered.
 fn write_order<W: Write, N: Write>(
     heading: &Heading,
@@ -89,25 +68,48 @@ fn write_order<W: Write, N: Write>(
     }
 }
 
-/// Writes the text of a trace, or notes why there is none.
-fn write_checked<W: Write, N: Write>(
+/// Writes the text of a trace, of which this was gathered. (It stands apart from its caller: so the room that it takes is not there
+/// while the trace is read.)
+#[inline(never)]
+fn write_watched<W: Write, N: Write>(
     heading: &Heading,
-    gathered: Result<Watched<Timeline<'_>>, TraceFault>,
+    watched: Watched<Timeline<'_>>,
     out: &mut W,
     notes: &mut Out<'_, N>,
 ) -> Status
-    ensures ends { (bytes : List ℕ) (left : Option (List ℕ)) → GathersIn bytes left heading.now gathered.entry → Checks bytes left result
+    ensures ends { (entries : List Entry) → IsReadInto heading.now entries watched.entry.world watched.entry.audit → Writes (record { heading = heading.now; entries = entries }) result
         (record { out = W.contents out.old; notes = notes.old })
         (record { out = W.contents out.new; notes = notes.new }) }
     ensures written { IsWrittenOut notes.old → IsWrittenOut notes.new }
 {
-    match gathered {
-        Ok(watched) => {
-            let (world, timeline) = watched.into_parts();
-            write_order(heading, &world, &timeline, out, notes)
-        }
-        Err(fault) => note_unread(&fault, notes),
+    let (world, timeline) = watched.into_parts();
+    write_order(heading, &world, &timeline, out, notes)
+}
+
+/// Reads the entries of a trace, and writes its text or notes why there is none. (It stands apart from its caller, in which the heading
+/// is read, for the same reason.)
+#[inline(never)]
+fn check_entries<R: Read, W: Write, N: Write>(
+    alloc: Global,
+    heading: &Heading,
+    lines: Lines,
+    reader: &mut R,
+    out: &mut W,
+    notes: &mut Out<'_, N>,
+) -> Status
+    ensures ends { (bytes : List ℕ) → IsOpened bytes (R.remaining reader.old) lines heading.now → Checks bytes (R.remaining reader.new) result
+        (record { out = W.contents out.old; notes = notes.old })
+        (record { out = W.contents out.new; notes = notes.new }) }
+    ensures written { IsWrittenOut notes.old → IsWrittenOut notes.new }
+{
+    let Ok(timeline) = Timeline::open(alloc, heading.setup()) else {
+        return note_unread(&TraceFault::Memory, notes);
+    };
+    let mut watched = Watched::new(heading.setup().copy(), timeline);
+    if let Err(fault) = read_entries(alloc, lines, reader, heading, &mut watched) {
+        return note_unread(&fault, notes);
     }
+    write_watched(heading, watched, out, notes)
 }
 
 /// Reads a trace, and writes the order of its finished calls and the totals; notes say what is wrong.
@@ -126,10 +128,8 @@ pub fn check<R: Read, W: Write, N: Write>(
         (record { out = W.contents out.new; notes = notes.new })) }
     ensures written { IsWrittenOut notes.old → IsWrittenOut notes.new }
 {
-    let Opened { heading, lines } = match open_trace(alloc, reader) {
-        Ok(opened) => opened,
-        Err(fault) => return note_unread(&fault, notes),
-    };
-    let gathered = gathered(alloc, &heading, lines, reader);
-    write_checked(&heading, gathered, out, notes)
+    match open_trace(alloc, reader) {
+        Ok(Opened { heading, lines }) => check_entries(alloc, &heading, lines, reader, out, notes),
+        Err(fault) => note_unread(&fault, notes),
+    }
 }

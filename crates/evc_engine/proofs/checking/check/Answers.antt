@@ -11,7 +11,3 @@ returns-in-Err-clause-ends g c = if_known (g.R.Read.remaining c.args.reader.now)
     let new : Outlets = record { out = g.W.Write.contents c.args.out.now; notes = c.note_unread.new.notes } in
     subst (λ s. Checks bytes (g.R.Read.remaining c.open_trace.new.reader) s old new) (sym c.note_unread.ensures.status)
     (fault_checked bytes (g.R.Read.remaining c.open_trace.new.reader) c.in-Err.fault old new (known (g.R.Read.remaining c.args.reader.now) _ bytes c.in-Err.ensures is) (stays (g.W.Write.contents c.args.out.now)) (c.note_unread.ensures.note, c.note_unread.ensures.written)))
-
-pub returns-clause-ends : goal.returns-clause-ends
-returns-clause-ends g c = if_known (g.R.Read.remaining c.args.reader.now) _ (λ bytes is.
-    c.write_checked.ensures.ends bytes (g.R.Read.remaining c.gathered-gathered.new.reader) (c.gathered-gathered.ensures bytes (known (g.R.Read.remaining c.args.reader.now) _ bytes c.in-Ok.ensures is)))
