@@ -1,0 +1,60 @@
+-- Points: when each call takes effect.
+use Rattle.std.specs.Prelude.{ℕ, ◌+◌, ◌<◌, ◌≤◌, ◌==◌, nat_le, max, List, [], ◌∷◌, map}
+use Rattle.std.specs.Prelude.{if◌then◌else◌}
+use Rattle.std.specs.List.{filter}
+use Rattle.calls_core.specs.declared.history.Call.{Call}
+use Rattle.calls_core.specs.declared.history.PendingCall.{PendingCall}
+use Rattle.calls_core.specs.declared.history.Placed.{Placed}
+use Rattle.calls_core.specs.Lists.{Each, EachPair}
+use Rattle.calls_core.specs.Linearizations.{set_at, IsLinearOrder}
+
+-- the point of a call is right after the latest invocation among those of its object that stand up
+-- to it. s has the
+-- point of the last call of each object
+abbrev pub placed : (ℕ → ℕ) → List Call → List Placed
+placed s [] = []
+placed s (c ∷ cs) =
+    record { point = max (s c.object) (c.first + 1); call = c } ∷
+    placed (set_at c.object (max (s c.object) (c.first + 1)) s) cs
+
+-- the same of the calls of one object, where n is the point of the last one
+abbrev pub placed_one : ℕ → List Call → List Placed
+placed_one n [] = []
+placed_one n (c ∷ cs) =
+    record { point = max n (c.first + 1); call = c } ∷ placed_one (max n (c.first + 1)) cs
+
+-- the point lies after the invocation, and no later than the response
+abbrev pub Within : Placed → Type 0
+Within p = (p.call.first < p.point) × (p.point ≤ p.call.last)
+
+abbrev pub NoLater : Placed → Placed → Type 0
+NoLater p q = p.point ≤ q.point
+
+-- before the first that has its point no earlier
+abbrev pub put_in : Placed → List Placed → List Placed
+put_in p [] = p ∷ []
+put_in p (q ∷ qs) = if nat_le p.point q.point then p ∷ q ∷ qs else q ∷ put_in p qs
+
+-- in the order of points, and those of one point in the order in which they stood
+abbrev pub by_points : List Placed → List Placed
+by_points [] = []
+by_points (p ∷ ps) = put_in p (by_points ps)
+
+abbrev pub calls_of : List Placed → List Call
+calls_of ps = map (λ (p : Placed). p.call) ps
+
+-- a list of the calls of many objects that is in order for each, in an order for all
+abbrev pub merged : List Call → List Call
+merged cs = calls_of (by_points (placed (λ k. 0) cs))
+
+-- a linear order in which each call has a point of its own time, and the points ascend
+pub record IsPlacedOrder (Run : List Call → Type 0) (done : List Call) (pending : List PendingCall)
+    (t : ℕ)
+    (order : List Placed) : Type 0 where
+  pub legal : IsLinearOrder Run done pending t (calls_of order)
+  pub within : Each Within order
+  pub rises : EachPair NoLater order
+
+-- the calls of object k among many with their points
+abbrev pub placed_on : ℕ → List Placed → List Placed
+placed_on k ps = filter (λ (p : Placed). p.call.object == k) ps

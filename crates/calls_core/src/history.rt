@@ -1,0 +1,119 @@
+//! What is recorded of a program's calls, and the calls of it.
+
+/// How many calls a monitor can follow at a time, and so how many workers.
+pub const WORKERS: usize = 64;
+
+/// What an object is.
+#[derive(Debug, Drop)]
+pub enum Kind {
+    /// A count that goes up by ones, from this number on. It is read and waited for.
+    Eventcount(usize),
+    /// It hands out the numbers from 0 on, each once and in order.
+    Sequencer,
+    /// Semaphores from which one call may take together, with the units that each has at first.
+    Semaphores(Vec<usize>),
+    /// It holds the number that was put last, 0 at first.
+    Cell,
+    /// As many cells as this, written and read together. Its value is a list of numbers, which
+    /// goes by a number of its own: equal lists have one number, and the list of zeros has 0.
+    Database(usize),
+}
+
+/// What a call asks of its object.
+#[derive(Clone, Copy, Debug, Default, PartialEq, Eq)]
+pub enum Op {
+    /// Adds one to an eventcount.
+    Advance,
+    /// Returns the count of an eventcount.
+    #[default]
+    Read,
+    /// Returns once the count of an eventcount has reached this threshold.
+    Await(usize),
+    /// Returns the next number of a sequencer.
+    Ticket,
+    /// Takes a unit of the semaphore with this index, once it has one.
+    P(usize),
+    /// Adds a unit to the semaphore with this index.
+    V(usize),
+    /// Takes a unit of each of two semaphores, once both have one.
+    PBoth(usize, usize),
+    /// Stores a value in a cell, or the numbers of a database at once.
+    Put(usize),
+    /// Returns the value of a cell, or the numbers of a database at once.
+    Get,
+}
+
+/// What a call returns.
+#[derive(Clone, Copy, Debug, Default, PartialEq, Eq)]
+pub enum Reply {
+    /// Nothing: the reply to an advance, a p, a v and a put, and to an await that returns no
+    /// number.
+    #[default]
+    Done,
+    /// The number.
+    Number(usize),
+    /// Nothing, since the call gave up: of an await, the count was below its threshold at some
+    /// moment of the call; of a p, it says nothing.
+    Timeout,
+}
+
+/// The two ends of a call.
+#[derive(Clone, Copy, Debug, PartialEq, Eq)]
+pub enum Action {
+    /// The invocation: a call of the object with this index begins.
+    Invoke(usize, Op),
+    /// The response: the worker's call ends.
+    Respond(Reply),
+}
+
+/// An event of a history: an invocation or a response (M. Herlihy and J. Wing, "Linearizability: A
+/// Correctness Condition for Concurrent Objects", 1990).
+#[derive(Clone, Copy, Debug, PartialEq, Eq)]
+pub struct Event {
+    /// Its position. The positions of a history ascend, and may leave out numbers.
+    pub at: usize,
+    /// Whose call begins or ends.
+    pub worker: usize,
+    /// Which of the two.
+    pub action: Action,
+}
+
+/// A call that has no response yet.
+#[derive(Clone, Copy, Debug, Default, PartialEq, Eq)]
+pub struct PendingCall {
+    /// Whose call it is.
+    pub worker: usize,
+    /// The index of its object.
+    pub object: usize,
+    /// What it asks for.
+    pub op: Op,
+    /// The position of its invocation.
+    pub first: usize,
+}
+
+/// A completed call, or a pending one that took effect.
+#[derive(Clone, Copy, Debug, Default, PartialEq, Eq)]
+pub struct Call {
+    /// Whose call it is.
+    pub worker: usize,
+    /// The index of its object.
+    pub object: usize,
+    /// What it asks for.
+    pub op: Op,
+    /// What it returns.
+    pub reply: Reply,
+    /// The position of its invocation.
+    pub first: usize,
+    /// The position of its response. Of a pending call the first position after the history.
+    pub last: usize,
+}
+
+/// A call and its linearization point.
+#[derive(Clone, Copy, Debug, Default, PartialEq, Eq)]
+pub struct Placed {
+    /// The point: the call takes effect right before the event at this position. It is greater
+    /// than the position of the call's invocation, and at most that of its response.
+    pub point: usize,
+    /// The call.
+    pub call: Call,
+}

@@ -1,0 +1,7 @@
+//! Histories of the calls of many objects, as a program with many threads records them: each call
+//! with its invocation and its response.
+#![tactic(auto)]
+
+mod history;
+
+pub use history::{Action, Call, Event, Kind, Op, PendingCall, Placed, Reply, WORKERS};
