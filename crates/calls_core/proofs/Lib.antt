@@ -1,3 +1,7 @@
 pub mod Counting
 pub mod Lists
 pub mod Filters
+pub mod Positions
+pub mod Drawing
+pub mod Settling
+pub mod Beginnings

@@ -51,7 +51,7 @@ each_from_append P i n (x ∷ xs) ys e h k = (
       (omega arith) h.1 k,
 )
 
--- action holds of each later place too
+-- what holds at each place from n on
 pub each_from_past : {X : Type 0} (P : ℕ → X → Type 0) (Q : X → Type 0) (n : ℕ)
     → ((i : ℕ) (x : X) → n ≤ i → Q x → P i x) → (i : ℕ) (xs : List X) → n ≤ i → Each Q xs
     → EachFrom P i xs
@@ -116,7 +116,7 @@ pub each_map : {X Y : Type 0} (f : X → Y) (P : Y → Type 0) (xs : List X) →
 each_map f P [] h = tt
 each_map f P (x ∷ xs) h = (h.0, each_map f P xs h.1)
 
--- action holds of each place below n
+-- what holds at each place below n
 pub each_from_short : {X : Type 0} (P : ℕ → X → Type 0) (Q : X → Type 0) (n : ℕ)
     → ((i : ℕ) (x : X) → i < n → Q x → P i x) → (i : ℕ) (xs : List X) → i + length xs ≡ n
     → Each Q xs → EachFrom P i xs
@@ -132,7 +132,7 @@ pub each_both : {X : Type 0} (P Q R : X → Type 0) → ((x : X) → P x → Q x
 each_both P Q R f [] h k = tt
 each_both P Q R f (x ∷ xs) h k = (f x h.0 k.0, each_both P Q R f xs h.1 k.1)
 
--- action holds of each place from low to below n
+-- what holds at each place from low to below n
 pub each_from_range : {X : Type 0} (P : ℕ → X → Type 0) (Q : X → Type 0) (low n : ℕ)
     → ((i : ℕ) (x : X) → low ≤ i → i < n → Q x → P i x) → (i : ℕ) (xs : List X) → low ≤ i
     → i + length xs ≡ n → Each Q xs → EachFrom P i xs

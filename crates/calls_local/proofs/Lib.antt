@@ -1,0 +1,10 @@
+pub mod Merges
+pub mod Stable
+pub mod Objects
+pub mod Points
+pub mod Parts
+pub mod Completing
+pub mod Responding
+pub mod Joining
+pub mod Wholes
+pub mod Renaming

@@ -1,0 +1,5 @@
+use Rattle.calls_local.proofs.Points.{order_has_points}
+use Rattle.calls_local.proofs.laws.order_has_points.Goals as goal
+
+pub returns : goal.returns
+returns c = order_has_points

@@ -1,0 +1,14 @@
+//! Histories of the calls of many objects, one object at a time: a history has a linearization
+//! exactly when the calls of each object have one.
+#![tactic(auto)]
+
+mod laws;
+mod placing;
+
+pub use laws::{
+    a_beginning_is_linearizable, a_linearization_is_answered, a_part_is_a_history,
+    answered_is_a_linearization, histories_have_calls, linearizable_by_orders, locality,
+    numbers_are_names, one_object, order_has_points, order_on_has_points, parts_are_linearized,
+    parts_make_whole, placed_parts_make_whole,
+};
+pub use placing::{merge, place};
