@@ -1,0 +1,83 @@
+-- The pass over the events, and what is made of the scan at its end.
+use Rattle.std.proofs.Common.{reverse, sym, arith, subst, below_more}
+use Rattle.calls_core.specs.declared.history.Kind.TheVariants.{Eventcount}
+use Rattle.calls_core.specs.declared.history.Event.{Event}
+use Rattle.calls_core.specs.declared.history.Action.TheVariants.{Invoke}
+use Rattle.calls_core.specs.declared.history.Op.TheVariants.{Advance}
+use Rattle.calls_core.specs.Histories.{completed_calls, clock}
+use Rattle.calls_core.specs.Calls.{Earlier}
+use Rattle.calls_core.specs.Lists.{EachPair}
+use Rattle.calls_core.specs.Beginnings.{past_at}
+use Rattle.calls_core.specs.Outcomes.{HasOrderOf}
+use Rattle.calls_counts.specs.ScanStates.{noted_calls}
+use Rattle.calls_counts.specs.Orders.{IsOrdering}
+use Rattle.calls_counts.specs.Scanning.{Holds, Completes}
+use Rattle.calls_counts.proofs.Events.{pending_rise}
+use Rattle.calls_counts.proofs.Deciding.{past_all, begun_within, took_fault, took_next}
+use Rattle.calls_counts.proofs.Deciding.{history_upto, ordered, kept_has_order, upto}
+use Rattle.calls_counts.proofs.scan.decide.Goals as goal
+
+no_event : Event
+no_event = record { at = 0; worker = 0; action = Invoke 0 Advance }
+
+pub take_in-requires : goal.take_in-requires
+take_in-requires c =
+    let s = c.loop-i.scan in
+    omega (
+      arith,
+      begun_within c.args.start c.args.events.now c.loop-i.i s.begun s.slots.items
+          s.pending.items s.reads.items (omega arith) c.loop-i.invariant.0.holds,
+    )
+
+pub returns-in-Some : goal.returns-in-Some
+unfolding no_event
+returns-in-Some c =
+    let n = c.loop-i in
+    let s = n.scan in
+    let events = c.args.events.now in
+    record {
+      within = c.loop-i-test.true;
+      shows = took_fault c.args.start events n.i no_event c.loop-i-test.true c.requires.history s
+          c.take_in.new.scan c.in_ok-fault.field-0 c.in_ok-fault.ensures n.invariant.0
+          c.in-Some.fault c.in-Some.is;
+      before = λ k le. upto (λ j. HasOrderOf (Eventcount c.args.start) (past_at j events)) n.i
+          n.invariant.1
+          (kept_has_order c.args.start (past_at n.i events) s.begun s.slots.items s.pending.items
+          s.reads.items (history_upto c.args.start events n.i c.requires.history)
+          n.invariant.0.holds) k le;
+    }
+
+pub loop-i-preserved : goal.loop-i-preserved
+unfolding no_event
+loop-i-preserved c =
+    let n = c.loop-i in
+    let s = n.scan in
+    let events = c.args.events.now in (
+      took_next c.args.start events n.i no_event c.loop-i-test.true c.requires.history s
+          c.take_in.new.scan c.in_ok-fault.field-0 c.in_ok-fault.ensures n.invariant.0
+          c.in_default.is,
+      below_more (λ j. HasOrderOf (Eventcount c.args.start) (past_at j events)) n.i n.invariant.1
+          (kept_has_order c.args.start (past_at n.i events) s.begun s.slots.items s.pending.items
+          s.reads.items (history_upto c.args.start events n.i c.requires.history)
+          n.invariant.0.holds),
+    )
+
+pub returns : goal.returns
+returns c =
+    let s = c.loop-i.scan in
+    let start = c.args.start in
+    let past = reverse c.args.events.now in
+    let holds : Holds start past s.begun s.slots.items s.pending.items s.reads.items =
+    subst (λ p. Holds start p s.begun s.slots.items s.pending.items s.reads.items)
+    (past_all c.args.events.now c.loop-i.i c.loop-i-test.false) c.loop-i.invariant.0.holds in
+    let rise : EachPair Earlier (noted_calls s.pending.items) =
+    subst (EachPair Earlier) (sym holds.pending_is)
+    (pending_rise (Eventcount start) past c.requires.history) in
+    ordered start past c.args.end s.begun c.complete.new.slots.items s.reads.items s.pending.items
+    c.in_ok-calls.calls.items c.requires.history holds.pending_is
+    (subst (λ us. Completes s.slots.items c.complete.new.slots.items s.next.items us c.args.end)
+    c.deref.ensures.value c.complete.ensures
+    c.loop-i.invariant.0.skips start (completed_calls past) (clock past) s.begun s.reads.items
+    c.requires.time rise holds.state)
+    (subst (λ zs. IsOrdering zs s.reads.items c.in_ok-calls.calls.items) c.deref-2.ensures.value
+    c.in_ok-calls.ensures)

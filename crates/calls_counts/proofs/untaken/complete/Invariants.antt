@@ -1,0 +1,8 @@
+use Rattle.std.proofs.Common.{take, drop}
+use Rattle.calls_counts.proofs.Completing.{Completing}
+use Rattle.calls_counts.proofs.untaken.complete.Given as goal
+
+abbrev pub invariant-loop-u : goal.invariant-loop-u
+invariant-loop-u l =
+    Completing l.initial.slots.items l.initial.next.items l.pending l.end l.slots.items l.next.items
+    (take l.u-index l.pending) (drop l.u-index l.pending)

@@ -1,0 +1,9 @@
+pub mod Faults
+pub mod Outcomes
+pub mod Laws
+pub mod Monitors
+pub mod CountRuns
+pub mod ScanStates
+pub mod Orders
+pub mod Scanning
+pub mod Watching

@@ -1,0 +1,134 @@
+//! Searches among what the scan keeps, and what a reply says of the count.
+ghost use Rattle.std.specs.Prelude.{◌≡◌, ◌↔◌, ℕ, IsTrue, MatchOption, MatchBool, OnOk, IfSome};
+ghost use Rattle.std.specs.Prelude.{None, length, ◌<◌, ◌≤◌, slice_index, slice_set};
+ghost use Rattle.calls_core.specs.Histories.{pending_of};
+ghost use Rattle.calls_counts.specs.ScanStates.{noted_calls};
+ghost use Rattle.calls_counts.specs.Scanning.{IsCallAt, NoneFree, IsFirstFree, IsFilled, Skips};
+ghost use Rattle.calls_counts.specs.Faults.{is_advance, least, most, Contradicts};
+
+use crate::{Noted, Slot};
+use calls_core::{Call, Op, Reply};
+use std::alloc::AllocError;
+
+/// Finds the pending call of a worker.
+pub fn find(pending: &[Noted], worker: usize) -> Option<usize>
+    ensures { MatchOption result (pending_of worker (noted_calls pending.now) ≡ None)
+        (IsCallAt pending.now worker) }
+{
+    for (i, u) in pending.iter().enumerate() {
+        if u.call.worker == worker {
+            return Some(i);
+        }
+    }
+    None
+}
+
+/// Returns the place up to which no slot is known to be free from slot `i` on.
+fn skip(next: &[usize], i: usize) -> usize
+    ensures { result ≡ slice_index next.now i }
+{
+    if i < next.len() { next[i] } else { 0 }
+}
+
+/// Notes that no slot is free from slot `i` up to a place.
+fn set_skip(next: &mut Vec<usize>, i: usize, to: usize)
+    ensures { next.new.items ≡ slice_set next.old.items i to }
+{
+    if i < next.len() {
+        next[i] = to;
+    }
+}
+
+/// Makes room for what is known of so many slots.
+pub fn grow(next: &mut Vec<usize>, upto: usize) -> Result<(), AllocError>
+    ensures same { OnOk result ((i : ℕ) → slice_index next.new.items i ≡ slice_index next.old.items
+        i) }
+    ensures room { OnOk result (upto ≤ length next.new.items) }
+{
+    while next.len() < upto {
+        next.push(0)?;
+    }
+    Ok(())
+}
+
+/// Finds the first free slot from a place on. It skips the slots that are known to be taken, and
+/// shortens the way for later searches.
+pub fn first_free(slots: &[Slot], next: &mut Vec<usize>, from: usize) -> Option<usize>
+    ensures within { IfSome result (λ i. i < length slots.now) }
+    ensures found { Skips slots.now next.old.items → Skips slots.now next.new.items
+        × MatchOption result (NoneFree slots.now from) (IsFirstFree slots.now from) }
+{
+    let mut i = from;
+    while i < slots.len() {
+        if slots[i].taken.is_none() {
+            return Some(i);
+        }
+        let far = skip(next, i).max(i + 1);
+        let further = skip(next, far).max(far);
+        set_skip(next, i, further);
+        i = further;
+    }
+    None
+}
+
+/// Gives an advance the first free slot from a place on, if there is one.
+pub fn fill(slots: &mut Vec<Slot>, next: &mut Vec<usize>, noted: usize, call: Call) -> bool
+    ensures { Skips slots.old.items next.old.items → Skips slots.new.items next.new.items
+        × MatchBool result (IsFilled slots.old.items slots.new.items noted call)
+        ((slots.new.items ≡ slots.old.items) × NoneFree slots.old.items noted) }
+{
+    match first_free(slots, next, noted) {
+        Some(k) => {
+            slots[k].taken = Some(call);
+            true
+        }
+        None => false,
+    }
+}
+
+/// Returns whether an operation is an advance.
+pub fn is_advance(op: Op) -> bool
+    ensures { result ≡ is_advance op }
+{
+    match op {
+        Op::Advance => true,
+        _ => false,
+    }
+}
+
+/// Returns the least count at which an eventcount gives a reply.
+pub fn least(op: Op, reply: Reply) -> usize
+    ensures { result ≡ least op reply }
+{
+    match (op, reply) {
+        (Op::Read, Reply::Number(n)) => n,
+        (Op::Await(v), Reply::Done) => v,
+        (Op::Await(_), Reply::Number(n)) => n,
+        _ => 0,
+    }
+}
+
+/// Returns the greatest count at which an eventcount gives a reply, if there is one.
+pub fn most(op: Op, reply: Reply) -> Option<usize>
+    ensures { result ≡ most op reply }
+{
+    match (op, reply) {
+        (Op::Read, Reply::Number(n)) => Some(n),
+        (Op::Await(_), Reply::Number(n)) => Some(n),
+        (Op::Await(v), Reply::Timeout) => Some(v.saturating_sub(1)),
+        _ => None,
+    }
+}
+
+/// Returns whether no count gives a reply: an await returned a number below its threshold, or one
+/// of
+/// 0 gave up.
+pub fn contradicts(op: Op, reply: Reply) -> bool
+    ensures { IsTrue result ↔ Contradicts op reply }
+{
+    match (op, reply) {
+        (Op::Await(v), Reply::Number(n)) => n < v,
+        (Op::Await(v), Reply::Timeout) => v == 0,
+        _ => false,
+    }
+}

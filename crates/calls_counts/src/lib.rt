@@ -1,0 +1,20 @@
+//! Histories of the calls of one eventcount: whether they have a linearization.
+#![tactic(auto)]
+
+mod fault;
+mod find;
+mod laws;
+mod monitor;
+mod observe;
+mod outcome;
+mod scan;
+mod state;
+mod untaken;
+
+pub use fault::Fault;
+pub use laws::{a_fault_leaves_no_order, a_monitor_agrees, every_history_is_decided};
+pub use monitor::{Monitor, Refusal};
+pub use outcome::Outcome;
+pub use scan::decide;
+pub use state::Noted;
+use state::{PlacedRead, Slot};

@@ -1,0 +1,145 @@
+//! A read or an await has its response.
+ghost use Rattle.std.specs.Prelude.{◌≡◌, ◌<◌, ◌≤◌, ◌↔◌, ℕ, List, false, length, nat_le, count_by};
+ghost use Rattle.std.specs.Prelude.{IsTrue, IfOk, OnOk, MatchOption};
+ghost use Rattle.std.specs.List.{filter_map};
+ghost use Rattle.std.specs.List.Sorted.{IsNonDecreasing};
+ghost use Rattle.calls_core.specs.Histories.{Suits};
+ghost use Rattle.calls_counts.specs.Faults.{is_advance};
+ghost use Rattle.calls_counts.specs.Scanning.{IsRaised, IsFewer, IsReckoned, IsTooLittle};
+ghost use Rattle.calls_counts.specs.Scanning.{IsObserved, IsRefused, invoked_before};
+ghost use Rattle.calls_counts.specs.Scanning.{AreInvocations};
+
+use crate::find::{contradicts, is_advance, least, most};
+use crate::{Fault, PlacedRead, Slot};
+use calls_core::Call;
+use std::alloc::{AllocError, Global};
+
+/// Adds free slots until there are so many.
+fn raise(slots: &mut Vec<Slot>, upto: usize, moment: usize) -> Result<(), AllocError>
+    ensures added { OnOk result (IsRaised slots.old.items slots.new.items upto moment) }
+    ensures enough { OnOk result (upto ≤ length slots.new.items) }
+{
+    while slots.len() < upto {
+        slots.push(Slot {
+            moment,
+            taken: None,
+        })?;
+    }
+    Ok(())
+}
+
+/// Returns the invocation of a slot's advance, if its response is before a position.
+fn invoked_before(slot: &Slot, to: usize) -> Option<usize>
+    ensures { result ≡ invoked_before to slot.now.taken }
+{
+    match slot.taken {
+        None => None,
+        Some(call) => {
+            if is_advance(call.op) && call.last < to {
+                Some(call.first)
+            } else {
+                None
+            }
+        }
+    }
+}
+
+/// Collects the invocations of the advances that have slots, and responses before a position.
+fn invocations(alloc: Global, slots: &[Slot], to: usize) -> Result<Vec<usize>, AllocError>
+    ensures { IfOk result (λ v. v.items ≡ filter_map (λ s. invoked_before to s.taken) slots.now) }
+{
+    slots
+        .iter()
+        .filter_map(|slot| invoked_before(slot, to))
+        .collect(alloc)
+}
+
+/// Collects the same in ascending order.
+fn sorted_invocations(alloc: Global, slots: &[Slot], to: usize) -> Result<Vec<usize>, AllocError>
+    ensures sorted { IfOk result (λ v. IsNonDecreasing v.items) }
+    ensures counted { IfOk result (λ v. AreInvocations slots.now to v.items) }
+{
+    let mut firsts = invocations(alloc, slots, to)?;
+    firsts.sort_unstable();
+    Ok(firsts)
+}
+
+/// Counts those of some ascending numbers that are at least `from`.
+fn count_from(numbers: &[usize], from: usize) -> usize
+    requires { IsNonDecreasing numbers.now }
+    ensures { result ≡ count_by (λ f. nat_le from f) numbers.now }
+{
+    numbers.len() - numbers.partition_point(|f| *f < from)
+}
+
+/// Returns whether `number` is less than what an earlier call says with the advances that lie
+/// between the two calls.
+fn is_fewer(firsts: &[usize], earlier: &Call, call: &Call, number: usize) -> bool
+    requires { IsNonDecreasing firsts.now }
+    ensures { (slots : List Slot) → AreInvocations slots call.now.first firsts.now → IsTrue result
+        ↔ IsFewer slots earlier.now call.now number }
+{
+    if earlier.last >= call.first {
+        return false;
+    }
+    let n = least(earlier.op, earlier.reply);
+    n > number || count_from(firsts, earlier.last + 1) > number - n
+}
+
+/// Returns why `number` is too little for a call.
+fn too_little(
+    alloc: Global,
+    start: usize,
+    slots: &[Slot],
+    reads: &[PlacedRead],
+    call: Call,
+    number: usize,
+) -> Result<Fault, AllocError>
+    ensures { IfOk result (λ f. (n : ℕ) → number < n → IsReckoned start slots.now reads.now
+        call.first n
+        → IsTooLittle start slots.now reads.now call number f) }
+{
+    let firsts = sorted_invocations(alloc, slots, call.first)?;
+    for p in reads {
+        if is_fewer(&firsts, &p.call, &call, number) {
+            return Ok(Fault::Since(call, p.call));
+        }
+    }
+    Ok(Fault::Many(call))
+}
+
+/// Gives a read or an await its place, or returns why it has none. There were `noted` slots at its
+/// invocation.
+pub fn observe(
+    alloc: Global,
+    start: usize,
+    begun: usize,
+    slots: &mut Vec<Slot>,
+    reads: &mut Vec<PlacedRead>,
+    noted: usize,
+    call: Call,
+) -> Result<Option<Fault>, AllocError>
+    ensures { IfOk result (λ r. is_advance call.op ≡ false → Suits call.op call.reply
+        → noted ≤ length slots.old.items
+        → MatchOption r (IsObserved start begun noted call slots.old.items slots.new.items
+        reads.old.items reads.new.items)
+        (IsRefused start begun noted call slots.old.items reads.old.items)) }
+{
+    let n = least(call.op, call.reply).saturating_sub(start);
+    if contradicts(call.op, call.reply) {
+        return Ok(Some(Fault::Below(call)));
+    }
+    if n > begun {
+        return Ok(Some(Fault::Few(call)));
+    }
+    if let Some(number) = most(call.op, call.reply) {
+        if number < start || number - start < noted {
+            let fault = too_little(alloc, start, slots, reads, call, number)?;
+            return Ok(Some(fault));
+        }
+    }
+    raise(slots, n, call.last)?;
+    let place = n.max(noted);
+    reads.push(PlacedRead { call, place })?;
+    Ok(None)
+}

@@ -1,0 +1,142 @@
+//! The decision, by one pass over the events.
+ghost use Rattle.std.specs.Prelude.{◌≡◌, ◌+◌, ◌<◌, ◌≤◌, ◌^◌, ℕ, reverse, IfOk, OnOk};
+ghost use Rattle.calls_core.specs.declared.history.Kind.TheVariants.{Eventcount};
+ghost use Rattle.calls_core.specs.declared.history.Action.TheVariants.{Invoke, Respond};
+ghost use Rattle.calls_core.specs.Histories.{IsHistoryOf, clock};
+ghost use Rattle.calls_counts.specs.Scanning.{TakesIn};
+ghost use Rattle.calls_counts.specs.Outcomes.{IsOutcome};
+
+use crate::find::{fill, find, grow, is_advance};
+use crate::observe::observe;
+use crate::untaken::{complete, order};
+use crate::{Fault, Noted, Outcome, PlacedRead, Slot};
+use calls_core::{Action, Call, Event, Op, PendingCall, Reply};
+use std::alloc::{AllocError, Global};
+
+/// What is kept of the events so far.
+#[derive(Drop)]
+pub struct Scan {
+    /// How many advances were invoked.
+    pub begun: usize,
+    /// The places of advances in the order: as many as the count has gone up by at least.
+    pub slots: Vec<Slot>,
+    /// For each slot a place up to which none is free.
+    pub next: Vec<usize>,
+    /// The pending calls.
+    pub pending: Vec<Noted>,
+    /// The completed reads and awaits.
+    pub reads: Vec<PlacedRead>,
+}
+
+/// Notes a call at its invocation.
+fn invoke(scan: &mut Scan, event: Event, object: usize, op: Op) -> Result<(), AllocError>
+    requires room { scan.old.begun + 1 < 2 ^ 64 }
+    requires action { event.action ≡ Invoke object op }
+    ensures { OnOk result ((start : ℕ) → TakesIn start scan.old scan.new event None) }
+{
+    let call = PendingCall {
+        worker: event.worker,
+        object,
+        op,
+        first: event.at,
+    };
+    let noted = scan.slots.len();
+    scan.pending.push(Noted { call, noted })?;
+    if is_advance(op) {
+        scan.begun += 1;
+    }
+    Ok(())
+}
+
+/// Gives a call its place at its response, or returns the fault that it shows.
+fn respond(
+    alloc: Global,
+    start: usize,
+    scan: &mut Scan,
+    event: Event,
+    reply: Reply,
+) -> Result<Option<Fault>, AllocError>
+    requires { event.action ≡ Respond reply }
+    ensures { IfOk result (TakesIn start scan.old scan.new event) }
+{
+    let Some(i) = find(&scan.pending, event.worker) else {
+        return Ok(None);
+    };
+    let u = scan.pending.remove(i);
+    let call = Call {
+        worker: u.call.worker,
+        object: u.call.object,
+        op: u.call.op,
+        reply,
+        first: u.call.first,
+        last: event.at,
+    };
+    if !is_advance(call.op) {
+        return observe(
+            alloc,
+            start,
+            scan.begun,
+            &mut scan.slots,
+            &mut scan.reads,
+            u.noted,
+            call,
+        );
+    }
+    grow(&mut scan.next, scan.slots.len())?;
+    if !fill(&mut scan.slots, &mut scan.next, u.noted, call) {
+        scan.slots.push(Slot {
+            moment: event.at,
+            taken: Some(call),
+        })?;
+    }
+    Ok(None)
+}
+
+/// Takes in an event, or returns the fault that it shows.
+fn take_in(
+    alloc: Global,
+    start: usize,
+    scan: &mut Scan,
+    event: Event,
+) -> Result<Option<Fault>, AllocError>
+    requires { scan.old.begun + 1 < 2 ^ 64 }
+    ensures { IfOk result (TakesIn start scan.old scan.new event) }
+{
+    match event.action {
+        Action::Invoke(object, op) => {
+            invoke(scan, event, object, op)?;
+            Ok(None)
+        }
+        Action::Respond(reply) => respond(alloc, start, scan, event, reply),
+    }
+}
+
+/// Decides whether a history of an eventcount that is `start` at first has a linearization: returns
+/// one, or else the first faulty event and what shows that there is none. In the linearization the
+/// pending calls that took effect have their responses at `end`.
+pub fn decide(
+    alloc: Global,
+    start: usize,
+    events: &[Event],
+    end: usize,
+) -> Result<Outcome, AllocError>
+    requires history { IsHistoryOf (Eventcount start) (reverse events.now) }
+    requires time { clock (reverse events.now) ≤ end }
+    ensures { IfOk result (IsOutcome start events.now end) }
+{
+    let mut scan = Scan {
+        begun: 0,
+        slots: Vec::new(alloc),
+        next: Vec::new(alloc),
+        pending: Vec::new(alloc),
+        reads: Vec::new(alloc),
+    };
+    for (i, event) in events.iter().enumerate() {
+        if let Some(fault) = take_in(alloc, start, &mut scan, *event)? {
+            return Ok(Outcome::Refused(i, fault));
+        }
+    }
+    complete(&mut scan.slots, &mut scan.next, &scan.pending, end);
+    let calls = order(alloc, &scan.slots, &mut scan.reads)?;
+    Ok(Outcome::Ordered(calls))
+}

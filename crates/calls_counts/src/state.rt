@@ -1,0 +1,30 @@
+//! What the scan keeps.
+use calls_core::{Call, PendingCall};
+
+/// The place of an advance in the order, and when the advance takes effect. A slot is free if it is
+/// known that the count went up, and not yet which advance raised it.
+#[derive(Clone, Copy, Debug, PartialEq, Eq)]
+pub struct Slot {
+    /// The position at which the advance takes effect.
+    pub moment: usize,
+    /// The advance.
+    pub taken: Option<Call>,
+}
+
+/// A pending call, with what was known at its invocation.
+#[derive(Clone, Copy, Debug, Default, PartialEq, Eq)]
+pub struct Noted {
+    /// The call.
+    pub call: PendingCall,
+    /// How many slots there were at its invocation.
+    pub noted: usize,
+}
+
+/// A completed read or await, and its place among the slots.
+#[derive(Clone, Copy, Debug, PartialEq, Eq)]
+pub struct PlacedRead {
+    /// The call.
+    pub call: Call,
+    /// How many slots are before it.
+    pub place: usize,
+}

@@ -1,0 +1,93 @@
+//! The order of the calls, at the end of a scan.
+ghost use Rattle.std.specs.Prelude.{◌≡◌, ◌+◌, ◌++◌, ◌==◌, ℕ, IfOk, OnOk};
+ghost use Rattle.std.specs.List.{filter};
+ghost use Rattle.std.specs.List.Sorted.{IsPermutation, IsNonDecreasingBy};
+ghost use Rattle.calls_counts.specs.Orders.{reads_at, order_from, IsOrdering, IsCut};
+ghost use Rattle.calls_counts.specs.Scanning.{Completes};
+
+use crate::find::{fill, is_advance};
+use crate::{Noted, PlacedRead, Slot};
+use calls_core::{Call, Reply};
+use std::alloc::{AllocError, Global};
+
+/// Lets pending advances take the free slots, as if they had their responses at `end`.
+pub fn complete(slots: &mut Vec<Slot>, next: &mut Vec<usize>, pending: &[Noted], end: usize)
+    ensures { Completes slots.old.items slots.new.items next.old.items pending.now end }
+{
+    for u in pending {
+        let call = Call {
+            worker: u.call.worker,
+            object: u.call.object,
+            op: u.call.op,
+            reply: Reply::Done,
+            first: u.call.first,
+            last: end,
+        };
+        if is_advance(call.op) {
+            fill(slots, next, u.noted, call);
+        }
+    }
+}
+
+/// Sorts the reads by their places, and leaves those of one place as they were.
+fn sort(reads: &mut Vec<PlacedRead>) -> Result<(), AllocError>
+    ensures moved { IsPermutation reads.old.items reads.new.items }
+    ensures rising { OnOk result (IsNonDecreasingBy (λ p. p.place) reads.new.items) }
+    ensures same { OnOk result ((k : ℕ) → filter (λ p. p.place == k) reads.new.items ≡ filter (λ p.
+        p.place == k) reads.old.items) }
+{
+    reads.sort_by_key(|p| p.place)
+}
+
+/// Appends the reads of place `k`, which begin at index `from`, and returns where they end.
+fn push_run(
+    out: &mut Vec<Call>,
+    reads: &[PlacedRead],
+    from: usize,
+    k: usize,
+) -> Result<usize, AllocError>
+    requires rising { IsNonDecreasingBy (λ p. p.place) reads.now }
+    requires cut { IsCut reads.now k from }
+    ensures pushed { OnOk result (out.new.items ≡ out.old.items ++ reads_at k reads.now) }
+    ensures cut { IfOk result (IsCut reads.now (k + 1)) }
+{
+    let mut j = from;
+    while j < reads.len() {
+        if reads[j].place != k {
+            return Ok(j);
+        }
+        out.push(reads[j].call)?;
+        j += 1;
+    }
+    Ok(j)
+}
+
+/// Puts each read at its place among the slots.
+fn merge(alloc: Global, slots: &[Slot], reads: &[PlacedRead]) -> Result<Vec<Call>, AllocError>
+    requires { IsNonDecreasingBy (λ p. p.place) reads.now }
+    ensures { IfOk result (λ v. v.items ≡ order_from 0 slots.now reads.now) }
+{
+    let mut out = Vec::new(alloc);
+    let mut j = 0;
+    for (k, slot) in slots.iter().enumerate() {
+        j = push_run(&mut out, reads, j, k)?;
+        if let Some(call) = slot.taken {
+            out.push(call)?;
+        }
+    }
+    push_run(&mut out, reads, j, slots.len())?;
+    Ok(out)
+}
+
+/// Puts each read at its place among the slots, and those of one place in the order of their
+/// responses.
+pub fn order(
+    alloc: Global,
+    slots: &[Slot],
+    reads: &mut Vec<PlacedRead>,
+) -> Result<Vec<Call>, AllocError>
+    ensures { IfOk result (λ v. IsOrdering slots.now reads.old.items v.items) }
+{
+    sort(reads)?;
+    merge(alloc, slots, reads)
+}
