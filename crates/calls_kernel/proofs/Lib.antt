@@ -1,0 +1,17 @@
+pub mod Example
+pub mod Pending
+pub mod Events
+pub mod Objects
+pub mod Steps
+pub mod Known
+pub mod Runs
+pub mod Linearized
+pub mod Fitting
+pub mod Playing
+pub mod Acting
+pub mod Reading
+pub mod Played
+pub mod Spread
+pub mod Pairs
+pub mod Recording
+pub mod Exactly

@@ -1,0 +1,4 @@
+pub mod Seen
+pub mod Made
+pub mod Recorded
+pub mod Laws
