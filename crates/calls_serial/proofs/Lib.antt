@@ -1,0 +1,11 @@
+pub mod Sources
+pub mod Ordering
+pub mod Growing
+pub mod Shutting
+pub mod Stepping
+pub mod Responding
+pub mod Finding
+pub mod Ending
+pub mod Deciding
+pub mod Databases
+pub mod Exactly

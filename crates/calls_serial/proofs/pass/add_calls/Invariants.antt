@@ -1,0 +1,7 @@
+use Rattle.std.proofs.Common.{◌≡◌, ◌++◌, take}
+use Rattle.calls_serial.specs.kept.Stages.{put_calls}
+use Rattle.calls_serial.proofs.pass.add_calls.Given as goal
+
+abbrev pub invariant-loop-get : goal.invariant-loop-get
+invariant-loop-get l =
+    l.calls.items ≡ l.fn.calls.items ++ (put_calls l.stage.put ++ take l.get-index l.get-items)

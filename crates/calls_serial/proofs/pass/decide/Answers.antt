@@ -1,0 +1,31 @@
+use Rattle.std.proofs.Common.{ap, sym, ◌∙◌, subst, reverse}
+use Rattle.calls_core.specs.declared.history.Kind.TheVariants.{Cell}
+use Rattle.calls_core.specs.Outcomes.{IsOrderOf}
+use Rattle.calls_serial.specs.kept.Stages.{all_calls, helds}
+use Rattle.calls_serial.specs.Outcomes.{IsOutcome}
+use Rattle.calls_serial.proofs.Deciding.{begun, stopped, holds_next, order_all}
+use Rattle.calls_serial.proofs.pass.decide.Goals as goal
+
+pub loop-i-init : goal.loop-i-init
+loop-i-init c = begun c.args.end c.in_ok-pass.pass c.in_ok-pass.ensures.pending
+    c.in_ok-pass.ensures.stages
+
+pub returns-in-Some : goal.returns-in-Some
+returns-in-Some c =
+    subst (IsOutcome Cell c.args.events.now c.args.end) (sym c.outcome_of.ensures)
+    (stopped c.args.end c.loop-i.i c.args.events.now _ c.loop-i-test.true c.requires.history
+    c.requires.late c.loop-i.pass c.take_in.new.pass c.loop-i.invariant c.in_ok-stop.field-0
+    c.in_ok-stop.ensures c.in-Some.stop c.in-Some.is)
+
+pub loop-i-preserved : goal.loop-i-preserved
+loop-i-preserved c =
+    holds_next c.args.end c.loop-i.i c.args.events.now _ c.loop-i-test.true c.requires.history
+    c.requires.late c.loop-i.pass c.take_in.new.pass c.loop-i.invariant c.in_ok-stop.field-0
+    c.in_ok-stop.ensures c.in_default.is
+
+pub returns : goal.returns
+returns c =
+    subst (IsOrderOf Cell (reverse c.args.events.now) c.args.end)
+    (sym (c.in_ok-order.ensures ∙ ap (λ ss. all_calls (helds ss)) c.deref.ensures.value))
+    (order_all c.args.end c.loop-i.i c.args.events.now c.loop-i.pass c.loop-i-test.false
+    c.loop-i.invariant)

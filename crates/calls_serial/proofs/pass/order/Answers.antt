@@ -1,0 +1,13 @@
+use Rattle.std.proofs.Common.{ap, ◌∙◌, ◌++◌}
+use Rattle.calls_serial.specs.declared.stage.Stage.{Stage}
+use Rattle.calls_serial.specs.kept.Stages.{held, held_calls}
+use Rattle.calls_serial.proofs.Deciding.{order_more}
+use Rattle.calls_serial.proofs.pass.order.Goals as goal
+
+pub loop-stage-preserved : goal.loop-stage-preserved
+loop-stage-preserved c =
+    order_more c.args.stages.now c.loop-stage.stage-index c.stage-item.result
+    c.loop-stage.calls.items c.add_calls.new.calls.items c.loop-stage-test.true
+    c.loop-stage.invariant
+    (c.in_ok-add_calls.ensures
+    ∙ ap (λ (z : Stage). c.loop-stage.calls.items ++ held_calls (held z)) c.stage-item.is)

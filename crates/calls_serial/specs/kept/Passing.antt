@@ -1,0 +1,156 @@
+-- What the functions of the pass do. Only the proofs need this.
+use Rattle.std.specs.Prelude.{◌≡◌, ℕ, ◌+◌, ◌-◌, ◌<◌, ◌≤◌, List, [], ◌∷◌, ◌++◌, length}
+use Rattle.std.specs.Prelude.{reverse}
+use Rattle.std.specs.Prelude.{Option, Some, None, MatchOption, slice_get, Bool, IsTrue, ◌↔◌}
+use Rattle.std.specs.List.{remove}
+use Rattle.calls_core.specs.declared.history.Kind.TheVariants.{Cell}
+use Rattle.calls_core.specs.declared.history.Op.TheVariants.{Get}
+use Rattle.calls_core.specs.declared.history.Reply.{Reply}
+use Rattle.calls_core.specs.declared.history.Reply.TheVariants.{Number}
+use Rattle.calls_core.specs.declared.history.Event.{Event}
+use Rattle.calls_core.specs.declared.history.PendingCall.{PendingCall}
+use Rattle.calls_core.specs.declared.history.Call.{Call}
+use Rattle.calls_core.specs.Lists.{Each}
+use Rattle.calls_core.specs.Histories.{clock, pending_of, without, completion, completed_calls}
+use Rattle.calls_core.specs.Histories.{pending_calls, IsHistoryOf, Takes, Suits}
+use Rattle.calls_core.specs.Calls.{Early}
+use Rattle.calls_serial.specs.declared.outcome.Fault.{Fault}
+use Rattle.calls_serial.specs.declared.outcome.Outcome.{Outcome}
+use Rattle.calls_serial.specs.declared.outcome.Outcome.TheVariants.{Refused, Overlapping}
+use Rattle.calls_serial.specs.declared.stage.Stage.{Stage}
+use Rattle.calls_serial.specs.declared.stage.Link.{Link}
+use Rattle.calls_serial.specs.declared.stage.Pass.{Pass}
+use Rattle.calls_serial.specs.declared.stage.Stop.{Stop}
+use Rattle.calls_serial.specs.declared.stage.Stop.TheVariants.{Fails, Overlaps}
+use Rattle.calls_serial.specs.Faults.{Leaves, Shows}
+use Rattle.calls_serial.specs.Outcomes.{AreBothPending}
+use Rattle.calls_serial.specs.kept.Stages.{Held, helds, Current, current}
+use Rattle.calls_serial.specs.kept.Stages.{Stands}
+use Rattle.calls_serial.specs.kept.Stages.{links_with, with_get, with_late, with_response}
+
+-- the pending call of a worker stands at index i
+pub record IsCallAt (pending : List PendingCall) (w i : ℕ) : Type 0 where
+  pub call : PendingCall
+  pub here : slice_get pending i ≡ Some call
+  pub his : pending_of w pending ≡ Some call
+  pub others : without w pending ≡ remove pending i
+
+abbrev pub first_of : {X : Type 0} → List X → Option X
+first_of [] = None
+first_of (x ∷ xs) = Some x
+
+-- how many of n stages have a completed put, or none, where this is the pending one
+abbrev pub completed_of : Option PendingCall → ℕ → ℕ
+completed_of None n = n
+completed_of (Some o) n = n - 1
+
+-- STAGES THAT ARE CHANGED
+
+abbrev pub AddsGet : List Stage → List Stage → ℕ → Call → Type 0
+AddsGet old new i get =
+    (front : List Held) (h : Held) (back : List Held) → length front ≡ i
+    → helds old ≡ front ++ h ∷ back → helds new ≡ front ++ with_get get h ∷ back
+
+abbrev pub Responds : List Stage → List Stage → Call → Type 0
+Responds old new call =
+    (front : List Held) (h : Held) → helds old ≡ front ++ h ∷ []
+    → helds new ≡ front ++ with_response call h ∷ []
+
+-- a get is added where n links are, and no link said before by when the put took effect
+pub record IsLate (old new : Held) (get : Call) (n : ℕ) (first : Bool) : Type 0 where
+  pub stage : new ≡ with_late get n old
+  pub said : IsTrue first ↔ (old.link ≡ None)
+
+abbrev pub AddsLate : List Stage → List Stage → List Link → List Link → Link → Type 0
+AddsLate old new links more link =
+    (front : List Held) (h : Held) → helds old ≡ front ++ h ∷ []
+    → (helds new ≡ front ++ with_late link.get (length links) h ∷ [])
+    × (reverse more ≡ links_with h.link link (reverse links))
+
+-- THE PASS
+
+-- stages of completed and pending calls, and links, the latest first
+pub record Holding (end t : ℕ) (done : List Call) (pending : List PendingCall) (hs : List Held)
+    (links : List Link) : Type 0 where
+  pub front : List Held
+  pub now : Option Current
+  pub all : hs ≡ front ++ current now
+  pub stands : Stands end t done pending front now links
+
+pub record IsResponse (end t : ℕ) (done : List Call) (pending : List PendingCall) (w at : ℕ)
+    (o : PendingCall) : Type 0 where
+  pub ours : pending_of w pending ≡ Some o
+  pub early : Each (λ (c : Call). c.last < t) done
+  pub waiting : Each (Early t) pending
+  pub later : t ≤ at
+  pub before : at < end
+
+-- a get that was pending is completed: it takes its place, or no put is left for it
+abbrev pub EndsGet : Pass → Pass → Call → ℕ → Option Fault → Type 0
+EndsGet old new get x fault =
+    (end t : ℕ) (done : List Call) (pending : List PendingCall) (w at : ℕ) (r : Reply)
+    (o : PendingCall) → IsResponse end t done pending w at o → o.op ≡ Get → r ≡ Number x
+    → get ≡ completion at r o → old.pending.items ≡ without w pending
+    → Holding end t done pending (helds old.stages.items) (reverse old.links.items)
+    → MatchOption fault
+    ((new.pending.items ≡ without w pending)
+    × Holding end (at + 1) (get ∷ done) (without w pending) (helds new.stages.items)
+    (reverse new.links.items))
+    (λ (f : Fault). Leaves (get ∷ done) (without w pending) f.gets.items None)
+
+-- a put or a get, and what it returns
+pub record IsFitting (o : PendingCall) (r : Reply) : Type 0 where
+  pub takes : Takes (Some Cell) o.op
+  pub suits : Suits o.op r
+
+-- the same of any call
+abbrev pub EndsCall : Pass → Pass → Call → Option Fault → Type 0
+EndsCall old new call fault =
+    (end t : ℕ) (done : List Call) (pending : List PendingCall) (w at : ℕ) (r : Reply)
+    (o : PendingCall) → IsResponse end t done pending w at o → IsFitting o r
+    → call ≡ completion at r o → old.pending.items ≡ without w pending
+    → Holding end t done pending (helds old.stages.items) (reverse old.links.items)
+    → MatchOption fault
+    ((new.pending.items ≡ without w pending)
+    × Holding end (at + 1) (call ∷ done) (without w pending) (helds new.stages.items)
+    (reverse new.links.items))
+    (λ (f : Fault). Leaves (call ∷ done) (without w pending) f.gets.items None)
+
+-- a call is invoked: it is pending with the others, or two puts are
+abbrev pub IsInvoked : ℕ → ℕ → List Call → List PendingCall → Pass → PendingCall → Option Stop
+    → Type 0
+IsInvoked end t done pending new call None =
+    (new.pending.items ≡ pending ++ call ∷ [])
+    × Holding end (call.first + 1) done (pending ++ call ∷ []) (helds new.stages.items)
+    (reverse new.links.items)
+IsInvoked end t done pending new call (Some (Fails fault)) = ⊥
+IsInvoked end t done pending new call (Some (Overlaps o p)) =
+    AreBothPending (pending ++ call ∷ []) o p
+
+abbrev pub Invokes : ℕ → Pass → Pass → PendingCall → Option Stop → Type 0
+Invokes end old new call stop =
+    (t : ℕ) (done : List Call) (pending : List PendingCall)
+    → Each (λ (c : Call). c.last < t) done → Each (Early t) pending → t ≤ call.first
+    → call.first < end → old.pending.items ≡ pending
+    → Holding end t done pending (helds old.stages.items) (reverse old.links.items)
+    → IsInvoked end t done pending new call stop
+
+pub record Holds (end : ℕ) (past : List Event) (pass : Pass) : Type 0 where
+  pub pending : pass.pending.items ≡ pending_calls past
+  pub holding : Holding end (clock past) (completed_calls past) (pending_calls past)
+      (helds pass.stages.items) (reverse pass.links.items)
+
+-- after one more event the pass holds, or else a fault or two puts that overlap are shown
+abbrev pub Stops : ℕ → List Event → Pass → Option Stop → Type 0
+Stops end past new None = Holds end past new
+Stops end past new (Some (Fails fault)) = Shows past fault
+Stops end past new (Some (Overlaps o p)) = AreBothPending (pending_calls past) o p
+
+abbrev pub TakesIn : ℕ → Pass → Pass → Event → Option Stop → Type 0
+TakesIn end old new x stop =
+    (past : List Event) → IsHistoryOf Cell (x ∷ past) → x.at < end → Holds end past old
+    → Stops end (x ∷ past) new stop
+
+abbrev pub outcome_of : ℕ → Stop → Outcome
+outcome_of i (Fails fault) = Refused i fault
+outcome_of i (Overlaps o p) = Overlapping o p

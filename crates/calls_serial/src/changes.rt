@@ -1,0 +1,98 @@
+//! How stages change.
+ghost use Rattle.std.specs.Prelude.{◌≡◌, ◌<◌, ◌++◌, [], ◌∷◌, length, IfOk};
+ghost use Rattle.calls_serial.specs.kept.Stages.{held, helds, opened, with_response};
+ghost use Rattle.calls_serial.specs.kept.Passing.{AddsGet, Responds, IsLate, AddsLate};
+
+use crate::stage::{Link, Stage};
+use calls_core::{Call, PendingCall, Reply};
+use std::alloc::{AllocError, Global};
+
+/// Begins the stage of a put that was invoked. Its response counts as one at the end.
+pub fn open_stage(
+    alloc: Global,
+    stages: &mut Vec<Stage>,
+    call: PendingCall,
+    value: usize,
+    end: usize,
+) -> Result<(), AllocError>
+    ensures { IfOk result (λ _. helds stages.new.items ≡ helds stages.old.items
+        ++ opened end value call ∷ []) }
+{
+    let put = Call {
+        worker: call.worker,
+        object: call.object,
+        op: call.op,
+        reply: Reply::Done,
+        first: call.first,
+        last: end,
+    };
+    stages.push(Stage {
+        put: Some(put),
+        value,
+        moment: end,
+        link: None,
+        gets: Vec::new(alloc),
+    })?;
+    Ok(())
+}
+
+/// Puts a get behind those that return the value at index `i`.
+pub fn add_get(stages: &mut Vec<Stage>, i: usize, get: Call) -> Result<(), AllocError>
+    requires { i < length stages.old.items }
+    ensures { IfOk result (λ _. AddsGet stages.old.items stages.new.items i get) }
+{
+    stages[i].gets.push(get)?;
+    Ok(())
+}
+
+/// Puts a get behind those that return the value of a pending put, where there are `n` links. Says
+/// whether it is the first of them, by which the put took effect.
+fn add_to_pending(stage: &mut Stage, get: Call, n: usize) -> Result<bool, AllocError>
+    ensures { IfOk result (λ first. IsLate (held stage.old) (held stage.new) get n first) }
+{
+    stage.gets.push(get)?;
+    if stage.link.is_some() {
+        return Ok(false);
+    }
+    stage.link = Some(n);
+    stage.moment = get.last;
+    Ok(true)
+}
+
+/// The same for the last stage, and with the link that is needed.
+pub fn add_late(
+    stages: &mut Vec<Stage>,
+    links: &mut Vec<Link>,
+    link: Link,
+) -> Result<(), AllocError>
+    requires { 0 < length stages.old.items }
+    ensures { IfOk result (λ _. AddsLate stages.old.items stages.new.items links.old.items
+        links.new.items link) }
+{
+    let last = stages.len() - 1;
+    let n = links.len();
+    if add_to_pending(&mut stages[last], link.get, n)? {
+        links.push(link)?;
+    }
+    Ok(())
+}
+
+/// Notes the response of a pending put.
+fn complete(stage: &mut Stage, put: Call)
+    ensures { held stage.new ≡ with_response put (held stage.old) }
+{
+    stage.put = Some(put);
+    if stage.link.is_none() {
+        stage.moment = put.last;
+    }
+}
+
+/// The same for the last stage.
+pub fn end_put(stages: &mut Vec<Stage>, put: Call)
+    ensures { Responds stages.old.items stages.new.items put }
+{
+    let n = stages.len();
+    if n > 0 {
+        complete(&mut stages[n - 1], put);
+    }
+}

@@ -1,0 +1,23 @@
+//! What is said of a history of a cell.
+
+use calls_core::{Call, PendingCall};
+
+/// Why the calls have no linearization.
+#[derive(Debug, Drop)]
+pub struct Fault {
+    /// Gets, the latest first. Each but the latest can return its value from one put alone, which
+    /// was pending at its response. So that put took effect by then, and the next get, which was
+    /// invoked later, cannot return the value before it. For the latest get no put is left.
+    pub gets: Vec<Call>,
+}
+
+/// What is decided of a history.
+#[derive(Debug, Drop)]
+pub enum Outcome {
+    /// The calls in the order of a linearization.
+    Ordered(Vec<Call>),
+    /// The index of the first event with which there is no linearization, and why there is none.
+    Refused(usize, Fault),
+    /// Two puts that overlap, so that nothing is decided.
+    Overlapping(PendingCall, PendingCall),
+}

@@ -1,0 +1,147 @@
+//! The decision, by one pass over the events.
+ghost use Rattle.std.specs.Prelude.{◌≡◌, ◌≤◌, ◌++◌, [], ◌∷◌, reverse, IfOk};
+ghost use Rattle.calls_core.specs.declared.history.Kind.TheVariants.{Cell};
+ghost use Rattle.calls_core.specs.Histories.{IsHistoryOf, clock};
+ghost use Rattle.calls_serial.specs.kept.Stages.{held, helds, held_calls, all_calls, first_stage};
+ghost use Rattle.calls_serial.specs.kept.Passing.{Invokes, TakesIn, outcome_of};
+ghost use Rattle.calls_serial.specs.Outcomes.{IsOutcome};
+
+use crate::changes::open_stage;
+use crate::outcome::Outcome;
+use crate::responses::respond;
+use crate::search::{find, pending_put, put_value};
+use crate::stage::{Pass, Stage, Stop};
+use calls_core::{Action, Call, Event, PendingCall};
+use std::alloc::{AllocError, Global};
+
+/// Takes in an invocation, or gives two puts that overlap.
+fn invoke(
+    alloc: Global,
+    pass: &mut Pass,
+    call: PendingCall,
+    end: usize,
+) -> Result<Option<Stop>, AllocError>
+    ensures { IfOk result (Invokes end pass.old pass.new call) }
+{
+    let other = pending_put(&pass.pending);
+    pass.pending.push(call)?;
+    let Some(value) = put_value(call.op) else {
+        return Ok(None);
+    };
+    if let Some(put) = other {
+        return Ok(Some(Stop::Overlaps(put, call)));
+    }
+    open_stage(alloc, &mut pass.stages, call, value, end)?;
+    Ok(None)
+}
+
+/// Takes in an event.
+fn take_in(
+    alloc: Global,
+    pass: &mut Pass,
+    event: Event,
+    end: usize,
+) -> Result<Option<Stop>, AllocError>
+    ensures { IfOk result (TakesIn end pass.old pass.new event) }
+{
+    match event.action {
+        Action::Invoke(object, op) => {
+            let call = PendingCall {
+                worker: event.worker,
+                object,
+                op,
+                first: event.at,
+            };
+            invoke(alloc, pass, call, end)
+        }
+        Action::Respond(reply) => {
+            let Some(i) = find(&pass.pending, event.worker) else {
+                return Ok(None);
+            };
+            let pending = pass.pending.remove(i);
+            let call = Call {
+                worker: pending.worker,
+                object: pending.object,
+                op: pending.op,
+                reply,
+                first: pending.first,
+                last: event.at,
+            };
+            match respond(alloc, pass, call)? {
+                Some(fault) => Ok(Some(Stop::Fails(fault))),
+                None => Ok(None),
+            }
+        }
+    }
+}
+
+/// Makes the pass of no events, with the value at first.
+fn begin(alloc: Global) -> Result<Pass, AllocError>
+    ensures pending { IfOk result (λ pass. pass.pending.items ≡ []) }
+    ensures stages { IfOk result (λ pass. helds pass.stages.items ≡ first_stage ∷ []) }
+    ensures links { IfOk result (λ pass. pass.links.items ≡ []) }
+{
+    let mut stages = Vec::new(alloc);
+    stages.push(Stage {
+        put: None,
+        value: 0,
+        moment: 0,
+        link: None,
+        gets: Vec::new(alloc),
+    })?;
+    Ok(Pass {
+        pending: Vec::new(alloc),
+        stages,
+        links: Vec::new(alloc),
+    })
+}
+
+/// Puts the calls of a stage behind others.
+fn add_calls(calls: &mut Vec<Call>, stage: &Stage) -> Result<(), AllocError>
+    ensures { IfOk result (λ _. calls.new.items ≡ calls.old.items ++ held_calls (held stage.now)) }
+{
+    if let Some(put) = stage.put {
+        calls.push(put)?;
+    }
+    for get in &stage.gets {
+        calls.push(*get)?;
+    }
+    Ok(())
+}
+
+/// Gives the calls of the stages in their order.
+fn order(alloc: Global, stages: &[Stage]) -> Result<Vec<Call>, AllocError>
+    ensures { IfOk result (λ v. v.items ≡ all_calls (helds stages.now)) }
+{
+    let mut calls = Vec::new(alloc);
+    for stage in stages {
+        add_calls(&mut calls, stage)?;
+    }
+    Ok(calls)
+}
+
+/// Gives what a stop at the event with index `i` decides.
+fn outcome_of(i: usize, stop: Stop) -> Outcome
+    ensures { result ≡ outcome_of i stop }
+{
+    match stop {
+        Stop::Fails(fault) => Outcome::Refused(i, fault),
+        Stop::Overlaps(put, other) => Outcome::Overlapping(put, other),
+    }
+}
+
+/// Says whether a history of a cell has a linearization, with one, or else why it has none. Where
+/// two of its puts overlap it gives these.
+pub fn decide(alloc: Global, events: &[Event], end: usize) -> Result<Outcome, AllocError>
+    requires history { IsHistoryOf Cell (reverse events.now) }
+    requires late { clock (reverse events.now) ≤ end }
+    ensures { IfOk result (IsOutcome Cell events.now end) }
+{
+    let mut pass = begin(alloc)?;
+    for (i, event) in events.iter().enumerate() {
+        if let Some(stop) = take_in(alloc, &mut pass, *event, end)? {
+            return Ok(outcome_of(i, stop));
+        }
+    }
+    Ok(Outcome::Ordered(order(alloc, &pass.stages)?))
+}

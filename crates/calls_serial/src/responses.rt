@@ -1,0 +1,85 @@
+//! Responses.
+ghost use Rattle.std.specs.Prelude.{◌≡◌, ◌∷◌, reverse, IfOk};
+ghost use Rattle.calls_serial.specs.kept.Stages.{pending_puts, gathered};
+ghost use Rattle.calls_serial.specs.kept.Passing.{first_of, completed_of, EndsGet, EndsCall};
+
+use crate::changes::{add_get, add_late, end_put};
+use crate::outcome::Fault;
+use crate::search::{Found, pending_put, search};
+use crate::stage::{Link, Pass};
+use calls_core::{Call, PendingCall, Reply};
+use std::alloc::{AllocError, Global};
+
+/// Gives a get with those by which it can return no value, the latest first.
+fn chain(
+    alloc: Global,
+    links: &[Link],
+    get: Call,
+    because: Option<usize>,
+) -> Result<Vec<Call>, AllocError>
+    ensures { IfOk result (λ v. v.items ≡ get ∷ gathered because (reverse links.now)) }
+{
+    let mut gets = Vec::new(alloc);
+    gets.push(get)?;
+    let mut next = because;
+    let mut i = links.len();
+    while i > 0 {
+        i -= 1;
+        if next == Some(i) {
+            gets.push(links[i].get)?;
+            next = links[i].because;
+        }
+    }
+    Ok(gets)
+}
+
+/// Gives how many of `n` stages have a completed put, or none.
+fn completed(pending: &[PendingCall], n: usize) -> usize
+    ensures { result ≡ completed_of (first_of (pending_puts pending.now)) n }
+{
+    match pending_put(pending) {
+        Some(_) => n.saturating_sub(1),
+        None => n,
+    }
+}
+
+/// Takes in the response of a get.
+fn end_get(
+    alloc: Global,
+    pass: &mut Pass,
+    get: Call,
+    value: usize,
+) -> Result<Option<Fault>, AllocError>
+    ensures { IfOk result (EndsGet pass.old pass.new get value) }
+{
+    let n = pass.stages.len();
+    let m = completed(&pass.pending, n);
+    match search(&pass.stages, m, get.first, value) {
+        Found::At(i) => {
+            add_get(&mut pass.stages, i, get)?;
+            Ok(None)
+        }
+        Found::Shut(because) => {
+            if m < n && pass.stages[m].value == value {
+                add_late(&mut pass.stages, &mut pass.links, Link { get, because })?;
+                return Ok(None);
+            }
+            let gets = chain(alloc, &pass.links, get, because)?;
+            Ok(Some(Fault { gets }))
+        }
+    }
+}
+
+/// Takes in the response of a call that was taken from the pending ones.
+pub fn respond(alloc: Global, pass: &mut Pass, call: Call) -> Result<Option<Fault>, AllocError>
+    ensures { IfOk result (EndsCall pass.old pass.new call) }
+{
+    match call.reply {
+        Reply::Number(value) => end_get(alloc, pass, call, value),
+        Reply::Done => {
+            end_put(&mut pass.stages, call);
+            Ok(None)
+        }
+        Reply::Timeout => Ok(None),
+    }
+}

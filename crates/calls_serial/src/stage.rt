@@ -1,0 +1,49 @@
+//! What the pass keeps of the calls so far.
+
+use crate::outcome::Fault;
+use calls_core::{Call, PendingCall};
+
+/// A value of the cell, from its put to the next one.
+#[derive(Debug, Drop)]
+pub struct Stage {
+    /// The put that stored the value. The value at first has none.
+    pub put: Option<Call>,
+    /// The value.
+    pub value: usize,
+    /// The latest moment at which the put can take effect.
+    pub moment: usize,
+    /// The link that shows it, where it is earlier than the put's response.
+    pub link: Option<usize>,
+    /// The gets that return the value, in the order of their responses.
+    pub gets: Vec<Call>,
+}
+
+/// A get that can only return the value of a put that was pending at its response.
+#[derive(Clone, Copy, Debug)]
+pub struct Link {
+    /// The get.
+    pub get: Call,
+    /// The link that shows that it cannot return the value before the put that was pending at its
+    /// invocation, where that matters.
+    pub because: Option<usize>,
+}
+
+/// What the pass keeps.
+#[derive(Debug, Drop)]
+pub struct Pass {
+    /// The pending calls.
+    pub pending: Vec<PendingCall>,
+    /// The values in the order of their puts, of which the last may be pending.
+    pub stages: Vec<Stage>,
+    /// The links, in the order of the responses of their gets.
+    pub links: Vec<Link>,
+}
+
+/// Why the pass ends early.
+#[derive(Debug, Drop)]
+pub enum Stop {
+    /// There is no linearization.
+    Fails(Fault),
+    /// Two puts overlap.
+    Overlaps(PendingCall, PendingCall),
+}
