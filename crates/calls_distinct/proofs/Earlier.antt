@@ -1,0 +1,214 @@
+-- Beginnings of a history: their class, their clock, and the first fault.
+use Rattle.std.proofs.Common.{◌≡◌, ℕ, ◌+◌, ◌-◌, ◌/◌, ◌<◌, ◌≤◌, Vec, Global, Bool, true}
+use Rattle.std.proofs.Common.{false, ◌==◌, cond, Option, Some, None, List, [], ◌∷◌, ◌++◌}
+use Rattle.std.proofs.Common.{length, drop, reverse, get_or, refl, ap, sym, ◌∙◌, arith, subst}
+use Rattle.std.proofs.Common.{count_by}
+use Rattle.std.proofs.lemmas.Bool.{le-leb, leb-true}
+use Rattle.std.proofs.lemmas.Option.{same_Some, none-some}
+use Rattle.std.proofs.lemmas.List.{take_all}
+use Rattle.std.proofs.lemmas.List.Sorted.{IsPermutation-refl}
+use Rattle.calls_core.specs.declared.history.Kind.{Kind}
+use Rattle.calls_core.specs.declared.history.Action.{Action}
+use Rattle.calls_core.specs.declared.history.Action.TheVariants.{Invoke, Respond}
+use Rattle.calls_core.specs.declared.history.Event.{Event}
+use Rattle.calls_core.specs.declared.history.PendingCall.{PendingCall}
+use Rattle.calls_core.specs.declared.history.Call.{Call}
+use Rattle.calls_core.specs.Histories.{clock, pending_of, without, invoked_by, pending_after}
+use Rattle.calls_core.specs.Histories.{pending_calls, completion, ended_call, completed_calls}
+use Rattle.calls_core.specs.Histories.{IsNextOf, IsHistoryOf}
+use Rattle.calls_core.specs.Outcomes.{HasOrderOf, IsFirstFault}
+use Rattle.calls_core.specs.Beginnings.{past_at}
+use Rattle.calls_core.proofs.Lists.{all_pairs_from_each}
+use Rattle.calls_core.specs.Linearizations.{KeepsOrder}
+use Rattle.calls_core.proofs.Counting.{one, count_cons, count_append}
+use Rattle.calls_core.proofs.Beginnings.{past_split, history_at, orders_before}
+use Rattle.calls_distinct.specs.declared.cell.Fault.{Fault}
+use Rattle.calls_distinct.specs.declared.cell.Fault.TheVariants.{Nowhere, Stale, Alternate}
+use Rattle.calls_distinct.specs.declared.verdict.Verdict.{Verdict}
+use Rattle.calls_distinct.specs.declared.verdict.Verdict.TheVariants.{Ordered, Faulty}
+use Rattle.calls_distinct.specs.Verdicts.{IsVerdict}
+use Rattle.calls_distinct.specs.Cells.{IsStore, IsStoreHistory, put_call, put_pending, times, gets}
+use Rattle.calls_distinct.specs.Cells.{IsDistinctHistory, Shows}
+use Rattle.calls_distinct.proofs.Accesses.{same_history}
+use Rattle.calls_distinct.proofs.Steps.{past_more}
+
+-- THE CLASS
+
+count_without : (p : PendingCall → Bool) (w : ℕ) (os : List PendingCall) (o : PendingCall)
+    → pending_of w os ≡ Some o → count_by p os ≡ one (p o) + count_by p (without w os)
+count_without p w [] o e = absurd (none-some o e)
+count_without p w (y ∷ os) o e =
+    elim (y.worker == w) as (λ b. cond b (Some y) (pending_of w os) ≡ Some o
+    → count_by p (y ∷ os) ≡ one (p o) + count_by p (cond b os (y ∷ without w os))) [
+      | true ↦ λ is. count_cons p y os ∙ ap (λ z. one (p z) + count_by p os) (same_Some y o is)
+      | false ↦ λ is. omega (
+        arith,
+        count_cons p y os,
+        count_cons p y (without w os),
+        count_without
+            p w os o is,
+      )
+    ] e
+
+times_more : (kind : Kind) (v : ℕ) (x : Event) (action : Action) (o : Option PendingCall)
+    (os : List PendingCall) (cs : List Call) → pending_of x.worker os ≡ o → IsNextOf kind action o
+    → times cs os v ≤ times (ended_call x action o ++ cs) (pending_after x action os) v
+times_more kind v x (Invoke k op) o os cs e h = omega (
+  arith,
+  count_append (put_pending v) os
+      (invoked_by x k op ∷ []),
+)
+times_more kind v x (Respond r) None os cs e h = absurd h
+times_more kind v x (Respond r) (Some o) os cs e h = omega (
+  arith,
+  count_without (put_pending v) x.worker os o e,
+  count_cons (put_call v)
+      (completion x.at r o) cs,
+)
+
+distinct_before : (kind : Kind) (x : Event) (past : List Event) → IsHistoryOf kind (x ∷ past)
+    → IsDistinctHistory (x ∷ past) → IsDistinctHistory past
+distinct_before kind x past h d v got =
+    let ended = ended_call x x.action (pending_of x.worker (pending_calls past)) in
+    let some = leb-true 1 (count_by (gets v) (completed_calls past)) got in
+    let more = d v (le-leb 1 (count_by (gets v) (ended ++ completed_calls past))
+    (omega (arith, count_append (gets v) ended (completed_calls past)))) in
+    let le = times_more kind v x x.action (pending_of x.worker (pending_calls past))
+    (pending_calls past) (completed_calls past) refl h.1 in
+    let once = more.once in
+    record { once = omega arith; zero_never = λ e. (let none = more.zero_never e in omega arith) }
+
+distinct_earlier : (kind : Kind) (late past : List Event) → IsHistoryOf kind (late ++ past)
+    → IsDistinctHistory (late ++ past) → IsDistinctHistory past
+distinct_earlier kind [] past h d = d
+distinct_earlier kind (x ∷ late) past h d = distinct_earlier kind late past h.2
+    (distinct_before kind x (late ++ past) h d)
+
+pub distinct_at : (i : ℕ) (events : List Event) → IsStoreHistory (reverse events)
+    → IsDistinctHistory (reverse events) → IsDistinctHistory (past_at i events)
+distinct_at i events h d = distinct_earlier h.0 (reverse (drop i events)) (past_at i events)
+    (subst (IsHistoryOf h.0) (past_split i events) h.2)
+    (subst IsDistinctHistory (past_split i events) d)
+
+pub store_at : (i : ℕ) (events : List Event) → IsStoreHistory (reverse events)
+    → IsStoreHistory (past_at i events)
+store_at i events h = (h.0, h.1, history_at h.0 i events h.2)
+
+-- THE CLOCK
+
+clock_earlier : (kind : Kind) (late past : List Event) → IsHistoryOf kind (late ++ past)
+    → clock past ≤ clock (late ++ past)
+clock_earlier kind [] past h = omega arith
+clock_earlier kind (x ∷ late) past h = (let le = clock_earlier kind late past h.2 in
+    let lt : clock (late ++ past) ≤ x.at = h.0 in omega arith)
+
+pub clock_at : (i : ℕ) (events : List Event) → IsStoreHistory (reverse events)
+    → clock (past_at i events) ≤ clock (reverse events)
+clock_at i events h = subst (λ (past : List Event). clock (past_at i events) ≤ clock past)
+    (sym (past_split i events)) (clock_earlier h.0 (reverse (drop i events)) (past_at i events)
+    (subst (IsHistoryOf h.0) (past_split i events) h.2))
+
+pub clock_is : (i n : ℕ) (events : List Event) (d : Event) → n ≡ i + 1 → i < length events
+    → clock (past_at n events) ≡ (get_or events i d).at + 1
+clock_is i n events d e lt = ap (λ k. clock (past_at k events)) e ∙ ap clock
+    (past_more events i d lt)
+
+-- THE FIRST FAULT
+
+nothing_shown : (fault : Fault) → Shows [] fault → ⊥
+nothing_shown (Nowhere g) s = (let lt : s.known.0 < 0 = s.known.1 in omega arith)
+nothing_shown (Stale c g) s = (let lt : s.known_c.0 < 0 = s.known_c.1 in omega arith)
+nothing_shown (Alternate a b c d) s = (let lt : s.known_a.0 < 0 = s.known_a.1 in omega arith)
+
+pub some_events : (events : List Event) (fault : Fault) → Shows (reverse events) fault
+    → 0 < length events
+some_events [] fault s = absurd (nothing_shown fault s)
+some_events (x ∷ events) fault s = omega arith
+
+pub shows_whole : (events : List Event) (n : ℕ) (fault : Fault) → n ≡ length events
+    → Shows (reverse events) fault → Shows (past_at n events) fault
+shows_whole events n fault e s = subst (λ zs. Shows (reverse zs) fault)
+    (sym (take_all n events (omega arith))) s
+
+pub order_of_none : (kind : Kind) → HasOrderOf kind []
+order_of_none kind = (
+  [],
+  record {
+    answer = λ o. None;
+    each_once = IsPermutation-refl [];
+    in_order =
+        all_pairs_from_each KeepsOrder [] tt;
+    run = tt;
+  },
+)
+
+pub first_fault_is : (events : List Event) (low high : ℕ) (fault : Fault)
+    → IsStoreHistory (reverse events) → low < high → high ≤ low + 1 → high ≤ length events
+    → ((kind : Kind) → IsStore kind → HasOrderOf kind (past_at low events))
+    → Shows (past_at high events) fault
+    → (kind : Kind) → IsStore kind → IsFirstFault (λ past. Shows past fault) kind events low
+first_fault_is events low high fault h lt le within order shows kind store =
+    let history = same_history h.0 kind h.1 store (reverse events) h.2 in
+    let next : high ≡ low + 1 = omega arith in
+    record {
+      within = omega arith;
+      shows = subst (λ n. Shows (past_at n events) fault) next shows;
+      before = λ j small. orders_before kind low j events small (history_at kind low events history)
+          (order kind store);
+    }
+
+-- THE SEARCH
+
+-- a beginning that has an order, and a longer one with a fault
+pub record IsSearched (events : List Event) (low high : ℕ) (fault : Fault) : Type 0 where
+  pub apart : low < high
+  pub within : high ≤ length events
+  pub order : (kind : Kind) → IsStore kind → HasOrderOf kind (past_at low events)
+  pub shows : Shows (past_at high events) fault
+
+pub search_start : (events : List Event) (n : ℕ) (fault : Fault) → n ≡ length events
+    → Shows (reverse events) fault → IsSearched events 0 n fault
+search_start events n fault e s = record {
+  apart = (let some = some_events events fault s in omega arith);
+  within = omega arith;
+  order = λ kind store. order_of_none kind;
+  shows = shows_whole events n fault e s;
+}
+
+pub search_up : (events : List Event) (low middle high newLow newHigh : ℕ) (fault newFault : Fault)
+    (v : Verdict) (cs : Vec Call Global) → IsSearched events low high fault
+    → IsVerdict (past_at middle events) (clock (past_at middle events)) v → v ≡ Ordered cs
+    → middle < high
+    → newLow ≡ middle → newHigh ≡ high → newFault ≡ fault
+    → IsSearched events newLow newHigh newFault
+search_up events low middle high newLow newHigh fault newFault v cs s h e lt el eh ef =
+    let order = subst (IsVerdict (past_at middle events) (clock (past_at middle events))) e h in
+    subst (λ l. IsSearched events l newHigh newFault) (sym el)
+    (subst (λ k. IsSearched events middle k newFault) (sym eh)
+    (subst (IsSearched events middle high) (sym ef) (record {
+      apart = lt;
+      within = s.within;
+      order = λ kind store. (cs.items, order kind store);
+      shows = s.shows;
+    })))
+
+pub search_down : (events : List Event) (low middle high newLow newHigh : ℕ)
+    (fault newFault found : Fault) (v : Verdict) → IsSearched events low high fault
+    → IsVerdict (past_at middle events) (clock (past_at middle events)) v → v ≡ Faulty found
+    → low < middle → middle < high
+    → newLow ≡ low → newHigh ≡ middle → newFault ≡ found → IsSearched events newLow newHigh newFault
+search_down events low middle high newLow newHigh fault newFault found v s h e lt ls el eh ef =
+    let shows = subst (IsVerdict (past_at middle events) (clock (past_at middle events))) e h in
+    let within = s.within in
+    subst (λ l. IsSearched events l newHigh newFault) (sym el)
+    (subst (λ k. IsSearched events low k newFault) (sym eh)
+    (subst (IsSearched events low middle) (sym ef) (record {
+      apart = lt;
+      within = omega arith;
+      order = s.order;
+      shows = shows;
+    })))
+
+pub middle_between : (low high : ℕ) → low < high → 1 < high - low → (low < low + (high - low) / 2)
+    × (low + (high - low) / 2 < high)
+middle_between low high lt gap = (omega arith, omega arith)

@@ -1,0 +1,14 @@
+pub mod Accesses
+pub mod Faults
+pub mod Facing
+pub mod Sorted
+pub mod Checked
+pub mod Steps
+pub mod Grouping
+pub mod Sorting
+pub mod KeptZones
+pub mod Listing
+pub mod Verdicts
+pub mod Judging
+pub mod Earlier
+pub mod Existing

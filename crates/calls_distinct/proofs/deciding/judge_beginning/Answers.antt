@@ -1,0 +1,39 @@
+use Rattle.std.proofs.Common.{◌+◌, ◌-◌, ℕ, sym, arith, subst, List}
+use Rattle.std.proofs.Common.{get_or}
+use Rattle.std.proofs.lemmas.Result.{IfOk-weaker}
+use Rattle.calls_core.specs.declared.history.Op.TheVariants.{Advance}
+use Rattle.calls_core.specs.declared.history.Action.TheVariants.{Invoke}
+use Rattle.calls_core.specs.declared.history.Event.{Event}
+use Rattle.calls_core.specs.Beginnings.{past_at}
+use Rattle.calls_distinct.specs.declared.zone.Grouped.{Grouped}
+use Rattle.calls_distinct.specs.Verdicts.{AreGroupedOf, IsVerdict}
+use Rattle.calls_distinct.proofs.Earlier.{distinct_at, store_at, clock_at, clock_is}
+use Rattle.calls_distinct.proofs.deciding.judge_beginning.Goals as goal
+
+-- what stands past the end of a list
+abbrev none : Event
+none = record { at = 0; worker = 0; action = Invoke 0 Advance }
+
+pub overflow_add-end : goal.overflow_add-end
+overflow_add-end c =
+    let n = c.args.n in
+    let events = c.args.events.now in
+    let some = c.requires.some in
+    let within = c.requires.within in
+    let room = c.requires.room in
+    let le = clock_at n events c.requires.store in
+    let is = clock_is (n - 1) n events none (omega arith) (omega arith) in
+    omega (arith, is)
+
+pub returns : goal.returns
+returns c =
+    let n = c.args.n in
+    let events = c.args.events.now in
+    let some = c.requires.some in
+    let within = c.requires.within in
+    let is = clock_is (n - 1) n events none (omega arith) (omega arith) in
+    IfOk-weaker _ _ _ (λ v f. subst (λ (t : ℕ). IsVerdict (past_at n events) t v) (sym is)
+    (f (past_at n events) (store_at n events c.requires.store) (omega (arith, is))
+    (distinct_at n events c.requires.store c.requires.distinct)
+    (subst (λ (zs : List Grouped). AreGroupedOf (past_at n events) ((get_or events (n - 1) none).at
+    + 1) zs) (sym c.deref.ensures.value) c.in_ok-zs.ensures))) c.judge.ensures

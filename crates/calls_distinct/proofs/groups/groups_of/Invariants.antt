@@ -1,0 +1,6 @@
+use Rattle.std.proofs.Common.{take}
+use Rattle.calls_distinct.specs.Groups.{AreGroups}
+use Rattle.calls_distinct.proofs.groups.groups_of.Given as goal
+
+abbrev pub invariant-loop-call : goal.invariant-loop-call
+invariant-loop-call l = AreGroups (take l.call-index l.calls) l.groups

@@ -1,0 +1,96 @@
+-- What only the code's own representation needs: what is known of the calls of each value.
+use Rattle.std.specs.Prelude.{◌≡◌, ℕ, ◌+◌, ◌<◌, ◌≤◌, Bool, true, false, ◌&&◌, ◌||◌, not}
+use Rattle.std.specs.Prelude.{◌==◌, nat_lt, count_by, List, map, Option, Some, None}
+use Rattle.std.specs.Prelude.{if◌then◌else◌}
+use Rattle.std.specs.Ordering.{nat_cmp}
+use Rattle.std.specs.BTreeMap.{BTreeMap, get}
+use Rattle.std.specs.List.{Contains, filter}
+use Rattle.calls_core.specs.declared.history.Call.{Call}
+use Rattle.calls_core.specs.Lists.{Each}
+use Rattle.calls_distinct.specs.declared.zone.Group.{Group}
+use Rattle.calls_distinct.specs.declared.zone.Grouped.{Grouped}
+use Rattle.calls_distinct.specs.declared.zone.Zone.{Zone}
+use Rattle.calls_distinct.specs.Cells.{is_put, value, put_call, is_got}
+use Rattle.calls_distinct.specs.Outcomes.{put_at}
+
+-- these calls of v
+pub record IsGroup (seen : List Call) (v : ℕ) (g : Group) : Type 0 where
+  pub got : g.got ≡ is_got seen v
+  pub puts : g.puts ≡ count_by (put_call v) seen
+  pub put : 0 < g.puts → 0 < count_by (put_at v g.put) seen
+  pub known_early : Contains seen g.early
+  pub known_late : Contains seen g.late
+  pub early : value g.early ≡ v
+  pub late : value g.late ≡ v
+  pub least : Each (λ (c : Call). value c ≡ v → g.early.last ≤ c.last) seen
+  pub most : Each (λ (c : Call). value c ≡ v → c.first ≤ g.late.first) seen
+
+abbrev pub earlier : Call → Call → Call
+earlier a b = if nat_lt b.last a.last then b else a
+
+abbrev pub later : Call → Call → Call
+later a b = if nat_lt a.first b.first then b else a
+
+-- the group with one more call
+abbrev pub with_call : Group → Call → Group
+with_call g c =
+    if is_put c.op then record {
+      got = g.got;
+      puts = g.puts + 1;
+      put = c.first;
+      early = earlier g.early c;
+      late = later g.late c;
+    }
+    else record {
+      got = true;
+      puts = g.puts;
+      put = g.put;
+      early = earlier g.early c;
+      late = later g.late c;
+    }
+
+abbrev pub IsGroupOf : List Call → ℕ → Option Group → Type 0
+IsGroupOf seen v None = Each (λ (c : Call). value c ≡ v → ⊥) seen
+IsGroupOf seen v (Some g) = IsGroup seen v g
+
+abbrev pub AreGroups : List Call → BTreeMap ℕ Group → Type 0
+AreGroups seen groups = (v : ℕ) → IsGroupOf seen v (get nat_cmp groups v)
+
+abbrev pub grouped_calls : List Grouped → List Call
+grouped_calls zs = map (λ (z : Grouped). z.call) zs
+
+-- these calls, each with its group among all calls
+pub record AreGrouped (all cs : List Call) (zs : List Grouped) : Type 0 where
+  pub calls : grouped_calls zs ≡ cs
+  pub groups : Each (λ (z : Grouped). IsGroup all (value z.call) z.group) zs
+
+-- TESTS
+
+-- a get of a value that was put twice, or of 0, which was put
+abbrev pub repeats : Grouped → Bool
+repeats z = not (is_put z.call.op) &&
+    (nat_lt 1 z.group.puts || ((value z.call == 0) && nat_lt 0 z.group.puts))
+
+-- a get of a value that was not put before its response
+abbrev pub lacks_put : Grouped → Bool
+lacks_put z = (not (is_put z.call.op) && not (value z.call == 0)) &&
+    ((z.group.puts == 0) || nat_lt z.call.last z.group.put)
+
+-- the first that passes a test
+abbrev pub IsFirst : (Grouped → Bool) → List Grouped → Option Grouped → Type 0
+IsFirst test zs None = Each (λ (z : Grouped). test z ≡ false) zs
+IsFirst test zs (Some z) = Contains zs z × (test z ≡ true)
+
+-- ZONES
+
+-- a completed call, or a pending put of a value that was got
+abbrev pub takes_effect : ℕ → Grouped → Bool
+takes_effect t z = nat_lt z.call.last t || z.group.got
+
+abbrev pub zone_of : Grouped → Zone
+zone_of z =
+    if z.group.got then record { call = z.call; early = z.group.early; late = z.group.late }
+    else record { call = z.call; early = z.call; late = z.call }
+
+abbrev pub zones_of : ℕ → List Grouped → List Zone
+zones_of t zs = map zone_of (filter (takes_effect t) zs)

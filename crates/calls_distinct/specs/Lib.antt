@@ -1,0 +1,6 @@
+pub mod Cells
+pub mod Outcomes
+pub mod Zones
+pub mod Groups
+pub mod Verdicts
+pub mod Laws

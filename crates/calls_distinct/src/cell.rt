@@ -1,0 +1,28 @@
+//! What is decided of a cell.
+use calls_core::Call;
+
+/// Why the calls of a cell have no linearization.
+#[derive(Clone, Copy, Debug, PartialEq, Eq)]
+pub enum Fault {
+    /// This get returned a value, and no put of it was invoked before the get's response.
+    Nowhere(Call),
+    /// The first, of another value, precedes the second, a get that returned 0; and 0 was not put.
+    Stale(Call, Call),
+    /// Two values alternate: the first precedes the second, and the third the fourth; the first
+    /// and the fourth have one value, the second and the third another. Of a pending put among
+    /// them the response counts as one after all events.
+    Alternate(Call, Call, Call, Call),
+}
+
+/// Whether the calls of a cell make sense.
+#[derive(Debug, Drop)]
+pub enum Outcome {
+    /// They have this linearization. A pending put that took effect has its response at the end.
+    Ordered(Vec<Call>),
+    /// They have none: the event at this index is the first with which they show a fault, this
+    /// one.
+    Refused(usize, Fault),
+    /// A get returned this value, which was put twice, or is 0 and was put. The invocation of its
+    /// latest put is at this position.
+    Repeated(usize, usize),
+}

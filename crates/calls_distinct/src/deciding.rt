@@ -1,0 +1,88 @@
+//! Whether the calls of a cell make sense.
+ghost use Rattle.std.specs.Prelude.{◌≡◌, ◌<◌, ◌≤◌, ◌+◌, length, reverse, IfOk};
+ghost use Rattle.calls_core.specs.declared.history.Kind.{Kind};
+ghost use Rattle.calls_core.specs.Histories.{clock};
+ghost use Rattle.calls_core.specs.Beginnings.{past_at};
+ghost use Rattle.calls_core.specs.Outcomes.{IsFirstFault};
+ghost use Rattle.calls_distinct.specs.Cells.{IsStore, IsStoreHistory, IsDistinctHistory, Shows};
+ghost use Rattle.calls_distinct.specs.Outcomes.{IsOutcome};
+ghost use Rattle.calls_distinct.specs.Verdicts.{AreGroupedOf, IsVerdict};
+
+use crate::groups::grouped;
+use crate::history::calls_in;
+use crate::reading::value;
+use crate::testing::first_repeated;
+use crate::verdict::{Verdict, judge};
+use crate::zone::Grouped;
+use crate::{Fault, Outcome};
+use calls_core::Event;
+use std::alloc::{AllocError, Global};
+
+/// Lists the calls of some events, each with what is known of the calls of its value.
+fn grouped_calls(alloc: Global, events: &[Event], end: usize) -> Result<Vec<Grouped>, AllocError>
+    ensures { IfOk result (λ v. AreGroupedOf (reverse events.now) end v.items) }
+{
+    let calls = calls_in(alloc, events, end)?;
+    grouped(alloc, &calls)
+}
+
+/// Judges the first n events.
+fn judge_beginning(alloc: Global, events: &[Event], n: usize) -> Result<Verdict, AllocError>
+    requires store { IsStoreHistory (reverse events.now) }
+    requires distinct { IsDistinctHistory (reverse events.now) }
+    requires room { clock (reverse events.now) ≤ usize.MAX }
+    requires some { 0 < n }
+    requires within { n ≤ length events.now }
+    ensures { IfOk result (IsVerdict (past_at n events.now) (clock (past_at n events.now))) }
+{
+    let end = events[n - 1].at + 1;
+    let zs = grouped_calls(alloc, &events[..n], end)?;
+    judge(alloc, &zs, end)
+}
+
+/// Finds the first event with which the events show a fault, where all of them show one.
+fn first_fault(alloc: Global, events: &[Event], fault: Fault) -> Result<(usize, Fault), AllocError>
+    requires store { IsStoreHistory (reverse events.now) }
+    requires distinct { IsDistinctHistory (reverse events.now) }
+    requires room { clock (reverse events.now) ≤ usize.MAX }
+    requires shows { Shows (reverse events.now) fault }
+    ensures { IfOk result (λ p. (kind : Kind) → IsStore kind
+        → IsFirstFault (λ past. Shows past p.1) kind events.now p.0) }
+{
+    let mut fault = fault;
+    let mut low: usize = 0;
+    let mut high = events.len();
+    while 1 < high - low {
+        let middle = low + (high - low) / 2;
+        match judge_beginning(alloc, events, middle)? {
+            Verdict::Ordered(_) => low = middle,
+            Verdict::Faulty(earlier) => {
+                high = middle;
+                fault = earlier;
+            }
+        }
+    }
+    Ok((low, fault))
+}
+
+/// Decides whether the calls of one cell, or of one database, have a linearization. It says
+/// nothing where a value was got that was put twice, or 0 was put and got.
+///
+/// The events are those of its calls, in order, and `end` is a position after all of them.
+pub fn decide(alloc: Global, events: &[Event], end: usize) -> Result<Outcome, AllocError>
+    requires history { IsStoreHistory (reverse events.now) }
+    requires end { clock (reverse events.now) ≤ end }
+    ensures { IfOk result (IsOutcome events.now end) }
+{
+    let zs = grouped_calls(alloc, events, end)?;
+    if let Some(z) = first_repeated(&zs) {
+        return Ok(Outcome::Repeated(value(&z.call), z.group.put));
+    }
+    match judge(alloc, &zs, end)? {
+        Verdict::Ordered(calls) => Ok(Outcome::Ordered(calls)),
+        Verdict::Faulty(fault) => {
+            let (index, fault) = first_fault(alloc, events, fault)?;
+            Ok(Outcome::Refused(index, fault))
+        }
+    }
+}

@@ -1,0 +1,113 @@
+//! What is known of all calls of each value.
+ghost use Rattle.std.specs.Prelude.{◌≡◌, ◌<◌, ℕ, List, ◌++◌, ◌∷◌, [], length, map, IfOk, OnOk};
+ghost use Rattle.std.specs.Prelude.{Option, None, Some};
+ghost use Rattle.std.specs.Ordering.{nat_cmp};
+ghost use Rattle.std.specs.BTreeMap.{get};
+ghost use Rattle.std.specs.List.{Contains};
+ghost use Rattle.calls_core.specs.Lists.{Each};
+ghost use Rattle.calls_distinct.specs.Cells.{value};
+ghost use Rattle.calls_distinct.specs.Groups.{earlier, later, with_call, IsGroup, IsGroupOf};
+ghost use Rattle.calls_distinct.specs.Groups.{AreGroups, AreGrouped};
+
+use crate::reading::{is_put, value};
+use crate::zone::{Group, Grouped};
+use calls_core::Call;
+use std::alloc::{AllocError, Global};
+use std::collections::BTreeMap;
+
+/// Makes the group of one call.
+fn group_of_one(call: &Call) -> Group
+    ensures { IsGroup (call.now ∷ []) (value call.now) result }
+{
+    let put = is_put(call.op);
+    Group {
+        got: !put,
+        puts: if put { 1 } else { 0 },
+        put: call.first,
+        early: *call,
+        late: *call,
+    }
+}
+
+/// Returns the one with the earlier response.
+fn earlier(a: &Call, b: &Call) -> Call
+    ensures { result ≡ earlier a.now b.now }
+{
+    if b.last < a.last { *b } else { *a }
+}
+
+/// Returns the one with the later invocation.
+fn later(a: &Call, b: &Call) -> Call
+    ensures { result ≡ later a.now b.now }
+{
+    if a.first < b.first { *b } else { *a }
+}
+
+/// Adds a call to the group of its value.
+fn with_call(group: &Group, call: &Call) -> Group
+    requires { group.now.puts < usize.MAX }
+    ensures { result ≡ with_call group.now call.now }
+{
+    let early = earlier(&group.early, call);
+    let late = later(&group.late, call);
+    if is_put(call.op) {
+        Group {
+            got: group.got,
+            puts: group.puts + 1,
+            put: call.first,
+            early,
+            late,
+        }
+    } else {
+        Group {
+            got: true,
+            puts: group.puts,
+            put: group.put,
+            early,
+            late,
+        }
+    }
+}
+
+/// Adds a call.
+fn add(groups: &mut BTreeMap<usize, Group>, call: &Call) -> Result<(), AllocError>
+    requires { (v : ℕ) (g : Group) → get nat_cmp groups.old v ≡ Some g → g.puts < usize.MAX }
+    ensures { OnOk result ((seen : List Call) → AreGroups seen groups.old
+        → AreGroups (seen ++ call.now ∷ []) groups.new) }
+{
+    let v = value(call);
+    let group = match groups.get(&v) {
+        Some(group) => with_call(group, call),
+        None => group_of_one(call),
+    };
+    groups.insert(v, group)?;
+    Ok(())
+}
+
+/// Groups the calls by their values.
+fn groups_of(alloc: Global, calls: &[Call]) -> Result<BTreeMap<usize, Group>, AllocError>
+    ensures { IfOk result (AreGroups calls.now) }
+{
+    let mut groups = BTreeMap::new(alloc);
+    for call in calls {
+        add(&mut groups, call)?;
+    }
+    Ok(groups)
+}
+
+/// Finds the group of each call.
+pub(crate) fn grouped(alloc: Global, calls: &[Call]) -> Result<Vec<Grouped>, AllocError>
+    ensures { IfOk result (λ v. AreGrouped calls.now calls.now v.items) }
+{
+    let groups = groups_of(alloc, calls)?;
+    let mut out = Vec::new(alloc);
+    for call in calls {
+        if let Some(group) = groups.get(&value(call)) {
+            out.push(Grouped {
+                call: *call,
+                group: *group,
+            })?;
+        }
+    }
+    Ok(out)
+}

@@ -1,0 +1,89 @@
+//! The calls of a history.
+ghost use Rattle.std.specs.Prelude.{◌≡◌, ◌++◌, reverse, IfOk, OnOk};
+ghost use Rattle.calls_core.specs.Histories.{pending_of, without, pending_after, ended_call};
+ghost use Rattle.calls_core.specs.Histories.{completed_calls, pending_calls};
+ghost use Rattle.calls_core.specs.Linearizations.{answered_calls};
+ghost use Rattle.calls_distinct.specs.Zones.{put_answer, begun_calls};
+
+use crate::reading::is_put;
+use calls_core::{Action, Call, Event, PendingCall, Reply};
+use std::alloc::{AllocError, Global};
+
+/// Takes out the pending call of this worker, if it has one.
+fn take_pending(pending: &mut Vec<PendingCall>, worker: usize) -> Option<PendingCall>
+    ensures result { result ≡ pending_of worker pending.old.items }
+    ensures rest { pending.new.items ≡ without worker pending.old.items }
+{
+    for i in 0..pending.len() {
+        if pending[i].worker == worker {
+            return Some(pending.remove(i));
+        }
+    }
+    None
+}
+
+/// Gives a pending call its response.
+fn completion(pending: &PendingCall, reply: Reply, last: usize) -> Call
+    ensures { result ≡ Rattle.calls_core.specs.Histories.completion last reply pending.now }
+{
+    Call {
+        worker: pending.worker,
+        object: pending.object,
+        op: pending.op,
+        reply,
+        first: pending.first,
+        last,
+    }
+}
+
+/// Takes note of one more event.
+fn note(calls: &mut Vec<Call>, pending: &mut Vec<PendingCall>, x: &Event) -> Result<(), AllocError>
+    ensures calls { OnOk result (calls.new.items ≡ calls.old.items ++ ended_call x.now x.now.action
+        (pending_of x.now.worker pending.old.items)) }
+    ensures pending { OnOk result (pending.new.items ≡ pending_after x.now x.now.action
+        pending.old.items) }
+{
+    match x.action {
+        Action::Invoke(object, op) => {
+            pending.push(PendingCall {
+                worker: x.worker,
+                object,
+                op,
+                first: x.at,
+            })?;
+        }
+        Action::Respond(reply) => {
+            if let Some(o) = take_pending(pending, x.worker) {
+                calls.push(completion(&o, reply, x.at))?;
+            }
+        }
+    }
+    Ok(())
+}
+
+/// Adds the pending puts, with a response at the end.
+fn add_puts(calls: &mut Vec<Call>, pending: &[PendingCall], end: usize) -> Result<(), AllocError>
+    ensures { OnOk result (calls.new.items ≡ calls.old.items ++ answered_calls end put_answer
+        pending.now) }
+{
+    for o in pending {
+        if is_put(o.op) {
+            calls.push(completion(o, Reply::Done, end))?;
+        }
+    }
+    Ok(())
+}
+
+/// Lists the completed calls, and the pending puts with a response at the end.
+pub(crate) fn calls_in(alloc: Global, events: &[Event], end: usize) -> Result<Vec<Call>, AllocError>
+    ensures { IfOk result (λ v. v.items ≡ begun_calls (completed_calls (reverse events.now))
+        (pending_calls (reverse events.now)) end) }
+{
+    let mut calls = Vec::new(alloc);
+    let mut pending = Vec::new(alloc);
+    for x in events {
+        note(&mut calls, &mut pending, x)?;
+    }
+    add_puts(&mut calls, &pending, end)?;
+    Ok(calls)
+}

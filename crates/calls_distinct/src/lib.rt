@@ -1,0 +1,18 @@
+//! Decides the calls of one cell, or of one database, whose values were put once each.
+#![tactic(auto)]
+
+mod cell;
+mod crossing;
+mod deciding;
+mod groups;
+mod history;
+mod laws;
+mod reading;
+mod testing;
+mod verdict;
+mod zone;
+mod zones;
+
+pub use cell::{Fault, Outcome};
+pub use deciding::decide;
+pub use laws::{a_fault_leaves_no_order, every_history_of_the_class_is_decided};

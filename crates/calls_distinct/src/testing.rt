@@ -1,0 +1,46 @@
+//! Whether each get returned a value that was put once, and in time.
+ghost use Rattle.std.specs.Prelude.{◌≡◌, true, false, Option, None, Some, option_copied};
+ghost use Rattle.std.specs.List.{Contains};
+ghost use Rattle.calls_core.specs.Lists.{Each};
+ghost use Rattle.calls_distinct.specs.Groups.{repeats, lacks_put, IsFirst};
+
+use crate::reading::{is_put, value};
+use crate::zone::Grouped;
+
+/// Returns whether this is a get of a value that was put twice, or of 0, which was put.
+fn repeats(z: &Grouped) -> bool
+    ensures { result ≡ repeats z.now }
+{
+    !is_put(z.call.op) && (1 < z.group.puts || (value(&z.call) == 0 && 0 < z.group.puts))
+}
+
+/// Returns whether this is a get of a value that was not put before its response.
+fn lacks_put(z: &Grouped) -> bool
+    ensures { result ≡ lacks_put z.now }
+{
+    (!is_put(z.call.op) && value(&z.call) != 0) && (z.group.puts == 0 || z.call.last < z.group.put)
+}
+
+/// Finds a get of a value that was put twice, or of 0, which was put.
+pub(crate) fn first_repeated(zs: &[Grouped]) -> Option<Grouped>
+    ensures { IsFirst repeats zs.now result }
+{
+    for z in zs {
+        if repeats(z) {
+            return Some(*z);
+        }
+    }
+    None
+}
+
+/// Finds a get of a value that was not put before its response.
+pub(crate) fn first_lacking(zs: &[Grouped]) -> Option<Grouped>
+    ensures { IsFirst lacks_put zs.now result }
+{
+    for z in zs {
+        if lacks_put(z) {
+            return Some(*z);
+        }
+    }
+    None
+}

@@ -1,0 +1,50 @@
+//! Whether the calls of a history of the distinct class have a linearization.
+ghost use Rattle.std.specs.Prelude.{◌≡◌, ◌≤◌, List, IfOk};
+ghost use Rattle.calls_core.specs.declared.history.Event.{Event};
+ghost use Rattle.calls_core.specs.Histories.{clock};
+ghost use Rattle.calls_distinct.specs.Cells.{IsStoreHistory, IsDistinctHistory};
+ghost use Rattle.calls_distinct.specs.Zones.{zone_calls};
+ghost use Rattle.calls_distinct.specs.Verdicts.{AreGroupedOf, IsVerdict};
+
+use crate::Fault;
+use crate::crossing::{crossing, crossing_fault};
+use crate::testing::first_lacking;
+use crate::zone::{Grouped, Zone};
+use crate::zones::sorted;
+use calls_core::Call;
+use std::alloc::{AllocError, Global};
+
+/// A linearization, or what shows that there is none.
+#[derive(Debug, Drop)]
+pub(crate) enum Verdict {
+    /// This is one.
+    Ordered(Vec<Call>),
+    /// This fault is shown.
+    Faulty(Fault),
+}
+
+/// Lists the calls of some zones.
+fn calls_of(alloc: Global, zs: &[Zone]) -> Result<Vec<Call>, AllocError>
+    ensures { IfOk result (λ v. v.items ≡ zone_calls zs.now) }
+{
+    let mut calls = Vec::new(alloc);
+    for z in zs {
+        calls.push(z.call)?;
+    }
+    Ok(calls)
+}
+
+/// Orders the calls, or finds a fault.
+pub(crate) fn judge(alloc: Global, zs: &[Grouped], end: usize) -> Result<Verdict, AllocError>
+    ensures { IfOk result (λ v. (past : List Event) → IsStoreHistory past → clock past ≤ end
+        → IsDistinctHistory past → AreGroupedOf past end zs.now → IsVerdict past end v) }
+{
+    if let Some(z) = first_lacking(zs) {
+        return Ok(Verdict::Faulty(Fault::Nowhere(z.call)));
+    }
+    let order = sorted(alloc, zs, end)?;
+    match crossing(&order) {
+        Some((x, z)) => Ok(Verdict::Faulty(crossing_fault(&x, &z))),
+        None => Ok(Verdict::Ordered(calls_of(alloc, &order)?)),
+    }
+}

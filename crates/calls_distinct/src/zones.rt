@@ -1,0 +1,92 @@
+//! The calls that take effect, in the order of their zones.
+ghost use Rattle.std.specs.Prelude.{◌≡◌, ◌++◌, IfOk, take, map};
+ghost use Rattle.std.specs.List.Sorted.{IsPermutation};
+ghost use Rattle.calls_core.specs.Lists.{EachPair};
+ghost use Rattle.calls_distinct.specs.Zones.{key, rank, zone_cmp, NotAfter};
+ghost use Rattle.calls_distinct.specs.Groups.{takes_effect, zone_of, zones_of};
+
+use crate::reading::{gets, is_put, value};
+use crate::zone::{Grouped, Zone};
+use calls_core::Call;
+use std::alloc::{AllocError, Global};
+use std::cmp::Ordering;
+
+/// Returns when the zone of a call takes effect.
+fn key(z: &Zone) -> usize
+    ensures { result ≡ key z.now }
+{
+    if gets(0, &z.call) {
+        0
+    } else {
+        z.early.last.min(z.late.first)
+    }
+}
+
+/// Returns the place of a call in its zone.
+fn rank(call: &Call) -> usize
+    ensures { result ≡ rank call.now }
+{
+    if is_put(call.op) {
+        0
+    } else {
+        call.first.max(1)
+    }
+}
+
+/// Compares two calls by their zones, and by their places in one.
+fn compare(x: &Zone, y: &Zone) -> Ordering
+    ensures { result ≡ zone_cmp x.now y.now }
+{
+    let by_value = value(&x.call).cmp(&value(&y.call));
+    let by_rank = rank(&x.call).cmp(&rank(&y.call));
+    key(x).cmp(&key(y)).then(by_value.then(by_rank))
+}
+
+/// Returns whether this is a completed call, or a pending put of a value that was got.
+fn takes_effect(end: usize, z: &Grouped) -> bool
+    ensures { result ≡ takes_effect end z.now }
+{
+    z.call.last < end || z.group.got
+}
+
+/// Returns the zone of a call.
+fn zone_of(z: &Grouped) -> Zone
+    ensures { result ≡ zone_of z.now }
+{
+    if z.group.got {
+        Zone {
+            call: z.call,
+            early: z.group.early,
+            late: z.group.late,
+        }
+    } else {
+        Zone {
+            call: z.call,
+            early: z.call,
+            late: z.call,
+        }
+    }
+}
+
+/// Lists the calls that take effect, with their zones.
+fn zones(alloc: Global, zs: &[Grouped], end: usize) -> Result<Vec<Zone>, AllocError>
+    ensures { IfOk result (λ v. v.items ≡ zones_of end zs.now) }
+{
+    let mut out = Vec::new(alloc);
+    for z in zs {
+        if takes_effect(end, z) {
+            out.push(zone_of(z))?;
+        }
+    }
+    Ok(out)
+}
+
+/// Lists the calls that take effect, in the order of their zones.
+pub(crate) fn sorted(alloc: Global, zs: &[Grouped], end: usize) -> Result<Vec<Zone>, AllocError>
+    ensures moved { IfOk result (λ v. IsPermutation (zones_of end zs.now) v.items) }
+    ensures sorted { IfOk result (λ v. EachPair NotAfter v.items) }
+{
+    let mut order = zones(alloc, zs, end)?;
+    order.sort_by(|x, y| compare(x, y))?;
+    Ok(order)
+}

@@ -1,0 +1,68 @@
+use Rattle.std.proofs.Common.{◌≡◌, ◌++◌, ◌∷◌, [], ◌∙◌, ap, sym, subst, refl, length, arith}
+use Rattle.calls_core.specs.declared.history.PendingCall.{PendingCall}
+use Rattle.calls_core.specs.declared.history.Call.{Call}
+use Rattle.calls_core.specs.declared.history.Reply.TheVariants.{Done}
+use Rattle.calls_core.specs.Histories.{completion, invoked_by}
+use Rattle.calls_semaphores.specs.declared.scan.Scan.{Scan}
+use Rattle.calls_semaphores.proofs.Scanning.{scan_invoked_v, scan_invoked_other}
+use Rattle.calls_semaphores.proofs.scan.Scan.invoke.Goals as goal
+
+pub returns-then-not-is_v-clause-step : goal.returns-then-not-is_v-clause-step
+returns-then-not-is_v-clause-step c = λ is units past h le k.
+    (let s = c.args.self.now in
+    let new : Scan = record {
+      bank = c.add.new.self;
+      pending = c.push.new.self;
+      order = s.order;
+      end = s.end;
+    } in
+    let place : c.len-place.result ≡ length s.order.items = omega (arith, c.len-place.ensures) in
+    let pending : c.push.new.self.items ≡ s.pending.items ++ record {
+      call =
+          invoked_by c.args.event c.args.object c.args.op;
+      place = length s.order.items;
+    } ∷ [] =
+    subst (λ (z : PendingCall). c.push.new.self.items ≡ s.pending.items ++ record {
+      call = z;
+      place = length s.order.items;
+    } ∷ []) c.invoked_by-call.ensures
+    (subst (λ n. c.push.new.self.items ≡ s.pending.items ++ record {
+      call =
+          c.invoked_by-call.result;
+      place = n;
+    } ∷ []) place c.in_ok-push.ensures.items) in
+    scan_invoked_other units c.args.event past h s new le k refl c.args.object c.args.op is pending
+    c.add.ensures.same (c.add.ensures.value c.requires) (sym c.is_v.ensures ∙ c.if-not-is_v.true) refl)
+
+pub returns-clause-step : goal.returns-clause-step
+returns-clause-step c = λ is units past h le k.
+    (let s = c.args.self.now in
+    let new : Scan = record {
+      bank = c.add.new.self;
+      pending = c.push.new.self;
+      order =
+          c.push-2.new.self;
+      end = s.end;
+    } in
+    let place : c.len-place.result ≡ length s.order.items = omega (arith, c.len-place.ensures) in
+    let pending : c.push.new.self.items ≡ s.pending.items ++ record {
+      call =
+          invoked_by c.args.event c.args.object c.args.op;
+      place = length s.order.items;
+    } ∷ [] =
+    subst (λ (z : PendingCall). c.push.new.self.items ≡ s.pending.items ++ record {
+      call = z;
+      place = length s.order.items;
+    } ∷ []) c.invoked_by-call.ensures
+    (subst (λ n. c.push.new.self.items ≡ s.pending.items ++ record {
+      call =
+          c.invoked_by-call.result;
+      place = n;
+    } ∷ []) place c.in_ok-push.ensures.items) in
+    let order : c.push-2.new.self.items ≡ s.order.items ++ completion s.end Done
+    (invoked_by c.args.event c.args.object c.args.op) ∷ [] =
+    c.in_ok-push-2.ensures.items ∙ ap (λ (z : Call). s.order.items ++ z ∷ []) c.completion.ensures
+    ∙ ap (λ (z : PendingCall). s.order.items ++ completion s.end Done z ∷ [])
+    c.invoked_by-call.ensures in
+    scan_invoked_v units c.args.event past h s new le k refl c.args.object c.args.op is pending
+    c.add.ensures.same (c.add.ensures.value c.requires) (sym c.is_v.ensures ∙ c.if-not-is_v.false) order)

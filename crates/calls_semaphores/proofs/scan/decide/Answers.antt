@@ -1,0 +1,90 @@
+use Rattle.std.proofs.Common.{◌≡◌, ◌∷◌, ◌+◌, ◌≤◌, ◌∙◌, sym, subst, arith, get_or}
+use Rattle.calls_core.specs.declared.history.Event.{Event}
+use Rattle.calls_core.specs.declared.history.Action.TheVariants.{Invoke}
+use Rattle.calls_core.specs.declared.history.Op.TheVariants.{Advance}
+use Rattle.calls_core.specs.declared.history.Kind.TheVariants.{Semaphores}
+use Rattle.calls_core.specs.Beginnings.{past_at}
+use Rattle.calls_core.specs.Outcomes.{HasOrderOf}
+use Rattle.calls_core.specs.Histories.{clock}
+use Rattle.calls_semaphores.specs.Keeping.{Holds, IsStep}
+use Rattle.calls_semaphores.proofs.Scanning.{scan_start}
+use Rattle.calls_semaphores.proofs.Deciding.{has_order, kept_start}
+use Rattle.calls_semaphores.proofs.Finding.{next, next_history, next_clock, orders_more, held_whole}
+use Rattle.calls_semaphores.proofs.Finding.{first_fault}
+use Rattle.calls_semaphores.proofs.scan.decide.Goals as goal
+
+no_event : Event
+no_event = record { at = 0; worker = 0; action = Invoke 0 Advance }
+
+pub returns-in-Some : goal.returns-in-Some
+unfolding no_event
+returns-in-Some c =
+    let l = c.loop-i in
+    let units = c.args.units.now in
+    let events = c.args.events.now in
+    let x = get_or events l.i no_event in
+    let step : IsStep units (past_at l.i events) x c.event.new.self c.in_ok-fault.field-0 =
+    c.in_ok-fault.ensures.step units (past_at l.i events)
+    (next_history units events c.args.end c.requires.history c.requires.end l.i no_event
+    c.loop-i-test.true)
+    (subst (λ n. clock (x ∷ past_at l.i events) ≤ n) (sym l.invariant.end)
+    (next_clock units events c.args.end c.requires.history c.requires.end l.i no_event
+    c.loop-i-test.true)) l.invariant.holds in
+    first_fault units events c.args.end c.requires.history c.requires.end l.i no_event
+    c.in-Some.fault c.loop-i-test.true
+    (subst (IsStep units (past_at l.i events) x c.event.new.self) c.in-Some.is step)
+    l.invariant.before
+
+pub returns : goal.returns
+returns c =
+    held_whole c.args.units.now c.args.events.now c.args.end c.requires.history c.requires.end
+    c.loop-i.scan c.loop-i.invariant.end c.loop-i.i c.loop-i-test.false c.loop-i.invariant.holds
+
+pub event-requires : goal.event-requires
+event-requires c = λ i. omega (
+  arith,
+  c.loop-i.invariant.room i,
+  c.loop-i-test.true,
+  c.requires.room,
+)
+
+pub loop-i-init : goal.loop-i-init
+loop-i-init c =
+    let units = c.args.units.now in
+    record {
+      end = c.in_ok-scan.ensures.0;
+      room = c.in_ok-scan.ensures.1.none;
+      holds = scan_start units c.in_ok-scan.scan c.in_ok-scan.ensures.1 c.in_ok-scan.ensures.2
+          c.in_ok-scan.ensures.3;
+      before = λ j le. (let first : 0 ≡ j = omega arith in
+          subst (λ n. HasOrderOf (Semaphores units) (past_at n c.args.events.now)) first
+          (has_order units (past_at 0 c.args.events.now) (λ t k. (_, kept_start units t))));
+    }
+
+pub loop-i-preserved : goal.loop-i-preserved
+unfolding no_event
+loop-i-preserved c =
+    let l = c.loop-i in
+    let units = c.args.units.now in
+    let events = c.args.events.now in
+    let x = get_or events l.i no_event in
+    let step : IsStep units (past_at l.i events) x c.event.new.self c.in_ok-fault.field-0 =
+    c.in_ok-fault.ensures.step units (past_at l.i events)
+    (next_history units events c.args.end c.requires.history c.requires.end l.i no_event
+    c.loop-i-test.true)
+    (subst (λ n. clock (x ∷ past_at l.i events) ≤ n) (sym l.invariant.end)
+    (next_clock units events c.args.end c.requires.history c.requires.end l.i no_event
+    c.loop-i-test.true)) l.invariant.holds in
+    let holds : Holds units (past_at (l.i + 1) events) c.event.new.self =
+    subst (λ past. Holds units past c.event.new.self) (sym
+    (next units events c.args.end c.requires.history c.requires.end l.i no_event
+    c.loop-i-test.true)) (subst (IsStep units (past_at l.i events) x c.event.new.self)
+    c.in_default.is step) in
+    let end : c.event.new.self.end ≡ c.args.end = c.event.ensures.end ∙ l.invariant.end in
+    record {
+      end = end;
+      room = c.event.ensures.grows l.i l.invariant.room;
+      holds = holds;
+      before = orders_more units events c.args.end c.requires.history c.requires.end
+          c.event.new.self end l.i holds l.invariant.before;
+    }

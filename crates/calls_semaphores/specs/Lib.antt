@@ -1,0 +1,6 @@
+pub mod Banks
+pub mod Faults
+pub mod Outcomes
+pub mod Laws
+pub mod Monitors
+pub mod Keeping

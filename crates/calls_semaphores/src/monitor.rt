@@ -1,0 +1,67 @@
+//! A monitor: it judges a history event by event, in constant memory.
+ghost use Rattle.std.specs.Prelude.{◌≡◌, ◌-◌, ◌==◌, IfOk};
+ghost use Rattle.std.specs.List.{position};
+ghost use Rattle.calls_core.specs.declared.history.PendingCall.{PendingCall};
+ghost use Rattle.arrayvec.specs.ArrayVec.{array_vec_len};
+ghost use Rattle.calls_semaphores.specs.Monitors.{HasRoom, Judges, Grows, Starts};
+
+use crate::scan::{completion, invoked_by};
+use crate::{Bank, Fault};
+use arrayvec::ArrayVec;
+use calls_core::{Action, Event, PendingCall, WORKERS};
+use std::alloc::{AllocError, Global};
+
+/// What is kept of the events so far.
+#[derive(Drop)]
+pub struct Monitor {
+    /// The units that are left.
+    pub bank: Bank,
+    /// The pending calls, in the order of their invocations.
+    pub pending: ArrayVec<PendingCall, WORKERS>,
+}
+
+/// Returns the index of the pending call of a worker.
+fn find(pending: &[PendingCall], worker: usize) -> Option<usize>
+    ensures { result ≡ position (λ (o : PendingCall). o.worker == worker) pending.now }
+{
+    pending.iter().position(|o| o.worker == worker)
+}
+
+impl Monitor {
+    /// Returns a monitor of a bank of semaphores that have these units at first. This allocates,
+    /// and `event` does not.
+    pub fn new(alloc: Global, units: &Vec<usize>) -> Result<Self, AllocError>
+        ensures { IfOk result (Starts units.now) }
+    {
+        Ok(Monitor {
+            bank: Bank::new(alloc, units)?,
+            pending: ArrayVec::new(),
+        })
+    }
+
+    /// Takes in an event, or reports a fault: then the events up to it have no linearization, and
+    /// the monitor takes in no more of them.
+    pub fn event(&mut self, event: Event) -> Result<(), Fault>
+        requires workers { HasRoom event.action (array_vec_len self.old.pending) }
+        ensures judges { Judges self.old self.new event result }
+        ensures grows { Grows event.action self.old.bank.added.items self.new.bank.added.items }
+    {
+        match event.action {
+            Action::Invoke(object, op) => {
+                self.pending.push(invoked_by(event, object, op));
+                self.bank.add(op);
+                Ok(())
+            }
+            Action::Respond(reply) => {
+                let Some(k) = find(self.pending.as_slice(), event.worker) else {
+                    return Ok(());
+                };
+                let call = completion(event.at, reply, self.pending.remove(k));
+                match self.bank.take(call.op, reply) {
+                    None => Ok(()),
+                    Some(index) => Err(Fault { call, index }),
+                }
+            }
+        }
+    }
+}

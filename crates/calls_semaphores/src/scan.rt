@@ -1,0 +1,171 @@
+//! Decides a history in one pass.
+ghost use Rattle.std.specs.Prelude.{◌≡◌, ◌-◌, ◌<◌, ◌≤◌, ◌==◌, ◌^◌, [], IfOk, length, reverse};
+ghost use Rattle.std.specs.List.{position};
+ghost use Rattle.calls_core.specs.declared.history.Kind.TheVariants.{Semaphores};
+ghost use Rattle.calls_core.specs.declared.history.Action.TheVariants.{Invoke, Respond};
+ghost use Rattle.calls_core.specs.Histories.{IsHistoryOf, clock, completion, invoked_by};
+ghost use Rattle.calls_semaphores.specs.declared.scan.Open.{Open};
+ghost use Rattle.calls_semaphores.specs.Monitors.{UpTo, GrowsByOne};
+ghost use Rattle.calls_semaphores.specs.Keeping.{is_v, IsOpened, Steps};
+ghost use Rattle.calls_semaphores.specs.Outcomes.{IsOutcome};
+
+use crate::{Bank, Fault, Outcome};
+use calls_core::{Action, Call, Event, Op, PendingCall, Reply};
+use std::alloc::{AllocError, Global};
+
+/// A pending call.
+#[derive(Clone, Copy)]
+pub(crate) struct Open {
+    /// The call.
+    pub(crate) call: PendingCall,
+    /// Its index in the linearization, if it is a v.
+    pub(crate) place: usize,
+}
+
+/// What is known of the events so far.
+#[derive(Drop)]
+pub(crate) struct Scan {
+    /// The units that are left.
+    pub(crate) bank: Bank,
+    /// The pending calls.
+    pub(crate) pending: Vec<Open>,
+    /// A linearization, in which a pending v has its response at `end`.
+    pub(crate) order: Vec<Call>,
+    /// The first position after all events.
+    pub(crate) end: usize,
+}
+
+/// Whether this is a v.
+fn is_v(op: Op) -> bool
+    ensures { result ≡ is_v op }
+{
+    matches!(op, Op::V(_))
+}
+
+/// The call that an invocation begins.
+pub(crate) fn invoked_by(event: Event, object: usize, op: Op) -> PendingCall
+    ensures { result ≡ invoked_by event object op }
+{
+    PendingCall {
+        worker: event.worker,
+        object,
+        op,
+        first: event.at,
+    }
+}
+
+/// The call that a response ends.
+pub(crate) fn completion(last: usize, reply: Reply, pending: PendingCall) -> Call
+    ensures { result ≡ completion last reply pending }
+{
+    Call {
+        worker: pending.worker,
+        object: pending.object,
+        op: pending.op,
+        reply,
+        first: pending.first,
+        last,
+    }
+}
+
+/// Returns the index of the pending call of a worker.
+fn find(pending: &[Open], worker: usize) -> Option<usize>
+    ensures { result ≡ position (λ (o : Open). o.call.worker == worker) pending.now }
+{
+    pending.iter().position(|o| o.call.worker == worker)
+}
+
+impl Scan {
+    /// Begins with a bank of semaphores that have these units.
+    fn new(alloc: Global, units: &Vec<usize>, end: usize) -> Result<Self, AllocError>
+        ensures { IfOk result (λ s. (s.end ≡ end) × IsOpened units.now.items s.bank
+            × (s.pending.items ≡ []) × (s.order.items ≡ [])) }
+    {
+        Ok(Scan {
+            bank: Bank::new(alloc, units)?,
+            pending: Vec::new(alloc),
+            order: Vec::new(alloc),
+            end,
+        })
+    }
+
+    /// Takes in an invocation.
+    fn invoke(&mut self, event: Event, object: usize, op: Op) -> Result<(), AllocError>
+        requires { UpTo (usize.MAX - 1) self.old.bank.added.items }
+        ensures end { self.new.end ≡ self.old.end }
+        ensures grows { GrowsByOne self.old.bank.added.items self.new.bank.added.items }
+        ensures step { IfOk result (λ u. event.action ≡ Invoke object op
+            → Steps self.old self.new event None) }
+    {
+        let call = invoked_by(event, object, op);
+        let place = self.order.len();
+        self.pending.push(Open { call, place })?;
+        self.bank.add(op);
+        if !is_v(op) {
+            return Ok(());
+        }
+        self.order.push(completion(self.end, Reply::Done, call))?;
+        Ok(())
+    }
+
+    /// Takes in a response.
+    fn respond(&mut self, event: Event, reply: Reply) -> Result<Option<Fault>, AllocError>
+        ensures end { self.new.end ≡ self.old.end }
+        ensures grows { GrowsByOne self.old.bank.added.items self.new.bank.added.items }
+        ensures step { IfOk result (λ f. event.action ≡ Respond reply
+            → Steps self.old self.new event f) }
+    {
+        let Some(k) = find(&self.pending, event.worker) else {
+            return Ok(None);
+        };
+        let open = self.pending.remove(k);
+        let call = completion(event.at, reply, open.call);
+        if let Some(index) = self.bank.take(call.op, reply) {
+            return Ok(Some(Fault { call, index }));
+        }
+        if !is_v(call.op) {
+            self.order.push(call)?;
+        } else if open.place < self.order.len() {
+            self.order[open.place] = call;
+        }
+        Ok(None)
+    }
+
+    /// Takes in an event, and returns what it shows if there is no linearization.
+    fn event(&mut self, event: Event) -> Result<Option<Fault>, AllocError>
+        requires { UpTo (usize.MAX - 1) self.old.bank.added.items }
+        ensures end { self.new.end ≡ self.old.end }
+        ensures grows { GrowsByOne self.old.bank.added.items self.new.bank.added.items }
+        ensures step { IfOk result (λ f. Steps self.old self.new event f) }
+    {
+        match event.action {
+            Action::Invoke(object, op) => {
+                self.invoke(event, object, op)?;
+                Ok(None)
+            }
+            Action::Respond(reply) => self.respond(event, reply),
+        }
+    }
+}
+
+/// Decides whether the calls of a bank of semaphores have a linearization, where `end` is a
+/// position after all events.
+pub fn decide(
+    alloc: Global,
+    units: &Vec<usize>,
+    events: &[Event],
+    end: usize,
+) -> Result<Outcome, AllocError>
+    requires history { IsHistoryOf (Semaphores units.now) (reverse events.now) }
+    requires end { clock (reverse events.now) ≤ end }
+    requires room { length events.now < 2 ^ 64 }
+    ensures { IfOk result (IsOutcome (Semaphores units.now) events.now end) }
+{
+    let mut scan = Scan::new(alloc, units, end)?;
+    for (i, event) in events.iter().enumerate() {
+        if let Some(fault) = scan.event(*event)? {
+            return Ok(Outcome::Refused(i, fault));
+        }
+    }
+    Ok(Outcome::Ordered(scan.order))
+}

@@ -1,0 +1,14 @@
+pub mod Refuting
+pub mod Tables
+pub mod Filling
+pub mod Writing
+pub mod Written
+pub mod Wholes
+pub mod Histories
+pub mod Numbering
+pub mod Searching
+pub mod Judging
+pub mod Stepping
+pub mod Answering
+pub mod Gathering
+pub mod Outcomes

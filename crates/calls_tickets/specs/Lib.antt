@@ -1,0 +1,5 @@
+pub mod Faults
+pub mod Laws
+pub mod Outcomes
+pub mod Monitors
+pub mod kept

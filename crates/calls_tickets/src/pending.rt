@@ -1,0 +1,82 @@
+//! Pending tickets, and searches among them and among the numbers that are missing.
+ghost use Rattle.std.specs.Prelude.{◌≡◌, None, MatchOption};
+ghost use Rattle.calls_core.specs.Histories.{completion, pending_of};
+ghost use Rattle.calls_tickets.specs.Faults.{number_of};
+ghost use Rattle.calls_tickets.specs.kept.Watching.{calls_in, IsPendingAt, IsHoleAt, NoHole};
+ghost use Rattle.calls_tickets.specs.kept.Watching.{IsPaired};
+
+use calls_core::{Call, PendingCall, Reply};
+
+/// A pending ticket.
+#[derive(Clone, Copy, Debug, Default, PartialEq, Eq)]
+pub struct PendingTicket {
+    /// The call.
+    pub call: PendingCall,
+    /// One more than the greatest number returned before its invocation, 0 where there is none.
+    pub noted: usize,
+}
+
+/// Returns the number of a reply.
+pub fn number(reply: Reply) -> usize
+    ensures { result ≡ number_of reply }
+{
+    match reply {
+        Reply::Done => 0,
+        Reply::Number(n) => n,
+        Reply::Timeout => 0,
+    }
+}
+
+/// Completes a pending call with a reply at a position.
+pub fn completed(pending: PendingCall, reply: Reply, at: usize) -> Call
+    ensures { result ≡ completion at reply pending }
+{
+    Call {
+        worker: pending.worker,
+        object: pending.object,
+        op: pending.op,
+        reply,
+        first: pending.first,
+        last: at,
+    }
+}
+
+/// Returns the index of a worker's pending ticket, `None` if it has none.
+pub fn pending_index(pending: &[PendingTicket], worker: usize) -> Option<usize>
+    ensures { MatchOption result (pending_of worker (calls_in pending.now) ≡ None)
+        (IsPendingAt pending.now worker) }
+{
+    for (i, ticket) in pending.iter().enumerate() {
+        if ticket.call.worker == worker {
+            return Some(i);
+        }
+    }
+    None
+}
+
+/// Returns the index of a number among the missing ones, `None` if it is not missing.
+pub fn hole_index(holes: &[usize], n: usize) -> Option<usize>
+    ensures { MatchOption result (NoHole holes.now n) (IsHoleAt holes.now n) }
+{
+    for (k, hole) in holes.iter().enumerate() {
+        if *hole == n {
+            return Some(k);
+        }
+    }
+    None
+}
+
+/// Whether there is a pending ticket for each missing number, in turn, that may return it.
+pub fn are_paired(holes: &[usize], pending: &[PendingTicket]) -> bool
+    ensures { IsPaired holes.now pending.now result }
+{
+    if holes.len() > pending.len() {
+        return false;
+    }
+    for (i, hole) in holes.iter().enumerate() {
+        if pending[i].noted > *hole {
+            return false;
+        }
+    }
+    true
+}

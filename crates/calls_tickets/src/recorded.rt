@@ -1,0 +1,125 @@
+//! The tickets of a history, gathered event by event.
+ghost use Rattle.std.specs.Prelude.{◌≡◌, ◌+◌, ◌-◌, ◌<◌, ◌≤◌, ◌++◌, ◌∷◌, [], length, reverse, IfOk};
+ghost use Rattle.std.specs.Prelude.{OnOk};
+ghost use Rattle.calls_tickets.specs.kept.Tables.{AreTickets, IsDecided};
+ghost use Rattle.calls_tickets.specs.kept.Watching.{calls_in, places, IsTaken};
+ghost use Rattle.calls_tickets.specs.kept.Recording.{Records, TakesIn};
+
+use crate::pending::{PendingTicket, are_paired, completed, hole_index, number, pending_index};
+use crate::table::{Decision, Tickets};
+use calls_core::{Action, Call, Event, PendingCall, Reply};
+use std::alloc::{AllocError, Global};
+
+/// The calls so far, and what a monitor of any number of workers keeps of them.
+#[derive(Drop)]
+pub struct Recorded {
+    /// The completed tickets, in the order of their responses.
+    pub done: Vec<Call>,
+    /// One more than the greatest number returned, 0 at first.
+    pub top: usize,
+    /// The numbers below it that no ticket returned, ascending.
+    pub holes: Vec<usize>,
+    /// The pending tickets, in the order of their invocations.
+    pub pending: Vec<PendingTicket>,
+}
+
+/// Adds the numbers from `from` up to `upto`.
+fn raise(holes: &mut Vec<usize>, from: usize, upto: usize) -> Result<(), AllocError>
+    ensures { OnOk result (holes.new.items ≡ holes.old.items ++ places from (upto - from)) }
+{
+    for i in from..upto {
+        holes.push(i)?;
+    }
+    Ok(())
+}
+
+impl Recorded {
+    /// Begins with no events.
+    pub fn new(alloc: Global) -> Self
+        ensures { Records [] result }
+    {
+        Recorded {
+            done: Vec::new(alloc),
+            top: 0,
+            holes: Vec::new(alloc),
+            pending: Vec::new(alloc),
+        }
+    }
+
+    /// Takes in an event. Returns `false` if the events up to it have no linearization.
+    pub fn event(&mut self, event: Event) -> Result<bool, AllocError>
+        ensures { IfOk result (TakesIn self.old self.new event) }
+    {
+        match event.action {
+            Action::Invoke(object, op) => {
+                let noted = self.top;
+                let call = PendingCall {
+                    worker: event.worker,
+                    object,
+                    op,
+                    first: event.at,
+                };
+                self.pending.push(PendingTicket { call, noted })?;
+                Ok(true)
+            }
+            Action::Respond(reply) => {
+                let Some(i) = pending_index(&self.pending, event.worker) else {
+                    return Ok(true);
+                };
+                let ticket = self.pending.remove(i);
+                self.done.push(completed(ticket.call, reply, event.at))?;
+                if !self.take(number(reply), ticket.noted)? {
+                    return Ok(false);
+                }
+                Ok(are_paired(&self.holes, &self.pending))
+            }
+        }
+    }
+
+    /// Decides whether the calls have a linearization, where the responses that pending ones get
+    /// are
+    /// at position `end`.
+    pub fn decide(mut self, alloc: Global, end: usize) -> Result<Decision, AllocError>
+        requires tickets { AreTickets (reverse self.done.items) (calls_in self.pending.items) end }
+        ensures { IfOk result (IsDecided (reverse self.done.items) (calls_in self.pending.items)
+            end) }
+    {
+        self.done.reverse();
+        let tickets = Tickets {
+            done: &self.done,
+            pending: &self.pending,
+            end,
+        };
+        tickets.decide(alloc)
+    }
+
+    /// Whether a ticket with the greatest number `noted` at its invocation may return `n`. Then
+    /// that
+    /// number is no longer missing.
+    fn take(&mut self, n: usize, noted: usize) -> Result<bool, AllocError>
+        ensures pending { self.new.pending.items ≡ self.old.pending.items }
+        ensures done { self.new.done.items ≡ self.old.done.items }
+        ensures taken { IfOk result (IsTaken self.old.top self.new.top self.old.holes.items
+            self.new.holes.items (length self.old.pending.items) noted n) }
+    {
+        if n >= self.top {
+            let (held, room) = (self.holes.len(), self.pending.len());
+            if held > room || n - self.top > room - held {
+                return Ok(false);
+            }
+            raise(&mut self.holes, self.top, n)?;
+            self.top = n.saturating_add(1);
+            return Ok(true);
+        }
+        match hole_index(&self.holes, n) {
+            Some(k) => {
+                if n < noted {
+                    return Ok(false);
+                }
+                self.holes.remove(k);
+                Ok(true)
+            }
+            None => Ok(false),
+        }
+    }
+}
