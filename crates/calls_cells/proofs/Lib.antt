@@ -1,0 +1,6 @@
+pub mod Trying
+pub mod Staying
+pub mod Searching
+pub mod Zoning
+pub mod Classes
+pub mod Refuting

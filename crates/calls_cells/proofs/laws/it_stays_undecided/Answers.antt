@@ -1,0 +1,5 @@
+use Rattle.calls_cells.proofs.Staying.{stays}
+use Rattle.calls_cells.proofs.laws.it_stays_undecided.Goals as goal
+
+pub returns : goal.returns
+returns c = stays

@@ -1,0 +1,44 @@
+-- Theorems on every history of a cell.
+use Rattle.std.specs.Prelude.{◌⊎◌, ℕ, ◌≤◌, List, ◌∷◌}
+use Rattle.calls_core.specs.declared.history.Kind.TheVariants.{Cell, Database}
+use Rattle.calls_core.specs.declared.history.Event.{Event}
+use Rattle.calls_core.specs.declared.history.Call.{Call}
+use Rattle.calls_core.specs.Histories.{IsHistoryOf, clock}
+use Rattle.calls_core.specs.Outcomes.{IsOrderOf, HasOrderOf}
+use Rattle.calls_cells.specs.declared.outcome.Fault.{Fault}
+use Rattle.calls_cells.specs.declared.outcome.Outcome.{Outcome}
+use Rattle.calls_cells.specs.declared.outcome.Undecided.{Undecided}
+use Rattle.calls_cells.specs.Faults.{Shows, HasFault, ShowsUndecided}
+use Rattle.calls_cells.specs.Outcomes.{IsOutcome}
+
+-- events with a fault have no linearization
+abbrev pub AFaultLeavesNoOrder : Type 0
+AFaultLeavesNoOrder =
+    (past : List Event) (t : ℕ) (cs : List Call) → IsHistoryOf Cell past → clock past ≤ t
+    → HasFault past → IsOrderOf Cell past t cs → ⊥
+
+-- what code returns as a fault is one
+abbrev pub WhatIsShownIsAFault : Type 0
+WhatIsShownIsAFault = (past : List Event) (f : Fault) → Shows past f → HasFault past
+
+-- each history has a linearization, has a fault, or isn't decided
+abbrev pub EveryHistoryIsDecided : Type 0
+EveryHistoryIsDecided =
+    (past : List Event) → IsHistoryOf Cell past
+    → HasOrderOf Cell past ⊎ (HasFault past ⊎ ((u : Undecided) × ShowsUndecided past u))
+
+abbrev pub ItStaysUndecided : Type 0
+ItStaysUndecided =
+    (x : Event) (past : List Event) (u : Undecided) → IsHistoryOf Cell (x ∷ past)
+    → ShowsUndecided past u → ShowsUndecided (x ∷ past) u
+
+-- a history of a database is one of a cell, and what is found of the cell holds of the database
+pub record IsACell (n : ℕ) (events : List Event) : Type 0 where
+  pub history : (past : List Event) → IsHistoryOf (Database n) past → IsHistoryOf Cell past
+  pub order : (past : List Event) (t : ℕ) (cs : List Call) → IsOrderOf (Database n) past t cs
+      → IsOrderOf Cell past t cs
+  pub outcome : (end : ℕ) (outcome : Outcome) → IsOutcome Cell events end outcome
+      → IsOutcome (Database n) events end outcome
+
+abbrev pub ADatabaseIsACell : Type 0
+ADatabaseIsACell = (n : ℕ) (events : List Event) → IsACell n events

@@ -1,0 +1,13 @@
+//! Decides whether the calls of one cell, or of one database, have a linearization.
+#![tactic(auto)]
+
+mod deciding;
+mod laws;
+mod outcome;
+
+pub use deciding::decide;
+pub use laws::{
+    a_database_is_a_cell, a_fault_leaves_no_order, every_history_is_decided, it_stays_undecided,
+    what_is_shown_is_a_fault,
+};
+pub use outcome::{Fault, Outcome, Undecided};

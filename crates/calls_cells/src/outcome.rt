@@ -1,0 +1,34 @@
+//! What is decided of a cell or a database.
+use calls_core::{Call, PendingCall};
+
+/// Why the calls have no linearization.
+#[derive(Debug, Drop)]
+pub enum Fault {
+    /// The values were put once each, and show this.
+    Distinct(calls_distinct::Fault),
+    /// No two puts overlap, and the gets show this.
+    Serial(calls_serial::Fault),
+}
+
+/// Why nothing is decided: a get returned a value that was put twice, or that is 0 and was put; and
+/// two puts overlap.
+#[derive(Clone, Copy, Debug, PartialEq, Eq)]
+pub struct Undecided {
+    /// The value that a get returned.
+    pub value: usize,
+    /// The put that was invoked first.
+    pub first: PendingCall,
+    /// The put that was invoked while that was pending.
+    pub second: PendingCall,
+}
+
+/// What is decided of a history.
+#[derive(Debug, Drop)]
+pub enum Outcome {
+    /// The calls have this linearization.
+    Ordered(Vec<Call>),
+    /// They have none: the event at this index is the first with which they show a fault.
+    Refused(usize, Fault),
+    /// The event at this index is the first with which nothing is decided.
+    Undecided(usize, Undecided),
+}

@@ -1,0 +1,5 @@
+pub mod Begun
+pub mod Objects
+pub mod Entries
+pub mod Judging
+pub mod Wholes

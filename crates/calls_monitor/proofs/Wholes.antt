@@ -1,0 +1,111 @@
+-- A monitor from no event on, and the events of a whole history.
+use Rattle.std.proofs.Common.{◌≡◌, ℕ, zero, suc, ◌+◌, ◌<◌, ◌≤◌, ◌⊎◌, inl, inr, arith, List, [], ◌∷◌}
+use Rattle.std.proofs.Common.{◌++◌, length}
+use Rattle.std.proofs.Common.{get_or, slice_get, take, drop, reverse, Some}
+use Rattle.std.proofs.Common.{Ok, Err, refl, ap, sym, ◌∙◌, subst}
+use Rattle.std.proofs.lemmas.List.{take_more, take_all, reverse-append}
+use Rattle.calls_core.specs.declared.history.Kind.{Kind}
+use Rattle.calls_core.specs.declared.history.Event.{Event}
+use Rattle.calls_core.specs.Histories.{IsHistory}
+use Rattle.calls_core.specs.Beginnings.{past_at}
+use Rattle.calls_core.proofs.Beginnings.{history_earlier, past_split}
+use Rattle.calls_monitor.specs.declared.object.Watch.{Watch}
+use Rattle.calls_monitor.specs.declared.monitor.Monitor.{Monitor}
+use Rattle.calls_monitor.specs.declared.monitor.Rejection.{Rejection}
+use Rattle.calls_monitor.specs.declared.monitor.Rejection.TheVariants.{Refused, Full}
+use Rattle.calls_monitor.specs.Monitors.{IsFine, Verdict, Rejects, Judges, IsStop}
+use Rattle.calls_monitor.specs.kept.Watching.{WatchesOf, Watches}
+use Rattle.calls_monitor.proofs.Judging.{fine}
+
+-- OPENING
+
+-- the watch of an object that has no events yet
+abbrev pub IsOpenedAt : List Watch → ℕ → Kind → Type 0
+IsOpenedAt ws k kind = (w : Watch) × (slice_get ws k ≡ Some w) × WatchesOf kind [] w
+
+get_left : {X : Type 0} (xs ys : List X) (k : ℕ) (x : X) → slice_get xs k ≡ Some x
+    → slice_get (xs ++ ys) k ≡ Some x
+get_left [] ys k x e = absurd (cc)
+get_left (y ∷ xs) ys zero x e = e
+get_left (y ∷ xs) ys (suc k) x e = get_left xs ys k x e
+
+get_last : {X : Type 0} (xs : List X) (k : ℕ) (x : X) → length xs ≡ k
+    → slice_get (xs ++ x ∷ []) k ≡ Some x
+get_last [] zero x e = refl
+get_last [] (suc k) x e = absurd (omega (arith, e))
+get_last (y ∷ xs) zero x e = absurd (omega (arith, e))
+get_last (y ∷ xs) (suc k) x e = get_last xs k x (omega (arith, e))
+
+got_same : {X : Type 0} (xs : List X) (k : ℕ) (x d : X) → slice_get xs k ≡ Some x
+    → get_or xs k d ≡ x
+got_same [] k x d e = absurd (cc)
+got_same (y ∷ xs) zero x d e = cc
+got_same (y ∷ xs) (suc k) x d e = got_same xs k x d e
+
+below_or : (k i : ℕ) → k < i + 1 → (k < i) ⊎ (k ≡ i)
+below_or zero zero lt = inr refl
+below_or zero (suc i) lt = inl (omega arith)
+below_or (suc k) zero lt = absurd (omega (arith, lt))
+below_or (suc k) (suc i) lt = elim (below_or k i (omega (arith, lt))) [
+  | inl less ↦ inl (omega (arith, less))
+  | inr same ↦ inr (ap suc same)
+]
+
+pub opened_more : (kinds : List Kind) (ws : List Watch) (i : ℕ) (w : Watch) (d : Kind)
+    → length ws ≡ i → WatchesOf (get_or kinds i d) [] w
+    → ((k : ℕ) (kind : Kind) → k < i → slice_get kinds k ≡ Some kind → IsOpenedAt ws k kind)
+    → (k : ℕ) (kind : Kind) → k < i + 1 → slice_get kinds k ≡ Some kind
+    → IsOpenedAt (ws ++ w ∷ []) k kind
+opened_more kinds ws i w d count own h k kind lt e =
+    elim (below_or k i lt) [
+      | inl less ↦ (let r = h k kind less e in (r.0, get_left ws (w ∷ []) k r.0 r.1, r.2))
+      | inr same ↦ (
+        w,
+        get_last ws k w (count ∙ sym same),
+        subst (λ z. WatchesOf z [] w) (got_same kinds k kind d e)
+            (subst (λ n. WatchesOf (get_or kinds n d) [] w) (sym same) own),
+      )
+    ]
+
+-- EVENTS
+
+module _ (kinds : List Kind) (events : List Event) (h : IsHistory kinds (reverse events)) where
+  history_past : (i : ℕ) → IsHistory kinds (past_at i events)
+  history_past i = history_earlier kinds (reverse (drop i events)) (past_at i events)
+      (subst (IsHistory kinds) (past_split i events) h)
+
+  pub all_fine : (i : ℕ) (m : Monitor) → length events ≤ i → Watches kinds (past_at i events) m
+      → IsFine kinds (reverse events)
+  all_fine i m le w =
+      subst (λ zs. IsFine kinds (reverse zs)) (take_all i events le)
+      (fine kinds (past_at i events) m (history_past i) w)
+
+  module _ (i : ℕ) (d : Event) (lt : i < length events) (old new : Monitor)
+      (w : Watches kinds (past_at i events) old) where
+    abbrev x : Event
+    x = get_or events i d
+
+    next : past_at (i + 1) events ≡ x ∷ past_at i events
+    next = ap reverse (take_more events i d lt) ∙ reverse-append (take i events) (x ∷ [])
+
+    history_next : IsHistory kinds (x ∷ past_at i events)
+    history_next = subst (IsHistory kinds) next (history_past (i + 1))
+
+    rejected : (r : Rejection) → Verdict kinds (past_at i events) x new (Err r)
+        → Rejects kinds (past_at i events) x r
+    rejected (Refused r) v = v
+    rejected Full v = v.0
+
+    pub stopped : (r : Rejection) → Judges old new x (Err r)
+        → IsStop kinds events (record { index = i; rejection = r })
+    stopped r j = record {
+      within = lt;
+      event = x;
+      next = next;
+      before = fine kinds (past_at i events) old (history_past i) w;
+      rejects = rejected r (j kinds (past_at i events) history_next w);
+    }
+
+    pub gone_on : (u : Unit) → Judges old new x (Ok u) → Watches kinds (past_at (i + 1) events) new
+    gone_on u j = subst (λ zs. Watches kinds zs new) (sym next)
+        (j kinds (past_at i events) history_next w).1

@@ -1,0 +1,39 @@
+use Rattle.std.proofs.Common.{◌≡◌, None, Some, subst, sym, arith, ◌∙◌, ap, length, ◌≤◌}
+use Rattle.std.specs.List.{position}
+use Rattle.std.proofs.lemmas.Bool.{eqb-false}
+use Rattle.calls_core.specs.declared.history.TheConstants.{WORKERS}
+use Rattle.calls_monitor.proofs.Entries.{is_his}
+use Rattle.calls_monitor.proofs.Judging.{below_by, invoked, nobody, responded}
+use Rattle.calls_monitor.proofs.monitor.Monitor.event.Goals as goal
+
+pub returns-in_default : goal.returns-in_default
+returns-in_default c = λ kinds past h w.
+    absurd (nobody kinds past c.args.event h (omega arith) c.args.self.now w
+    (subst (λ ps. length ps ≤ WORKERS) c.as_slice.ensures.value c.as_slice.ensures.fits)
+    c.in-Respond._reply c.in-Respond.is
+    (subst (λ ps. position (is_his c.args.event.worker) ps ≡ None) c.as_slice.ensures.value
+    (sym c.in_default.ensures)))
+
+pub returns-else-is_full : goal.returns-else-is_full
+returns-else-is_full c = λ kinds past h w.
+    (let old = c.args.self.now in
+    let apart : length old.pending.items ≡ WORKERS → ⊥ =
+    eqb-false (length old.pending.items) WORKERS
+    (sym c.if-is_full.ensures.value) in
+    invoked kinds past c.args.event h (omega arith) old w (omega (arith, c.if-is_full.ensures.fits))
+    c.in-Invoke.object c.in-Invoke._op c.in-Invoke.is
+    (below_by (length old.pending.items) WORKERS c.if-is_full.ensures.fits apart) c.hand.new.self
+    (ap (λ ps. ps.items) c.hand.ensures.pending ∙ c.push.ensures.items) c.hand.result
+    c.hand.ensures.handed)
+
+pub returns-in-Some : goal.returns-in-Some
+returns-in-Some c = λ kinds past h w.
+    (let old = c.args.self.now in
+    responded kinds past c.args.event h (omega arith) old w
+    (subst (λ ps. length ps ≤ WORKERS) c.as_slice.ensures.value c.as_slice.ensures.fits)
+    c.in-Respond._reply c.in-Respond.is c.in-Some.i c.remove-object.result
+    (subst (λ ps. position (is_his c.args.event.worker) ps ≡ Some c.in-Some.i)
+    c.as_slice.ensures.value (sym c.in-Some.ensures)) c.remove-object.ensures.value
+    c.hand-in-Respond.new.self
+    (ap (λ ps. ps.items) c.hand-in-Respond.ensures.pending ∙ c.remove-object.ensures.items)
+    c.hand-in-Respond.result c.hand-in-Respond.ensures.handed)

@@ -1,0 +1,3 @@
+pub mod Refusals
+pub mod kept
+pub mod Monitors

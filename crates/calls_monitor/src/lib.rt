@@ -1,0 +1,10 @@
+//! One monitor for a history of the calls of many objects.
+#![tactic(auto)]
+
+mod monitor;
+mod object;
+mod whole;
+
+pub use monitor::{Monitor, Refused, Rejection};
+pub use object::Refusal;
+pub use whole::{Stop, watch};

@@ -1,0 +1,116 @@
+//! A monitor of a whole history: it judges the calls of each object event by event, in constant
+//! memory.
+ghost use Rattle.std.specs.Prelude.{◌≡◌, ◌==◌, [], IfOk};
+ghost use Rattle.std.specs.List.{position};
+ghost use Rattle.calls_monitor.specs.declared.monitor.Pending.{Pending};
+ghost use Rattle.calls_monitor.specs.Monitors.{Judges};
+ghost use Rattle.calls_monitor.specs.kept.Watching.{Watches, IsHanded};
+
+use crate::Refusal;
+use crate::object::Watch;
+use arrayvec::ArrayVec;
+use calls_core::{Action, Event, Kind, WORKERS};
+use std::alloc::{AllocError, Global};
+
+/// Whose call is pending, and of which object.
+#[derive(Clone, Copy, Default)]
+pub(crate) struct Pending {
+    /// The worker.
+    pub(crate) worker: usize,
+    /// The index of the object.
+    pub(crate) object: usize,
+}
+
+/// What is kept of the events so far.
+#[derive(Drop)]
+pub struct Monitor {
+    /// What is kept of the calls of each object.
+    pub(crate) objects: Vec<Watch>,
+    /// The pending calls, in the order of their invocations.
+    pub(crate) pending: ArrayVec<Pending, WORKERS>,
+}
+
+/// The calls of one object have no linearization, and so the history has none.
+#[derive(Clone, Copy, Debug, PartialEq, Eq)]
+pub struct Refused {
+    /// The index of the object.
+    pub object: usize,
+    /// Why its calls have none.
+    pub refusal: Refusal,
+}
+
+/// Why a monitor doesn't accept an event.
+#[derive(Clone, Copy, Debug, PartialEq, Eq)]
+pub enum Rejection {
+    /// The events up to this one have no linearization. After that the monitor has no use.
+    Refused(Refused),
+    /// The event invokes a call while `WORKERS` calls are pending. The monitor is as before.
+    Full,
+}
+
+/// Returns the index of the pending call of a worker.
+fn find(pending: &[Pending], worker: usize) -> Option<usize>
+    ensures { result ≡ position (λ (p : Pending). p.worker == worker) pending.now }
+{
+    pending.iter().position(|p| p.worker == worker)
+}
+
+impl Monitor {
+    /// Makes a monitor of the objects of these kinds. This allocates, and `event` does not.
+    pub fn open(alloc: Global, kinds: &[Kind]) -> Result<Self, AllocError>
+        ensures { IfOk result (Watches kinds.now []) }
+    {
+        let mut objects = Vec::with_capacity(alloc, kinds.len())?;
+        for kind in kinds {
+            objects.push(Watch::open(alloc, kind)?)?;
+        }
+        Ok(Monitor {
+            objects,
+            pending: ArrayVec::new(),
+        })
+    }
+
+    /// Takes in an event, or returns why it doesn't.
+    pub fn event(&mut self, event: Event) -> Result<(), Rejection>
+        ensures { Judges self.old self.new event result }
+    {
+        let _at = event.at;
+        match event.action {
+            Action::Invoke(object, _op) => {
+                if self.pending.is_full() {
+                    return Err(Rejection::Full);
+                }
+                self.pending.push(Pending {
+                    worker: event.worker,
+                    object,
+                });
+                self.hand(object, event)
+            }
+            Action::Respond(_reply) => {
+                let Some(i) = find(self.pending.as_slice(), event.worker) else {
+                    return Ok(());
+                };
+                let object = self.pending.remove(i).object;
+                self.hand(object, event)
+            }
+        }
+    }
+
+    /// Hands an event to the monitor of its object.
+    fn hand(&mut self, object: usize, event: Event) -> Result<(), Rejection>
+        ensures pending { self.new.pending ≡ self.old.pending }
+        ensures handed { IsHanded self.old.objects.items self.new.objects.items object event
+            result }
+    {
+        if object >= self.objects.len() {
+            return Ok(());
+        }
+        if !self.objects[object].has_room(event.action) {
+            return Err(Rejection::Full);
+        }
+        match self.objects[object].event(event) {
+            Ok(()) => Ok(()),
+            Err(refusal) => Err(Rejection::Refused(Refused { object, refusal })),
+        }
+    }
+}

@@ -1,0 +1,91 @@
+//! What is kept of the calls of one object.
+ghost use Rattle.std.specs.Prelude.{◌↔◌, [], IfOk, IsTrue};
+ghost use Rattle.calls_monitor.specs.declared.object.Watch.TheVariants.{Count};
+ghost use Rattle.calls_monitor.specs.kept.Watching.{WatchesOf, HasRoom, RoomFor, JudgesOf};
+
+use calls_core::{Action, Event, Kind, WORKERS};
+use std::alloc::{AllocError, Global};
+
+/// The monitor of an object.
+#[derive(Drop)]
+pub(crate) enum Watch {
+    /// Of an eventcount.
+    Count(calls_counts::Monitor),
+    /// Of a sequencer.
+    Ticket(calls_tickets::Monitor),
+    /// Of semaphores.
+    Units(calls_semaphores::Monitor),
+    /// A cell or a database has none.
+    Nothing,
+}
+
+/// Why the calls of one object have no linearization.
+#[derive(Clone, Copy, Debug, PartialEq, Eq)]
+pub enum Refusal {
+    /// It is an eventcount.
+    Count(calls_counts::Refusal),
+    /// It is a sequencer.
+    Ticket(calls_tickets::Refused),
+    /// It is semaphores.
+    Units(calls_semaphores::Fault),
+}
+
+/// Whether a monitor with so many pending calls has room for one that an event begins.
+fn has_room(action: Action, pending: usize) -> bool
+    ensures { IsTrue result ↔ HasRoom action pending }
+{
+    match action {
+        Action::Invoke(_object, _op) => pending < WORKERS,
+        Action::Respond(_reply) => true,
+    }
+}
+
+/// Whether an eventcount's monitor can take in an event.
+fn has_room_to_count(monitor: &calls_counts::Monitor, action: Action) -> bool
+    ensures { IsTrue result ↔ RoomFor (Count monitor.now) action }
+{
+    has_room(action, monitor.pending.len())
+        && monitor.begun < usize::MAX
+        && monitor.total <= monitor.begun
+}
+
+impl Watch {
+    /// Begins to watch an object.
+    pub(crate) fn open(alloc: Global, kind: &Kind) -> Result<Watch, AllocError>
+        ensures { IfOk result (WatchesOf kind.now []) }
+    {
+        match kind {
+            Kind::Eventcount(start) => Ok(Watch::Count(calls_counts::Monitor::new(*start))),
+            Kind::Sequencer => Ok(Watch::Ticket(calls_tickets::Monitor::new())),
+            Kind::Semaphores(units) => {
+                Ok(Watch::Units(calls_semaphores::Monitor::new(alloc, units)?))
+            }
+            Kind::Cell | Kind::Database(_) => Ok(Watch::Nothing),
+        }
+    }
+
+    /// Whether there is room for what an event adds.
+    pub(crate) fn has_room(&self, action: Action) -> bool
+        ensures { IsTrue result ↔ RoomFor self.now action }
+    {
+        match self {
+            Watch::Count(monitor) => has_room_to_count(monitor, action),
+            Watch::Ticket(monitor) => has_room(action, monitor.pending.len()),
+            Watch::Units(monitor) => has_room(action, monitor.pending.len()),
+            Watch::Nothing => true,
+        }
+    }
+
+    /// Takes in an event of the object's calls, or returns why those have no linearization.
+    pub(crate) fn event(&mut self, event: Event) -> Result<(), Refusal>
+        requires { RoomFor self.old event.action }
+        ensures { JudgesOf self.old self.new event result }
+    {
+        match self {
+            Watch::Count(monitor) => monitor.event(event).map_err(Refusal::Count),
+            Watch::Ticket(monitor) => monitor.event(event).map_err(Refusal::Ticket),
+            Watch::Units(monitor) => monitor.event(event).map_err(Refusal::Units),
+            Watch::Nothing => Ok(()),
+        }
+    }
+}

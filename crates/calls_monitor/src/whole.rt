@@ -1,0 +1,31 @@
+//! A whole history, given at once.
+ghost use Rattle.std.specs.Prelude.{IfOk, reverse};
+ghost use Rattle.calls_core.specs.Histories.{IsHistory};
+ghost use Rattle.calls_monitor.specs.Monitors.{IsWatchedTo};
+
+use crate::{Monitor, Rejection};
+use calls_core::{Event, Kind};
+use std::alloc::{AllocError, Global};
+
+/// The first event that a monitor doesn't accept.
+#[derive(Clone, Copy, Debug, PartialEq, Eq)]
+pub struct Stop {
+    /// The index of the event.
+    pub index: usize,
+    /// Why the monitor doesn't accept it.
+    pub rejection: Rejection,
+}
+
+/// Hands the events of a history to a monitor, up to the first that it doesn't accept.
+pub fn watch(alloc: Global, kinds: &[Kind], events: &[Event]) -> Result<Option<Stop>, AllocError>
+    requires { IsHistory kinds.now (reverse events.now) }
+    ensures { IfOk result (IsWatchedTo kinds.now events.now) }
+{
+    let mut monitor = Monitor::open(alloc, kinds)?;
+    for (index, event) in events.iter().enumerate() {
+        if let Err(rejection) = monitor.event(*event) {
+            return Ok(Some(Stop { index, rejection }));
+        }
+    }
+    Ok(None)
+}

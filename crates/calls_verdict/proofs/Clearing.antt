@@ -1,0 +1,108 @@
+-- What is decided of one object, before each position.
+use Rattle.std.proofs.Common.{◌≡◌, ℕ, ◌+◌, ◌<◌, ◌≤◌, ◌⊎◌, inl, inr, List, [], ◌∷◌, ◌++◌, length}
+use Rattle.std.proofs.Common.{ap, sym, ◌∙◌, arith, subst, reverse, drop, get_or}
+use Rattle.std.proofs.lemmas.Bool.{cases_lt}
+use Rattle.calls_core.specs.declared.history.Kind.{Kind}
+use Rattle.calls_core.specs.declared.history.Event.{Event}
+use Rattle.calls_core.specs.Histories.{clock, IsHistoryOf}
+use Rattle.calls_core.specs.Beginnings.{past_at, until}
+use Rattle.calls_core.specs.Outcomes.{HasOrderOf}
+use Rattle.calls_core.proofs.Beginnings.{past_split, history_at, history_until, order_until}
+use Rattle.calls_cells.specs.declared.outcome.Undecided.{Undecided}
+use Rattle.calls_verdict.specs.Faults.{ShowsUndecided}
+use Rattle.calls_verdict.specs.Verdicts.{IsClear}
+use Rattle.calls_verdict.proofs.OfKinds.{it_stays_undecided}
+use Rattle.calls_verdict.proofs.Untils.{until_in, until_out, clock_until, clock_later, until_at}
+use Rattle.calls_verdict.proofs.Untils.{until_of}
+use Rattle.calls_verdict.proofs.Finding.{reversed_more}
+
+stays_undecided : (kind : Kind) (late past : List Event) (u : Undecided)
+    → IsHistoryOf kind (late ++ past)
+    → ShowsUndecided kind past u → ShowsUndecided kind (late ++ past) u
+stays_undecided kind [] past u h s = s
+stays_undecided kind (x ∷ late) past u h s =
+    it_stays_undecided kind x (late ++ past) u h (stays_undecided kind late past u h.2 s)
+
+module _ (kind : Kind) (events : List Event) (i : ℕ) (d : Event)
+    (h : IsHistoryOf kind (reverse events))
+    (lt : i < length events) where
+  abbrev e : Event
+  e = get_or events i d
+
+  split : reverse events ≡ reverse (drop (i + 1) events) ++ e ∷ past_at i events
+  split = past_split (i + 1) events ∙ ap (λ q. reverse (drop (i + 1) events) ++ q)
+      (reversed_more events i d lt)
+
+  history : IsHistoryOf kind (reverse (drop (i + 1) events) ++ e ∷ past_at i events)
+  history = subst (IsHistoryOf kind) split h
+
+  -- the events before a position have the event at index i, or are those before a position of the
+  -- ones before it
+  cases_until : (m : ℕ) → ((more : List Event) × (until m (reverse events) ≡ more ++ e
+      ∷ past_at i events))
+      ⊎ (until m (reverse events) ≡ until m (past_at i events))
+  cases_until m =
+      elim (until_of m (reverse (drop (i + 1) events)) (e ∷ past_at i events)) [
+        | inl w ↦ inl (w.0, ap (until m) split ∙ w.1)
+        | inr is ↦ elim (cases_lt e.at m) [
+          | inl early ↦ inl ([], ap (until m) split ∙ is ∙ until_in m e (past_at i events) early)
+          | inr late ↦ inr (ap (until m) split ∙ is ∙ until_out m e (past_at i events) late)
+        ]
+      ]
+
+  order_earlier : (m : ℕ) → HasOrderOf kind (past_at i events)
+      → until m (reverse events) ≡ until m (past_at i events)
+      → HasOrderOf kind (until m (reverse events))
+  order_earlier m l is =
+      subst (HasOrderOf kind) (sym is) (order_until kind m (past_at i events)
+      (history_at kind i events h) l)
+
+  -- up to the position of the event at index i
+  pub order_up_to : (m : ℕ) → m ≤ e.at → HasOrderOf kind (past_at i events)
+      → HasOrderOf kind (until m (reverse events))
+  order_up_to m le l =
+      elim (cases_until m) [
+        | inl w ↦ absurd (omega (arith, later w.0 w.1, clock_until m (reverse events)))
+        | inr is ↦ order_earlier m l is
+      ]
+    where
+      later : (more : List Event) → until m (reverse events) ≡ more ++ e ∷ past_at i events
+          → e.at + 1 ≤ clock (until m (reverse events))
+      later more is =
+          subst (λ q. e.at + 1 ≤ clock q) (sym is)
+          (clock_later kind more (e ∷ past_at i events) (subst (IsHistoryOf kind) is
+          (history_until kind m (reverse events) h)))
+
+  pub clear_up_to : (u : Undecided) (m : ℕ) → ShowsUndecided kind (e ∷ past_at i events) u
+      → HasOrderOf kind (past_at i events) → IsClear kind (until m (reverse events))
+  clear_up_to u m s l =
+      elim (cases_until m) [
+        | inl w ↦ inr (
+          u,
+          subst (λ q. ShowsUndecided kind q u) (sym w.1)
+              (stays_undecided kind w.0 (e ∷ past_at i events) u
+              (subst (IsHistoryOf kind) w.1 (history_until kind m (reverse events) h)) s),
+        )
+        | inr is ↦ inl (order_earlier m l is)
+      ]
+
+  -- the events up to it are those before the next position
+  pub until_event : until (e.at + 1) (reverse events) ≡ e ∷ past_at i events
+  until_event =
+      ap (until (e.at + 1)) split ∙ until_at kind (reverse (drop (i + 1) events))
+      (e ∷ past_at i events) history
+
+  pub event_early : e.at < clock (reverse events)
+  event_early =
+      subst (λ q. e.at < clock q) (sym split)
+      (omega (
+        arith,
+        clock_later kind (reverse (drop (i + 1) events)) (e ∷ past_at i events)
+            history,
+      ))
+
+  pub whole_shows : (u : Undecided) → ShowsUndecided kind (e ∷ past_at i events) u
+      → ShowsUndecided kind (reverse events) u
+  whole_shows u s =
+      subst (λ q. ShowsUndecided kind q u) (sym split)
+      (stays_undecided kind (reverse (drop (i + 1) events)) (e ∷ past_at i events) u history s)

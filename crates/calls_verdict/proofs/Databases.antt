@@ -1,0 +1,59 @@
+-- A database is decided as a cell.
+use Rattle.std.proofs.Common.{ℕ, List, [], ◌∷◌, Option, Some, None, Result, Ok, Err, IfOk}
+use Rattle.calls_core.specs.declared.history.Kind.TheVariants.{Cell, Database}
+use Rattle.calls_core.specs.declared.history.Op.TheVariants.{Advance, Read, Await, Ticket}
+use Rattle.calls_core.specs.declared.history.Op.TheVariants.{P, V, PBoth, Put, Get}
+use Rattle.calls_core.specs.declared.history.Action.{Action}
+use Rattle.calls_core.specs.declared.history.Action.TheVariants.{Invoke, Respond}
+use Rattle.calls_core.specs.declared.history.Event.{Event}
+use Rattle.calls_core.specs.declared.history.PendingCall.{PendingCall}
+use Rattle.calls_core.specs.Histories.{pending_of, pending_calls, IsNextOf, IsHistoryOf}
+use Rattle.calls_core.specs.Outcomes.{IsFirstFault}
+use Rattle.calls_verdict.specs.declared.verdict.Decision.{Decision}
+use Rattle.calls_verdict.specs.declared.verdict.Decision.TheVariants.{Ordered, Refused, Open}
+use Rattle.calls_verdict.specs.Verdicts.{IsDecision}
+
+next_of_cell : (n : ℕ) (action : Action) (o : Option PendingCall)
+    → IsNextOf (Database n) action o → IsNextOf Cell action o
+next_of_cell n (Invoke k (Put v)) None h = h
+next_of_cell n (Invoke k Get) None h = h
+next_of_cell n (Invoke k Advance) None h = h
+next_of_cell n (Invoke k Read) None h = h
+next_of_cell n (Invoke k (Await v)) None h = h
+next_of_cell n (Invoke k Ticket) None h = h
+next_of_cell n (Invoke k (P i)) None h = h
+next_of_cell n (Invoke k (V i)) None h = h
+next_of_cell n (Invoke k (PBoth i j)) None h = h
+next_of_cell n (Invoke k op) (Some o) h = h
+next_of_cell n (Respond r) None h = h
+next_of_cell n (Respond r) (Some o) h = h
+
+-- a history of a database is one of a cell
+pub cell_history : (n : ℕ) (past : List Event) → IsHistoryOf (Database n) past
+    → IsHistoryOf Cell past
+cell_history n [] h = tt
+cell_history n (x ∷ past) h = (
+  h.0,
+  next_of_cell n x.action (pending_of x.worker (pending_calls past)) h.1,
+  cell_history n past h.2,
+)
+
+first_fault : (Shows : List Event → Type 0) (n : ℕ) (events : List Event) (i : ℕ)
+    → IsFirstFault Shows Cell events i → IsFirstFault Shows (Database n) events i
+first_fault Shows n events i f = record {
+  within = f.within;
+  shows = f.shows;
+  before = f.before;
+}
+
+decision : (n : ℕ) (events : List Event) (t : ℕ) (d : Decision) → IsDecision Cell events t d
+    → IsDecision (Database n) events t d
+decision n events t (Ordered cs) h = h
+decision n events t (Refused i f) h = first_fault _ n events i h
+decision n events t (Open i u) h = first_fault _ n events i h
+
+-- what is decided of the cell holds of the database
+pub database_decision : {E : Type 0} (n : ℕ) (events : List Event) (t : ℕ) (r : Result Decision E)
+    → IfOk r (IsDecision Cell events t) → IfOk r (IsDecision (Database n) events t)
+database_decision n events t (Ok d) h = decision n events t d h
+database_decision n events t (Err e) h = h

@@ -1,0 +1,267 @@
+-- What is found of the objects, with one object more, and the verdict at the end.
+use Rattle.std.proofs.Common.{◌≡◌, ℕ, ◌+◌, ◌<◌, ◌≤◌, ◌⊎◌, inl, inr, true}
+use Rattle.std.proofs.Common.{List, [], ◌++◌, length, Option, Some, None, refl, ap, sym}
+use Rattle.std.proofs.Common.{◌∙◌, arith, subst, slice_get, reverse, get_or}
+use Rattle.std.proofs.lemmas.Bool.{cases_lt}
+use Rattle.std.proofs.lemmas.Option.{same_Some, none-some, slice_get_within}
+use Rattle.std.specs.Global.{Vec}
+use Rattle.std.specs.Option.{is_some}
+use Rattle.calls_core.specs.declared.history.Kind.{Kind}
+use Rattle.calls_core.specs.declared.history.Reply.TheVariants as reply
+use Rattle.calls_core.specs.declared.history.Action.TheVariants as action
+use Rattle.calls_core.specs.declared.history.Event.{Event}
+use Rattle.calls_core.specs.declared.history.Call.{Call}
+use Rattle.calls_core.specs.declared.history.Placed.{Placed}
+use Rattle.calls_core.specs.Histories.{clock, part, pending_calls, completed_calls, IsHistory}
+use Rattle.calls_core.specs.Histories.{IsHistoryOf}
+use Rattle.calls_core.specs.Linearizations.{IsRun, start}
+use Rattle.calls_core.specs.Points.{placed_one, by_points, IsPlacedOrder}
+use Rattle.calls_core.specs.Beginnings.{until}
+use Rattle.calls_core.specs.Outcomes.{IsOrderOf, HasOrderOf}
+use Rattle.calls_core.proofs.Beginnings.{order_until, until_split, history_earlier}
+use Rattle.calls_core.proofs.Settling.{has_order_from}
+use Rattle.calls_local.proofs.Parts.{part_history_of, part_clock}
+use Rattle.calls_cells.specs.declared.outcome.Undecided as cause
+use Rattle.calls_verdict.specs.declared.verdict.Fault.{Fault}
+use Rattle.calls_verdict.specs.declared.verdict.Refusal.{Refusal}
+use Rattle.calls_verdict.specs.declared.verdict.Undecided.{Undecided}
+use Rattle.calls_verdict.specs.declared.verdict.Verdict.TheVariants.{Linearizable, Refused}
+use Rattle.calls_verdict.specs.declared.verdict.Verdict.TheVariants.{NotDecided}
+use Rattle.calls_verdict.specs.declared.verdict.Decision.TheVariants as decision
+use Rattle.calls_verdict.specs.declared.findings.Found.{Found}
+use Rattle.calls_verdict.specs.Faults.{Shows, ShowsUndecided}
+use Rattle.calls_verdict.specs.Verdicts.{IsDecision, IsCleanBefore}
+use Rattle.calls_verdict.specs.Verdicts.{IsVerdict}
+use Rattle.calls_verdict.specs.Verdicts.{IsClear, AreClear}
+use Rattle.calls_verdict.specs.Faults.{IsDecided}
+use Rattle.calls_verdict.specs.kept.Findings.{limit, IsRefused, IsOpen, ArePlaced}
+use Rattle.calls_verdict.specs.kept.Findings.{AreFound, IsEarlier}
+use Rattle.calls_verdict.proofs.Finding.{reversed_more}
+use Rattle.calls_verdict.proofs.Untils.{part_until}
+use Rattle.calls_verdict.proofs.Clearing.{order_up_to, clear_up_to, until_event, event_early}
+use Rattle.calls_verdict.proofs.Clearing.{whole_shows}
+use Rattle.calls_verdict.proofs.Gathering.{placed_more, placed_whole, none_placed, whole_from_parts}
+
+pub none_here : {X : Type 0} (o : Option X) → ((x : X) → o ≡ Some x → ⊥) → o ≡ None
+none_here None h = refl
+none_here (Some x) h = absurd (h x refl)
+
+pub kept_first : {X : Type 0} (o : Option X) → is_some o ≡ true → (x : X) × (o ≡ Some x)
+kept_first None h = cc
+kept_first (Some x) h = (x, refl)
+
+pub any_event : Event
+any_event = record { at = 0; worker = 0; action = action.Respond reply.Done }
+
+history_before : (kinds : List Kind) (n : ℕ) (past : List Event) → IsHistory kinds past
+    → IsHistory kinds (until n past)
+history_before kinds n past h =
+    (let r = until_split n past in history_earlier kinds r.0 (until n past)
+    (subst (IsHistory kinds) r.1 h))
+
+module _ (kinds : List Kind) (past : List Event) (h : IsHistory kinds past) where
+  abbrev Clear : ℕ → ℕ → Type 0
+  Clear n top = (k : ℕ) (kind : Kind) → k < n → slice_get kinds k ≡ Some kind → (m : ℕ) → m ≤ top
+      → IsClear kind (until m (part k past))
+
+  clear_more : (n : ℕ) (kind : Kind) (top later : ℕ) → slice_get kinds n ≡ Some kind → later ≤ top
+      → Clear n top
+      → ((m : ℕ) → m ≤ later → IsClear kind (until m (part n past))) → Clear (n + 1) later
+  clear_more n kind top later is le old new k other lt e m low =
+      elim (cases_lt k n) [
+        | inl less ↦ old k other less e m (omega arith)
+        | inr ge ↦
+            (let same : n ≡ k = omega arith in
+            let one : kind ≡ other = same_Some kind other (sym is ∙ ap (slice_get kinds) same ∙ e)
+            in
+            subst (λ j. IsClear other (until m (part j past))) same
+            (subst (λ z. IsClear z (until m (part n past))) one (new m low)))
+      ]
+
+  -- an object that is ordered
+  pub found_ordered : (n : ℕ) (kind : Kind) (own : List Event) (cs : List Call) (old new : Found)
+      → slice_get kinds n ≡ Some kind → reverse own ≡ part n past
+      → IsOrderOf kind (reverse own) (clock past) cs
+      → new.refusal ≡ old.refusal → new.undecided ≡ old.undecided
+      → new.placed.items ≡ old.placed.items ++ placed_one 0 cs
+      → AreFound kinds past n old → AreFound kinds past (n + 1) new
+  found_ordered n kind own cs old new is mine l refused undecided items f =
+      (let order : IsOrderOf kind (part n past) (clock past) cs =
+      subst (λ q. IsOrderOf kind q (clock past) cs) mine l in
+      let of_kind = part_history_of kinds n kind past h is in
+      let has = has_order_from kind (part n past) (clock past) cs of_kind
+      (part_clock kinds n past h) order in
+      record {
+        clear = clear_more n kind (limit (clock past) old.refusal) (limit (clock past) new.refusal)
+            is
+            (let same : limit (clock past) new.refusal ≡ limit (clock past) old.refusal =
+            ap (limit (clock past)) refused in omega arith)
+            f.clear (λ m le. inl (order_until kind m (part n past) of_kind has));
+        refused = subst (IsRefused kinds past) (sym refused) f.refused;
+        undecided = subst (IsOpen kinds past) (sym undecided) f.undecided;
+        placed = λ a b. subst (ArePlaced kinds past (n + 1)) (sym items)
+            (placed_more kinds past h n kind old.placed.items cs is order
+            (f.placed (sym refused ∙ a) (sym undecided ∙ b)));
+      })
+
+  abbrev refusal_at : ℕ → Event → Fault → Refusal
+  refusal_at n x fault = record { at = x.at; object = n; fault = fault }
+
+  -- one that shows a fault
+  pub found_refused : (n : ℕ) (kind : Kind) (own : List Event) (i : ℕ) (d : Event) (fault : Fault)
+      (old new : Found) (before : Option Refusal) (kept : Refusal)
+      → before ≡ old.refusal → slice_get kinds n ≡ Some kind → reverse own ≡ part n past
+      → IsDecision kind own (clock past) (decision.Refused i fault)
+      → new.refusal ≡ Some kept → new.undecided ≡ old.undecided
+      → IsEarlier before (refusal_at n (get_or own i d) fault) kept
+      → AreFound kinds past n old → AreFound kinds past (n + 1) new
+  found_refused n kind own i d fault old new before kept was is mine l refused undecided earlier f =
+      (let of_kind : IsHistoryOf kind (reverse own) = subst (IsHistoryOf kind) (sym mine)
+      (part_history_of kinds n kind past h is) in
+      let least : IsEarlier old.refusal (refusal_at n (get_or own i d) fault) kept =
+      subst (λ o. IsEarlier o (refusal_at n (get_or own i d) fault) kept) was earlier in
+      record {
+        clear = clear_more n kind (limit (clock past) old.refusal) (limit (clock past) new.refusal)
+            is
+            (let same : limit (clock past) new.refusal ≡ kept.at =
+            ap (limit (clock past)) refused in
+            omega (arith, lower old.refusal least of_kind)) f.clear
+            (λ m le. inl (subst (λ q. HasOrderOf kind (until m q)) mine
+            (order_up_to kind own i d of_kind l.within m
+            (let same : limit (clock past) new.refusal ≡ kept.at =
+            ap (limit (clock past)) refused in
+            omega (arith, no_later old.refusal least)) (l.before i (omega arith)))));
+        refused = subst (IsRefused kinds past) (sym refused)
+            (shown old.refusal least f.refused of_kind);
+        undecided = subst (IsOpen kinds past) (sym undecided) f.undecided;
+        placed = λ a b. absurd (none-some kept (sym a ∙ refused));
+      })
+    where
+      next_shows : IsHistoryOf kind (reverse own) → IsRefused kinds past
+          (Some (refusal_at n (get_or own i d) fault))
+      next_shows of_kind = record {
+        kind = kind;
+        is = is;
+        shows = subst (λ q. Shows kind q fault)
+            (reversed_more own i d l.within ∙ sym (until_event kind own i d of_kind l.within)
+            ∙ ap (until ((get_or own i d).at + 1)) mine ∙ sym
+            (part_until kinds n ((get_or own i d).at + 1) past h)) l.shows;
+      }
+
+      shown : (o : Option Refusal) → IsEarlier o (refusal_at n (get_or own i d) fault) kept
+          → IsRefused kinds past o → IsHistoryOf kind (reverse own)
+          → IsRefused kinds past (Some kept)
+      shown None e r of_kind = subst (λ z. IsRefused kinds past (Some z)) (sym e)
+          (next_shows of_kind)
+      shown (Some o) (inl e) r of_kind = subst (λ z. IsRefused kinds past (Some z)) (sym e.0) r
+      shown (Some o) (inr e) r of_kind = subst (λ z. IsRefused kinds past (Some z)) (sym e.0)
+          (next_shows of_kind)
+
+      no_later : (o : Option Refusal) → IsEarlier o (refusal_at n (get_or own i d) fault) kept
+          → kept.at ≤ (get_or own i d).at
+      no_later None e = (let same : kept.at ≡ (get_or own i d).at = ap (λ (z : Refusal). z.at) e in
+          omega arith)
+      no_later (Some o) (inl e) = (let same : kept.at ≡ o.at = ap (λ (z : Refusal). z.at) e.0 in
+          omega (arith, e.1))
+      no_later (Some o) (inr e) = (let same : kept.at ≡ (get_or own i d).at =
+          ap (λ (z : Refusal). z.at) e.0 in omega arith)
+
+      lower : (o : Option Refusal) → IsEarlier o (refusal_at n (get_or own i d) fault) kept
+          → IsHistoryOf kind (reverse own) → kept.at ≤ limit (clock past) o
+      lower None e of_kind =
+          (let same : kept.at ≡ (get_or own i d).at = ap (λ (z : Refusal). z.at) e in
+          let le : clock (reverse own) ≤ clock past = subst (λ q. clock q ≤ clock past) (sym mine)
+          (part_clock kinds n past h) in
+          omega (arith, event_early kind own i d of_kind l.within))
+      lower (Some o) (inl e) of_kind = (let same : kept.at ≡ o.at =
+          ap (λ (z : Refusal). z.at) e.0 in omega arith)
+      lower (Some o) (inr e) of_kind = (let same : kept.at ≡ (get_or own i d).at =
+          ap (λ (z : Refusal). z.at) e.0 in omega (arith, e.1))
+
+  -- one that isn't decided
+  pub found_open : (n : ℕ) (kind : Kind) (own : List Event) (i : ℕ) (d : Event)
+      (u : cause.Undecided) (old new : Found) (kept : Undecided)
+      → slice_get kinds n ≡ Some kind → reverse own ≡ part n past
+      → IsDecision kind own (clock past) (decision.Open i u)
+      → new.refusal ≡ old.refusal → new.undecided ≡ Some kept
+      → (old.undecided ≡ Some kept) ⊎ (kept ≡ record { object = n; cause = u })
+      → AreFound kinds past n old → AreFound kinds past (n + 1) new
+  found_open n kind own i d u old new kept is mine l refused undecided first f =
+      (let of_kind : IsHistoryOf kind (reverse own) = subst (IsHistoryOf kind) (sym mine)
+      (part_history_of kinds n kind past h is) in
+      record {
+        clear = clear_more n kind (limit (clock past) old.refusal) (limit (clock past) new.refusal)
+            is
+            (let same : limit (clock past) new.refusal ≡ limit (clock past) old.refusal =
+            ap (limit (clock past)) refused in omega arith)
+            f.clear (λ m le. subst (λ q. IsClear kind (until m q)) mine
+            (clear_up_to kind own i d of_kind l.within u m (subst (λ q. ShowsUndecided kind q u)
+            (reversed_more own i d l.within) l.shows) (l.before i (omega arith))));
+        refused = subst (IsRefused kinds past) (sym refused) f.refused;
+        undecided = subst (IsOpen kinds past) (sym undecided) (elim first [
+          | inl e ↦ subst (IsOpen kinds past) e f.undecided
+          | inr e ↦ subst (λ z. IsOpen kinds past (Some z)) (sym e) (record {
+            kind = kind;
+            is = is;
+            shows = subst (λ q. ShowsUndecided kind q u) mine
+                (whole_shows kind own i d of_kind l.within u (subst (λ q. ShowsUndecided kind q u)
+                (reversed_more own i d l.within) l.shows));
+          })
+        ]);
+        placed = λ a b. absurd (none-some kept (sym b ∙ undecided));
+      })
+
+  -- NO OBJECT, AND ALL
+
+  pub found_none : (found : Found) → found.refusal ≡ None → found.undecided ≡ None
+      → found.placed.items ≡ []
+      → AreFound kinds past 0 found
+  found_none found refused undecided items = record {
+    clear = λ k kind lt e m le. absurd (omega arith);
+    refused = subst (IsRefused kinds past) (sym refused) tt;
+    undecided = subst (IsOpen kinds past) (sym undecided) tt;
+    placed = λ a b. subst (ArePlaced kinds past 0) (sym items) (none_placed kinds past h);
+  }
+
+  clean : (top : ℕ) → Clear (length kinds) top → IsCleanBefore kinds past top
+  clean top c m le = (
+    clear,
+    λ d. whole_from_parts kinds (until m past) (history_before kinds m past h)
+        (λ k kind e. ordered kind (part k (until m past)) (d k kind e) (clear k kind e)),
+  )
+    where
+      clear : AreClear kinds (until m past)
+      clear k kind e =
+          subst (IsClear kind) (sym (part_until kinds k m past h))
+          (c k kind (slice_get_within kinds k kind e) e m le)
+
+      ordered : (kind : Kind) (own : List Event) → IsDecided kind own → IsClear kind own
+          → HasOrderOf kind own
+      ordered kind own d (inl l) = l
+      ordered kind own d (inr w) = absurd (d w.0 w.1)
+
+  pub verdict_refused : (found : Found) (r : Refusal) → found.refusal ≡ Some r
+      → AreFound kinds past (length kinds) found
+      → IsVerdict kinds past (Refused r)
+  verdict_refused found r e f = record {
+    shows = subst (IsRefused kinds past) e f.refused;
+    before = clean r.at (subst (λ z. Clear (length kinds) (limit (clock past) z)) e f.clear);
+  }
+
+  pub verdict_open : (found : Found) (u : Undecided) → found.refusal ≡ None
+      → found.undecided ≡ Some u
+      → AreFound kinds past (length kinds) found → IsVerdict kinds past (NotDecided u)
+  verdict_open found u none e f = record {
+    shows = subst (IsOpen kinds past) e f.undecided;
+    rest = clean (clock past) (subst (λ z. Clear (length kinds) (limit (clock past) z)) none
+        f.clear);
+  }
+
+  pub verdict_ordered : (found : Found) (v : Vec Placed) → found.refusal ≡ None
+      → found.undecided ≡ None
+      → v.items ≡ by_points found.placed.items → AreFound kinds past (length kinds) found
+      → IsVerdict kinds past (Linearizable v)
+  verdict_ordered found v a b e f =
+      subst (IsPlacedOrder (IsRun (start kinds)) (completed_calls past) (pending_calls past)
+      (clock past)) (sym e)
+      (placed_whole kinds past h found.placed.items (f.placed a b))

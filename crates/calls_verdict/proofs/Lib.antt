@@ -1,0 +1,12 @@
+pub mod Finding
+pub mod PartsMore
+pub mod Adding
+pub mod Databases
+pub mod OfKinds
+pub mod Untils
+pub mod Clearing
+pub mod Gathering
+pub mod Founding
+pub mod Turns
+pub mod Alternatives
+pub mod Misusing

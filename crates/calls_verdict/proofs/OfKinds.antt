@@ -1,0 +1,95 @@
+-- What the crates of the kinds of objects prove, of each kind.
+use Rattle.std.proofs.Common.{ℕ, ◌≤◌, ◌⊎◌, inl, inr, arith, List, [], ◌∷◌}
+use Rattle.calls_core.specs.declared.history.Kind.{Kind}
+use Rattle.calls_core.specs.declared.history.Kind.TheVariants.{Eventcount, Sequencer, Semaphores}
+use Rattle.calls_core.specs.declared.history.Kind.TheVariants.{Cell, Database}
+use Rattle.calls_core.specs.declared.history.Event.{Event}
+use Rattle.calls_core.specs.declared.history.Call.{Call}
+use Rattle.calls_core.specs.Histories.{clock, pending_calls, completed_calls, IsHistoryOf}
+use Rattle.calls_core.specs.Outcomes.{IsOrderOf, HasOrderOf}
+use Rattle.calls_counts.proofs.Necessity as counts
+use Rattle.calls_counts.proofs.Exactly as counted
+use Rattle.calls_tickets.proofs.Histories.{tickets_until}
+use Rattle.calls_tickets.proofs.Refuting as tickets
+use Rattle.calls_tickets.proofs.Wholes as numbered
+use Rattle.calls_semaphores.proofs.Necessity as semaphores
+use Rattle.calls_semaphores.proofs.Deciding as taken
+use Rattle.calls_serial.proofs.Databases.{database_is_cell}
+use Rattle.calls_cells.specs.Faults as cells
+use Rattle.calls_cells.proofs.Refuting as stores
+use Rattle.calls_cells.proofs.Classes as stored
+use Rattle.calls_cells.proofs.Staying.{stays}
+use Rattle.calls_cells.specs.declared.outcome.Undecided.{Undecided}
+use Rattle.calls_verdict.specs.declared.verdict.Fault.{Fault}
+use Rattle.calls_verdict.specs.declared.verdict.Fault.TheVariants.{Count, Ticket, Units, Value}
+use Rattle.calls_verdict.specs.Faults.{Shows, ShowsUndecided, IsFaulty}
+
+-- a history of a database is one of a cell
+cell_history : (n : ℕ) (past : List Event) → IsHistoryOf (Database n) past → IsHistoryOf Cell past
+cell_history n past h = (database_is_cell n []).history past h
+
+-- what a fault shows is one
+pub shown : (kind : Kind) (past : List Event) (f : Fault) → Shows kind past f → IsFaulty kind past
+shown (Eventcount n) past (Count f) s = (f, s)
+shown Sequencer past (Ticket f) s = (f, s)
+shown (Semaphores units) past (Units f) s = (f, s)
+shown Cell past (Value f) s = stores.shown past f s
+shown (Database n) past (Value f) s = stores.shown past f s
+shown (Eventcount n) past (Ticket f) s = absurd s
+shown (Eventcount n) past (Units f) s = absurd s
+shown (Eventcount n) past (Value f) s = absurd s
+shown Sequencer past (Count f) s = absurd s
+shown Sequencer past (Units f) s = absurd s
+shown Sequencer past (Value f) s = absurd s
+shown (Semaphores units) past (Count f) s = absurd s
+shown (Semaphores units) past (Ticket f) s = absurd s
+shown (Semaphores units) past (Value f) s = absurd s
+shown Cell past (Count f) s = absurd s
+shown Cell past (Ticket f) s = absurd s
+shown Cell past (Units f) s = absurd s
+shown (Database n) past (Count f) s = absurd s
+shown (Database n) past (Ticket f) s = absurd s
+shown (Database n) past (Units f) s = absurd s
+
+-- a fault leaves no order
+pub fault_leaves_no_order : (kind : Kind) (past : List Event) (t : ℕ) (cs : List Call)
+    → IsHistoryOf kind past → clock past ≤ t → IsFaulty kind past → IsOrderOf kind past t cs → ⊥
+fault_leaves_no_order (Eventcount n) past t cs h le f l = counts.no_order n past f.0 t cs h f.1 l
+fault_leaves_no_order Sequencer past t cs h le f l =
+    tickets.no_order (completed_calls past) (pending_calls past) t
+    (tickets_until past t h (omega (arith, le))) cs l f.0 f.1
+fault_leaves_no_order (Semaphores units) past t cs h le f l =
+    semaphores.fault_leaves_no_order units past f.0 h f.1 t le cs l
+fault_leaves_no_order Cell past t cs h le f l = stores.no_order past t cs h le f l
+fault_leaves_no_order (Database n) past t cs h le f l =
+    stores.no_order past t cs (cell_history n past h) le f
+    ((database_is_cell n []).order past t cs l)
+
+abbrev pub OneOf : Kind → List Event → Type 0
+OneOf kind past = HasOrderOf kind past
+    ⊎ (IsFaulty kind past ⊎ ((u : Undecided) × ShowsUndecided kind past u))
+
+-- each history of one object has an order, has a fault or isn't decided
+pub every_kind_is_decided : (kind : Kind) (past : List Event) → IsHistoryOf kind past
+    → OneOf kind past
+every_kind_is_decided (Eventcount n) past h =
+    elim (counted.every_history n past h) [ inl l ↦ inl l | inr w ↦ inr (inl w) ]
+every_kind_is_decided Sequencer past h =
+    elim (numbered.decided (completed_calls past) (pending_calls past) (clock past)
+    (tickets_until past (clock past) h (omega arith))) [
+      | inl l ↦ inl l
+      | inr w ↦ inr (inl w)
+    ]
+every_kind_is_decided (Semaphores units) past h =
+    elim (taken.decided units past h) [ inl l ↦ inl l | inr w ↦ inr (inl w) ]
+every_kind_is_decided Cell past h = stored.every_history past h
+every_kind_is_decided (Database n) past h = stored.every_history past (cell_history n past h)
+
+-- what isn't decided stays so with one event more
+pub it_stays_undecided : (kind : Kind) (x : Event) (past : List Event) (u : Undecided)
+    → IsHistoryOf kind (x ∷ past) → ShowsUndecided kind past u → ShowsUndecided kind (x ∷ past) u
+it_stays_undecided (Eventcount n) x past u h s = s
+it_stays_undecided Sequencer x past u h s = s
+it_stays_undecided (Semaphores units) x past u h s = s
+it_stays_undecided Cell x past u h s = stays x past u h s
+it_stays_undecided (Database n) x past u h s = stays x past u (cell_history n (x ∷ past) h) s

@@ -1,0 +1,77 @@
+-- What is known of an object when its turn comes.
+use Rattle.std.proofs.Common.{◌≡◌, ℕ, zero, suc, ◌+◌, ◌<◌, ◌≤◌, ◌^◌, List, [], ◌∷◌, length, reverse}
+use Rattle.std.proofs.Common.{get_or}
+use Rattle.std.proofs.Common.{Some, refl, ap, sym, ◌∙◌, arith, subst, slice_get}
+use Rattle.std.proofs.lemmas.Option.{slice_get_read}
+use Rattle.std.specs.Global.{Vec}
+use Rattle.calls_core.specs.declared.history.Kind.{Kind}
+use Rattle.calls_core.specs.declared.history.Event.{Event}
+use Rattle.calls_core.specs.declared.history.Call.{Call}
+use Rattle.calls_core.specs.Lists.{EachFrom}
+use Rattle.calls_core.specs.Histories.{clock, part, pending_calls, completed_calls, IsHistory}
+use Rattle.calls_core.specs.Histories.{IsHistoryOf}
+use Rattle.calls_core.proofs.Lists.{each_weaker}
+use Rattle.calls_core.proofs.Positions.{are_calls_of}
+use Rattle.calls_core.proofs.Settling.{Begun, before_of, done_begun, all_begun}
+use Rattle.calls_local.proofs.Parts.{part_history_of, part_clock}
+use Rattle.calls_verdict.specs.declared.verdict.Decision.{Decision}
+use Rattle.calls_verdict.specs.declared.verdict.Decision.TheVariants.{Ordered, Refused, Open}
+use Rattle.calls_verdict.specs.Verdicts.{IsDecision}
+use Rattle.calls_verdict.specs.kept.Parts.{IsPart, AreParts}
+use Rattle.calls_verdict.specs.kept.Findings.{HasRoom}
+
+each_at : (past : List Event) (i k : ℕ) (parts : List (Vec Event)) (own : Vec Event)
+    → k < length parts
+    → own ≡ get_or parts k own → EachFrom (IsPart past) i parts
+    → reverse own.items ≡ part (i + k) past
+each_at past i k [] own lt is h = absurd (omega arith)
+each_at past i zero (p ∷ parts) own lt is h =
+    (let same : i + 0 ≡ i = omega arith in
+    ap (λ (v : Vec Event). reverse v.items) is ∙ h.0 ∙ ap (λ j. part j past) (sym same))
+each_at past i (suc k) (p ∷ parts) own lt is h =
+    (let same : i + 1 + k ≡ i + suc k = omega arith in
+    each_at past (i + 1) k parts own (omega arith) is h.1 ∙ ap (λ j. part j past) same)
+
+-- the positions in a decision have room
+pub decision_room : (kind : Kind) (own : List Event) (t : ℕ) (d : Decision)
+    → IsHistoryOf kind (reverse own)
+    → clock (reverse own) ≤ t → t < 2 ^ 64 → IsDecision kind own t d → HasRoom own d
+decision_room kind own t (Refused i f) h le fits is = is.within
+decision_room kind own t (Open i u) h le fits is = tt
+decision_room kind own t (Ordered cs) h le fits is =
+    (let past = reverse own in
+    let b = before_of kind (completed_calls past) (pending_calls past) (clock past)
+    (are_calls_of kind past h) in
+    each_weaker (Begun (clock past)) (λ (c : Call). c.first + 1 < 2 ^ 64) (λ c lt.
+    (let low : c.first < clock past = lt in omega arith)) cs.items
+    (all_begun (clock past) t is.answer (completed_calls past) (pending_calls past) cs.items b.early
+    (done_begun (clock past) (completed_calls past) b.spans) is.each_once))
+
+module _ (kinds : List Kind) (events : List Event) (h : IsHistory kinds (reverse events))
+    (parts : List (Vec Event))
+    (p : AreParts (length kinds) (reverse events) parts) (k : ℕ) (lt : k < length kinds)
+    (kind : Kind)
+    (read : kind ≡ get_or kinds k kind) (own : Vec Event) (of : own ≡ get_or parts k own)
+    (list : List Event) (is : list ≡ own.items) where
+  pub turn_kind : slice_get kinds k ≡ Some kind
+  turn_kind = slice_get_read kinds (length kinds) k kind refl lt read
+
+  pub turn_part : reverse list ≡ part k (reverse events)
+  turn_part =
+      (let zero_plus : 0 + k ≡ k = omega arith in
+      ap reverse is ∙ each_at (reverse events) 0 k parts own (omega (arith, p.count)) of p.each ∙ ap
+      (λ j. part j (reverse events)) zero_plus)
+
+  pub turn_history : IsHistoryOf kind (reverse list)
+  turn_history = subst (IsHistoryOf kind) (sym turn_part) (part_history_of kinds k kind
+      (reverse events) h turn_kind)
+
+  pub turn_end : clock (reverse list) ≤ clock (reverse events)
+  turn_end = subst (λ q. clock q ≤ clock (reverse events)) (sym turn_part)
+      (part_clock kinds k (reverse events) h)
+
+  pub turn_added : (end : ℕ) (d : Decision) → end ≡ clock (reverse events)
+      → clock (reverse events) < 2 ^ 64
+      → IsDecision kind list end d → HasRoom list d
+  turn_added end d same fits is =
+      decision_room kind list end d turn_history (omega (arith, turn_end)) (omega arith) is

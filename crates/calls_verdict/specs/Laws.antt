@@ -1,0 +1,27 @@
+-- Theorems on every history of calls.
+use Rattle.std.specs.Prelude.{◌⊎◌, ℕ, List, ◌++◌}
+use Rattle.calls_core.specs.declared.history.Kind.{Kind}
+use Rattle.calls_core.specs.declared.history.Event.{Event}
+use Rattle.calls_core.specs.Histories.{IsHistory}
+use Rattle.calls_core.specs.Completions.{IsLinearizable}
+use Rattle.calls_verdict.specs.declared.verdict.Fault.{Fault}
+use Rattle.calls_verdict.specs.Verdicts.{HasFault, IsFaultyOn, AreDecided}
+
+-- where an object has a fault, no history that begins with these events has a linearization
+abbrev pub AFaultLeavesNoLinearization : Type 0
+AFaultLeavesNoLinearization =
+    (kinds : List Kind) (late past : List Event) (k : ℕ) → IsHistory kinds (late ++ past)
+    → IsFaultyOn kinds past k → IsLinearizable kinds (late ++ past) → ⊥
+
+-- what a refusal returns as a fault is one
+abbrev pub WhatIsShownIsAFault : Type 0
+WhatIsShownIsAFault =
+    (kinds : List Kind) (past : List Event) (k : ℕ) (f : Fault) → HasFault kinds past k f
+    → IsFaultyOn kinds past k
+
+-- a history whose objects are all decided has a linearization, or an object of it has a fault; and
+-- not both, by the first theorem
+abbrev pub EveryHistoryIsDecided : Type 0
+EveryHistoryIsDecided =
+    (kinds : List Kind) (past : List Event) → IsHistory kinds past → AreDecided kinds past
+    → IsLinearizable kinds past ⊎ ((k : ℕ) × IsFaultyOn kinds past k)

@@ -1,0 +1,84 @@
+-- What is found of a history.
+use Rattle.std.specs.Prelude.{◌≡◌, ◌⊎◌, ℕ, ◌+◌, ◌≤◌, List, reverse, Some, slice_get}
+use Rattle.calls_core.specs.declared.history.Kind.{Kind}
+use Rattle.calls_core.specs.declared.history.Event.{Event}
+use Rattle.calls_core.specs.declared.history.Call.{Call}
+use Rattle.calls_core.specs.Histories.{clock, pending_calls, completed_calls, part}
+use Rattle.calls_core.specs.Linearizations.{IsRun, start, IsAnsweredLinearization}
+use Rattle.calls_core.specs.Points.{IsPlacedOrder}
+use Rattle.calls_core.specs.Beginnings.{until}
+use Rattle.calls_core.specs.Outcomes.{IsOrderOf, HasOrderOf, IsFirstFault}
+use Rattle.calls_cells.specs.declared.outcome.Undecided as cause
+use Rattle.calls_verdict.specs.declared.verdict.Fault.{Fault}
+use Rattle.calls_verdict.specs.declared.verdict.Undecided.{Undecided}
+use Rattle.calls_verdict.specs.declared.verdict.Verdict.{Verdict}
+use Rattle.calls_verdict.specs.declared.verdict.Verdict.TheVariants.{Linearizable, Refused}
+use Rattle.calls_verdict.specs.declared.verdict.Verdict.TheVariants.{NotDecided}
+use Rattle.calls_verdict.specs.declared.verdict.Decision.{Decision}
+use Rattle.calls_verdict.specs.declared.verdict.Decision.TheVariants as decision
+use Rattle.calls_verdict.specs.Faults.{Shows, ShowsUndecided, IsDecided, IsFaulty}
+
+-- what is found of the calls of one object
+abbrev pub IsDecision : Kind → List Event → ℕ → Decision → Type 0
+IsDecision kind events t (decision.Ordered cs) = IsOrderOf kind (reverse events) t cs.items
+IsDecision kind events t (decision.Refused i f) = IsFirstFault (λ past.
+    Shows kind past f) kind events i
+IsDecision kind events t (decision.Open i u) = IsFirstFault (λ past.
+    ShowsUndecided kind past u) kind events i
+
+-- the events of object k show the fault
+pub record HasFault (kinds : List Kind) (past : List Event) (k : ℕ) (f : Fault) : Type 0 where
+  pub kind : Kind
+  pub is : slice_get kinds k ≡ Some kind
+  pub shows : Shows kind (part k past) f
+
+-- object k has a fault
+pub record IsFaultyOn (kinds : List Kind) (past : List Event) (k : ℕ) : Type 0 where
+  pub kind : Kind
+  pub is : slice_get kinds k ≡ Some kind
+  pub faulty : IsFaulty kind (part k past)
+
+-- the events of this object show that it isn't decided
+pub record HasOpen (kinds : List Kind) (past : List Event) (u : Undecided) : Type 0 where
+  pub kind : Kind
+  pub is : slice_get kinds u.object ≡ Some kind
+  pub shows : ShowsUndecided kind (part u.object past) u.cause
+
+-- each object of the history is decided
+abbrev pub AreDecided : List Kind → List Event → Type 0
+AreDecided kinds past = (k : ℕ) (kind : Kind) → slice_get kinds k ≡ Some kind
+    → IsDecided kind (part k past)
+
+-- the calls have a linearization, or aren't decided
+abbrev pub IsClear : Kind → List Event → Type 0
+IsClear kind past = HasOrderOf kind past ⊎ ((u : cause.Undecided) × ShowsUndecided kind past u)
+
+-- so it is with each object of the history
+abbrev pub AreClear : List Kind → List Event → Type 0
+AreClear kinds past =
+    (k : ℕ) (kind : Kind) → slice_get kinds k ≡ Some kind → IsClear kind (part k past)
+
+-- each beginning before position n is clear, and has a linearization where every object is decided
+abbrev pub IsCleanBefore : List Kind → List Event → ℕ → Type 0
+IsCleanBefore kinds past n =
+    (m : ℕ) → m ≤ n → AreClear kinds (until m past)
+    × (AreDecided kinds (until m past)
+    → (cs : List Call) × IsAnsweredLinearization kinds (until m past) cs)
+
+-- the event at this position is the first faulty one: with it, object k shows the fault
+pub record IsFirstRefusal (kinds : List Kind) (past : List Event) (at k : ℕ) (f : Fault) : Type 0
+  where
+    pub shows : HasFault kinds (until (at + 1) past) k f
+    pub before : IsCleanBefore kinds past at
+
+-- no object is refused, and this one isn't decided
+pub record IsNotDecided (kinds : List Kind) (past : List Event) (u : Undecided) : Type 0 where
+  pub shows : HasOpen kinds past u
+  pub rest : IsCleanBefore kinds past (clock past)
+
+abbrev pub IsVerdict : List Kind → List Event → Verdict → Type 0
+IsVerdict kinds past (Linearizable order) =
+    IsPlacedOrder (IsRun (start kinds)) (completed_calls past) (pending_calls past)
+    (clock past) order.items
+IsVerdict kinds past (Refused r) = IsFirstRefusal kinds past r.at r.object r.fault
+IsVerdict kinds past (NotDecided u) = IsNotDecided kinds past u

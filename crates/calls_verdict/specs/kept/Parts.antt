@@ -1,0 +1,41 @@
+-- How the events of each object are kept.
+use Rattle.std.specs.Prelude.{◌≡◌, ℕ, ◌<◌, List, ◌∷◌, length, reverse, Option, Some, None}
+use Rattle.std.specs.Prelude.{slice_index_or}
+use Rattle.std.specs.List.{remove}
+use Rattle.std.specs.Global.{Vec}
+use Rattle.calls_core.specs.declared.history.Action.{Action}
+use Rattle.calls_core.specs.declared.history.Action.TheVariants.{Invoke, Respond}
+use Rattle.calls_core.specs.declared.history.Event.{Event}
+use Rattle.calls_core.specs.declared.history.PendingCall.{PendingCall}
+use Rattle.calls_core.specs.Histories.{pending_of, without, pending_after, pending_calls, part}
+use Rattle.calls_core.specs.Lists.{EachFrom}
+
+-- the first of a worker's calls stands at place i
+pub record IsPendingOf (os : List PendingCall) (w i : ℕ) : Type 0 where
+  pub inside : i < length os
+  pub first : (d : PendingCall) → pending_of w os ≡ Some (slice_index_or os i d)
+  pub others : without w os ≡ remove os i
+
+-- the index of the object of an event, where its worker has this pending call
+abbrev pub object_of : Action → Option PendingCall → Option ℕ
+object_of (Invoke k op) o = Some k
+object_of (Respond r) None = None
+object_of (Respond r) (Some o) = Some o.object
+
+pub record IsFollowed (old new : List PendingCall) (x : Event) (object : Option ℕ) : Type 0 where
+  pub pending : new ≡ pending_after x x.action old
+  pub object_is : object ≡ object_of x.action (pending_of x.worker old)
+
+abbrev pub IsPart : List Event → ℕ → Vec Event → Type 0
+IsPart past k own = reverse own.items ≡ part k past
+
+-- an event of object j was added
+abbrev pub IsAdded : ℕ → Event → List (Vec Event) → List (Vec Event) → Type 0
+IsAdded j x old new = (past : List Event)
+    → object_of x.action (pending_of x.worker (pending_calls past)) ≡ Some j
+    → EachFrom (IsPart past) 0 old → EachFrom (IsPart (x ∷ past)) 0 new
+
+-- the events of each of the first n objects, in natural order
+pub record AreParts (n : ℕ) (past : List Event) (parts : List (Vec Event)) : Type 0 where
+  pub count : length parts ≡ n
+  pub each : EachFrom (IsPart past) 0 parts

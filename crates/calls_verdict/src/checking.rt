@@ -1,0 +1,145 @@
+//! A test of events: whether they are a history.
+ghost use Rattle.std.specs.Prelude.{◌≡◌, ◌+◌, ◌<◌, ◌↔◌, IsTrue, IfOk, MatchOption, Some, length};
+ghost use Rattle.std.specs.Prelude.{reverse, slice_get};
+ghost use Rattle.calls_core.specs.declared.history.Event.{Event};
+ghost use Rattle.calls_core.specs.declared.history.Kind.TheVariants.{Semaphores};
+ghost use Rattle.calls_core.specs.Histories.{clock, pending_of, Takes, Suits, IsNext, IsHistory};
+ghost use Rattle.calls_core.specs.Beginnings.{past_at};
+ghost use Rattle.calls_verdict.specs.Misuses.{IsMisuseBy, IsFirstMisuse};
+ghost use Rattle.calls_verdict.specs.kept.Tests.{IsFirstMisuseBy};
+
+use crate::splitting::{find, follow};
+use calls_core::{Action, Event, Kind, Op, PendingCall, Reply};
+use std::alloc::{AllocError, Global};
+
+/// Why events are no history.
+#[derive(Clone, Copy, Debug, PartialEq, Eq)]
+pub enum Misuse {
+    /// The position is not behind those before it.
+    OutOfOrder,
+    /// The worker invokes while it has a pending call.
+    Busy,
+    /// The object is not there, or does not take this.
+    NotTaken,
+    /// The worker responds without a pending call.
+    Idle,
+    /// The reply does not suit the operation.
+    Unsuited,
+}
+
+/// Returns whether semaphores take this, one for each of these numbers of units.
+fn takes_units(units: &Vec<usize>, op: Op) -> bool
+    ensures { IsTrue result ↔ Takes (Some (Semaphores units.now)) op }
+{
+    match op {
+        Op::P(i) => i < units.len(),
+        Op::V(i) => i < units.len(),
+        Op::PBoth(i, j) => i < units.len() && j < units.len() && i != j,
+        _ => false,
+    }
+}
+
+/// Returns whether an object of this kind takes this.
+fn takes(kind: &Kind, op: Op) -> bool
+    ensures { IsTrue result ↔ Takes (Some kind.now) op }
+{
+    match kind {
+        Kind::Eventcount(_) => matches!(op, Op::Advance | Op::Read | Op::Await(_)),
+        Kind::Sequencer => matches!(op, Op::Ticket),
+        Kind::Semaphores(units) => takes_units(units, op),
+        Kind::Cell => matches!(op, Op::Put(_) | Op::Get),
+        Kind::Database(_) => matches!(op, Op::Put(_) | Op::Get),
+    }
+}
+
+/// Returns whether the object at this index takes this.
+fn is_taken(kinds: &[Kind], object: usize, op: Op) -> bool
+    ensures { IsTrue result ↔ Takes (slice_get kinds.now object) op }
+{
+    match kinds.get(object) {
+        Some(kind) => takes(kind, op),
+        None => false,
+    }
+}
+
+/// Returns whether a reply suits an operation.
+fn suits(op: Op, reply: Reply) -> bool
+    ensures { IsTrue result ↔ Suits op reply }
+{
+    match op {
+        Op::Advance | Op::V(_) | Op::Put(_) => matches!(reply, Reply::Done),
+        Op::Read | Op::Ticket | Op::Get => matches!(reply, Reply::Number(_)),
+        Op::P(_) | Op::PBoth(_, _) => matches!(reply, Reply::Done | Reply::Timeout),
+        Op::Await(_) => true,
+    }
+}
+
+/// Returns a worker's pending call.
+fn pending_call(pending: &[PendingCall], worker: usize) -> Option<PendingCall>
+    ensures { result ≡ pending_of worker pending.now }
+{
+    match find(pending, worker) {
+        Some(i) => Some(pending[i]),
+        None => None,
+    }
+}
+
+/// Returns whether the position of an event is not behind those before it.
+fn is_out_of_order(events: &[Event], i: usize) -> bool
+    requires { i < length events.now }
+    ensures { (x : Event) → slice_get events.now i ≡ Some x
+        → (IsTrue result ↔ x.at < clock (past_at i events.now)) }
+{
+    i > 0 && events[i].at <= events[i - 1].at
+}
+
+/// Finds what is wrong with an action, where its worker has this pending call.
+fn misuse_by(kinds: &[Kind], action: Action, pending: Option<PendingCall>) -> Option<Misuse>
+    ensures { MatchOption result (IsNext kinds.now action pending)
+        (IsFirstMisuseBy kinds.now action pending) }
+{
+    match action {
+        Action::Invoke(object, op) => {
+            if pending.is_some() {
+                Some(Misuse::Busy)
+            } else if is_taken(kinds, object, op) {
+                None
+            } else {
+                Some(Misuse::NotTaken)
+            }
+        }
+        Action::Respond(reply) => match pending {
+            None => Some(Misuse::Idle),
+            Some(call) => {
+                if suits(call.op, reply) {
+                    None
+                } else {
+                    Some(Misuse::Unsuited)
+                }
+            }
+        },
+    }
+}
+
+/// Finds the first event with which the events are no history, and why.
+pub fn first_misuse(
+    alloc: Global,
+    kinds: &[Kind],
+    events: &[Event],
+) -> Result<Option<(usize, Misuse)>, AllocError>
+    ensures { IfOk result (λ r. MatchOption r (IsHistory kinds.now (reverse events.now)) (λ w.
+        IsFirstMisuse kinds.now events.now w.0 w.1)) }
+{
+    let mut pending = Vec::new(alloc);
+    for (i, event) in events.iter().enumerate() {
+        if is_out_of_order(events, i) {
+            return Ok(Some((i, Misuse::OutOfOrder)));
+        }
+        let call = pending_call(&pending, event.worker);
+        if let Some(misuse) = misuse_by(kinds, event.action, call) {
+            return Ok(Some((i, misuse)));
+        }
+        let _object = follow(&mut pending, event)?;
+    }
+    Ok(None)
+}

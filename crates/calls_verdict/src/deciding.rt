@@ -1,0 +1,44 @@
+//! A verdict on a whole history.
+ghost use Rattle.std.specs.Prelude.{◌≡◌, ◌<◌, ◌^◌, reverse, IfOk};
+ghost use Rattle.calls_core.specs.Histories.{IsHistory, clock};
+ghost use Rattle.calls_verdict.specs.Verdicts.{IsVerdict};
+
+use crate::findings::{Found, add, conclude};
+use crate::objects::decide_object;
+use crate::splitting::split;
+use crate::verdict::Verdict;
+use calls_core::{Event, Kind};
+use std::alloc::{AllocError, Global};
+
+/// Returns the first position after the events.
+fn end_of(events: &[Event]) -> usize
+    requires { clock (reverse events.now) < 2 ^ 64 }
+    ensures { result ≡ clock (reverse events.now) }
+{
+    match events.last() {
+        Some(event) => event.at + 1,
+        None => 0,
+    }
+}
+
+/// Decides whether a history has a linearization: returns one with points, or the first faulty
+/// event, or a cell or database that isn't decided.
+pub fn decide(alloc: Global, kinds: &[Kind], events: &[Event]) -> Result<Verdict, AllocError>
+    requires history { IsHistory kinds.now (reverse events.now) }
+    requires room { clock (reverse events.now) < 2 ^ 64 }
+    ensures { IfOk result (IsVerdict kinds.now (reverse events.now)) }
+{
+    let end = end_of(events);
+    let parts = split(alloc, kinds, events)?;
+    let mut found = Found {
+        placed: Vec::new(alloc),
+        refusal: None,
+        undecided: None,
+    };
+    for (object, kind) in kinds.iter().enumerate() {
+        let own: &[Event] = &parts[object];
+        let decision = decide_object(alloc, kind, own, end)?;
+        add(alloc, &mut found, object, own, decision)?;
+    }
+    conclude(found)
+}

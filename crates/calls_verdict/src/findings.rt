@@ -1,0 +1,79 @@
+//! What is found of the objects, one after another.
+ghost use Rattle.std.specs.Prelude.{IfOk, OnOk};
+ghost use Rattle.calls_verdict.specs.kept.Findings.{HasRoom, IsAddedTo, IsEarlier, Gives};
+
+use crate::verdict::{Decision, Refusal, Undecided, Verdict};
+use calls_core::{Event, Placed};
+use calls_local::{merge, place};
+use std::alloc::{AllocError, Global};
+
+/// What is found of the objects that were decided.
+#[derive(Debug, Drop)]
+pub struct Found {
+    /// The ordered calls of each, with their points.
+    pub placed: Vec<Placed>,
+    /// The refusal with the least position, if any was refused.
+    pub refusal: Option<Refusal>,
+    /// The first that isn't decided.
+    pub undecided: Option<Undecided>,
+}
+
+/// Keeps the refusal with the lesser position.
+fn earlier(kept: Option<Refusal>, next: Refusal) -> Refusal
+    ensures { IsEarlier kept next result }
+{
+    match kept {
+        Some(old) => { if old.at <= next.at { old } else { next } }
+        None => next,
+    }
+}
+
+/// Adds what is decided of an object, whose events these are.
+pub fn add(
+    alloc: Global,
+    found: &mut Found,
+    object: usize,
+    own: &[Event],
+    decision: Decision,
+) -> Result<(), AllocError>
+    requires { HasRoom own.now decision }
+    ensures { OnOk result (IsAddedTo object own.now decision found.old found.new) }
+{
+    match decision {
+        Decision::Ordered(calls) => {
+            found.placed.append(&mut place(alloc, &calls)?)?;
+            Ok(())
+        }
+        Decision::Refused(i, fault) => {
+            let at = own[i].at;
+            let next = Refusal { at, object, fault };
+            found.refusal = Some(earlier(found.refusal.take(), next));
+            Ok(())
+        }
+        Decision::Open(_, cause) => {
+            if found.undecided.is_none() {
+                found.undecided = Some(Undecided { object, cause });
+            }
+            Ok(())
+        }
+    }
+}
+
+/// Gives the verdict from what is found of all objects.
+pub fn conclude(found: Found) -> Result<Verdict, AllocError>
+    ensures { IfOk result (Gives found) }
+{
+    let Found {
+        mut placed,
+        refusal,
+        undecided,
+    } = found;
+    if let Some(refusal) = refusal {
+        return Ok(Verdict::Refused(refusal));
+    }
+    if let Some(undecided) = undecided {
+        return Ok(Verdict::NotDecided(undecided));
+    }
+    merge(&mut placed)?;
+    Ok(Verdict::Linearizable(placed))
+}

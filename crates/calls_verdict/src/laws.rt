@@ -1,0 +1,20 @@
+//! Theorems on every history. Each is the contract of a function that does nothing.
+ghost use Rattle.calls_verdict.specs.Laws.{AFaultLeavesNoLinearization, EveryHistoryIsDecided};
+ghost use Rattle.calls_verdict.specs.Laws.{WhatIsShownIsAFault};
+
+/// States that where an object has a fault, no history that begins with these events has a
+/// linearization.
+pub fn a_fault_leaves_no_linearization()
+    ensures { AFaultLeavesNoLinearization }
+{}
+
+/// States that what a refusal returns as a fault is one.
+pub fn what_is_shown_is_a_fault()
+    ensures { WhatIsShownIsAFault }
+{}
+
+/// States that a history whose objects are all decided has a linearization, or an object of it has
+/// a fault.
+pub fn every_history_is_decided()
+    ensures { EveryHistoryIsDecided }
+{}

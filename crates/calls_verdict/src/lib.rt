@@ -1,0 +1,18 @@
+//! Decides whether a history of calls has a linearization.
+#![tactic(auto)]
+
+mod checking;
+mod deciding;
+mod findings;
+mod laws;
+mod objects;
+mod splitting;
+mod verdict;
+
+pub use checking::{Misuse, first_misuse};
+pub use deciding::decide;
+pub use laws::{
+    a_fault_leaves_no_linearization, every_history_is_decided, what_is_shown_is_a_fault,
+};
+pub use splitting::split;
+pub use verdict::{Decision, Fault, Refusal, Undecided, Verdict};

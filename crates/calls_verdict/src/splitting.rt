@@ -1,0 +1,80 @@
+//! The events of each object.
+ghost use Rattle.std.specs.Prelude.{◌≡◌, [], length, reverse, IfOk, OnOk, MatchOption, None};
+ghost use Rattle.calls_core.specs.Histories.{pending_of};
+ghost use Rattle.calls_verdict.specs.kept.Parts.{IsPendingOf, IsFollowed, IsPart, IsAdded};
+ghost use Rattle.calls_verdict.specs.kept.Parts.{AreParts};
+ghost use Rattle.calls_core.specs.Lists.{EachFrom};
+
+use calls_core::{Action, Event, Kind, PendingCall};
+use std::alloc::{AllocError, Global};
+
+/// Finds a worker's call among the pending ones.
+pub fn find(pending: &[PendingCall], worker: usize) -> Option<usize>
+    ensures { MatchOption result (pending_of worker pending.now ≡ None)
+        (IsPendingOf pending.now worker) }
+{
+    for (i, call) in pending.iter().enumerate() {
+        if call.worker == worker {
+            return Some(i);
+        }
+    }
+    None
+}
+
+/// Follows the pending calls past an event, and returns the index of the event's object.
+pub fn follow(pending: &mut Vec<PendingCall>, event: &Event) -> Result<Option<usize>, AllocError>
+    ensures { IfOk result (IsFollowed pending.old.items pending.new.items event.now) }
+{
+    match event.action {
+        Action::Invoke(object, op) => {
+            pending.push(PendingCall {
+                worker: event.worker,
+                object,
+                op,
+                first: event.at,
+            })?;
+            Ok(Some(object))
+        }
+        Action::Respond(_reply) => match find(pending, event.worker) {
+            Some(i) => Ok(Some(pending.remove(i).object)),
+            None => Ok(None),
+        },
+    }
+}
+
+/// Makes so many empty lists.
+fn empty_parts(alloc: Global, count: usize) -> Result<Vec<Vec<Event>>, AllocError>
+    ensures count { IfOk result (λ v. length v.items ≡ count) }
+    ensures empty { IfOk result (λ v. EachFrom (IsPart []) 0 v.items) }
+{
+    let mut parts = Vec::with_capacity(alloc, count)?;
+    for _i in 0..count {
+        parts.push(Vec::new(alloc))?;
+    }
+    Ok(parts)
+}
+
+/// Adds an event to the list of its object.
+fn add(parts: &mut Vec<Vec<Event>>, object: usize, event: Event) -> Result<(), AllocError>
+    ensures count { OnOk result (length parts.new.items ≡ length parts.old.items) }
+    ensures added { OnOk result (IsAdded object event parts.old.items parts.new.items) }
+{
+    if object < parts.len() {
+        parts[object].push(event)?;
+    }
+    Ok(())
+}
+
+/// Lists for each object its own events.
+pub fn split(alloc: Global, kinds: &[Kind], events: &[Event]) -> Result<Vec<Vec<Event>>, AllocError>
+    ensures { IfOk result (λ v. AreParts (length kinds.now) (reverse events.now) v.items) }
+{
+    let mut parts = empty_parts(alloc, kinds.len())?;
+    let mut pending = Vec::new(alloc);
+    for event in events {
+        if let Some(object) = follow(&mut pending, event)? {
+            add(&mut parts, object, *event)?;
+        }
+    }
+    Ok(parts)
+}
