@@ -1,8 +1,8 @@
 -- Every history has a linearization, shows a fault, or shows why it isn't decided.
-use Rattle.std.proofs.Common.{◌≡◌, ℕ, ◌+◌, ◌<◌, ◌≤◌, ◌⊎◌, inl, inr, true, List, [], ◌∷◌, ◌++◌}
+use Rattle.std.proofs.Common.{◌≡◌, ℕ, ◌⊎◌, inl, inr, true, List, [], ◌∷◌}
 use Rattle.std.proofs.Common.{Bool, false, refl, ap, sym, ◌∙◌, arith, subst}
 use Rattle.std.specs.List.{Contains}
-use Rattle.std.proofs.lemmas.Bool.{cases_lt, cases_eq, leb-true, le-leb}
+use Rattle.std.proofs.lemmas.Bool.{cases_lt, cases_eq, leb-true}
 use Rattle.calls_core.specs.declared.history.Kind.TheVariants.{Cell}
 use Rattle.calls_core.specs.declared.history.Op.{Op}
 use Rattle.calls_core.specs.declared.history.Op.TheVariants.{Advance, Read, Await, Ticket, P, V}
@@ -11,18 +11,18 @@ use Rattle.calls_core.specs.declared.history.Event.{Event}
 use Rattle.calls_core.specs.declared.history.PendingCall.{PendingCall}
 use Rattle.calls_core.specs.declared.history.Call.{Call}
 use Rattle.calls_core.specs.Lists.{Each}
-use Rattle.calls_core.specs.Histories.{IsHistoryOf, completed_calls, pending_calls}
+use Rattle.calls_core.specs.Histories.{clock, IsHistoryOf, completed_calls, pending_calls}
 use Rattle.calls_core.specs.Outcomes.{HasOrderOf}
 use Rattle.calls_distinct.specs.Cells.{value, gets, is_got, times, IsDistinct, IsDistinctHistory}
 use Rattle.calls_distinct.proofs.Faults.{some_one}
 use Rattle.calls_distinct.proofs.Checked.{gets_parts}
+use Rattle.calls_distinct.proofs.Existing.{every_one_decided}
 use Rattle.calls_serial.specs.Outcomes.{AreBothPending}
 use Rattle.calls_serial.specs.Laws.{IsSerial}
 use Rattle.calls_serial.proofs.Exactly as serial
 use Rattle.calls_cells.specs.declared.outcome.Undecided.{Undecided}
 use Rattle.calls_cells.specs.Faults.{HasFault, IsRepeated, DoOverlap, ShowsUndecided}
 use Rattle.calls_cells.proofs.Searching.{each_at, each_or_one}
-use Rattle.calls_cells.proofs.Zoning.{decided_distinct}
 
 -- VALUES
 
@@ -72,7 +72,8 @@ module _ (past : List Event) where
         (let r = some_one (gets v) (completed_calls past) (leb-true 1 _ got) in
         let is = (gets_parts v r.0 r.2).1 in
         subst (IsDistinct (completed_calls past) (pending_calls past)) is
-        (each_at GotOnce (completed_calls past) r.0 each r.1 (subst (λ w. is_got (completed_calls past) w ≡ true) (sym is) got))))
+        (each_at GotOnce (completed_calls past) r.0 each r.1
+        (subst (λ w. is_got (completed_calls past) w ≡ true) (sym is) got))))
   ]
 
 -- PUTS
@@ -115,10 +116,12 @@ module _ (calls : List PendingCall) where
 
   pub pairs : ((o p : PendingCall) → AreBothPending calls o p → ⊥)
       ⊎ ((o : PendingCall) × (p : PendingCall) × AreBothPending calls o p)
-  pairs = elim (each_or_one Alone (λ (o : PendingCall). (p : PendingCall) × AreBothPending calls o p)
+  pairs = elim (each_or_one Alone (λ (o : PendingCall). (p : PendingCall)
+      × AreBothPending calls o p)
       calls one) [
         | inr r ↦ inr (r.0, r.2.0, r.2.1)
-        | inl each ↦ inl (λ o p b. each_at (λ (p : PendingCall). AreBothPending calls o p → ⊥) calls p
+        | inl each ↦ inl (λ o p b. each_at (λ (p : PendingCall). AreBothPending calls o p
+            → ⊥) calls p
             (each_at Alone calls o each b.one) b.other b)
       ]
     where
@@ -155,7 +158,7 @@ puts (x ∷ past) = elim (puts past) [
 pub every_history : (past : List Event) → IsHistoryOf Cell past
     → HasOrderOf Cell past ⊎ (HasFault past ⊎ ((u : Undecided) × ShowsUndecided past u))
 every_history past h = elim (values past) [
-  | inl distinct ↦ elim (decided_distinct past h distinct) [
+  | inl distinct ↦ elim (every_one_decided Cell past (clock past) tt h distinct (omega arith)) [
     | inl l ↦ inl l
     | inr f ↦ inr (inl (inl f))
   ]

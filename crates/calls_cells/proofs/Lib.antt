@@ -1,6 +1,5 @@
 pub mod Trying
 pub mod Staying
 pub mod Searching
-pub mod Zoning
 pub mod Classes
-pub mod Refuting
+pub mod Faults

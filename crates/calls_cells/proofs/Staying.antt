@@ -1,6 +1,7 @@
 -- One more event: what isn't decided stays so.
-use Rattle.std.proofs.Common.{◌≡◌, ℕ, zero, suc, ◌+◌, ◌<◌, ◌≤◌, Bool, true, false, cond, ◌==◌}
-use Rattle.std.proofs.Common.{List, [], ◌∷◌, ◌++◌, Option, Some, None, refl, ap, ◌∙◌, arith, count_by}
+use Rattle.std.proofs.Common.{◌≡◌, ℕ, ◌+◌, ◌≤◌, Bool, true, false, cond, ◌==◌}
+use Rattle.std.proofs.Common.{List, [], ◌∷◌, ◌++◌, Option, Some, None, refl, ap, ◌∙◌, arith}
+use Rattle.std.proofs.Common.{count_by}
 use Rattle.std.proofs.lemmas.Bool.{le-leb, leb-true}
 use Rattle.std.proofs.lemmas.Option.{same_Some, none-some}
 use Rattle.calls_core.specs.declared.history.Kind.TheVariants.{Cell}
@@ -12,7 +13,7 @@ use Rattle.calls_core.specs.Histories.{pending_of, without, invoked_by, pending_
 use Rattle.calls_core.specs.Histories.{ended_call, pending_calls, completed_calls}
 use Rattle.calls_core.specs.Histories.{IsHistoryOf, IsNextOf}
 use Rattle.calls_core.proofs.Counting.{one, count_cons, count_append}
-use Rattle.calls_distinct.specs.Cells.{put_call, put_pending, times, gets, is_got, IsDistinct}
+use Rattle.calls_distinct.specs.Cells.{put_call, put_pending, times, gets}
 use Rattle.calls_cells.specs.declared.outcome.Undecided.{Undecided}
 use Rattle.calls_cells.specs.Faults.{ShowsUndecided}
 

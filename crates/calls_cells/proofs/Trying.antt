@@ -1,10 +1,10 @@
 -- What is found of a beginning, and what it says of all events.
-use Rattle.std.proofs.Common.{◌≡◌, ℕ, zero, suc, ◌+◌, ◌<◌, ◌≤◌, List, [], ◌∷◌, ◌++◌, length, take, drop, reverse}
-use Rattle.std.proofs.Common.{Some, None, refl, ap, sym, ◌∙◌, arith, subst}
-use Rattle.std.specs.List.{AllPairs, Contains}
+use Rattle.std.proofs.Common.{◌≡◌, ℕ, zero, suc, ◌+◌, ◌<◌, ◌≤◌, List, [], ◌∷◌, ◌++◌, length, take}
+use Rattle.std.proofs.Common.{drop, reverse}
+use Rattle.std.proofs.Common.{None, refl, ap, sym, arith, subst}
+use Rattle.std.specs.List.{Contains}
 use Rattle.std.proofs.lemmas.List.Sorted.{IsPermutation-refl}
 use Rattle.calls_core.specs.declared.history.Kind.{Kind}
-use Rattle.calls_core.specs.declared.history.Kind.TheVariants.{Cell}
 use Rattle.calls_core.specs.declared.history.Event.{Event}
 use Rattle.calls_core.specs.declared.history.PendingCall.{PendingCall}
 use Rattle.calls_core.specs.Histories.{clock, IsHistoryOf, pending_calls}
@@ -14,7 +14,7 @@ use Rattle.calls_core.specs.Outcomes.{HasOrderOf, IsFirstFault}
 use Rattle.calls_core.proofs.Beginnings.{past_split}
 use Rattle.calls_core.proofs.Lists.{all_pairs_from_each}
 use Rattle.calls_serial.specs.Outcomes.{AreOverlapping}
-use Rattle.calls_cells.specs.Faults.{DoOverlap, IsRepeated, ShowsUndecided}
+use Rattle.calls_cells.specs.Faults.{DoOverlap}
 
 -- two puts that overlap at a moment of the events do so in their past
 pub overlap_shown : (events : List Event) (o p : PendingCall) → AreOverlapping events o p
@@ -94,7 +94,8 @@ pub some_events : (events : List Event) (o p : PendingCall) → DoOverlap (rever
     → 0 < length events
 some_events [] o p h = absurd (none h.late h.earlier h.is h.both.one)
   where
-    none : (late earlier : List Event) → [] ≡ late ++ earlier → Contains (pending_calls earlier) o → ⊥
+    none : (late earlier : List Event) → [] ≡ late ++ earlier → Contains (pending_calls earlier) o
+        → ⊥
     none [] [] is one = (let lt : one.0 < 0 = one.1 in omega arith)
     none [] (x ∷ earlier) is one = cc
     none (y ∷ late) earlier is one = cc

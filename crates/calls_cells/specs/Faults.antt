@@ -17,8 +17,8 @@ abbrev pub Shows : List Event → Fault → Type 0
 Shows past (Distinct f) = distinct.Shows past f
 Shows past (Serial f) = serial.Shows past f
 
--- the events show a fault of one of the classes. A fault as code has it holds its gets in memory,
--- which has an end; here they are any list
+-- the events show a fault of one of the classes. The gets of a fault in memory are a Vec, whose
+-- length is bounded; here they are any list
 abbrev pub HasFault : List Event → Type 0
 HasFault past =
     ((f : distinct_cell.Fault) × distinct.Shows past f)

@@ -11,17 +11,17 @@ use Rattle.calls_cells.specs.declared.outcome.Undecided.{Undecided}
 use Rattle.calls_cells.specs.Faults.{Shows, HasFault, ShowsUndecided}
 use Rattle.calls_cells.specs.Outcomes.{IsOutcome}
 
--- events with a fault have no linearization
 abbrev pub AFaultLeavesNoOrder : Type 0
 AFaultLeavesNoOrder =
+    (past : List Event) (f : Fault) (t : ℕ) (cs : List Call) → IsHistoryOf Cell past
+    → clock past ≤ t → Shows past f → IsOrderOf Cell past t cs → ⊥
+
+-- the same where the gets of the fault are any list
+abbrev pub AnyFaultLeavesNoOrder : Type 0
+AnyFaultLeavesNoOrder =
     (past : List Event) (t : ℕ) (cs : List Call) → IsHistoryOf Cell past → clock past ≤ t
     → HasFault past → IsOrderOf Cell past t cs → ⊥
 
--- what code returns as a fault is one
-abbrev pub WhatIsShownIsAFault : Type 0
-WhatIsShownIsAFault = (past : List Event) (f : Fault) → Shows past f → HasFault past
-
--- each history has a linearization, has a fault, or isn't decided
 abbrev pub EveryHistoryIsDecided : Type 0
 EveryHistoryIsDecided =
     (past : List Event) → IsHistoryOf Cell past

@@ -46,6 +46,15 @@ fn try_both(alloc: Global, events: &[Event], end: usize) -> Result<Try, AllocErr
     }
 }
 
+/// Returns an index between two others, halfway.
+fn middle(low: usize, high: usize) -> usize
+    requires apart { low + 1 < high }
+    ensures above { low < result }
+    ensures below { result < high }
+{
+    low + (high - low) / 2
+}
+
 /// Decides the longest beginning that can be decided, where all events cannot: by halving.
 fn decide_beginning(
     alloc: Global,
@@ -62,7 +71,7 @@ fn decide_beginning(
     let mut low = 0;
     let mut high = events.len();
     while high - low > 1 {
-        let mid = low + (high - low) / 2;
+        let mid = middle(low, high);
         match try_both(alloc, &events[..mid], end)? {
             Try::Ordered(_) => low = mid,
             Try::Refused(i, fault) => return Ok(Outcome::Refused(i, fault)),

@@ -1,19 +1,19 @@
 //! Theorems on every history of a cell. Each is the contract of a function that does nothing.
-ghost use Rattle.calls_cells.specs.Laws.{AFaultLeavesNoOrder, EveryHistoryIsDecided};
-ghost use Rattle.calls_cells.specs.Laws.{WhatIsShownIsAFault};
+ghost use Rattle.calls_cells.specs.Laws.{AFaultLeavesNoOrder, AnyFaultLeavesNoOrder};
+ghost use Rattle.calls_cells.specs.Laws.{EveryHistoryIsDecided};
 ghost use Rattle.calls_cells.specs.Laws.{ItStaysUndecided, ADatabaseIsACell};
 
-/// States that a history with a fault has no linearization.
+/// States that a history that shows a fault has no linearization.
 pub fn a_fault_leaves_no_order()
     ensures { AFaultLeavesNoOrder }
 {}
 
-/// States that what `decide` returns as a fault is one.
-pub fn what_is_shown_is_a_fault()
-    ensures { WhatIsShownIsAFault }
+/// States the same of a fault whose gets are any list, as `every_history_is_decided` has them.
+pub fn any_fault_leaves_no_order()
+    ensures { AnyFaultLeavesNoOrder }
 {}
 
-/// States that each history has a linearization, has a fault, or shows why it isn't decided.
+/// States that each history has a linearization, shows a fault, or shows why it isn't decided.
 pub fn every_history_is_decided()
     ensures { EveryHistoryIsDecided }
 {}

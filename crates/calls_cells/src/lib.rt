@@ -7,7 +7,7 @@ mod outcome;
 
 pub use deciding::decide;
 pub use laws::{
-    a_database_is_a_cell, a_fault_leaves_no_order, every_history_is_decided, it_stays_undecided,
-    what_is_shown_is_a_fault,
+    a_database_is_a_cell, a_fault_leaves_no_order, any_fault_leaves_no_order,
+    every_history_is_decided, it_stays_undecided,
 };
 pub use outcome::{Fault, Outcome, Undecided};

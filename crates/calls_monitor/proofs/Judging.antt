@@ -19,7 +19,6 @@ use Rattle.calls_core.specs.declared.history.PendingCall.{PendingCall}
 use Rattle.calls_core.specs.Histories.{pending_of, invoked_by, pending_after}
 use Rattle.calls_core.specs.Histories.{pending_calls, Takes, IsNext, IsHistory, IsHistoryOf}
 use Rattle.calls_core.specs.Histories.{is_on, part}
-use Rattle.calls_core.specs.Completions.{is_response}
 use Rattle.calls_core.specs.Calls.{Fitting}
 use Rattle.calls_core.specs.Outcomes.{HasOrderOf}
 use Rattle.calls_core.proofs.Positions.{each_call_by, histories_have_calls}
@@ -31,7 +30,7 @@ use Rattle.calls_monitor.specs.declared.monitor.Monitor.{Monitor}
 use Rattle.calls_monitor.specs.declared.monitor.Rejection.{Rejection}
 use Rattle.calls_monitor.specs.declared.monitor.Rejection.TheVariants.{Refused, Full}
 use Rattle.calls_monitor.specs.Refusals.{Explains}
-use Rattle.calls_monitor.specs.Monitors.{IsWatched, IsFine, IsFull, Verdict}
+use Rattle.calls_monitor.specs.Monitors.{IsWatched, IsFine, Verdict}
 use Rattle.calls_monitor.specs.kept.Watching.{entry, HasRoom, WatchesOf, Watches, IsHandedTo}
 use Rattle.calls_monitor.specs.kept.Watching.{IsHanded}
 use Rattle.calls_monitor.proofs.Begun.{begun_few}
@@ -212,13 +211,6 @@ module _ (kinds : List Kind) (past : List Event) (x : Event) (h : IsHistory kind
     (few : length old.pending.items ≤ WORKERS) where
   entries : length (pending_calls past) ≡ length old.pending.items
   entries = sym (length-map (pending_calls past) entry) ∙ sym (ap length w.pending)
-
-  pub full : (j : ℕ) (op : Op) → x.action ≡ Invoke j op → length old.pending.items ≡ WORKERS
-      → IsFull past x
-  full j op is all = record {
-    invocation = ap is_response is;
-    full = entries ∙ all;
-  }
 
   pub invoked : (j : ℕ) (op : Op) → x.action ≡ Invoke j op → length old.pending.items < WORKERS
       → (new : Monitor) → new.pending.items ≡ old.pending.items ++ record {

@@ -74,6 +74,7 @@ impl Monitor {
     pub fn event(&mut self, event: Event) -> Result<(), Rejection>
         ensures { Judges self.old self.new event result }
     {
+        // Read so that the proof has its range: no history is too long to count.
         let _at = event.at;
         match event.action {
             Action::Invoke(object, _op) => {

@@ -60,5 +60,5 @@ taken n i past = count_by (took_by n i) (completed_calls past)
 -- how many units the calls add to semaphore i that were invoked up to position n
 abbrev pub added : ℕ → ℕ → List Event → ℕ
 added n i past =
-    count_by (added_by n i) (completed_calls past) + count_by (pending_added_by n i)
-    (pending_calls past)
+    count_by (added_by n i) (completed_calls past)
+    + count_by (pending_added_by n i) (pending_calls past)

@@ -1,8 +1,7 @@
 -- What only the code's representation needs: no theorem of the bank is stated by these.
 use Rattle.std.specs.Prelude.{◌≡◌, ℕ, ◌+◌, ◌-◌, ◌<◌, ◌≤◌, ◌==◌, Bool, true, false, List, ◌∷◌, ◌++◌}
 use Rattle.std.specs.Prelude.{length, map, Option, Some, None, if◌then◌else◌, slice_index}
-use Rattle.std.specs.Prelude.{slice_get}
-use Rattle.std.specs.Prelude.{Vec}
+use Rattle.std.specs.Prelude.{slice_get, Vec}
 use Rattle.std.specs.declared.alloc.Global.{Global}
 use Rattle.std.specs.List.Sorted.{IsPermutation}
 use Rattle.calls_core.specs.declared.history.Kind.TheVariants.{Semaphores}
@@ -30,11 +29,13 @@ use Rattle.calls_semaphores.specs.Monitors.{AreLeft, IsRefusedAt, UpTo, units_le
 abbrev pub one_if : Bool → ℕ
 one_if b = if b then 1 else 0
 
+-- a bank that has these units at first
 pub record IsOpened (units : List ℕ) (b : Bank) : Type 0 where
   pub same : length b.added.items ≡ length units
   pub first : b.left.items ≡ units
   pub none : UpTo 0 b.added.items
 
+-- one unit more of semaphore j
 abbrev pub IsAddedAt : Bank → Bank → ℕ → Type 0
 IsAddedAt old new j = (i : ℕ) → i < length old.added.items
     → units_left new i ≡ units_left old i + one_if (j == i)
@@ -43,6 +44,7 @@ abbrev pub AreAdded : Bank → Bank → Op → Type 0
 AreAdded old new op = (i : ℕ) → i < length old.added.items
     → units_left new i ≡ units_left old i + one_if (adds i op)
 
+-- one unit less of semaphore j, if it has one
 abbrev pub IsTakenAt : Bank → Bank → ℕ → Type 0
 IsTakenAt old new j = (i : ℕ) → units_left new i ≡ units_left old i - one_if (j == i)
 
@@ -84,10 +86,12 @@ is_v (PBoth j k) = false
 is_v (Put v) = false
 is_v Get = false
 
--- a pending v takes effect, and no other pending call does
+-- a pending v takes effect, and another pending call does not
 abbrev pub answer : PendingCall → Option Reply
 answer o = if is_v o.op then Some Done else None
 
+-- a linearization in which a pending v has its response at t, and in which every call was invoked
+-- before the end of the past
 pub record IsKept (units : Vec ℕ Global) (past : List Event) (t : ℕ) (cs : List Call)
     : Type 0 where
   pub each_once :

@@ -1,7 +1,6 @@
 -- What a monitor of a bank says.
 use Rattle.std.specs.Prelude.{◌≡◌, ℕ, ◌+◌, ◌-◌, ◌^◌, ◌<◌, ◌≤◌, List, [], ◌∷◌, length, count_by}
-use Rattle.std.specs.Prelude.{slice_index}
-use Rattle.std.specs.Prelude.{Result, Ok, Err, Vec}
+use Rattle.std.specs.Prelude.{slice_index, Result, Ok, Err, Vec}
 use Rattle.std.specs.declared.alloc.Global.{Global}
 use Rattle.calls_core.specs.declared.history.TheConstants.{WORKERS}
 use Rattle.calls_core.specs.declared.history.Kind.TheVariants.{Semaphores}
@@ -25,8 +24,8 @@ units_taken i past = count_by (λ (c : Call). took i c.op c.reply) (completed_ca
 -- how many units the calls add to semaphore i, also those that are pending
 abbrev pub units_added : ℕ → List Event → ℕ
 units_added i past =
-    count_by (λ (c : Call). adds i c.op) (completed_calls past) + count_by
-    (λ (o : PendingCall). adds i o.op) (pending_calls past)
+    count_by (λ (c : Call). adds i c.op) (completed_calls past)
+    + count_by (λ (o : PendingCall). adds i o.op) (pending_calls past)
 
 -- the units that semaphore i has left
 abbrev pub units_left : Bank → ℕ → ℕ

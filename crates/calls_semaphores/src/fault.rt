@@ -1,8 +1,8 @@
 //! What is decided of the calls of a bank.
 use calls_core::Call;
 
-/// Up to the response of a call, more calls took a unit of a semaphore than it had at first and
-/// the invocations of v up to there add.
+/// Up to the response of a call, more calls took a unit of a semaphore than it had units: those at
+/// first, and one for each v that was invoked by then.
 #[derive(Clone, Copy, Debug, PartialEq, Eq)]
 pub struct Fault {
     /// The call, which took a unit of the semaphore too.

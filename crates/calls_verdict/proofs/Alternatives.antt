@@ -1,22 +1,24 @@
 -- A fault and a linearization: not both, and one of them where all objects are decided.
-use Rattle.std.proofs.Common.{◌≡◌, ℕ, zero, suc, ◌<◌, ◌≤◌, ◌⊎◌, inl, inr, List, ◌++◌, length}
+use Rattle.std.proofs.Common.{◌≡◌, ℕ, zero, suc, ◌+◌, ◌<◌, ◌≤◌, ◌⊎◌, inl, inr}
+use Rattle.std.proofs.Common.{List, [], ◌∷◌, ◌++◌, length, cond, refl}
 use Rattle.std.proofs.Common.{Option, Some, ap, sym, ◌∙◌, arith, subst, slice_get, map}
-use Rattle.std.proofs.lemmas.Bool.{cases_lt}
+use Rattle.std.proofs.lemmas.Bool.{cases_lt, lt-ltb, le-ltb}
 use Rattle.std.proofs.lemmas.Option.{slice_get_within, same_Some}
 use Rattle.calls_core.specs.declared.history.Kind.{Kind}
 use Rattle.calls_core.specs.declared.history.Event.{Event}
 use Rattle.calls_core.specs.Histories.{clock, part, pending_calls, completed_calls, IsHistory}
 use Rattle.calls_core.specs.Linearizations.{IsSequentialRun, initial, IsLinearOrder, calls_on}
+use Rattle.calls_core.specs.Beginnings.{until}
 use Rattle.calls_core.specs.Completions.{IsLinearizable, known_at}
 use Rattle.calls_core.specs.Outcomes.{IsOrderOf, HasOrderOf}
-use Rattle.calls_core.proofs.Beginnings.{history_earlier, whole_of_earlier}
+use Rattle.calls_core.proofs.Beginnings.{history_earlier, whole_of_earlier, until_split}
 use Rattle.calls_local.proofs.Completing.{linearization_from_answered}
 use Rattle.calls_local.proofs.Responding.{a_linearization_is_answered}
 use Rattle.calls_local.proofs.Parts.{part_history_of, part_clock, order_of_part}
 use Rattle.calls_local.proofs.Points.{parts_are_linearized}
 use Rattle.calls_verdict.specs.Verdicts.{IsFaultyOn, AreDecided}
 use Rattle.calls_verdict.specs.Laws.{AFaultLeavesNoLinearization, EveryHistoryIsDecided}
-use Rattle.calls_verdict.specs.Laws.{WhatIsShownIsAFault}
+use Rattle.calls_verdict.specs.Laws.{WhatIsShownIsAFault, ARefusalIsFinal}
 use Rattle.calls_verdict.proofs.OfKinds.{shown, fault_leaves_no_order, every_kind_is_decided}
 use Rattle.calls_verdict.proofs.Gathering.{kind_at, whole_from_parts}
 
@@ -103,3 +105,31 @@ every_history_is_decided = λ kinds past h d. decided kinds past h d
 pub what_is_shown_is_a_fault : WhatIsShownIsAFault
 what_is_shown_is_a_fault = λ kinds past k f h.
     record { kind = h.kind; is = h.is; faulty = shown h.kind (part k past) f h.shows }
+
+-- what stands before an earlier position stands before a later one
+until_twice : (n m : ℕ) (past : List Event) → n ≤ m → until n (until m past) ≡ until n past
+until_twice n m [] le = refl
+until_twice n m (x ∷ past) le =
+    elim (cases_lt x.at m) [
+      | inl lt ↦ ap (until n) (until_keeps m x past lt)
+      | inr ge ↦ ap (until n) (until_drops m x past ge)
+          ∙ until_twice n m past le ∙ sym (until_drops n x past (omega arith))
+    ]
+  where
+    until_keeps : (m : ℕ) (x : Event) (past : List Event) → x.at < m → until m (x ∷ past) ≡ x ∷ past
+    until_keeps m x past lt = ap (λ b. cond b (x ∷ past) (until m past)) (lt-ltb x.at m lt)
+
+    until_drops : (m : ℕ) (x : Event) (past : List Event) → m ≤ x.at → until m (x ∷ past) ≡ until m past
+    until_drops m x past ge = ap (λ b. cond b (x ∷ past) (until m past)) (le-ltb x.at m ge)
+
+pub a_refusal_is_final : ARefusalIsFinal
+a_refusal_is_final = λ kinds past at k f m h r lt l.
+    (let whole = until_split m past in
+    let longer = history_earlier kinds whole.0 (until m past) (subst (IsHistory kinds) whole.1 h) in
+    let split = until_split (at + 1) (until m past) in
+    let is : until m past ≡ split.0 ++ until (at + 1) past =
+    split.1 ∙ ap (λ zs. split.0 ++ zs) (until_twice (at + 1) m past (omega arith)) in
+    a_fault_leaves_no_linearization kinds split.0 (until (at + 1) past) k
+    (subst (IsHistory kinds) is longer)
+    (what_is_shown_is_a_fault kinds (until (at + 1) past) k f r.shows)
+    (subst (IsLinearizable kinds) is l))

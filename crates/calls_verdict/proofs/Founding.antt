@@ -30,7 +30,7 @@ use Rattle.calls_verdict.specs.declared.verdict.Verdict.TheVariants.{NotDecided}
 use Rattle.calls_verdict.specs.declared.verdict.Decision.TheVariants as decision
 use Rattle.calls_verdict.specs.declared.findings.Found.{Found}
 use Rattle.calls_verdict.specs.Faults.{Shows, ShowsUndecided}
-use Rattle.calls_verdict.specs.Verdicts.{IsDecision, IsCleanBefore}
+use Rattle.calls_verdict.specs.Verdicts.{IsDecision, IsCleanBefore, IsOrderedBefore}
 use Rattle.calls_verdict.specs.Verdicts.{IsVerdict}
 use Rattle.calls_verdict.specs.Verdicts.{IsClear, AreClear}
 use Rattle.calls_verdict.specs.Faults.{IsDecided}
@@ -137,16 +137,27 @@ module _ (kinds : List Kind) (past : List Event) (h : IsHistory kinds past) wher
         placed = λ a b. absurd (none-some kept (sym a ∙ refused));
       })
     where
+      own_ordered : IsHistoryOf kind (reverse own)
+          → IsOrderedBefore kinds past n (get_or own i d).at
+      own_ordered of_kind other m e le =
+          (let one : kind ≡ other = same_Some kind other (sym is ∙ e) in
+          subst (λ z. HasOrderOf z (part n (until m past))) one
+          (subst (HasOrderOf kind) (ap (until m) mine ∙ sym (part_until kinds n m past h))
+          (order_up_to kind own i d of_kind l.within m le (l.before i (omega arith)))))
+
       next_shows : IsHistoryOf kind (reverse own) → IsRefused kinds past
           (Some (refusal_at n (get_or own i d) fault))
-      next_shows of_kind = record {
-        kind = kind;
-        is = is;
-        shows = subst (λ q. Shows kind q fault)
-            (reversed_more own i d l.within ∙ sym (until_event kind own i d of_kind l.within)
-            ∙ ap (until ((get_or own i d).at + 1)) mine ∙ sym
-            (part_until kinds n ((get_or own i d).at + 1) past h)) l.shows;
-      }
+      next_shows of_kind = (
+        record {
+          kind = kind;
+          is = is;
+          shows = subst (λ q. Shows kind q fault)
+              (reversed_more own i d l.within ∙ sym (until_event kind own i d of_kind l.within)
+              ∙ ap (until ((get_or own i d).at + 1)) mine ∙ sym
+              (part_until kinds n ((get_or own i d).at + 1) past h)) l.shows;
+        },
+        own_ordered of_kind,
+      )
 
       shown : (o : Option Refusal) → IsEarlier o (refusal_at n (get_or own i d) fault) kept
           → IsRefused kinds past o → IsHistoryOf kind (reverse own)
@@ -244,7 +255,8 @@ module _ (kinds : List Kind) (past : List Event) (h : IsHistory kinds past) wher
       → AreFound kinds past (length kinds) found
       → IsVerdict kinds past (Refused r)
   verdict_refused found r e f = record {
-    shows = subst (IsRefused kinds past) e f.refused;
+    shows = (subst (IsRefused kinds past) e f.refused).0;
+    own = (subst (IsRefused kinds past) e f.refused).1;
     before = clean r.at (subst (λ z. Clear (length kinds) (limit (clock past) z)) e f.clear);
   }
 

@@ -1,11 +1,12 @@
 -- Theorems on every history of calls.
-use Rattle.std.specs.Prelude.{◌⊎◌, ℕ, List, ◌++◌}
+use Rattle.std.specs.Prelude.{◌<◌, ◌⊎◌, ℕ, List, ◌++◌}
 use Rattle.calls_core.specs.declared.history.Kind.{Kind}
 use Rattle.calls_core.specs.declared.history.Event.{Event}
 use Rattle.calls_core.specs.Histories.{IsHistory}
+use Rattle.calls_core.specs.Beginnings.{until}
 use Rattle.calls_core.specs.Completions.{IsLinearizable}
 use Rattle.calls_verdict.specs.declared.verdict.Fault.{Fault}
-use Rattle.calls_verdict.specs.Verdicts.{HasFault, IsFaultyOn, AreDecided}
+use Rattle.calls_verdict.specs.Verdicts.{HasFault, IsFaultyOn, AreDecided, IsFirstRefusal}
 
 -- where an object has a fault, no history that begins with these events has a linearization
 abbrev pub AFaultLeavesNoLinearization : Type 0
@@ -25,3 +26,9 @@ abbrev pub EveryHistoryIsDecided : Type 0
 EveryHistoryIsDecided =
     (kinds : List Kind) (past : List Event) → IsHistory kinds past → AreDecided kinds past
     → IsLinearizable kinds past ⊎ ((k : ℕ) × IsFaultyOn kinds past k)
+
+-- the first faulty event is the last of no linearizable history, and of none that goes on
+abbrev pub ARefusalIsFinal : Type 0
+ARefusalIsFinal =
+    (kinds : List Kind) (past : List Event) (at k : ℕ) (f : Fault) (m : ℕ) → IsHistory kinds past
+    → IsFirstRefusal kinds past at k f → at < m → IsLinearizable kinds (until m past) → ⊥

@@ -65,10 +65,17 @@ IsCleanBefore kinds past n =
     × (AreDecided kinds (until m past)
     → (cs : List Call) × IsAnsweredLinearization kinds (until m past) cs)
 
--- the event at this position is the first faulty one: with it, object k shows the fault
+-- each beginning of the calls of object k before position n has a linearization
+abbrev pub IsOrderedBefore : List Kind → List Event → ℕ → ℕ → Type 0
+IsOrderedBefore kinds past k n = (kind : Kind) (m : ℕ) → slice_get kinds k ≡ Some kind → m ≤ n
+    → HasOrderOf kind (part k (until m past))
+
+-- the event at this position is the first faulty one: with it, object k shows the fault; and before
+-- it neither this object nor another does
 pub record IsFirstRefusal (kinds : List Kind) (past : List Event) (at k : ℕ) (f : Fault) : Type 0
   where
     pub shows : HasFault kinds (until (at + 1) past) k f
+    pub own : IsOrderedBefore kinds past k at
     pub before : IsCleanBefore kinds past at
 
 -- no object is refused, and this one isn't decided

@@ -1,5 +1,5 @@
 //! A verdict on a whole history.
-ghost use Rattle.std.specs.Prelude.{◌≡◌, ◌<◌, ◌^◌, reverse, IfOk};
+ghost use Rattle.std.specs.Prelude.{◌≡◌, ◌<◌, ◌^◌, ◌↔◌, reverse, IfOk, IsTrue};
 ghost use Rattle.calls_core.specs.Histories.{IsHistory, clock};
 ghost use Rattle.calls_verdict.specs.Verdicts.{IsVerdict};
 
@@ -18,6 +18,16 @@ fn end_of(events: &[Event]) -> usize
     match events.last() {
         Some(event) => event.at + 1,
         None => 0,
+    }
+}
+
+/// Returns whether the first position after the events is a position too, as `decide` requires.
+pub fn has_room(events: &[Event]) -> bool
+    ensures { IsTrue result ↔ (clock (reverse events.now) < 2 ^ 64) }
+{
+    match events.last() {
+        Some(event) => event.at < usize::MAX,
+        None => true,
     }
 }
 

@@ -1,6 +1,6 @@
 //! Theorems on every history. Each is the contract of a function that does nothing.
 ghost use Rattle.calls_verdict.specs.Laws.{AFaultLeavesNoLinearization, EveryHistoryIsDecided};
-ghost use Rattle.calls_verdict.specs.Laws.{WhatIsShownIsAFault};
+ghost use Rattle.calls_verdict.specs.Laws.{WhatIsShownIsAFault, ARefusalIsFinal};
 
 /// States that where an object has a fault, no history that begins with these events has a
 /// linearization.
@@ -11,6 +11,11 @@ pub fn a_fault_leaves_no_linearization()
 /// States that what a refusal returns as a fault is one.
 pub fn what_is_shown_is_a_fault()
     ensures { WhatIsShownIsAFault }
+{}
+
+/// States that no beginning that contains the first faulty event has a linearization.
+pub fn a_refusal_is_final()
+    ensures { ARefusalIsFinal }
 {}
 
 /// States that a history whose objects are all decided has a linearization, or an object of it has

@@ -10,9 +10,10 @@ mod splitting;
 mod verdict;
 
 pub use checking::{Misuse, first_misuse};
-pub use deciding::decide;
+pub use deciding::{decide, has_room};
 pub use laws::{
-    a_fault_leaves_no_linearization, every_history_is_decided, what_is_shown_is_a_fault,
+    a_fault_leaves_no_linearization, a_refusal_is_final, every_history_is_decided,
+    what_is_shown_is_a_fault,
 };
 pub use splitting::split;
 pub use verdict::{Decision, Fault, Refusal, Undecided, Verdict};

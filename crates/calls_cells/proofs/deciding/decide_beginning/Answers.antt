@@ -1,7 +1,7 @@
-use Rattle.std.proofs.Common.{◌≡◌, ◌+◌, ◌-◌, ◌/◌, ◌<◌, ◌≤◌, length, take, reverse, arith, subst, ap, sym}
+use Rattle.std.proofs.Common.{◌≡◌, ◌+◌, length, take, reverse, arith, subst}
+use Rattle.std.proofs.Common.{sym}
 use Rattle.std.proofs.lemmas.List.{take_all}
 use Rattle.calls_core.specs.declared.history.Kind.TheVariants.{Cell}
-use Rattle.calls_core.specs.Histories.{clock}
 use Rattle.calls_core.specs.Beginnings.{past_at}
 use Rattle.calls_core.specs.Outcomes.{HasOrderOf}
 use Rattle.calls_core.proofs.Beginnings.{history_at, orders_before}
@@ -26,18 +26,18 @@ loop-high-init c =
 
 pub try_both-requires-clause-history : goal.try_both-requires-clause-history
 try_both-requires-clause-history c = history_at Cell
-    (c.loop-high.low + (c.loop-high.high - c.loop-high.low) / 2) c.args.events.now
-    c.requires.history
+    c.middle-mid.result c.args.events.now c.requires.history
 
 pub try_both-requires-clause-late : goal.try_both-requires-clause-late
 try_both-requires-clause-late c =
-    before_end Cell (c.loop-high.low + (c.loop-high.high - c.loop-high.low) / 2) c.args.end
-    c.args.events.now c.requires.history c.requires.late
+    before_end Cell c.middle-mid.result c.args.end c.args.events.now c.requires.history
+    c.requires.late
 
 pub returns-in-Refused : goal.returns-in-Refused
 returns-in-Refused c =
-    (let mid = c.loop-high.low + (c.loop-high.high - c.loop-high.low) / 2 in
-    let found : IsTry (take mid c.args.events.now) c.args.end (Refused c.in-Refused.i c.in-Refused.fault) =
+    (let mid = c.middle-mid.result in
+    let found : IsTry (take mid c.args.events.now) c.args.end
+    (Refused c.in-Refused.i c.in-Refused.fault) =
     subst (IsTry (take mid c.args.events.now) c.args.end) c.in-Refused.is c.in_ok-i.ensures in
     fault_longer (λ past. Shows past c.in-Refused.fault) Cell mid c.in-Refused.i c.args.events.now
     found)
@@ -45,7 +45,9 @@ returns-in-Refused c =
 pub loop-high-preserved-after-branch-2 : goal.loop-high-preserved-after-branch-2
 loop-high-preserved-after-branch-2 c = elim c.match-branch-2.branch [
   | in-Ordered w ↦ (let events = c.args.events.now in
-      let mid = c.loop-high.low + (c.loop-high.high - c.loop-high.low) / 2 in
+      let mid = c.middle-mid.result in
+      let above = c.middle-mid.ensures.above in
+      let below = c.middle-mid.ensures.below in
       let low = w.low-is in
       let high = w.high-is in
       let test = c.loop-high-test.true in
@@ -64,7 +66,9 @@ loop-high-preserved-after-branch-2 c = elim c.match-branch-2.branch [
             c.loop-high.invariant.shown);
       })
   | in-Open w ↦ (let events = c.args.events.now in
-      let mid = c.loop-high.low + (c.loop-high.high - c.loop-high.low) / 2 in
+      let mid = c.middle-mid.result in
+      let above = c.middle-mid.ensures.above in
+      let below = c.middle-mid.ensures.below in
       let low = w.low-is in
       let high = w.high-is in
       let test = c.loop-high-test.true in
@@ -82,10 +86,12 @@ loop-high-preserved-after-branch-2 c = elim c.match-branch-2.branch [
 
 pub returns : goal.returns
 returns c =
-    (let one : c.loop-high.low + 1 ≡ c.loop-high.high = omega (arith, c.loop-high.invariant.apart, c.loop-high-test.false) in
+    (let one : c.loop-high.low + 1 ≡ c.loop-high.high =
+    omega (arith, c.loop-high.invariant.apart, c.loop-high-test.false) in
     record {
       within = omega (arith, c.loop-high.invariant.within);
-      shows = subst (λ n. ShowsUndecided (past_at n c.args.events.now) c.loop-high.undecided) (sym one) c.loop-high.invariant.shown;
+      shows = subst (λ n. ShowsUndecided (past_at n c.args.events.now) c.loop-high.undecided)
+          (sym one) c.loop-high.invariant.shown;
       before = λ j le. orders_before Cell c.loop-high.low j c.args.events.now le
           (history_at Cell c.loop-high.low c.args.events.now c.requires.history)
           c.loop-high.invariant.good;

@@ -1,5 +1,5 @@
--- A fault leaves no linearization.
-use Rattle.std.proofs.Common.{ℕ, ◌≤◌, inl, inr, List, Some, refl, arith}
+-- A fault leaves no order.
+use Rattle.std.proofs.Common.{ℕ, ◌≤◌, List, Some, inl, inr, refl, arith}
 use Rattle.calls_core.specs.declared.history.Kind.TheVariants.{Cell}
 use Rattle.calls_core.specs.declared.history.Event.{Event}
 use Rattle.calls_core.specs.declared.history.Call.{Call}
@@ -14,17 +14,17 @@ use Rattle.calls_cells.specs.declared.outcome.Fault.{Fault}
 use Rattle.calls_cells.specs.declared.outcome.Fault.TheVariants.{Distinct, Serial}
 use Rattle.calls_cells.specs.Faults.{Shows, HasFault}
 
-pub no_order : (past : List Event) (t : ℕ) (cs : List Call) → IsHistoryOf Cell past
-    → clock past ≤ t → HasFault past → IsOrderOf Cell past t cs → ⊥
-no_order past t cs h le (inl f) l =
-    distinct.no_order (completed_calls past) (pending_calls past) t (clock past) f.0
+pub no_order : (past : List Event) (t : ℕ) (cs : List Call) → IsHistoryOf Cell past → clock past ≤ t
+    → HasFault past → IsOrderOf Cell past t cs → ⊥
+no_order past t cs h le (inl (f, s)) l =
+    distinct.no_order (completed_calls past) (pending_calls past) t (clock past) f
     (initial (Some Cell)) cs
     (accesses_of Cell (completed_calls past) (pending_calls past) (clock past) (clock past) tt
     (omega arith) (are_calls_of Cell past h))
-    (zero_first Cell tt) f.1 l
-no_order past t cs h le (inr f) l =
+    (zero_first Cell tt) s l
+no_order past t cs h le (inr (gets, s)) l =
     serial.no_order (completed_calls past) (pending_calls past) (clock past) t
-    (are_calls_of Cell past h) le cs (λ i. 0) refl l f.0 f.1
+    (are_calls_of Cell past h) le cs (λ i. 0) refl l gets s
 
 pub shown : (past : List Event) (f : Fault) → Shows past f → HasFault past
 shown past (Distinct f) s = inl (f, s)

@@ -1,0 +1,88 @@
+//! What is found of each history.
+use crate::reading::{History, Line, read_line};
+use crate::writing::{write_misuse, write_stop, write_verdict};
+use calls_core::Event;
+use calls_monitor::watch;
+use calls_verdict::{decide, first_misuse, has_room};
+use std::alloc::Global;
+use std::io;
+use std::io::Write;
+
+/// What is asked of each history.
+#[derive(Clone, Copy, Debug, PartialEq, Eq)]
+pub enum Mode {
+    /// The verdict.
+    Decide,
+    /// Where the monitor stops.
+    Monitor,
+}
+
+impl Mode {
+    /// Reads it of a word.
+    pub fn of(word: &str) -> Option<Self> {
+        match word {
+            "decide" => Some(Mode::Decide),
+            "monitor" => Some(Mode::Monitor),
+            _ => None,
+        }
+    }
+}
+
+/// Judges a history, and writes what is found.
+fn judge<W: Write + Drop>(
+    alloc: Global,
+    mode: Mode,
+    history: &History,
+    out: &mut W,
+) -> io::Result<()> {
+    let kinds = history.kinds.as_slice();
+    let events = history.events.as_slice();
+    if let Some((index, misuse)) = first_misuse(alloc, kinds, events)? {
+        return write_misuse(out, index, misuse);
+    }
+    if !has_room(events) {
+        return writeln!(out, "no room");
+    }
+    match mode {
+        Mode::Decide => {
+            let verdict = decide(alloc, kinds, events)?;
+            write_verdict(out, &verdict)
+        }
+        Mode::Monitor => {
+            let stop = watch(alloc, kinds, events)?;
+            write_stop(out, stop.map(|stop| stop.index))
+        }
+    }
+}
+
+/// Judges each history of a text, and returns whether all of it was read.
+pub fn judge_all<W: Write + Drop>(
+    alloc: Global,
+    mode: Mode,
+    text: &str,
+    out: &mut W,
+) -> io::Result<bool> {
+    let mut history = History {
+        kinds: Vec::new(alloc),
+        events: Vec::new(alloc),
+    };
+    for part in text.lines() {
+        match read_line(alloc, part)? {
+            None => return Ok(false),
+            Some(Line::Run) => {}
+            Some(Line::Object(kind)) => history.kinds.push(kind)?,
+            Some(Line::Event(worker, action)) => {
+                let at = history.events.len();
+                history.events.push(Event { at, worker, action })?;
+            }
+            Some(Line::End) => {
+                judge(alloc, mode, &history, out)?;
+                history = History {
+                    kinds: Vec::new(alloc),
+                    events: Vec::new(alloc),
+                };
+            }
+        }
+    }
+    Ok(true)
+}
