@@ -46,7 +46,7 @@ fn try_both(alloc: Global, events: &[Event], end: usize) -> Result<Try, AllocErr
     }
 }
 
-/// Decides the longest beginning that can be decided, where all events cannot: by halving.
+/// Decides the longest beginning that can be decided, if all events cannot: by halving.
 fn decide_beginning(
     alloc: Global,
     events: &[Event],

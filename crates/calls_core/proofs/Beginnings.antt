@@ -77,7 +77,7 @@ answered_append t a (x ∷ xs) ys = ap (λ zs. answered_one t x (a x) ++ zs)
     (answered_append t a xs ys) ∙ sym (append_assoc (answered_one t x (a x)) (answered_calls t a xs)
     (answered_calls t a ys))
 
--- THE ANSWERS THAT STAND IN FRONT
+-- THE ANSWERS THAT ARE IN FRONT
 
 abbrev pub Returned : ℕ → Call → Type 0
 Returned m c = m ≤ c.last

@@ -18,8 +18,7 @@ abbrev pub HasOrderOf : Kind → List Event → Type 0
 HasOrderOf kind past = (cs : List Call) × IsOrderOf kind past (clock past) cs
 
 -- the event at index i is the first faulty one: with it the events show a fault, and each beginning
--- before it has a
--- linearization
+-- before it has a linearization
 pub record IsFirstFault (Shows : List Event → Type 0) (kind : Kind) (events : List Event)
     (i : ℕ) : Type 0 where
   pub within : i < length events

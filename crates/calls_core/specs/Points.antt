@@ -34,7 +34,7 @@ abbrev pub put_in : Placed → List Placed → List Placed
 put_in p [] = p ∷ []
 put_in p (q ∷ qs) = if nat_le p.point q.point then p ∷ q ∷ qs else q ∷ put_in p qs
 
--- in the order of points, and those of one point in the order in which they stood
+-- in the order of points, and those of one point in the order in which they were
 abbrev pub by_points : List Placed → List Placed
 by_points [] = []
 by_points (p ∷ ps) = put_in p (by_points ps)

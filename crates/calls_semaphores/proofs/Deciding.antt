@@ -306,7 +306,7 @@ module _ (units : Vec ℕ Global) where
                 (subst (IsKept units past t) s.is k.1),
           )
 
-      -- with the units that it takes it stands at the end
+      -- with the units that it takes it is at the end
       pub has_other : is_v o.op ≡ false → ((i : ℕ) → took i o.op r ≡ true
           → units_taken i past < first i + units_added i past) → HasKept past → HasKept (x ∷ past)
       has_other v units_are kept = λ t le.
