@@ -72,7 +72,8 @@ module _ (past : List Event) where
         (let r = some_one (gets v) (completed_calls past) (leb-true 1 _ got) in
         let is = (gets_parts v r.0 r.2).1 in
         subst (IsDistinct (completed_calls past) (pending_calls past)) is
-        (each_at GotOnce (completed_calls past) r.0 each r.1 (subst (λ w. is_got (completed_calls past) w ≡ true) (sym is) got))))
+        (each_at GotOnce (completed_calls past) r.0 each r.1
+            (subst (λ w. is_got (completed_calls past) w ≡ true) (sym is) got))))
   ]
 
 -- PUTS
@@ -115,10 +116,12 @@ module _ (calls : List PendingCall) where
 
   pub pairs : ((o p : PendingCall) → AreBothPending calls o p → ⊥)
       ⊎ ((o : PendingCall) × (p : PendingCall) × AreBothPending calls o p)
-  pairs = elim (each_or_one Alone (λ (o : PendingCall). (p : PendingCall) × AreBothPending calls o p)
+  pairs = elim (each_or_one Alone (λ (o : PendingCall). (p : PendingCall)
+      × AreBothPending calls o p)
       calls one) [
         | inr r ↦ inr (r.0, r.2.0, r.2.1)
-        | inl each ↦ inl (λ o p b. each_at (λ (p : PendingCall). AreBothPending calls o p → ⊥) calls p
+        | inl each ↦ inl (λ o p b. each_at (λ (p : PendingCall). AreBothPending calls o p
+            → ⊥) calls p
             (each_at Alone calls o each b.one) b.other b)
       ]
     where

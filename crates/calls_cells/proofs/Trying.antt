@@ -1,5 +1,6 @@
 -- What is found of a beginning, and what it says of all events.
-use Rattle.std.proofs.Common.{◌≡◌, ℕ, zero, suc, ◌+◌, ◌<◌, ◌≤◌, List, [], ◌∷◌, ◌++◌, length, take, drop, reverse}
+use Rattle.std.proofs.Common.{◌≡◌, ℕ, zero, suc, ◌+◌, ◌<◌, ◌≤◌, List, [], ◌∷◌, ◌++◌, length, take}
+use Rattle.std.proofs.Common.{drop, reverse}
 use Rattle.std.proofs.Common.{Some, None, refl, ap, sym, ◌∙◌, arith, subst}
 use Rattle.std.specs.List.{AllPairs, Contains}
 use Rattle.std.proofs.lemmas.List.Sorted.{IsPermutation-refl}
@@ -94,7 +95,8 @@ pub some_events : (events : List Event) (o p : PendingCall) → DoOverlap (rever
     → 0 < length events
 some_events [] o p h = absurd (none h.late h.earlier h.is h.both.one)
   where
-    none : (late earlier : List Event) → [] ≡ late ++ earlier → Contains (pending_calls earlier) o → ⊥
+    none : (late earlier : List Event) → [] ≡ late ++ earlier → Contains (pending_calls earlier) o
+        → ⊥
     none [] [] is one = (let lt : one.0 < 0 = one.1 in omega arith)
     none [] (x ∷ earlier) is one = cc
     none (y ∷ late) earlier is one = cc

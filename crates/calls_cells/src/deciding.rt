@@ -75,8 +75,8 @@ fn decide_beginning(
     Ok(Outcome::Undecided(low, undecided))
 }
 
-/// Decides whether the calls of a cell have a linearization: its values were put once each, or no
-/// two of its puts overlap, or nothing is decided. A database is decided in the same way.
+/// Decides whether the calls of a cell have a linearization, if no value that was got was put
+/// twice, or no two puts overlap. A database is decided in the same way.
 pub fn decide(alloc: Global, events: &[Event], end: usize) -> Result<Outcome, AllocError>
     requires history { IsHistoryOf Cell (reverse events.now) }
     requires late { clock (reverse events.now) ≤ end }

@@ -1,4 +1,5 @@
-use Rattle.std.proofs.Common.{◌≡◌, ◌+◌, ◌-◌, ◌/◌, ◌<◌, ◌≤◌, length, take, reverse, arith, subst, ap, sym}
+use Rattle.std.proofs.Common.{◌≡◌, ◌+◌, ◌-◌, ◌/◌, ◌<◌, ◌≤◌, length, take, reverse, arith, subst, ap}
+use Rattle.std.proofs.Common.{sym}
 use Rattle.std.proofs.lemmas.List.{take_all}
 use Rattle.calls_core.specs.declared.history.Kind.TheVariants.{Cell}
 use Rattle.calls_core.specs.Histories.{clock}
@@ -37,7 +38,8 @@ try_both-requires-clause-late c =
 pub returns-in-Refused : goal.returns-in-Refused
 returns-in-Refused c =
     (let mid = c.loop-high.low + (c.loop-high.high - c.loop-high.low) / 2 in
-    let found : IsTry (take mid c.args.events.now) c.args.end (Refused c.in-Refused.i c.in-Refused.fault) =
+    let found : IsTry (take mid c.args.events.now) c.args.end
+        (Refused c.in-Refused.i c.in-Refused.fault) =
     subst (IsTry (take mid c.args.events.now) c.args.end) c.in-Refused.is c.in_ok-i.ensures in
     fault_longer (λ past. Shows past c.in-Refused.fault) Cell mid c.in-Refused.i c.args.events.now
     found)
@@ -82,10 +84,12 @@ loop-high-preserved-after-branch-2 c = elim c.match-branch-2.branch [
 
 pub returns : goal.returns
 returns c =
-    (let one : c.loop-high.low + 1 ≡ c.loop-high.high = omega (arith, c.loop-high.invariant.apart, c.loop-high-test.false) in
+    (let one : c.loop-high.low + 1 ≡ c.loop-high.high =
+        omega (arith, c.loop-high.invariant.apart, c.loop-high-test.false) in
     record {
       within = omega (arith, c.loop-high.invariant.within);
-      shows = subst (λ n. ShowsUndecided (past_at n c.args.events.now) c.loop-high.undecided) (sym one) c.loop-high.invariant.shown;
+      shows = subst (λ n. ShowsUndecided (past_at n c.args.events.now) c.loop-high.undecided)
+          (sym one) c.loop-high.invariant.shown;
       before = λ j le. orders_before Cell c.loop-high.low j c.args.events.now le
           (history_at Cell c.loop-high.low c.args.events.now c.requires.history)
           c.loop-high.invariant.good;

@@ -32,7 +32,8 @@ returns-then-not-is_v-clause-step c = λ is units past h le k.
       place = n;
     } ∷ []) place c.in_ok-push.ensures.items) in
     scan_invoked_other units c.args.event past h s new le k refl c.args.object c.args.op is pending
-    c.add.ensures.same (c.add.ensures.value c.requires) (sym c.is_v.ensures ∙ c.if-not-is_v.true) refl)
+    c.add.ensures.same (c.add.ensures.value c.requires) (sym c.is_v.ensures ∙ c.if-not-is_v.true)
+        refl)
 
 pub returns-clause-step : goal.returns-clause-step
 returns-clause-step c = λ is units past h le k.
@@ -65,4 +66,5 @@ returns-clause-step c = λ is units past h le k.
     ∙ ap (λ (z : PendingCall). s.order.items ++ completion s.end Done z ∷ [])
     c.invoked_by-call.ensures in
     scan_invoked_v units c.args.event past h s new le k refl c.args.object c.args.op is pending
-    c.add.ensures.same (c.add.ensures.value c.requires) (sym c.is_v.ensures ∙ c.if-not-is_v.false) order)
+    c.add.ensures.same (c.add.ensures.value c.requires) (sym c.is_v.ensures ∙ c.if-not-is_v.false)
+        order)
