@@ -4,9 +4,9 @@ use calls_core::{Call, PendingCall};
 /// Why the calls have no linearization.
 #[derive(Debug, Drop)]
 pub enum Fault {
-    /// The values were put once each, and show this.
+    /// A fault of the form that calls_distinct finds, shown by the events up to this one.
     Distinct(calls_distinct::Fault),
-    /// No two puts overlap, and the gets show this.
+    /// A fault of the form that calls_serial finds, shown by the events up to this one.
     Serial(calls_serial::Fault),
 }
 

@@ -77,7 +77,7 @@ answered_append t a (x ∷ xs) ys = ap (λ zs. answered_one t x (a x) ++ zs)
     (answered_append t a xs ys) ∙ sym (append_assoc (answered_one t x (a x)) (answered_calls t a xs)
     (answered_calls t a ys))
 
--- THE ANSWERS THAT STAND IN FRONT
+-- THE ANSWERS THAT ARE IN FRONT
 
 abbrev pub Returned : ℕ → Call → Type 0
 Returned m c = m ≤ c.last
@@ -291,7 +291,7 @@ module _ (Run : List Call → Type 0) (still : (m t : ℕ) (cs : List Call) → 
           let d = drawn c (answered_calls u l.answer pending ++ done) cs front in
           in_front_of c d.front d.back refl d.is d.rest)
 
-  -- where the call that responded last has none yet
+  -- if the call that responded last has none yet
   responded : (m u n w : ℕ) (o : PendingCall) (r : Reply) (done : List Call)
       (pending : List PendingCall) (cs : List Call) → m ≤ n → m ≤ u → pending_of w pending ≡ Some o
       → AreBefore m done pending

@@ -72,7 +72,7 @@ count_every p (x ∷ xs) h =
           p xs (All-tail (λ x. p x ≡ true) x xs h),
     )
 
--- an element of a list, and what stands before and after it
+-- an element of a list, and what is before and after it
 pub record Split {X : Type 0} (ys : List X) (x : X) : Type 0 where
   pub front : List X
   pub back : List X

@@ -114,7 +114,7 @@ module _ {X : Type 0} (x : X) where
       (λ ls bs cs k l. (IsPermutation-trans ls bs cs k.0 l.0, chain_from ls bs cs k l))
       (x ∷ xs) ys h).1 [] xs refl
 
--- x stands in the first of two lists, or in the second
+-- x is in the first of two lists, or in the second
 pub record InFirst {X : Type 0} (u : List X) (x : X) (v xs ys : List X) : Type 0 where
   pub between : List X
   pub first : xs ≡ u ++ x ∷ between

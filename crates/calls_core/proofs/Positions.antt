@@ -45,7 +45,7 @@ each_call_by Q w (y ∷ os) o h e =
       | false ↦ λ is. each_call_by Q w os o h.1 is
     ] e
 
--- HISTORIES, where Fits says what an object takes
+-- HISTORIES, if Fits says what an object takes
 
 abbrev pub IsNextBy : (ℕ → Op → Type 0) → Action → Option PendingCall → Type 0
 IsNextBy Fits (Invoke k op) None = Fits k op

@@ -69,6 +69,6 @@ known_at t c = with_last c (min c.last t)
 abbrev pub settled_last : ℕ → ℕ → ℕ → ℕ
 settled_last m t n = if nat_lt n m then n else t
 
--- the call, where a response from position m on counts as one at t
+-- the call; if its response is at position m or later, that counts as one at t
 abbrev pub settled : ℕ → ℕ → Call → Call
 settled m t c = with_last c (settled_last m t c.last)

@@ -122,7 +122,7 @@ IsHistory kinds (x ∷ past) =
 
 -- THE PART ON ONE OBJECT
 
--- whether an event is one of a call of object k, where its worker has this pending call
+-- whether an event is one of a call of object k, if its worker has this pending call
 abbrev pub is_on : ℕ → Action → Option PendingCall → Bool
 is_on k (Invoke j op) o = j == k
 is_on k (Respond r) None = false
@@ -144,7 +144,8 @@ IsNextOf kind (Invoke k op) (Some o) = ⊥
 IsNextOf kind (Respond r) None = ⊥
 IsNextOf kind (Respond r) (Some o) = Suits o.op r
 
--- a history of the calls of one object of this kind
+-- a history of the calls of one object of this kind. The events may name any object index: each is
+-- taken as one of this object
 abbrev pub IsHistoryOf : Kind → List Event → Type 0
 IsHistoryOf kind [] = Unit {0}
 IsHistoryOf kind (x ∷ past) =

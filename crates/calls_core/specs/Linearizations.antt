@@ -16,8 +16,7 @@ use Rattle.calls_core.specs.declared.history.Call.{Call}
 use Rattle.calls_core.specs.Histories.{clock, completion, pending_calls, completed_calls}
 
 -- THE SEQUENTIAL SPECIFICATION: each object has numbers m, and each call is one step. An
--- eventcount, a sequencer and a
--- cell use m 0 alone; semaphores have one each.
+-- eventcount, a sequencer and a cell use only m 0; semaphores have one each.
 
 -- whether an object with the numbers m may give this reply
 abbrev pub Gives : (ℕ → ℕ) → Op → Reply → Type 0
@@ -66,7 +65,7 @@ initial _ i = 0
 abbrev pub start : List Kind → ℕ → ℕ → ℕ
 start kinds k = initial (slice_get kinds k)
 
--- the same for the calls of all objects, where s gives the numbers of each
+-- the same for the calls of all objects, if s gives the numbers of each
 abbrev pub IsRun : (ℕ → ℕ → ℕ) → List Call → Type 0
 IsRun s [] = Unit {0}
 IsRun s (c ∷ cs) =
@@ -78,7 +77,7 @@ IsRun s (c ∷ cs) =
 abbrev pub Precedes : Call → Call → Type 0
 Precedes a b = a.last < b.first
 
--- a may stand before b
+-- a may be before b
 abbrev pub KeepsOrder : Call → Call → Type 0
 KeepsOrder a b = Precedes b a → ⊥
 

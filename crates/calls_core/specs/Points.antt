@@ -8,16 +8,15 @@ use Rattle.calls_core.specs.declared.history.Placed.{Placed}
 use Rattle.calls_core.specs.Lists.{Each, EachPair}
 use Rattle.calls_core.specs.Linearizations.{set_at, IsLinearOrder}
 
--- the point of a call is right after the latest invocation among those of its object that stand up
--- to it. s has the
--- point of the last call of each object
+-- the point of a call is right after the latest invocation among those of its object's calls up to
+-- it. s has the point of the last call of each object
 abbrev pub placed : (ℕ → ℕ) → List Call → List Placed
 placed s [] = []
 placed s (c ∷ cs) =
     record { point = max (s c.object) (c.first + 1); call = c } ∷
     placed (set_at c.object (max (s c.object) (c.first + 1)) s) cs
 
--- the same of the calls of one object, where n is the point of the last one
+-- the same of the calls of one object, if n is the point of the last one
 abbrev pub placed_one : ℕ → List Call → List Placed
 placed_one n [] = []
 placed_one n (c ∷ cs) =
@@ -35,7 +34,7 @@ abbrev pub put_in : Placed → List Placed → List Placed
 put_in p [] = p ∷ []
 put_in p (q ∷ qs) = if nat_le p.point q.point then p ∷ q ∷ qs else q ∷ put_in p qs
 
--- in the order of points, and those of one point in the order in which they stood
+-- in the order of points, and those of one point in the order in which they were
 abbrev pub by_points : List Placed → List Placed
 by_points [] = []
 by_points (p ∷ ps) = put_in p (by_points ps)

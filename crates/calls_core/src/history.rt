@@ -1,6 +1,6 @@
 //! What is recorded of a program's calls, and the calls of it.
 
-/// How many calls a monitor can follow at a time, and so how many workers.
+/// How many calls may be pending at once in a monitor.
 pub const WORKERS: usize = 64;
 
 /// What an object is.
@@ -111,8 +111,9 @@ pub struct Call {
 /// A call and its linearization point.
 #[derive(Clone, Copy, Debug, Default, PartialEq, Eq)]
 pub struct Placed {
-    /// The point: the call takes effect right before the event at this position. It is greater
-    /// than the position of the call's invocation, and at most that of its response.
+    /// The point: the call takes effect after every event at a lower position, and before every
+    /// event at this or a higher one. It is greater than the position of the call's invocation, and
+    /// at most that of its response.
     pub point: usize,
     /// The call.
     pub call: Call,

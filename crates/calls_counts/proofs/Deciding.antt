@@ -152,7 +152,7 @@ ordered start past end begun slots reads pending cs history is k o =
 
 -- THE END OF EACH BEGINNING
 
--- the first slot that is free from place n on, where the first of these is at place i
+-- the first slot that is free from place n on, if the first of these is at place i
 pub record First (n i : ℕ) (slots : List Slot) : Type 0 where
   pub front : List Slot
   pub slot : Slot

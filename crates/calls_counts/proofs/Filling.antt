@@ -228,7 +228,7 @@ state_filled_by start calls t v a xs s ys before u behind reads c le past moment
     both [] y z ys h k = tt
     both (x ∷ xs) y z ys h k = ((h.0, k.0.1), both xs y z ys h.1 k.1)
 
--- the same, where the advance has its response after all moments
+-- the same, if the advance has its response after all moments
 pub state_filled : (start : ℕ) (calls : List Call) (t a : ℕ) (xs : List Slot) (s : Slot)
     (ys : List Slot) (before : List Noted) (u : Noted) (behind : List Noted)
     (reads : List PlacedRead) (c : Call)

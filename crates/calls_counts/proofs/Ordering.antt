@@ -316,7 +316,7 @@ from_zero (p ∷ reads) = ap (λ b. cond b (p ∷ filter (λ (q : PlacedRead). n
 
 -- THE WHOLE
 
--- where no pending advance may take a free slot, no slot is free
+-- if no pending advance may take a free slot, no slot is free
 pub all_taken : (f : ℕ → ℕ) (n i : ℕ) (slots : List Slot) → EachFrom (λ j (s : Slot). s.taken ≡ None
     → f j ≡ 0) i slots → Enough f n i slots → Each (λ (s : Slot). free s.taken ≡ false) slots
 all_taken f n i [] e h = tt

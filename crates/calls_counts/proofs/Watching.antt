@@ -458,6 +458,7 @@ taken_by start past new e history w = record {
   watches = subst (λ z. Watching z past new.begun new.total new.free.items new.pending.items)
       (sym e) w;
   order = watched_order start past new.begun new.total new.free.items new.pending.items history w;
+  begun = w.holds.begun_is;
   counted = total_few start past new.begun new.total new.free.items new.pending.items w;
 }
 

@@ -97,7 +97,7 @@ pub record FromSince (past : List Event) (c s : Call) : Type 0 where
   pub fewer : number < least s.op s.reply
       + made_between (s.last + 1) c.first (completed_calls past)
 
--- what is so where a fault is shown, of an eventcount that is start at first
+-- what is so if a fault is shown, of an eventcount that is start at first
 abbrev pub Shows : ℕ → List Event → Fault → Type 0
 Shows start past (Below c) = FromBelow past c
 Shows start past (Few c) = FromFew start past c

@@ -23,7 +23,7 @@ AFaultLeavesNoOrder =
     → IsHistoryOf (Eventcount start) past → Shows start past f
     → IsOrderOf (Eventcount start) past t cs → ⊥
 
--- a history has a linearization, or shows a fault; and not both, by the first law
+-- a history has a linearization, or shows a fault; and not both, by the first theorem
 abbrev pub EveryHistoryIsDecided : Type 0
 EveryHistoryIsDecided =
     (start : ℕ) (past : List Event) → IsHistoryOf (Eventcount start) past

@@ -19,19 +19,22 @@ use Rattle.calls_counts.specs.Watching.{Watching}
 abbrev pub Watches : List Event → Monitor → Type 0
 Watches past m = Watching m.start past m.begun m.total m.free.items m.pending.items
 
+-- the monitor of an eventcount that is start at first, before any event
 abbrev pub Starts : ℕ → Monitor → Type 0
-Starts start m = (m.start ≡ start) × Watches [] m
+Starts start m = (m.start ≡ start) × Watches [] m × (m.begun ≡ 0) × (m.total ≤ m.begun)
 
 -- an invocation needs room for one more pending call
 abbrev pub HasRoom : Action → ℕ → Type 0
 HasRoom (Invoke k op) n = n < WORKERS
 HasRoom (Respond r) n = Unit {0}
 
--- it has seen the longer past, and that has a linearization
+-- it has seen the longer past, and that has a linearization. So `begun` is at most the number of
+-- events: as long as there are fewer than 2^64 - 1, it leaves room for the next one
 pub record IsTaken (start : ℕ) (past : List Event) (new : Monitor) : Type 0 where
   pub same : new.start ≡ start
   pub watches : Watches past new
   pub order : HasOrderOf (Eventcount start) past
+  pub begun : new.begun ≡ advances_invoked past
   pub counted : new.total ≤ new.begun
 
 abbrev pub refused_call : Refusal → Call

@@ -23,7 +23,7 @@ order_from k [] reads = reads_at k reads
 order_from k (s ∷ slots) reads = reads_at k reads ++ (option_to_list s.taken ++ order_from
     (k + 1) slots reads)
 
--- the calls in that order, where the reads of one place keep their order
+-- the calls in that order, in which the reads of one place keep their order
 pub record IsOrdering (slots : List Slot) (reads : List PlacedRead) (cs : List Call) : Type 0 where
   pub sorted : List PlacedRead
   pub moved : IsPermutation reads sorted

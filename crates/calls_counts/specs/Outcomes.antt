@@ -7,8 +7,8 @@ use Rattle.calls_counts.specs.declared.outcome.Outcome.{Outcome}
 use Rattle.calls_counts.specs.declared.outcome.Outcome.TheVariants.{Ordered, Refused}
 use Rattle.calls_counts.specs.Faults.{Shows}
 
--- of an eventcount that is start at first, where a pending call that took effect has its response
--- at end
+-- of an eventcount that is start at first, if a pending call that took effect has its response at
+-- end
 abbrev pub IsOutcome : ℕ → List Event → ℕ → Outcome → Type 0
 IsOutcome start events end (Ordered v) =
     IsOrderOf (Eventcount start) (reverse events) end v.items

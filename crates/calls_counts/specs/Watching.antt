@@ -1,4 +1,4 @@
--- How a monitor's fields stand for the events so far, and what its parts do. Only the proofs use
+-- How a monitor's fields represent the events so far, and what its parts do. Only the proofs use
 -- this.
 use Rattle.std.specs.Prelude.{◌≡◌, ℕ, zero, suc, ◌+◌, ◌-◌, ◌<◌, ◌≤◌, max, List, [], ◌∷◌, ◌++◌}
 use Rattle.std.specs.Prelude.{length, Option, Some, None, get_or, Result, Ok, Err}
@@ -32,7 +32,7 @@ abbrev pub own_place : ℕ → Option Call → List ℕ → List ℕ
 own_place i None ps = i ∷ ps
 own_place i (Some c) ps = ps
 
--- the places of the free slots, where the first slot has place i
+-- the places of the free slots, if the first slot has place i
 abbrev pub free_places : ℕ → List Slot → List ℕ
 free_places i [] = []
 free_places i (s ∷ slots) = own_place i s.taken (free_places (i + 1) slots)

@@ -112,7 +112,7 @@ fn take_in(
 }
 
 /// Decides whether a history of an eventcount that is `start` at first has a linearization: returns
-/// one, or else the first faulty event and what shows that there is none. In the linearization the
+/// one, or the first faulty event and what shows that there is none. In the linearization the
 /// pending calls that took effect have their responses at `end`.
 pub fn decide(
     alloc: Global,

@@ -34,7 +34,7 @@ pub record IsPendingAccess (t : ℕ) (o : PendingCall) : Type 0 where
   pub access : IsAccess o.op
   pub early : o.first < t
 
--- the calls up to position t, where no call begins at the position at which another ends
+-- the calls up to position t, if no call begins at the position at which another ends
 pub record AreAccesses (done : List Call) (pending : List PendingCall) (t : ℕ) : Type 0 where
   pub completed : Each (IsCompletedAccess t) done
   pub invoked : Each (IsPendingAccess t) pending

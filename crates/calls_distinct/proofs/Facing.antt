@@ -1,4 +1,4 @@
--- Where zones can't be in order, two values alternate or a 0 is stale.
+-- If zones can't be in order, two values alternate or a 0 is stale.
 use Rattle.std.proofs.Common.{◌≡◌, ◌≢◌, ℕ, ◌<◌, ◌≤◌, ◌⊎◌, inl, inr, min, max, not}
 use Rattle.std.proofs.Common.{Bool, true, false, cond, ◌==◌, List}
 use Rattle.std.proofs.Common.{refl, ap, sym, ◌∙◌, arith, subst}

@@ -93,7 +93,7 @@ put_value v (P i) r p = (let no : false ≡ true = p in cc)
 put_value v (V i) r p = (let no : false ≡ true = p in cc)
 put_value v (PBoth i j) r p = (let no : false ≡ true = p in cc)
 
--- where v is not stored and not put, nothing has it
+-- if v is not stored and not put, nothing has it
 never : (v s k : ℕ) (d : Call) (cs : List Call) → s ≢ v → count_by (put_call v) cs ≡ 0 → Stores s cs
     → k < length cs → value (get_or cs k d) ≡ v → ⊥
 never v s k d [] ne none run lt e = omega arith
@@ -123,9 +123,9 @@ behind v s (suc j) (suc k) d (c ∷ cs) run none a lt z y =
     behind v (value c) j k d cs run.1 (omega (arith, none, count_cons (put_call v) c cs))
     (omega arith) (omega arith) z y
 
--- A VALUE'S CALLS STAND TOGETHER
+-- A VALUE'S CALLS ARE TOGETHER
 
--- v is put once at most, and not where it is stored
+-- v is put once at most, and not at all if it is stored
 record IsOnce (v s : ℕ) (cs : List Call) : Type 0 where
   most : count_by (put_call v) cs ≤ 1
   stored : s ≡ v → count_by (put_call v) cs ≡ 0
@@ -157,7 +157,7 @@ together v s (suc i) (suc j) (suc k) d (c ∷ cs) run o a b lt x z y =
     together v (value c) i j k d cs run.1 (once_next v s c cs run.0 o) (omega arith) (omega arith)
     (omega arith) x z y
 
--- a get of a value that is not stored stands behind a put of it
+-- a get of a value that is not stored is after a put of it
 put_before : (v s : ℕ) (xs : List Call) (g : Call) (ys : List Call) → s ≢ v → is_put g.op ≡ false
     → value g ≡ v → Stores s (xs ++ g ∷ ys) → 0 < count_by (put_call v) xs
 put_before v s [] g ys ne get e run = elim run.0 [
@@ -344,7 +344,7 @@ module _ (done : List Call) (pending : List PendingCall) (t u : ℕ)
         count_append (put_by (value g) g.last) s.front (g ∷ s.back),
       )
 
-  -- a call stands before those that it precedes
+  -- a call is before those that it precedes
   stands_before : (a b : Call) (i j : ℕ) → i < length cs → j < length cs → get_or cs i a ≡ a
       → get_or cs j b ≡ b → Precedes a b → value a ≢ value b → i < j
   stands_before a b i j li lj ea eb fb ne =

@@ -1,5 +1,5 @@
 -- The calls of a cell by their values: Put v stores v, and Get returns what is stored, at first 0.
--- A database goes by the same words, where a value stands for a list.
+-- A database goes by the same words: there a value represents a list.
 use Rattle.std.specs.Prelude.{◌≡◌, ◌≢◌, ◌⊎◌, ℕ, ◌+◌, ◌≤◌, Bool, true, false, ◌&&◌, not, ◌==◌}
 use Rattle.std.specs.Prelude.{nat_le, count_by, List}
 use Rattle.std.specs.List.{Contains}
@@ -109,7 +109,7 @@ pub record IsStale (done : List Call) (pending : List PendingCall) (c g : Call) 
   pub never : times done pending 0 ≡ 0
   pub before : Precedes c g
 
--- a pending put, with a response at any later position
+-- a pending put, with a response at any position
 pub record IsPendingPut (pending : List PendingCall) (c : Call) : Type 0 where
   pub o : PendingCall
   pub there : Contains pending o

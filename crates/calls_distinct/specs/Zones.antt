@@ -37,7 +37,7 @@ all_of done pending t = answered_calls t (store_answer done) pending ++ done
 
 -- ZONES
 
--- where these are all calls that take effect
+-- if these are all calls that take effect
 pub record IsZone (all done : List Call) (z : Zone) : Type 0 where
   pub known : Contains all z.call
   pub known_early : Contains all z.early
@@ -71,7 +71,7 @@ zone_cmp x y =
     ordering_then (nat_cmp (key x) (key y)) (ordering_then (nat_cmp (value x.call) (value y.call))
     (nat_cmp (rank x.call) (rank y.call)))
 
--- x may stand before y: by keys, then by values, then by ranks
+-- x may be before y: by keys, then by values, then by ranks
 pub record NotAfter (x y : Zone) : Type 0 where
   pub keys : key x ≤ key y
   pub values : key x ≡ key y → value x.call ≤ value y.call
@@ -83,7 +83,7 @@ pub record AreSorted (all done : List Call) (zs : List Zone) : Type 0 where
   pub sorted : EachPair NotAfter zs
   pub moved : IsPermutation all (zone_calls zs)
 
--- two that stand the wrong way round
+-- two that are in the wrong order
 pub record AreCrossed (zs : List Zone) (x z : Zone) : Type 0 where
   pub known_x : Contains zs x
   pub known_z : Contains zs z

@@ -9,8 +9,8 @@ pub enum Fault {
     /// The first, of another value, precedes the second, a get that returned 0; and 0 was not put.
     Stale(Call, Call),
     /// Two values alternate: the first precedes the second, and the third the fourth; the first
-    /// and the fourth have one value, the second and the third another. Of a pending put among
-    /// them the response counts as one after all events.
+    /// and the fourth have one value, the second and the third another. The second and the fourth
+    /// may be pending puts: their responses mean nothing.
     Alternate(Call, Call, Call, Call),
 }
 
@@ -22,7 +22,7 @@ pub enum Outcome {
     /// They have none: the event at this index is the first with which they show a fault, this
     /// one.
     Refused(usize, Fault),
-    /// A get returned this value, which was put twice, or is 0 and was put. The invocation of its
-    /// latest put is at this position.
+    /// A get returned this value, which was put twice, or is 0 and was put. The invocation of a
+    /// put of it is at this position.
     Repeated(usize, usize),
 }

@@ -1,4 +1,4 @@
-//! Whether calls stand after some that they precede.
+//! Whether calls are after some that they precede.
 ghost use Rattle.std.specs.Prelude.{◌≡◌};
 ghost use Rattle.calls_core.specs.Lists.{EachPair};
 ghost use Rattle.calls_distinct.specs.Zones.{NotAfter, crossing_fault, IsCrossing, latest};
@@ -7,7 +7,7 @@ use crate::Fault;
 use crate::reading::gets;
 use crate::zone::Zone;
 
-/// Returns what two calls show that stand the wrong way round.
+/// Returns what two calls show that are in the wrong order.
 pub(crate) fn crossing_fault(x: &Zone, z: &Zone) -> Fault
     ensures { result ≡ crossing_fault x.now z.now }
 {

@@ -40,7 +40,7 @@ fn judge_beginning(alloc: Global, events: &[Event], n: usize) -> Result<Verdict,
     judge(alloc, &zs, end)
 }
 
-/// Finds the first event with which the events show a fault, where all of them show one.
+/// Finds the first event with which the events show a fault, if all of them show one.
 fn first_fault(alloc: Global, events: &[Event], fault: Fault) -> Result<(usize, Fault), AllocError>
     requires store { IsStoreHistory (reverse events.now) }
     requires distinct { IsDistinctHistory (reverse events.now) }
@@ -66,7 +66,7 @@ fn first_fault(alloc: Global, events: &[Event], fault: Fault) -> Result<(usize, 
 }
 
 /// Decides whether the calls of one cell, or of one database, have a linearization. It says
-/// nothing where a value was got that was put twice, or 0 was put and got.
+/// nothing if a value was got that was put twice, or 0 was put and got.
 ///
 /// The events are those of its calls, in order, and `end` is a position after all of them.
 pub fn decide(alloc: Global, events: &[Event], end: usize) -> Result<Outcome, AllocError>

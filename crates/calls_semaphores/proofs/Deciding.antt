@@ -236,8 +236,8 @@ module _ (units : Vec ℕ Global) where
         elim x.action as (λ a. x.action ≡ a → Shows (Semaphores units) (x ∷ past) f) [
           | Invoke k op ↦ λ e. shows_invoke k op e
           | Respond r ↦ λ e. elim (pending_of x.worker (pending_calls past)) as (λ p.
-              pending_of x.worker (pending_calls past) ≡ p
-              → Shows (Semaphores units) (x ∷ past) f) [
+              pending_of x.worker (pending_calls past) ≡ p → Shows (Semaphores units) (x ∷ past) f)
+                  [
                 | None ↦ λ q. absurd (no_pending x past h r e q)
                 | Some o ↦ λ q. shows_respond r o e q
               ] refl
@@ -307,7 +307,7 @@ module _ (units : Vec ℕ Global) where
                 (subst (IsKept units past t) s.is k.1),
           )
 
-      -- with the units that it takes it stands at the end
+      -- with the units that it takes it is at the end
       pub has_other : is_v o.op ≡ false → ((i : ℕ) → took i o.op r ≡ true
           → units_taken i past < first i + units_added i past) → HasKept past → HasKept (x ∷ past)
       has_other v units_are kept = λ t le.

@@ -304,7 +304,8 @@ module _ (units : Vec ℕ Global) (x : Event) (past : List Event) (h : IsHistory
         pub scan_refused : (new : Bank) (index : ℕ) → TakenAs old.bank new o.call.op r (Some index)
             → IsRefusedAt units past x (record { call = completion x.at r o.call; index = index })
         scan_refused new index short = refused units x past h r o.call is scan_found old.bank new
-            k.left index short
+            k.left
+            index short
 
         pub placed_within : is_v o.call.op ≡ true → o.place < length old.order.items
         placed_within v = slice_get_within old.order.items o.place (completion old.end Done o.call)

@@ -101,7 +101,7 @@ pub record IsKept (units : Vec ℕ Global) (past : List Event) (t : ℕ) (cs : L
   pub early : Each (λ (c : Call). c.first < clock past) cs
   pub fits : Each (λ (c : Call). Takes (Some (Semaphores units)) c.op) cs
 
--- a pending v stands at its place
+-- a pending v is at its place
 abbrev pub IsPlaced : ℕ → List Call → Open → Type 0
 IsPlaced t cs o = is_v o.call.op ≡ true → slice_get cs o.place ≡ Some (completion t Done o.call)
 

@@ -148,8 +148,8 @@ impl Scan {
     }
 }
 
-/// Decides whether the calls of a bank of semaphores have a linearization, where `end` is a
-/// position after all events.
+/// Decides whether the calls of a bank of semaphores have a linearization. `end` is a position
+/// after all events.
 pub fn decide(
     alloc: Global,
     units: &Vec<usize>,

@@ -47,7 +47,7 @@ StartsBy n c = c.first ≤ n
 abbrev pub EndsFrom : ℕ → Call → Type 0
 EndsFrom n c = n ≤ c.last
 
--- calls that began by a moment may stand before those that ended from it on
+-- calls that began by a moment may be before those that ended from it on
 across : (n : ℕ) (xs ys : List Call) → Each (StartsBy n) xs → Each (EndsFrom n) ys
     → Each (λ (x : Call). Each (KeepsOrder x) ys) xs
 across n [] ys h k = tt

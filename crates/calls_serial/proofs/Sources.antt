@@ -30,7 +30,7 @@ Access c = Takes (Some Cell) c.op
 
 -- A RUN
 
--- the get at index k returns the value at first, and no put stands before it
+-- the get at index k returns the value at first, and no put is before it
 record FromFirst (m v k : ℕ) (cs : List Call) (d : Call) : Type 0 where
   value : v ≡ m
   none : (j w : ℕ) → j < k → (get_or cs j d).op ≡ Put w → ⊥
@@ -192,7 +192,7 @@ module _ (done : List Call) (pending : List PendingCall) (u t : ℕ)
           subst (λ n. (get_or cs i d).last < (get_or cs n d).first) (sym same) lt in
           let long = lasting i a in omega arith)
 
-  -- a put invoked at b stands before index k
+  -- a put invoked at b is before index k
   record IsBefore (b k : ℕ) : Type 0 where
     index : ℕ
     value : ℕ
@@ -204,7 +204,7 @@ module _ (done : List Call) (pending : List PendingCall) (u t : ℕ)
   Before None k = Unit {0}
   Before (Some b) k = IsBefore b k
 
-  -- what p was overwritten by, or a put that took effect after p, would stand between them
+  -- what p was overwritten by, or a put that took effect after p, would be between them
   shut : (c : Call) (b : Option ℕ) (i k v : ℕ) → (at : k < length cs) → get_or cs k d ≡ c → i < k
       → Before b k → ((j w : ℕ) → i < j → j < k → (get_or cs j d).op ≡ Put w → ⊥)
       → IsShut done b c (get_or cs i d) → ⊥
@@ -227,7 +227,7 @@ module _ (done : List Call) (pending : List PendingCall) (u t : ℕ)
       (in_order i before.index (omega arith) within
       (let same = before.at in omega arith)) before.before before.put)
 
-  -- where the value at first is gone, some put stands before
+  -- if the value at first is gone, some put is before
   gone : (c : Call) (b : Option ℕ) (k : ℕ) → k < length cs → get_or cs k d ≡ c → Before b k
       → IsGone done b c → ((j w : ℕ) → j < k → (get_or cs j d).op ≡ Put w → ⊥) → ⊥
   gone c None k at is before g none =

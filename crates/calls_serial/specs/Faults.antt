@@ -25,7 +25,7 @@ abbrev pub IsEarlier : Call → Option ℕ → Type 0
 IsEarlier p None = ⊥
 IsEarlier p (Some b) = p.last < b
 
--- get c cannot return the value of the completed put p, where the put invoked at b takes effect
+-- get c cannot return the value of the completed put p, if the put invoked at b takes effect
 -- before c: p was invoked too late, or another put takes effect after it and before c
 abbrev pub IsShut : List Call → Option ℕ → Call → Call → Type 0
 IsShut done b c p = Precedes c p ⊎ (IsOverwritten done p c ⊎ IsEarlier p b)
@@ -36,8 +36,8 @@ IsGone done None c =
     (put : Call) × (v : ℕ) × Contains done put × (put.op ≡ Put v) × Precedes put c
 IsGone done (Some b) c = Unit {0}
 
--- get c cannot return the value of any put but the one that was invoked at f, if there is one,
--- where the put invoked at b takes effect before c, if there is one
+-- if the put invoked at b takes effect before c, get c cannot return the value of any put but the
+-- one that was invoked at f. There may be no b, and no f
 pub record HasOnly (done : List Call) (pending : List PendingCall) (b : Option ℕ) (c : Call)
     (f : Option ℕ) : Type 0 where
   pub value : ℕ
@@ -51,7 +51,7 @@ pub record HasOnly (done : List Call) (pending : List PendingCall) (b : Option �
   pub at_first : value ≡ 0 → IsGone done b c
 
 -- by these gets, the latest first, the put invoked at b takes effect before c: the latest of them
--- was completed before c was invoked, and can return the value of that put alone. With no gets
+-- was completed before c was invoked, and can return the value of only that put. With no gets
 -- there is no b
 abbrev pub Binds : List Call → List PendingCall → List Call → Call → Option ℕ → Type 0
 Binds done pending [] c b = b ≡ None
@@ -59,8 +59,8 @@ Binds done pending (d ∷ cs) c b =
     IsSome b × Precedes d c
     × ((e : Option ℕ) × Binds done pending cs d e × HasOnly done pending e d b)
 
--- by the gets behind it, the first of these gets, the latest first, can return the value of the
--- put invoked at f alone, or with no f none at all
+-- by the gets after it in this list, the latest first, the first one can return the value of only
+-- the put invoked at f, or with no f none at all
 abbrev pub Leaves : List Call → List PendingCall → List Call → Option ℕ → Type 0
 Leaves done pending [] f = ⊥
 Leaves done pending (c ∷ cs) f =

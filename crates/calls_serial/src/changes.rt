@@ -36,7 +36,7 @@ pub fn open_stage(
     Ok(())
 }
 
-/// Puts a get behind those that return the value at index `i`.
+/// Puts a get after those that return the value at index `i`.
 pub fn add_get(stages: &mut Vec<Stage>, i: usize, get: Call) -> Result<(), AllocError>
     requires { i < length stages.old.items }
     ensures { IfOk result (λ _. AddsGet stages.old.items stages.new.items i get) }
@@ -45,7 +45,7 @@ pub fn add_get(stages: &mut Vec<Stage>, i: usize, get: Call) -> Result<(), Alloc
     Ok(())
 }
 
-/// Puts a get behind those that return the value of a pending put, where there are `n` links. Says
+/// Puts a get after those that return the value of a pending put, if there are `n` links. Says
 /// whether it is the first of them, by which the put took effect.
 fn add_to_pending(stage: &mut Stage, get: Call, n: usize) -> Result<bool, AllocError>
     ensures { IfOk result (λ first. IsLate (held stage.old) (held stage.new) get n first) }

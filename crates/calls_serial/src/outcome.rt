@@ -5,9 +5,9 @@ use calls_core::{Call, PendingCall};
 /// Why the calls have no linearization.
 #[derive(Debug, Drop)]
 pub struct Fault {
-    /// Gets, the latest first. Each but the latest can return its value from one put alone, which
-    /// was pending at its response. So that put took effect by then, and the next get, which was
-    /// invoked later, cannot return the value before it. For the latest get no put is left.
+    /// Gets, the latest first. Each but the latest can return its value from only one put. So that
+    /// put took effect by its response, and the next get, which was invoked later, cannot return
+    /// the value before it. For the latest get no put is left.
     pub gets: Vec<Call>,
 }
 

@@ -96,7 +96,7 @@ fn begin(alloc: Global) -> Result<Pass, AllocError>
     })
 }
 
-/// Puts the calls of a stage behind others.
+/// Puts the calls of a stage after others.
 fn add_calls(calls: &mut Vec<Call>, stage: &Stage) -> Result<(), AllocError>
     ensures { IfOk result (λ _. calls.new.items ≡ calls.old.items ++ held_calls (held stage.now)) }
 {
@@ -130,8 +130,8 @@ fn outcome_of(i: usize, stop: Stop) -> Outcome
     }
 }
 
-/// Says whether a history of a cell has a linearization, with one, or else why it has none. Where
-/// two of its puts overlap it gives these.
+/// Says whether a history of a cell has a linearization: gives one, or why there is none. If two
+/// of its puts overlap, it may give these instead.
 pub fn decide(alloc: Global, events: &[Event], end: usize) -> Result<Outcome, AllocError>
     requires history { IsHistoryOf Cell (reverse events.now) }
     requires late { clock (reverse events.now) ≤ end }

@@ -13,7 +13,7 @@ use calls_core::{Call, Op, PendingCall};
 pub enum Found {
     /// The get may return the value of the stage at this index.
     At(usize),
-    /// It can return no value of a completed put. The link shows it, where one is needed.
+    /// It can return no value of a completed put. The link shows it, if one is needed.
     Shut(Option<usize>),
 }
 

@@ -12,7 +12,7 @@ pub struct Stage {
     pub value: usize,
     /// The latest moment at which the put can take effect.
     pub moment: usize,
-    /// The link that shows it, where it is earlier than the put's response.
+    /// The link that shows it, if it is earlier than the put's response.
     pub link: Option<usize>,
     /// The gets that return the value, in the order of their responses.
     pub gets: Vec<Call>,
@@ -24,7 +24,7 @@ pub struct Link {
     /// The get.
     pub get: Call,
     /// The link that shows that it cannot return the value before the put that was pending at its
-    /// invocation, where that matters.
+    /// invocation, if that matters.
     pub because: Option<usize>,
 }
 

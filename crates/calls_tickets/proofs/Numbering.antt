@@ -6,6 +6,7 @@ use Rattle.std.proofs.Common.{append_assoc}
 use Rattle.std.specs.List.{Contains, remove}
 use Rattle.std.proofs.lemmas.Bool.{cases_lt, le-leb, lt-leb, eq-eqb, ne_eqb}
 use Rattle.std.proofs.lemmas.List.Elements.{All-contains, Contains-append_right}
+use Rattle.calls_core.specs.declared.history.TheConstants.{WORKERS}
 use Rattle.calls_core.specs.declared.history.Call.{Call}
 use Rattle.calls_core.specs.Lists.{Each, EachPair}
 use Rattle.calls_core.proofs.Lists.{each_weaker, each_append, each_pair_append, all_from_each}
@@ -400,7 +401,7 @@ raised_more p i old now le is =
     (places_more p (i - p)) ∙ ap (places p) next)
 
 pub raised_full : (p i q : ℕ) (old now : List ℕ) → p ≤ i → i < q → now ≡ old ++ places p (i - p)
-    → length now ≡ 64 → (p < q → length old + (q - p) ≤ 64) → ⊥
+    → length now ≡ WORKERS → (p < q → length old + (q - p) ≤ WORKERS) → ⊥
 raised_full p i q old now le lt is full room =
-    let few : length old + (q - p) ≤ 64 = room (omega arith) in
+    let few : length old + (q - p) ≤ WORKERS = room (omega arith) in
     omega (arith, few, ap length is, length-append old (places p (i - p)), places_long p (i - p))

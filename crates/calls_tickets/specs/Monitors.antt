@@ -1,5 +1,6 @@
 -- What a monitor says.
 use Rattle.std.specs.Prelude.{◌≡◌, ℕ, ◌<◌, List, ◌∷◌, Result, Ok, Err}
+use Rattle.calls_core.specs.declared.history.TheConstants.{WORKERS}
 use Rattle.calls_core.specs.declared.history.Kind.TheVariants.{Sequencer}
 use Rattle.calls_core.specs.declared.history.Action.{Action}
 use Rattle.calls_core.specs.declared.history.Action.TheVariants.{Invoke, Respond}
@@ -19,7 +20,7 @@ Watches past m = Watching past m.top m.holes.items m.pending.items
 
 -- an invocation needs room for a pending call
 abbrev pub HasRoom : Action → ℕ → Type 0
-HasRoom (Invoke k op) n = n < 64
+HasRoom (Invoke k op) n = n < WORKERS
 HasRoom (Respond r) n = Unit {0}
 
 -- it represents the longer past, and that has a linearization

@@ -20,7 +20,7 @@ pub enum Outcome {
     Refused(usize, Fault),
 }
 
-/// Decides whether the tickets of a history have a linearization, where the responses that pending
+/// Decides whether the tickets of a history have a linearization, if the responses that pending
 /// tickets get are at position `end`.
 pub fn decide(alloc: Global, events: &[Event], end: usize) -> Result<Outcome, AllocError>
     requires history { IsHistoryOf Sequencer (reverse events.now) }

@@ -8,7 +8,6 @@ pub enum Fault {
     Twice(Call, Call),
     /// The first returned its number before the second, which returned a smaller one, was invoked.
     Turned(Call, Call),
-    /// To give out the numbers up to that of this ticket, and it, there were too few tickets: those
-    /// that returned no more, and the pending ones that were invoked before its response.
+    /// Fewer than n + 1 tickets can have returned 0 to n, where n is what this ticket returned.
     Drawn(Call),
 }

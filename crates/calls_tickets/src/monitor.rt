@@ -30,7 +30,7 @@ pub struct Refused {
 
 /// Adds the numbers from `from` up to `upto`, as far as there is room.
 fn raise(holes: &mut ArrayVec<usize, WORKERS>, from: usize, upto: usize)
-    ensures { (from < upto → length holes.old.items + (upto - from) ≤ 64) →
+    ensures { (from < upto → length holes.old.items + (upto - from) ≤ WORKERS) →
         holes.new.items ≡ holes.old.items ++ places from (upto - from) }
 {
     let mut i = from;
@@ -56,8 +56,7 @@ impl Monitor {
     }
 
     /// Takes in an event. Returns `Err` if the events up to it have no linearization. After that
-    /// the
-    /// monitor has no use.
+    /// the monitor has no use.
     pub fn event(&mut self, event: Event) -> Result<(), Refused>
         requires workers { HasRoom event.action (array_vec_len self.old.pending) }
         ensures { Judges self.old self.new event result }
@@ -92,11 +91,10 @@ impl Monitor {
         }
     }
 
-    /// Whether a ticket with the greatest number `noted` at its invocation may return `n`. Then
-    /// that
-    /// number is no longer missing.
+    /// Whether a ticket whose `noted` is this may return `n`. Then that number is no longer
+    /// missing.
     fn take(&mut self, n: usize, noted: usize) -> bool
-        requires few { array_vec_len self.old.pending ≤ 64 }
+        requires few { array_vec_len self.old.pending ≤ WORKERS }
         ensures pending { self.new.pending.items ≡ self.old.pending.items }
         ensures taken { IsTaken self.old.top self.new.top self.old.holes.items self.new.holes.items
             (array_vec_len self.old.pending) noted n result }

@@ -12,7 +12,7 @@ use calls_core::{Call, PendingCall, Reply};
 pub struct PendingTicket {
     /// The call.
     pub call: PendingCall,
-    /// One more than the greatest number returned before its invocation, 0 where there is none.
+    /// One more than the greatest number returned before its invocation, 0 if there is none.
     pub noted: usize,
 }
 

@@ -76,8 +76,7 @@ impl Recorded {
         }
     }
 
-    /// Decides whether the calls have a linearization, where the responses that pending ones get
-    /// are
+    /// Decides whether the calls have a linearization, if the responses that pending ones get are
     /// at position `end`.
     pub fn decide(mut self, alloc: Global, end: usize) -> Result<Decision, AllocError>
         requires tickets { AreTickets (reverse self.done.items) (calls_in self.pending.items) end }

@@ -28,7 +28,7 @@ use Rattle.calls_serial.specs.kept.Stages.{Held, helds, Current, current}
 use Rattle.calls_serial.specs.kept.Stages.{Stands}
 use Rattle.calls_serial.specs.kept.Stages.{links_with, with_get, with_late, with_response}
 
--- the pending call of a worker stands at index i
+-- the pending call of a worker is at index i
 pub record IsCallAt (pending : List PendingCall) (w i : ℕ) : Type 0 where
   pub call : PendingCall
   pub here : slice_get pending i ≡ Some call
@@ -39,7 +39,7 @@ abbrev pub first_of : {X : Type 0} → List X → Option X
 first_of [] = None
 first_of (x ∷ xs) = Some x
 
--- how many of n stages have a completed put, or none, where this is the pending one
+-- how many of n stages have a completed put, or none, if this is the pending one
 abbrev pub completed_of : Option PendingCall → ℕ → ℕ
 completed_of None n = n
 completed_of (Some o) n = n - 1
@@ -56,7 +56,7 @@ Responds old new call =
     (front : List Held) (h : Held) → helds old ≡ front ++ h ∷ []
     → helds new ≡ front ++ with_response call h ∷ []
 
--- a get is added where n links are, and no link said before by when the put took effect
+-- a get is added when there are n links, and no link said before by when the put took effect
 pub record IsLate (old new : Held) (get : Call) (n : ℕ) (first : Bool) : Type 0 where
   pub stage : new ≡ with_late get n old
   pub said : IsTrue first ↔ (old.link ≡ None)
@@ -140,7 +140,7 @@ pub record Holds (end : ℕ) (past : List Event) (pass : Pass) : Type 0 where
   pub holding : Holding end (clock past) (completed_calls past) (pending_calls past)
       (helds pass.stages.items) (reverse pass.links.items)
 
--- after one more event the pass holds, or else a fault or two puts that overlap are shown
+-- after one more event the pass holds; otherwise a fault or two puts that overlap are shown
 abbrev pub Stops : ℕ → List Event → Pass → Option Stop → Type 0
 Stops end past new None = Holds end past new
 Stops end past new (Some (Fails fault)) = Shows past fault

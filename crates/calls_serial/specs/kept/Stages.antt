@@ -192,7 +192,7 @@ abbrev pub bounded : Option ℕ → ℕ → ℕ → ℕ
 bounded None m at = at
 bounded (Some i) m at = m
 
--- the link, or else the one that comes next
+-- the link, or the one that comes next if there is none
 abbrev pub linked : Option ℕ → ℕ → Option ℕ
 linked None n = Some n
 linked (Some i) n = Some i
@@ -219,7 +219,7 @@ with_get c h = record {
   gets = h.gets ++ c ∷ [];
 }
 
--- where n is the number of links
+-- if n is the number of links
 abbrev pub with_late : Call → ℕ → Held → Held
 with_late c n h = record {
   put = h.put;

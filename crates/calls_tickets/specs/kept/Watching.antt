@@ -64,7 +64,7 @@ pub record Watching (past : List Event) (top : ℕ) (holes : List ℕ)
 
 -- WHAT THE FUNCTIONS RETURN
 
--- the first of a worker's calls stands at index i
+-- the first of a worker's calls is at index i
 pub record IsPendingAt (us : List PendingTicket) (w i : ℕ) : Type 0 where
   pub ticket : PendingTicket
   pub at : slice_get us i ≡ Some ticket

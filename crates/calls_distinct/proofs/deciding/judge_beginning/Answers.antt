@@ -10,7 +10,7 @@ use Rattle.calls_distinct.specs.Verdicts.{AreGroupedOf, IsVerdict}
 use Rattle.calls_distinct.proofs.Earlier.{distinct_at, store_at, clock_at, clock_is}
 use Rattle.calls_distinct.proofs.deciding.judge_beginning.Goals as goal
 
--- what stands past the end of a list
+-- what is past the end of a list
 abbrev none : Event
 none = record { at = 0; worker = 0; action = Invoke 0 Advance }
 

@@ -1,11 +1,13 @@
 use Rattle.std.proofs.Common.{arith, sym, ◌∙◌, ◌≡◌, length}
 use Rattle.std.proofs.lemmas.Bool.{eqb-true}
+use Rattle.calls_core.specs.declared.history.TheConstants.{WORKERS}
 use Rattle.calls_tickets.proofs.Numbering.{raised_more, raised_full}
 use Rattle.calls_tickets.proofs.monitor.raise.Goals as goal
 
 pub returns-then-is_full : goal.returns-then-is_full
 returns-then-is_full c = λ room.
-    (let full : length c.loop-i.holes.items ≡ 64 = eqb-true (length c.loop-i.holes.items) 64
+    (let full : length c.loop-i.holes.items ≡ WORKERS =
+    eqb-true (length c.loop-i.holes.items) WORKERS
     (sym c.is_full.ensures.value ∙ c.if-is_full.true) in
     absurd (raised_full c.args.from c.loop-i.i c.args.upto c.args.holes.now.items
     c.loop-i.holes.items c.loop-i.invariant.0 c.loop-i-test.true c.loop-i.invariant.2 full
