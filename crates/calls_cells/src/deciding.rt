@@ -55,7 +55,7 @@ fn middle(low: usize, high: usize) -> usize
     low + (high - low) / 2
 }
 
-/// Decides the longest beginning that can be decided, where all events cannot: by halving.
+/// Decides the longest beginning that can be decided, if all events cannot: by halving.
 fn decide_beginning(
     alloc: Global,
     events: &[Event],
@@ -84,8 +84,8 @@ fn decide_beginning(
     Ok(Outcome::Undecided(low, undecided))
 }
 
-/// Decides whether the calls of a cell have a linearization: its values were put once each, or no
-/// two of its puts overlap, or nothing is decided. A database is decided in the same way.
+/// Decides whether the calls of a cell have a linearization, if no value that was got was put
+/// twice, or no two puts overlap. A database is decided in the same way.
 pub fn decide(alloc: Global, events: &[Event], end: usize) -> Result<Outcome, AllocError>
     requires history { IsHistoryOf Cell (reverse events.now) }
     requires late { clock (reverse events.now) ≤ end }

@@ -119,7 +119,8 @@ until_twice n m (x ∷ past) le =
     until_keeps : (m : ℕ) (x : Event) (past : List Event) → x.at < m → until m (x ∷ past) ≡ x ∷ past
     until_keeps m x past lt = ap (λ b. cond b (x ∷ past) (until m past)) (lt-ltb x.at m lt)
 
-    until_drops : (m : ℕ) (x : Event) (past : List Event) → m ≤ x.at → until m (x ∷ past) ≡ until m past
+    until_drops : (m : ℕ) (x : Event) (past : List Event) → m ≤ x.at
+        → until m (x ∷ past) ≡ until m past
     until_drops m x past ge = ap (λ b. cond b (x ∷ past) (until m past)) (le-ltb x.at m ge)
 
 pub a_refusal_is_final : ARefusalIsFinal

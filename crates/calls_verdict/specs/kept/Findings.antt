@@ -17,7 +17,8 @@ use Rattle.calls_verdict.specs.declared.verdict.Verdict.{Verdict}
 use Rattle.calls_verdict.specs.declared.verdict.Decision.{Decision}
 use Rattle.calls_verdict.specs.declared.verdict.Decision.TheVariants.{Ordered, Refused, Open}
 use Rattle.calls_verdict.specs.declared.findings.Found.{Found}
-use Rattle.calls_verdict.specs.Verdicts.{IsOrderedBefore, IsDecision, HasFault, HasOpen, IsVerdict, IsClear}
+use Rattle.calls_verdict.specs.Verdicts.{IsOrderedBefore, IsDecision, HasFault, HasOpen, IsVerdict}
+use Rattle.calls_verdict.specs.Verdicts.{IsClear}
 
 -- up to here each object was decided: the position of the refusal, or the end
 abbrev pub limit : ℕ → Option Refusal → ℕ
@@ -27,7 +28,8 @@ limit t (Some r) = r.at
 abbrev pub IsRefused : List Kind → List Event → Option Refusal → Type 0
 IsRefused kinds past None = Unit {0}
 IsRefused kinds past (Some r) =
-    HasFault kinds (until (r.at + 1) past) r.object r.fault × IsOrderedBefore kinds past r.object r.at
+    HasFault kinds (until (r.at + 1) past) r.object r.fault
+        × IsOrderedBefore kinds past r.object r.at
 
 abbrev pub IsOpen : List Kind → List Event → Option Undecided → Type 0
 IsOpen kinds past None = Unit {0}
