@@ -24,7 +24,7 @@ use Rattle.calls_core.specs.Histories.{clock, completion, completed_calls, pendi
 use Rattle.calls_core.specs.Linearizations.{set_at, after, Gives, KeepsOrder, IsRun, start}
 use Rattle.calls_core.specs.Linearizations.{answered_calls, answered_one, IsAnsweredLinearization}
 use Rattle.calls_core.specs.Completions.{known_at}
-use Rattle.calls_local.specs.Laws.{ALinearizationIsAnswered, AnsweredIsALinearization}
+use Rattle.calls_local.specs.Laws.{AnswersBecomeResponses, ResponsesBecomeAnswers}
 use Rattle.calls_core.proofs.Lists.{each_append, each_left, each_right, all_from_each}
 use Rattle.calls_core.proofs.Filters.{permutation_filter, each_from_all}
 use Rattle.calls_core.proofs.Counting.{count_append, count_moved}
@@ -238,7 +238,7 @@ module _ (t : Tables) where
       );
     }
 
-pub records_exactly : OrderByPointsIsGood → ALinearizationIsAnswered → AnsweredIsALinearization
+pub records_exactly : OrderByPointsIsGood → AnswersBecomeResponses → ResponsesBecomeAnswers
     → RecordsAreExactlyTheLinearizable
 records_exactly orders answered completed t past d h within = (
   λ r. records_linearizable orders answered t past d h r,

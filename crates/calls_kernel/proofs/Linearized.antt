@@ -27,7 +27,7 @@ use Rattle.calls_core.specs.Linearizations.{KeepsOrder, start, initial, answered
 use Rattle.calls_core.specs.Linearizations.{IsAnsweredLinearization}
 use Rattle.calls_core.specs.declared.history.Call.{Call}
 use Rattle.calls_core.specs.Completions.{IsLinearizable}
-use Rattle.calls_local.specs.Laws.{ALinearizationIsAnswered}
+use Rattle.calls_local.specs.Laws.{AnswersBecomeResponses}
 use Rattle.calls_core.proofs.Filters.{permutation_filter}
 use Rattle.calls_kernel.specs.Seen.{kinds_of, is_call, events_of, call_seen, calls_seen}
 use Rattle.calls_kernel.specs.Seen.{pending_seen}
@@ -125,12 +125,12 @@ module _ (t : Tables) where
       )
 
 -- a linearization by answers makes a history linearizable
-pub linearizable_by : ALinearizationIsAnswered → (kinds : List Kind) (past : List Event)
+pub linearizable_by : AnswersBecomeResponses → (kinds : List Kind) (past : List Event)
     (cs : List Call) → IsHistory kinds past → IsAnsweredLinearization kinds past cs
     → IsLinearizable kinds past
 linearizable_by answered kinds past cs h l = (let r = answered kinds past cs h l in (r.0, r.1))
 
-pub accepted_are_linearizable : OrderByPointsIsGood → ALinearizationIsAnswered
+pub accepted_are_linearizable : OrderByPointsIsGood → AnswersBecomeResponses
     → CallsOfAcceptedHistoriesAreLinearizable
 accepted_are_linearizable orders answered t h d acc =
     let good = orders t h d acc in

@@ -31,7 +31,7 @@ use Rattle.calls_core.specs.declared.history.Call.{Call}
 use Rattle.calls_core.specs.Histories.{clock, completed_calls, pending_calls, IsHistory}
 use Rattle.calls_core.specs.Linearizations.{set_at, after, Gives, KeepsOrder, IsRun, start}
 use Rattle.calls_core.specs.Linearizations.{answered_calls}
-use Rattle.calls_local.specs.Laws.{ALinearizationIsAnswered}
+use Rattle.calls_local.specs.Laws.{AnswersBecomeResponses}
 use Rattle.calls_core.proofs.Filters.{permutation_filter}
 use Rattle.calls_core.specs.Linearizations.{IsAnsweredLinearization}
 use Rattle.calls_kernel.specs.Seen.{kinds_of, is_call}
@@ -301,7 +301,7 @@ records_answered orders t past d h r =
       },
     )
 
-pub records_linearizable : OrderByPointsIsGood → ALinearizationIsAnswered → RecordsAreLinearizable
+pub records_linearizable : OrderByPointsIsGood → AnswersBecomeResponses → RecordsAreLinearizable
 records_linearizable orders answered t past d h r =
     let l = records_answered orders t past d h r in
     linearizable_by answered (kinds_of t) past l.0 h l.1

@@ -4,7 +4,7 @@ ghost use Rattle.calls_kernel.specs.Laws.{LinearizationsAreAcceptedHistories};
 ghost use Rattle.calls_kernel.specs.Laws.{RecordsAreLinearizable, LinearizableHistoriesAreRecords};
 ghost use Rattle.calls_kernel.specs.Laws.{RecordsAreExactlyTheLinearizable};
 
-use calls_local::{a_linearization_is_answered, answered_is_a_linearization};
+use calls_local::{answers_become_responses, responses_become_answers};
 use ec_order::order_by_points_is_good;
 
 /// An accepted history of steps, seen from outside, is a history of calls, and the order by points
@@ -13,7 +13,7 @@ pub fn calls_of_accepted_histories_are_linearizable()
     ensures { CallsOfAcceptedHistoriesAreLinearizable }
 {
     order_by_points_is_good();
-    a_linearization_is_answered();
+    answers_become_responses();
 }
 
 /// Each linearization of a history of calls that keeps the declared rights and the limit is an
@@ -28,7 +28,7 @@ pub fn records_are_linearizable()
     ensures { RecordsAreLinearizable }
 {
     order_by_points_is_good();
-    a_linearization_is_answered();
+    answers_become_responses();
 }
 
 /// A history of calls that has a linearization, which keeps the declared rights and the limit, can
@@ -43,6 +43,6 @@ pub fn records_are_exactly_the_linearizable()
     ensures { RecordsAreExactlyTheLinearizable }
 {
     order_by_points_is_good();
-    a_linearization_is_answered();
-    answered_is_a_linearization();
+    answers_become_responses();
+    responses_become_answers();
 }

@@ -259,12 +259,13 @@ module _ (kinds : List Kind) (past : List Event) (t : ℕ) where
       }
 
 -- a linearization by later responses, as one by answers that are returned at t
-pub order_from_answered : (Run : List Call → Type 0) (kinds : List Kind) (past : List Event) (t : ℕ)
+pub order_from_responses : (Run : List Call → Type 0) (kinds : List Kind) (past : List Event)
+    (t : ℕ)
     (cs : List Call) → clock past ≤ t → IsHistory kinds past
     → (Run cs → Run (map (settled (clock past) t) cs)) → IsLinearizationIn Run kinds past cs
     → IsLinearOrder Run (completed_calls past) (pending_calls past) t
     (map (settled (clock past) t) cs)
-order_from_answered Run kinds past t cs le h still l =
+order_from_responses Run kinds past t cs le h still l =
     let m = clock past in
     let k = with_responses kinds past t l.late l.responses h l.history in
     let once : IsPermutation (map (settled m t) (completed_calls (l.late ++ past)))
@@ -282,11 +283,11 @@ order_from_answered Run kinds past t cs le h still l =
       run = still l.legal.run;
     }
 
-pub linearization_from_answered : (kinds : List Kind) (past : List Event) (cs : List Call)
+pub responses_become_answers : (kinds : List Kind) (past : List Event) (cs : List Call)
     → IsHistory kinds past → IsLinearization kinds past cs
     → IsAnsweredLinearization kinds past (map (known_at (clock past)) cs)
-linearization_from_answered kinds past cs h l =
+responses_become_answers kinds past cs h l =
     let t = clock past in
     subst (IsAnsweredLinearization kinds past) (settled_known t cs)
-    (order_from_answered (IsRun (start kinds)) kinds past t cs (omega arith) h
+    (order_from_responses (IsRun (start kinds)) kinds past t cs (omega arith) h
     (settled_run t t (start kinds) cs) l)

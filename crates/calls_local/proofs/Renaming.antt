@@ -37,8 +37,8 @@ use Rattle.calls_core.proofs.Settling.{each_pair_from_all}
 use Rattle.calls_core.proofs.Beginnings.{changed, changed_head}
 use Rattle.calls_local.specs.Renamings.{IsNaming, renamed_op, renamed_reply, renamed_action}
 use Rattle.calls_local.specs.Renamings.{renamed, NumbersAreNames}
-use Rattle.calls_local.proofs.Completing.{linearization_from_answered}
-use Rattle.calls_local.proofs.Responding.{unmapped, a_linearization_is_answered}
+use Rattle.calls_local.proofs.Completing.{responses_become_answers}
+use Rattle.calls_local.proofs.Responding.{unmapped, answers_become_responses}
 
 -- STATES
 
@@ -710,8 +710,8 @@ module _ (kinds : List Kind) (f : ℕ → ℕ → ℕ) (past : List Event) (nami
       let cs = map (known_at (clock past)) l.0 in
       let order = order_renamed f naming kinds (completed_calls past) (pending_calls past)
       (clock past) (histories_have_calls kinds past h) cs
-      (linearization_from_answered kinds past l.0 h l.1) in
-      let r = a_linearization_is_answered kinds (renamed f past) (map (renamed_call f) cs)
+      (responses_become_answers kinds past l.0 h l.1) in
+      let r = answers_become_responses kinds (renamed f past) (map (renamed_call f) cs)
       (history_renamed f kinds past h) (to_renamed f kinds past (map (renamed_call f) cs) order)
       in
       (r.0, r.1)
@@ -719,11 +719,11 @@ module _ (kinds : List Kind) (f : ℕ → ℕ → ℕ) (past : List Event) (nami
   is_linearizable_back : IsLinearizable kinds (renamed f past) → IsLinearizable kinds past
   is_linearizable_back l =
       let ds = map (known_at (clock (renamed f past))) l.0 in
-      let order = from_renamed f kinds past ds (linearization_from_answered kinds
+      let order = from_renamed f kinds past ds (responses_become_answers kinds
       (renamed f past) l.0 (history_renamed f kinds past h) l.1) in
       let back = order_back f naming kinds (completed_calls past) (pending_calls past) (clock past)
       (histories_have_calls kinds past h) ds order in
-      let r = a_linearization_is_answered kinds past back.0 h back.1 in
+      let r = answers_become_responses kinds past back.0 h back.1 in
       (r.0, r.1)
 
 pub numbers_are_names : NumbersAreNames

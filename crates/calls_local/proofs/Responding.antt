@@ -27,7 +27,7 @@ use Rattle.calls_core.specs.Histories.{Suits, IsNext, IsHistory}
 use Rattle.calls_core.specs.Linearizations.{Gives, IsSequentialRun, IsRun, set_at, after, start}
 use Rattle.calls_core.specs.Linearizations.{KeepsOrder, answered_one, answered_calls, IsLinearOrder}
 use Rattle.calls_core.specs.Completions.{is_response, IsLinearizationIn, known_at}
-use Rattle.calls_local.specs.Laws.{ALinearizationIsAnswered}
+use Rattle.calls_local.specs.Laws.{AnswersBecomeResponses}
 use Rattle.calls_core.proofs.Lists.{each_weaker, each_append, each_left, each_pair_append}
 use Rattle.calls_core.proofs.Lists.{all_from_each, all_pairs_from_each}
 use Rattle.calls_core.proofs.Filters.{each_from_all, along_permutation, permutation_turn}
@@ -308,13 +308,14 @@ known_keeps_back t (c ∷ cs) h = (one cs h.0, known_keeps_back t cs h.1)
     )
 
 -- a linearization by answers that are returned at t, as one by later responses
-pub answered_from_order : (Run : List Call → Type 0) (kinds : List Kind) (past : List Event) (t : ℕ)
+pub responses_from_order : (Run : List Call → Type 0) (kinds : List Kind) (past : List Event)
+    (t : ℕ)
     (cs : List Call) → clock past ≤ t → IsHistory kinds past
     → ((ds : List Call) → Run (map (known_at t) ds) → Run ds)
     → (Run cs → Each (λ (c : Call). Suits c.op c.reply) cs)
     → IsLinearOrder Run (completed_calls past) (pending_calls past) t cs → (ds : List Call)
     × IsLinearizationIn Run kinds past ds × (map (known_at t) ds ≡ cs)
-answered_from_order Run kinds past t cs le h back suiting l =
+responses_from_order Run kinds past t cs le h back suiting l =
     let suits : Each (λ (c : Call). Suits c.op c.reply)
     (answered_calls t l.answer (pending_calls past)) =
     each_left (λ (c : Call). Suits c.op c.reply) (answered_calls t l.answer (pending_calls past))
@@ -361,7 +362,7 @@ one_run_suits n (c ∷ cs) h = (
       cs h.1,
 )
 
-pub a_linearization_is_answered : ALinearizationIsAnswered
-a_linearization_is_answered = λ kinds past cs h l.
-    answered_from_order (IsRun (start kinds)) kinds past (clock past) cs (omega arith) h (λ ds.
+pub answers_become_responses : AnswersBecomeResponses
+answers_become_responses = λ kinds past cs h l.
+    responses_from_order (IsRun (start kinds)) kinds past (clock past) cs (omega arith) h (λ ds.
     known_run_back (clock past) (start kinds) ds) (run_suits (start kinds) cs) l

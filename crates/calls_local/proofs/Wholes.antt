@@ -31,9 +31,9 @@ use Rattle.calls_local.proofs.Points.{order_on_has_points}
 use Rattle.calls_local.proofs.Parts.{part_history, part_history_of, part_clock, order_of_part}
 use Rattle.calls_local.proofs.Parts.{order_from_part}
 use Rattle.calls_local.proofs.Joining.{placed_nothing, whole_placed}
-use Rattle.calls_local.proofs.Completing.{order_from_answered, linearization_from_answered}
-use Rattle.calls_local.proofs.Responding.{known_one_run_back, one_run_suits, answered_from_order}
-use Rattle.calls_local.proofs.Responding.{a_linearization_is_answered}
+use Rattle.calls_local.proofs.Completing.{order_from_responses, responses_become_answers}
+use Rattle.calls_local.proofs.Responding.{known_one_run_back, one_run_suits, responses_from_order}
+use Rattle.calls_local.proofs.Responding.{answers_become_responses}
 
 module _ (kinds : List Kind) (past : List Event) (h : IsHistory kinds past) where
   -- WHOLE TO PART
@@ -42,14 +42,14 @@ module _ (kinds : List Kind) (past : List Event) (h : IsHistory kinds past) wher
       → IsLinearizableOn kinds k past
   part_linearizable cs l k =
       let t = clock past in
-      let whole = linearization_from_answered kinds past cs h l in
+      let whole = responses_become_answers kinds past cs h l in
       let ds = calls_on k (map (known_at t) cs) in
       let there : IsLinearOrder (IsSequentialRun (start kinds k)) (completed_calls (part k past))
       (pending_calls (part k past)) t ds =
       order_of_part (IsSequentialRun (start kinds k)) kinds k t past ds h
       (part_of_order (start kinds) (completed_calls past) (pending_calls past) t
       (map (known_at t) cs) k whole) in
-      let r = answered_from_order (IsSequentialRun (start kinds k)) kinds (part k past) t ds
+      let r = responses_from_order (IsSequentialRun (start kinds k)) kinds (part k past) t ds
       (part_clock kinds k past h) (part_history kinds k past h)
       (λ es. known_one_run_back t (start kinds k) es) (one_run_suits (start kinds k) ds) there in
       (r.0, r.1)
@@ -63,7 +63,7 @@ module _ (kinds : List Kind) (past : List Event) (h : IsHistory kinds past) wher
   part_placed k ds l =
       let m = clock (part k past) in
       let cs = map (settled m (clock past)) ds in
-      let order = order_from_answered (IsSequentialRun (start kinds k)) kinds (part k past)
+      let order = order_from_responses (IsSequentialRun (start kinds k)) kinds (part k past)
       (clock past) ds (part_clock kinds k past h) (part_history kinds k past h)
       (settled_one_run m (clock past) (start kinds k) ds) l in
       order_on_has_points kinds k (completed_calls past) (pending_calls past) (clock past) cs
@@ -79,7 +79,7 @@ module _ (kinds : List Kind) (past : List Event) (h : IsHistory kinds past) wher
         part_placed k
             (l k).0 (l k).1,
       )) in
-      let c = a_linearization_is_answered kinds past (calls_of r.0) h r.1.legal in
+      let c = answers_become_responses kinds past (calls_of r.0) h r.1.legal in
       (c.0, c.1)
 
   -- BY THE KINDS OF THE OBJECTS
@@ -105,7 +105,7 @@ module _ (kinds : List Kind) (past : List Event) (h : IsHistory kinds past) wher
       → HasOrderOf kind (part k past)
   part_has_order l k kind e =
       let t = clock past in
-      let whole = linearization_from_answered kinds past l.0 h l.1 in
+      let whole = responses_become_answers kinds past l.0 h l.1 in
       let ds = calls_on k (map (known_at t) l.0) in
       let there : IsLinearOrder (IsSequentialRun (start kinds k)) (completed_calls (part k past))
       (pending_calls (part k past)) t ds =
@@ -122,7 +122,7 @@ module _ (kinds : List Kind) (past : List Event) (h : IsHistory kinds past) wher
   orders_make_whole l =
       let r = whole_placed kinds (completed_calls past) (pending_calls past) (clock past)
       (histories_have_calls kinds past h) (λ k. by_kind k (slice_get kinds k) refl) in
-      let c = a_linearization_is_answered kinds past (calls_of r.0) h r.1.legal in
+      let c = answers_become_responses kinds past (calls_of r.0) h r.1.legal in
       (c.0, c.1)
     where
       by_kind : (k : ℕ) (o : Option Kind) → slice_get kinds k ≡ o → (qs : List Placed)
@@ -173,9 +173,9 @@ a_beginning_is_linearizable = λ kinds late past h l.
     let begun = whole_of_earlier kinds late past h (
       map
           (known_at t) l.0,
-      linearization_from_answered kinds (late ++ past) l.0 h l.1,
+      responses_become_answers kinds (late ++ past) l.0 h l.1,
     ) in
-    let r = a_linearization_is_answered kinds past begun.0 (history_earlier kinds late past h)
+    let r = answers_become_responses kinds past begun.0 (history_earlier kinds late past h)
     begun.1 in
     (r.0, r.1))
 

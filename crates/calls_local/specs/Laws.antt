@@ -45,14 +45,14 @@ PartsMakeWhole = (kinds : List Kind) (past : List Event) (cs : List Call) → Is
     → calls_on k (merged cs) ≡ calls_on k cs)
 
 -- a linearization by later responses is one by answers
-abbrev pub AnsweredIsALinearization : Type 0
-AnsweredIsALinearization = (kinds : List Kind) (past : List Event) (cs : List Call)
+abbrev pub ResponsesBecomeAnswers : Type 0
+ResponsesBecomeAnswers = (kinds : List Kind) (past : List Event) (cs : List Call)
     → IsHistory kinds past → IsLinearization kinds past cs
     → IsAnsweredLinearization kinds past (map (known_at (clock past)) cs)
 
 -- and each linearization by answers is one by later responses, as it is known at the end
-abbrev pub ALinearizationIsAnswered : Type 0
-ALinearizationIsAnswered = (kinds : List Kind) (past : List Event) (cs : List Call)
+abbrev pub AnswersBecomeResponses : Type 0
+AnswersBecomeResponses = (kinds : List Kind) (past : List Event) (cs : List Call)
     → IsHistory kinds past → IsAnsweredLinearization kinds past cs
     → (ds : List Call) × IsLinearization kinds past ds × (map (known_at (clock past)) ds ≡ cs)
 

@@ -1,7 +1,7 @@
 //! Theorems on every history. Each is the contract of a function that does nothing.
 ghost use Rattle.calls_local.specs.Laws.{HistoriesHaveCalls, APartIsAHistory};
 ghost use Rattle.calls_local.specs.Laws.{PartsAreLinearized, PartsMakeWhole};
-ghost use Rattle.calls_local.specs.Laws.{AnsweredIsALinearization, ALinearizationIsAnswered};
+ghost use Rattle.calls_local.specs.Laws.{ResponsesBecomeAnswers, AnswersBecomeResponses};
 ghost use Rattle.calls_local.specs.Laws.{Locality, LinearizableByOrders, OneObject};
 ghost use Rattle.calls_local.specs.Laws.{ABeginningIsLinearizable};
 ghost use Rattle.calls_local.specs.Laws.{OrderHasPoints, OrderOnHasPoints, PlacedPartsMakeWhole};
@@ -31,13 +31,13 @@ pub fn parts_make_whole()
 {}
 
 /// States that a linearization by later responses is one by answers.
-pub fn answered_is_a_linearization()
-    ensures { AnsweredIsALinearization }
+pub fn responses_become_answers()
+    ensures { ResponsesBecomeAnswers }
 {}
 
 /// States that a linearization by answers is one by later responses, as it is known at the end.
-pub fn a_linearization_is_answered()
-    ensures { ALinearizationIsAnswered }
+pub fn answers_become_responses()
+    ensures { AnswersBecomeResponses }
 {}
 
 /// States that a history is linearizable exactly when the events of each object are.

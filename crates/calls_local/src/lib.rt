@@ -6,9 +6,9 @@ mod laws;
 mod placing;
 
 pub use laws::{
-    a_beginning_is_linearizable, a_linearization_is_answered, a_part_is_a_history,
-    answered_is_a_linearization, histories_have_calls, linearizable_by_orders, locality,
-    numbers_are_names, one_object, order_has_points, order_on_has_points, parts_are_linearized,
-    parts_make_whole, placed_parts_make_whole,
+    a_beginning_is_linearizable, a_part_is_a_history, answers_become_responses,
+    histories_have_calls, linearizable_by_orders, locality, numbers_are_names, one_object,
+    order_has_points, order_on_has_points, parts_are_linearized, parts_make_whole,
+    placed_parts_make_whole, responses_become_answers,
 };
 pub use placing::{merge, place};

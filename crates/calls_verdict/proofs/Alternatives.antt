@@ -12,8 +12,8 @@ use Rattle.calls_core.specs.Beginnings.{until}
 use Rattle.calls_core.specs.Completions.{IsLinearizable, known_at}
 use Rattle.calls_core.specs.Outcomes.{IsOrderOf, HasOrderOf}
 use Rattle.calls_core.proofs.Beginnings.{history_earlier, whole_of_earlier, until_split}
-use Rattle.calls_local.proofs.Completing.{linearization_from_answered}
-use Rattle.calls_local.proofs.Responding.{a_linearization_is_answered}
+use Rattle.calls_local.proofs.Completing.{responses_become_answers}
+use Rattle.calls_local.proofs.Responding.{answers_become_responses}
 use Rattle.calls_local.proofs.Parts.{part_history_of, part_clock, order_of_part}
 use Rattle.calls_local.proofs.Points.{parts_are_linearized}
 use Rattle.calls_verdict.specs.Verdicts.{IsFaultyOn, AreDecided}
@@ -28,7 +28,7 @@ a_fault_leaves_no_linearization = λ kinds late past k h fault l.
     let before = history_earlier kinds late past h in
     let whole = whole_of_earlier kinds late past h (
       map (known_at (clock (late ++ past))) l.0,
-      linearization_from_answered kinds
+      responses_become_answers kinds
           (late ++ past) l.0 h l.1,
     ) in
     let there = order_of_part (IsSequentialRun (initial (slice_get kinds k))) kinds k t past
@@ -95,7 +95,7 @@ module _ (kinds : List Kind) (past : List Event) (h : IsHistory kinds past)
         | inl all ↦
             (let whole = whole_from_parts kinds past h (λ k kind e.
             all k kind (slice_get_within kinds k kind e) e) in
-            let answered = a_linearization_is_answered kinds past whole.0 h whole.1 in
+            let answered = answers_become_responses kinds past whole.0 h whole.1 in
             inl (answered.0, answered.1))
       ]
 

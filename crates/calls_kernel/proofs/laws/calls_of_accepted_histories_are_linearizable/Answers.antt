@@ -3,4 +3,4 @@ use Rattle.calls_kernel.proofs.laws.calls_of_accepted_histories_are_linearizable
 
 pub returns : goal.returns
 returns c = accepted_are_linearizable c.order_by_points_is_good.ensures
-    c.a_linearization_is_answered.ensures
+    c.answers_become_responses.ensures

@@ -3,4 +3,4 @@ use Rattle.calls_kernel.proofs.laws.records_are_exactly_the_linearizable.Goals a
 
 pub returns : goal.returns
 returns c = records_exactly c.order_by_points_is_good.ensures
-    c.a_linearization_is_answered.ensures c.answered_is_a_linearization.ensures
+    c.answers_become_responses.ensures c.responses_become_answers.ensures
