@@ -236,8 +236,7 @@ module _ (units : Vec ℕ Global) where
         elim x.action as (λ a. x.action ≡ a → Shows (Semaphores units) (x ∷ past) f) [
           | Invoke k op ↦ λ e. shows_invoke k op e
           | Respond r ↦ λ e. elim (pending_of x.worker (pending_calls past)) as (λ p.
-              pending_of x.worker (pending_calls past) ≡ p → Shows (Semaphores units) (x ∷ past) f)
-                  [
+              pending_of x.worker (pending_calls past) ≡ p → Shows (Semaphores units) (x ∷ past) f) [
                 | None ↦ λ q. absurd (no_pending x past h r e q)
                 | Some o ↦ λ q. shows_respond r o e q
               ] refl

@@ -29,7 +29,7 @@ abbrev pub IsRefused : List Kind → List Event → Option Refusal → Type 0
 IsRefused kinds past None = Unit {0}
 IsRefused kinds past (Some r) =
     HasFault kinds (until (r.at + 1) past) r.object r.fault
-        × IsOrderedBefore kinds past r.object r.at
+    × IsOrderedBefore kinds past r.object r.at
 
 abbrev pub IsOpen : List Kind → List Event → Option Undecided → Type 0
 IsOpen kinds past None = Unit {0}

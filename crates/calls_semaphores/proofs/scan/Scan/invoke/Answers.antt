@@ -33,7 +33,7 @@ returns-then-not-is_v-clause-step c = λ is units past h le k.
     } ∷ []) place c.in_ok-push.ensures.items) in
     scan_invoked_other units c.args.event past h s new le k refl c.args.object c.args.op is pending
     c.add.ensures.same (c.add.ensures.value c.requires) (sym c.is_v.ensures ∙ c.if-not-is_v.true)
-        refl)
+    refl)
 
 pub returns-clause-step : goal.returns-clause-step
 returns-clause-step c = λ is units past h le k.
@@ -67,4 +67,4 @@ returns-clause-step c = λ is units past h le k.
     c.invoked_by-call.ensures in
     scan_invoked_v units c.args.event past h s new le k refl c.args.object c.args.op is pending
     c.add.ensures.same (c.add.ensures.value c.requires) (sym c.is_v.ensures ∙ c.if-not-is_v.false)
-        order)
+    order)
