@@ -1,11 +1,9 @@
 -- Databases over lists. A database holds a list with the number of each of its cells, but a
--- recorded
--- call carries one number for the whole list. Equal lists have one number, different lists
--- different
--- ones: that is the duty of who records the calls. Then the calls of a database, one after another,
--- are possible over the lists exactly when they are possible over the numbers, as calls of a cell.
--- So the sequential specification of a database is that of a cell, and a decision over the numbers
--- is one over the lists.
+-- recorded call carries one number for the whole list. Equal lists have one number, different lists
+-- different ones: that is the duty of who records the calls. Then the calls of a database, one
+-- after another, are possible over the lists exactly when they are possible over the numbers, as
+-- calls of a cell. So the sequential specification of a database is that of a cell, and a decision
+-- over the numbers is one over the lists.
 use Rattle.std.specs.Prelude.{◌≡◌, ◌↔◌, ℕ, List, [], ◌∷◌, Some, replicate}
 use Rattle.calls_core.specs.declared.history.Kind.TheVariants.{Database}
 use Rattle.calls_core.specs.declared.history.Op.TheVariants.{Put, Get}

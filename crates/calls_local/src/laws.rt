@@ -98,8 +98,7 @@ pub fn lists_go_by_numbers()
     ensures { ListsGoByNumbers }
 {}
 
-/// States the same from the list of zeros on, with which each database begins and whose number is
-/// 0.
+/// States the same from the list of zeros on, with which each database begins. Its number is 0.
 pub fn databases_go_by_numbers()
     ensures { DatabasesGoByNumbers }
 {}
