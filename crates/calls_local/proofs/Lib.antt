@@ -8,3 +8,4 @@ pub mod Responding
 pub mod Joining
 pub mod Wholes
 pub mod Renaming
+pub mod Numbering

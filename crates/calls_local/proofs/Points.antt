@@ -20,11 +20,12 @@ use Rattle.calls_core.specs.Points.{IsPlacedOrder, placed_on}
 use Rattle.calls_core.specs.Calls.{Early, Apart, IsCompletedCall, AreCalls, IsCallOf}
 use Rattle.calls_core.specs.Calls.{AreCallsOf}
 use Rattle.calls_core.proofs.Lists.{each_weaker, each_append, each_both, each_kept, all_from_each}
+use Rattle.calls_core.proofs.Lists.{all_pairs_from_each}
 use Rattle.calls_core.proofs.Filters.{each_from_all}
 use Rattle.calls_core.proofs.Positions.{histories_have_calls}
 use Rattle.calls_core.proofs.Settling.{Spans, each_pair_from_all}
 use Rattle.calls_local.specs.Laws.{PartsAreLinearized, PartsMakeWhole, OrderHasPoints}
-use Rattle.calls_local.specs.Laws.{OrderOnHasPoints, PlacedPartsMakeWhole}
+use Rattle.calls_local.specs.Laws.{OrderOnHasPoints, PlacedPartsMakeWhole, PointsKeepTheOrder}
 use Rattle.calls_local.proofs.Objects.{part_of_order, points_part, order_of_placed}
 
 -- WHAT IS KNOWN OF THE POSITIONS
@@ -219,6 +220,30 @@ order_with_points Run done pending t cs h l =
 pub order_has_points : OrderHasPoints
 order_has_points = λ kind m done pending t cs h l. order_with_points (IsSequentialRun m) done
     pending t cs (timed_of kind done pending t h) l
+
+keeps_each : (p : Placed) (qs : List Placed) → Within p → Each Within qs → Each (NoLater p) qs
+    → Each (KeepsOrder p.call) (calls_of qs)
+keeps_each p [] own within later = tt
+keeps_each p (q ∷ qs) own within later = (
+  λ (lt : q.call.last < p.call.first).
+      (let a : p.call.first < p.point = own.0 in
+      let b : p.point ≤ q.point = later.0 in
+      let c : q.point ≤ q.call.last = within.0.1 in
+      omega arith),
+  keeps_each p qs own within.1 later.1,
+)
+
+kept_by_points : (ps : List Placed) → Each Within ps → EachPair NoLater ps
+    → EachPair KeepsOrder (calls_of ps)
+kept_by_points [] within rises = tt
+kept_by_points (p ∷ ps) within rises = (
+  keeps_each p ps within.0 within.1 rises.0,
+  kept_by_points ps within.1 rises.1,
+)
+
+pub points_keep_the_order : PointsKeepTheOrder
+points_keep_the_order = λ ps within rises. all_pairs_from_each KeepsOrder (calls_of ps)
+    (kept_by_points ps within rises)
 
 pub order_on_has_points : OrderOnHasPoints
 order_on_has_points = λ kinds k done pending t cs h l.

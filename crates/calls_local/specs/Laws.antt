@@ -1,20 +1,23 @@
 -- Theorems on every history.
 use Rattle.std.specs.Prelude.{◌≡◌, ◌↔◌, ℕ, ◌≤◌, List, [], ◌∷◌, ◌++◌, map, Some, slice_get}
+use Rattle.std.specs.List.{AllPairs}
 use Rattle.calls_core.specs.declared.history.Kind.{Kind}
 use Rattle.calls_core.specs.declared.history.Event.{Event}
 use Rattle.calls_core.specs.declared.history.PendingCall.{PendingCall}
 use Rattle.calls_core.specs.declared.history.Call.{Call}
 use Rattle.calls_core.specs.declared.history.Placed.{Placed}
+use Rattle.calls_core.specs.Lists.{Each, EachPair}
 use Rattle.calls_core.specs.Histories.{clock, IsHistory, IsHistoryOf, completed_calls}
 use Rattle.calls_core.specs.Histories.{pending_calls, part}
 use Rattle.calls_core.specs.Linearizations.{IsSequentialRun, IsRun, start, IsLinearOrder}
 use Rattle.calls_core.specs.Linearizations.{IsAnsweredLinearization, IsAnsweredLinearizationOn}
-use Rattle.calls_core.specs.Linearizations.{calls_on, pending_on}
+use Rattle.calls_core.specs.Linearizations.{calls_on, pending_on, KeepsOrder}
 use Rattle.calls_core.specs.Completions.{IsLinearization, IsLinearizable, IsLinearizableOn}
 use Rattle.calls_core.specs.Completions.{known_at}
 use Rattle.calls_core.specs.Calls.{AreCalls, AreCallsOf}
 use Rattle.calls_core.specs.Outcomes.{HasOrderOf}
 use Rattle.calls_core.specs.Points.{placed_one, by_points, merged, IsPlacedOrder, placed_on}
+use Rattle.calls_core.specs.Points.{Within, NoLater, calls_of}
 
 -- the completed and pending calls of a history are as every history has them
 abbrev pub HistoriesHaveCalls : Type 0
@@ -94,6 +97,12 @@ OrderOnHasPoints = (kinds : List Kind) (k : ℕ) (done : List Call) (pending : L
     → IsLinearOrder (IsSequentialRun (start kinds k)) (calls_on k done) (pending_on k pending) t cs
     → IsPlacedOrder (IsSequentialRun (start kinds k)) (calls_on k done) (pending_on k pending) t
     (placed_one 0 cs)
+
+-- and the converse: where each call has a point of its own time and the points ascend, the calls
+-- stand in real-time order
+abbrev pub PointsKeepTheOrder : Type 0
+PointsKeepTheOrder = (ps : List Placed) → Each Within ps → EachPair NoLater ps
+    → AllPairs KeepsOrder (calls_of ps)
 
 -- a list that has a placed order for each object, in the order of all points, is a placed order of
 -- all calls

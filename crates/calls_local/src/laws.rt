@@ -5,7 +5,9 @@ ghost use Rattle.calls_local.specs.Laws.{ResponsesBecomeAnswers, AnswersBecomeRe
 ghost use Rattle.calls_local.specs.Laws.{Locality, LinearizableByOrders, OneObject};
 ghost use Rattle.calls_local.specs.Laws.{ABeginningIsLinearizable};
 ghost use Rattle.calls_local.specs.Laws.{OrderHasPoints, OrderOnHasPoints, PlacedPartsMakeWhole};
+ghost use Rattle.calls_local.specs.Laws.{PointsKeepTheOrder};
 ghost use Rattle.calls_local.specs.Renamings.{NumbersAreNames};
+ghost use Rattle.calls_local.specs.Databases.{ListsGoByNumbers, DatabasesGoByNumbers};
 
 /// States that the positions of a history's completed and pending calls are as every history has
 /// them, and that their objects take them.
@@ -72,6 +74,12 @@ pub fn order_on_has_points()
     ensures { OrderOnHasPoints }
 {}
 
+/// States that calls stand in real-time order where each has a point of its own time and the points
+/// ascend.
+pub fn points_keep_the_order()
+    ensures { PointsKeepTheOrder }
+{}
+
 /// States that placed orders of all objects, put in the order of their points, are a placed order
 /// of all calls.
 pub fn placed_parts_make_whole()
@@ -82,4 +90,15 @@ pub fn placed_parts_make_whole()
 /// values of its cells and databases.
 pub fn numbers_are_names()
     ensures { NumbersAreNames }
+{}
+
+/// States that calls of a database are possible over lists exactly when they are possible over the
+/// numbers of the lists, as long as different lists have different numbers.
+pub fn lists_go_by_numbers()
+    ensures { ListsGoByNumbers }
+{}
+
+/// States the same from the list of zeros on, with which each database begins. Its number is 0.
+pub fn databases_go_by_numbers()
+    ensures { DatabasesGoByNumbers }
 {}
