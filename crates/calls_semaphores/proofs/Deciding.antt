@@ -231,15 +231,16 @@ module _ (units : Vec ℕ Global) where
           );
         }
 
+    shows_response : (r : Reply) → x.action ≡ Respond r → (o : Option PendingCall)
+        → pending_of x.worker (pending_calls past) ≡ o → Shows (Semaphores units) (x ∷ past) f
+    shows_response r e None q = absurd (no_pending x past h r e q)
+    shows_response r e (Some o) q = shows_respond r o e q
+
     shows_later : Shows (Semaphores units) (x ∷ past) f
     shows_later =
         elim x.action as (λ a. x.action ≡ a → Shows (Semaphores units) (x ∷ past) f) [
           | Invoke k op ↦ λ e. shows_invoke k op e
-          | Respond r ↦ λ e. elim (pending_of x.worker (pending_calls past)) as (λ p.
-              pending_of x.worker (pending_calls past) ≡ p → Shows (Semaphores units) (x ∷ past) f) [
-                | None ↦ λ q. absurd (no_pending x past h r e q)
-                | Some o ↦ λ q. shows_respond r o e q
-              ] refl
+          | Respond r ↦ λ e. shows_response r e (pending_of x.worker (pending_calls past)) refl
         ] refl
 
   -- LINEARIZATIONS
