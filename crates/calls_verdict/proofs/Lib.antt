@@ -10,3 +10,4 @@ pub mod Founding
 pub mod Turns
 pub mod Alternatives
 pub mod Misusing
+pub mod OneFault

@@ -15,7 +15,6 @@ use Rattle.calls_tickets.proofs.Wholes as numbered
 use Rattle.calls_semaphores.proofs.Necessity as semaphores
 use Rattle.calls_semaphores.proofs.Deciding as taken
 use Rattle.calls_serial.proofs.Databases.{database_is_cell}
-use Rattle.calls_cells.specs.Faults as cells
 use Rattle.calls_cells.proofs.Faults as stores
 use Rattle.calls_cells.proofs.Classes as stored
 use Rattle.calls_cells.proofs.Staying.{stays}

@@ -1,5 +1,5 @@
 -- Theorems on every history of calls.
-use Rattle.std.specs.Prelude.{◌<◌, ◌⊎◌, ℕ, List, ◌++◌}
+use Rattle.std.specs.Prelude.{◌≡◌, ◌<◌, ◌∷◌, ◌⊎◌, ℕ, List, ◌++◌}
 use Rattle.calls_core.specs.declared.history.Kind.{Kind}
 use Rattle.calls_core.specs.declared.history.Event.{Event}
 use Rattle.calls_core.specs.Histories.{IsHistory}
@@ -32,3 +32,12 @@ abbrev pub ARefusalIsFinal : Type 0
 ARefusalIsFinal =
     (kinds : List Kind) (past : List Event) (at k : ℕ) (f : Fault) (m : ℕ) → IsHistory kinds past
     → IsFirstRefusal kinds past at k f → at < m → IsLinearizable kinds (until m past) → ⊥
+
+-- if the events up to x have no linearization and those before it have one, then x is the first
+-- faulty event: so a monitor, which answers so after each event, stops at the one that is refused
+abbrev pub TheFirstFaultIsOne : Type 0
+TheFirstFaultIsOne =
+    (kinds : List Kind) (late past : List Event) (x : Event) (at k : ℕ) (f : Fault)
+    → IsHistory kinds (late ++ x ∷ past) → AreDecided kinds (x ∷ past)
+    → IsLinearizable kinds past → (IsLinearizable kinds (x ∷ past) → ⊥)
+    → IsFirstRefusal kinds (late ++ x ∷ past) at k f → at ≡ x.at
