@@ -1,9 +1,10 @@
 //! Reads a text from standard input, as `bench/run` times it: `bench_texts read` reads a trace and no more,
-//! `bench_texts write` writes it again to standard output, and `bench_texts parse` parses a script 64 times.
+//! `bench_texts write` writes it again to standard output, `bench_texts upgrade` upgrades it and writes nothing, and
+//! `bench_texts parse` parses a script 64 times.
 #![tactic(auto)]
 
 use ec_script::parse;
-use ec_trace::{read_trace, write_trace};
+use ec_trace::{Version, read_trace, write_trace};
 use std::alloc::{AllocError, Global};
 use std::io::Read;
 use std::process::ExitCode;
@@ -45,6 +46,14 @@ fn copy_trace(rt: &HostRuntime, writes: bool) -> io::Result<ExitCode> {
     }
 }
 
+fn upgrade_trace(rt: &HostRuntime) -> io::Result<ExitCode> {
+    let Ok(traced) = read_trace(rt.alloc(), &mut rt.stdin()) else {
+        return Ok(ExitCode::from(1));
+    };
+    let is_of_two = traced.upgrade().heading().version() == Version::Two;
+    Ok(ExitCode::from(if is_of_two { 0 } else { 1 }))
+}
+
 fn main(rt: HostRuntime) -> io::Result<ExitCode> {
     let args = env::args(&rt)?;
     let words: Result<Vec<String>, AllocError> = args.collect(rt.alloc());
@@ -54,6 +63,7 @@ fn main(rt: HostRuntime) -> io::Result<ExitCode> {
     };
     match what.as_str() {
         "parse" => parse_input(&rt),
+        "upgrade" => upgrade_trace(&rt),
         other => copy_trace(&rt, other == "write"),
     }
 }

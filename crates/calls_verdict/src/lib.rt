@@ -15,5 +15,5 @@ pub use laws::{
     a_fault_leaves_no_linearization, a_refusal_is_final, every_history_is_decided,
     what_is_shown_is_a_fault,
 };
-pub use splitting::split;
+pub use splitting::{find, follow, split};
 pub use verdict::{Decision, Fault, Refusal, Undecided, Verdict};

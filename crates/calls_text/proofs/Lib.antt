@@ -1,0 +1,5 @@
+mod Words
+mod Adding
+mod Fitting
+mod Coming
+mod Lines

@@ -1,0 +1,12 @@
+pub mod Faults
+pub mod Causes
+pub mod Verbs
+pub mod Forms
+pub mod Objects
+pub mod Lists
+pub mod Tallies
+pub mod Recordings
+pub mod Reading
+pub mod Outcomes
+pub mod Spelling
+pub mod kept

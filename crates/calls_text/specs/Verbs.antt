@@ -1,0 +1,63 @@
+-- The words for calls, as a table.
+use Rattle.std.specs.Prelude.{ℕ, Bool, true, false, List, Option, Some, None, if◌then◌else◌}
+use Rattle.std.specs.Prelude.{bytes_eq, codes}
+use Rattle.calls_text.specs.declared.verb.Verb.{Verb}
+use Rattle.calls_text.specs.declared.verb.Verb.TheVariants as verbs
+use Rattle.calls_text.specs.declared.verb.Tail.{Tail}
+use Rattle.calls_text.specs.declared.verb.Tail.TheVariants as tails
+
+-- the word for a call
+abbrev pub verb_word : Verb → List ℕ
+verb_word verbs.Advance = codes "advance"
+verb_word verbs.Read = codes "read"
+verb_word verbs.Await = codes "await"
+verb_word verbs.Ticket = codes "ticket"
+verb_word verbs.Put = codes "put"
+verb_word verbs.Get = codes "get"
+verb_word verbs.P = codes "p"
+verb_word verbs.V = codes "v"
+verb_word verbs.PBoth = codes "pboth"
+verb_word verbs.Write = codes "write"
+verb_word verbs.Snapshot = codes "snapshot"
+
+-- the call of an object of no group that a word stands for
+abbrev pub object_verb_of : List ℕ → Option Verb
+object_verb_of w =
+    if bytes_eq w (codes "advance") then Some verbs.Advance
+    else (if bytes_eq w (codes "read") then Some verbs.Read
+    else (if bytes_eq w (codes "await") then Some verbs.Await
+    else (if bytes_eq w (codes "ticket") then Some verbs.Ticket
+    else (if bytes_eq w (codes "put") then Some verbs.Put
+    else (if bytes_eq w (codes "get") then Some verbs.Get else None)))))
+
+-- the call of a group that a word stands for
+abbrev pub group_verb_of : List ℕ → Option Verb
+group_verb_of w =
+    if bytes_eq w (codes "p") then Some verbs.P
+    else (if bytes_eq w (codes "v") then Some verbs.V
+    else (if bytes_eq w (codes "pboth") then Some verbs.PBoth
+    else (if bytes_eq w (codes "write") then Some verbs.Write
+    else (if bytes_eq w (codes "snapshot") then Some verbs.Snapshot else None))))
+
+abbrev pub or_else : Option Verb → Option Verb → Option Verb
+or_else None other = other
+or_else (Some v) other = Some v
+
+-- the call that a word stands for
+abbrev pub verb_of : List ℕ → Option Verb
+verb_of w = or_else (object_verb_of w) (group_verb_of w)
+
+-- what stands after the object
+abbrev pub tail_of : Verb → Tail
+tail_of verbs.Await = tails.Digits
+tail_of verbs.Put = tails.Digits
+tail_of verbs.Write = tails.ManyDigits
+tail_of verbs.PBoth = tails.Word
+tail_of _ = tails.Nothing
+
+-- whether it advances or writes; else it observes or reads
+abbrev pub is_giving : Verb → Bool
+is_giving verbs.Advance = true
+is_giving verbs.Put = true
+is_giving verbs.Write = true
+is_giving _ = false

@@ -1,0 +1,55 @@
+-- What the code keeps of a history while its events come.
+use Rattle.std.specs.Prelude.{◌≡◌, ℕ, ◌<◌, List, length, reverse, Some, slice_get}
+use Rattle.calls_core.specs.declared.history.Kind.{Kind}
+use Rattle.calls_core.specs.declared.history.Action.{Action}
+use Rattle.calls_core.specs.declared.history.PendingCall.{PendingCall}
+use Rattle.calls_core.specs.Histories.{pending_calls, IsNext}
+use Rattle.calls_text.specs.declared.tally.Tally.{Tally}
+use Rattle.calls_text.specs.Recordings.{Recorded, AreKinds}
+use Rattle.calls_text.specs.Tallies.{IsCounted}
+use Rattle.calls_text.specs.Reading.{pending_in}
+use Rattle.calls_text.specs.declared.running.Running.{Running}
+use Rattle.calls_text.specs.declared.verb.Verb.{Verb}
+use Rattle.calls_text.specs.declared.verb.Verb.TheVariants as verbs
+use Rattle.calls_text.specs.declared.object.Object.{Object}
+use Rattle.calls_text.specs.declared.object.Object.TheVariants as objects
+use Rattle.ec_heading.specs.Headed.{Headed}
+use Rattle.ec_heading.specs.declared.group.Group.TheVariants as groups
+
+-- these are the pending calls, and the numbers of the advances
+pub record IsRun (r : Recorded) (pending : List PendingCall) (tally : Tally) : Type 0 where
+  pub pending_is : pending ≡ pending_calls (reverse r.events)
+  pub counted : IsCounted tally r.events
+
+-- this may be the next event of the worker
+abbrev pub MayCome : Recorded → ℕ → Action → Type 0
+MayCome r w a =
+    (kinds : List Kind) → AreKinds r.heading r.from kinds → IsNext kinds a (pending_in r.events w)
+
+abbrev pub IsRunning : Running → Type 0
+IsRunning r = IsRun r.recording r.pending.items r.tally
+
+abbrev pub IsPendingAfter : Running → Type 0
+IsPendingAfter r = r.pending.items ≡ pending_calls (reverse r.recording.events)
+
+-- a database is one of the groups
+abbrev pub IsPlaced : Headed → Object → Type 0
+IsPlaced h (objects.Database i d) = i < length h.groups
+IsPlaced h _ = Unit {0}
+
+-- the object is of the sort that the call asks for; its groups are those at its places
+abbrev pub Fits : Headed → Verb → Object → Type 0
+Fits h verbs.Advance (objects.Event e) = Unit {0}
+Fits h verbs.Read (objects.Event e) = Unit {0}
+Fits h verbs.Await (objects.Event e) = Unit {0}
+Fits h verbs.Ticket (objects.Sequencer q) = Unit {0}
+Fits h verbs.Put (objects.Cell x) = Unit {0}
+Fits h verbs.Get (objects.Cell x) = Unit {0}
+Fits h verbs.P (objects.Semaphore i s) = slice_get h.groups i ≡ Some (groups.Semaphore s)
+Fits h verbs.V (objects.Semaphore i s) = slice_get h.groups i ≡ Some (groups.Semaphore s)
+Fits h verbs.PBoth (objects.Pair i one j other common) =
+    (slice_get h.groups i ≡ Some (groups.Semaphore one))
+    × (slice_get h.groups j ≡ Some (groups.Semaphore other))
+Fits h verbs.Write (objects.Database i d) = slice_get h.groups i ≡ Some (groups.Database d)
+Fits h verbs.Snapshot (objects.Database i d) = slice_get h.groups i ≡ Some (groups.Database d)
+Fits h _ _ = ⊥

@@ -1,0 +1,241 @@
+//! Why a text is no history.
+ghost use Rattle.std.specs.Prelude.{◌≡◌};
+ghost use Rattle.calls_text.specs.Faults.{kind_number, kind_name, kind_of_head, line_fault};
+ghost use Rattle.calls_text.specs.Causes.{cause_of, header_cause, line_cause, has_tab, has_space};
+
+use ec_heading::{HeadFault, LINE_MAX};
+use thiserror::Error;
+
+/// Why a line is rejected: the least of these that holds of it. The numbers of those that scripts
+/// have too are the same there.
+#[derive(Clone, Copy, Debug, PartialEq, Eq, Error)]
+pub enum Kind {
+    /// The line in the place of the first one is not `evc-calls 1`.
+    #[error("evc-calls 1 is expected")]
+    BadHeader,
+    /// The line has more than 8192 bytes or none of the forms allowed in its place.
+    #[error("no line of this form may stand here")]
+    BadLine,
+    /// A word in the place of a new name is not a name.
+    #[error("a word is no name")]
+    BadName,
+    /// A new name was used before, or a list names a worker twice.
+    #[error("a name was used before")]
+    NameTaken,
+    /// A word in the place of a worker or object spells none of the right sort.
+    #[error("a name is not declared")]
+    UnknownName,
+    /// A number is outside its range, or there are not as many values as cells.
+    #[error("a number is out of range")]
+    BadNumber,
+    /// A table would pass its bound.
+    #[error("a table would pass its bound")]
+    TooMany,
+    /// An object of a group is called by its own name.
+    #[error("the object belongs to a group")]
+    Hidden,
+    /// A worker stands in both lists of a group, or P on two semaphores names one twice.
+    #[error("one stands in both roles")]
+    TwoRoles,
+    /// The worker lacks the right.
+    #[error("the worker lacks the right")]
+    NoRight,
+    /// The eventcount of a `from` line is not declared after that of the one before.
+    #[error("the from lines are not in the order of the declarations")]
+    BadOrder,
+    /// The text ends before an `end` line, or without its last LF.
+    #[error("the text ends too early")]
+    Unfinished,
+    /// The worker calls, and its call is pending.
+    #[error("the call of the worker is pending")]
+    Busy,
+    /// The worker returns, and has no pending call.
+    #[error("the worker has no pending call")]
+    Idle,
+    /// The reply does not suit the pending call.
+    #[error("the reply does not suit the call")]
+    Unsuited,
+    /// The worker has called as many advances of the eventcount as the limit allows, or a ticket
+    /// returns the limit or more.
+    #[error("the limit is passed")]
+    AtLimit,
+}
+
+impl Kind {
+    /// Returns its place in the order, from 1 to 16.
+    pub fn number(self) -> u64
+        ensures { result ≡ kind_number self }
+    {
+        match self {
+            Kind::BadHeader => 1,
+            Kind::BadLine => 2,
+            Kind::BadName => 3,
+            Kind::NameTaken => 4,
+            Kind::UnknownName => 5,
+            Kind::BadNumber => 6,
+            Kind::TooMany => 7,
+            Kind::Hidden => 8,
+            Kind::TwoRoles => 9,
+            Kind::NoRight => 10,
+            Kind::BadOrder => 11,
+            Kind::Unfinished => 12,
+            Kind::Busy => 13,
+            Kind::Idle => 14,
+            Kind::Unsuited => 15,
+            Kind::AtLimit => 16,
+        }
+    }
+
+    /// Returns its name, as notes print it.
+    pub fn name(self) -> &'static str
+        ensures { result.now ≡ kind_name self }
+    {
+        match self {
+            Kind::BadHeader => "BadHeader",
+            Kind::BadLine => "BadLine",
+            Kind::BadName => "BadName",
+            Kind::NameTaken => "NameTaken",
+            Kind::UnknownName => "UnknownName",
+            Kind::BadNumber => "BadNumber",
+            Kind::TooMany => "TooMany",
+            Kind::Hidden => "Hidden",
+            Kind::TwoRoles => "TwoRoles",
+            Kind::NoRight => "NoRight",
+            Kind::BadOrder => "BadOrder",
+            Kind::Unfinished => "Unfinished",
+            Kind::Busy => "Busy",
+            Kind::Idle => "Idle",
+            Kind::Unsuited => "Unsuited",
+            Kind::AtLimit => "AtLimit",
+        }
+    }
+}
+
+/// What is wrong with a line that has no form of its place: the first of these that holds of it.
+#[derive(Clone, Copy, Debug, PartialEq, Eq)]
+pub enum Cause {
+    /// It has more than 8192 bytes.
+    Long,
+    /// It begins with a byte order mark.
+    Mark,
+    /// It ends in a carriage return.
+    Return,
+    /// It has a tab.
+    Tab,
+    /// It has no byte.
+    Empty,
+    /// It begins or ends with a space, or has two in a row.
+    Space,
+    /// It is the first line of a trace, where that of a history is expected.
+    Trace,
+    /// It is the first line of a script, where that of a history is expected.
+    Script,
+    /// None of these.
+    Other,
+}
+
+/// Why no history was read.
+#[derive(Clone, Copy, Debug, PartialEq, Eq, Error)]
+pub enum TextFault {
+    /// The first faulty line, counted from 1, its least kind, and what is wrong with its form.
+    #[error("line {line}: {kind}")]
+    At { line: u64, kind: Kind, cause: Cause },
+    /// An allocation failed.
+    #[error("out of memory")]
+    Memory,
+}
+
+/// Why a line was not taken.
+#[derive(Clone, Copy, Debug, PartialEq, Eq)]
+pub(crate) enum LineFault {
+    Of(Kind),
+    Memory,
+}
+
+/// Returns the kind of a fault of a line of a heading.
+fn kind_of_head(fault: HeadFault) -> Kind
+    ensures { result ≡ kind_of_head fault }
+{
+    match fault {
+        HeadFault::BadLine | HeadFault::Memory => Kind::BadLine,
+        HeadFault::BadName => Kind::BadName,
+        HeadFault::NameTaken => Kind::NameTaken,
+        HeadFault::UnknownName => Kind::UnknownName,
+        HeadFault::BadNumber => Kind::BadNumber,
+        HeadFault::TooMany => Kind::TooMany,
+        HeadFault::TwoRoles => Kind::TwoRoles,
+    }
+}
+
+/// Returns why a line was not taken that a heading rejected.
+pub(crate) fn line_fault(fault: HeadFault) -> LineFault
+    ensures { result ≡ line_fault fault }
+{
+    match fault {
+        HeadFault::Memory => LineFault::Memory,
+        other => LineFault::Of(kind_of_head(other)),
+    }
+}
+
+/// Returns whether a line has a tab.
+fn has_tab(line: &[u8]) -> bool
+    ensures { result ≡ has_tab line.now }
+{
+    line.iter().any(|b| *b == b'\t')
+}
+
+/// Returns whether a word of a line is empty.
+fn has_space(line: &[u8]) -> bool
+    ensures { result ≡ has_space line.now }
+{
+    ec_text::has_blank(line)
+}
+
+/// Returns what is wrong with the form of a line, wherever it stands.
+fn line_cause(line: &[u8]) -> Cause
+    ensures { result ≡ line_cause line.now }
+{
+    if line.len() > LINE_MAX {
+        return Cause::Long;
+    }
+    if line.starts_with(b"\xEF\xBB\xBF".as_slice()) {
+        return Cause::Mark;
+    }
+    if line.ends_with(b"\r".as_slice()) {
+        return Cause::Return;
+    }
+    if has_tab(line) {
+        return Cause::Tab;
+    }
+    if line.is_empty() {
+        return Cause::Empty;
+    }
+    if has_space(line) {
+        return Cause::Space;
+    }
+    Cause::Other
+}
+
+/// Returns what is wrong with a line in the place of the first one.
+fn header_cause(line: &[u8]) -> Cause
+    ensures { result ≡ header_cause line.now }
+{
+    if line == b"evc-trace 1".as_slice() || line == b"evc-trace 2".as_slice() {
+        return Cause::Trace;
+    }
+    if line == b"evc-script 1".as_slice() || line == b"evc-script 2".as_slice() {
+        return Cause::Script;
+    }
+    line_cause(line)
+}
+
+/// Returns what is wrong with the form of a line with a fault of this kind.
+pub(crate) fn cause_of(kind: Kind, line: &[u8]) -> Cause
+    ensures { result ≡ cause_of kind line.now }
+{
+    match kind {
+        Kind::BadHeader => header_cause(line),
+        Kind::BadLine => line_cause(line),
+        _ => Cause::Other,
+    }
+}

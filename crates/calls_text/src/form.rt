@@ -1,0 +1,158 @@
+//! The form of a line of an event.
+ghost use Rattle.std.specs.Prelude.{◌≡◌, option_map};
+ghost use Rattle.std.specs.List.{list_all};
+ghost use Rattle.ec_text.specs.Words.{words_of, is_number_form};
+ghost use Rattle.calls_text.specs.Forms.{is_tail, is_word, rest_words, call_in, return_in};
+ghost use Rattle.calls_text.specs.Forms.{answer_of, phrase_in, shown};
+
+use crate::verb::{Tail, Verb, verb_of};
+use ec_text::{cut_word, is_number_form};
+
+/// What a response says.
+#[derive(Clone, Copy, Debug, PartialEq, Eq)]
+pub(crate) enum Answer {
+    Done,
+    Timeout,
+    /// One number or more.
+    Numbers,
+}
+
+/// A line of one of the forms, by its words.
+#[derive(Clone, Copy)]
+pub(crate) enum Parts<'a> {
+    Calls {
+        worker: &'a [u8],
+        verb: Verb,
+        object: &'a [u8],
+        rest: Option<&'a [u8]>,
+    },
+    Returns {
+        worker: &'a [u8],
+        answer: Answer,
+        list: &'a [u8],
+    },
+}
+
+/// Returns whether each word has the form of a number.
+fn are_number_forms(list: &[u8]) -> bool
+    ensures { result ≡ list_all is_number_form (words_of list.now) }
+{
+    let (word, rest) = cut_word(list);
+    if !is_number_form(word) {
+        return false;
+    }
+    match rest {
+        None => true,
+        Some(rest) => are_number_forms(rest),
+    }
+}
+
+/// Returns whether this is one word.
+#[tactic(auto, using(crate::proofs::Words::some_words))]
+fn is_one_word(list: &[u8]) -> bool
+    ensures { result ≡ is_tail Tail.Word (words_of list.now) }
+{
+    let (_, rest) = cut_word(list);
+    rest.is_none()
+}
+
+/// Returns whether this is one word that has the form of a number.
+#[tactic(auto, using(crate::proofs::Words::two_words))]
+fn is_one_number(list: &[u8]) -> bool
+    ensures { result ≡ is_tail Tail.Digits (words_of list.now) }
+{
+    let (word, rest) = cut_word(list);
+    rest.is_none() && is_number_form(word)
+}
+
+/// Returns whether this is such a tail.
+#[tactic(auto, using(crate::proofs::Words::some_words))]
+fn is_tail(tail: Tail, rest: Option<&[u8]>) -> bool
+    ensures { result ≡ is_tail tail (rest_words rest.entry) }
+{
+    match (tail, rest) {
+        (Tail::Nothing, rest) => rest.is_none(),
+        (_, None) => false,
+        (Tail::Digits, Some(list)) => is_one_number(list),
+        (Tail::ManyDigits, Some(list)) => are_number_forms(list),
+        (Tail::Word, Some(list)) => is_one_word(list),
+    }
+}
+
+/// Returns the parts of an invocation, from the word of the call on.
+fn call_of<'a>(worker: &'a [u8], line: &'a [u8]) -> Option<Parts<'a>>
+    ensures { option_map shown result ≡ call_in worker.now (words_of line.now) }
+{
+    let (word, Some(line)) = cut_word(line) else {
+        return None;
+    };
+    let verb = verb_of(word)?;
+    let (object, rest) = cut_word(line);
+    if !is_tail(verb.tail(), rest) {
+        return None;
+    }
+    Some(Parts::Calls {
+        worker,
+        verb,
+        object,
+        rest,
+    })
+}
+
+/// Returns whether this is this one word.
+#[tactic(auto, using(crate::proofs::Words::two_words))]
+fn is_word(word: &[u8], list: &[u8]) -> bool
+    ensures { result ≡ is_word word.now (words_of list.now) }
+{
+    let (first, rest) = cut_word(list);
+    rest.is_none() && first == word
+}
+
+/// Returns what a response says.
+#[tactic(auto, using(crate::proofs::Words::some_words))]
+fn answer_of(list: &[u8]) -> Option<Answer>
+    ensures { result ≡ answer_of (words_of list.now) }
+{
+    if is_word(b"done".as_slice(), list) {
+        return Some(Answer::Done);
+    }
+    if is_word(b"timeout".as_slice(), list) {
+        return Some(Answer::Timeout);
+    }
+    if are_number_forms(list) {
+        return Some(Answer::Numbers);
+    }
+    None
+}
+
+/// Returns the parts of a response, from what it says on.
+fn return_of<'a>(worker: &'a [u8], list: &'a [u8]) -> Option<Parts<'a>>
+    ensures { option_map shown result ≡ return_in worker.now (words_of list.now) }
+{
+    let answer = answer_of(list)?;
+    Some(Parts::Returns {
+        worker,
+        answer,
+        list,
+    })
+}
+
+/// Returns the parts of a line of one of the forms.
+#[tactic(auto, unfolding(crate::specs::Forms::phrase_in))]
+pub(crate) fn parts_of(line: &[u8]) -> Option<Parts<'_>>
+    ensures { option_map shown result ≡ phrase_in (words_of line.now) }
+{
+    let (worker, Some(line)) = cut_word(line) else {
+        return None;
+    };
+    let (word, Some(line)) = cut_word(line) else {
+        return None;
+    };
+    if word == b"calls".as_slice() {
+        return call_of(worker, line);
+    }
+    if word == b"returns".as_slice() {
+        return return_of(worker, line);
+    }
+    None
+}

@@ -1,0 +1,22 @@
+//! Histories of calls as text, read exactly.
+#![tactic(auto)]
+
+mod fault;
+mod form;
+mod index;
+mod lists;
+mod object;
+mod opening;
+mod reading;
+mod recording;
+mod running;
+mod stage;
+mod tally;
+mod verb;
+
+pub use fault::{Cause, Kind, TextFault};
+pub use index::{first_cell, first_group, first_sequencer, numbers_of};
+pub use lists::Lists;
+pub use object::{has_cell, has_count, has_line};
+pub use reading::{Read, read_history};
+pub use recording::Recording;

@@ -1,0 +1,211 @@
+//! What the lines of a history declare, up to its line `run`.
+ghost use Rattle.std.specs.Prelude.{◌≡◌, option_map, Some};
+ghost use Rattle.ec_heading.specs.Heading.{head_step};
+ghost use Rattle.ec_text.specs.Words.{words_of, number_of};
+ghost use Rattle.calls_text.specs.Reading.{Steps, limit_digits, limit_step, from_words, is_later};
+ghost use Rattle.calls_text.specs.Reading.{from_step, started, start_in, opens_from, is_from};
+ghost use Rattle.calls_text.specs.Reading.{headed_on, draft_step, is_run};
+ghost use Rattle.calls_text.specs.kept.Results.{IsLimit, Opens};
+
+use crate::fault::{Kind, LineFault, line_fault};
+use crate::object::{Object, is_owned};
+use ec_count::{EventId, Limit};
+use ec_heading::{Heading, LINE_MAX, Version};
+use ec_text::{cut_word, has_blank, is_number_form, number};
+use std::alloc::{AllocError, Global};
+use std::marker::Model;
+
+/// What is declared, and the counts at the beginning so far.
+#[derive(Drop)]
+pub(crate) struct Draft {
+    pub(crate) heading: Heading,
+    pub(crate) from: Vec<(EventId, u64)>,
+}
+
+impl Model for Draft {
+    ghost use Rattle.calls_text.specs.Reading as reading;
+
+    ghost Value = { reading.Draft };
+
+    ghost view = { λ d. record { heading = d.heading; from = d.from.items } };
+}
+
+/// Returns the digits after the word `limit`, if nothing else stands there.
+#[tactic(auto, using(crate::proofs::Words::third_word))]
+fn limit_digits(line: &[u8]) -> Option<&[u8]>
+    ensures { option_map (λ w. w.now) result ≡ limit_digits (words_of line.now) }
+{
+    let (word, Some(rest)) = cut_word(line) else {
+        return None;
+    };
+    let (digits, None) = cut_word(rest) else {
+        return None;
+    };
+    if word == b"limit".as_slice() && is_number_form(digits) {
+        Some(digits)
+    } else {
+        None
+    }
+}
+
+/// Returns the limit that a line gives.
+#[tactic(auto, unfolding(crate::specs::Reading::limit_step))]
+fn limit_of(line: &[u8]) -> Result<Limit, Kind>
+    ensures { IsLimit result (limit_step line.now) }
+{
+    if line.len() > LINE_MAX {
+        return Err(Kind::BadLine);
+    }
+    let Some(digits) = limit_digits(line) else {
+        return Err(Kind::BadLine);
+    };
+    let Some(n) = number(digits) else {
+        return Err(Kind::BadNumber);
+    };
+    match Version::Two.limit(n) {
+        Some(limit) => Ok(limit),
+        None => Err(Kind::BadNumber),
+    }
+}
+
+/// Returns the eventcount and the digits of a line `from E n`.
+#[tactic(auto, using(crate::proofs::Words::fourth_word))]
+fn from_words(line: &[u8]) -> Option<(&[u8], &[u8])>
+    ensures { option_map (λ p. (p.0.now, p.1.now)) result ≡ from_words (words_of line.now) }
+{
+    let (word, Some(rest)) = cut_word(line) else {
+        return None;
+    };
+    let (event, Some(rest)) = cut_word(rest) else {
+        return None;
+    };
+    let (digits, None) = cut_word(rest) else {
+        return None;
+    };
+    if word == b"from".as_slice() && is_number_form(digits) {
+        Some((event, digits))
+    } else {
+        None
+    }
+}
+
+/// Returns whether a line begins with the word `from`.
+fn opens_from(line: &[u8]) -> bool
+    ensures { result ≡ opens_from (words_of line.now) }
+{
+    let (word, _) = cut_word(line);
+    word == b"from".as_slice()
+}
+
+/// Returns whether an eventcount is declared after those that have a count already.
+fn is_later(from: &[(EventId, u64)], event: EventId) -> bool
+    ensures { result ≡ is_later from.now event }
+{
+    match from {
+        [] => true,
+        [(last, _)] => last.get() < event.get(),
+        [_, rest @ ..] => is_later(rest, event),
+    }
+}
+
+impl Draft {
+    /// Returns a draft with the limit that a line gives, and nothing else.
+    pub(crate) fn open(alloc: Global, line: &[u8]) -> Result<Draft, LineFault>
+        ensures { Opens result (limit_step line.now) }
+    {
+        let limit = match limit_of(line) {
+            Ok(limit) => limit,
+            Err(kind) => return Err(LineFault::Of(kind)),
+        };
+        match Heading::new(alloc, Version::Two, limit) {
+            Ok(heading) => Ok(Draft {
+                heading,
+                from: Vec::new(alloc),
+            }),
+            Err(_) => Err(LineFault::Memory),
+        }
+    }
+
+    /// Returns the count that digits give, if it may be one at the beginning.
+    fn start(&self, digits: &[u8]) -> Option<u64>
+        ensures { result ≡ start_in self.now.heading (number_of digits.now) }
+    {
+        let n = number(digits)?;
+        if 1 <= n && n <= self.heading.setup().limit().get() {
+            Some(n)
+        } else {
+            None
+        }
+    }
+
+    /// Takes the count of an eventcount at the beginning.
+    fn take_start(&mut self, event: EventId, digits: &[u8]) -> Result<(), LineFault>
+        ensures { Steps result (started self.old (Some event) digits.now) self.new }
+    {
+        let Some(n) = self.start(digits) else {
+            return Err(LineFault::Of(Kind::BadNumber));
+        };
+        if is_owned(self.heading.groups(), &Object::Event(event)) {
+            return Err(LineFault::Of(Kind::Hidden));
+        }
+        if !is_later(&self.from, event) {
+            return Err(LineFault::Of(Kind::BadOrder));
+        }
+        match self.from.push((event, n)) {
+            Ok(()) => Ok(()),
+            Err(_) => Err(LineFault::Memory),
+        }
+    }
+
+    /// Takes a line on a count at the beginning.
+    #[tactic(auto, unfolding(crate::specs::Reading::from_step))]
+    fn take_from(&mut self, line: &[u8]) -> Result<(), LineFault>
+        ensures { Steps result (from_step self.old line.now) self.new }
+    {
+        if line.len() > LINE_MAX || has_blank(line) {
+            return Err(LineFault::Of(Kind::BadLine));
+        }
+        let Some((word, digits)) = from_words(line) else {
+            return Err(LineFault::Of(Kind::BadLine));
+        };
+        let Some(event) = self.heading.event(word) else {
+            return Err(LineFault::Of(Kind::UnknownName));
+        };
+        self.take_start(event, digits)
+    }
+
+    /// Returns whether this is a line on a count at the beginning.
+    fn is_from(&self, line: &[u8]) -> bool
+        ensures { result ≡ is_from self.now line.now }
+    {
+        !self.from.is_empty() || (opens_from(line) && self.heading.setup().workers() > 0)
+    }
+
+    /// Takes a line of a heading.
+    fn take_heading(&mut self, line: &[u8]) -> Result<(), LineFault>
+        ensures { Steps result (headed_on self.old (head_step self.old.heading line.now)) self.new }
+    {
+        match self.heading.line(line) {
+            Ok(()) => Ok(()),
+            Err(fault) => Err(line_fault(fault)),
+        }
+    }
+
+    /// Takes the next line, without its LF.
+    pub(crate) fn line(&mut self, line: &[u8]) -> Result<(), LineFault>
+        ensures { Steps result (draft_step self.old line.now) self.new }
+    {
+        if self.is_from(line) {
+            self.take_from(line)
+        } else {
+            self.take_heading(line)
+        }
+    }
+
+    /// Returns whether the line may be the last before the events.
+    pub(crate) fn is_run(&self, line: &[u8]) -> bool
+        ensures { result ≡ is_run self.now line.now }
+    {
+        line == b"run".as_slice() && self.heading.setup().workers() > 0
+    }
+}

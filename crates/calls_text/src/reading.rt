@@ -1,0 +1,102 @@
+//! The first history of a text.
+ghost use Rattle.std.specs.Prelude.{◌≡◌, ◌≢◌, ◌<◌, ◌≤◌, ◌+◌, ◌^◌, All, IfOk, true, false, length};
+ghost use Rattle.calls_text.specs.Outcomes.{Tells, TellsFault, goes, ended, parts_of, fault_at};
+ghost use Rattle.calls_text.specs.Reading.{is_ended};
+ghost use Rattle.calls_text.specs.Reading as reading;
+ghost use Rattle.calls_text.specs.kept.Stages.{seen, IsSound};
+
+use crate::fault::{Kind, LineFault, TextFault, cause_of};
+use crate::recording::Recording;
+use crate::stage::Stage;
+use ec_text::cut_line;
+use std::alloc::Global;
+
+/// A history of a text, and what stands after it.
+#[derive(Drop)]
+pub struct Read<'a> {
+    /// The history.
+    pub recording: Recording,
+    /// The number of the line after its `end`.
+    pub number: u64,
+    /// The text from that line on.
+    pub rest: &'a [u8],
+}
+
+/// Returns why a line was not taken, with its number.
+fn fault_at(line: u64, text: &[u8], fault: LineFault) -> TextFault
+    ensures { result ≡ fault_at line text.now fault }
+{
+    match fault {
+        LineFault::Memory => TextFault::Memory,
+        LineFault::Of(kind) => {
+            let cause = cause_of(kind, text);
+            TextFault::At { line, kind, cause }
+        }
+    }
+}
+
+/// Returns what a text comes to whose last line, of number n, lacks its LF.
+fn cut_off(alloc: Global, stage: Stage, line: u64, rest: &[u8]) -> TextFault
+    requires sound { IsSound stage }
+    requires going { is_ended (seen stage) ≡ false }
+    ensures { TellsFault (ended line (seen stage) rest.now) result }
+{
+    if rest.is_empty() {
+        return fault_at(line, rest, LineFault::Of(Kind::Unfinished));
+    }
+    match stage.after(alloc, rest) {
+        Err(fault) => fault_at(line, rest, fault),
+        Ok(_) => fault_at(line, rest, LineFault::Of(Kind::Unfinished)),
+    }
+}
+
+/// Returns the history of an ended stage, or what a text comes to that ends in this one.
+fn finish<'a>(
+    alloc: Global,
+    stage: Stage,
+    number: u64,
+    rest: &'a [u8],
+) -> Result<Read<'a>, TextFault>
+    requires sound { IsSound stage }
+    requires last { is_ended (seen stage) ≡ false → All (λ b. b ≢ 10) rest.now }
+    ensures tells { Tells (goes number (seen stage) (parts_of rest.now)) result }
+    ensures over { IfOk result (λ read. is_ended (seen stage) ≡ true) }
+    ensures number { IfOk result (λ read. read.number ≡ number) }
+    ensures rest { IfOk result (λ read. read.rest.now ≡ rest.now) }
+{
+    match stage {
+        Stage::Ended(recording) => Ok(Read {
+            recording,
+            number,
+            rest,
+        }),
+        other => Err(cut_off(alloc, other, number, rest)),
+    }
+}
+
+/// Reads the first history of a text, whose first line has this number, up to its first fault.
+///
+/// What stands after the last LF is judged like every line, and then the text is unfinished.
+pub fn read_history(alloc: Global, text: &[u8], number: u64) -> Result<Read<'_>, TextFault>
+    requires { number + length text.now < 2 ^ 64 }
+    ensures tells { Tells (goes number reading.Opening (parts_of text.now)) result }
+    ensures shorter { IfOk result (λ read. length read.rest.now < length text.now) }
+    ensures numbers { IfOk result
+        (λ read. read.number + length read.rest.now ≤ number + length text.now) }
+{
+    let mut stage = Stage::Opening;
+    let mut at = number;
+    let mut rest = text;
+    while !stage.is_ended() {
+        let Some((line, behind)) = cut_line(rest) else {
+            return finish(alloc, stage, at, rest);
+        };
+        stage = match stage.after(alloc, line) {
+            Ok(stage) => stage,
+            Err(fault) => return Err(fault_at(at, line, fault)),
+        };
+        at += 1;
+        rest = behind;
+    }
+    finish(alloc, stage, at, rest)
+}

@@ -1,0 +1,226 @@
+//! A history of calls under a heading.
+ghost use Rattle.std.specs.Prelude.{◌≡◌, ◌≤◌, ◌<◌, ◌+◌, ◌++◌, [], ℕ, length, map, slice_get, IfOk};
+ghost use Rattle.std.specs.Prelude.{OnOk, Some};
+ghost use Rattle.calls_core.specs.declared.history.Kind.TheVariants.{Eventcount, Sequencer, Cell};
+ghost use Rattle.calls_core.specs.declared.history.Kind.TheVariants.{Database, Semaphores};
+ghost use Rattle.calls_text.specs.Recordings.{AreKinds, IsRecording, HasFrom, HasUnits, HasGroups};
+ghost use Rattle.calls_text.specs.Recordings.{start_of, initial_of, cells_of};
+ghost use Rattle.calls_text.specs.kept.Adding.{Grows};
+ghost use Rattle.calls_text.specs.kept.Runs.{MayCome};
+ghost use Rattle.calls_text.specs.Reading.{with_event, recorded_of};
+
+use crate::index::cells_of;
+use crate::lists::Lists;
+use calls_core::{Action, Event, Kind};
+use ec_count::EventId;
+use ec_heading::{Group, Heading};
+use std::alloc::{AllocError, Global};
+use std::marker::Model;
+
+/// A history of calls: what is declared, and the events.
+#[derive(Drop)]
+pub struct Recording {
+    pub(crate) heading: Heading,
+    pub(crate) from: Vec<(EventId, u64)>,
+    pub(crate) kinds: Vec<Kind>,
+    pub(crate) events: Vec<Event>,
+    pub(crate) lists: Lists,
+}
+
+impl Model for Recording {
+    ghost use Rattle.calls_text.specs.Recordings.{Recorded, IsRecording};
+
+    ghost Value = { Recorded };
+
+    ghost view = { λ r. record {
+      heading = r.heading;
+      from = r.from.items;
+      events = r.events.items;
+      lists = r.lists;
+    } };
+
+    ghost invariant = { λ r. IsRecording (record {
+      heading = r.heading;
+      from = r.from.items;
+      events = r.events.items;
+      lists = r.lists;
+    }) r.kinds.items };
+}
+
+/// Returns the count of an eventcount at the beginning.
+fn start_of(from: &[(EventId, u64)], event: usize) -> u64
+    ensures { result ≡ start_of from.now event }
+{
+    match from {
+        [] => 0,
+        [(other, n), rest @ ..] => {
+            if other.get() == event {
+                *n
+            } else {
+                start_of(rest, event)
+            }
+        }
+    }
+}
+
+/// Adds so many eventcounts, with their counts at the beginning.
+fn add_events(
+    kinds: &mut Vec<Kind>,
+    from: &[(EventId, u64)],
+    count: usize,
+) -> Result<(), AllocError>
+    ensures grows { OnOk result (Grows kinds.old.items kinds.new.items count) }
+    ensures are { OnOk result (HasFrom kinds.new.items (length kinds.old.items) count
+        (λ e. Eventcount (start_of from.now e))) }
+{
+    for event in 0..count {
+        kinds.push(Kind::Eventcount(start_of(from, event) as usize))?;
+    }
+    Ok(())
+}
+
+/// Adds so many sequencers.
+fn add_sequencers(kinds: &mut Vec<Kind>, count: usize) -> Result<(), AllocError>
+    ensures grows { OnOk result (Grows kinds.old.items kinds.new.items count) }
+    ensures are { OnOk result (HasFrom kinds.new.items (length kinds.old.items) count
+        (λ q. Sequencer)) }
+{
+    for _sequencer in 0..count {
+        kinds.push(Kind::Sequencer)?;
+    }
+    Ok(())
+}
+
+/// Adds so many cells.
+fn add_cells(kinds: &mut Vec<Kind>, count: usize) -> Result<(), AllocError>
+    ensures grows { OnOk result (Grows kinds.old.items kinds.new.items count) }
+    ensures are { OnOk result (HasFrom kinds.new.items (length kinds.old.items) count (λ x. Cell)) }
+{
+    for _cell in 0..count {
+        kinds.push(Kind::Cell)?;
+    }
+    Ok(())
+}
+
+/// Returns the units of a semaphore at first, 0 of another group.
+fn initial_of(group: &Group) -> usize
+    ensures { result ≡ initial_of group.now }
+{
+    match *group {
+        Group::Semaphore(shape) => shape.initial() as usize,
+        _ => 0,
+    }
+}
+
+/// Returns the units of the semaphores at first, by the places of their groups.
+fn units_of(alloc: Global, groups: &[Group]) -> Result<Vec<usize>, AllocError>
+    ensures { IfOk result (λ units. units.items ≡ map initial_of groups.now) }
+{
+    groups.iter().map(|group| initial_of(group)).collect(alloc)
+}
+
+/// Adds the semaphores.
+fn add_semaphores(alloc: Global, kinds: &mut Vec<Kind>, groups: &[Group]) -> Result<(), AllocError>
+    ensures grows { OnOk result (Grows kinds.old.items kinds.new.items 1) }
+    ensures are { OnOk result (HasUnits kinds.new.items (length kinds.old.items) groups.now) }
+{
+    let units = units_of(alloc, groups)?;
+    kinds.push(Kind::Semaphores(units))?;
+    Ok(())
+}
+
+/// Adds the groups.
+fn add_groups(kinds: &mut Vec<Kind>, groups: &[Group]) -> Result<(), AllocError>
+    ensures grows { OnOk result (Grows kinds.old.items kinds.new.items (length groups.now)) }
+    ensures are { OnOk result (HasGroups kinds.new.items (length kinds.old.items) groups.now) }
+{
+    for group in groups {
+        kinds.push(Kind::Database(cells_of(group)))?;
+    }
+    Ok(())
+}
+
+/// Returns the objects of a heading.
+fn kinds_of(
+    alloc: Global,
+    heading: &Heading,
+    from: &[(EventId, u64)],
+) -> Result<Vec<Kind>, AllocError>
+    ensures { IfOk result (λ kinds. AreKinds heading.now from.now kinds.items) }
+{
+    let setup = heading.setup();
+    let mut kinds = Vec::new(alloc);
+    add_events(&mut kinds, from, setup.events())?;
+    add_sequencers(&mut kinds, setup.sequencers())?;
+    add_cells(&mut kinds, setup.cells())?;
+    add_semaphores(alloc, &mut kinds, heading.groups())?;
+    add_groups(&mut kinds, heading.groups())?;
+    Ok(kinds)
+}
+
+impl Recording {
+    /// Returns a history without events.
+    pub(crate) fn new(
+        alloc: Global,
+        heading: Heading,
+        from: Vec<(EventId, u64)>,
+    ) -> Result<Recording, AllocError>
+        ensures { IfOk result (λ r. r ≡ recorded_of
+            (record { heading = heading; from = from.items })) }
+    {
+        let kinds = kinds_of(alloc, &heading, &from)?;
+        Ok(Recording {
+            heading,
+            from,
+            kinds,
+            events: Vec::new(alloc),
+            lists: Lists::new(alloc),
+        })
+    }
+
+    /// Adds an event.
+    pub(crate) fn push(&mut self, worker: usize, action: Action) -> Result<(), AllocError>
+        requires { MayCome self.old worker action }
+        ensures { OnOk result (self.new ≡ with_event self.old worker action self.old.lists) }
+    {
+        let at = self.events.len();
+        self.events.push(Event { at, worker, action })?;
+        Ok(())
+    }
+
+    /// Returns what is declared.
+    pub fn heading(&self) -> &Heading
+        ensures { result.now ≡ self.now.heading }
+    {
+        &self.heading
+    }
+
+    /// Returns the count of an eventcount at the beginning.
+    pub fn start(&self, event: EventId) -> u64
+        ensures { result ≡ start_of self.now.from event }
+    {
+        start_of(&self.from, event.get())
+    }
+
+    /// Returns the objects: the eventcounts, the sequencers, the cells, the semaphores as one, and
+    /// the groups, of which databases take calls.
+    pub fn kinds(&self) -> &[Kind]
+        ensures { IsRecording self.now result.now }
+    {
+        self.kinds.as_slice()
+    }
+
+    /// Returns the events, the one at index i at position i.
+    pub fn events(&self) -> &[Event]
+        ensures { result.now ≡ self.now.events }
+    {
+        self.events.as_slice()
+    }
+
+    /// Returns the lists by whose numbers databases go.
+    pub fn lists(&self) -> &Lists
+        ensures { result.now ≡ self.now.lists }
+    {
+        &self.lists
+    }
+}

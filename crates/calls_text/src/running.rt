@@ -1,0 +1,556 @@
+//! The events of a history, as their lines come.
+ghost use Rattle.std.specs.Prelude.{◌≡◌, ◌++◌, ◌==◌, ◌||◌, [], not, length, map, None, Some, IfOk};
+ghost use Rattle.std.specs.Prelude.{OnOk, option_map};
+ghost use Rattle.std.specs.List.{list_any};
+ghost use Rattle.ec_text.specs.Words.{words_of};
+ghost use Rattle.calls_core.specs.declared.history.Action.TheVariants.{Invoke, Respond};
+ghost use Rattle.calls_text.specs.Forms.{only_in, rest_words, shown};
+ghost use Rattle.calls_text.specs.Lists.{list_number, lists_after};
+ghost use Rattle.calls_text.specs.Objects.{object_in};
+ghost use Rattle.calls_text.specs.Recordings.{first_group};
+ghost use Rattle.calls_text.specs.Reading.{Steps, is_no_number, number_or_0, only_number};
+ghost use Rattle.calls_text.specs.Reading.{numbers_in, pending_in, cells_in, is_bad_tail};
+ghost use Rattle.calls_text.specs.Reading.{has_two_roles, is_spent, call_fault, index_of, place_in};
+ghost use Rattle.calls_text.specs.Reading.{second_place_in, op_of, number_in, lists_of, with_event};
+ghost use Rattle.calls_text.specs.Reading.{with_call, is_bad_answer, takes_done, takes_timeout};
+ghost use Rattle.calls_text.specs.Reading.{takes_numbers, is_suited, is_over, suit_fault};
+ghost use Rattle.calls_text.specs.Reading.{gives_list, reply_of, lists_with, with_reply, called};
+ghost use Rattle.calls_text.specs.Reading.{answered, returned, phrased, event_step, other_word};
+ghost use Rattle.calls_text.specs.Reading.{recorded_of};
+ghost use Rattle.calls_text.specs.kept.Runs.{MayCome, IsRunning, IsPendingAfter, IsPlaced, Fits};
+ghost use Rattle.calls_text.specs.Verbs.{tail_of};
+
+use crate::fault::{Kind, LineFault};
+use crate::form::{Answer, Parts, parts_of};
+use crate::index::{first_group, numbers_of};
+use crate::lists::Lists;
+use crate::object::{Object, has_right, is_owned, object_in};
+use crate::recording::Recording;
+use crate::tally::Tally;
+use crate::verb::{Tail, Verb};
+use calls_core::{Action, Event, Op, PendingCall, Reply};
+use calls_verdict::{find, follow};
+use ec_count::WorkerId;
+use ec_heading::{Heading, LINE_MAX, count_words};
+use ec_text::{cut_word, has_blank, number};
+use std::alloc::{AllocError, Global};
+
+/// A history while its events come.
+#[derive(Drop)]
+pub(crate) struct Running {
+    pub(crate) recording: Recording,
+    pending: Vec<PendingCall>,
+    tally: Tally,
+}
+
+/// Returns whether a word spells no number in range.
+fn is_no_number(word: &[u8]) -> bool
+    ensures { result ≡ is_no_number word.now }
+{
+    number(word).is_none()
+}
+
+/// Returns whether a word of a list spells no number in range.
+fn has_no_number(list: &[u8]) -> bool
+    ensures { result ≡ list_any is_no_number (words_of list.now) }
+{
+    let (word, rest) = cut_word(list);
+    if is_no_number(word) {
+        return true;
+    }
+    match rest {
+        None => false,
+        Some(rest) => has_no_number(rest),
+    }
+}
+
+/// Returns the only word, if there is exactly one.
+#[tactic(auto, using(crate::proofs::Words::two_words))]
+fn only_word(rest: Option<&[u8]>) -> Option<&[u8]>
+    ensures { option_map (λ w. w.now) result ≡ only_in (rest_words rest.entry) }
+{
+    let (word, None) = cut_word(rest?) else {
+        return None;
+    };
+    Some(word)
+}
+
+/// Returns the number that the only word spells, 0 if there is none.
+fn only_number(rest: Option<&[u8]>) -> u64
+    ensures { result ≡ only_number (rest_words rest.entry) }
+{
+    match only_word(rest) {
+        Some(word) => number(word).unwrap_or(0),
+        None => 0,
+    }
+}
+
+/// Adds the numbers that words spell.
+fn push_numbers(list: &[u8], numbers: &mut Vec<u64>) -> Result<(), AllocError>
+    ensures { OnOk result
+        (numbers.new.items ≡ numbers.old.items ++ numbers_in (words_of list.now)) }
+{
+    let (word, rest) = cut_word(list);
+    numbers.push(number(word).unwrap_or(0))?;
+    match rest {
+        None => Ok(()),
+        Some(rest) => push_numbers(rest, numbers),
+    }
+}
+
+/// Returns the number of the list that words spell.
+fn list_number(alloc: Global, lists: &mut Lists, list: &[u8]) -> Result<usize, AllocError>
+    ensures number { IfOk result (λ n. n ≡ list_number lists.old (numbers_in (words_of list.now))) }
+    ensures after { OnOk result
+        (lists.new ≡ lists_after lists.old (numbers_in (words_of list.now))) }
+{
+    let mut numbers = Vec::new(alloc);
+    push_numbers(list, &mut numbers)?;
+    lists.number(numbers)
+}
+
+/// Returns how many numbers a write to the object takes.
+fn cells_in(object: &Object) -> usize
+    ensures { result ≡ cells_in object.now }
+{
+    match *object {
+        Object::Database(_, shape) => shape.cells(),
+        _ => 0,
+    }
+}
+
+/// Returns whether numbers are out of range, or not so many.
+fn are_bad_numbers(rest: Option<&[u8]>, cells: usize) -> bool
+    ensures { result ≡ list_any is_no_number (rest_words rest.entry)
+        || not (length (rest_words rest.entry) == cells) }
+{
+    match rest {
+        None => cells != 0,
+        Some(list) => has_no_number(list) || count_words(list) != cells,
+    }
+}
+
+/// Returns whether a number is out of range, or numbers are not as many as the cells.
+fn is_bad_tail(tail: Tail, rest: Option<&[u8]>, object: &Object) -> bool
+    ensures { result ≡ is_bad_tail tail (rest_words rest.entry) object.now }
+{
+    match tail {
+        Tail::Digits => match only_word(rest) {
+            Some(word) => is_no_number(word),
+            None => false,
+        },
+        Tail::ManyDigits => are_bad_numbers(rest, cells_in(object)),
+        _ => false,
+    }
+}
+
+/// Returns whether one semaphore is named twice.
+fn has_two_roles(object: &Object) -> bool
+    ensures { result ≡ has_two_roles object.now }
+{
+    match *object {
+        Object::Pair(i, _, j, _, _) => i == j,
+        _ => false,
+    }
+}
+
+/// Returns the index of an object.
+fn index_of(recording: &Recording, object: &Object) -> usize
+    requires { IsPlaced recording.now.heading object.now }
+    ensures { result ≡ index_of recording.now.heading object.now }
+{
+    let setup = recording.heading().setup();
+    setup.known();
+    // there is a kind for each index, so the sums fit
+    let _kinds = recording.kinds().len();
+    let first_cell = setup.events() + setup.sequencers();
+    let semaphores = first_cell + setup.cells();
+    match *object {
+        Object::Event(event) => event.get(),
+        Object::Sequencer(sequencer) => setup.events() + sequencer.get(),
+        Object::Cell(cell) => first_cell + cell.get(),
+        Object::Semaphore(_, _) | Object::Pair(_, _, _, _, _) => semaphores,
+        Object::Database(place, _) => semaphores + 1 + place,
+    }
+}
+
+/// Returns the place of the group, and that of the second one.
+fn places_in(object: &Object) -> (usize, usize)
+    ensures first { result.0 ≡ place_in object.now }
+    ensures second { result.1 ≡ second_place_in object.now }
+{
+    match *object {
+        Object::Semaphore(i, _) => (i, 0),
+        Object::Pair(i, _, j, _, _) => (i, j),
+        _ => (0, 0),
+    }
+}
+
+/// Returns what is asked for, with the number that is given, or that of the list.
+fn op_of(verb: Verb, object: &Object, n: usize) -> Op
+    ensures { result ≡ op_of verb object.now n }
+{
+    let (i, j) = places_in(object);
+    match verb {
+        Verb::Advance => Op::Advance,
+        Verb::Read => Op::Read,
+        Verb::Await => Op::Await(n),
+        Verb::Ticket => Op::Ticket,
+        Verb::Put | Verb::Write => Op::Put(n),
+        Verb::Get | Verb::Snapshot => Op::Get,
+        Verb::P => Op::P(i),
+        Verb::V => Op::V(i),
+        Verb::PBoth => Op::PBoth(i, j),
+    }
+}
+
+/// Returns the number that is given to a call, or that of its list.
+fn number_in(
+    alloc: Global,
+    recording: &mut Recording,
+    verb: Verb,
+    rest: Option<&[u8]>,
+) -> Result<usize, AllocError>
+    ensures number { IfOk result
+        (λ n. n ≡ number_in recording.old.lists verb (rest_words rest.entry)) }
+    ensures after { OnOk result (recording.new ≡ record recording.old
+        { lists = lists_of recording.old.lists verb (rest_words rest.entry) }) }
+{
+    match (verb, rest) {
+        (Verb::Write, Some(list)) => list_number(alloc, &mut recording.lists, list),
+        (Verb::Write, None) => recording.lists.number(Vec::new(alloc)),
+        _ => Ok(only_number(rest) as usize),
+    }
+}
+
+/// Returns whether what is asked for takes no number for a reply.
+fn takes_done(op: Op) -> bool
+    ensures { result ≡ takes_done op }
+{
+    !matches!(op, Op::Read | Op::Ticket | Op::Get)
+}
+
+/// Returns whether the call may give up.
+fn takes_timeout(op: Op) -> bool
+    ensures { result ≡ takes_timeout op }
+{
+    matches!(op, Op::Await(_) | Op::P(_) | Op::PBoth(_, _))
+}
+
+/// Returns whether the call takes so many numbers for a reply.
+fn takes_numbers(heading: &Heading, call: &PendingCall, n: usize) -> bool
+    ensures { result ≡ takes_numbers heading.now call.now call.now.op n }
+{
+    match call.op {
+        Op::Read | Op::Await(_) | Op::Ticket => n == 1,
+        Op::Get => n == numbers_of(heading, call.object),
+        _ => false,
+    }
+}
+
+/// Returns whether a reply suits a call.
+fn is_suited(heading: &Heading, call: &PendingCall, answer: Answer, list: &[u8]) -> bool
+    ensures { result ≡ is_suited heading.now call.now answer (words_of list.now) }
+{
+    match answer {
+        Answer::Done => takes_done(call.op),
+        Answer::Timeout => takes_timeout(call.op),
+        Answer::Numbers => takes_numbers(heading, call, count_words(list)),
+    }
+}
+
+/// Returns whether a ticket returns the limit or more.
+fn is_over(limit: u64, op: Op, answer: Answer, list: &[u8]) -> bool
+    ensures { result ≡ is_over limit op answer (words_of list.now) }
+{
+    match (op, answer) {
+        (Op::Ticket, Answer::Numbers) => limit <= only_number(Some(list)),
+        _ => false,
+    }
+}
+
+/// Returns the least fault of a reply to a call.
+fn suit_fault(heading: &Heading, call: &PendingCall, answer: Answer, list: &[u8]) -> Option<Kind>
+    ensures { result ≡ suit_fault heading.now call.now answer (words_of list.now) }
+{
+    if !is_suited(heading, call, answer, list) {
+        return Some(Kind::Unsuited);
+    }
+    if is_over(heading.setup().limit().get(), call.op, answer, list) {
+        return Some(Kind::AtLimit);
+    }
+    None
+}
+
+/// Returns whether the call returns a list.
+fn gives_list(heading: &Heading, call: &PendingCall) -> bool
+    ensures { result ≡ gives_list heading.now call.now call.now.op }
+{
+    match call.op {
+        Op::Get => first_group(heading) <= call.object,
+        _ => false,
+    }
+}
+
+/// Returns the reply to a call.
+fn reply_of(
+    alloc: Global,
+    recording: &mut Recording,
+    call: &PendingCall,
+    answer: Answer,
+    list: &[u8],
+) -> Result<Reply, AllocError>
+    ensures reply { IfOk result
+        (λ reply. reply ≡ reply_of recording.old call.now answer (words_of list.now)) }
+    ensures after { OnOk result (recording.new ≡ record recording.old
+        { lists = lists_with recording.old call.now answer (words_of list.now) }) }
+{
+    match answer {
+        Answer::Done => Ok(Reply::Done),
+        Answer::Timeout => Ok(Reply::Timeout),
+        Answer::Numbers => {
+            if gives_list(&recording.heading, call) {
+                Ok(Reply::Number(list_number(alloc, &mut recording.lists, list)?))
+            } else {
+                Ok(Reply::Number(only_number(Some(list)) as usize))
+            }
+        }
+    }
+}
+
+impl Running {
+    /// Returns a history before its events.
+    pub(crate) fn new(alloc: Global, recording: Recording) -> Running
+        requires { recording.events ≡ [] }
+        ensures recording { result.recording ≡ recording }
+        ensures run { IsRunning result }
+    {
+        Running {
+            recording,
+            pending: Vec::new(alloc),
+            tally: Tally::zeros(),
+        }
+    }
+
+    /// Returns the pending call of a worker.
+    fn pending_call(&self, worker: WorkerId) -> Option<PendingCall>
+        requires { IsRunning self.now }
+        ensures { result ≡ pending_in self.now.recording.events worker }
+    {
+        match find(&self.pending, worker.get()) {
+            Some(i) => Some(self.pending[i]),
+            None => None,
+        }
+    }
+
+    /// Returns whether the worker has called as many advances of it as the limit allows.
+    fn is_spent(&self, worker: WorkerId, verb: Verb, object: &Object) -> bool
+        requires { IsRunning self.now }
+        ensures { result ≡ is_spent self.now.recording worker verb object.now }
+    {
+        match (verb, *object) {
+            (Verb::Advance, Object::Event(event)) => {
+                self.recording.heading.setup().limit().get() <= self.tally.at(worker, event)
+            }
+            _ => false,
+        }
+    }
+
+    /// Returns the least fault of an invocation.
+    fn call_fault(
+        &self,
+        worker: WorkerId,
+        verb: Verb,
+        object: &Object,
+        rest: Option<&[u8]>,
+    ) -> Option<Kind>
+        requires { IsRunning self.now }
+        ensures { result ≡ call_fault self.now.recording worker verb object.now
+            (rest_words rest.entry) }
+    {
+        let heading = &self.recording.heading;
+        if is_bad_tail(verb.tail(), rest, object) {
+            return Some(Kind::BadNumber);
+        }
+        if is_owned(heading.groups(), object) {
+            return Some(Kind::Hidden);
+        }
+        if has_two_roles(object) {
+            return Some(Kind::TwoRoles);
+        }
+        if !has_right(heading.setup(), worker, verb.is_giving(), object) {
+            return Some(Kind::NoRight);
+        }
+        if self.pending_call(worker).is_some() {
+            return Some(Kind::Busy);
+        }
+        if self.is_spent(worker, verb, object) {
+            return Some(Kind::AtLimit);
+        }
+        None
+    }
+
+    /// Adds an event that is no advance.
+    fn push(&mut self, worker: WorkerId, action: Action) -> Result<(), AllocError>
+        requires run { IsRunning self.old }
+        requires next { MayCome self.old.recording worker action }
+        ensures after { OnOk result (self.new.recording
+            ≡ with_event self.old.recording worker action self.old.recording.lists) }
+        ensures pending { OnOk result (IsPendingAfter self.new) }
+        ensures tally { self.new.tally ≡ self.old.tally }
+    {
+        let event = Event {
+            at: self.recording.events.len(),
+            worker: worker.get(),
+            action,
+        };
+        let _object = follow(&mut self.pending, &event)?;
+        self.recording.push(worker.get(), action)
+    }
+
+    /// Adds an invocation.
+    fn call(
+        &mut self,
+        alloc: Global,
+        worker: WorkerId,
+        verb: Verb,
+        object: &Object,
+        rest: Option<&[u8]>,
+    ) -> Result<(), AllocError>
+        requires run { IsRunning self.old }
+        requires fits { Fits self.old.recording.heading verb object.now }
+        requires none { call_fault self.old.recording worker verb object.now (rest_words rest)
+            ≡ None }
+        ensures after { OnOk result (self.new.recording
+            ≡ with_call self.old.recording worker verb object.now (rest_words rest.entry)) }
+        ensures run { OnOk result (IsRunning self.new) }
+    {
+        self.recording.heading().setup().known();
+        let n = number_in(alloc, &mut self.recording, verb, rest)?;
+        let index = index_of(&self.recording, object);
+        let action = Action::Invoke(index, op_of(verb, object, n));
+        self.push(worker, action)?;
+        if let (Verb::Advance, Object::Event(event)) = (verb, *object) {
+            self.tally.add(worker, event);
+        }
+        Ok(())
+    }
+
+    /// Takes an invocation.
+    fn take_call(
+        &mut self,
+        alloc: Global,
+        worker: Option<WorkerId>,
+        verb: Verb,
+        word: &[u8],
+        rest: Option<&[u8]>,
+    ) -> Result<(), LineFault>
+        requires { IsRunning self.old }
+        ensures steps { Steps result (called self.old.recording worker verb
+            (object_in self.old.recording.heading verb word.now
+            (other_word verb (rest_words rest.entry))) (rest_words rest.entry)) self.new.recording }
+        ensures run { OnOk result (IsRunning self.new) }
+    {
+        let other = match verb {
+            Verb::PBoth => only_word(rest),
+            _ => None,
+        };
+        let object = object_in(self.recording.heading(), verb, word, other);
+        let (Some(worker), Some(object)) = (worker, object) else {
+            return Err(LineFault::Of(Kind::UnknownName));
+        };
+        if let Some(kind) = self.call_fault(worker, verb, &object, rest) {
+            return Err(LineFault::Of(kind));
+        }
+        match self.call(alloc, worker, verb, &object, rest) {
+            Ok(()) => Ok(()),
+            Err(_) => Err(LineFault::Memory),
+        }
+    }
+
+    /// Adds a response.
+    fn respond(
+        &mut self,
+        alloc: Global,
+        worker: WorkerId,
+        call: &PendingCall,
+        answer: Answer,
+        list: &[u8],
+    ) -> Result<(), AllocError>
+        requires run { IsRunning self.old }
+        requires pending { pending_in self.old.recording.events worker ≡ Some call.now }
+        requires none { suit_fault self.old.recording.heading call.now answer (words_of list.now)
+            ≡ None }
+        ensures after { OnOk result (self.new.recording
+            ≡ with_reply self.old.recording worker call.now answer (words_of list.now)) }
+        ensures run { OnOk result (IsRunning self.new) }
+    {
+        let reply = reply_of(alloc, &mut self.recording, call, answer, list)?;
+        self.push(worker, Action::Respond(reply))
+    }
+
+    /// Takes a response.
+    fn take_return(
+        &mut self,
+        alloc: Global,
+        worker: Option<WorkerId>,
+        answer: Answer,
+        list: &[u8],
+    ) -> Result<(), LineFault>
+        requires { IsRunning self.old }
+        ensures steps { Steps result (returned self.old.recording worker answer (words_of list.now))
+            self.new.recording }
+        ensures run { OnOk result (IsRunning self.new) }
+    {
+        let Some(worker) = worker else {
+            return Err(LineFault::Of(Kind::UnknownName));
+        };
+        if matches!(answer, Answer::Numbers) && has_no_number(list) {
+            return Err(LineFault::Of(Kind::BadNumber));
+        }
+        let Some(call) = self.pending_call(worker) else {
+            return Err(LineFault::Of(Kind::Idle));
+        };
+        if let Some(kind) = suit_fault(&self.recording.heading, &call, answer, list) {
+            return Err(LineFault::Of(kind));
+        }
+        match self.respond(alloc, worker, &call, answer, list) {
+            Ok(()) => Ok(()),
+            Err(_) => Err(LineFault::Memory),
+        }
+    }
+
+    /// Takes the line of an event, without its LF.
+    #[tactic(auto, unfolding(crate::specs::Reading::event_step))]
+    pub(crate) fn line(&mut self, alloc: Global, line: &[u8]) -> Result<(), LineFault>
+        requires { IsRunning self.old }
+        ensures steps { Steps result (event_step self.old.recording line.now) self.new.recording }
+        ensures run { OnOk result (IsRunning self.new) }
+    {
+        if line.len() > LINE_MAX || has_blank(line) {
+            return Err(LineFault::Of(Kind::BadLine));
+        }
+        let Some(parts) = parts_of(line) else {
+            return Err(LineFault::Of(Kind::BadLine));
+        };
+        match parts {
+            Parts::Calls {
+                worker,
+                verb,
+                object,
+                rest,
+            } => {
+                let worker = self.recording.heading.worker(worker);
+                self.take_call(alloc, worker, verb, object, rest)
+            }
+            Parts::Returns {
+                worker,
+                answer,
+                list,
+            } => {
+                let worker = self.recording.heading.worker(worker);
+                self.take_return(alloc, worker, answer, list)
+            }
+        }
+    }
+}

@@ -1,0 +1,38 @@
+//! How many advances each worker has called of each eventcount.
+ghost use Rattle.std.specs.Prelude.{◌≡◌, ◌+◌, ◌<◌, ◌^◌, []};
+ghost use Rattle.calls_text.specs.Tallies.{tally_at, IsCounted, IsCountedFurther};
+
+use ec_count::{EventId, WorkerId};
+
+/// A number for each worker and eventcount.
+#[derive(Drop)]
+pub(crate) struct Tally {
+    counts: [[u64; 32]; 16],
+}
+
+impl Tally {
+    /// Returns zeros.
+    pub(crate) fn zeros() -> Tally
+        ensures { IsCounted result [] }
+    {
+        Tally {
+            counts: [[0; 32]; 16],
+        }
+    }
+
+    /// Returns the number for a worker and an eventcount.
+    pub(crate) fn at(&self, worker: WorkerId, event: EventId) -> u64
+        ensures { result ≡ tally_at self.now worker event }
+    {
+        self.counts[worker.get()][event.get()]
+    }
+
+    /// Adds one to it.
+    pub(crate) fn add(&mut self, worker: WorkerId, event: EventId)
+        requires { worker < 16 → event < 32 → tally_at self.old worker event + 1 < 2 ^ 64 }
+        ensures { IsCountedFurther self.old self.new worker event }
+    {
+        let counts = &mut self.counts[worker.get()];
+        counts[event.get()] += 1;
+    }
+}
