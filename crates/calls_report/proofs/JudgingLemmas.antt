@@ -1,0 +1,241 @@
+-- How histories are judged in turn.
+use Rattle.std.proofs.Common.{◌≡◌, ◌<◌, ◌≤◌, inl, inr, ℕ, ◌+◌, List, [], ◌∷◌, ◌++◌, Result, Ok, Err}
+use Rattle.std.proofs.Common.{Bool, true, false, if◌then◌else◌, refl, ap, sym, ◌∙◌, subst, arith}
+use Rattle.std.proofs.Common.{codes}
+use Rattle.std.proofs.Common.{append-nil, length}
+use Rattle.std.proofs.lemmas.List.Concat.{flat_map-append}
+use Rattle.ec_text.specs.Puts.{Outgoing, Puts}
+use Rattle.ec_text.proofs.shared.PutLemmas.{puts_then}
+use Rattle.ec_heading.specs.Headed.{Headed}
+use Rattle.calls_core.specs.declared.history.Placed.{Placed}
+use Rattle.calls_text.specs.declared.fault.Kind.{Kind}
+use Rattle.calls_text.specs.declared.fault.TextFault.{TextFault}
+use Rattle.calls_text.specs.declared.fault.TextFault.TheVariants as faults
+use Rattle.calls_text.specs.Recordings.{Recorded}
+use Rattle.calls_text.specs.Reading.{Stage, Opening, Limiting, Declaring, Running, Ended, step}
+use Rattle.calls_text.specs.Reading.{is_ended}
+use Rattle.calls_text.specs.Outcomes.{OneRead, Parsed, LineAt, parts_of, goes, taken, ended}
+use Rattle.calls_text.specs.Outcomes.{TellsFault}
+use Rattle.calls_report.specs.declared.checking.Stop.{Stop}
+use Rattle.calls_report.specs.declared.checking.Stop.TheVariants as stops
+use Rattle.calls_report.specs.declared.status.Status.TheVariants as statuses
+use Rattle.calls_report.specs.Notes.{fault_note}
+use Rattle.calls_report.specs.Orders.{order_lines}
+use Rattle.calls_report.specs.Checks.{Judged, HasOrder, AreJudged, texts_of, history_text}
+use Rattle.calls_report.specs.kept.Judging.{PutsOrder, StopsBy, status_by, EndsBy, fault_status}
+use Rattle.calls_report.specs.kept.Judging.{Judges, IsJudgedSoFar}
+
+pub same_lines : (a b : Outgoing) (h k : Headed) (ls ms : List (List ℕ)) (n m : ℕ)
+    (order : List Placed) → h ≡ k → ls ≡ ms → n ≡ m → Puts a b (order_lines h ls n order)
+    → Puts a b (order_lines k ms m order)
+same_lines a b h k ls ms n m order e f q put =
+    subst (λ x. Puts a b (order_lines x ms m order)) e
+    (subst (λ x. Puts a b (order_lines h x m order)) f
+    (subst (λ x. Puts a b (order_lines h ls x order)) q put))
+
+-- NUMBERS OF LINES
+
+by_none : (n : ℕ) (s : Stage) → is_ended s ≡ false → goes n s [] ≡ ended n s []
+unfolding goes is_ended
+by_none n Opening going = refl
+by_none n Limiting going = refl
+by_none n (Declaring d) going = refl
+by_none n (Running r) going = refl
+by_none n (Ended r) going = cc
+
+by_rest : (n : ℕ) (s : Stage) (rest : List ℕ) → is_ended s ≡ false
+    → goes n s (rest ∷ []) ≡ ended n s rest
+unfolding goes is_ended
+by_rest n Opening rest going = refl
+by_rest n Limiting rest going = refl
+by_rest n (Declaring d) rest going = refl
+by_rest n (Running r) rest going = refl
+by_rest n (Ended r) rest going = cc
+
+by_line : (n : ℕ) (s : Stage) (line next : List ℕ) (others : List (List ℕ)) → is_ended s ≡ false
+    → goes n s (line ∷ next ∷ others)
+    ≡ taken n line (step s line) (λ t. goes (n + 1) t (next ∷ others))
+unfolding goes is_ended
+by_line n Opening line next others going = refl
+by_line n Limiting line next others going = refl
+by_line n (Declaring d) line next others going = refl
+by_line n (Running r) line next others going = refl
+by_line n (Ended r) line next others going = cc
+
+one_read : (x y : OneRead) → ◌≡◌ {A = Parsed} (Ok x) (Ok y) → x ≡ y
+one_read x y same = cc
+
+no_read : {P : Type 0} (f : LineAt) (y : OneRead) → ◌≡◌ {A = Parsed} (Err f) (Ok y) → P
+no_read f y same = absurd (let never : ⊥ = cc in never)
+
+at_end : (n : ℕ) (s : Stage) (ps : List (List ℕ)) (o : OneRead) → is_ended s ≡ true
+    → goes n s ps ≡ Ok o → n ≤ o.number
+unfolding goes is_ended
+at_end n Opening ps o over is = cc
+at_end n Limiting ps o over is = cc
+at_end n (Declaring d) ps o over is = cc
+at_end n (Running r) ps o over is = cc
+at_end n (Ended r) ps o over is =
+    let same : n ≡ o.number = ap (λ (x : OneRead). x.number)
+    (one_read (record { recorded = r; number = n; rest = ps }) o is) in
+    omega arith
+
+takes_on : (n : ℕ) (line : List ℕ) (r : Result Stage Kind) (others : Stage → Parsed) (o : OneRead)
+    → ((t : Stage) → others t ≡ Ok o → n + 1 ≤ o.number) → taken n line r others ≡ Ok o
+    → n + 1 ≤ o.number
+takes_on n line (Ok t) others o more is = more t is
+takes_on n line (Err kind) others o more is = no_read _ o is
+
+ended_on : (n : ℕ) (s : Stage) (rest : List ℕ) (o : OneRead) → ended n s rest ≡ Ok o
+    → n + 1 ≤ o.number
+ended_on n s [] o is = no_read _ o is
+ended_on n s (b ∷ bs) o is =
+    takes_on n (b ∷ bs) (step s (b ∷ bs)) _ o (λ t e. no_read _ o e) is
+
+either_way : (b : Bool) (n m : ℕ) → (if b then n else n + 1) ≤ m → n ≤ m
+either_way true n m most = most
+either_way false n m most = omega arith
+
+-- a history ends behind where it begins, unless it is over there
+goes_on : (b : Bool) (ps : List (List ℕ)) (n : ℕ) (s : Stage) (o : OneRead) → is_ended s ≡ b
+    → goes n s ps ≡ Ok o → (if b then n else n + 1) ≤ o.number
+goes_on true ps n s o over is = at_end n s ps o over is
+goes_on false [] n s o going is = ended_on n s [] o (sym (by_none n s going) ∙ is)
+goes_on false (rest ∷ []) n s o going is = ended_on n s rest o (sym (by_rest n s rest going) ∙ is)
+goes_on false (line ∷ next ∷ others) n s o going is =
+    takes_on n line (step s line) (λ t. goes (n + 1) t (next ∷ others)) o
+    (λ t e. either_way (is_ended t) (n + 1) o.number
+    (goes_on (is_ended t) (next ∷ others) (n + 1) t o refl e))
+    (sym (by_line n s line next others going) ∙ is)
+
+pub goes_past : (n : ℕ) (ps : List (List ℕ)) (o : OneRead) → goes n Opening ps ≡ Ok o
+    → n + 1 ≤ o.number
+unfolding is_ended
+goes_past n ps o is = goes_on false ps n Opening o refl is
+
+-- ONE HISTORY MORE
+
+judged_more : (n : ℕ) (ps : List (List ℕ)) (js : List Judged) (m : ℕ) (qs : List (List ℕ))
+    (j : Judged) → AreJudged n ps js m qs → goes m Opening qs ≡ Ok j.read
+    → HasOrder j.read.recorded j.order
+    → AreJudged n ps (js ++ j ∷ []) j.read.number j.read.rest
+judged_more n ps [] m qs j are reads has =
+    (ap (λ k. goes k Opening ps) are.0 ∙ ap (goes m Opening) are.1 ∙ reads, has, (refl, refl))
+judged_more n ps (k ∷ js) m qs j are reads has =
+    (are.0, are.1, judged_more k.read.number k.read.rest js m qs j are.2 reads has)
+
+texts_more : (js : List Judged) (j : Judged) → texts_of (js ++ j ∷ [])
+    ≡ texts_of js ++ history_text j.read.recorded j.order
+texts_more js j =
+    flat_map-append (λ (k : Judged). history_text k.read.recorded k.order) js (j ∷ [])
+    ∙ ap (λ t. texts_of js ++ t) (append-nil (history_text j.read.recorded j.order))
+
+pub so_far_more : (text : List ℕ) (n : ℕ) (rest : List ℕ) (old mid new : Outgoing) (r : Recorded)
+    (m : ℕ) (more : List ℕ) → IsJudgedSoFar text n rest old mid
+    → goes n Opening (parts_of rest)
+    ≡ Ok (record { recorded = r; number = m; rest = parts_of more })
+    → PutsOrder r mid new → IsJudgedSoFar text m more old new
+so_far_more text n rest old mid new r m more so reads put =
+    let j : Judged = record {
+      read = record { recorded = r; number = m; rest = parts_of more };
+      order = put.0;
+    } in (
+      so.0 ++ j ∷ [],
+      judged_more 1 (parts_of text) so.0 n (parts_of rest) j so.1 reads put.1,
+      subst (Puts old new) (sym (texts_more so.0 j)) (puts_then old mid new _ _ so.2 put.2),
+    )
+
+pub none_so_far : (text : List ℕ) (now : Outgoing) → IsJudgedSoFar text 1 text now now
+none_so_far text now = ([], (refl, refl), λ first all h. rw append-nil h)
+
+-- THE END
+
+same_put : (a b c : Outgoing) (bs : List ℕ) → c ≡ b → Puts a b bs → Puts a c bs
+same_put a b c bs same put = subst (λ k. Puts a k bs) (sym same) put
+
+pub judges_unread : (text : List ℕ) (n : ℕ) (rest : List ℕ) (old new before after : Outgoing)
+    (fault : TextFault) → IsJudgedSoFar text n rest old new
+    → TellsFault (goes n Opening (parts_of rest)) fault → Puts before after (fault_note fault)
+    → Judges (fault_status fault) text old new before after
+judges_unread text n rest old new before after (faults.At m kind cause) so tells says = (
+  so.0,
+  record {
+    number = n;
+    rest = parts_of rest;
+    judged_are = so.1;
+    ends = inl (
+      fault_note (faults.At m kind cause),
+      (m, kind, tells.0, tells.1, ap (λ c. fault_note (faults.At m kind c)) tells.2),
+      says,
+    );
+  },
+  so.2,
+)
+judges_unread text n rest old new before after faults.Memory so tells says = (
+  so.0,
+  record { number = n; rest = parts_of rest; judged_are = so.1; ends = says },
+  so.2,
+)
+
+pub judges_stopped : (text : List ℕ) (n : ℕ) (rest : List ℕ) (old new before mid after : Outgoing)
+    (o : OneRead) (stop : Stop) → IsJudgedSoFar text n rest old new
+    → goes n Opening (parts_of rest) ≡ Ok o → StopsBy o.number o.recorded before mid stop
+    → EndsBy stop mid after → Judges (status_by stop) text old new before after
+judges_stopped text n rest old new before mid after o stops.Refused so reads stop same = (
+  so.0,
+  record {
+    number = n;
+    rest = parts_of rest;
+    judged_are = so.1;
+    ends = inr (
+      o,
+      stop.0,
+      reads,
+      stop.1,
+      (
+        stop.2.0,
+        stop.2.1,
+        same_put before mid after _ same stop.2.2,
+      ),
+    );
+  },
+  so.2,
+)
+judges_stopped text n rest old new before mid after o stops.NotDecided so reads stop same = (
+  so.0,
+  record {
+    number = n;
+    rest = parts_of rest;
+    judged_are = so.1;
+    ends = (o, stop.0, reads, stop.1, same_put before mid after _ same stop.2);
+  },
+  so.2,
+)
+judges_stopped text n rest old new before mid after o stops.Memory so reads stop says = (
+  so.0,
+  record {
+    number = n;
+    rest = parts_of rest;
+    judged_are = so.1;
+    ends = subst (λ k. Puts k after (codes "no memory\n")) stop says;
+  },
+  so.2,
+)
+
+pub judges_all : (text : List ℕ) (n : ℕ) (rest : List ℕ) (old new notes : Outgoing)
+    → IsJudgedSoFar text n rest old new → 1 < n → rest ≡ []
+    → Judges statuses.Done text old new notes notes
+judges_all text n rest old new notes so past none = (
+  so.0,
+  record {
+    number = n;
+    rest = parts_of rest;
+    judged_are = so.1;
+    ends = (past, ap parts_of none, refl);
+  },
+  so.2,
+)
+
+pub nothing : (xs : List ℕ) → length xs ≡ 0 → xs ≡ []
+nothing [] none = refl
+nothing (x ∷ xs) none = absurd (omega (arith, none))

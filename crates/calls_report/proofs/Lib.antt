@@ -1,0 +1,5 @@
+pub mod Loops
+mod SumLemmas
+mod TotalLemmas
+mod JudgingLemmas
+mod JudgingChecks

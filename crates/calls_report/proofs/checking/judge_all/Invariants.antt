@@ -1,0 +1,15 @@
+use Rattle.std.proofs.Common.{◌≡◌, ◌≤◌, ◌+◌, length}
+use Rattle.calls_report.specs.kept.Judging.{IsJudgedSoFar}
+use Rattle.calls_report.proofs.checking.judge_all.Given as goal
+
+-- the histories so far were judged, and their texts were put
+abbrev pub invariant-loop-read : goal.invariant-loop-read
+invariant-loop-read g l = record {
+  judged : IsJudgedSoFar l.text l.number l.rest l.initial.out l.out;
+  quiet : l.notes ≡ l.initial.notes;
+  room : l.number + length l.rest ≤ 1 + length l.text;
+  first : 1 ≤ l.number;
+}
+
+abbrev pub decreases-loop-read : goal.decreases-loop-read
+decreases-loop-read g l = length l.rest

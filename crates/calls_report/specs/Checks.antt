@@ -1,0 +1,152 @@
+-- What `check` answered and wrote, for an input whose bytes are known.
+use Rattle.std.specs.Prelude.{◌≡◌, ◌⊎◌, ℕ, ◌<◌, ◌≤◌, List, [], ◌∷◌, ◌++◌, length, reverse, Option}
+use Rattle.std.specs.Prelude.{Ok, codes}
+use Rattle.std.specs.List.{flat_map}
+use Rattle.std.specs.Io.KnownBytes.{Appends, Keeps}
+use Rattle.ec_text.specs.Puts.{Outgoing, Puts, AppendsPrefix}
+use Rattle.ec_text.specs.Inputs.{IsCutShort}
+use Rattle.calls_core.specs.declared.history.Kind.{Kind}
+use Rattle.calls_core.specs.declared.history.Placed.{Placed}
+use Rattle.calls_core.specs.Histories.{clock, completed_calls, pending_calls}
+use Rattle.calls_core.specs.Linearizations.{IsRun, start}
+use Rattle.calls_core.specs.Points.{IsPlacedOrder}
+use Rattle.calls_verdict.specs.declared.verdict.Refusal.{Refusal}
+use Rattle.calls_verdict.specs.declared.verdict.Undecided.{Undecided}
+use Rattle.calls_verdict.specs.Verdicts.{IsFirstRefusal, IsNotDecided}
+use Rattle.calls_text.specs.declared.fault.Kind as kinds
+use Rattle.calls_text.specs.declared.fault.TextFault.TheVariants.{At}
+use Rattle.calls_text.specs.Causes.{cause_of}
+use Rattle.calls_text.specs.Recordings.{Recorded, IsRecording}
+use Rattle.calls_text.specs.Reading.{Opening}
+use Rattle.calls_text.specs.Outcomes.{OneRead, goes, fault_in, parts_of}
+use Rattle.calls_report.specs.declared.checking.TheConstants.{TEXT_MAX}
+use Rattle.calls_report.specs.declared.status.Status.{Status}
+use Rattle.calls_report.specs.declared.status.Status.TheVariants.{Done, Refused, Usage}
+use Rattle.calls_report.specs.declared.status.Status.TheVariants.{InputOutput, Memory, NotDecided}
+use Rattle.calls_report.specs.Orders.{order_lines}
+use Rattle.calls_report.specs.Totals.{totals_text}
+use Rattle.calls_report.specs.Notes.{fault_note, scene_of, SaysRefusal, undecided_note}
+
+-- ONE HISTORY
+
+-- the text of a history and an order of its calls
+abbrev pub history_text : Recorded → List Placed → List ℕ
+history_text r order =
+    codes "evc-order 1\n" ++ order_lines r.heading r.lists (length r.events) order
+    ++ codes "totals\n" ++ totals_text r order ++ codes "end\n"
+
+-- the calls of the history in a linear order, each with a point of its own time
+abbrev pub HasOrder : Recorded → List Placed → Type 0
+HasOrder r order =
+    (ks : List Kind) × IsRecording r ks
+    × IsPlacedOrder (IsRun (start ks)) (completed_calls (reverse r.events))
+    (pending_calls (reverse r.events))
+    (clock (reverse r.events)) order
+
+-- the history has no linearization, from this event on
+abbrev pub IsRefused : Recorded → Refusal → Type 0
+IsRefused r x =
+    (ks : List Kind) × IsRecording r ks × IsFirstRefusal ks (reverse r.events) x.at x.object x.fault
+
+-- the history is not decided
+abbrev pub IsOpen : Recorded → Undecided → Type 0
+IsOpen r u = (ks : List Kind) × IsRecording r ks × IsNotDecided ks (reverse r.events) u
+
+-- HISTORIES IN TURN
+
+-- a history that was read, and an order of its calls
+pub record Judged : Type 0 where
+  pub read : OneRead
+  pub order : List Placed
+
+-- from line n on, where the lines are these, the text has these histories, each linearizable, and
+-- then come these lines, from line m on
+abbrev pub AreJudged : ℕ → List (List ℕ) → List Judged → ℕ → List (List ℕ) → Type 0
+AreJudged n ps [] m qs = (n ≡ m) × (ps ≡ qs)
+AreJudged n ps (j ∷ js) m qs =
+    (goes n Opening ps ≡ Ok j.read) × HasOrder j.read.recorded j.order
+    × AreJudged j.read.number j.read.rest js m qs
+
+-- their texts
+abbrev pub texts_of : List Judged → List ℕ
+texts_of js = flat_map (λ (j : Judged). history_text j.read.recorded j.order) js
+
+-- WHAT STOPS THE CHECK
+
+-- the lines from line m on are no history, and this note says why
+abbrev pub IsUnread : ℕ → List (List ℕ) → List ℕ → Type 0
+IsUnread m qs note =
+    (n : ℕ) × (kind : kinds.Kind) × (line : List ℕ) × (goes m Opening qs ≡ fault_in n kind line)
+    × (note ≡ fault_note (At n kind (cause_of kind line)))
+
+-- the history from line m on has no linearization, and a note says why
+abbrev pub SaysRefused : ℕ → List (List ℕ) → Outgoing → Outgoing → Type 0
+SaysRefused m qs old new =
+    (read : OneRead) × (refusal : Refusal) × (goes m Opening qs ≡ Ok read)
+    × IsRefused read.recorded refusal × SaysRefusal read.number read.recorded refusal old new
+
+-- it is not decided, and a note says why
+abbrev pub SaysOpen : ℕ → List (List ℕ) → Outgoing → Outgoing → Type 0
+SaysOpen m qs old new =
+    (read : OneRead) × (u : Undecided) × (goes m Opening qs ≡ Ok read)
+    × IsOpen read.recorded u
+    × Puts old new (undecided_note (scene_of read.number read.recorded u.object 0) u.cause)
+
+-- the end of the text, after a history at least; or it is no text of histories, or a history has no
+-- linearization, and a note says why; or a history is not decided; or memory ran out
+abbrev pub Ends : Status → ℕ → List (List ℕ) → Outgoing → Outgoing → Type 0
+Ends Done m qs old new = (1 < m) × (qs ≡ [] ∷ []) × (new ≡ old)
+Ends Refused m qs old new =
+    ((note : List ℕ) × IsUnread m qs note × Puts old new note) ⊎ SaysRefused m qs old new
+Ends NotDecided m qs old new = SaysOpen m qs old new
+Ends Memory m qs old new = Puts old new (codes "no memory\n")
+Ends Usage m qs old new = ⊥
+Ends InputOutput m qs old new = ⊥
+
+-- the text was judged so: its first histories are linearizable, and then this came
+pub record IsJudged (status : Status) (text : List ℕ) (judged : List Judged) (old new : Outgoing)
+    : Type 0 where
+  pub number : ℕ
+  pub rest : List (List ℕ)
+  pub judged_are : AreJudged 1 (parts_of text) judged number rest
+  pub ends : Ends status number rest old new
+
+-- ALL OF IT
+
+-- where the texts and the notes go
+pub record Outlets : Type 0 where
+  pub out : Option (List ℕ)
+  pub notes : Outgoing
+
+-- a text within the bound: the texts of the histories that were judged were written; or a write
+-- failed, and so far only a beginning of them
+abbrev pub ChecksText : Status → List ℕ → Outlets → Outlets → Type 0
+ChecksText InputOutput text old new =
+    (status : Status) × (judged : List Judged) × (notes : Outgoing)
+    × IsJudged status text judged old.notes notes
+    × AppendsPrefix old.out new.out (texts_of judged)
+    × Puts notes new.notes (codes "write fault\n")
+ChecksText status text old new =
+    (judged : List Judged) × IsJudged status text judged old.notes new.notes
+    × Appends old.out new.out (texts_of judged)
+
+abbrev pub IsTooLarge : Status → List ℕ → Outlets → Outlets → Type 0
+IsTooLarge Refused text old new =
+    (TEXT_MAX < length text) × Keeps old.out new.out × Puts old.notes new.notes
+    (codes "too large\n")
+IsTooLarge _ text old new = ⊥
+
+-- nothing was judged, since a read failed, or memory ran out
+abbrev pub IsNothingRead : Status → List ℕ → Option (List ℕ) → Outlets → Outlets → Type 0
+IsNothingRead InputOutput bytes left old new =
+    IsCutShort TEXT_MAX bytes left × Keeps old.out new.out
+    × Puts old.notes new.notes (codes "read fault\n")
+IsNothingRead Memory bytes left old new =
+    Keeps old.out new.out × Puts old.notes new.notes (codes "no memory\n")
+IsNothingRead _ bytes left old new = ⊥
+
+-- how `check` ended, for an input that had these bytes and has those left
+abbrev pub Checks : List ℕ → Option (List ℕ) → Status → Outlets → Outlets → Type 0
+Checks bytes left status old new =
+    ((length bytes ≤ TEXT_MAX) × ChecksText status bytes old new)
+    ⊎ (IsTooLarge status bytes old new ⊎ IsNothingRead status bytes left old new)

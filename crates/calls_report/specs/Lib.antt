@@ -1,0 +1,9 @@
+pub mod Statuses
+pub mod Orders
+pub mod Totals
+pub mod Counting
+pub mod Certificates
+pub mod Refusals
+pub mod Notes
+pub mod Checks
+pub mod kept

@@ -1,0 +1,110 @@
+-- The notes.
+use Rattle.std.specs.Prelude.{ℕ, ◌-◌, List, ◌++◌, length, codes, decimal, if◌then◌else◌}
+use Rattle.ec_text.specs.Puts.{Outgoing, Puts}
+use Rattle.calls_text.specs.declared.fault.Kind.{Kind}
+use Rattle.calls_text.specs.declared.fault.Kind.TheVariants as kinds
+use Rattle.calls_text.specs.declared.fault.Cause.{Cause}
+use Rattle.calls_text.specs.declared.fault.Cause.TheVariants as causes
+use Rattle.calls_text.specs.declared.fault.TextFault.{TextFault}
+use Rattle.calls_text.specs.declared.fault.TextFault.TheVariants as faults
+use Rattle.calls_text.specs.Faults.{kind_number, kind_name}
+use Rattle.calls_text.specs.Recordings.{Recorded}
+use Rattle.calls_text.specs.Spelling.{store_word, value_of, spaced}
+use Rattle.calls_cells.specs.declared.outcome.Undecided as cells
+use Rattle.calls_verdict.specs.declared.verdict.Refusal.{Refusal}
+use Rattle.calls_report.specs.declared.certificate.Certificate.{Certificate}
+use Rattle.calls_report.specs.Certificates.{IsCertificate}
+use Rattle.calls_report.specs.Refusals.{Scene, line_of, is_cell, certificate_text}
+
+-- FAULTS OF TEXTS
+
+-- what a kind of fault says
+abbrev pub kind_text : Kind → List ℕ
+kind_text kinds.BadHeader = codes "evc-calls 1 is expected"
+kind_text kinds.BadLine = codes "no line of this form may stand here"
+kind_text kinds.BadName = codes "a word is no name"
+kind_text kinds.NameTaken = codes "a name was used before"
+kind_text kinds.UnknownName = codes "a name is not declared"
+kind_text kinds.BadNumber = codes "a number is out of range"
+kind_text kinds.TooMany = codes "a table would pass its bound"
+kind_text kinds.Hidden = codes "the object belongs to a group"
+kind_text kinds.TwoRoles = codes "one stands in both roles"
+kind_text kinds.NoRight = codes "the worker lacks the right"
+kind_text kinds.BadOrder = codes "the from lines are not in the order of the declarations"
+kind_text kinds.Unfinished = codes "the text ends too early"
+kind_text kinds.Busy = codes "the call of the worker is pending"
+kind_text kinds.Idle = codes "the worker has no pending call"
+kind_text kinds.Unsuited = codes "the reply does not suit the call"
+kind_text kinds.AtLimit = codes "the limit is passed"
+
+-- what is wrong with a line
+abbrev pub cause_text : Kind → Cause → List ℕ
+cause_text kind causes.Long = codes "more than 8192 bytes"
+cause_text kind causes.Mark = codes "a byte order mark"
+cause_text kind causes.Return = codes "a carriage return at the end"
+cause_text kind causes.Tab = codes "a tab"
+cause_text kind causes.Empty = codes "an empty line"
+cause_text kind causes.Space = codes "a space too many"
+cause_text kind causes.Trace = codes "a trace, for evc check"
+cause_text kind causes.Script = codes "a script, for evc sim"
+cause_text kind causes.Other = kind_text kind
+
+abbrev pub line_words : ℕ → List ℕ
+line_words n = codes "line " ++ decimal n ++ codes ": "
+
+abbrev pub kind_words : Kind → List ℕ
+kind_words kind = decimal (kind_number kind) ++ codes " " ++ kind_name kind
+
+-- the note on a fault of a text
+abbrev pub fault_note : TextFault → List ℕ
+fault_note (faults.At n kind cause) =
+    line_words n ++ kind_words kind ++ (codes ": " ++ cause_text kind cause ++ codes "\n")
+fault_note faults.Memory = codes "no memory\n"
+
+-- HISTORIES WITHOUT A LINEARIZATION
+
+-- the number of the line of the event at position 0, if n is that of the line after `end`
+abbrev pub first_line : ℕ → Recorded → ℕ
+first_line n r = n - 1 - length r.events
+
+abbrev pub scene_of : ℕ → Recorded → ℕ → ℕ → Scene
+scene_of n r object at = record {
+  heading = r.heading;
+  lists = r.lists;
+  object = object;
+  first = first_line n r;
+  at = at;
+}
+
+-- the note of a certificate
+abbrev pub refusal_note : Scene → Certificate → List ℕ
+refusal_note s shown =
+    (codes "line " ++ line_of s s.at ++ codes ": ") ++ certificate_text s shown ++ codes "\n"
+
+-- a note is put of what the calls of the object show, up to the first faulty event
+abbrev pub SaysRefusal : ℕ → Recorded → Refusal → Outgoing → Outgoing → Type 0
+SaysRefusal n r refusal old new =
+    (shown : Certificate) × IsCertificate r refusal shown
+    × Puts old new (refusal_note (scene_of n r refusal.object refusal.at) shown)
+
+-- HISTORIES THAT ARE NOT DECIDED
+
+unfoldable pub repeated_words : Scene → List ℕ
+repeated_words s =
+    if is_cell s then codes " was put more than once, and the puts of lines "
+    else codes " was written more than once, and the writes of lines "
+
+abbrev pub undecided_text : Scene → ℕ → List ℕ
+undecided_text s value =
+    codes " is not decided:" ++ spaced (value_of s.heading s.lists s.object value)
+
+abbrev pub repeated_text : Scene → ℕ → List ℕ
+repeated_text s value = store_word s.heading s.object ++ undecided_text s value ++ repeated_words s
+
+abbrev pub overlap_text : Scene → cells.Undecided → List ℕ
+overlap_text s u =
+    line_of s u.first.first ++ codes " and " ++ line_of s u.second.first ++ codes " overlap\n"
+
+-- the note on a cell or a database that is not decided
+abbrev pub undecided_note : Scene → cells.Undecided → List ℕ
+undecided_note s u = repeated_text s u.value ++ overlap_text s u

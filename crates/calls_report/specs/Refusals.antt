@@ -1,0 +1,270 @@
+-- A certificate in words.
+use Rattle.std.specs.Prelude.{ℕ, ◌+◌, ◌-◌, ◌^◌, ◌==◌, ◌%◌, nat_lt, nat_le, min, Bool, true, false, ◌||◌, ◌&&◌, List}
+use Rattle.std.specs.Prelude.{[]}
+use Rattle.std.specs.Prelude.{◌∷◌, ◌++◌}
+use Rattle.std.specs.Prelude.{length, codes, decimal, if◌then◌else◌}
+use Rattle.std.specs.List.{flat_map}
+use Rattle.ec_heading.specs.Headed.{Headed}
+use Rattle.calls_core.specs.declared.history.Op.{Op}
+use Rattle.calls_core.specs.declared.history.Op.TheVariants as ops
+use Rattle.calls_core.specs.declared.history.Reply.{Reply}
+use Rattle.calls_core.specs.declared.history.Reply.TheVariants as replies
+use Rattle.calls_core.specs.declared.history.Call.{Call}
+use Rattle.calls_tickets.specs.Faults.{number}
+use Rattle.calls_text.specs.Recordings.{first_sequencer, first_group}
+use Rattle.calls_text.specs.Spelling.{event_word, sequencer_word, group_word, store_word, value_of}
+use Rattle.calls_text.specs.Spelling.{spaced}
+use Rattle.calls_report.specs.declared.certificate.Certificate.{Certificate}
+use Rattle.calls_report.specs.declared.certificate.Certificate.TheVariants as shows
+
+-- where a certificate stands: what is declared, the lists of numbers, the object, the number of the
+-- line of the event at position 0, and the position of the first faulty event
+pub record Scene : Type 0 where
+  pub heading : Headed
+  pub lists : List (List ℕ)
+  pub object : ℕ
+  pub first : ℕ
+  pub at : ℕ
+
+-- the number of the line of a position; it does not go past the greatest of 64 bits
+abbrev pub line_of : Scene → ℕ → List ℕ
+line_of s n = decimal (min (s.first + n) (2 ^ 64 - 1))
+
+-- EVENTCOUNTS
+
+abbrev pub advances_word : ℕ → List ℕ
+advances_word n = if n == 1 then codes " advance of " else codes " advances of "
+
+abbrev pub advances_text : Scene → ℕ → List ℕ
+advances_text s n = decimal n ++ advances_word n ++ event_word s.heading s.object
+
+-- the count at the beginning, if it is not 0
+abbrev pub start_text : ℕ → List ℕ
+start_text n = if n == 0 then [] else codes ", from " ++ decimal n
+
+-- what a read or an await returned, awaited or gave up on
+abbrev pub counted_text : Op → Reply → List ℕ
+counted_text op (replies.Number n) = codes "returned " ++ decimal n
+counted_text (ops.Await n) replies.Timeout = codes "gave up on " ++ decimal n
+counted_text (ops.Await n) replies.Done = codes "awaited " ++ decimal n
+counted_text _ _ = codes "returned"
+
+abbrev pub count_text : Call → List ℕ
+count_text c = counted_text c.op c.reply
+
+abbrev pub threshold : Op → ℕ
+threshold (ops.Await n) = n
+threshold _ = 0
+
+abbrev pub returned_text : Reply → List ℕ
+returned_text (replies.Number n) = codes "returned " ++ decimal n
+returned_text _ = codes "returned timeout"
+
+-- an await returned this, and awaited more, or 0
+abbrev pub below_text : Call → List ℕ
+below_text c = returned_text c.reply ++ (codes ", but it awaited " ++ decimal (threshold c.op))
+
+abbrev pub only_text : Scene → ℕ → List ℕ
+only_text s n = codes ", but only " ++ advances_text s n ++ codes " had been called"
+
+-- so many advances are too few
+abbrev pub few_text : Scene → Call → ℕ → ℕ → List ℕ
+few_text s c n start = count_text c ++ only_text s n ++ start_text start
+
+abbrev pub when_text : Scene → Call → List ℕ
+when_text s c = codes ", but when it was called (line " ++ line_of s c.first ++ codes ") "
+
+abbrev pub made_text : Scene → ℕ → ℕ → List ℕ
+made_text s n start = advances_text s n ++ codes " had returned" ++ start_text start
+
+-- so many advances are too many
+abbrev pub many_text : Scene → Call → ℕ → ℕ → List ℕ
+many_text s c n start = count_text c ++ when_text s c ++ made_text s n start
+
+-- the line of an earlier response
+abbrev pub but_line : Scene → ℕ → List ℕ
+but_line s n = codes ", but line " ++ line_of s n
+
+abbrev pub before_text : Scene → Call → List ℕ
+before_text s c = codes " before it was called (line " ++ line_of s c.first ++ codes ")"
+
+abbrev pub among_text : Scene → Call → ℕ → List ℕ
+among_text s c n =
+    codes ", and " ++ advances_text s n ++ codes " were called and returned between it and line "
+    ++ line_of s c.first
+
+-- that no advance lies between two calls, or how many do
+abbrev pub between_text : Scene → Call → ℕ → List ℕ
+between_text s c n = if n == 0 then before_text s c else among_text s c n
+
+abbrev pub had_text : Scene → Call → List ℕ
+had_text s d = but_line s d.last ++ codes " had " ++ count_text d
+
+-- an earlier call says more, with the advances between
+abbrev pub since_text : Scene → Call → Call → ℕ → List ℕ
+since_text s c d n = count_text c ++ had_text s d ++ between_text s c n
+
+-- SEQUENCERS
+
+abbrev pub number_text : Call → List ℕ
+number_text c = codes "returned " ++ decimal (number c)
+
+-- two calls returned one number
+abbrev pub twice_text : Scene → Call → Call → List ℕ
+twice_text s a b =
+    number_text a ++ codes ", as line " ++ line_of s (min a.last b.last) ++ codes " had"
+
+abbrev pub had_number : Scene → Call → List ℕ
+had_number s a = but_line s a.last ++ codes " had " ++ number_text a
+
+-- a greater number was returned before
+abbrev pub turned_text : Scene → Call → Call → List ℕ
+turned_text s a b = number_text b ++ had_number s a ++ before_text s b
+
+-- the line of an earlier call
+abbrev pub earlier_text : Scene → ℕ → List ℕ
+earlier_text s n = if n == s.at then [] else codes "line " ++ line_of s n ++ codes " had "
+
+abbrev pub tickets_word : ℕ → List ℕ
+tickets_word n = if n == 1 then codes " ticket of " else codes " tickets of "
+
+abbrev pub tickets_text : Scene → ℕ → List ℕ
+tickets_text s n =
+    codes ", but only " ++ decimal n ++ tickets_word n
+    ++ sequencer_word s.heading (s.object - first_sequencer s.heading)
+
+-- so few tickets can have drawn the numbers up to this one
+abbrev pub drawn_text : Scene → Call → ℕ → List ℕ
+drawn_text s c n =
+    earlier_text s c.last ++ number_text c ++ tickets_text s n
+    ++ (codes " can have drawn 0 to " ++ decimal (number c))
+
+-- SEMAPHORES
+
+-- what stands after the digits of an ordinal number
+abbrev pub ordinal : ℕ → List ℕ
+ordinal n =
+    if nat_le 11 (n % 100) && nat_le (n % 100) 13 then codes "th"
+    else (if n % 10 == 1 then codes "st"
+    else (if n % 10 == 2 then codes "nd"
+    else (if n % 10 == 3 then codes "rd" else codes "th")))
+
+abbrev pub nth_text : ℕ → List ℕ
+nth_text n = codes "the " ++ decimal n ++ ordinal n
+
+abbrev pub units_text : ℕ → ℕ → List ℕ
+units_text units added =
+    codes ", with " ++ decimal units ++ codes " at first and " ++ decimal added
+
+-- so many units were taken, of so many
+abbrev pub unit_text : Scene → ℕ → ℕ → ℕ → ℕ → List ℕ
+unit_text s place taken units added =
+    nth_text taken ++ (codes " p of " ++ group_word s.heading place) ++ units_text units added
+    ++ codes " v called"
+
+-- CELLS AND DATABASES
+
+abbrev pub is_cell : Scene → Bool
+is_cell s = nat_lt s.object (first_group s.heading)
+
+abbrev pub stored_value : Op → Reply → ℕ
+stored_value (ops.Put n) r = n
+stored_value op (replies.Number n) = n
+stored_value op _ = 0
+
+-- the value of a put or a get, each number after a space
+abbrev pub value_text : Scene → Call → List ℕ
+value_text s c = spaced (value_of s.heading s.lists s.object (stored_value c.op c.reply))
+
+-- the cell or database, and what a get of it returned
+abbrev pub got_text : Scene → Call → List ℕ
+got_text s c = store_word s.heading s.object ++ codes " returned" ++ value_text s c
+
+unfoldable pub no_put : Scene → List ℕ
+no_put s = if is_cell s then codes ", but no put of" else codes ", but no write of"
+
+unfoldable pub called_words : List ℕ
+called_words = codes " had been called"
+
+-- no put of the value had been called
+abbrev pub nowhere_text : Scene → Call → List ℕ
+nowhere_text s c = got_text s c ++ no_put s ++ value_text s c ++ called_words
+
+abbrev pub put_had : Scene → List ℕ
+put_had s = if is_cell s then codes " had put" else codes " had written"
+
+abbrev pub had_stored : Scene → Op → List ℕ
+had_stored s (ops.Put n) = put_had s
+had_stored s _ = codes " had returned"
+
+abbrev pub stored_text : Scene → Call → List ℕ
+stored_text s c = had_stored s c.op ++ value_text s c
+
+-- a call of another value was completed before the get was called
+abbrev pub stale_text : Scene → Call → Call → List ℕ
+stale_text s c d = got_text s d ++ but_line s c.last ++ stored_text s c ++ before_text s d
+
+-- the line of a position, after a space
+abbrev pub line_text : Scene → ℕ → List ℕ
+line_text s n = 32 ∷ line_of s n
+
+unfoldable pub alternate_words : List ℕ
+alternate_words = codes " alternate: lines"
+
+abbrev pub two_text : Scene → Call → Call → List ℕ
+two_text s c d =
+    got_text s c ++ (codes ", but" ++ value_text s c) ++ (codes " and" ++ value_text s d)
+    ++ alternate_words
+
+abbrev pub is_get : Op → Bool
+is_get ops.Get = true
+is_get _ = false
+
+-- whether the first faulty event is the response of c, or of the get b of the same value
+abbrev pub ends_second : Scene → Call → Call → Bool
+ends_second s b c = (c.last == s.at) || (is_get b.op && (b.last == s.at))
+
+-- of the values of a and c that which was returned last comes first
+abbrev pub values_text : Scene → Call → Call → Call → List ℕ
+values_text s a b c = if ends_second s b c then two_text s c a else two_text s a c
+
+abbrev pub four_lines : Scene → Call → Call → Call → Call → List ℕ
+four_lines s a b c d =
+    line_text s a.last ++ line_text s b.first ++ line_text s c.last ++ line_text s d.first
+
+-- two values alternate
+abbrev pub alternate_text : Scene → Call → Call → Call → Call → List ℕ
+alternate_text s a b c d = values_text s a b c ++ four_lines s a b c d
+
+-- the lines of responses
+abbrev pub response_lines : Scene → List Call → List ℕ
+response_lines s cs = flat_map (λ (c : Call). line_text s c.last) cs
+
+-- the lines of the other gets, if there are any
+abbrev pub by_text : Scene → List Call → List ℕ
+by_text s cs = if length cs == 0 then [] else codes ", by lines" ++ response_lines s cs
+
+unfoldable pub none_left : Scene → List ℕ
+none_left s =
+    if is_cell s then codes ", but no put is left for it" else codes ", but no write is left for it"
+
+-- no put is left for the first of these gets
+abbrev pub none_left_text : Scene → List Call → List ℕ
+none_left_text s [] = []
+none_left_text s (c ∷ cs) = got_text s c ++ none_left s ++ by_text s cs
+
+-- ANY CERTIFICATE
+
+abbrev pub certificate_text : Scene → Certificate → List ℕ
+certificate_text s (shows.Below c) = below_text c
+certificate_text s (shows.Few c n start) = few_text s c n start
+certificate_text s (shows.Many c n start) = many_text s c n start
+certificate_text s (shows.Since c d n) = since_text s c d n
+certificate_text s (shows.Twice a b) = twice_text s a b
+certificate_text s (shows.Turned a b) = turned_text s a b
+certificate_text s (shows.Drawn c n) = drawn_text s c n
+certificate_text s (shows.Units place taken units added) = unit_text s place taken units added
+certificate_text s (shows.Nowhere c) = nowhere_text s c
+certificate_text s (shows.Stale c d) = stale_text s c d
+certificate_text s (shows.Alternate a b c d) = alternate_text s a b c d
+certificate_text s (shows.NoneLeft gets) = none_left_text s gets.now

@@ -1,0 +1,168 @@
+-- What the calls of a linearization make of the objects, as text.
+use Rattle.std.specs.Prelude.{ℕ, ◌+◌, ◌^◌, ◌==◌, zero, suc, Bool, true, false, ◌&&◌, nat_lt}
+use Rattle.std.specs.Prelude.{count_by}
+use Rattle.std.specs.Prelude.{List, [], ◌∷◌, ◌++◌}
+use Rattle.std.specs.Prelude.{codes, decimal, min, if◌then◌else◌, ◌-◌, slice_index_or, Option, Some}
+use Rattle.std.specs.Prelude.{None, unwrap_or}
+use Rattle.std.specs.List.{flat_map}
+use Rattle.ec_count.specs.declared.target.Target.{Target}
+use Rattle.ec_count.specs.declared.target.Target.TheVariants.{Worker, Event, Sequencer, Cells}
+use Rattle.ec_count.specs.declared.target.Target.TheVariants.{Group}
+use Rattle.ec_heading.specs.Headed.{Headed}
+use Rattle.ec_heading.specs.declared.group.Group as kinds
+use Rattle.ec_heading.specs.declared.group.Group.TheVariants as groups
+use Rattle.calls_core.specs.declared.history.Op.{Op}
+use Rattle.calls_core.specs.declared.history.Op.TheVariants as ops
+use Rattle.calls_core.specs.declared.history.Placed.{Placed}
+use Rattle.calls_semaphores.specs.Banks.{takes, is_done}
+use Rattle.calls_text.specs.Objects.{has_count, has_line, has_cell}
+use Rattle.calls_text.specs.Recordings.{Recorded, first_sequencer, first_cell, first_group}
+use Rattle.calls_text.specs.Recordings.{start_of}
+use Rattle.calls_text.specs.Spelling.{list_of}
+
+-- COUNTS OVER THE ORDER
+
+-- an advance, a ticket or a put
+abbrev pub is_effect : Op → Bool
+is_effect ops.Advance = true
+is_effect ops.Ticket = true
+is_effect (ops.Put v) = true
+is_effect _ = false
+
+abbrev pub has_effect : ℕ → Placed → Bool
+has_effect k p = (p.call.object == k) && is_effect p.call.op
+
+-- how many advances, tickets and puts of object k there are
+abbrev pub effects : List Placed → ℕ → ℕ
+effects order k = count_by (has_effect k) order
+
+-- what is stored after a call where v was
+abbrev pub put_value : ℕ → Op → ℕ
+put_value v (ops.Put w) = w
+put_value v _ = v
+
+-- what object k stores after these calls where v was
+abbrev pub value_after : ℕ → ℕ → List Placed → ℕ
+value_after k v [] = v
+value_after k v (p ∷ ps) = value_after k (if p.call.object == k then put_value v p.call.op else v)
+    ps
+
+-- whether a call adds a unit to the semaphore at place i
+abbrev pub adds_to : ℕ → Op → Bool
+adds_to i (ops.V j) = j == i
+adds_to i _ = false
+
+abbrev pub added : List Placed → ℕ → ℕ
+added order i = count_by (λ (p : Placed). adds_to i p.call.op) order
+
+-- how many units of the semaphore at place i were taken
+abbrev pub taken : List Placed → ℕ → ℕ
+taken order i = count_by (λ (p : Placed). takes i p.call.op && is_done p.call.reply) order
+
+abbrev pub is_pair : Op → Bool
+is_pair (ops.PBoth i j) = true
+is_pair _ = false
+
+-- how often units of two were taken at once
+abbrev pub pairs : List Placed → ℕ
+pairs order = count_by (λ (p : Placed). is_pair p.call.op && is_done p.call.reply) order
+
+-- THE OBJECTS OF GROUPS
+
+-- what an eventcount has by the calls of the group at place i, if it belongs to that
+abbrev pub group_event : Headed → List Placed → ℕ → ℕ → kinds.Group → Option ℕ
+group_event h order e i (groups.Buffer b) = if has_count (groups.Buffer b) e then Some 0 else None
+group_event h order e i (groups.Database d) =
+    if has_count (groups.Database d) e then Some (effects order (first_group h + i)) else None
+group_event h order e i (groups.Semaphore s) =
+    if has_count (groups.Semaphore s) e then Some (added order i) else None
+group_event h order e i (groups.Both s) =
+    if has_count (groups.Both s) e then Some (pairs order) else None
+
+-- and a sequencer
+abbrev pub group_sequencer : Headed → List Placed → ℕ → ℕ → kinds.Group → Option ℕ
+group_sequencer h order q i (groups.Buffer b) = if has_line (groups.Buffer b) q then Some 0 else
+    None
+group_sequencer h order q i (groups.Database d) =
+    if has_line (groups.Database d) q then Some (effects order (first_group h + i)) else None
+group_sequencer h order q i (groups.Semaphore s) =
+    if has_line (groups.Semaphore s) q then Some (taken order i) else None
+group_sequencer h order q i (groups.Both s) =
+    if has_line (groups.Both s) q then Some (pairs order) else None
+
+-- the numbers of a database in the end
+abbrev pub stored : Recorded → List Placed → ℕ → ℕ → List ℕ
+stored r order i cells = list_of r.lists cells (value_after (first_group r.heading + i) 0 order)
+
+-- and a cell
+abbrev pub group_cell : Recorded → List Placed → ℕ → ℕ → kinds.Group → Option ℕ
+group_cell r order x i (groups.Buffer b) = if has_cell (groups.Buffer b) x then Some 0 else None
+group_cell r order x i (groups.Database d) =
+    if has_cell (groups.Database d) x then Some (slice_index_or (stored r order i d.cells)
+    (x - d.first_cell) 0)
+    else None
+group_cell r order x i (groups.Semaphore s) = None
+group_cell r order x i (groups.Both s) = None
+
+abbrev pub or_else : Option ℕ → Option ℕ → Option ℕ
+or_else None other = other
+or_else (Some n) other = Some n
+
+-- what the first group gives that gives something, of those from place i on
+abbrev pub by_groups : (ℕ → kinds.Group → Option ℕ) → ℕ → List kinds.Group → Option ℕ
+by_groups f i [] = None
+by_groups f i (g ∷ gs) = or_else (f i g) (by_groups f (i + 1) gs)
+
+-- TOTALS: what each object has by the calls
+
+-- a count does not go past the greatest number of 64 bits
+abbrev pub event_total : Recorded → List Placed → ℕ → ℕ
+event_total r order e =
+    unwrap_or (by_groups (group_event r.heading order e) 0 r.heading.groups)
+    (min (start_of r.from e + effects order e) (2 ^ 64 - 1))
+
+abbrev pub sequencer_total : Recorded → List Placed → ℕ → ℕ
+sequencer_total r order q =
+    unwrap_or (by_groups (group_sequencer r.heading order q) 0 r.heading.groups)
+    (effects order (first_sequencer r.heading + q))
+
+abbrev pub cell_total : Recorded → List Placed → ℕ → ℕ
+cell_total r order x =
+    unwrap_or (by_groups (group_cell r order x) 0 r.heading.groups)
+    (value_after (first_cell r.heading + x) 0 order)
+
+-- AS TEXT
+
+abbrev pub count_line : List ℕ → List ℕ → ℕ → List ℕ
+count_line sort word n = sort ++ word ++ codes " " ++ decimal n ++ codes "\n"
+
+abbrev pub cell_line : List ℕ → ℕ → ℕ → List ℕ
+cell_line word i n =
+    codes "cell " ++ word ++ codes "[" ++ decimal i ++ codes "] " ++ decimal n ++ codes "\n"
+
+-- the lines of n cells of a block, from its i-th on, of which the block begins at cell first; there
+-- are 256 cells
+unfoldable pub cell_lines : Recorded → List Placed → List ℕ → ℕ → ℕ → ℕ → List ℕ
+cell_lines r order word first i zero = []
+cell_lines r order word first i (suc n) =
+    (if nat_lt (first + i) 256 then cell_line word i (cell_total r order (first + i)) else [])
+    ++ cell_lines r order word first (i + 1) n
+
+-- the lines of what a word spells
+abbrev pub word_totals : Recorded → List Placed → List ℕ → Target → List ℕ
+word_totals r order word (Event e) = count_line (codes "eventcount ") word (event_total r order e)
+word_totals r order word (Sequencer q) = count_line (codes "sequencer ") word
+    (sequencer_total r order q)
+word_totals r order word (Cells first n) = cell_lines r order word first 0 n
+word_totals r order word (Worker w) = []
+word_totals r order word (Group g) = []
+
+-- the same of the word at a place, if there is one
+abbrev pub totals_at : Recorded → List Placed → Option (List ℕ × Target) → List ℕ
+totals_at r order None = []
+totals_at r order (Some e) = word_totals r order e.0 e.1
+
+-- the totals, in the order of the declarations and of the objects of each
+abbrev pub totals_text : Recorded → List Placed → List ℕ
+totals_text r order =
+    flat_map (λ (e : List ℕ × Target). word_totals r order e.0 e.1) r.heading.words

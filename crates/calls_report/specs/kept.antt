@@ -1,0 +1,3 @@
+pub mod Speakers
+pub mod Sums
+pub mod Judging

@@ -1,0 +1,59 @@
+-- How the parts of `check` end.
+use Rattle.std.specs.Prelude.{◌≡◌, ◌⊎◌, ℕ, ◌≤◌, List, length, codes}
+use Rattle.ec_text.specs.Puts.{Outgoing, Puts}
+use Rattle.calls_core.specs.declared.history.Placed.{Placed}
+use Rattle.calls_verdict.specs.declared.verdict.Refusal.{Refusal}
+use Rattle.calls_verdict.specs.declared.verdict.Undecided.{Undecided}
+use Rattle.calls_text.specs.declared.fault.TextFault.{TextFault}
+use Rattle.calls_text.specs.declared.fault.TextFault.TheVariants as faults
+use Rattle.calls_text.specs.Recordings.{Recorded}
+use Rattle.calls_text.specs.Outcomes.{parts_of}
+use Rattle.calls_report.specs.declared.checking.Stop.{Stop}
+use Rattle.calls_report.specs.declared.checking.Stop.TheVariants as stops
+use Rattle.calls_report.specs.declared.checking.TheConstants.{TEXT_MAX}
+use Rattle.calls_report.specs.declared.status.Status.{Status}
+use Rattle.calls_report.specs.declared.status.Status.TheVariants as statuses
+use Rattle.calls_report.specs.Notes.{scene_of, SaysRefusal, undecided_note}
+use Rattle.calls_report.specs.Checks.{Outlets, Judged, HasOrder, IsRefused, IsOpen, history_text}
+use Rattle.calls_report.specs.Checks.{texts_of, AreJudged, IsJudged, ChecksText, IsTooLarge}
+
+-- the text of the history and of an order of its calls was put
+abbrev pub PutsOrder : Recorded → Outgoing → Outgoing → Type 0
+PutsOrder r old new = (order : List Placed) × HasOrder r order × Puts old new (history_text r order)
+
+-- why no text of the history was put, of which n is the line after its `end`
+abbrev pub StopsBy : ℕ → Recorded → Outgoing → Outgoing → Stop → Type 0
+StopsBy n r old new stops.Refused = (x : Refusal) × IsRefused r x × SaysRefusal n r x old new
+StopsBy n r old new stops.NotDecided =
+    (u : Undecided) × IsOpen r u × Puts old new (undecided_note (scene_of n r u.object 0) u.cause)
+StopsBy n r old new stops.Memory = new ≡ old
+
+abbrev pub status_by : Stop → Status
+status_by stops.Refused = statuses.Refused
+status_by stops.NotDecided = statuses.NotDecided
+status_by stops.Memory = statuses.Memory
+
+abbrev pub EndsBy : Stop → Outgoing → Outgoing → Type 0
+EndsBy stops.Memory old new = Puts old new (codes "no memory\n")
+EndsBy _ old new = new ≡ old
+
+abbrev pub fault_status : TextFault → Status
+fault_status (faults.At n kind cause) = statuses.Refused
+fault_status faults.Memory = statuses.Memory
+
+-- the histories of a text were judged, and their texts were put
+abbrev pub Judges : Status → List ℕ → Outgoing → Outgoing → Outgoing → Outgoing → Type 0
+Judges status text old new old_notes new_notes =
+    (judged : List Judged) × IsJudged status text judged old_notes new_notes
+    × Puts old new (texts_of judged)
+
+-- the same of a text that may be too large
+abbrev pub ChecksWhole : Status → List ℕ → Outlets → Outlets → Type 0
+ChecksWhole status text old new =
+    ((length text ≤ TEXT_MAX) × ChecksText status text old new) ⊎ IsTooLarge status text old new
+
+-- the histories of a text up to line n were judged, and their texts were put; this is the rest
+abbrev pub IsJudgedSoFar : List ℕ → ℕ → List ℕ → Outgoing → Outgoing → Type 0
+IsJudgedSoFar text n rest old new =
+    (judged : List Judged) × AreJudged 1 (parts_of text) judged n (parts_of rest)
+    × Puts old new (texts_of judged)

@@ -1,0 +1,213 @@
+//! Why a history has no linearization, by counting.
+ghost use Rattle.std.specs.Prelude.{◌≡◌, IfOk};
+ghost use Rattle.calls_tickets.specs.Faults.{number};
+ghost use Rattle.calls_report.specs.Certificates.{advances_between, start_at, count_certificate};
+ghost use Rattle.calls_report.specs.Certificates.{ticket_certificate, units_of, unit_certificate};
+ghost use Rattle.calls_report.specs.Certificates.{IsValueCertificate, IsCertificate};
+
+use crate::counting::{Counted, count_advances, count_completed, count_pending_tickets, count_ups};
+use calls_core::{Call, Event, Reply};
+use calls_text::Recording;
+use calls_verdict::{Fault, Refusal};
+use ec_count::EventId;
+use ec_heading::{Group, Heading};
+use std::alloc::{AllocError, Global};
+
+/// What the calls of one object show, up to the first faulty event.
+#[derive(Clone, Copy, Debug)]
+pub enum Certificate<'a> {
+    /// An await returned a number below its threshold, or one of 0 gave up.
+    Below(Call),
+    /// A call says that the count reached more than so many advances that had been called can make,
+    /// from this count at the beginning.
+    Few(Call, usize, u64),
+    /// A call says that the count was less than so many advances make that had returned, from this
+    /// count at the beginning.
+    Many(Call, usize, u64),
+    /// A call says that the count was less than an earlier one says, together with so many advances
+    /// between the two.
+    Since(Call, Call, usize),
+    /// Two tickets returned one number.
+    Twice(Call, Call),
+    /// The first ticket returned its number before the second was called, which returned a smaller
+    /// one.
+    Turned(Call, Call),
+    /// Only so many tickets can have drawn the numbers up to that of this one.
+    Drawn(Call, usize),
+    /// So many units of the semaphore at this place were taken, of so many at first and so many
+    /// added.
+    Units {
+        place: usize,
+        taken: usize,
+        units: u64,
+        added: usize,
+    },
+    /// No put of what a get returned had been called.
+    Nowhere(Call),
+    /// The first call, of another value, was completed before the second was called, a get of 0.
+    Stale(Call, Call),
+    /// Two values alternate.
+    Alternate(Call, Call, Call, Call),
+    /// No put is left for the first of these gets, by the others.
+    NoneLeft(&'a [Call]),
+}
+
+/// Returns how many advances of an object lie between two positions.
+fn advances_between(
+    alloc: Global,
+    events: &[Event],
+    object: usize,
+    from: usize,
+    before: usize,
+) -> Result<usize, AllocError>
+    ensures { IfOk result (λ n. n ≡ advances_between object from before events.now) }
+{
+    count_completed(alloc, events, Counted::Advances(object, from, before))
+}
+
+/// Returns the count of an eventcount at the beginning.
+fn start_at(recording: &Recording, object: usize) -> u64
+    ensures { result ≡ start_at recording.now object }
+{
+    match EventId::new(object) {
+        Some(event) => recording.start(event),
+        None => 0,
+    }
+}
+
+/// Returns the advances that had returned before a call.
+fn of_many<'a>(
+    alloc: Global,
+    recording: &Recording,
+    events: &[Event],
+    object: usize,
+    call: Call,
+) -> Result<Certificate<'a>, AllocError>
+    ensures { IfOk result (λ c. c ≡ Certificate.Many call
+        (advances_between object 0 call.first events.now) (start_at recording.now object)) }
+{
+    let n = advances_between(alloc, events, object, 0, call.first)?;
+    Ok(Certificate::Many(call, n, start_at(recording, object)))
+}
+
+/// Returns what shows the fault of an eventcount.
+fn of_count<'a>(
+    alloc: Global,
+    recording: &Recording,
+    events: &[Event],
+    object: usize,
+    fault: &calls_counts::Fault,
+) -> Result<Certificate<'a>, AllocError>
+    ensures { IfOk result (λ c. c ≡ count_certificate recording.now object events.now fault.now) }
+{
+    match *fault {
+        calls_counts::Fault::Below(call) => Ok(Certificate::Below(call)),
+        calls_counts::Fault::Few(call) => {
+            let n = count_advances(events, object);
+            Ok(Certificate::Few(call, n, start_at(recording, object)))
+        }
+        calls_counts::Fault::Many(call) => of_many(alloc, recording, events, object, call),
+        calls_counts::Fault::Since(call, earlier) => {
+            if matches!(earlier.reply, Reply::Timeout) {
+                return of_many(alloc, recording, events, object, call);
+            }
+            let n = advances_between(alloc, events, object, earlier.last, call.first)?;
+            Ok(Certificate::Since(call, earlier, n))
+        }
+    }
+}
+
+/// Returns the number that a ticket returned.
+pub(crate) fn number_of(call: &Call) -> usize
+    ensures { result ≡ number call.now }
+{
+    match call.reply {
+        Reply::Number(n) => n,
+        _ => 0,
+    }
+}
+
+/// Returns what shows the fault of a sequencer.
+fn of_ticket<'a>(
+    alloc: Global,
+    events: &[Event],
+    object: usize,
+    fault: &calls_tickets::Fault,
+) -> Result<Certificate<'a>, AllocError>
+    ensures { IfOk result (λ c. c ≡ ticket_certificate object events.now fault.now) }
+{
+    match *fault {
+        calls_tickets::Fault::Twice(one, other) => Ok(Certificate::Twice(one, other)),
+        calls_tickets::Fault::Turned(one, other) => Ok(Certificate::Turned(one, other)),
+        calls_tickets::Fault::Drawn(call) => {
+            let counted = Counted::Tickets(object, number_of(&call));
+            let drawn = count_completed(alloc, events, counted)?;
+            let pending = count_pending_tickets(alloc, events, object, call.last)?;
+            let Some(tickets) = drawn.checked_add(pending) else {
+                return Err(AllocError);
+            };
+            Ok(Certificate::Drawn(call, tickets))
+        }
+    }
+}
+
+/// Returns the units of a semaphore at first.
+fn units_of(heading: &Heading, place: usize) -> u64
+    ensures { result ≡ units_of heading.now place }
+{
+    match heading.groups().get(place) {
+        Some(Group::Semaphore(shape)) => shape.initial(),
+        _ => 0,
+    }
+}
+
+/// Returns what shows the fault of a semaphore.
+fn of_units<'a>(
+    alloc: Global,
+    heading: &Heading,
+    events: &[Event],
+    fault: &calls_semaphores::Fault,
+) -> Result<Certificate<'a>, AllocError>
+    ensures { IfOk result (λ c. c ≡ unit_certificate heading.now events.now fault.now) }
+{
+    let place = fault.index;
+    Ok(Certificate::Units {
+        place,
+        taken: count_completed(alloc, events, Counted::Taken(place))?,
+        units: units_of(heading, place),
+        added: count_ups(events, place),
+    })
+}
+
+/// Returns what shows the fault of a cell or a database.
+fn of_value<'a>(fault: &'a calls_cells::Fault) -> Certificate<'a>
+    ensures { IsValueCertificate fault.now result }
+{
+    match fault {
+        calls_cells::Fault::Serial(fault) => Certificate::NoneLeft(&fault.gets),
+        calls_cells::Fault::Distinct(fault) => match *fault {
+            calls_distinct::Fault::Nowhere(call) => Certificate::Nowhere(call),
+            calls_distinct::Fault::Stale(earlier, call) => Certificate::Stale(earlier, call),
+            calls_distinct::Fault::Alternate(a, b, c, d) => Certificate::Alternate(a, b, c, d),
+        },
+    }
+}
+
+/// Returns what shows a fault, by the events up to it.
+pub(crate) fn certify<'a>(
+    alloc: Global,
+    recording: &Recording,
+    refusal: &'a Refusal,
+) -> Result<Certificate<'a>, AllocError>
+    ensures { IfOk result (IsCertificate recording.now refusal.now) }
+{
+    let all = recording.events();
+    let events = all.get(..refusal.at.saturating_add(1)).unwrap_or(all);
+    let object = refusal.object;
+    match &refusal.fault {
+        Fault::Count(fault) => of_count(alloc, recording, events, object, fault),
+        Fault::Ticket(fault) => of_ticket(alloc, events, object, fault),
+        Fault::Units(fault) => of_units(alloc, recording.heading(), events, fault),
+        Fault::Value(fault) => Ok(of_value(fault)),
+    }
+}

@@ -1,0 +1,218 @@
+//! `check`: histories of calls in, an order of the calls of each out.
+ghost use Rattle.std.specs.Prelude.{◌≡◌, ◌≤◌, IfSome, OnOk, OnErr, IfErr, length};
+ghost use Rattle.ec_text.specs.Puts.{Puts, IsWrittenOut};
+ghost use Rattle.calls_report.specs.Notes.{fault_note};
+ghost use Rattle.calls_report.specs.Checks.{history_text, ChecksText, Checks};
+ghost use Rattle.calls_report.specs.kept.Sums.{AreSums};
+ghost use Rattle.calls_report.specs.kept.Judging.{PutsOrder, StopsBy, status_by, EndsBy};
+ghost use Rattle.calls_report.specs.kept.Judging.{fault_status, Judges, ChecksWhole};
+
+use crate::notes::{say_fault, say_refusal, say_undecided};
+use crate::order::put_order;
+use crate::status::Status;
+use crate::sums::Sums;
+use crate::totals::Totals;
+use crate::words::Speaker;
+use calls_core::Placed;
+use calls_text::{Read as OneRead, Recording, TextFault, read_history};
+use calls_verdict::{Verdict, decide};
+use ec_text::{Input, Out, read_up_to};
+use std::alloc::Global;
+use std::io::{Read, Write};
+
+/// The most bytes that a text may have.
+pub const TEXT_MAX: usize = 67_108_864;
+
+/// Why no text of a history is put.
+#[derive(Clone, Copy, Debug, PartialEq, Eq)]
+pub(crate) enum Stop {
+    /// It has no linearization.
+    Refused,
+    /// It is not decided.
+    NotDecided,
+    /// An allocation failed.
+    Memory,
+}
+
+/// Puts the text of a linearizable history.
+fn put_text<W: Write>(out: &mut Out<'_, W>, recording: &Recording, order: &[Placed], sums: &Sums)
+    requires { AreSums order.now sums.now }
+    ensures { Puts out.old out.new (history_text recording.now order.now) }
+{
+    let speaker = Speaker::new(recording.heading(), recording.lists());
+    let totals = Totals { recording, sums };
+    out.put(b"evc-order 1\n");
+    put_order(out, &speaker, recording.events().len(), order);
+    out.put(b"totals\n");
+    totals.put(out);
+    out.put(b"end\n");
+}
+
+/// Judges a history: puts its text, or says why there is none.
+fn judge<W: Write, N: Write>(
+    alloc: Global,
+    read: &OneRead<'_>,
+    out: &mut Out<'_, W>,
+    notes: &mut Out<'_, N>,
+) -> Result<(), Stop>
+    ensures ok { OnOk result (PutsOrder read.now.recording out.old out.new) }
+    ensures quiet { OnOk result (notes.new ≡ notes.old) }
+    ensures stop { IfErr result (StopsBy read.now.number read.now.recording notes.old notes.new) }
+    ensures none { OnErr result (out.new ≡ out.old) }
+    ensures written { IsWrittenOut notes.old → IsWrittenOut notes.new }
+{
+    let recording = &read.recording;
+    let Ok(verdict) = decide(alloc, recording.kinds(), recording.events()) else {
+        return Err(Stop::Memory);
+    };
+    match verdict {
+        Verdict::Linearizable(order) => {
+            let Ok(sums) = Sums::of(alloc, &order) else {
+                return Err(Stop::Memory);
+            };
+            put_text(out, recording, &order, &sums);
+            Ok(())
+        }
+        Verdict::Refused(refusal) => match say_refusal(alloc, notes, read, &refusal) {
+            Ok(()) => Err(Stop::Refused),
+            Err(_) => Err(Stop::Memory),
+        },
+        Verdict::NotDecided(undecided) => {
+            say_undecided(notes, read, &undecided);
+            Err(Stop::NotDecided)
+        }
+    }
+}
+
+/// Returns how a check ends that was stopped, and says that memory ran out.
+fn end_by<N: Write>(stop: Stop, notes: &mut Out<'_, N>) -> Status
+    ensures status { result ≡ status_by stop }
+    ensures notes { EndsBy stop notes.old notes.new }
+    ensures written { IsWrittenOut notes.old → IsWrittenOut notes.new }
+{
+    match stop {
+        Stop::Refused => Status::Refused,
+        Stop::NotDecided => Status::NotDecided,
+        Stop::Memory => {
+            notes.say(b"no memory\n");
+            Status::Memory
+        }
+    }
+}
+
+/// Says why a text is no history, and returns how the check ends.
+fn end_unread<N: Write>(fault: TextFault, notes: &mut Out<'_, N>) -> Status
+    ensures status { result ≡ fault_status fault }
+    ensures puts { Puts notes.old notes.new (fault_note fault) }
+    ensures written { IsWrittenOut notes.new }
+{
+    say_fault(notes, fault);
+    match fault {
+        TextFault::At { .. } => Status::Refused,
+        TextFault::Memory => Status::Memory,
+    }
+}
+
+/// Judges the histories of a text, up to the first that is rejected.
+fn judge_all<W: Write, N: Write>(
+    alloc: Global,
+    text: &[u8],
+    out: &mut Out<'_, W>,
+    notes: &mut Out<'_, N>,
+) -> Status
+    requires { length text.now ≤ TEXT_MAX }
+    ensures judges { Judges result text.now out.old out.new notes.old notes.new }
+    ensures written { IsWrittenOut notes.old → IsWrittenOut notes.new }
+{
+    let mut number = 1;
+    let mut rest = text;
+    loop {
+        let read = match read_history(alloc, rest, number) {
+            Ok(read) => read,
+            Err(fault) => return end_unread(fault, notes),
+        };
+        if let Err(stop) = judge(alloc, &read, out, notes) {
+            return end_by(stop, notes);
+        }
+        number = read.number;
+        rest = read.rest;
+        if rest.is_empty() {
+            return Status::Done;
+        }
+    }
+}
+
+/// Judges a text within the bound, and writes what was found.
+fn check_text<W: Write, N: Write>(
+    alloc: Global,
+    text: &[u8],
+    out: &mut W,
+    notes: &mut Out<'_, N>,
+) -> Status
+    requires { length text.now ≤ TEXT_MAX }
+    ensures checks { ChecksText result text.now
+        (record { out = W.contents out.old; notes = notes.old })
+        (record { out = W.contents out.new; notes = notes.new }) }
+    ensures written { IsWrittenOut notes.old → IsWrittenOut notes.new }
+{
+    let mut texts = Out::new(out);
+    let status = judge_all(alloc, text, &mut texts, notes);
+    let done = texts.finish();
+    texts.into_writer();
+    match done {
+        Ok(()) => status,
+        Err(_) => {
+            notes.say(b"write fault\n");
+            Status::InputOutput
+        }
+    }
+}
+
+/// Checks a text that was read whole, or more of it than a text may have.
+fn check_whole<W: Write, N: Write>(
+    alloc: Global,
+    text: &[u8],
+    out: &mut W,
+    notes: &mut Out<'_, N>,
+) -> Status
+    ensures checks { ChecksWhole result text.now
+        (record { out = W.contents out.old; notes = notes.old })
+        (record { out = W.contents out.new; notes = notes.new }) }
+    ensures written { IsWrittenOut notes.old → IsWrittenOut notes.new }
+{
+    if text.len() > TEXT_MAX {
+        notes.say(b"too large\n");
+        return Status::Refused;
+    }
+    check_text(alloc, text, out, notes)
+}
+
+/// Reads histories of calls, and writes an order of the calls of each, up to the first that has no
+/// linearization; then a note says why.
+///
+/// A text of more than 67108864 bytes is too large, whatever is in it. A read that fails is not
+/// tried again.
+pub fn check<R: Read, W: Write, N: Write>(
+    alloc: Global,
+    reader: &mut R,
+    out: &mut W,
+    notes: &mut Out<'_, N>,
+) -> Status
+    ensures ends { IfSome (R.remaining reader.old) (λ bytes. Checks bytes (R.remaining reader.new)
+        result
+        (record { out = W.contents out.old; notes = notes.old })
+        (record { out = W.contents out.new; notes = notes.new })) }
+    ensures written { IsWrittenOut notes.old → IsWrittenOut notes.new }
+{
+    match read_up_to(alloc, reader, TEXT_MAX) {
+        Ok(Input::Whole(text)) => check_whole(alloc, text.as_slice(), out, notes),
+        Ok(Input::CutOff(_)) => {
+            notes.say(b"read fault\n");
+            Status::InputOutput
+        }
+        Err(_) => {
+            notes.say(b"no memory\n");
+            Status::Memory
+        }
+    }
+}

@@ -1,0 +1,156 @@
+//! Calls, counted.
+ghost use Rattle.std.specs.Prelude.{◌≡◌, ◌≤◌, [], count_by, reverse, IfOk};
+ghost use Rattle.std.specs.List.{cons_option};
+ghost use Rattle.calls_core.specs.Histories.{ended_call, pending_of};
+ghost use Rattle.calls_core.specs.Histories.{completed_calls, pending_calls};
+ghost use Rattle.calls_report.specs.Counting.{is_counted, is_counted_pending, is_advance_of};
+ghost use Rattle.calls_report.specs.Counting.{is_up_of};
+
+use calls_core::{Action, Call, Event, Op, PendingCall, Reply};
+use calls_verdict::{find, follow};
+use std::alloc::{AllocError, Global};
+
+/// Which completed calls are counted.
+#[derive(Clone, Copy, Debug, PartialEq, Eq)]
+pub(crate) enum Counted {
+    /// The advances of this object that were invoked at the first position or later and have their
+    /// responses before the second.
+    Advances(usize, usize, usize),
+    /// The tickets of this object that returned at most this number.
+    Tickets(usize, usize),
+    /// The calls that took a unit of the semaphore at this place.
+    Taken(usize),
+}
+
+/// Returns whether a completed call is counted.
+fn is_counted(counted: Counted, call: &Call) -> bool
+    ensures { result ≡ is_counted counted call.now }
+{
+    match counted {
+        Counted::Advances(object, from, before) => {
+            call.object == object
+                && matches!(call.op, Op::Advance)
+                && from <= call.first
+                && call.last < before
+        }
+        Counted::Tickets(object, most) => {
+            call.object == object
+                && match call.reply {
+                    Reply::Number(n) => n <= most,
+                    _ => false,
+                }
+        }
+        Counted::Taken(place) => {
+            matches!(call.reply, Reply::Done)
+                && match call.op {
+                    Op::P(i) => i == place,
+                    Op::PBoth(i, j) => i == place || j == place,
+                    _ => false,
+                }
+        }
+    }
+}
+
+/// Returns the call that an event completes, if it completes one of these.
+fn completed(pending: &[PendingCall], event: &Event) -> Option<Call>
+    ensures { cons_option result [] ≡ ended_call event.now event.now.action
+        (pending_of event.now.worker pending.now) }
+{
+    let Action::Respond(reply) = event.action else {
+        return None;
+    };
+    let Some(i) = find(pending, event.worker) else {
+        return None;
+    };
+    let call = pending[i];
+    Some(Call {
+        worker: call.worker,
+        object: call.object,
+        op: call.op,
+        reply,
+        first: call.first,
+        last: event.at,
+    })
+}
+
+/// Returns how many of one call or none are counted.
+fn count_one(counted: Counted, call: Option<Call>) -> usize
+    ensures count { result ≡ count_by (is_counted counted) (cons_option call []) }
+    ensures few { result ≤ 1 }
+{
+    match call {
+        Some(call) => { if is_counted(counted, &call) { 1 } else { 0 } }
+        None => 0,
+    }
+}
+
+/// Returns how many of the completed calls are counted.
+pub(crate) fn count_completed(
+    alloc: Global,
+    events: &[Event],
+    counted: Counted,
+) -> Result<usize, AllocError>
+    ensures { IfOk result (λ n. n ≡ count_by (is_counted counted)
+        (completed_calls (reverse events.now))) }
+{
+    let mut pending = Vec::new(alloc);
+    let mut count = 0;
+    for event in events {
+        count += count_one(counted, completed(&pending, event));
+        let _object = follow(&mut pending, event)?;
+    }
+    Ok(count)
+}
+
+/// Returns how many of these calls are calls of an object that were invoked up to a position.
+fn count_pending(pending: &[PendingCall], object: usize, upto: usize) -> usize
+    ensures { result ≡ count_by (is_counted_pending object upto) pending.now }
+{
+    pending
+        .iter()
+        .filter(|call| call.object == object && call.first <= upto)
+        .count()
+}
+
+/// Returns how many tickets of an object are pending that were invoked up to a position.
+pub(crate) fn count_pending_tickets(
+    alloc: Global,
+    events: &[Event],
+    object: usize,
+    upto: usize,
+) -> Result<usize, AllocError>
+    ensures { IfOk result (λ n. n ≡ count_by (is_counted_pending object upto)
+        (pending_calls (reverse events.now))) }
+{
+    let mut pending = Vec::new(alloc);
+    for event in events {
+        let _object = follow(&mut pending, event)?;
+    }
+    Ok(count_pending(&pending, object, upto))
+}
+
+/// Returns how many advances of an object were invoked.
+pub(crate) fn count_advances(events: &[Event], object: usize) -> usize
+    ensures { result ≡ count_by (is_advance_of object) events.now }
+{
+    events
+        .iter()
+        .filter(|event| match event.action {
+            Action::Invoke(k, Op::Advance) => k == object,
+            _ => false,
+        })
+        .count()
+}
+
+/// Returns how many v of the semaphore at a place were invoked.
+pub(crate) fn count_ups(events: &[Event], place: usize) -> usize
+    ensures { result ≡ count_by (is_up_of place) events.now }
+{
+    events
+        .iter()
+        .filter(|event| match event.action {
+            Action::Invoke(_, Op::V(i)) => i == place,
+            _ => false,
+        })
+        .count()
+}

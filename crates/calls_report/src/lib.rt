@@ -1,0 +1,17 @@
+//! What is found of histories of calls, as texts: an order of the calls, or a note that says why
+//! there is none.
+#![tactic(auto)]
+
+mod certificate;
+mod checking;
+mod counting;
+mod notes;
+mod order;
+mod refusal;
+mod status;
+mod sums;
+mod totals;
+mod words;
+
+pub use checking::{TEXT_MAX, check};
+pub use status::Status;

@@ -1,0 +1,219 @@
+//! The notes. A write of notes that fails is not reported, and none is tried after it.
+ghost use Rattle.std.specs.Prelude.{◌≡◌, ◌++◌, codes, OnOk, OnErr};
+ghost use Rattle.ec_text.specs.Puts.{Puts, IsWrittenOut};
+ghost use Rattle.calls_report.specs.Refusals.{line_of};
+ghost use Rattle.calls_report.specs.Notes.{cause_text, kind_text, line_words, kind_words};
+ghost use Rattle.calls_report.specs.Notes.{fault_note, first_line, scene_of, refusal_note};
+ghost use Rattle.calls_report.specs.Notes.{SaysRefusal, repeated_words, repeated_text};
+ghost use Rattle.calls_report.specs.Notes.{overlap_text, undecided_text, undecided_note};
+
+use crate::certificate::{Certificate, certify};
+use crate::refusal::Site;
+use crate::words::Speaker;
+use calls_text::{Cause, Kind, Read, TextFault};
+use calls_verdict::{Refusal, Undecided};
+use ec_text::Out;
+use std::alloc::{AllocError, Global};
+use std::io::Write;
+
+/// Returns what a kind of fault says.
+fn kind_text(kind: Kind) -> &'static [u8]
+    ensures { result.now ≡ kind_text kind }
+{
+    match kind {
+        Kind::BadHeader => b"evc-calls 1 is expected",
+        Kind::BadLine => b"no line of this form may stand here",
+        Kind::BadName => b"a word is no name",
+        Kind::NameTaken => b"a name was used before",
+        Kind::UnknownName => b"a name is not declared",
+        Kind::BadNumber => b"a number is out of range",
+        Kind::TooMany => b"a table would pass its bound",
+        Kind::Hidden => b"the object belongs to a group",
+        Kind::TwoRoles => b"one stands in both roles",
+        Kind::NoRight => b"the worker lacks the right",
+        Kind::BadOrder => b"the from lines are not in the order of the declarations",
+        Kind::Unfinished => b"the text ends too early",
+        Kind::Busy => b"the call of the worker is pending",
+        Kind::Idle => b"the worker has no pending call",
+        Kind::Unsuited => b"the reply does not suit the call",
+        Kind::AtLimit => b"the limit is passed",
+    }
+}
+
+/// Returns what is wrong with a line.
+fn cause_text(kind: Kind, cause: Cause) -> &'static [u8]
+    ensures { result.now ≡ cause_text kind cause }
+{
+    match cause {
+        Cause::Long => b"more than 8192 bytes",
+        Cause::Mark => b"a byte order mark",
+        Cause::Return => b"a carriage return at the end",
+        Cause::Tab => b"a tab",
+        Cause::Empty => b"an empty line",
+        Cause::Space => b"a space too many",
+        Cause::Trace => b"a trace, for evc check",
+        Cause::Script => b"a script, for evc sim",
+        Cause::Other => kind_text(kind),
+    }
+}
+
+/// Puts the beginning of a note on a line.
+fn put_line<W: Write>(out: &mut Out<'_, W>, line: u64)
+    ensures { Puts out.old out.new (line_words line) }
+{
+    out.put(b"line ");
+    out.put_number(line);
+    out.put(b": ");
+}
+
+/// Puts the number and the name of a kind.
+fn put_kind<W: Write>(out: &mut Out<'_, W>, kind: Kind)
+    ensures { Puts out.old out.new (kind_words kind) }
+{
+    out.put_number(kind.number());
+    out.put(b" ");
+    out.put(kind.name().as_bytes());
+}
+
+/// Puts what is wrong with a line.
+fn put_cause<W: Write>(out: &mut Out<'_, W>, kind: Kind, cause: Cause)
+    ensures { Puts out.old out.new (codes ": " ++ cause_text kind cause ++ codes "\n") }
+{
+    out.put(b": ");
+    out.put(cause_text(kind, cause));
+    out.put(b"\n");
+}
+
+/// Puts why a text is no history.
+fn put_fault<W: Write>(out: &mut Out<'_, W>, fault: TextFault)
+    ensures { Puts out.old out.new (fault_note fault) }
+{
+    match fault {
+        TextFault::Memory => out.put(b"no memory\n"),
+        TextFault::At { line, kind, cause } => {
+            put_line(out, line);
+            put_kind(out, kind);
+            put_cause(out, kind, cause);
+        }
+    }
+}
+
+/// Says why a text is no history.
+pub(crate) fn say_fault<N: Write>(notes: &mut Out<'_, N>, fault: TextFault)
+    ensures puts { Puts notes.old notes.new (fault_note fault) }
+    ensures written { IsWrittenOut notes.new }
+{
+    put_fault(notes, fault);
+    notes.flush();
+}
+
+/// Returns the number of the line of the event at position 0.
+fn first_line(read: &Read<'_>) -> u64
+    ensures { result ≡ first_line read.now.number read.now.recording }
+{
+    let events = read.recording.events().len() as u64;
+    read.number.saturating_sub(1).saturating_sub(events)
+}
+
+/// Returns where the certificate of an object stands.
+fn site_of<'a>(read: &'a Read<'_>, object: usize, at: usize) -> Site<'a>
+    ensures { result ≡ scene_of read.now.number read.now.recording object at }
+{
+    Site {
+        speaker: Speaker::new(read.recording.heading(), read.recording.lists()),
+        object,
+        first: first_line(read),
+        at,
+    }
+}
+
+/// Puts the line of the first faulty event.
+fn put_site<W: Write>(out: &mut Out<'_, W>, site: &Site<'_>)
+    ensures { Puts out.old out.new (codes "line " ++ line_of site.now site.now.at ++ codes ": ") }
+{
+    out.put(b"line ");
+    site.put_line(out, site.at);
+    out.put(b": ");
+}
+
+/// Puts the note of a certificate.
+fn put_refusal<W: Write>(out: &mut Out<'_, W>, site: &Site<'_>, shown: Certificate<'_>)
+    ensures { Puts out.old out.new (refusal_note site.now shown.entry) }
+{
+    put_site(out, site);
+    site.put_certificate(out, shown);
+    out.put(b"\n");
+}
+
+/// Says why a history has no linearization.
+pub(crate) fn say_refusal<N: Write>(
+    alloc: Global,
+    notes: &mut Out<'_, N>,
+    read: &Read<'_>,
+    refusal: &Refusal,
+) -> Result<(), AllocError>
+    ensures ok { OnOk result (SaysRefusal read.now.number read.now.recording refusal.now notes.old
+        notes.new) }
+    ensures written { OnOk result (IsWrittenOut notes.new) }
+    ensures err { OnErr result (notes.new ≡ notes.old) }
+{
+    let shown = certify(alloc, &read.recording, refusal)?;
+    let site = site_of(read, refusal.object, refusal.at);
+    put_refusal(notes, &site, shown);
+    notes.flush();
+    Ok(())
+}
+
+/// Puts that something was put more than once.
+#[tactic(auto, unfolding(crate::specs::Notes::repeated_words))]
+fn put_repeated_words<W: Write>(out: &mut Out<'_, W>, site: &Site<'_>)
+    ensures { Puts out.old out.new (repeated_words site.now) }
+{
+    if site.speaker.is_cell(site.object) {
+        out.put(b" was put more than once, and the puts of lines ");
+    } else {
+        out.put(b" was written more than once, and the writes of lines ");
+    }
+}
+
+/// Puts which value is not decided.
+fn put_undecided<W: Write>(out: &mut Out<'_, W>, site: &Site<'_>, value: usize)
+    ensures { Puts out.old out.new (undecided_text site.now value) }
+{
+    site.put_with(out, b" is not decided:", value);
+}
+
+/// Puts what was put more than once.
+fn put_repeated<W: Write>(out: &mut Out<'_, W>, site: &Site<'_>, value: usize)
+    ensures { Puts out.old out.new (repeated_text site.now value) }
+{
+    site.speaker.put_store(out, site.object);
+    put_undecided(out, site, value);
+    put_repeated_words(out, site);
+}
+
+/// Puts which puts overlap.
+fn put_overlap<W: Write>(out: &mut Out<'_, W>, site: &Site<'_>, cause: &calls_cells::Undecided)
+    ensures { Puts out.old out.new (overlap_text site.now cause.now) }
+{
+    site.put_line(out, cause.first.first);
+    out.put(b" and ");
+    site.put_line(out, cause.second.first);
+    out.put(b" overlap\n");
+}
+
+/// Says why a history is not decided.
+pub(crate) fn say_undecided<N: Write>(
+    notes: &mut Out<'_, N>,
+    read: &Read<'_>,
+    undecided: &Undecided,
+)
+    ensures puts { Puts notes.old notes.new (undecided_note (scene_of read.now.number
+        read.now.recording undecided.now.object 0) undecided.now.cause) }
+    ensures written { IsWrittenOut notes.new }
+{
+    let site = site_of(read, undecided.object, 0);
+    put_repeated(notes, &site, undecided.cause.value);
+    put_overlap(notes, &site, &undecided.cause);
+    notes.flush();
+}

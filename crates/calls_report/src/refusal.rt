@@ -1,0 +1,643 @@
+//! A certificate in words.
+ghost use Rattle.std.specs.Prelude.{◌≡◌, ◌++◌, codes, decimal};
+ghost use Rattle.calls_tickets.specs.Faults.{number};
+ghost use Rattle.calls_text.specs.Spelling.{group_word, value_of, spaced};
+ghost use Rattle.ec_text.specs.Puts.{Puts};
+ghost use Rattle.calls_report.specs.Refusals.{line_of, advances_word, advances_text, start_text};
+ghost use Rattle.calls_report.specs.Refusals.{counted_text, count_text, threshold, returned_text};
+ghost use Rattle.calls_report.specs.Refusals.{below_text, only_text, few_text, when_text};
+ghost use Rattle.calls_report.specs.Refusals.{made_text, many_text, but_line, before_text};
+ghost use Rattle.calls_report.specs.Refusals.{among_text, between_text, had_text, since_text};
+ghost use Rattle.calls_report.specs.Refusals.{number_text, twice_text, had_number, turned_text};
+ghost use Rattle.calls_report.specs.Refusals.{earlier_text, tickets_word, tickets_text, drawn_text};
+ghost use Rattle.calls_report.specs.Refusals.{ordinal, nth_text, units_text, unit_text};
+ghost use Rattle.calls_report.specs.Refusals.{stored_value, value_text, got_text, no_put};
+ghost use Rattle.calls_report.specs.Refusals.{nowhere_text, put_had, had_stored, stored_text};
+ghost use Rattle.calls_report.specs.Refusals.{stale_text, line_text, two_text, values_text};
+ghost use Rattle.calls_report.specs.Refusals.{four_lines, alternate_text, response_lines, by_text};
+ghost use Rattle.calls_report.specs.Refusals.{called_words, alternate_words, ends_second};
+ghost use Rattle.calls_report.specs.Refusals.{none_left, none_left_text, certificate_text};
+
+use crate::certificate::{Certificate, number_of};
+use crate::words::Speaker;
+use calls_core::{Call, Op, Reply};
+use ec_text::Out;
+use std::io::Write;
+use std::marker::Model;
+
+/// Where a certificate stands: the words of the history, its object, the number of the line of the
+/// event at position 0, and the position of the first faulty event.
+#[derive(Drop)]
+pub(crate) struct Site<'a> {
+    pub(crate) speaker: Speaker<'a>,
+    pub(crate) object: usize,
+    pub(crate) first: u64,
+    pub(crate) at: usize,
+}
+
+impl<'a> Model for Site<'a> {
+    ghost use Rattle.calls_report.specs.Refusals as refusals;
+
+    ghost Value = { refusals.Scene };
+
+    ghost view = { λ s. record {
+      heading = s.speaker.heading;
+      lists = s.speaker.lists;
+      object =
+          s.object;
+      first = s.first;
+      at = s.at;
+    } };
+}
+
+/// Returns what stands after the digits of an ordinal number.
+fn ordinal(n: usize) -> &'static [u8]
+    ensures { result.now ≡ ordinal n }
+{
+    let teens = n % 100;
+    if 11 <= teens && teens <= 13 {
+        return b"th";
+    }
+    match n % 10 {
+        1 => b"st",
+        2 => b"nd",
+        3 => b"rd",
+        _ => b"th",
+    }
+}
+
+/// Puts the count at the beginning, if it is not 0.
+fn put_start<W: Write>(out: &mut Out<'_, W>, start: u64)
+    ensures { Puts out.old out.new (start_text start) }
+{
+    if start != 0 {
+        out.put(b", from ");
+        out.put_number(start);
+    }
+}
+
+/// Puts what a read or an await returned, awaited or gave up on.
+fn put_count<W: Write>(out: &mut Out<'_, W>, call: &Call)
+    ensures { Puts out.old out.new (count_text call.now) }
+{
+    match (call.op, call.reply) {
+        (_, Reply::Number(n)) => {
+            out.put(b"returned ");
+            out.put_number(n as u64);
+        }
+        (Op::Await(n), Reply::Timeout) => {
+            out.put(b"gave up on ");
+            out.put_number(n as u64);
+        }
+        (Op::Await(n), Reply::Done) => {
+            out.put(b"awaited ");
+            out.put_number(n as u64);
+        }
+        _ => out.put(b"returned"),
+    }
+}
+
+/// Puts what a call returned.
+fn put_returned<W: Write>(out: &mut Out<'_, W>, reply: Reply)
+    ensures { Puts out.old out.new (returned_text reply) }
+{
+    match reply {
+        Reply::Number(n) => {
+            out.put(b"returned ");
+            out.put_number(n as u64);
+        }
+        _ => out.put(b"returned timeout"),
+    }
+}
+
+/// Puts bytes and a number.
+fn put_with_number<W: Write>(out: &mut Out<'_, W>, before: &[u8], n: usize)
+    ensures { Puts out.old out.new (before.now ++ decimal n) }
+{
+    out.put(before);
+    out.put_number(n as u64);
+}
+
+/// Returns the threshold of an await.
+fn threshold(op: Op) -> usize
+    ensures { result ≡ threshold op }
+{
+    match op {
+        Op::Await(n) => n,
+        _ => 0,
+    }
+}
+
+/// Puts that an await could not return this.
+fn put_below<W: Write>(out: &mut Out<'_, W>, call: &Call)
+    ensures { Puts out.old out.new (below_text call.now) }
+{
+    put_returned(out, call.reply);
+    put_with_number(out, b", but it awaited ", threshold(call.op));
+}
+
+/// Puts the word for advances.
+fn put_advances_word<W: Write>(out: &mut Out<'_, W>, n: usize)
+    ensures { Puts out.old out.new (advances_word n) }
+{
+    if n == 1 {
+        out.put(b" advance of ");
+    } else {
+        out.put(b" advances of ");
+    }
+}
+
+/// Puts the word for tickets.
+fn put_tickets_word<W: Write>(out: &mut Out<'_, W>, n: usize)
+    ensures { Puts out.old out.new (tickets_word n) }
+{
+    if n == 1 {
+        out.put(b" ticket of ");
+    } else {
+        out.put(b" tickets of ");
+    }
+}
+
+/// Puts the number that a ticket returned.
+fn put_number<W: Write>(out: &mut Out<'_, W>, call: &Call)
+    ensures { Puts out.old out.new (number_text call.now) }
+{
+    out.put(b"returned ");
+    out.put_number(number_of(call) as u64);
+}
+
+/// Puts up to which number tickets can have drawn.
+fn put_can<W: Write>(out: &mut Out<'_, W>, call: &Call)
+    ensures { Puts out.old out.new (codes " can have drawn 0 to " ++ decimal (number call.now)) }
+{
+    put_with_number(out, b" can have drawn 0 to ", number_of(call));
+}
+
+/// Puts an ordinal number.
+fn put_nth<W: Write>(out: &mut Out<'_, W>, n: usize)
+    ensures { Puts out.old out.new (nth_text n) }
+{
+    out.put(b"the ");
+    out.put_number(n as u64);
+    out.put(ordinal(n));
+}
+
+/// Puts the units of a semaphore at first, and those added.
+fn put_units<W: Write>(out: &mut Out<'_, W>, units: u64, added: usize)
+    ensures { Puts out.old out.new (units_text units added) }
+{
+    out.put(b", with ");
+    out.put_number(units);
+    out.put(b" at first and ");
+    out.put_number(added as u64);
+}
+
+/// Puts that something had been called.
+#[tactic(auto, unfolding(crate::specs::Refusals::called_words))]
+fn put_called<W: Write>(out: &mut Out<'_, W>)
+    ensures { Puts out.old out.new called_words }
+{
+    out.put(b" had been called");
+}
+
+/// Puts that values alternate.
+#[tactic(auto, unfolding(crate::specs::Refusals::alternate_words))]
+fn put_alternating<W: Write>(out: &mut Out<'_, W>)
+    ensures { Puts out.old out.new alternate_words }
+{
+    out.put(b" alternate: lines");
+}
+
+/// Returns the value of a put or a get.
+fn stored_value(call: &Call) -> usize
+    ensures { result ≡ stored_value call.now.op call.now.reply }
+{
+    match (call.op, call.reply) {
+        (Op::Put(n), _) => n,
+        (_, Reply::Number(n)) => n,
+        _ => 0,
+    }
+}
+
+impl<'a> Site<'a> {
+    /// Puts the number of the line of a position.
+    pub(crate) fn put_line<W: Write>(&self, out: &mut Out<'_, W>, position: usize)
+        ensures { Puts out.old out.new (line_of self.now position) }
+    {
+        out.put_number(self.first.saturating_add(position as u64));
+    }
+
+    /// Puts a number of advances of the eventcount.
+    fn put_advances<W: Write>(&self, out: &mut Out<'_, W>, n: usize)
+        ensures { Puts out.old out.new (advances_text self.now n) }
+    {
+        out.put_number(n as u64);
+        put_advances_word(out, n);
+        self.speaker.put_event(out, self.object);
+    }
+
+    /// Puts that only so many advances had been called.
+    fn put_only<W: Write>(&self, out: &mut Out<'_, W>, n: usize)
+        ensures { Puts out.old out.new (only_text self.now n) }
+    {
+        out.put(b", but only ");
+        self.put_advances(out, n);
+        out.put(b" had been called");
+    }
+
+    /// Puts that too few advances had been called.
+    fn put_few<W: Write>(&self, out: &mut Out<'_, W>, call: &Call, n: usize, start: u64)
+        ensures { Puts out.old out.new (few_text self.now call.now n start) }
+    {
+        put_count(out, call);
+        self.put_only(out, n);
+        put_start(out, start);
+    }
+
+    /// Puts when a call was called.
+    fn put_when<W: Write>(&self, out: &mut Out<'_, W>, call: &Call)
+        ensures { Puts out.old out.new (when_text self.now call.now) }
+    {
+        out.put(b", but when it was called (line ");
+        self.put_line(out, call.first);
+        out.put(b") ");
+    }
+
+    /// Puts how many advances had returned.
+    fn put_made<W: Write>(&self, out: &mut Out<'_, W>, n: usize, start: u64)
+        ensures { Puts out.old out.new (made_text self.now n start) }
+    {
+        self.put_advances(out, n);
+        out.put(b" had returned");
+        put_start(out, start);
+    }
+
+    /// Puts that too many advances had returned.
+    fn put_many<W: Write>(&self, out: &mut Out<'_, W>, call: &Call, n: usize, start: u64)
+        ensures { Puts out.old out.new (many_text self.now call.now n start) }
+    {
+        put_count(out, call);
+        self.put_when(out, call);
+        self.put_made(out, n, start);
+    }
+
+    /// Puts the line of an earlier response.
+    fn put_but_line<W: Write>(&self, out: &mut Out<'_, W>, position: usize)
+        ensures { Puts out.old out.new (but_line self.now position) }
+    {
+        out.put(b", but line ");
+        self.put_line(out, position);
+    }
+
+    /// Puts that something was before a call.
+    fn put_before<W: Write>(&self, out: &mut Out<'_, W>, call: &Call)
+        ensures { Puts out.old out.new (before_text self.now call.now) }
+    {
+        out.put(b" before it was called (line ");
+        self.put_line(out, call.first);
+        out.put(b")");
+    }
+
+    /// Puts how many advances lie between two calls.
+    fn put_among<W: Write>(&self, out: &mut Out<'_, W>, call: &Call, n: usize)
+        ensures { Puts out.old out.new (among_text self.now call.now n) }
+    {
+        out.put(b", and ");
+        self.put_advances(out, n);
+        out.put(b" were called and returned between it and line ");
+        self.put_line(out, call.first);
+    }
+
+    /// Puts that no advance lies between two calls, or how many do.
+    fn put_between<W: Write>(&self, out: &mut Out<'_, W>, call: &Call, n: usize)
+        ensures { Puts out.old out.new (between_text self.now call.now n) }
+    {
+        if n == 0 {
+            self.put_before(out, call);
+        } else {
+            self.put_among(out, call, n);
+        }
+    }
+
+    /// Puts what an earlier call had returned.
+    fn put_had<W: Write>(&self, out: &mut Out<'_, W>, earlier: &Call)
+        ensures { Puts out.old out.new (had_text self.now earlier.now) }
+    {
+        self.put_but_line(out, earlier.last);
+        out.put(b" had ");
+        put_count(out, earlier);
+    }
+
+    /// Puts that an earlier call shows a greater count.
+    fn put_since<W: Write>(&self, out: &mut Out<'_, W>, call: &Call, earlier: &Call, n: usize)
+        ensures { Puts out.old out.new (since_text self.now call.now earlier.now n) }
+    {
+        put_count(out, call);
+        self.put_had(out, earlier);
+        self.put_between(out, call, n);
+    }
+
+    /// Puts that two tickets returned one number.
+    fn put_twice<W: Write>(&self, out: &mut Out<'_, W>, one: &Call, other: &Call)
+        ensures { Puts out.old out.new (twice_text self.now one.now other.now) }
+    {
+        put_number(out, one);
+        out.put(b", as line ");
+        self.put_line(out, one.last.min(other.last));
+        out.put(b" had");
+    }
+
+    /// Puts the number that an earlier ticket had returned.
+    fn put_had_number<W: Write>(&self, out: &mut Out<'_, W>, earlier: &Call)
+        ensures { Puts out.old out.new (had_number self.now earlier.now) }
+    {
+        self.put_but_line(out, earlier.last);
+        out.put(b" had ");
+        put_number(out, earlier);
+    }
+
+    /// Puts that a greater number was returned before a ticket was called.
+    fn put_turned<W: Write>(&self, out: &mut Out<'_, W>, greater: &Call, smaller: &Call)
+        ensures { Puts out.old out.new (turned_text self.now greater.now smaller.now) }
+    {
+        put_number(out, smaller);
+        self.put_had_number(out, greater);
+        self.put_before(out, smaller);
+    }
+
+    /// Puts the line of an earlier call.
+    fn put_earlier<W: Write>(&self, out: &mut Out<'_, W>, position: usize)
+        ensures { Puts out.old out.new (earlier_text self.now position) }
+    {
+        if position != self.at {
+            out.put(b"line ");
+            self.put_line(out, position);
+            out.put(b" had ");
+        }
+    }
+
+    /// Puts that only so many tickets can have drawn something.
+    fn put_tickets<W: Write>(&self, out: &mut Out<'_, W>, n: usize)
+        ensures { Puts out.old out.new (tickets_text self.now n) }
+    {
+        out.put(b", but only ");
+        out.put_number(n as u64);
+        put_tickets_word(out, n);
+        self.speaker.put_sequencer_of(out, self.object);
+    }
+
+    /// Puts that too few tickets can have drawn the numbers up to one.
+    fn put_drawn<W: Write>(&self, out: &mut Out<'_, W>, call: &Call, n: usize)
+        ensures { Puts out.old out.new (drawn_text self.now call.now n) }
+    {
+        self.put_earlier(out, call.last);
+        put_number(out, call);
+        self.put_tickets(out, n);
+        put_can(out, call);
+    }
+
+    /// Puts the semaphore at a place.
+    fn put_p_of<W: Write>(&self, out: &mut Out<'_, W>, place: usize)
+        ensures { Puts out.old out.new (codes " p of " ++ group_word self.now.heading place) }
+    {
+        out.put(b" p of ");
+        self.speaker.put_group(out, place);
+    }
+
+    /// Puts that too many units of a semaphore were taken.
+    fn put_taken<W: Write>(
+        &self,
+        out: &mut Out<'_, W>,
+        place: usize,
+        taken: usize,
+        units: u64,
+        added: usize,
+    )
+        ensures { Puts out.old out.new (unit_text self.now place taken units added) }
+    {
+        put_nth(out, taken);
+        self.put_p_of(out, place);
+        put_units(out, units, added);
+        out.put(b" v called");
+    }
+
+    /// Puts the value of a put or a get, each number after a space.
+    fn put_value<W: Write>(&self, out: &mut Out<'_, W>, call: &Call)
+        ensures { Puts out.old out.new (value_text self.now call.now) }
+    {
+        self.speaker.put_value(out, self.object, stored_value(call));
+    }
+
+    /// Puts the cell or database, and what a get of it returned.
+    fn put_got<W: Write>(&self, out: &mut Out<'_, W>, call: &Call)
+        ensures { Puts out.old out.new (got_text self.now call.now) }
+    {
+        self.speaker.put_store(out, self.object);
+        out.put(b" returned");
+        self.put_value(out, call);
+    }
+
+    /// Puts that there was no put.
+    #[tactic(auto, unfolding(crate::specs::Refusals::no_put))]
+    fn put_no_put<W: Write>(&self, out: &mut Out<'_, W>)
+        ensures { Puts out.old out.new (no_put self.now) }
+    {
+        if self.speaker.is_cell(self.object) {
+            out.put(b", but no put of");
+        } else {
+            out.put(b", but no write of");
+        }
+    }
+
+    /// Puts that no put of a value had been called.
+    fn put_nowhere<W: Write>(&self, out: &mut Out<'_, W>, call: &Call)
+        ensures { Puts out.old out.new (nowhere_text self.now call.now) }
+    {
+        self.put_got(out, call);
+        self.put_no_put(out);
+        self.put_value(out, call);
+        put_called(out);
+    }
+
+    /// Puts that a put had stored something.
+    fn put_put_had<W: Write>(&self, out: &mut Out<'_, W>)
+        ensures { Puts out.old out.new (put_had self.now) }
+    {
+        if self.speaker.is_cell(self.object) {
+            out.put(b" had put");
+        } else {
+            out.put(b" had written");
+        }
+    }
+
+    /// Puts that a call had stored or returned something.
+    fn put_had_stored<W: Write>(&self, out: &mut Out<'_, W>, op: Op)
+        ensures { Puts out.old out.new (had_stored self.now op) }
+    {
+        match op {
+            Op::Put(_) => self.put_put_had(out),
+            _ => out.put(b" had returned"),
+        }
+    }
+
+    /// Puts what a call had stored or returned.
+    fn put_stored<W: Write>(&self, out: &mut Out<'_, W>, call: &Call)
+        ensures { Puts out.old out.new (stored_text self.now call.now) }
+    {
+        self.put_had_stored(out, call.op);
+        self.put_value(out, call);
+    }
+
+    /// Puts that a call of another value was completed before a get of the first value was called.
+    fn put_stale<W: Write>(&self, out: &mut Out<'_, W>, earlier: &Call, call: &Call)
+        ensures { Puts out.old out.new (stale_text self.now earlier.now call.now) }
+    {
+        self.put_got(out, call);
+        self.put_but_line(out, earlier.last);
+        self.put_stored(out, earlier);
+        self.put_before(out, call);
+    }
+
+    /// Puts a line, after a space.
+    fn put_next_line<W: Write>(&self, out: &mut Out<'_, W>, position: usize)
+        ensures { Puts out.old out.new (line_text self.now position) }
+    {
+        out.put(b" ");
+        self.put_line(out, position);
+    }
+
+    /// Puts bytes, and a value, each number after a space.
+    pub(crate) fn put_with<W: Write>(&self, out: &mut Out<'_, W>, before: &[u8], value: usize)
+        ensures { Puts out.old out.new (before.now
+            ++ spaced (value_of self.now.heading self.now.lists self.now.object value)) }
+    {
+        out.put(before);
+        self.speaker.put_value(out, self.object, value);
+    }
+
+    /// Puts bytes, and the value of a call.
+    fn put_with_value<W: Write>(&self, out: &mut Out<'_, W>, before: &[u8], call: &Call)
+        ensures { Puts out.old out.new (before.now ++ value_text self.now call.now) }
+    {
+        out.put(before);
+        self.put_value(out, call);
+    }
+
+    /// Puts two values that alternate.
+    fn put_two<W: Write>(&self, out: &mut Out<'_, W>, one: &Call, other: &Call)
+        ensures { Puts out.old out.new (two_text self.now one.now other.now) }
+    {
+        self.put_got(out, one);
+        self.put_with_value(out, b", but", one);
+        self.put_with_value(out, b" and", other);
+        put_alternating(out);
+    }
+
+    /// Returns whether the first faulty event is the response of the second of these calls, or of
+    /// the first one, a get of the same value.
+    fn ends_second(&self, b: &Call, c: &Call) -> bool
+        ensures { result ≡ ends_second self.now b.now c.now }
+    {
+        c.last == self.at || (matches!(b.op, Op::Get) && b.last == self.at)
+    }
+
+    /// Puts two values that alternate, of which that comes first that was returned last.
+    fn put_values<W: Write>(&self, out: &mut Out<'_, W>, a: &Call, b: &Call, c: &Call)
+        ensures { Puts out.old out.new (values_text self.now a.now b.now c.now) }
+    {
+        if self.ends_second(b, c) {
+            self.put_two(out, c, a);
+        } else {
+            self.put_two(out, a, c);
+        }
+    }
+
+    /// Puts the lines of two responses, each with an invocation after it.
+    fn put_four_lines<W: Write>(&self, out: &mut Out<'_, W>, a: &Call, b: &Call, c: &Call, d: &Call)
+        ensures { Puts out.old out.new (four_lines self.now a.now b.now c.now d.now) }
+    {
+        self.put_next_line(out, a.last);
+        self.put_next_line(out, b.first);
+        self.put_next_line(out, c.last);
+        self.put_next_line(out, d.first);
+    }
+
+    /// Puts that two values alternate.
+    fn put_alternate<W: Write>(&self, out: &mut Out<'_, W>, a: &Call, b: &Call, c: &Call, d: &Call)
+        ensures { Puts out.old out.new (alternate_text self.now a.now b.now c.now d.now) }
+    {
+        self.put_values(out, a, b, c);
+        self.put_four_lines(out, a, b, c, d);
+    }
+
+    /// Puts the lines of responses, each after a space.
+    fn put_lines<W: Write>(&self, out: &mut Out<'_, W>, gets: &[Call])
+        ensures { Puts out.old out.new (response_lines self.now gets.now) }
+    {
+        for get in gets {
+            self.put_next_line(out, get.last);
+        }
+    }
+
+    /// Puts the lines of the other gets, if there are any.
+    fn put_by<W: Write>(&self, out: &mut Out<'_, W>, gets: &[Call])
+        ensures { Puts out.old out.new (by_text self.now gets.now) }
+    {
+        if !gets.is_empty() {
+            out.put(b", by lines");
+            self.put_lines(out, gets);
+        }
+    }
+
+    /// Puts that no put is left.
+    #[tactic(auto, unfolding(crate::specs::Refusals::none_left))]
+    fn put_none<W: Write>(&self, out: &mut Out<'_, W>)
+        ensures { Puts out.old out.new (none_left self.now) }
+    {
+        if self.speaker.is_cell(self.object) {
+            out.put(b", but no put is left for it");
+        } else {
+            out.put(b", but no write is left for it");
+        }
+    }
+
+    /// Puts that no put is left for the first of these gets, by the others.
+    fn put_none_left<W: Write>(&self, out: &mut Out<'_, W>, gets: &[Call])
+        ensures { Puts out.old out.new (none_left_text self.now gets.now) }
+    {
+        if let [call, earlier @ ..] = gets {
+            self.put_got(out, call);
+            self.put_none(out);
+            self.put_by(out, earlier);
+        }
+    }
+
+    /// Puts a certificate.
+    pub(crate) fn put_certificate<W: Write>(
+        &self,
+        out: &mut Out<'_, W>,
+        certificate: Certificate<'_>,
+    )
+        ensures { Puts out.old out.new (certificate_text self.now certificate.entry) }
+    {
+        match certificate {
+            Certificate::Below(call) => put_below(out, &call),
+            Certificate::Few(call, n, start) => self.put_few(out, &call, n, start),
+            Certificate::Many(call, n, start) => self.put_many(out, &call, n, start),
+            Certificate::Since(call, earlier, n) => self.put_since(out, &call, &earlier, n),
+            Certificate::Twice(one, other) => self.put_twice(out, &one, &other),
+            Certificate::Turned(one, other) => self.put_turned(out, &one, &other),
+            Certificate::Drawn(call, n) => self.put_drawn(out, &call, n),
+            Certificate::Units {
+                place,
+                taken,
+                units,
+                added,
+            } => self.put_taken(out, place, taken, units, added),
+            Certificate::Nowhere(call) => self.put_nowhere(out, &call),
+            Certificate::Stale(earlier, call) => self.put_stale(out, &earlier, &call),
+            Certificate::Alternate(a, b, c, d) => self.put_alternate(out, &a, &b, &c, &d),
+            Certificate::NoneLeft(gets) => self.put_none_left(out, gets),
+        }
+    }
+}

@@ -1,0 +1,148 @@
+//! What the calls of an order make of the objects.
+ghost use Rattle.std.specs.Prelude.{ℕ, List, ◌≡◌, ◌+◌, ◌<◌, ◌∷◌, ◌++◌, [], IfOk, OnOk, length};
+ghost use Rattle.std.specs.Prelude.{slice_index_or};
+ghost use Rattle.calls_report.specs.Totals.{is_effect};
+ghost use Rattle.calls_report.specs.kept.Sums.{IsSetAt, AreSums, AddsEffect};
+ghost use Rattle.calls_report.specs.kept.Sums.{AddsUnits, AddsPair};
+
+use calls_core::{Call, Op, Placed, Reply};
+use std::alloc::{AllocError, Global};
+
+/// What the calls of an order make of the objects. Where no number is kept, it is 0.
+#[derive(Drop)]
+pub(crate) struct Sums {
+    /// For each object how many advances, tickets and puts of it there are.
+    pub(crate) effects: Vec<usize>,
+    /// For each object the value that was put last.
+    pub(crate) values: Vec<usize>,
+    /// For each group how many units were added.
+    pub(crate) added: Vec<usize>,
+    /// For each group how many units were taken.
+    pub(crate) taken: Vec<usize>,
+    /// How often units of two were taken at once.
+    pub(crate) pairs: usize,
+}
+
+/// Returns the number at an index, 0 if none is kept.
+pub(crate) fn number_at(numbers: &[usize], i: usize) -> usize
+    ensures { result ≡ slice_index_or numbers.now i 0 }
+{
+    match numbers.get(i) {
+        Some(n) => *n,
+        None => 0,
+    }
+}
+
+/// Makes room for a number at an index.
+fn reach(numbers: &mut Vec<usize>, i: usize) -> Result<(), AllocError>
+    ensures room { OnOk result (i < length numbers.new.items) }
+    ensures same { (j : ℕ) → slice_index_or numbers.new.items j 0 ≡ slice_index_or numbers.old.items
+        j 0 }
+{
+    while numbers.len() <= i {
+        numbers.push(0)?;
+    }
+    Ok(())
+}
+
+/// Sets the number at an index.
+fn set(numbers: &mut Vec<usize>, i: usize, n: usize) -> Result<(), AllocError>
+    ensures { OnOk result (IsSetAt i n numbers.old.items numbers.new.items) }
+{
+    reach(numbers, i)?;
+    numbers[i] = n;
+    Ok(())
+}
+
+/// Adds one to the number at an index.
+fn add_one(numbers: &mut Vec<usize>, i: usize) -> Result<(), AllocError>
+    ensures { OnOk result (IsSetAt i (slice_index_or numbers.old.items i 0 + 1) numbers.old.items
+        numbers.new.items) }
+{
+    let Some(n) = number_at(numbers, i).checked_add(1) else {
+        return Err(AllocError);
+    };
+    set(numbers, i, n)
+}
+
+/// Returns whether it is an advance, a ticket or a put.
+fn is_effect(op: Op) -> bool
+    ensures { result ≡ is_effect op }
+{
+    matches!(op, Op::Advance | Op::Ticket | Op::Put(_))
+}
+
+impl Sums {
+    /// Returns the sums over no calls.
+    fn none(alloc: Global) -> Sums
+        ensures { AreSums [] result }
+    {
+        Sums {
+            effects: Vec::new(alloc),
+            values: Vec::new(alloc),
+            added: Vec::new(alloc),
+            taken: Vec::new(alloc),
+            pairs: 0,
+        }
+    }
+
+    /// Adds what a call does to its object.
+    fn add_effect(&mut self, call: &Call) -> Result<(), AllocError>
+        ensures { OnOk result (AddsEffect call.now self.old self.new) }
+    {
+        if is_effect(call.op) {
+            add_one(&mut self.effects, call.object)?;
+        }
+        if let Op::Put(value) = call.op {
+            set(&mut self.values, call.object, value)?;
+        }
+        Ok(())
+    }
+
+    /// Adds that units of two semaphores were taken at once.
+    fn add_pair(&mut self, i: usize, j: usize) -> Result<(), AllocError>
+        ensures { OnOk result (AddsPair i j self.old self.new) }
+    {
+        add_one(&mut self.taken, i)?;
+        if i != j {
+            add_one(&mut self.taken, j)?;
+        }
+        let Some(pairs) = self.pairs.checked_add(1) else {
+            return Err(AllocError);
+        };
+        self.pairs = pairs;
+        Ok(())
+    }
+
+    /// Adds what a call takes from semaphores, or adds to one.
+    fn add_units(&mut self, call: &Call) -> Result<(), AllocError>
+        ensures { OnOk result (AddsUnits call.now self.old self.new) }
+    {
+        match (call.op, call.reply) {
+            (Op::V(i), _) => add_one(&mut self.added, i),
+            (Op::P(i), Reply::Done) => add_one(&mut self.taken, i),
+            (Op::PBoth(i, j), Reply::Done) => self.add_pair(i, j),
+            _ => Ok(()),
+        }
+    }
+
+    /// Adds a call.
+    fn add(&mut self, placed: &Placed) -> Result<(), AllocError>
+        ensures { OnOk result ((order : List Placed) → AreSums order self.old → AreSums
+            (order ++ placed.now ∷ []) self.new) }
+    {
+        self.add_effect(&placed.call)?;
+        self.add_units(&placed.call)
+    }
+
+    /// Returns the sums over an order.
+    pub(crate) fn of(alloc: Global, order: &[Placed]) -> Result<Sums, AllocError>
+        ensures { IfOk result (AreSums order.now) }
+    {
+        let mut sums = Sums::none(alloc);
+        for placed in order {
+            sums.add(placed)?;
+        }
+        Ok(sums)
+    }
+}

@@ -1,0 +1,254 @@
+//! What each object has by the calls of a linearization, as text.
+ghost use Rattle.std.specs.Prelude.{◌≡◌, ◌+◌, ◌<◌, length, List, slice_get, slice_index_or};
+ghost use Rattle.std.specs.Prelude.{[], Some, None, if◌then◌else◌, nat_lt};
+ghost use Rattle.std.specs.Option.{option_map_or};
+ghost use Rattle.ec_text.specs.Puts.{Puts};
+ghost use Rattle.calls_core.specs.declared.history.Placed.{Placed};
+ghost use Rattle.calls_text.specs.Recordings.{first_group};
+ghost use Rattle.calls_report.specs.Totals.{effects};
+ghost use Rattle.calls_report.specs.Totals.{group_event, group_sequencer, group_cell, stored};
+ghost use Rattle.calls_report.specs.Totals.{event_total, sequencer_total, cell_total};
+ghost use Rattle.calls_report.specs.Totals.{count_line, cell_line, cell_lines, word_totals};
+ghost use Rattle.calls_report.specs.Totals.{totals_text, totals_at};
+ghost use Rattle.calls_report.specs.kept.Sums.{AreSums};
+
+use crate::sums::{Sums, number_at};
+use calls_text::{
+    Recording, first_cell, first_group, first_sequencer, has_cell, has_count, has_line,
+};
+use ec_count::{CellId, EventId, SeqId, Target, Vocabulary};
+use ec_heading::Group;
+use ec_text::Out;
+use std::io::Write;
+
+/// A history, and the sums over an order of its calls.
+#[derive(Drop)]
+pub(crate) struct Totals<'a> {
+    pub(crate) recording: &'a Recording,
+    pub(crate) sums: &'a Sums,
+}
+
+/// Returns the cell at a place of a block, if there is one.
+fn cell_at(first: CellId, i: usize) -> Option<CellId>
+    ensures { result ≡ (if nat_lt (first + i) 256 then Some (first + i) else None) }
+{
+    CellId::new(first.get().checked_add(i)?)
+}
+
+impl<'a> Totals<'a> {
+    /// Returns how many writes of the database at a place there are.
+    fn writes(&self, place: usize) -> usize
+        requires { place < length self.now.recording.now.heading.groups }
+        ensures { (order : List Placed) → AreSums order self.now.sums.now → result ≡ effects order
+            (first_group self.now.recording.now.heading + place) }
+    {
+        // there is a kind for each group, so the sum fits
+        let _kinds = self.recording.kinds().len();
+        number_at(
+            &self.sums.effects,
+            first_group(self.recording.heading()) + place,
+        )
+    }
+
+    /// Returns what an eventcount has by the calls of a group, if it belongs to that.
+    fn of_group_event(&self, event: EventId, place: usize, group: &Group) -> Option<usize>
+        requires { place < length self.now.recording.now.heading.groups }
+        ensures { (order : List Placed) → AreSums order self.now.sums.now → result ≡ group_event
+            self.now.recording.now.heading order event place group.now }
+    {
+        if !has_count(group, event) {
+            return None;
+        }
+        match *group {
+            Group::Buffer(_) => Some(0),
+            Group::Database(_) => Some(self.writes(place)),
+            Group::Semaphore(_) => Some(number_at(&self.sums.added, place)),
+            Group::Both(_) => Some(self.sums.pairs),
+        }
+    }
+
+    /// Returns what a sequencer has by the calls of a group, if it belongs to that.
+    fn of_group_sequencer(&self, sequencer: SeqId, place: usize, group: &Group) -> Option<usize>
+        requires { place < length self.now.recording.now.heading.groups }
+        ensures { (order : List Placed) → AreSums order self.now.sums.now → result ≡ group_sequencer
+            self.now.recording.now.heading order sequencer place group.now }
+    {
+        if !has_line(group, sequencer) {
+            return None;
+        }
+        match *group {
+            Group::Buffer(_) => Some(0),
+            Group::Database(_) => Some(self.writes(place)),
+            Group::Semaphore(_) => Some(number_at(&self.sums.taken, place)),
+            Group::Both(_) => Some(self.sums.pairs),
+        }
+    }
+
+    /// Returns the number of a cell of the database at a place.
+    fn of_database_cell(&self, place: usize, cells: usize, i: usize) -> u64
+        requires { place < length self.now.recording.now.heading.groups }
+        ensures { (order : List Placed) → AreSums order self.now.sums.now → result ≡ slice_index_or
+            (stored self.now.recording.now order place cells) i 0 }
+    {
+        // there is a kind for each group, so the sum fits
+        let _kinds = self.recording.kinds().len();
+        let object = first_group(self.recording.heading()) + place;
+        let value = number_at(&self.sums.values, object);
+        if value == 0 {
+            return 0;
+        }
+        match self.recording.lists().get(value - 1) {
+            Some(list) => list.get(i).copied().unwrap_or(0),
+            None => 0,
+        }
+    }
+
+    /// Returns what a cell has as one of a group, if it is one.
+    fn of_group_cell(&self, cell: CellId, place: usize, group: &Group) -> Option<u64>
+        requires { place < length self.now.recording.now.heading.groups }
+        ensures { (order : List Placed) → AreSums order self.now.sums.now → result ≡ group_cell
+            self.now.recording.now order cell place group.now }
+    {
+        if !has_cell(group, cell) {
+            return None;
+        }
+        match *group {
+            Group::Database(shape) => {
+                let i = cell.get() - shape.first_cell().get();
+                Some(self.of_database_cell(place, shape.cells(), i))
+            }
+            _ => Some(0),
+        }
+    }
+
+    /// Returns the count of an eventcount.
+    fn of_event(&self, event: EventId) -> u64
+        ensures { (order : List Placed) → AreSums order self.now.sums.now → result ≡ event_total
+            self.now.recording.now order event }
+    {
+        for (place, group) in self.recording.heading().groups().iter().enumerate() {
+            if let Some(n) = self.of_group_event(event, place, group) {
+                return n as u64;
+            }
+        }
+        let own = number_at(&self.sums.effects, event.get());
+        self.recording.start(event).saturating_add(own as u64)
+    }
+
+    /// Returns how many tickets of a sequencer were drawn.
+    fn of_sequencer(&self, sequencer: SeqId) -> u64
+        ensures { (order : List Placed) → AreSums order self.now.sums.now → result ≡ sequencer_total
+            self.now.recording.now order sequencer }
+    {
+        let heading = self.recording.heading();
+        for (place, group) in heading.groups().iter().enumerate() {
+            if let Some(n) = self.of_group_sequencer(sequencer, place, group) {
+                return n as u64;
+            }
+        }
+        heading.setup().known();
+        number_at(
+            &self.sums.effects,
+            first_sequencer(heading) + sequencer.get(),
+        ) as u64
+    }
+
+    /// Returns what a cell stores.
+    fn of_cell(&self, cell: CellId) -> u64
+        ensures { (order : List Placed) → AreSums order self.now.sums.now → result ≡ cell_total
+            self.now.recording.now order cell }
+    {
+        let heading = self.recording.heading();
+        for (place, group) in heading.groups().iter().enumerate() {
+            if let Some(n) = self.of_group_cell(cell, place, group) {
+                return n;
+            }
+        }
+        heading.setup().known();
+        number_at(&self.sums.values, first_cell(heading) + cell.get()) as u64
+    }
+
+    /// Puts the line of a cell.
+    fn put_cell<W: Write>(&self, out: &mut Out<'_, W>, word: &[u8], i: usize, cell: CellId)
+        ensures { (order : List Placed) → AreSums order self.now.sums.now → Puts out.old out.new
+            (cell_line word.now i (cell_total self.now.recording.now order cell)) }
+    {
+        out.put(b"cell ");
+        out.put(word);
+        out.put(b"[");
+        out.put_number(i as u64);
+        out.put(b"] ");
+        out.put_number(self.of_cell(cell));
+        out.put(b"\n");
+    }
+
+    /// Puts the line of a cell, if there is one.
+    fn put_spot<W: Write>(&self, out: &mut Out<'_, W>, word: &[u8], i: usize, cell: Option<CellId>)
+        ensures { (order : List Placed) → AreSums order self.now.sums.now → Puts out.old out.new
+            (option_map_or (λ x. cell_line word.now i (cell_total self.now.recording.now order x))
+            cell []) }
+    {
+        if let Some(cell) = cell {
+            self.put_cell(out, word, i, cell);
+        }
+    }
+
+    /// Puts the lines of a block of cells.
+    fn put_cells<W: Write>(&self, out: &mut Out<'_, W>, word: &[u8], first: CellId, n: usize)
+        ensures { (order : List Placed) → AreSums order self.now.sums.now → Puts out.old out.new
+            (cell_lines self.now.recording.now order word.now first 0 n) }
+    {
+        for i in 0..n {
+            self.put_spot(out, word, i, cell_at(first, i));
+        }
+    }
+
+    /// Puts the line of a count.
+    fn put_count<W: Write>(&self, out: &mut Out<'_, W>, sort: &[u8], word: &[u8], n: u64)
+        ensures { Puts out.old out.new (count_line sort.now word.now n) }
+    {
+        out.put(sort);
+        out.put(word);
+        out.put(b" ");
+        out.put_number(n);
+        out.put(b"\n");
+    }
+
+    /// Puts the lines of what a word spells.
+    fn put_word<W: Write>(&self, out: &mut Out<'_, W>, word: &[u8], target: Target)
+        ensures { (order : List Placed) → AreSums order self.now.sums.now → Puts out.old out.new
+            (word_totals self.now.recording.now order word.now target) }
+    {
+        match target {
+            Target::Event(event) => {
+                self.put_count(out, b"eventcount ", word, self.of_event(event));
+            }
+            Target::Sequencer(sequencer) => {
+                self.put_count(out, b"sequencer ", word, self.of_sequencer(sequencer));
+            }
+            Target::Cells(first, n) => self.put_cells(out, word, first, n),
+            Target::Worker(_) | Target::Group(_) => {}
+        }
+    }
+
+    /// Puts the lines of what the word at a place spells, if there is one.
+    fn put_place<W: Write>(&self, out: &mut Out<'_, W>, words: &Vocabulary, place: usize)
+        ensures { (order : List Placed) → AreSums order self.now.sums.now → Puts out.old out.new
+            (totals_at self.now.recording.now order (slice_get words.now place)) }
+    {
+        if let Some((word, target)) = words.at(place) {
+            self.put_word(out, word, target);
+        }
+    }
+
+    /// Puts the totals.
+    pub(crate) fn put<W: Write>(&self, out: &mut Out<'_, W>)
+        ensures { (order : List Placed) → AreSums order self.now.sums.now → Puts out.old out.new
+            (totals_text self.now.recording.now order) }
+    {
+        let words = self.recording.heading().words();
+        for place in 0..words.len() {
+            self.put_place(out, words, place);
+        }
+    }
+}

@@ -1,0 +1,53 @@
+//! The texts of `evc-calls --help`, of the help on its command, and of `evc-calls --version`.
+
+// What stands after `evc-calls ` in the answer to `evc-calls --version`: the number, and the line
+// of the toolchain that everything is proved and built with.
+pub(crate) const VERSION: &str = "0.2
+proved and built with rattle-kit-13";
+
+pub(crate) const ABOUT: &str =
+    "Judges recorded calls of eventcounts, sequencers, semaphores and cells";
+
+pub(crate) const LONG_ABOUT: &str =
+    "Judges recorded calls of eventcounts, sequencers, semaphores and cells.
+
+A history says who called what, and what was returned, in the order in which that happened:
+
+    evc-calls 1
+    limit 100
+    workers a b c d
+    eventcount E signal a b observe c d
+    run
+    c calls read E
+    a calls advance E
+    b calls advance E
+    d calls read E
+    d returns 1
+    a returns done
+    c returns 2
+    end
+
+It is linearizable if its calls can be put in an order in which each takes effect at a moment
+between its invocation and its response, and each reply is that of one number for each object.";
+
+pub(crate) const AFTER_HELP: &str = "Exit status:
+  0  each history is linearizable, or the help or the version was written
+  1  the text is no history, or a history is not linearizable: a note says why
+  2  the command line is wrong
+  3  a read or a write failed
+  4  out of memory
+  5  a history is not decided: a note says which cell, and why";
+
+pub(crate) const CHECK_ABOUT: &str =
+    "Writes a linearization of each history, or a note that says why there is none";
+
+pub(crate) const CHECK_LONG_ABOUT: &str =
+    "Writes a linearization of each history, or a note that says why there is none.
+
+For each linearizable history it writes `evc-order 1`, the calls in order, each with its point (the
+position of the event before which it takes effect), the totals of the objects, and `end`. The first
+history that is not linearizable ends the check: a note names the first faulty line, and shows by
+counting that no order can be right.";
+
+pub(crate) const FILE: &str =
+    "The file with the histories; without it they are read from standard input";
