@@ -1,7 +1,7 @@
 //! Records what a program does with its own eventcounts and sequencers, as a trace for `evc check`.
 //!
-//! Plain Rust, this one module, no dependency; docs/TRACING.md shows how it is used. Nothing of it is proved: what it
-//! has written is judged by `evc check`.
+//! Plain Rust, this one module, no dependency; docs/TRACING.md shows how it is used. Nothing of it
+//! is proved: what it has written is judged by `evc check`.
 //!
 //!     let record = Record::new(1_000_000, &["a", "b"], &["eventcount E signal a observe b"]);
 //!     // on the thread of worker a, around each atomic step of yours
@@ -11,8 +11,8 @@
 //!     });
 //!     record.write("my.trace")?;
 //!
-//! The first fault is kept. After it your steps go on, unrecorded, and the text stays without its last line, so that
-//! `evc check` calls it `unfinished`.
+//! The first fault is kept. After it your steps go on, unrecorded, and the text stays without its
+//! last line, so that `evc check` calls it `unfinished`.
 #![allow(dead_code)]
 
 use std::fmt;
@@ -31,7 +31,8 @@ const END: &[u8] = b"end\n";
 pub enum Reply {
     /// The step was an advance, a put or a hand.
     Done,
-    /// The step did not end the read or await: a component is left, or the sum is below the threshold.
+    /// The step did not end the read or await: a component is left, or the sum is below the
+    /// threshold.
     Pending,
     /// The sum of a read or an await at its last step, a ticket, or the value of a get.
     Number(u64),
@@ -59,6 +60,10 @@ pub enum Fault {
     NoMemory,
     /// The file could not be opened or written.
     NotWritten,
+    /// A worker or an object has no name: a letter, and at most 15 letters, digits or underscores.
+    BadName,
+    ReservedWord,
+    NameTaken,
 }
 
 impl fmt::Display for Fault {
@@ -69,11 +74,59 @@ impl fmt::Display for Fault {
             Fault::TooLarge => "too large",
             Fault::NoMemory => "no memory",
             Fault::NotWritten => "not written",
+            Fault::BadName => "bad name",
+            Fault::ReservedWord => "reserved word",
+            Fault::NameTaken => "name taken",
         })
     }
 }
 
 impl std::error::Error for Fault {}
+
+const RESERVED: &str = " advance await both buffer cells consume database done end eventcount \
+    get go hand last limit observe p pboth pending produce put read repeat run schedule semaphore \
+    sequencer signal snapshot take ticket use v worker workers write ";
+
+/// Returns what is wrong with a name, after others.
+fn fault_of_name(name: &str, others: &[&str]) -> Option<Fault> {
+    let is_name = (1..=16).contains(&name.len())
+        && name.starts_with(|it: char| it.is_ascii_alphabetic())
+        && name.bytes().all(|it| it.is_ascii_alphanumeric() || it == b'_');
+    match () {
+        _ if !is_name => Some(Fault::BadName),
+        _ if RESERVED.contains(&format!(" {name} ")) => Some(Fault::ReservedWord),
+        _ if others.contains(&name) => Some(Fault::NameTaken),
+        _ => None,
+    }
+}
+
+/// Returns what is wrong with the first declaration that can't be.
+fn fault_of_names(workers: &[&str], objects: &[&str]) -> Option<Fault> {
+    const KINDS: &str = " eventcount sequencer cells buffer database semaphore ";
+    let (mut names, mut has_both): (Vec<&str>, bool) = (vec![], false);
+    for worker in workers {
+        if let Some(fault) = fault_of_name(worker, &names) {
+            return Some(fault);
+        }
+        names.push(worker);
+    }
+    for object in objects {
+        let mut words = object.split(' ');
+        let (kind, name) = (words.next().unwrap_or(""), words.next().unwrap_or(""));
+        let is_both = kind == "both" && name == "use";
+        let fault = match () {
+            _ if is_both => has_both.then_some(Fault::NameTaken),
+            _ if kind.is_empty() || !KINDS.contains(&format!(" {kind} ")) => Some(Fault::BadLine),
+            _ => fault_of_name(name, &names),
+        };
+        if fault.is_some() {
+            return fault;
+        }
+        has_both |= is_both;
+        names.push(name);
+    }
+    None
+}
 
 struct Text {
     bytes: Vec<u8>,
@@ -106,8 +159,9 @@ pub struct Record {
 }
 
 impl Record {
-    /// Begins a record: the limit of each component and each sequencer, from 1 to 281474976710655 (the trace
-    /// has version 2); the workers; and the objects, each a line of docs/FORMATS.md, as "sequencer T take a b".
+    /// Begins a record: the limit of each component and each sequencer, from 1 to 281474976710655
+    /// (the trace has version 2); the workers; and the objects, each a line of docs/FORMATS.md, as
+    /// "sequencer T take a b".
     pub fn new(limit: u64, workers: &[&str], objects: &[&str]) -> Self {
         let mut text = Text { bytes: Vec::new(), fault: None };
         text.line("evc-trace 2");
@@ -117,7 +171,11 @@ impl Record {
             text.line(object);
         }
         text.line("run");
-        Record { workers: workers.iter().map(|it| it.to_string()).collect(), text: Mutex::new(text) }
+        text.fault = text.fault.or(fault_of_names(workers, objects));
+        Record {
+            workers: workers.iter().map(|it| it.to_string()).collect(),
+            text: Mutex::new(text),
+        }
     }
 
     /// Does one atomic step of a worker, under the record's lock, and records it with its reply.
@@ -132,13 +190,19 @@ impl Record {
         reply
     }
 
+    /// Returns the first fault so far: right after `new`, what is wrong with a name.
+    pub fn fault(&self) -> Option<Fault> {
+        self.lock().fault
+    }
+
     /// Ends the record, and gives the bytes of the trace.
     pub fn bytes(self) -> Result<Vec<u8>, Fault> {
         let (bytes, fault) = self.ended();
         fault.map_or(Ok(bytes), Err)
     }
 
-    /// Ends the record, and writes the trace into a file: where there was a fault, the front up to it.
+    /// Ends the record, and writes the trace into a file: where there was a fault, the front up to
+    /// it.
     pub fn write(self, path: impl AsRef<Path>) -> Result<(), Fault> {
         let (bytes, fault) = self.ended();
         let written = fs::File::create(path).and_then(|mut file| file.write_all(&bytes));
@@ -156,7 +220,7 @@ impl Record {
         (text.bytes, text.fault)
     }
 
-    // (where a step panicked, its line is missing: what follows is recorded, and judged by the checker)
+    // (if a step panicked, its line is missing: what follows is recorded, and the checker judges)
     fn lock(&self) -> MutexGuard<'_, Text> {
         self.text.lock().unwrap_or_else(|it| it.into_inner())
     }

@@ -40,9 +40,27 @@ int main(void) {
     tell("a step of worker 7", "/dev/null");
 
     open_record();
-    for (int i = 1; i <= 16; i++)
-        evc_worker(&record, "b");
+    for (char name[] = "b"; name[0] <= 'q'; name[0]++)
+        if (name[0] != 'p')
+            evc_worker(&record, name);
+    evc_worker(&record, "r");
     tell("17 workers", "/dev/null");
+
+    open_record();
+    evc_worker(&record, "p");
+    tell("a worker p", "/dev/null");
+
+    open_record();
+    evc_declare(&record, "sequencer 9 take a");
+    tell("a sequencer 9", "/dev/null");
+
+    open_record();
+    evc_declare(&record, "semaphore E 1 use a");
+    tell("a second E", "/dev/null");
+
+    open_record();
+    evc_declare(&record, "counter C signal a");
+    tell("a counter", "/dev/null");
 
     advance(open_record());
     evc_worker(&record, "b");

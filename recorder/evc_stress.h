@@ -1,0 +1,475 @@
+/* evc_stress.h: many short rounds of threads on fresh objects, each judged.
+ *
+ * C11 or C++17, gcc or clang, POSIX threads, with evc_calls.h. Nothing of it is proved: a history
+ * is right or wrong because the judge says so. That is the program `evc-calls`, found on PATH or by
+ * the variable EVC_CALLS, or a function of yours.
+ *
+ *     static void fresh(void *mine) { .. }                    makes the eventcount new
+ *     static void advance(void *mine) { .. }
+ *     static uint64_t read(void *mine) { .. }
+ *     static uint64_t await(void *mine, uint64_t threshold) { .. }
+ *
+ *     evc_stress s = {.fresh = fresh, .advance = advance, .read = read, .await = await};
+ *     return evc_stress_says(&s, evc_stress_run(&s));
+ *
+ * SHAPES. EVC_STRESS_MIXED: half of the threads advance and read, the others read and await.
+ * EVC_STRESS_RING: each thread awaits its turn and advances, so every wake-up is needed. For other
+ * objects give `declare` and `work` in place of advance, read and await.
+ *
+ * All threads spin at a gate and start at once, and pause by chance between calls. The same seed
+ * gives the same pauses; how the threads meet is up to the machine. It stops at the first history
+ * that is refused or hung, and keeps it as the file `keep`, with its note in `keep`.note. A pass
+ * counts only as far as calls met: `overlap` is how many calls of others were pending when one was
+ * called, on average. Below 0.3 a pass is called weak. */
+#ifndef EVC_STRESS_H
+#define EVC_STRESS_H
+
+#include "evc_calls.h"
+#include <signal.h>
+#include <sys/wait.h>
+
+/* Judges a history, or several, one after another. Returns 0 if each is linearizable, 1 if one is
+ * refused, and else that there is no verdict. The note is one or more lines, ended by 0. */
+typedef int (*evc_judge)(const char *text, size_t length, char *note, size_t room);
+
+/* Hands a text to the judge's input, and reads its notes. */
+static inline void evc_judge_talk_(int in, int notes, const char *text, size_t length, char *note,
+                                   size_t room) {
+    void (*before)(int) = signal(SIGPIPE, SIG_IGN); /* (it may have seen enough) */
+    evc_write_all_(in, text, length);
+    close(in);
+    signal(SIGPIPE, before);
+    size_t have = 0;
+    ssize_t came;
+    char rest[256];
+    while ((came = read(notes, rest, sizeof rest)) > 0)
+        for (ssize_t i = 0; i < came && have + 1 < room; i++)
+            note[have++] = rest[i];
+    note[have] = 0;
+    close(notes);
+}
+
+/* Judges by `evc-calls check`, a process of its own: the program in EVC_CALLS, or on PATH. */
+static inline int evc_stress_by_program(const char *text, size_t length, char *note, size_t room) {
+    const char *program = getenv("EVC_CALLS") ? getenv("EVC_CALLS") : "evc-calls";
+    int in[2], notes[2], status;
+    if (pipe(in) != 0 || pipe(notes) != 0)
+        return snprintf(note, room, "no pipe\n"), 4;
+    pid_t child = fork();
+    if (child == 0) {
+        dup2(in[0], 0), dup2(open("/dev/null", O_WRONLY), 1), dup2(notes[1], 2);
+        close(in[0]), close(in[1]), close(notes[0]), close(notes[1]);
+        execlp(program, program, "check", (char *)NULL);
+        _exit(127);
+    }
+    close(in[0]), close(notes[1]);
+    evc_judge_talk_(in[1], notes[0], text, length, note, room);
+    if (child < 0 || waitpid(child, &status, 0) != child || !WIFEXITED(status))
+        return snprintf(note, room, "the judge was stopped\n"), 4;
+    if (WEXITSTATUS(status) == 127)
+        snprintf(note, room, "there is no program %.200s\n", program);
+    return WEXITSTATUS(status);
+}
+
+/* The judge where none is given. */
+#ifndef EVC_STRESS_JUDGE
+#define EVC_STRESS_JUDGE evc_stress_by_program
+#endif
+
+/* Where the pauses and choices of a thread come from. */
+typedef struct evc_chance {
+    uint64_t state;
+} evc_chance;
+
+static inline uint64_t evc_chance_below(evc_chance *chance, uint64_t bound) {
+    chance->state ^= chance->state << 13;
+    chance->state ^= chance->state >> 7;
+    chance->state ^= chance->state << 17;
+    return (chance->state >> 11) % bound;
+}
+
+/* Pauses: mostly not at all, now and then for a moment, until others ran, or asleep. */
+static inline void evc_chance_pause(evc_chance *chance) {
+    uint64_t kind = evc_chance_below(chance, 64);
+    if (kind < 16)
+        for (volatile uint64_t i = evc_chance_below(chance, 100); i > 0; i = i - 1)
+            ;
+    else if (kind < 20)
+        sched_yield();
+    else if (kind == 20)
+        evc_nap_(1000);
+}
+
+/* What an await returns, other than the count. */
+#define EVC_STRESS_DONE UINT64_MAX
+#define EVC_STRESS_TIMEOUT (UINT64_MAX - 1)
+
+enum evc_stress_shape { EVC_STRESS_MIXED, EVC_STRESS_RING };
+
+/* The numbers are the statuses of evc_stress_says. */
+enum evc_stress_result {
+    EVC_STRESS_PASSED = 0,
+    EVC_STRESS_REFUSED = 1,
+    EVC_STRESS_NO_RECORD = 2,  /* nothing could be recorded, or a worker had no room */
+    EVC_STRESS_NO_VERDICT = 3, /* the judge has none */
+    EVC_STRESS_HUNG = 5
+};
+
+struct evc_stress;
+typedef struct evc_hand_ {
+    struct evc_stress *of;
+    evc_caller *worker;
+    int number;
+    evc_chance chance;
+} evc_hand_;
+
+typedef struct evc_stress {
+    /* To be set. For 0 or NULL stands what is in brackets. */
+    int threads; /* at most 16 [4] */
+    int rounds;  /* [1000] */
+    int room;    /* for the calls of a thread in a round [64] */
+    int batch;   /* so many rounds are judged together [20] */
+    uint64_t seed;
+    double hang_seconds; /* without an invocation or a response [10] */
+    const char *keep;    /* the file for a wrong history ["refused.calls"] */
+    enum evc_calls_clock clock;
+    enum evc_stress_shape shape;
+    evc_judge judge; /* [EVC_STRESS_JUDGE] */
+    void *mine;      /* is given to the functions below */
+    void (*fresh)(void *mine);
+    void (*advance)(void *mine);
+    uint64_t (*read)(void *mine);
+    uint64_t (*await)(void *mine, uint64_t threshold);
+    void (*declare)(void *mine, evc_calls *record);
+    void (*work)(void *mine, evc_caller *worker, int number, evc_chance *chance);
+    /* What came out. */
+    int round; /* the last one, from 1 */
+    uint64_t calls;
+    double overlap, seconds;
+    char note[4096];
+    /* Its own. */
+    evc_calls record;
+    evc_hand_ hand[EVC_CALLS_WORKERS];
+    pthread_t thread[EVC_CALLS_WORKERS];
+    int E;
+    char before_[128];
+    uint64_t begun, ready, left, ends;
+    char after_[128];
+    evc_sink_ texts;
+    size_t *starts;
+    int waiting; /* rounds that are not judged so far */
+    uint64_t overlaps, lines;
+} evc_stress;
+
+/* The shapes. */
+
+static inline void evc_stress_advance_(evc_stress *s, evc_caller *w) {
+    evc_call_advance(w, s->E);
+    s->advance(s->mine);
+    evc_return_done(w);
+}
+
+static inline uint64_t evc_stress_read_(evc_stress *s, evc_caller *w) {
+    evc_call_read(w, s->E);
+    uint64_t count = s->read(s->mine);
+    evc_return_number(w, count);
+    return count;
+}
+
+/* Awaits a count, and returns the one that it then has at least. */
+static inline uint64_t evc_stress_await_(evc_stress *s, evc_caller *w, uint64_t threshold) {
+    evc_call_await(w, s->E, threshold);
+    uint64_t count = s->await(s->mine, threshold);
+    if (count == EVC_STRESS_DONE)
+        evc_return_done(w);
+    else if (count == EVC_STRESS_TIMEOUT)
+        evc_return_timeout(w);
+    else
+        evc_return_number(w, count);
+    return count < EVC_STRESS_TIMEOUT ? count : threshold;
+}
+
+/* Advances six times in ten calls, or reads and awaits what is to come. */
+static inline void evc_stress_mixed_(evc_stress *s, evc_hand_ *h) {
+    uint64_t producers = (uint64_t)(s->threads + 1) / 2, total = 6 * producers, left = 6, last = 0;
+    for (uint64_t calls = 10; calls > 0; calls--) {
+        evc_chance_pause(&h->chance);
+        uint64_t by_chance = evc_chance_below(&h->chance, calls);
+        if ((uint64_t)h->number < producers && by_chance < left) {
+            left--;
+            evc_stress_advance_(s, h->worker);
+        } else if ((uint64_t)h->number < producers || by_chance % 2 == 0 || !s->await)
+            last = evc_stress_read_(s, h->worker);
+        else {
+            uint64_t threshold = last + 1 + evc_chance_below(&h->chance, 2);
+            last = evc_stress_await_(s, h->worker, threshold < total ? threshold : total);
+        }
+    }
+}
+
+/* Awaits its turn ten times, and then lets the next one in. */
+static inline void evc_stress_ring_(evc_stress *s, evc_hand_ *h) {
+    for (int lap = 0; lap < 10; lap++) {
+        evc_stress_await_(s, h->worker, (uint64_t)(lap * s->threads + h->number));
+        if (evc_chance_below(&h->chance, 2))
+            for (volatile uint64_t i = evc_chance_below(&h->chance, 3000); i > 0; i = i - 1)
+                ;
+        evc_stress_advance_(s, h->worker);
+    }
+}
+
+/* The threads. */
+
+/* Waits for a round, spinning. The last thread that comes opens for all. Returns 0 at the end. */
+static inline int evc_stress_gate_(evc_stress *s, uint64_t round) {
+    int spins = 0;
+    while (__atomic_load_n(&s->begun, __ATOMIC_ACQUIRE) != round) {
+        if (__atomic_load_n(&s->ends, __ATOMIC_ACQUIRE))
+            return 0;
+        if (++spins % 2000 == 0)
+            sched_yield();
+    }
+    uint64_t all = round * (uint64_t)s->threads;
+    uint64_t here = __atomic_add_fetch(&s->ready, 1, __ATOMIC_ACQ_REL);
+    for (spins = 0; here < all; here = __atomic_load_n(&s->ready, __ATOMIC_ACQUIRE))
+        if (++spins % 20000 == 0)
+            sched_yield();
+    return 1;
+}
+
+/* Moves a thread to the processor of its turn, from which it may go on to others: threads that were
+ * started on one would stay there for long. */
+static inline void evc_stress_spread_(int number) {
+    unsigned long mask[EVC_MASK_WORDS_];
+    uint64_t count = 0, turn;
+    memset(mask, 0, sizeof mask);
+    if (!evc_affinity_(0, mask, sizeof mask))
+        return;
+    for (uint64_t i = 0; i < EVC_MASK_WORDS_ * EVC_MASK_BITS_; i++)
+        count += mask[i / EVC_MASK_BITS_] >> i % EVC_MASK_BITS_ & 1;
+    turn = count ? (uint64_t)number % count : 0;
+    for (uint64_t i = 0; i < EVC_MASK_WORDS_ * EVC_MASK_BITS_; i++)
+        if ((mask[i / EVC_MASK_BITS_] >> i % EVC_MASK_BITS_ & 1) && turn-- == 0)
+            evc_pin_(i);
+    evc_affinity_(1, mask, sizeof mask);
+}
+
+static inline void *evc_stress_main_(void *given) {
+    evc_hand_ *h = (evc_hand_ *)given;
+    evc_stress *s = h->of;
+    evc_stress_spread_(h->number);
+    for (uint64_t round = 1; evc_stress_gate_(s, round); round++) {
+        if (s->work)
+            s->work(s->mine, h->worker, h->number, &h->chance);
+        else if (s->shape == EVC_STRESS_RING)
+            evc_stress_ring_(s, h);
+        else
+            evc_stress_mixed_(s, h);
+        __atomic_sub_fetch(&s->left, 1, __ATOMIC_ACQ_REL);
+    }
+    return NULL;
+}
+
+/* Lets the threads do one round. Returns whether it hung. */
+static inline int evc_stress_round_(evc_stress *s) {
+    int is_pending;
+    evc_calls_clear(&s->record);
+    if (s->fresh)
+        s->fresh(s->mine);
+    __atomic_store_n(&s->left, (uint64_t)s->threads, __ATOMIC_RELEASE);
+    __atomic_store_n(&s->begun, (uint64_t)s->round, __ATOMIC_RELEASE);
+    uint64_t before = 0, since = evc_nanoseconds_(), idle = 0;
+    while (__atomic_load_n(&s->left, __ATOMIC_ACQUIRE) > 0) {
+        evc_nap_(20000);
+        uint64_t moves = evc_calls_moves_(&s->record, &is_pending);
+        idle = moves == before ? idle + evc_lapse_(&since, 10000000) : 0;
+        before = moves;
+        if ((double)idle > s->hang_seconds * 1e9)
+            return 1;
+    }
+    return 0;
+}
+
+/* The verdict. */
+
+static inline enum evc_stress_result evc_stress_no_(evc_stress *s, enum evc_stress_result result,
+                                                    const char *why) {
+    snprintf(s->note, sizeof s->note, "%s\n", why);
+    return result;
+}
+
+/* Writes bytes into a file. */
+static inline int evc_stress_write_(const char *path, const char *bytes, size_t length) {
+    int file = open(path, O_WRONLY | O_CREAT | O_TRUNC, 0644);
+    int is_written = file >= 0 && evc_write_all_(file, bytes, length);
+    if (file >= 0 && close(file) != 0)
+        is_written = 0;
+    return is_written;
+}
+
+/* Keeps a history, with its note. */
+static inline void evc_stress_keep_(evc_stress *s, const char *text, size_t length) {
+    char path[512];
+    int fits = snprintf(path, sizeof path, "%s.note", s->keep) < (int)sizeof path;
+    if (!evc_stress_write_(s->keep, text, length) || !fits ||
+        !evc_stress_write_(path, s->note, strlen(s->note)))
+        fprintf(stderr, "could not write %s and its note\n", s->keep);
+}
+
+/* Finds the first wrong one of the histories that wait, and keeps it. */
+static inline enum evc_stress_result evc_stress_find_(evc_stress *s) {
+    for (int i = 0; i < s->waiting; i++) {
+        size_t end = i + 1 < s->waiting ? s->starts[i + 1] : s->texts.length;
+        const char *text = s->texts.bytes + s->starts[i];
+        int status = s->judge(text, end - s->starts[i], s->note, sizeof s->note);
+        if (status == 0)
+            continue;
+        s->round -= s->waiting - 1 - i;
+        evc_stress_keep_(s, text, end - s->starts[i]);
+        return status == 1 ? EVC_STRESS_REFUSED : EVC_STRESS_NO_VERDICT;
+    }
+    return evc_stress_no_(s, EVC_STRESS_NO_VERDICT, "the judge refuses them together only");
+}
+
+/* Judges the histories that wait. */
+static inline enum evc_stress_result evc_stress_judge_(evc_stress *s) {
+    enum evc_stress_result result = EVC_STRESS_PASSED;
+    s->note[0] = 0;
+    if (s->waiting > 0 && s->judge(s->texts.bytes, s->texts.length, s->note, sizeof s->note) != 0)
+        result = evc_stress_find_(s);
+    else
+        s->note[0] = 0;
+    s->waiting = 0;
+    s->texts.length = 0;
+    s->texts.total = 0;
+    return result;
+}
+
+/* Adds the text of the round to those that wait, up to a stamp. */
+static inline enum evc_stress_result evc_stress_text_(evc_stress *s, uint64_t cut,
+                                                      evc_pass_ *pass) {
+    s->starts[s->waiting++] = s->texts.length;
+    evc_put_history_(&s->texts, pass, &s->record, cut);
+    s->calls += pass->calls;
+    s->overlaps += pass->overlaps;
+    if (s->texts.has_failed)
+        return evc_stress_no_(s, EVC_STRESS_NO_RECORD, "no memory");
+    if (pass->fault == EVC_CALLS_FULL || pass->fault == EVC_CALLS_MISUSED)
+        return evc_stress_no_(s, EVC_STRESS_NO_RECORD, s->record.note);
+    return pass->fault == EVC_CALLS_OK
+               ? EVC_STRESS_PASSED
+               : evc_stress_no_(s, EVC_STRESS_NO_RECORD, evc_calls_fault_name(pass->fault));
+}
+
+/* Judges a round that hung, with those that wait. If none is refused, it is kept as hung. */
+static inline enum evc_stress_result evc_stress_hung_(evc_stress *s) {
+    evc_pass_ pass;
+    s->round--;
+    enum evc_stress_result result = evc_stress_judge_(s);
+    if (result != EVC_STRESS_PASSED)
+        return result;
+    s->round++;
+    result = evc_stress_text_(s, evc_calls_cut_now_(&s->record), &pass);
+    size_t length = s->texts.length;
+    if (result == EVC_STRESS_PASSED)
+        result = evc_stress_judge_(s);
+    if (result != EVC_STRESS_PASSED)
+        return result;
+    evc_put_pending_(&pass, 0, s->note, sizeof s->note);
+    evc_stress_keep_(s, s->texts.bytes, length);
+    return EVC_STRESS_HUNG;
+}
+
+/* Running. */
+
+static inline void evc_stress_defaults_(evc_stress *s) {
+    s->threads = s->threads ? s->threads : 4;
+    s->rounds = s->rounds ? s->rounds : 1000;
+    s->room = s->room ? s->room : 64;
+    s->batch = s->batch > 0 ? s->batch : 20;
+    s->hang_seconds = s->hang_seconds > 0 ? s->hang_seconds : 10;
+    s->keep = s->keep ? s->keep : "refused.calls";
+    s->judge = s->judge ? s->judge : EVC_STRESS_JUDGE;
+    s->round = s->waiting = 0;
+    s->calls = s->overlaps = s->begun = s->ready = s->left = s->ends = 0;
+    s->overlap = s->seconds = 0;
+    s->note[0] = 0;
+    memset(&s->texts, 0, sizeof s->texts);
+    s->texts.file = -1;
+}
+
+/* Declares workers and objects, and starts the threads. */
+static inline enum evc_stress_result evc_stress_begin_(evc_stress *s) {
+    char name[24];
+    evc_stress_defaults_(s);
+    if (!s->work && !(s->advance && s->read && (s->await || s->shape == EVC_STRESS_MIXED)))
+        return evc_stress_no_(s, EVC_STRESS_NO_RECORD, "there is nothing to call");
+    s->starts = (size_t *)calloc((size_t)s->batch, sizeof *s->starts);
+    evc_calls_open(&s->record, s->clock, NULL);
+    for (int i = 0; i < s->threads; i++) {
+        snprintf(name, sizeof name, "w%d", i);
+        evc_hand_ hand = {s, evc_calls_worker(&s->record, name, (uint64_t)s->room), i, {0}};
+        hand.chance.state = (s->seed + 1) * 0x9E3779B97F4A7C15u ^ (uint64_t)(i + 1) << 32;
+        if (s->record.fault != EVC_CALLS_OK || !s->starts)
+            return evc_stress_no_(s, EVC_STRESS_NO_RECORD, s->record.note);
+        s->hand[i] = hand;
+    }
+    if (s->declare)
+        s->declare(s->mine, &s->record);
+    else
+        s->E = evc_calls_eventcount(&s->record, "E", 0);
+    if (s->record.fault != EVC_CALLS_OK)
+        return evc_stress_no_(s, EVC_STRESS_NO_RECORD, s->record.note);
+    for (int i = 0; i < s->threads; i++)
+        if (pthread_create(&s->thread[i], NULL, evc_stress_main_, &s->hand[i]) != 0)
+            return evc_stress_no_(s, EVC_STRESS_NO_RECORD, "a thread did not start");
+    return EVC_STRESS_PASSED;
+}
+
+/* Runs the rounds. After a hang the threads are still there: leave the program then. */
+static inline enum evc_stress_result evc_stress_run(evc_stress *s) {
+    enum evc_stress_result result = evc_stress_begin_(s);
+    if (result != EVC_STRESS_PASSED)
+        return result;
+    int is_hung = 0;
+    uint64_t since = evc_nanoseconds_();
+    while (s->round < s->rounds && !is_hung && result == EVC_STRESS_PASSED) {
+        evc_pass_ pass;
+        s->round++;
+        is_hung = evc_stress_round_(s);
+        if (is_hung)
+            result = evc_stress_hung_(s);
+        else
+            result = evc_stress_text_(s, UINT64_MAX, &pass);
+        int is_due = s->waiting == s->batch || s->texts.length > 8000000 || s->round == s->rounds;
+        if (result == EVC_STRESS_PASSED && is_due)
+            result = evc_stress_judge_(s);
+    }
+    s->seconds = (double)(evc_nanoseconds_() - since) / 1e9;
+    s->overlap = s->calls ? (double)s->overlaps / (double)s->calls : 0;
+    if (result != EVC_STRESS_NO_RECORD && evc_calls_settle_(&s->record) != EVC_CALLS_OK)
+        result = evc_stress_no_(s, EVC_STRESS_NO_RECORD, s->record.note);
+    if (is_hung)
+        return result;
+    __atomic_store_n(&s->ends, 1, __ATOMIC_RELEASE);
+    for (int i = 0; i < s->threads; i++)
+        pthread_join(s->thread[i], NULL);
+    evc_calls_close(&s->record);
+    free(s->texts.bytes);
+    free(s->starts);
+    return result;
+}
+
+/* Says what came out, and returns the status for it. */
+static inline int evc_stress_says(const evc_stress *s, enum evc_stress_result result) {
+    static const char *const words[] = {"passed", "REFUSED", "no record", "no verdict", "", "HUNG"};
+    fprintf(stderr, "%s: round %d, %llu calls, overlap %.2f, %.2f s\n%s", words[result], s->round,
+            (unsigned long long)s->calls, s->overlap, s->seconds, s->note);
+    if (result == EVC_STRESS_PASSED && s->overlap < 0.3)
+        fprintf(stderr, "weak: the calls hardly overlapped\n");
+    if (result == EVC_STRESS_REFUSED || result == EVC_STRESS_HUNG)
+        fprintf(stderr, "the history is in %s\n", s->keep);
+    return (int)result;
+}
+
+#endif

@@ -1,0 +1,424 @@
+//! Many short rounds of threads on fresh objects, each judged.
+//!
+//! Plain Rust, this module beside evc_calls.rs, no dependency. Nothing of it is proved: a history
+//! is right or wrong because the judge says so. That is the program `evc-calls`, found on PATH or
+//! by the variable EVC_CALLS, or a function of yours.
+//!
+//!     impl Eventcount for Mine {
+//!         fn fresh() -> Self { .. }
+//!         fn advance(&self) { .. }
+//!         fn read(&self) -> u64 { .. }
+//!         fn await_count(&self, threshold: u64) -> Reply { .. }
+//!     }
+//!
+//!     #[test]
+//!     fn it_counts() {
+//!         Stress::default().run::<Mine>().unwrap();
+//!     }
+//!
+//! `Shape::Mixed`: half of the threads advance and read, the others read and await. `Shape::Ring`:
+//! each thread awaits its turn and advances, so every wake-up is needed. `run_with` is for other
+//! objects. The head of recorder/evc_stress.h says more; the two do the same.
+#![allow(dead_code)]
+
+use super::evc_calls::{self, Call, Clock, Fault, Idle, Record, Reply, Worker};
+use std::fmt;
+use std::io::{Read, Write};
+use std::path::PathBuf;
+use std::process::{Command, Stdio};
+use std::sync::atomic::{AtomicUsize, Ordering::SeqCst};
+use std::sync::mpsc::{channel, Receiver, RecvTimeoutError};
+use std::sync::Arc;
+use std::thread;
+use std::time::{Duration, Instant};
+
+/// An eventcount of yours.
+pub trait Eventcount: Send + Sync + 'static {
+    fn fresh() -> Self;
+    fn advance(&self);
+    fn read(&self) -> u64;
+    /// Returns the count, or `Done`, or `Timeout`.
+    fn await_count(&self, threshold: u64) -> Reply;
+}
+
+#[derive(Clone, Copy, Debug, PartialEq, Eq)]
+pub enum Shape {
+    Mixed,
+    Ring,
+}
+
+/// What a judge says of one history or several: the notes of the first one that is refused.
+#[derive(Clone, Debug, PartialEq, Eq)]
+pub enum Verdict {
+    Linearizable,
+    Refused(String),
+    None(String),
+}
+
+/// Where the pauses and choices of a thread come from.
+pub struct Chance(u64);
+
+impl Chance {
+    fn of(seed: u64, round: usize, thread: usize) -> Chance {
+        let state = seed.wrapping_add(1).wrapping_mul(0x9E37_79B9_7F4A_7C15);
+        Chance(
+            state ^ (round as u64 + 1).wrapping_mul(0xD1B5_4A32_D192_ED03) ^ (thread as u64) << 17,
+        )
+    }
+
+    pub fn below(&mut self, bound: u64) -> u64 {
+        self.0 ^= self.0 << 13;
+        self.0 ^= self.0 >> 7;
+        self.0 ^= self.0 << 17;
+        (self.0 >> 11) % bound
+    }
+
+    /// Pauses: mostly not at all, now and then for a moment, until others ran, or asleep.
+    pub fn pause(&mut self) {
+        match self.below(64) {
+            0..=15 => (0..self.below(100)).for_each(|_| std::hint::spin_loop()),
+            16..=19 => thread::yield_now(),
+            20 => thread::sleep(Duration::from_micros(1)),
+            _ => (),
+        }
+    }
+}
+
+/// How many rounds there were, and how much the calls met.
+#[derive(Clone, Debug, PartialEq)]
+pub struct Passed {
+    pub rounds: usize,
+    pub calls: usize,
+    /// How many calls of others were pending when one was called, on average. Below 0.3 a pass is
+    /// weak.
+    pub overlap: f64,
+}
+
+/// What went wrong.
+#[derive(Clone, PartialEq)]
+pub enum Wrong {
+    /// The round from 1, the judge's notes, and where the history is.
+    Refused(usize, String, PathBuf),
+    /// The round, the calls that have not returned, and where the history is.
+    Hung(usize, String, PathBuf),
+    NoRecord(Fault),
+    NoVerdict(String),
+}
+
+impl fmt::Display for Wrong {
+    fn fmt(&self, f: &mut fmt::Formatter<'_>) -> fmt::Result {
+        let mut kept = |what: &str, round: &usize, note: &str, path: &PathBuf| {
+            write!(f, "{what}: round {round}\n{note}the history is in {}", path.display())
+        };
+        match self {
+            Wrong::Refused(round, note, path) => kept("REFUSED", round, note, path),
+            Wrong::Hung(round, note, path) => kept("HUNG", round, note, path),
+            Wrong::NoRecord(fault) => write!(f, "no record: {fault}"),
+            Wrong::NoVerdict(note) => write!(f, "no verdict: {note}"),
+        }
+    }
+}
+
+// (so that `unwrap` in a test shows the note as it is)
+impl fmt::Debug for Wrong {
+    fn fmt(&self, f: &mut fmt::Formatter<'_>) -> fmt::Result {
+        fmt::Display::fmt(self, f)
+    }
+}
+
+impl std::error::Error for Wrong {}
+
+/// A test, to be run.
+#[derive(Clone)]
+pub struct Stress {
+    /// At most 16.
+    pub threads: usize,
+    pub rounds: usize,
+    /// For the calls of a thread in a round.
+    pub room: u32,
+    /// So many rounds are judged together.
+    pub batch: usize,
+    pub seed: u64,
+    /// So long without an invocation or a response.
+    pub hang: Duration,
+    /// The file for a wrong history.
+    pub keep: PathBuf,
+    pub clock: Clock,
+    pub shape: Shape,
+    pub judge: fn(&str) -> Verdict,
+}
+
+impl Default for Stress {
+    fn default() -> Stress {
+        Stress {
+            threads: 4,
+            rounds: 1000,
+            room: 64,
+            batch: 20,
+            seed: 0,
+            hang: Duration::from_secs(10),
+            keep: "refused.calls".into(),
+            clock: Clock::Counter,
+            shape: Shape::Mixed,
+            judge: by_program,
+        }
+    }
+}
+
+/// Judges by `evc-calls check`, a process of its own: the program in EVC_CALLS, or on PATH.
+pub fn by_program(text: &str) -> Verdict {
+    let program = std::env::var("EVC_CALLS").unwrap_or("evc-calls".into());
+    let mut command = Command::new(&program);
+    command.arg("check").stdin(Stdio::piped()).stdout(Stdio::null()).stderr(Stdio::piped());
+    let Ok(mut child) = command.spawn() else {
+        return Verdict::None(format!("there is no program {program}\n"));
+    };
+    let mut note = String::new();
+    if let Some(mut input) = child.stdin.take() {
+        let _ = input.write_all(text.as_bytes()); // (it may have seen enough)
+    }
+    if let Some(mut notes) = child.stderr.take() {
+        let _ = notes.read_to_string(&mut note);
+    }
+    match child.wait().ok().and_then(|it| it.code()) {
+        Some(0) => Verdict::Linearizable,
+        Some(1) => Verdict::Refused(note),
+        _ => Verdict::None(note),
+    }
+}
+
+/// The histories that wait for their verdict, and what was counted.
+#[derive(Default)]
+struct Waiting {
+    texts: Vec<String>,
+    calls: usize,
+    overlaps: usize,
+}
+
+impl Waiting {
+    fn add(&mut self, text: String) {
+        let mut pending = 0;
+        for line in text.lines().skip_while(|it| *it != "run").skip(1) {
+            match line.split(' ').nth(1) {
+                Some("calls") => {
+                    self.calls += 1;
+                    self.overlaps += pending;
+                    pending += 1;
+                }
+                Some("returns") => pending -= 1,
+                _ => (),
+            }
+        }
+        self.texts.push(text);
+    }
+}
+
+impl Stress {
+    /// Runs rounds on fresh eventcounts. After a hang the threads are still there: leave then.
+    pub fn run<T: Eventcount>(&self) -> Result<Passed, Wrong> {
+        let (shape, threads) = (self.shape, self.threads);
+        let work = move |subject: &T, e, w: &mut Worker, number, chance: &mut Chance| match shape {
+            Shape::Mixed => mixed(subject, e, w, number, threads, chance),
+            Shape::Ring => ring(subject, e, w, number, threads, chance),
+        };
+        self.run_with(|record| record.eventcount("E", 0), T::fresh, work)
+    }
+
+    /// Runs rounds: what `declare` gives is handed to each thread's `work`, with a fresh object.
+    pub fn run_with<O: Copy + Send + 'static, T: Send + Sync + 'static>(
+        &self,
+        declare: impl Fn(&mut Record) -> Result<O, Fault>,
+        fresh: impl Fn() -> T,
+        work: impl Fn(&T, O, &mut Worker, usize, &mut Chance) + Send + Sync + 'static,
+    ) -> Result<Passed, Wrong> {
+        let (work, mut waiting) = (Arc::new(work), Waiting::default());
+        let first = Record::new(self.clock).map_err(Wrong::NoRecord)?;
+        let mut result = Ok(());
+        for round in 0..self.rounds {
+            result = self.round(&first, round, &declare, fresh(), &work, &mut waiting);
+            let is_due = waiting.texts.len() >= self.batch || round + 1 == self.rounds;
+            if result.is_ok() && is_due {
+                result = self.judged(round + 1, &mut waiting.texts);
+            }
+            if result.is_err() {
+                break;
+            }
+        }
+        first.measured_again().map_err(Wrong::NoRecord)?;
+        let overlap = waiting.overlaps as f64 / waiting.calls.max(1) as f64;
+        result.map(|()| Passed { rounds: self.rounds, calls: waiting.calls, overlap })
+    }
+
+    /// Lets the threads do one round, all at once.
+    fn round<O: Copy + Send + 'static, T: Send + Sync + 'static>(
+        &self,
+        first: &Record,
+        round: usize,
+        declare: &impl Fn(&mut Record) -> Result<O, Fault>,
+        subject: T,
+        work: &Arc<impl Fn(&T, O, &mut Worker, usize, &mut Chance) + Send + Sync + 'static>,
+        waiting: &mut Waiting,
+    ) -> Result<(), Wrong> {
+        let mut record = first.another().map_err(Wrong::NoRecord)?;
+        let worker = |it| record.worker(&format!("w{it}"), self.room);
+        let workers = (0..self.threads).map(worker).collect::<Result<Vec<_>, _>>();
+        let workers = workers.map_err(Wrong::NoRecord)?;
+        let objects = declare(&mut record).map_err(Wrong::NoRecord)?;
+        let (subject, gate, all) = (Arc::new(subject), Arc::new(AtomicUsize::new(0)), self.threads);
+        let (ended, ends) = channel();
+        for (number, mut w) in workers.into_iter().enumerate() {
+            let (subject, gate, ended) = (subject.clone(), gate.clone(), ended.clone());
+            let (work, mut chance) = (work.clone(), Chance::of(self.seed, round, number));
+            thread::spawn(move || {
+                evc_calls::spread(number);
+                pass_gate(&gate, all);
+                work(&subject, objects, &mut w, number, &mut chance);
+                let _ = ended.send(());
+            });
+        }
+        drop(ended);
+        if !self.have_ended(&record, &ends) {
+            return self.hung(round + 1, &record, waiting);
+        }
+        let (text, cut) = record.unmeasured_text().map_err(Wrong::NoRecord)?;
+        waiting.add(text);
+        cut.map_or(Ok(()), |fault| Err(Wrong::NoRecord(fault)))
+    }
+
+    /// Waits for all threads, and returns whether they ended before nothing moved for long.
+    fn have_ended(&self, record: &Record, ends: &Receiver<()>) -> bool {
+        let (mut before, mut left) = (0, self.threads);
+        let mut idle = Idle::new(Duration::from_millis(20));
+        while left > 0 {
+            match ends.recv_timeout(Duration::from_millis(5)) {
+                Ok(()) => left -= 1,
+                Err(RecvTimeoutError::Disconnected) => return true, // (a thread panicked)
+                Err(RecvTimeoutError::Timeout) => {
+                    let moves = record.moves();
+                    if idle.grown(moves == before) > self.hang {
+                        return false;
+                    }
+                    before = moves;
+                }
+            }
+        }
+        true
+    }
+
+    /// Judges a round that hung, with those that wait. If none is refused, it is kept as hung.
+    fn hung(&self, round: usize, record: &Record, waiting: &mut Waiting) -> Result<(), Wrong> {
+        self.judged(round - 1, &mut waiting.texts)?;
+        let (text, pending) = record.text_so_far().map_err(Wrong::NoRecord)?;
+        waiting.add(text.clone());
+        self.judged(round, &mut waiting.texts)?;
+        let note: String = pending.iter().map(|it| format!("{it}\n")).collect();
+        Err(Wrong::Hung(round, note.clone(), self.kept(&text, &note)))
+    }
+
+    /// Judges the histories that wait, of which the last is of this round.
+    fn judged(&self, round: usize, texts: &mut Vec<String>) -> Result<(), Wrong> {
+        let waiting = std::mem::take(texts);
+        if waiting.is_empty() || (self.judge)(&waiting.concat()) == Verdict::Linearizable {
+            return Ok(());
+        }
+        for (place, text) in waiting.iter().enumerate() {
+            let of = round + 1 + place - waiting.len();
+            match (self.judge)(text) {
+                Verdict::Linearizable => (),
+                Verdict::Refused(note) => {
+                    return Err(Wrong::Refused(of, note.clone(), self.kept(text, &note)));
+                }
+                Verdict::None(note) => return Err(Wrong::NoVerdict(note)),
+            }
+        }
+        Err(Wrong::NoVerdict("the judge refuses them together only\n".into()))
+    }
+
+    /// Keeps a history, with its note.
+    fn kept(&self, text: &str, note: &str) -> PathBuf {
+        let mut path = self.keep.clone().into_os_string();
+        path.push(".note");
+        if std::fs::write(&self.keep, text).and_then(|()| std::fs::write(path, note)).is_err() {
+            eprintln!("could not write {} and its note", self.keep.display());
+        }
+        self.keep.clone()
+    }
+}
+
+/// Waits for the others, spinning. The last one that comes opens for all.
+fn pass_gate(gate: &AtomicUsize, all: usize) {
+    gate.fetch_add(1, SeqCst);
+    let start = Instant::now();
+    while gate.load(SeqCst) < all {
+        if start.elapsed() > Duration::from_micros(50) {
+            thread::yield_now();
+        }
+    }
+}
+
+// The shapes.
+
+fn advance<T: Eventcount>(subject: &T, e: evc_calls::Eventcount, w: &mut Worker) {
+    w.call(Call::Advance(e), || {
+        subject.advance();
+        Reply::Done
+    });
+}
+
+fn await_count<T: Eventcount>(
+    subject: &T,
+    e: evc_calls::Eventcount,
+    w: &mut Worker,
+    threshold: u64,
+) -> u64 {
+    match w.call(Call::Await(e, threshold), || subject.await_count(threshold)) {
+        Reply::Number(count) => count,
+        _ => threshold,
+    }
+}
+
+/// Advances six times in ten calls, or reads and awaits what is to come.
+fn mixed<T: Eventcount>(
+    subject: &T,
+    e: evc_calls::Eventcount,
+    w: &mut Worker,
+    number: usize,
+    threads: usize,
+    chance: &mut Chance,
+) {
+    let producers = threads.div_ceil(2);
+    let (total, mut left, mut last) = (6 * producers as u64, 6, 0);
+    for calls in (1..=10).rev() {
+        chance.pause();
+        let by_chance = chance.below(calls);
+        if number < producers && by_chance < left {
+            left -= 1;
+            advance(subject, e, w);
+        } else if number < producers || by_chance % 2 == 0 {
+            if let Reply::Number(count) = w.call(Call::Read(e), || Reply::Number(subject.read())) {
+                last = count;
+            }
+        } else {
+            let threshold = (last + 1 + chance.below(2)).min(total);
+            last = await_count(subject, e, w, threshold);
+        }
+    }
+}
+
+/// Awaits its turn ten times, and then lets the next one in.
+fn ring<T: Eventcount>(
+    subject: &T,
+    e: evc_calls::Eventcount,
+    w: &mut Worker,
+    number: usize,
+    threads: usize,
+    chance: &mut Chance,
+) {
+    for lap in 0..10 {
+        await_count(subject, e, w, (lap * threads + number) as u64);
+        if chance.below(2) == 1 {
+            (0..chance.below(1000)).for_each(|_| std::hint::spin_loop());
+        }
+        advance(subject, e, w);
+    }
+}

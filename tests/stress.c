@@ -1,0 +1,129 @@
+/* tests/stress.c: what tests/run-recorder asks of recorder/evc_stress.h.
+ *
+ *     stress KIND SHAPE CLOCK ROUNDS
+ *
+ * KIND is an eventcount: right, or with a bug: lost (it loads and stores), early (an await returns
+ * one early), kept (a reader keeps what it saw), wake (it wakes one of all that sleep); or ticket
+ * and lock, other objects with bugs; or full, misused, silent, faults of the test itself. SHAPE is
+ * mixed or ring. */
+#include "../recorder/evc_record.h"
+#include "../recorder/evc_stress.h"
+
+static const char *kind = "right";
+static uint64_t count, holds;
+static int object;
+static pthread_mutex_t lock = PTHREAD_MUTEX_INITIALIZER;
+static pthread_cond_t reached = PTHREAD_COND_INITIALIZER;
+
+static int is_kind(const char *word) { return strcmp(kind, word) == 0; }
+static uint64_t load(uint64_t *number) { return __atomic_load_n(number, __ATOMIC_SEQ_CST); }
+static void store(uint64_t *number, uint64_t value) {
+    __atomic_store_n(number, value, __ATOMIC_SEQ_CST);
+}
+
+/* Returns a number and adds one. With a bug others come in between. */
+static uint64_t add(uint64_t *number, int has_bug) {
+    if (!has_bug)
+        return __atomic_fetch_add(number, 1, __ATOMIC_SEQ_CST);
+    uint64_t seen = load(number);
+    sched_yield();
+    store(number, seen + 1);
+    return seen;
+}
+
+static void fresh(void *mine) {
+    (void)mine;
+    store(&count, 0);
+    store(&holds, 0);
+}
+
+static void advance(void *mine) {
+    (void)mine;
+    if (is_kind("wake")) {
+        pthread_mutex_lock(&lock);
+        add(&count, 0);
+        pthread_cond_signal(&reached);
+        pthread_mutex_unlock(&lock);
+    } else
+        add(&count, is_kind("lost"));
+}
+
+static uint64_t read_count(void *mine) {
+    static __thread uint64_t kept;
+    (void)mine;
+    uint64_t seen = load(&count), before = kept;
+    kept = seen;
+    return is_kind("kept") && before < seen ? before : seen;
+}
+
+static uint64_t await(void *mine, uint64_t threshold) {
+    (void)mine;
+    if (is_kind("wake")) {
+        pthread_mutex_lock(&lock);
+        while (load(&count) < threshold)
+            pthread_cond_wait(&reached, &lock);
+        pthread_mutex_unlock(&lock);
+        return EVC_STRESS_DONE;
+    }
+    for (int looks = 0; load(&count) + (uint64_t)is_kind("early") < threshold; sched_yield())
+        if (is_kind("lost") && ++looks == 1000)
+            return EVC_STRESS_TIMEOUT; /* (it may not come any more) */
+    return is_kind("early") ? EVC_STRESS_DONE : load(&count);
+}
+
+static void declare(void *mine, evc_calls *record) {
+    (void)mine;
+    object = is_kind("ticket") ? evc_calls_sequencer(record, "T")
+                               : evc_calls_semaphore(record, is_kind("misnamed") ? "p" : "S", 1);
+}
+
+static void hold(evc_caller *w, evc_chance *chance) {
+    evc_call_p(w, object);
+    while (load(&holds))
+        sched_yield();
+    sched_yield();
+    store(&holds, 1);
+    evc_return_done(w);
+    evc_chance_pause(chance);
+    evc_call_v(w, object);
+    store(&holds, 0);
+    evc_return_done(w);
+}
+
+static void work(void *mine, evc_caller *w, int number, evc_chance *chance) {
+    (void)mine, (void)number;
+    for (int k = 0; k < (is_kind("full") ? 100 : is_kind("silent") ? 0 : 8); k++) {
+        evc_chance_pause(chance);
+        if (is_kind("ticket")) {
+            evc_call_ticket(w, object);
+            evc_return_number(w, add(&count, 1));
+        } else if (is_kind("misused"))
+            evc_call_ticket(w, object);
+        else
+            hold(w, chance);
+    }
+}
+
+int main(int words, char **word) {
+    static const char *const works[] = {"ticket", "lock", "full", "misused", "misnamed", "silent"};
+    static evc_stress s;
+    if (words != 5)
+        return 2;
+    kind = word[1];
+    s.shape = strcmp(word[2], "ring") == 0 ? EVC_STRESS_RING : EVC_STRESS_MIXED;
+    s.clock = strcmp(word[3], "tsc") == 0         ? EVC_CALLS_TSC
+              : strcmp(word[3], "monotonic") == 0 ? EVC_CALLS_MONOTONIC
+                                                  : EVC_CALLS_COUNTER;
+    s.rounds = atoi(word[4]);
+    s.hang_seconds = is_kind("wake") ? 2 : 20;
+    s.fresh = fresh;
+    s.advance = advance;
+    s.read = read_count;
+    s.await = await;
+    for (size_t i = 0; i < sizeof works / sizeof *works; i++)
+        if (is_kind(works[i])) {
+            s.declare = declare;
+            s.work = work;
+        }
+    return evc_stress_says(&s, evc_stress_run(&s));
+}
