@@ -1,0 +1,76 @@
+//! Small types by themselves: lists of members and of entries, and refusals.
+use ec_core::{Act, Entry, Refusal, Reply, Segments};
+use ec_count::{EventId, Members, WorkerId};
+use std::test::Fail;
+
+#[test]
+fn another_worker_in_a_place(rt: HostRuntime) {
+    let first = WorkerId::new(0).unwrap();
+    let second = WorkerId::new(1).unwrap();
+    let third = WorkerId::new(2).unwrap();
+    let mut members = Members::new(&[first, second]);
+    members.replace(1, third);
+    assert!(rt; members.get(0) == Some(first) && members.get(1) == Some(third));
+    assert!(rt; members.len() == 2 && !members.contains(second));
+    assert!(rt; members.contains(first) && members.contains(third));
+    members.replace(0, second);
+    assert!(rt; members == Members::new(&[second, third]));
+    assert!(rt; members.contains(second) && !members.contains(first));
+}
+
+/// Returns the entry that a list has at a place.
+fn entry_at(place: usize) -> Entry {
+    Entry {
+        worker: WorkerId::new(0).unwrap(),
+        act: Act::Await(EventId::new(0).unwrap(), place as u64),
+        reply: Reply::Pending,
+    }
+}
+
+/// Whether a list has so many entries, each in its place, and one after another.
+fn has_entries(list: &Segments, many: usize) -> bool {
+    let mut entries = list.entries();
+    for place in 0..many {
+        let right = Some(entry_at(place));
+        if list.get(place) != right || entries.peek() != right || entries.next() != right {
+            return false;
+        }
+    }
+    list.len() == many
+        && list.get(many).is_none()
+        && entries.peek().is_none()
+        && entries.next().is_none()
+}
+
+#[test]
+fn a_list_of_entries_goes_on_behind_its_segments(rt: HostRuntime) -> Result<(), Fail> {
+    let mut list = Segments::open(rt.alloc())?;
+    assert!(rt; has_entries(&list, 0));
+    for place in 0..8193 {
+        list.push(entry_at(place))?;
+    }
+    assert!(rt; has_entries(&list, 8193));
+    Ok(())
+}
+
+static REFUSALS: [(Refusal, u64, &str); 9] = [
+    (Refusal::UnknownWorker, 1, "UnknownWorker"),
+    (Refusal::Busy, 2, "Busy"),
+    (Refusal::Idle, 3, "Idle"),
+    (Refusal::UnknownObject, 4, "UnknownObject"),
+    (Refusal::NoRight, 5, "NoRight"),
+    (Refusal::ValueTooLarge, 6, "ValueTooLarge"),
+    (Refusal::AtLimit, 7, "AtLimit"),
+    (Refusal::NotHandable, 8, "NotHandable"),
+    (Refusal::AlreadySignals, 9, "AlreadySignals"),
+];
+
+#[test]
+fn refusals_by_number_and_name(rt: HostRuntime) {
+    for (refusal, number, name) in &REFUSALS {
+        assert!(rt;
+            refusal.number() == *number && refusal.name() == *name,
+            "at {number}"
+        );
+    }
+}
