@@ -66,6 +66,7 @@ release_table() {
     cat <<'END'
 evc evc crates/evc/out/evc
 evc-draw evc_draw crates/evc_draw/out/evc_draw
+evc-calls evc_calls crates/evc_calls/out/evc_calls
 libevc evc_c crates/evc_c/out/libevc_c.a
 END
 }
@@ -107,4 +108,66 @@ whole_library() {
     folder=$(dirname -- "$(rt doc)") || return 1
     rm -f "$1"
     "$folder/toolchain/bin/llvm-ar" qcLD "$1" "$top/crates/evc_c/out/libevc_c.a" "$folder/c/liblibc_c.a"
+}
+
+# start NAME WORD..: runs the program of this name. If nothing that it is made from is newer than the program, it is
+# started at once. Else it is taken from release/, if that is of these sources and this machine can run it. Else it is
+# proved and built first, which takes the toolchain's command `rt`: standard error says so, and the log is
+# out/NAME.log. The arguments, the three standard streams and the exit status are the program's own, besides these:
+# 127  the program has to be built, and `rt` is not on PATH
+# 70   the program was not proved or not built
+start() {
+    started=$1
+    shift
+    crate=$(crate_released "$started")
+    built=$top/crates/$crate/out/$crate
+    unpacked=$top/out/$started
+    log=$top/out/$started.log
+    program=$built
+    if ! is_newest "$built" && { is_newest "$unpacked" || take_release "$started" "$unpacked"; }; then
+        program=$unpacked
+    elif ! is_newest "$built"; then
+        build_program "$started" "$crate" "$log"
+    fi
+    exec "$program" "$@"
+}
+
+# is_newest PROGRAM: whether the program is there, and nothing that it is made from is newer.
+is_newest() {
+    [ -x "$1" ] || return 1
+    newer=$(
+        cd "$top" && find crates.txt crates \( -name out -o -name must-fail \) -prune -o \
+            \( -name crates.txt -o -name '*.rt' -o -name '*.antt' \) -type f -newer "$1" -print | head -n 1
+    )
+    [ -z "$newer" ]
+}
+
+# take_release NAME FILE: takes the program of the release.
+take_release() {
+    [ "$(uname -s -m)" = 'Linux x86_64' ] && is_release_of "$1" || return 1
+    if ! mkdir -p "$top/out" || ! (: >>"$2.$$"); then
+        say "cannot write to $top/out"
+        exit 70
+    fi
+    unpack_release "$1" "$2.$$" && chmod +x "$2.$$" && "$2.$$" --help >/dev/null 2>&1 &&
+        mv -f "$2.$$" "$2" && return
+    rm -f "$2.$$"
+    say "the program of release/ is damaged, or this machine can't run it"
+    return 1
+}
+
+# build_program NAME CRATE LOG: proves and builds the program.
+build_program() {
+    if ! command -v rt >/dev/null; then
+        say "the program has to be built, and the toolchain's command 'rt' is not on PATH." \
+            "Install the Rattle kit, line $kit, and put its folder bin on PATH."
+        exit 127
+    fi
+    mkdir -p "$top/out" || exit 70
+    say "proving and building the program first; its log is $3"
+    if ! (cd "$top/crates/$2" && rt all check && rt run -- --help && touch "out/$2") </dev/null >"$3" 2>&1; then
+        tail -n 40 "$3" >&2
+        say "the program was not built; above is the end of $3"
+        exit 70
+    fi
 }
