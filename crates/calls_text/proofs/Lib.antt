@@ -3,3 +3,15 @@ mod Adding
 mod Fitting
 mod Coming
 mod Lines
+mod Groups
+mod Texts
+mod CellWords
+mod Values
+mod ObjectWords
+mod PhraseWords
+mod CallLines
+mod ReplyLines
+mod EventLines
+mod OpeningLines
+mod TextParts
+mod Histories

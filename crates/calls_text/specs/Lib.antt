@@ -9,4 +9,6 @@ pub mod Recordings
 pub mod Reading
 pub mod Outcomes
 pub mod Spelling
+pub mod Grammar
+pub mod Laws
 pub mod kept
