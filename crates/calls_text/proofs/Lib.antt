@@ -15,3 +15,4 @@ mod EventLines
 mod OpeningLines
 mod TextParts
 mod Histories
+mod Fronts

@@ -57,6 +57,23 @@ later_parts : (lines ps : List (List ℕ)) → AllByRecursion IsPart (lines ++ p
 later_parts [] ps all = all
 later_parts (line ∷ lines) ps all = later_parts lines ps all.1
 
+earlier_parts : (lines ps : List (List ℕ)) → AllByRecursion IsPart (lines ++ ps)
+    → AllByRecursion IsPart lines
+earlier_parts [] ps all = tt
+earlier_parts (line ∷ lines) ps all = (all.0, earlier_parts lines ps all.1)
+
+-- bytes without an LF are one part
+pub parts_alone : (part : List ℕ) → IsPart part → parts_of part ≡ part ∷ []
+parts_alone part none = slice_split_none (λ b. eqb b 10) part none
+
+pub parts_line : (line more : List ℕ) → IsPart line
+    → parts_of (line ++ 10 ∷ more) ≡ line ∷ parts_of more
+parts_line line more none = slice_split_at (λ b. eqb b 10) line 10 more none refl
+
+-- the parts of bytes, joined, are the bytes
+pub parts_joined : (bytes : List ℕ) → join_with_byte 10 (parts_of bytes) ≡ bytes
+parts_joined bytes = join_with_byte-slice_split 10 bytes
+
 -- WHAT WAS READ
 
 -- lines that lead to the history, and what is left
@@ -69,7 +86,7 @@ pub record Reads (n : ℕ) (s : Stage) (parts : List (List ℕ)) (read : OneRead
   pub number : read.number ≡ n + length lines
   pub leads : Leads s lines (Ended read.recorded)
 
-by_line : (n : ℕ) (s : Stage) (line next : List ℕ) (others : List (List ℕ)) → is_ended s ≡ false
+pub by_line : (n : ℕ) (s : Stage) (line next : List ℕ) (others : List (List ℕ)) → is_ended s ≡ false
     → goes n s (line ∷ next ∷ others)
     ≡ taken n line (step s line) (λ t. goes (n + 1) t (next ∷ others))
 unfolding goes is_ended
@@ -79,7 +96,7 @@ by_line n (Declaring d) line next others going = refl
 by_line n (Running r) line next others going = refl
 by_line n (Ended r) line next others going = cc
 
-by_rest : (n : ℕ) (s : Stage) (rest : List ℕ) → is_ended s ≡ false
+pub by_rest : (n : ℕ) (s : Stage) (rest : List ℕ) → is_ended s ≡ false
     → goes n s (rest ∷ []) ≡ ended n s rest
 unfolding goes is_ended
 by_rest n Opening rest going = refl
@@ -159,17 +176,17 @@ reads n s line (next ∷ others) read is =
 
 -- OF BYTES
 
-record HasFirst (bytes : List ℕ) : Type 0 where
-  first : List ℕ
-  others : List (List ℕ)
-  is : parts_of bytes ≡ first ∷ others
+pub record HasFirst (bytes : List ℕ) : Type 0 where
+  pub first : List ℕ
+  pub others : List (List ℕ)
+  pub is : parts_of bytes ≡ first ∷ others
 
 onto_has : (b : ℕ) (parts : List (List ℕ))
     → (first : List ℕ) × (others : List (List ℕ)) × (onto_first b parts ≡ first ∷ others)
 onto_has b [] = (b ∷ [], [], refl)
 onto_has b (part ∷ parts) = (b ∷ part, parts, refl)
 
-has_first : (bytes : List ℕ) → HasFirst bytes
+pub has_first : (bytes : List ℕ) → HasFirst bytes
 has_first [] = record { first = []; others = []; is = refl }
 has_first (b ∷ bytes) =
     let P : Bool → Type 0 =
@@ -188,6 +205,7 @@ pub record IsRead (bytes : List ℕ) (n : ℕ) (s : Stage) (read : OneRead) : Ty
   pub text : bytes ≡ text_of lines ++ rest
   pub left : read.rest ≡ parts_of rest
   pub number : read.number ≡ n + length lines
+  pub each : AllByRecursion IsPart lines
   pub leads : Leads s lines (Ended read.recorded)
 
 of_parts : (bytes : List ℕ) (n : ℕ) (s : Stage) (read : OneRead) → Reads n s (parts_of bytes) read
@@ -203,6 +221,7 @@ of_parts bytes n s read r =
       left = r.left ∙ sym (parts_join r.first r.others
           (later_parts r.lines (r.first ∷ r.others) all));
       number = r.number;
+      each = earlier_parts r.lines (r.first ∷ r.others) all;
       leads = r.leads;
     }
 

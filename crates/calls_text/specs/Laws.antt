@@ -1,7 +1,10 @@
--- Laws of the format: what is read is spelled, and each history has one text.
-use Rattle.std.specs.Prelude.{◌≡◌, ℕ, ◌+◌, List, [], ◌∷◌, ◌++◌, length, Ok}
+-- Laws of the format: what is read is spelled, each history has one text, and no text begins another.
+use Rattle.std.specs.Prelude.{◌≡◌, ◌≢◌, ℕ, ◌+◌, ◌==◌, List, [], ◌∷◌, ◌++◌, length, count_by, Ok}
+use Rattle.calls_text.specs.Recordings.{Recorded}
 use Rattle.calls_text.specs.Reading.{Stage, Opening, step}
-use Rattle.calls_text.specs.Outcomes.{OneRead, parts_of, goes}
+use Rattle.calls_text.specs.Outcomes.{OneRead, parts_of, goes, fault_in}
+use Rattle.calls_text.specs.declared.fault.Kind.{Kind}
+use Rattle.calls_text.specs.declared.fault.Kind.TheVariants as kinds
 use Rattle.calls_text.specs.Grammar.{history_lines, history_text}
 
 -- these lines, each in its turn, lead from one stage to another
@@ -22,3 +25,45 @@ pub record IsSpelled (bytes : List ℕ) (n : ℕ) (read : OneRead) : Type 0 wher
 abbrev pub ReadIsSpelled : Type 0
 ReadIsSpelled = (bytes : List ℕ) (n : ℕ) (read : OneRead)
     → goes n Opening (parts_of bytes) ≡ Ok read → IsSpelled bytes n read
+
+-- WHAT CAN BE READ
+
+-- some text is read as this history
+pub record CanBeRead (r : Recorded) : Type 0 where
+  pub bytes : List ℕ
+  pub first : ℕ
+  pub read : OneRead
+  pub reads : goes first Opening (parts_of bytes) ≡ Ok read
+  pub is : read.recorded ≡ r
+
+-- from its text a history is read again, whatever follows
+abbrev pub TextIsReadAgain : Type 0
+TextIsReadAgain = (r : Recorded) (n : ℕ) (rest : List ℕ) → CanBeRead r
+    → goes n Opening (parts_of (history_text r ++ rest))
+    ≡ Ok (record {
+      recorded = r;
+      number = n + length (history_lines r);
+      rest = parts_of rest;
+    })
+
+-- NO TEXT BEGINS ANOTHER
+
+-- of two texts of histories none is a proper prefix of the other, and different histories have
+-- different texts
+abbrev pub NoTextBeginsAnother : Type 0
+NoTextBeginsAnother = (r s : Recorded) (x y : List ℕ) → CanBeRead r → CanBeRead s
+    → history_text r ++ x ≡ history_text s ++ y → (r ≡ s) × (x ≡ y)
+
+-- a text is refused at what stands after its last LF: as unfinished if nothing does
+pub record IsRefusedAtItsEnd (n : ℕ) (bytes : List ℕ) : Type 0 where
+  pub line : List ℕ
+  pub kind : Kind
+  pub refused : goes n Opening (parts_of bytes)
+      ≡ fault_in (n + count_by (λ b. b == 10) bytes) kind line
+  pub ends : (before : List ℕ) × (bytes ≡ before ++ line)
+  pub whole : line ≡ [] → kind ≡ kinds.Unfinished
+
+-- so is each proper prefix of the text of a history
+abbrev pub PrefixIsRefused : Type 0
+PrefixIsRefused = (r : Recorded) (n : ℕ) (front more : List ℕ) → CanBeRead r
+    → history_text r ≡ front ++ more → more ≢ [] → IsRefusedAtItsEnd n front
