@@ -58,7 +58,7 @@ goes_lines n s t (line ∷ lines) more each (next, is, leads) =
     ∙ goes_lines (n + 1) next t lines more each.1 leads
     ∙ ap (λ (k : ℕ). goes k t (parts_of more)) count
 
-goes_ended : (n : ℕ) (r : Recorded) (parts : List (List ℕ))
+pub goes_ended : (n : ℕ) (r : Recorded) (parts : List (List ℕ))
     → goes n (Ended r) parts ≡ Ok (record { recorded = r; number = n; rest = parts })
 unfolding goes
 goes_ended n r parts = refl

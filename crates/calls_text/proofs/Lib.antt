@@ -16,3 +16,9 @@ mod OpeningLines
 mod TextParts
 mod Histories
 mod Fronts
+mod FineWords
+mod GroupNames
+mod Rules
+mod Finding
+mod TakenEvents
+mod TakenOpening

@@ -5,6 +5,7 @@ use Rattle.calls_text.specs.Reading.{Stage, Opening, step}
 use Rattle.calls_text.specs.Outcomes.{OneRead, parts_of, goes, fault_in}
 use Rattle.calls_text.specs.declared.fault.Kind.{Kind}
 use Rattle.calls_text.specs.declared.fault.Kind.TheVariants as kinds
+use Rattle.calls_text.specs.Rules.{KeepsRules}
 use Rattle.calls_text.specs.Grammar.{history_lines, history_text}
 
 -- these lines, each in its turn, lead from one stage to another
@@ -45,6 +46,10 @@ TextIsReadAgain = (r : Recorded) (n : ℕ) (rest : List ℕ) → CanBeRead r
       number = n + length (history_lines r);
       rest = parts_of rest;
     })
+
+-- and so is each history that keeps the rules
+abbrev pub RulesAreEnough : Type 0
+RulesAreEnough = (r : Recorded) → KeepsRules r → CanBeRead r
 
 -- NO TEXT BEGINS ANOTHER
 

@@ -10,5 +10,6 @@ pub mod Reading
 pub mod Outcomes
 pub mod Spelling
 pub mod Grammar
+pub mod Rules
 pub mod Laws
 pub mod kept

@@ -1,6 +1,6 @@
 //! Theorems on the format. Each is the contract of a function that does nothing.
 ghost use Rattle.calls_text.specs.Laws.{ReadIsSpelled, TextIsReadAgain, NoTextBeginsAnother};
-ghost use Rattle.calls_text.specs.Laws.{PrefixIsRefused};
+ghost use Rattle.calls_text.specs.Laws.{PrefixIsRefused, RulesAreEnough};
 
 /// States that a text that is read as a history is the text of that history and what is left.
 #[tactic(auto, using(crate::proofs::Texts::read_is_spelled))]
@@ -23,4 +23,10 @@ pub fn no_text_begins_another()
 /// States that a proper prefix of the text of a history is refused at its end.
 pub fn prefix_is_refused()
     ensures { PrefixIsRefused }
+{}
+
+/// States that each history that keeps the rules can be read.
+#[tactic(auto, using(crate::proofs::Rules::rules_are_enough))]
+pub fn rules_are_enough()
+    ensures { RulesAreEnough }
 {}
