@@ -1,42 +1,41 @@
 -- A line that is read as an event is the one that spells it.
-use Rattle.std.proofs.Common.{◌≡◌, ℕ, List, [], ◌∷◌, ◌++◌, length, Bool, true, false, cond, Option, Some}
-use Rattle.std.proofs.Common.{None, Ok, Err, refl, sym, ap, ap₂, ◌∙◌, subst, codes, not}
+use Rattle.std.proofs.Common.{◌≡◌, inl, inr, ℕ, List, [], ◌∷◌, ◌++◌, length, Bool, true, false, cond, Option, Some}
+use Rattle.std.proofs.Common.{Ok, refl, sym, ap, ap₂, ◌∙◌, subst, codes}
 use Rattle.std.proofs.Common.{append-nil, bytes_eq}
-use Rattle.std.specs.Prelude.{is_some}
 use Rattle.std.specs.List.{list_any, join_with_byte}
 use Rattle.ec_text.specs.Words.{words_of}
 use Rattle.ec_text.proofs.shared.WordLemmas.{split_join}
-use Rattle.ec_heading.specs.Heading.{is_no_line}
 use Rattle.ec_heading.specs.Lists.{worker_in}
 use Rattle.ec_heading.specs.Outlined.{HasOutline}
-use Rattle.ec_heading.proofs.shared.Declarable.{passed}
 use Rattle.calls_core.specs.declared.history.Action.TheVariants.{Invoke, Respond}
 use Rattle.calls_core.specs.declared.history.Event.{Event}
 use Rattle.calls_core.specs.declared.history.PendingCall.{PendingCall}
-use Rattle.calls_text.specs.declared.fault.Kind.{Kind}
-use Rattle.calls_text.specs.declared.fault.Kind.TheVariants as kinds
 use Rattle.calls_text.specs.declared.verb.Verb.{Verb}
 use Rattle.calls_text.specs.declared.verb.Verb.TheVariants as verbs
 use Rattle.calls_text.specs.declared.form.Answer.{Answer}
 use Rattle.calls_text.specs.declared.form.Answer.TheVariants as answers
 use Rattle.calls_text.specs.declared.object.Object.{Object}
-use Rattle.calls_text.specs.Verbs.{verb_word, tail_of, is_giving}
-use Rattle.calls_text.specs.Forms.{Phrase, Calls, Returns, phrase_in, is_tail}
-use Rattle.calls_text.specs.Objects.{object_in, is_owned, has_right}
+use Rattle.calls_text.specs.Verbs.{verb_word, tail_of}
+use Rattle.calls_text.specs.Forms.{is_tail}
+use Rattle.calls_text.specs.Objects.{object_in}
 use Rattle.calls_text.specs.Lists.{is_zeros, lists_after}
 use Rattle.calls_text.specs.Recordings.{Recorded}
-use Rattle.calls_text.specs.Reading.{pending_in, is_bad_tail, call_fault, fault_or, index_of, op_of}
-use Rattle.calls_text.specs.Reading.{number_in, numbers_in, lists_of, with_call, called}
-use Rattle.calls_text.specs.Reading.{is_bad_answer, is_suited, is_over, suit_fault, gives_list}
-use Rattle.calls_text.specs.Reading.{reply_of, lists_with, with_reply, answered, returned}
-use Rattle.calls_text.specs.Reading.{other_word, phrased, event_step, has_two_roles, is_spent}
+use Rattle.calls_text.specs.Reading.{pending_in, is_bad_tail, index_of, op_of}
+use Rattle.calls_text.specs.Reading.{number_in, numbers_in, lists_of}
+use Rattle.calls_text.specs.Reading.{is_bad_answer, is_suited, gives_list}
+use Rattle.calls_text.specs.Reading.{reply_of, lists_with}
+use Rattle.calls_text.specs.Reading.{other_word, event_step}
 use Rattle.calls_text.specs.Spelling.{worker_word, call_text}
 use Rattle.calls_text.specs.Grammar.{action_text, event_line}
 use Rattle.calls_text.proofs.Values.{join_spaced}
 use Rattle.calls_text.proofs.ObjectWords.{worker_spelled}
-use Rattle.calls_text.proofs.PhraseWords.{IsPhrase, SaysAnswer, phrase_back}
-use Rattle.calls_text.proofs.CallLines.{IsCallText, call_is, not_back}
+use Rattle.calls_text.proofs.PhraseWords.{SaysAnswer}
+use Rattle.calls_text.proofs.CallLines.{IsCallText, call_is}
 use Rattle.calls_text.proofs.ReplyLines.{reply_is}
+use Rattle.calls_text.proofs.EventParts.{IsCall, IsReturn, good_tail, suited, event_parts}
+use Rattle.calls_text.proofs.KeepingRules.{called_numbers, call_same, may_call, returned_numbers}
+use Rattle.calls_text.proofs.KeepingRules.{reply_same, may_return}
+use Rattle.calls_text.specs.Rules.{GrowsOnce}
 
 -- MORE LISTS
 
@@ -86,11 +85,8 @@ pub record Adds (r : Recorded) (line : List ℕ) (s : Recorded) : Type 0 where
   pub from : s.from ≡ r.from
   pub events : s.events ≡ r.events ++ event ∷ []
   pub lists : Extends r.lists s.lists
+  pub grows : GrowsOnce r s
   pub spelled : (more : List (List ℕ)) → line ≡ event_line r.heading (s.lists ++ more) r.events event
-
-pub no_fault : {A : Type 0} (o : Option Kind) (x y : A) → fault_or o x ≡ Ok y → (o ≡ None) × (x ≡ y)
-no_fault None x y is = (refl, cc)
-no_fault (Some kind) x y is = cc
 
 -- INVOCATIONS
 
@@ -111,43 +107,30 @@ called_line r line w o v ws i obj has words tail who which good more =
     ∙ ap₂ (λ (x : List ℕ) (y : List ℕ). x ++ (codes " calls " ++ y))
     (sym (worker_spelled r.heading w i has who)) text
 
--- what is asked of an invocation after its numbers
-abbrev later_tests : Recorded → ℕ → Verb → Object → List (Bool × Kind)
-later_tests r w v o =
-    (is_owned r.heading.groups o, kinds.Hidden)
-    ∷ (has_two_roles o, kinds.TwoRoles)
-    ∷ (not (has_right r.heading.setup w (is_giving v) o), kinds.NoRight)
-    ∷ (is_some (pending_in r.events w), kinds.Busy)
-    ∷ (is_spent r w v o, kinds.AtLimit)
-    ∷ []
-
-good_tail : (r : Recorded) (w : ℕ) (v : Verb) (o : Object) (ws : List (List ℕ))
-    → call_fault r w v o ws ≡ None → is_bad_tail (tail_of v) ws o ≡ false
-good_tail r w v o ws none =
-    (passed (is_bad_tail (tail_of v) ws o) kinds.BadNumber (later_tests r w v o) none).0
-
-call_adds : (r s : Recorded) (line w o : List ℕ) (v : Verb) (ws : List (List ℕ)) (i : Option ℕ)
-    (obj : Option Object) → HasOutline r.heading
-    → words_of line ≡ w ∷ codes "calls" ∷ verb_word v ∷ o ∷ ws
-    → is_tail (tail_of v) ws ≡ true → worker_in r.heading.words w ≡ i
-    → object_in r.heading v o (other_word v ws) ≡ obj → called r i v obj ws ≡ Ok s → Adds r line s
-call_adds r s line w o v ws (Some i) (Some obj) has words tail who which is =
-    let f = no_fault (call_fault r i v obj ws) (with_call r i v obj ws) s is in
-    subst (Adds r line) f.1 (record {
+call_adds : (r s : Recorded) (line : List ℕ) → HasOutline r.heading → IsCall r line s
+    → Adds r line s
+call_adds r s line has c =
+    subst (Adds r line) c.is (record {
       event = record {
         at = length r.events;
-        worker = i;
-        action = Invoke (index_of r.heading obj) (op_of v obj (number_in r.lists v ws));
+        worker = c.worker;
+        action = Invoke (index_of r.heading c.of) (op_of c.verb c.of (number_in r.lists c.verb c.tail));
       };
       heading = refl;
       from = refl;
       events = refl;
-      lists = call_extends r.lists v ws;
-      spelled = called_line r line w o v ws i obj has words tail who which
-          (good_tail r i v obj ws f.0);
+      lists = call_extends r.lists c.verb c.tail;
+      grows = inl (
+        c.worker,
+        c.verb,
+        c.of,
+        called_numbers c.verb c.tail,
+        may_call r s line has c,
+        call_same r c.worker c.verb c.of c.tail,
+      );
+      spelled = called_line r line c.name c.object c.verb c.tail c.worker c.of has c.words c.formed
+          c.who c.which (good_tail r c.worker c.verb c.of c.tail c.allowed);
     })
-call_adds r s line w o v ws (Some i) None has words tail who which is = cc
-call_adds r s line w o v ws None obj has words tail who which is = cc
 
 -- RESPONSES
 
@@ -165,71 +148,39 @@ returned_line r line w a ws i o has words says who pending good suits more =
     ∙ sym (ap (λ (p : Option PendingCall). worker_word r.heading i ++ action_text r.heading
     (lists_with r o a ws ++ more) p (Respond (reply_of r o a ws))) pending)
 
-suited : (r : Recorded) (o : PendingCall) (a : Answer) (ws : List (List ℕ))
-    → suit_fault r.heading o a ws ≡ None → is_suited r.heading o a ws ≡ true
-suited r o a ws none =
-    not_back (is_suited r.heading o a ws)
-    (passed (not (is_suited r.heading o a ws)) kinds.Unsuited
-    ((is_over r.heading.setup.limit o.op a ws, kinds.AtLimit) ∷ []) none).0
-
-answer_adds : (r s : Recorded) (line w : List ℕ) (a : Answer) (ws : List (List ℕ)) (i : ℕ)
-    (o : Option PendingCall) → HasOutline r.heading
-    → words_of line ≡ w ∷ codes "returns" ∷ ws → SaysAnswer a ws
-    → worker_in r.heading.words w ≡ Some i → pending_in r.events i ≡ o
-    → is_bad_answer a ws ≡ false → answered r i o a ws ≡ Ok s → Adds r line s
-answer_adds r s line w a ws i None has words says who pending good is = cc
-answer_adds r s line w a ws i (Some o) has words says who pending good is =
-    let f = no_fault (suit_fault r.heading o a ws) (with_reply r i o a ws) s is in
-    subst (Adds r line) f.1 (record {
+return_adds : (r s : Recorded) (line : List ℕ) → HasOutline r.heading → IsReturn r line s
+    → Adds r line s
+return_adds r s line has c =
+    subst (Adds r line) c.is (record {
       event = record {
         at = length r.events;
-        worker = i;
-        action = Respond (reply_of r o a ws);
+        worker = c.worker;
+        action = Respond (reply_of r c.call c.answer c.tail);
       };
       heading = refl;
       from = refl;
       events = refl;
-      lists = reply_extends r o a ws;
-      spelled = returned_line r line w a ws i o has words says who pending good
-          (suited r o a ws f.0);
+      lists = reply_extends r c.call c.answer c.tail;
+      grows = inr (
+        c.worker,
+        c.call,
+        c.answer,
+        returned_numbers c.answer c.tail,
+        may_return r s line has c,
+        reply_same r c.worker c.call c.answer c.tail
+            (suited r c.call c.answer c.tail c.allowed).0,
+      );
+      spelled = returned_line r line c.name c.answer c.tail c.worker c.call has c.words c.says c.who
+          c.pending c.good (suited r c.call c.answer c.tail c.allowed).0;
     })
 
-return_adds : (r s : Recorded) (line w : List ℕ) (a : Answer) (ws : List (List ℕ)) (i : Option ℕ)
-    → HasOutline r.heading → words_of line ≡ w ∷ codes "returns" ∷ ws → SaysAnswer a ws
-    → worker_in r.heading.words w ≡ i → returned r i a ws ≡ Ok s → Adds r line s
-return_adds r s line w a ws None has words says who is = cc
-return_adds r s line w a ws (Some i) has words says who is =
-    elim (is_bad_answer a ws) as (λ b. is_bad_answer a ws ≡ b
-    → cond b (Err kinds.BadNumber) (answered r i (pending_in r.events i) a ws) ≡ Ok s
-    → Adds r line s) [
-      | true ↦ λ q bad. cc
-      | false ↦ λ q good.
-          answer_adds r s line w a ws i (pending_in r.events i) has words says who refl q good
-    ] refl is
-
 -- ANY EVENT
-
-phrase_adds : (r s : Recorded) (line : List ℕ) (p : Phrase) → HasOutline r.heading
-    → IsPhrase (words_of line) p → phrased r (Some p) ≡ Ok s → Adds r line s
-phrase_adds r s line (Calls w v o ws) has words is =
-    call_adds r s line w o v ws (worker_in r.heading.words w)
-    (object_in r.heading v o (other_word v ws)) has words.0 words.1 refl refl is
-phrase_adds r s line (Returns w a ws) has words is =
-    return_adds r s line w a ws (worker_in r.heading.words w) has words.0 words.1 refl is
-
-words_add : (r s : Recorded) (line : List ℕ) (p : Option Phrase) → HasOutline r.heading
-    → phrase_in (words_of line) ≡ p → phrased r p ≡ Ok s → Adds r line s
-words_add r s line None has words is = cc
-words_add r s line (Some p) has words is =
-    phrase_adds r s line p has (phrase_back (words_of line) p words) is
 
 -- a line that is taken adds the event that it spells
 pub line_adds : (r s : Recorded) (line : List ℕ) → HasOutline r.heading
     → event_step r line ≡ Ok s → Adds r line s
-unfolding event_step
 line_adds r s line has is =
-    elim (is_no_line line) as (λ b.
-    cond b (Err kinds.BadLine) (phrased r (phrase_in (words_of line))) ≡ Ok s → Adds r line s) [
-      | true ↦ λ bad. cc
-      | false ↦ λ good. words_add r s line (phrase_in (words_of line)) has refl good
-    ] is
+    elim (event_parts r s line is) [
+      | inl call ↦ call_adds r s line has call
+      | inr return ↦ return_adds r s line has return
+    ]

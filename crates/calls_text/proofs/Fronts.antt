@@ -14,10 +14,13 @@ use Rattle.calls_text.specs.Reading.{Stage, Opening, Limiting, Declaring, Runnin
 use Rattle.calls_text.specs.Reading.{is_ended}
 use Rattle.calls_text.specs.Outcomes.{OneRead, Parsed, parts_of, goes, taken, ended, fault_in}
 use Rattle.calls_text.specs.Grammar.{history_lines, history_text}
-use Rattle.calls_text.specs.Laws.{Leads, CanBeRead, TextIsReadAgain, NoTextBeginsAnother}
+use Rattle.calls_text.specs.kept.Leading.{Leads}
+use Rattle.calls_text.specs.Laws.{SpelledIsRead, NoTextBeginsAnother}
 use Rattle.calls_text.specs.Laws.{PrefixIsRefused}
+use Rattle.calls_text.specs.Rules.{KeepsRules}
+use Rattle.calls_text.proofs.Rules.{Lead, all_taken}
 use Rattle.calls_text.proofs.TextParts.{IsPart, parts_alone, parts_line, parts_joined, by_line, by_rest}
-use Rattle.calls_text.proofs.TextParts.{HasFirst, has_first, IsRead, is_read}
+use Rattle.calls_text.proofs.TextParts.{HasFirst, has_first}
 use Rattle.calls_text.proofs.Histories.{lines_back}
 
 -- LINES THAT ARE READ
@@ -75,14 +78,12 @@ led_by r lines same each leads = record {
   leads = subst (λ (ls : List (List ℕ)). Leads Opening ls (Ended r)) same leads;
 }
 
-pub is_led : (r : Recorded) → CanBeRead r → IsLed r
-is_led r c =
-    let k : IsRead c.bytes c.first Opening c.read =
-    is_read c.bytes c.first Opening c.read c.reads in
-    subst IsLed c.is (led_by c.read.recorded k.lines
-    (lines_back k.lines c.read.recorded k.leads) k.each k.leads)
+pub is_led : (r : Recorded) → KeepsRules r → IsLed r
+is_led r keeps =
+    let l : Lead Opening (Ended r) = all_taken r keeps in
+    led_by r l.lines (lines_back l.lines r l.taken.leads) l.taken.each l.taken.leads
 
--- READ AGAIN
+-- WHAT IS SPELLED IS READ
 
 pub led_is_read : (r : Recorded) (n : ℕ) (rest : List ℕ) → IsLed r
     → goes n Opening (parts_of (history_text r ++ rest))
@@ -92,8 +93,8 @@ led_is_read r n rest led =
     goes_lines n Opening (Ended r) (history_lines r) rest led.each led.leads
     ∙ goes_ended (n + length (history_lines r)) r (parts_of rest)
 
-pub text_is_read_again : TextIsReadAgain
-text_is_read_again r n rest can = led_is_read r n rest (is_led r can)
+pub spelled_is_read : SpelledIsRead
+spelled_is_read r n rest keeps = led_is_read r n rest (is_led r keeps)
 
 -- NO TEXT BEGINS ANOTHER
 
@@ -109,9 +110,9 @@ pub no_text_begins_another : NoTextBeginsAnother
 no_text_begins_another r s x y one other same =
     let both = one_read r s (1 + length (history_lines r)) (1 + length (history_lines s))
     (parts_of x) (parts_of y)
-    (sym (text_is_read_again r 1 x one)
+    (sym (spelled_is_read r 1 x one)
     ∙ ap (λ (bytes : List ℕ). goes 1 Opening (parts_of bytes)) same
-    ∙ text_is_read_again s 1 y other) in
+    ∙ spelled_is_read s 1 y other) in
     (both.0, sym (parts_joined x) ∙ ap (join_with_byte 10) both.1 ∙ parts_joined y)
 
 -- WHERE A TEXT IS CUT
@@ -281,8 +282,8 @@ cut_refused n s t front line whole others part tail u text begins each leads is 
 
 pub prefix_is_refused : PrefixIsRefused
 unfolding history_text
-prefix_is_refused r n front more can is some =
-    let led : IsLed r = is_led r can in
+prefix_is_refused r n front more keeps is some =
+    let led : IsLed r = is_led r keeps in
     let c : IsCut (history_lines r) front = cut (history_lines r) front more is some in
     let k = lead_parts Opening (Ended r) c.whole (c.line ∷ c.others)
     (subst (λ (ls : List (List ℕ)). Leads Opening ls (Ended r)) c.are led.leads) in

@@ -1,6 +1,6 @@
 -- The lines of a history are those that spell it.
 use Rattle.std.proofs.Common.{◌≡◌, ℕ, ◌<◌, ◌≤◌, List, [], ◌∷◌, ◌++◌, true, false, cond, Result, Ok, Err}
-use Rattle.std.proofs.Common.{refl, sym, ap, ap₂, ◌∙◌, subst, codes, append_assoc, append-nil, bytes_eq}
+use Rattle.std.proofs.Common.{length, refl, sym, ap, ap₂, ◌∙◌, subst, codes, append_assoc, append-nil, bytes_eq}
 use Rattle.std.proofs.lemmas.Slice.Eq.{bytes_eq-Decides}
 use Rattle.ec_heading.specs.declared.version.Version.TheVariants.{Two}
 use Rattle.ec_heading.specs.Versions.{greatest_limit}
@@ -17,7 +17,8 @@ use Rattle.calls_text.specs.Reading.{Draft, Stage, Opening, Limiting, Declaring,
 use Rattle.calls_text.specs.Reading.{draft_of, limit_step, ran_on, event_step, recorded_of}
 use Rattle.calls_text.specs.Grammar.{from_lines, event_line, event_lines}
 use Rattle.calls_text.specs.Grammar.{history_lines}
-use Rattle.calls_text.specs.Laws.{Leads}
+use Rattle.calls_text.specs.kept.Leading.{Leads}
+use Rattle.calls_text.specs.Rules.{AreStarts, Grows, KeepsRules}
 use Rattle.calls_text.proofs.EventLines.{Extends, Adds, line_adds}
 use Rattle.calls_text.proofs.OpeningLines.{SaysLimit, limit_said, HeadsRun, heads_back}
 use Rattle.calls_text.proofs.OpeningLines.{StartsSpelled, starts_spelled, starts_heading}
@@ -32,6 +33,7 @@ pub record EventsRun (r : Recorded) (lines : List (List ℕ)) (t : Recorded) : T
   pub from : t.from ≡ r.from
   pub are : t.events ≡ r.events ++ events
   pub lists : Extends r.lists t.lists
+  pub grows : Grows (length events) r t
   pub spelled : lines ≡ event_lines r.heading t.lists r.events events ++ codes "end" ∷ []
 
 event_run : (r s t : Recorded) (line : List ℕ) (lines : List (List ℕ)) → Adds r line s
@@ -53,6 +55,7 @@ event_run r s t line lines one rest =
         rest.lists.1 ∙ ap (λ (ls : List (List ℕ)). ls ++ rest.lists.0) one.lists.1
             ∙ append_assoc r.lists one.lists.0 rest.lists.0,
       );
+      grows = (s, one.grows, rest.grows);
       spelled = ap₂ (λ (x : List ℕ) (xs : List (List ℕ)). x ∷ xs)
           (one.spelled rest.lists.0
           ∙ ap (λ (ls : List (List ℕ)). event_line r.heading ls r.events one.event)
@@ -81,6 +84,7 @@ end_run r t line lines is leads =
       from = refl;
       are = sym (append-nil r.events);
       lists = ([], sym (append-nil r.lists));
+      grows = refl;
       spelled = ap₂ (λ (x : List ℕ) (xs : List (List ℕ)). x ∷ xs) is none.0;
     })
 
@@ -140,10 +144,24 @@ lines_same h g from counts events xs lists p q s =
     ap (λ (k : Headed). lines_with k from events lists) (sym p)
     ∙ ap₂ (λ (c : List (ℕ × ℕ)) (es : List Event). lines_with g c es lists) (sym q) (sym s)
 
--- lines that lead from a limit to a history
+-- what the lines after a limit say: a heading, counts and events
+record HasBody (limit : ℕ) (lines : List (List ℕ)) (t : Recorded) : Type 0 where
+  keeps : KeepsRules t
+  spelled : codes "evc-calls 1" ∷ limit_line limit ∷ lines ≡ history_lines t
+
+grown_from : (t : Recorded) (h : Headed) (from : List (ℕ × ℕ)) (k n : ℕ) → k ≡ n
+    → h ≡ t.heading → from ≡ t.from
+    → Grows k (record { heading = h; from = from; events = []; lists = [] }) t
+    → Grows n (record { heading = t.heading; from = t.from; events = []; lists = [] }) t
+grown_from t h from k n count heading counts grows =
+    subst (λ (c : List (ℕ × ℕ)).
+    Grows n (record { heading = t.heading; from = c; events = []; lists = [] }) t) counts
+    (subst (λ (g : Headed). Grows n (record { heading = g; from = from; events = []; lists = [] }) t)
+    heading (subst (λ (i : ℕ).
+    Grows i (record { heading = h; from = from; events = []; lists = [] }) t) count grows))
+
 body_back : (limit : ℕ) (lines : List (List ℕ)) (t : Recorded) → 1 ≤ limit
-    → limit ≤ greatest_limit Two → HeadsRun (opened Two limit []) lines t
-    → codes "evc-calls 1" ∷ limit_line limit ∷ lines ≡ history_lines t
+    → limit ≤ greatest_limit Two → HeadsRun (opened Two limit []) lines t → HasBody limit lines t
 body_back limit lines t low high run =
     let same : run.last.heading ≡ run.heading =
     starts_heading (draft_of run.heading) run.last run.starts run.start_lead in
@@ -155,6 +173,7 @@ body_back limit lines t low high run =
     starts_spelled (draft_of run.heading) run.last run.starts top.has run.start_lead in
     let events : EventsRun (recorded_of run.last) run.rest t =
     events_run (recorded_of run.last) t run.rest (subst HasOutline (sym same) top.has) run.runs in
+    let heading : t.heading ≡ run.heading = events.heading ∙ same in
     let from : t.from ≡ starts.counts = events.from ∙ starts.from in
     let ending : run.rest
     ≡ event_lines run.heading t.lists [] events.events ++ codes "end" ∷ [] =
@@ -168,30 +187,54 @@ body_back limit lines t low high run =
     ∙ ap₂ (λ (hs : List (List ℕ)) (ss : List (List ℕ)). codes "evc-calls 1" ∷ (hs
     ++ (ss ++ codes "run" ∷ (event_lines run.heading t.lists [] events.events
     ++ codes "end" ∷ [])))) top.spelled starts.spelled in
-    all ∙ lines_same run.heading t.heading starts.counts t.from events.events t.events t.lists
-    (events.heading ∙ same) from events.are
+    record {
+      keeps = record {
+        heading = subst HasOutline (sym heading) top.has;
+        version = ap (λ (h : Headed). h.version) heading ∙ top.version;
+        starts = subst (λ (h : Headed). AreStarts h [] t.from) (sym heading)
+            (subst (AreStarts run.heading []) (sym from) starts.are);
+        grows = grown_from t run.last.heading run.last.from (length events.events)
+            (length t.events) (ap length (sym events.are)) (sym events.heading) (sym events.from)
+            events.grows;
+      };
+      spelled = all ∙ lines_same run.heading t.heading starts.counts t.from events.events t.events
+          t.lists heading from events.are;
+    }
+
+-- what the lines of a history say
+pub record IsHistory (lines : List (List ℕ)) (t : Recorded) : Type 0 where
+  pub keeps : KeepsRules t
+  pub spelled : lines ≡ history_lines t
 
 limit_lines : (line : List ℕ) (lines : List (List ℕ)) (t : Recorded) (d : Draft)
     → SaysLimit line d → Leads (Declaring d) lines (Ended t)
-    → codes "evc-calls 1" ∷ line ∷ lines ≡ history_lines t
+    → IsHistory (codes "evc-calls 1" ∷ line ∷ lines) t
 limit_lines line lines t d says leads =
-    ap (λ (x : List ℕ). codes "evc-calls 1" ∷ x ∷ lines) says.spelled
-    ∙ body_back says.limit lines t says.low says.high (heads_back (opened Two says.limit []) lines t
-    (subst (λ (e : Draft). Leads (Declaring e) lines (Ended t)) says.opens leads))
+    let b : HasBody says.limit lines t =
+    body_back says.limit lines t says.low says.high (heads_back (opened Two says.limit []) lines t
+    (subst (λ (e : Draft). Leads (Declaring e) lines (Ended t)) says.opens leads)) in
+    record {
+      keeps = b.keeps;
+      spelled = ap (λ (x : List ℕ). codes "evc-calls 1" ∷ x ∷ lines) says.spelled ∙ b.spelled;
+    }
 
 header_lines : (line : List ℕ) (lines : List (List ℕ)) (t : Recorded)
-    → line ≡ codes "evc-calls 1" → Leads Limiting lines (Ended t) → line ∷ lines ≡ history_lines t
+    → line ≡ codes "evc-calls 1" → Leads Limiting lines (Ended t) → IsHistory (line ∷ lines) t
 header_lines line [] t is leads = cc
 header_lines line (next ∷ lines) t is (s, taken, leads) =
     let d = limit_back next s taken in
-    ap (λ (x : List ℕ). x ∷ next ∷ lines) is
-    ∙ limit_lines next lines t d.0 d.1
-    (subst (λ (k : Stage). Leads k lines (Ended t)) d.2 leads)
+    subst (λ (x : List ℕ). IsHistory (x ∷ next ∷ lines) t) (sym is)
+    (limit_lines next lines t d.0 d.1
+    (subst (λ (k : Stage). Leads k lines (Ended t)) d.2 leads))
 
--- lines that lead to a history are those of its text
-pub lines_back : (lines : List (List ℕ)) (t : Recorded) → Leads Opening lines (Ended t)
-    → lines ≡ history_lines t
-lines_back [] t leads = cc
-lines_back (line ∷ lines) t (s, taken, leads) =
+-- lines that lead to a history are those of its text, and it keeps the rules
+pub history_back : (lines : List (List ℕ)) (t : Recorded) → Leads Opening lines (Ended t)
+    → IsHistory lines t
+history_back [] t leads = cc
+history_back (line ∷ lines) t (s, taken, leads) =
     let b = header_back line s taken in
     header_lines line lines t b.0 (subst (λ (k : Stage). Leads k lines (Ended t)) b.1 leads)
+
+pub lines_back : (lines : List (List ℕ)) (t : Recorded) → Leads Opening lines (Ended t)
+    → lines ≡ history_lines t
+lines_back lines t leads = (history_back lines t leads).spelled

@@ -22,3 +22,5 @@ mod Rules
 mod Finding
 mod TakenEvents
 mod TakenOpening
+mod EventParts
+mod KeepingRules

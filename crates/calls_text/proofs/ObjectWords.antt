@@ -54,13 +54,31 @@ below : (h : Headed) (w : List ℕ) (t : Target) → IsSound h → find_name w h
     → is_below h t ≡ true
 below h w t is found = found_all (λ u. is_below h u ≡ true) h.words w t is.below found
 
+pub worker_below : (h : Headed) (w : List ℕ) (i : ℕ) → HasOutline h
+    → worker_in h.words w ≡ Some i → i < h.setup.workers
+worker_below h w i has is =
+    ltb-true _ _ (below h w (target.Worker i) (sound_of h has)
+    (worker_found (find_name w h.words) i is))
+
+pub event_below : (h : Headed) (w : List ℕ) (e : ℕ) → HasOutline h
+    → event_in h.words w ≡ Some e → e < length h.setup.events
+event_below h w e has is =
+    ltb-true _ _ (below h w (target.Event e) (sound_of h has)
+    (event_found (find_name w h.words) e is))
+
+pub sequencer_below : (h : Headed) (w : List ℕ) (q : ℕ) → HasOutline h
+    → sequencer_in h.words w ≡ Some q → q < length h.setup.takers
+sequencer_below h w q has is =
+    ltb-true _ _ (below h w (target.Sequencer q) (sound_of h has)
+    (sequencer_found (find_name w h.words) q is))
+
 pub worker_spelled : (h : Headed) (w : List ℕ) (i : ℕ) → HasOutline h
     → worker_in h.words w ≡ Some i → worker_word h i ≡ w
 worker_spelled h w i has is =
     let s : IsSound h = sound_of h has in
     let found : find_name w h.words ≡ Some (target.Worker i) =
     worker_found (find_name w h.words) i is in
-    let declared : i < h.setup.workers = ltb-true _ _ (below h w (target.Worker i) s found) in
+    let declared : i < h.setup.workers = worker_below h w i has is in
     let few : i < 16 = omega (arith, s.kept.few_workers) in
     let small : nat_lt i 16 ≡ true = lt-ltb _ _ few in
     rw small (word_back h.words w (target.Worker i) s.apart refl found)
@@ -71,7 +89,7 @@ event_spelled h w e has is =
     let s : IsSound h = sound_of h has in
     let found : find_name w h.words ≡ Some (target.Event e) =
     event_found (find_name w h.words) e is in
-    let declared : e < length h.setup.events = ltb-true _ _ (below h w (target.Event e) s found) in
+    let declared : e < length h.setup.events = event_below h w e has is in
     let few : e < 32 = omega (arith, s.bounds.events) in
     let small : nat_lt e 32 ≡ true = lt-ltb _ _ few in
     rw small (word_back h.words w (target.Event e) s.apart refl found)
@@ -82,8 +100,7 @@ sequencer_spelled h w q has is =
     let s : IsSound h = sound_of h has in
     let found : find_name w h.words ≡ Some (target.Sequencer q) =
     sequencer_found (find_name w h.words) q is in
-    let declared : q < length h.setup.takers =
-    ltb-true _ _ (below h w (target.Sequencer q) s found) in
+    let declared : q < length h.setup.takers = sequencer_below h w q has is in
     let few : q < 32 = omega (arith, s.bounds.sequencers) in
     let small : nat_lt q 32 ≡ true = lt-ltb _ _ few in
     rw small (word_back h.words w (target.Sequencer q) s.apart refl found)

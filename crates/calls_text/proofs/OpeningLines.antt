@@ -1,6 +1,6 @@
 -- The lines before `run` are those that spell what they declare.
 use Rattle.std.proofs.Common.{◌≡◌, ◌⊎◌, inl, inr, ℕ, ◌<◌, ◌≤◌, List, [], ◌∷◌, ◌++◌, length}
-use Rattle.std.proofs.Common.{Bool, true, false, cond, nat_lt, nat_le, ◌&&◌, ◌||◌, Option, Some}
+use Rattle.std.proofs.Common.{Bool, true, false, cond, nat_lt, nat_le, not, ◌&&◌, ◌||◌, Option, Some}
 use Rattle.std.proofs.Common.{None, Result, Ok, Err, refl, sym, ap, ap₂, ◌∙◌, subst, arith, codes}
 use Rattle.std.proofs.Common.{decimal, append-nil, append_assoc, bytes_eq, length-append}
 use Rattle.std.specs.List.{join_with_byte}
@@ -21,7 +21,7 @@ use Rattle.ec_heading.specs.Recalled.{outline_of}
 use Rattle.ec_heading.specs.Spelled.{event_in}
 use Rattle.ec_heading.specs.Spelling.{limit_line, heading_lines}
 use Rattle.ec_heading.proofs.shared.LeadLines.{leads_outline}
-use Rattle.ec_heading.proofs.shared.OutlineFound.{outline_found}
+use Rattle.ec_heading.proofs.shared.OutlineFound.{outline_found, version_found}
 use Rattle.ec_heading.proofs.shared.VersionFacts.{limit_parts}
 use Rattle.calls_text.specs.declared.fault.Kind.{Kind}
 use Rattle.calls_text.specs.declared.fault.Kind.TheVariants as kinds
@@ -32,9 +32,16 @@ use Rattle.calls_text.specs.Reading.{start_in, from_fault, with_start, started_a
 use Rattle.calls_text.specs.Reading.{from_step, opens_from, is_from, headed_on, draft_step}
 use Rattle.calls_text.specs.Reading.{recorded_of, drafted_on}
 use Rattle.calls_text.specs.Grammar.{from_line, from_lines}
-use Rattle.calls_text.specs.Laws.{Leads}
-use Rattle.calls_text.proofs.ObjectWords.{event_spelled}
-use Rattle.calls_text.proofs.EventLines.{no_fault}
+use Rattle.calls_text.specs.kept.Leading.{Leads}
+use Rattle.calls_text.proofs.ObjectWords.{event_spelled, event_below}
+use Rattle.calls_text.proofs.CallLines.{not_back}
+use Rattle.calls_text.specs.Rules.{IsStart, AreStarts}
+use Rattle.calls_text.specs.Objects.{is_owned}
+use Rattle.calls_text.specs.declared.object.Object.TheVariants as objects
+use Rattle.calls_text.specs.Reading.{is_later}
+use Rattle.ec_heading.proofs.shared.Declarable.{passed}
+use Rattle.std.proofs.lemmas.Bool.{leb-true}
+use Rattle.calls_text.proofs.EventParts.{no_fault}
 
 same_word : (v w : List ℕ) → bytes_eq v w ≡ true → v ≡ w
 same_word v w same = (bytes_eq-Decides v w).0 same
@@ -107,6 +114,7 @@ pub record SaysStart (d : Draft) (line : List ℕ) (e : Draft) : Type 0 where
   pub count : ℕ
   pub adds : e ≡ with_start d event count
   pub spelled : HasOutline d.heading → line ≡ from_line d.heading (event, count)
+  pub kept : HasOutline d.heading → IsStart d.heading d.from (event, count)
 
 from_words_back : (ws : List (List ℕ)) (p : List ℕ × List ℕ) → from_words ws ≡ Some p
     → ws ≡ codes "from" ∷ p.0 ∷ p.1 ∷ []
@@ -127,15 +135,34 @@ from_words_back (w ∷ e ∷ n ∷ []) p is =
     ] refl is
 from_words_back (w ∷ e ∷ n ∷ v ∷ ws) p is = cc
 
-start_back : (h : Headed) (o : Option ℕ) (n : ℕ) → start_in h o ≡ Some n → o ≡ Some n
+-- the count is one that may be at the beginning
+record IsStartOf (h : Headed) (o : Option ℕ) (n : ℕ) : Type 0 where
+  is : o ≡ Some n
+  low : 1 ≤ n
+  high : n ≤ h.setup.limit
+
+start_back : (h : Headed) (o : Option ℕ) (n : ℕ) → start_in h o ≡ Some n → IsStartOf h o n
 start_back h None n is = cc
 start_back h (Some m) n is =
-    (guarded (nat_le 1 m && nat_le m h.setup.limit) (Some m) n is).1
+    let g = guarded (nat_le 1 m && nat_le m h.setup.limit) (Some m) n is in
+    let p = and_parts (nat_le 1 m) (nat_le m h.setup.limit) g.0 in
+    let same : m ≡ n = cc in
+    subst (IsStartOf h (Some m)) same
+    (record { is = refl; low = leb-true _ _ p.0; high = leb-true _ _ p.1 })
 
 count_back : (d e : Draft) (k : ℕ) (o : Option ℕ) → started_at d k o ≡ Ok e
-    → (n : ℕ) × (o ≡ Some n) × (with_start d k n ≡ e)
+    → (n : ℕ) × (o ≡ Some n) × (with_start d k n ≡ e) × (from_fault d k ≡ None)
 count_back d e k None is = cc
-count_back d e k (Some n) is = (n, refl, (no_fault (from_fault d k) (with_start d k n) e is).1)
+count_back d e k (Some n) is =
+    let f = no_fault (from_fault d k) (with_start d k n) e is in (n, refl, f.1, f.0)
+
+-- the eventcount may have a count at the beginning, after those before it
+free_back : (d : Draft) (k : ℕ) → from_fault d k ≡ None
+    → (is_owned d.heading.groups (objects.Event k) ≡ false) × (is_later d.from k ≡ true)
+free_back d k none =
+    let p = passed (is_owned d.heading.groups (objects.Event k)) kinds.Hidden
+    ((not (is_later d.from k), kinds.BadOrder) ∷ []) none in
+    (p.0, not_back _ (passed (not (is_later d.from k)) kinds.BadOrder [] p.1).0)
 
 started_so : (d e : Draft) (line w digits : List ℕ) (k : Option ℕ)
     → words_of line ≡ codes "from" ∷ w ∷ digits ∷ [] → event_in d.heading.words w ≡ k
@@ -143,8 +170,10 @@ started_so : (d e : Draft) (line w digits : List ℕ) (k : Option ℕ)
 started_so d e line w digits None words named is = cc
 started_so d e line w digits (Some k) words named is =
     let n = count_back d e k (start_in d.heading (number_of digits)) is in
-    let number : digits ≡ decimal n.0 =
-    (number_takes digits n.0 (start_back d.heading (number_of digits) n.0 n.1)).0 in
+    let start : IsStartOf d.heading (number_of digits) n.0 =
+    start_back d.heading (number_of digits) n.0 n.1 in
+    let number : digits ≡ decimal n.0 = (number_takes digits n.0 start.is).0 in
+    let free = free_back d k n.3 in
     record {
       event = k;
       count = n.0;
@@ -152,6 +181,13 @@ started_so d e line w digits (Some k) words named is =
       spelled = λ has. sym (split_join line) ∙ ap (join_with_byte 32) words
           ∙ ap₂ (λ (x : List ℕ) (y : List ℕ). codes "from " ++ (x ++ 32 ∷ y))
           (sym (event_spelled d.heading w k has named)) number;
+      kept = λ has. record {
+        declared = event_below d.heading w k has named;
+        free = free.0;
+        low = start.low;
+        high = start.high;
+        later = free.1;
+      };
     }
 
 from_said : (d e : Draft) (line : List ℕ) (o : Option (List ℕ × List ℕ))
@@ -364,6 +400,7 @@ pub record StartsSpelled (d : Draft) (lines : List (List ℕ)) (e : Draft) : Typ
   pub heading : e.heading ≡ d.heading
   pub from : e.from ≡ d.from ++ counts
   pub spelled : lines ≡ from_lines d.heading counts
+  pub are : AreStarts d.heading d.from counts
 
 start_spelled : (d n e : Draft) (line : List ℕ) (lines : List (List ℕ)) → HasOutline d.heading
     → SaysStart d line n → StartsSpelled n lines e → StartsSpelled d (line ∷ lines) e
@@ -376,6 +413,10 @@ start_spelled d n e line lines has one rest =
           ∙ append_assoc d.from ((one.event, one.count) ∷ []) rest.counts;
       spelled = ap₂ (λ (x : List ℕ) (xs : List (List ℕ)). x ∷ xs) (one.spelled has)
           (rest.spelled ∙ ap (λ (h : Headed). from_lines h rest.counts) same);
+      are = (
+        one.kept has,
+        subst (λ (x : Draft). AreStarts x.heading x.from rest.counts) one.adds rest.are,
+      );
     }
 
 pub starts_spelled : (d e : Draft) (lines : List (List ℕ)) → HasOutline d.heading
@@ -385,6 +426,7 @@ starts_spelled d e [] has leads = record {
   heading = ap (λ (x : Draft). x.heading) (sym leads);
   from = ap (λ (x : Draft). x.from) (sym leads) ∙ sym (append-nil d.from);
   spelled = refl;
+  are = tt;
 }
 starts_spelled d e (line ∷ lines) has (next, taken, leads) =
     let one : SaysStart d line next = start_said d next line taken in
@@ -403,6 +445,7 @@ starts_heading d e (line ∷ lines) (next, taken, leads) =
 -- the lines of a heading are those of its outline
 pub record HeadingSpelled (limit : ℕ) (lines : List (List ℕ)) (h : Headed) : Type 0 where
   pub has : HasOutline h
+  pub version : h.version ≡ Two
   pub spelled : limit_line limit ∷ lines ≡ heading_lines (outline_of h)
 
 outline_spelled : (limit : ℕ) (lines : List (List ℕ)) (h : Headed) → Outlines Two limit lines h
@@ -412,6 +455,7 @@ outline_spelled limit lines h o =
     ap outline_of o.end_is ∙ outline_found o.outline o.is in
     record {
       has = record { outline = o.outline; is = o.is; declares = sym o.end_is };
+      version = ap (λ (g : Headed). g.version) o.end_is ∙ version_found o.outline ∙ o.version_is;
       spelled = ap₂ (λ (x : List ℕ) (xs : List (List ℕ)). x ∷ xs)
           (ap limit_line (sym o.limit_is)) o.lines_are
           ∙ ap heading_lines (sym recalled);

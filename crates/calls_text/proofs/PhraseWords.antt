@@ -1,8 +1,9 @@
 -- The words of a phrase are found again.
-use Rattle.std.proofs.Common.{◌≡◌, ℕ, List, [], ◌∷◌, length, Bool, true, false, cond, ◌&&◌}
+use Rattle.std.proofs.Common.{◌≡◌, ◌≤◌, ℕ, List, [], ◌∷◌, length, Bool, true, false, cond, ◌&&◌}
 use Rattle.std.proofs.Common.{Option, Some, None, if◌then◌else◌, refl, sym, ap, ◌∙◌, bytes_eq, codes}
 use Rattle.std.proofs.Common.{subst, nat_le}
 use Rattle.std.specs.List.{list_all}
+use Rattle.std.proofs.lemmas.Bool.{and_parts, leb-true}
 use Rattle.std.proofs.lemmas.Slice.Eq.{bytes_eq-Decides}
 use Rattle.ec_text.specs.Words.{is_number_form}
 use Rattle.calls_text.specs.declared.verb.Verb.{Verb}
@@ -63,13 +64,17 @@ only_back word (w ∷ v ∷ ws) is = cc
 abbrev pub SaysAnswer : Answer → List (List ℕ) → Type 0
 SaysAnswer answers.Done ws = ws ≡ codes "done" ∷ []
 SaysAnswer answers.Timeout ws = ws ≡ codes "timeout" ∷ []
-SaysAnswer answers.Numbers ws = Unit {0}
+SaysAnswer answers.Numbers ws = 1 ≤ length ws
 
-numbers_back : (b : Bool) (a : Answer) (ws : List (List ℕ))
+numbers_back : (a : Answer) (ws : List (List ℕ)) (b : Bool)
+    → (nat_le 1 (length ws) && list_all is_number_form ws) ≡ b
     → cond b (Some answers.Numbers) None ≡ Some a → SaysAnswer a ws
-numbers_back true a ws is =
-    let same : answers.Numbers ≡ a = cc in subst (λ (x : Answer). SaysAnswer x ws) same tt
-numbers_back false a ws is = cc
+numbers_back a ws true all is =
+    let same : answers.Numbers ≡ a = cc in
+    let some : 1 ≤ length ws =
+    leb-true _ _ (and_parts (nat_le 1 (length ws)) (list_all is_number_form ws) all).0 in
+    subst (λ (x : Answer). SaysAnswer x ws) same some
+numbers_back a ws false all is = cc
 
 word_back : (word : List ℕ) (says a : Answer) (ws : List (List ℕ)) (rest : Option Answer)
     → (ws ≡ word ∷ [] → SaysAnswer says ws) → (rest ≡ Some a → SaysAnswer a ws)
@@ -87,7 +92,7 @@ answer_back : (ws : List (List ℕ)) (a : Answer) → answer_of ws ≡ Some a �
 answer_back ws a =
     word_back (codes "done") answers.Done a ws _ (λ is. is)
     (word_back (codes "timeout") answers.Timeout a ws _ (λ is. is)
-    (numbers_back (nat_le 1 (length ws) && list_all is_number_form ws) a ws))
+    (numbers_back a ws (nat_le 1 (length ws) && list_all is_number_form ws) refl))
 
 -- PHRASES
 

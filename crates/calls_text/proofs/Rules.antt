@@ -1,5 +1,5 @@
--- Each history that keeps the rules can be read.
-use Rattle.std.proofs.Common.{◌≡◌, inl, inr, ℕ, zero, suc, ◌+◌, ◌<◌, ◌≤◌, List, [], ◌∷◌, ◌++◌}
+-- Lines lead to each history that keeps the rules.
+use Rattle.std.proofs.Common.{◌≡◌, inl, inr, ℕ, zero, suc, ◌<◌, ◌≤◌, List, [], ◌∷◌, ◌++◌}
 use Rattle.std.proofs.Common.{length, Ok, refl, sym, ap, ◌∙◌, subst}
 use Rattle.std.proofs.Common.{arith, codes}
 use Rattle.ec_heading.specs.declared.version.Version.TheVariants.{Two}
@@ -7,7 +7,7 @@ use Rattle.ec_heading.specs.Headed.{Headed}
 use Rattle.ec_heading.specs.HeadingLaws.{outline_lines}
 use Rattle.ec_heading.specs.Outline.{Outline, IsOutline, opened, headed}
 use Rattle.ec_heading.specs.Outlined.{HasOutline}
-use Rattle.ec_heading.specs.Spelling.{limit_line, text_of}
+use Rattle.ec_heading.specs.Spelling.{limit_line}
 use Rattle.ec_heading.specs.Versions.{greatest_limit}
 use Rattle.ec_heading.proofs.shared.Declarable.{Heads, heads_opened, heads_all}
 use Rattle.ec_heading.proofs.shared.LeadLines.{outline_leads}
@@ -16,12 +16,10 @@ use Rattle.ec_heading.proofs.shared.ReadHeadings.{IsSound}
 use Rattle.calls_text.specs.Recordings.{Recorded}
 use Rattle.calls_text.specs.Reading.{Stage, Opening, Limiting, Declaring, Running, Ended, step}
 use Rattle.calls_text.specs.Reading.{draft_of}
-use Rattle.calls_text.specs.Outcomes.{parts_of}
 use Rattle.calls_text.specs.Grammar.{from_lines}
-use Rattle.calls_text.specs.Laws.{Leads, CanBeRead, RulesAreEnough}
+use Rattle.calls_text.specs.kept.Leading.{Leads}
 use Rattle.calls_text.specs.Rules.{GrowsOnce, Grows, KeepsRules}
 use Rattle.calls_text.proofs.FineWords.{literal_lacks}
-use Rattle.calls_text.proofs.Fronts.{goes_lines, goes_ended}
 use Rattle.calls_text.proofs.ObjectWords.{sound_of}
 use Rattle.calls_text.proofs.TakenEvents.{IsTaken, call_taken, return_taken}
 use Rattle.calls_text.proofs.TakenOpening.{AreTaken, taken_on, one_taken, none_taken, lacks_part}
@@ -49,9 +47,9 @@ unfolding step
 end_taken r = refl
 
 -- lines, if only that of the end, lead from a history to one that it grows to
-record Lead (s : Stage) (t : Stage) : Type 0 where
-  lines : List (List ℕ)
-  taken : AreTaken s lines t
+pub record Lead (s : Stage) (t : Stage) : Type 0 where
+  pub lines : List (List ℕ)
+  pub taken : AreTaken s lines t
 
 grown : (k : ℕ) (r t : Recorded) → HasOutline r.heading → Grows k r t → Lead (Running r) (Ended t)
 grown zero r t has same =
@@ -99,8 +97,8 @@ heading_taken o is two =
           (outline_leads o is));
     }))
 
--- all lines of a history
-all_taken : (t : Recorded) → KeepsRules t → Lead Opening (Ended t)
+-- all lines of a history that keeps the rules
+pub all_taken : (t : Recorded) → KeepsRules t → Lead Opening (Ended t)
 all_taken t keeps =
     let o : Outline = keeps.heading.outline in
     let same : headed keeps.heading.outline ≡ t.heading = keeps.heading.declares in
@@ -135,16 +133,3 @@ all_taken t keeps =
           (lacks_part (codes "run") (literal_lacks 10 (codes "run") refl))
           (run_taken (record { heading = t.heading; from = t.from }) some) events.taken));
     }
-
-led_can_be_read : (t : Recorded) → Lead Opening (Ended t) → CanBeRead t
-led_can_be_read t l = record {
-  bytes = text_of l.lines ++ [];
-  first = 1;
-  read = record { recorded = t; number = 1 + length l.lines; rest = parts_of [] };
-  reads = goes_lines 1 Opening (Ended t) l.lines [] l.taken.each l.taken.leads
-      ∙ goes_ended (1 + length l.lines) t (parts_of []);
-  is = refl;
-}
-
-pub rules_are_enough : RulesAreEnough
-rules_are_enough t keeps = led_can_be_read t (all_taken t keeps)

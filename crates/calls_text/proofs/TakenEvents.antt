@@ -382,7 +382,7 @@ numbers_said n ms small =
 
 -- HOW MANY NUMBERS
 
-one_given : (h : Headed) (c : PendingCall) (op : Op) (n : ℕ) → takes_numbers h c op n ≡ true
+pub one_given : (h : Headed) (c : PendingCall) (op : Op) (n : ℕ) → takes_numbers h c op n ≡ true
     → gives_list h c op ≡ false → n ≡ 1
 one_given h c ops.Read n takes list = eqb-true _ _ takes
 one_given h c (ops.Await v) n takes list = eqb-true _ _ takes

@@ -39,7 +39,7 @@ use Rattle.calls_text.specs.Reading.{from_step, opens_from, is_from}
 use Rattle.calls_text.specs.Reading.{recorded_of}
 use Rattle.calls_text.specs.Spelling.{event_word}
 use Rattle.calls_text.specs.Grammar.{from_line, from_lines}
-use Rattle.calls_text.specs.Laws.{Leads}
+use Rattle.calls_text.specs.kept.Leading.{Leads}
 use Rattle.calls_text.specs.Rules.{IsStart, AreStarts}
 use Rattle.calls_text.proofs.TextParts.{IsPart}
 use Rattle.calls_text.proofs.FineWords.{Lacks, lacks_join, decimal_lacks, literal_lacks}

@@ -11,7 +11,7 @@ use Rattle.calls_text.specs.Recordings.{Recorded}
 use Rattle.calls_text.specs.Reading.{Stage, Opening, Limiting, Declaring, Running, Ended, step}
 use Rattle.calls_text.specs.Reading.{is_ended}
 use Rattle.calls_text.specs.Outcomes.{OneRead, Parsed, parts_of, goes, taken, ended, fault_in}
-use Rattle.calls_text.specs.Laws.{Leads}
+use Rattle.calls_text.specs.kept.Leading.{Leads}
 
 -- JOINING AND SPLITTING
 

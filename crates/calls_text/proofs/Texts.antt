@@ -6,15 +6,16 @@ use Rattle.calls_text.specs.Outcomes.{OneRead}
 use Rattle.calls_text.specs.Grammar.{history_lines, history_text}
 use Rattle.calls_text.specs.Laws.{IsSpelled, ReadIsSpelled}
 use Rattle.calls_text.proofs.TextParts.{IsRead, is_read}
-use Rattle.calls_text.proofs.Histories.{lines_back}
+use Rattle.calls_text.proofs.Histories.{IsHistory, history_back}
 
 spelled : (bytes : List ℕ) (n : ℕ) (read : OneRead) → IsRead bytes n Opening read
     → IsSpelled bytes n read
 unfolding history_text
 spelled bytes n read r =
-    let same : r.lines ≡ history_lines read.recorded =
-    lines_back r.lines read.recorded r.leads in
+    let h : IsHistory r.lines read.recorded = history_back r.lines read.recorded r.leads in
+    let same : r.lines ≡ history_lines read.recorded = h.spelled in
     record {
+      keeps = h.keeps;
       rest = r.rest;
       text = r.text ∙ ap (λ (ls : List (List ℕ)). text_of ls ++ r.rest) same;
       left = r.left;

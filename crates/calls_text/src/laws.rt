@@ -1,17 +1,17 @@
 //! Theorems on the format. Each is the contract of a function that does nothing.
-ghost use Rattle.calls_text.specs.Laws.{ReadIsSpelled, TextIsReadAgain, NoTextBeginsAnother};
-ghost use Rattle.calls_text.specs.Laws.{PrefixIsRefused, RulesAreEnough};
+ghost use Rattle.calls_text.specs.Laws.{ReadIsSpelled, SpelledIsRead, NoTextBeginsAnother};
+ghost use Rattle.calls_text.specs.Laws.{PrefixIsRefused};
 
-/// States that a text that is read as a history is the text of that history and what is left.
+/// States that what is read keeps the rules, and is read from its text.
 #[tactic(auto, using(crate::proofs::Texts::read_is_spelled))]
 pub fn read_is_spelled()
     ensures { ReadIsSpelled }
 {}
 
-/// States that a history is read again from its text, whatever follows.
-#[tactic(auto, using(crate::proofs::Fronts::text_is_read_again))]
-pub fn text_is_read_again()
-    ensures { TextIsReadAgain }
+/// States that each history that keeps the rules is read from its text, whatever follows.
+#[tactic(auto, using(crate::proofs::Fronts::spelled_is_read))]
+pub fn spelled_is_read()
+    ensures { SpelledIsRead }
 {}
 
 /// States that no text of a history begins another, and that different histories have different
@@ -23,10 +23,4 @@ pub fn no_text_begins_another()
 /// States that a proper prefix of the text of a history is refused at its end.
 pub fn prefix_is_refused()
     ensures { PrefixIsRefused }
-{}
-
-/// States that each history that keeps the rules can be read.
-#[tactic(auto, using(crate::proofs::Rules::rules_are_enough))]
-pub fn rules_are_enough()
-    ensures { RulesAreEnough }
 {}
