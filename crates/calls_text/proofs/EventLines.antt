@@ -1,5 +1,6 @@
 -- A line that is read as an event is the one that spells it.
-use Rattle.std.proofs.Common.{◌≡◌, inl, inr, ℕ, List, [], ◌∷◌, ◌++◌, length, Bool, true, false, cond, Option, Some}
+use Rattle.std.proofs.Common.{◌≡◌, inl, inr, ℕ, List, [], ◌∷◌, ◌++◌, length, Bool, true, false}
+use Rattle.std.proofs.Common.{cond, Option, Some}
 use Rattle.std.proofs.Common.{Ok, refl, sym, ap, ap₂, ◌∙◌, subst, codes}
 use Rattle.std.proofs.Common.{append-nil, bytes_eq}
 use Rattle.std.specs.List.{list_any, join_with_byte}
@@ -35,7 +36,7 @@ use Rattle.calls_text.proofs.ReplyLines.{reply_is}
 use Rattle.calls_text.proofs.EventParts.{IsCall, IsReturn, good_tail, suited, event_parts}
 use Rattle.calls_text.proofs.KeepingRules.{called_numbers, call_same, may_call, returned_numbers}
 use Rattle.calls_text.proofs.KeepingRules.{reply_same, may_return}
-use Rattle.calls_text.specs.Rules.{GrowsOnce}
+use Rattle.calls_text.specs.Rules.{GrowsByOne}
 
 -- MORE LISTS
 
@@ -85,8 +86,9 @@ pub record Adds (r : Recorded) (line : List ℕ) (s : Recorded) : Type 0 where
   pub from : s.from ≡ r.from
   pub events : s.events ≡ r.events ++ event ∷ []
   pub lists : Extends r.lists s.lists
-  pub grows : GrowsOnce r s
-  pub spelled : (more : List (List ℕ)) → line ≡ event_line r.heading (s.lists ++ more) r.events event
+  pub grows : GrowsByOne r s
+  pub spelled : (more : List (List ℕ))
+      → line ≡ event_line r.heading (s.lists ++ more) r.events event
 
 -- INVOCATIONS
 
@@ -114,7 +116,8 @@ call_adds r s line has c =
       event = record {
         at = length r.events;
         worker = c.worker;
-        action = Invoke (index_of r.heading c.of) (op_of c.verb c.of (number_in r.lists c.verb c.tail));
+        action = Invoke (index_of r.heading c.of)
+            (op_of c.verb c.of (number_in r.lists c.verb c.tail));
       };
       heading = refl;
       from = refl;

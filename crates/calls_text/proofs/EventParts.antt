@@ -1,5 +1,6 @@
 -- What a line that is taken as an event says: a call or a return, by which worker.
-use Rattle.std.proofs.Common.{◌≡◌, ◌⊎◌, inl, inr, ℕ, List, [], ◌∷◌, Bool, true, false, cond, Option, Some}
+use Rattle.std.proofs.Common.{◌≡◌, ◌⊎◌, inl, inr, ℕ, List, [], ◌∷◌, Bool, true, false, cond, Option}
+use Rattle.std.proofs.Common.{Some}
 use Rattle.std.proofs.Common.{None, Ok, Err, refl, codes, not}
 use Rattle.std.specs.Prelude.{is_some}
 use Rattle.ec_text.specs.Words.{words_of}

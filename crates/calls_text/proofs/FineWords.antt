@@ -1,5 +1,6 @@
 -- Words that make a line.
-use Rattle.std.proofs.Common.{◌≡◌, ℕ, ◌*◌, ◌<◌, ◌≤◌, List, [], ◌∷◌, ◌++◌, length, map, Bool, true, false}
+use Rattle.std.proofs.Common.{◌≡◌, ℕ, ◌*◌, ◌<◌, ◌≤◌, List, [], ◌∷◌, ◌++◌, length, map, Bool, true}
+use Rattle.std.proofs.Common.{false}
 use Rattle.std.proofs.Common.{eqb, leb, nat_lt, not, ◌||◌, refl, ap, ap₂, ◌∙◌, arith}
 use Rattle.std.proofs.Common.{decimal, length-append, le-ltb, ne_eqb}
 use Rattle.std.specs.Int.{IsInRange}
@@ -39,7 +40,8 @@ pub decimal_lacks : (c n : ℕ) → n < 1000000000000000000 → ¬ (IsInRange 48
 decimal_lacks c n small out =
     recursion_from_All (λ b. eqb b c ≡ false) (decimal n)
     (All-from_get_or (λ b. eqb b c ≡ false) (decimal n) 0
-    (λ i h. ne_eqb _ _ (not_in_digits own (decimal n) c (digits_decimal own n (omega arith)) out i h)))
+    (λ i h. ne_eqb _ _
+    (not_in_digits own (decimal n) c (digits_decimal own n (omega arith)) out i h)))
 
 pub literal_lacks : (c : ℕ) (w : List ℕ) → list_all (λ b. not (eqb b c)) w ≡ true → Lacks c w
 literal_lacks c [] all = tt

@@ -1,7 +1,9 @@
 -- Each semaphore and each database of a heading has a name, and no word is empty.
-use Rattle.std.proofs.Common.{◌≡◌, ◌⊎◌, inl, inr, ℕ, zero, suc, ◌+◌, ◌<◌, ◌≤◌, List, [], ◌∷◌, ◌++◌, length}
+use Rattle.std.proofs.Common.{◌≡◌, ◌⊎◌, inl, inr, ℕ, zero, suc, ◌+◌, ◌<◌, ◌≤◌, List, [], ◌∷◌, ◌++◌}
+use Rattle.std.proofs.Common.{length}
 use Rattle.std.proofs.Common.{Bool, true, false, cond, eqb, if◌then◌else◌, Option, Some, None, refl}
-use Rattle.std.proofs.Common.{sym, ap, ◌∙◌, subst, arith, bytes_eq, codes, ne_eqb, slice_get, nat_le}
+use Rattle.std.proofs.Common.{sym, ap, ◌∙◌, subst, arith, bytes_eq, codes, ne_eqb, slice_get}
+use Rattle.std.proofs.Common.{nat_le}
 use Rattle.std.proofs.Common.{length-append, true≢false}
 use Rattle.std.specs.Prelude.{is_some}
 use Rattle.std.specs.Option.{option_map_or}
@@ -20,7 +22,8 @@ use Rattle.ec_heading.specs.declared.group.Group.TheVariants as groups
 use Rattle.ec_heading.specs.declared.sort.Sort.{Sort}
 use Rattle.ec_heading.specs.declared.sort.Sort.TheVariants as sorts
 use Rattle.ec_heading.specs.Sorts.{has_name, is_in_range}
-use Rattle.ec_heading.specs.Objects.{Next, target_of, group_of, objects_of, spelling, spelled_objects}
+use Rattle.ec_heading.specs.Objects.{Next, target_of, group_of, objects_of, spelling}
+use Rattle.ec_heading.specs.Objects.{spelled_objects}
 use Rattle.ec_count.specs.Tables.{Tables}
 use Rattle.ec_heading.specs.Headed.{Headed}
 use Rattle.ec_heading.specs.Outline.{Declaration, Outline, IsOutline, AreDeclarable, IsDeclarable}
@@ -146,7 +149,8 @@ name_added h d i s may has at =
       found =
           ap (λ (b : Bool). find_name d.name
           (h.names ++ (if b then (d.name, target_of d.sort (next_of h) d.number) ∷ [] else []))) has
-          ∙ find-append_none d.name h.names ((d.name, target_of d.sort (next_of h) d.number) ∷ []) none
+          ∙ find-append_none d.name h.names
+          ((d.name, target_of d.sort (next_of h) d.number) ∷ []) none
           ∙ ap (λ (b : Bool). cond b (Some (target_of d.sort (next_of h) d.number)) None)
           (bytes_same d.name)
           ∙ ap Some at;
@@ -160,7 +164,8 @@ group_cases h d i g is =
     let added : List Group = cons_option (group_of d.sort h.setup d.number) [] in
     elim (cases_lt i (length h.groups)) [
       | inl before ↦
-          inl (sym (get_before h.groups (cons_option (group_of d.sort h.setup d.number) []) i before)
+          inl (sym (get_before h.groups (cons_option (group_of d.sort h.setup d.number) []) i
+          before)
           ∙ is)
       | inr after ↦
           (let within : i < length (h.groups ++ cons_option (group_of d.sort h.setup d.number) []) =
@@ -209,7 +214,8 @@ words_more : (h : Headed) (d : Declaration) → IsDeclarable h d → AllByRecurs
 words_more h d may words =
     each_append HasBytes h.words (spelled_objects d.name (objects_of d.sort (next_of h) d.number))
     words (each_spelled HasBytes d.name (objects_of d.sort (next_of h) d.number)
-    (each_bytes d.name (objects_of d.sort (next_of h) d.number) (called d.sort d.name may.word).some))
+    (each_bytes d.name (objects_of d.sort (next_of h) d.number)
+    (called d.sort d.name may.word).some))
 
 -- ALL DECLARATIONS
 
@@ -260,7 +266,8 @@ opened_well o is = record {
     nothing i g none = cc
 
 workers_alone : (o : Outline) → IsOutline o → IsOutline (record o { declarations = [] })
-workers_alone o is = record { low = is.low; high = is.high; workers = is.workers; declarations = tt }
+workers_alone o is =
+    record { low = is.low; high = is.high; workers = is.workers; declarations = tt }
 
 well_named : (h : Headed) → HasOutline h → IsNamedWell h
 well_named h has =

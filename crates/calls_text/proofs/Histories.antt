@@ -1,6 +1,8 @@
 -- The lines of a history are those that spell it.
-use Rattle.std.proofs.Common.{◌≡◌, ℕ, ◌<◌, ◌≤◌, List, [], ◌∷◌, ◌++◌, true, false, cond, Result, Ok, Err}
-use Rattle.std.proofs.Common.{length, refl, sym, ap, ap₂, ◌∙◌, subst, codes, append_assoc, append-nil, bytes_eq}
+use Rattle.std.proofs.Common.{◌≡◌, ℕ, ◌<◌, ◌≤◌, List, [], ◌∷◌, ◌++◌, true, false, cond, Result, Ok}
+use Rattle.std.proofs.Common.{Err}
+use Rattle.std.proofs.Common.{length, refl, sym, ap, ap₂, ◌∙◌, subst, codes, append_assoc}
+use Rattle.std.proofs.Common.{append-nil, bytes_eq}
 use Rattle.std.proofs.lemmas.Slice.Eq.{bytes_eq-Decides}
 use Rattle.ec_heading.specs.declared.version.Version.TheVariants.{Two}
 use Rattle.ec_heading.specs.Versions.{greatest_limit}
@@ -13,12 +15,13 @@ use Rattle.calls_core.specs.declared.history.Event.{Event}
 use Rattle.calls_text.specs.declared.fault.Kind.{Kind}
 use Rattle.calls_text.specs.declared.fault.Kind.TheVariants as kinds
 use Rattle.calls_text.specs.Recordings.{Recorded}
-use Rattle.calls_text.specs.Reading.{Draft, Stage, Opening, Limiting, Declaring, Running, Ended, step}
+use Rattle.calls_text.specs.Reading.{Draft, Stage, Opening, Limiting, Declaring, Running, Ended}
+use Rattle.calls_text.specs.Reading.{step}
 use Rattle.calls_text.specs.Reading.{draft_of, limit_step, ran_on, event_step, recorded_of}
 use Rattle.calls_text.specs.Grammar.{from_lines, event_line, event_lines}
 use Rattle.calls_text.specs.Grammar.{history_lines}
 use Rattle.calls_text.specs.kept.Leading.{Leads}
-use Rattle.calls_text.specs.Rules.{AreStarts, Grows, KeepsRules}
+use Rattle.calls_text.specs.Rules.{AreStarts, GrowsBy, KeepsRules}
 use Rattle.calls_text.proofs.EventLines.{Extends, Adds, line_adds}
 use Rattle.calls_text.proofs.OpeningLines.{SaysLimit, limit_said, HeadsRun, heads_back}
 use Rattle.calls_text.proofs.OpeningLines.{StartsSpelled, starts_spelled, starts_heading}
@@ -33,7 +36,7 @@ pub record EventsRun (r : Recorded) (lines : List (List ℕ)) (t : Recorded) : T
   pub from : t.from ≡ r.from
   pub are : t.events ≡ r.events ++ events
   pub lists : Extends r.lists t.lists
-  pub grows : Grows (length events) r t
+  pub grows : GrowsBy (length events) r t
   pub spelled : lines ≡ event_lines r.heading t.lists r.events events ++ codes "end" ∷ []
 
 event_run : (r s t : Recorded) (line : List ℕ) (lines : List (List ℕ)) → Adds r line s
@@ -72,7 +75,8 @@ nothing_after : (r t : Recorded) (lines : List (List ℕ)) → Leads (Ended r) l
     → (lines ≡ []) × (r ≡ t)
 unfolding step
 nothing_after r t [] leads = (refl, cc)
-nothing_after r t (line ∷ lines) leads = (let never : Err kinds.BadLine ≡ Ok leads.0 = leads.1 in cc)
+nothing_after r t (line ∷ lines) leads =
+    let never : Err kinds.BadLine ≡ Ok leads.0 = leads.1 in cc
 
 end_run : (r t : Recorded) (line : List ℕ) (lines : List (List ℕ)) → line ≡ codes "end"
     → Leads (Ended r) lines (Ended t) → EventsRun r (line ∷ lines) t
@@ -151,14 +155,14 @@ record HasBody (limit : ℕ) (lines : List (List ℕ)) (t : Recorded) : Type 0 w
 
 grown_from : (t : Recorded) (h : Headed) (from : List (ℕ × ℕ)) (k n : ℕ) → k ≡ n
     → h ≡ t.heading → from ≡ t.from
-    → Grows k (record { heading = h; from = from; events = []; lists = [] }) t
-    → Grows n (record { heading = t.heading; from = t.from; events = []; lists = [] }) t
+    → GrowsBy k (record { heading = h; from = from; events = []; lists = [] }) t
+    → GrowsBy n (record { heading = t.heading; from = t.from; events = []; lists = [] }) t
 grown_from t h from k n count heading counts grows =
     subst (λ (c : List (ℕ × ℕ)).
-    Grows n (record { heading = t.heading; from = c; events = []; lists = [] }) t) counts
-    (subst (λ (g : Headed). Grows n (record { heading = g; from = from; events = []; lists = [] }) t)
-    heading (subst (λ (i : ℕ).
-    Grows i (record { heading = h; from = from; events = []; lists = [] }) t) count grows))
+    GrowsBy n (record { heading = t.heading; from = c; events = []; lists = [] }) t) counts
+    (subst (λ (g : Headed).
+    GrowsBy n (record { heading = g; from = from; events = []; lists = [] }) t) heading (subst (λ (i : ℕ).
+    GrowsBy i (record { heading = h; from = from; events = []; lists = [] }) t) count grows))
 
 body_back : (limit : ℕ) (lines : List (List ℕ)) (t : Recorded) → 1 ≤ limit
     → limit ≤ greatest_limit Two → HeadsRun (opened Two limit []) lines t → HasBody limit lines t

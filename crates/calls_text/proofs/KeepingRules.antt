@@ -33,12 +33,13 @@ use Rattle.calls_text.specs.Objects.{object_in, as_semaphore, as_database, pair_
 use Rattle.calls_text.specs.Objects.{semaphore_in, database_in, is_owned, has_right}
 use Rattle.calls_text.specs.Lists.{list_number, lists_after}
 use Rattle.calls_text.specs.Recordings.{Recorded}
-use Rattle.calls_text.specs.Reading.{is_no_number, number_or_0, only_number, numbers_in, is_bad_tail}
+use Rattle.calls_text.specs.Reading.{is_no_number, number_or_0, only_number, numbers_in}
+use Rattle.calls_text.specs.Reading.{is_bad_tail}
 use Rattle.calls_text.specs.Reading.{pending_in, has_two_roles, is_spent, with_call}
 use Rattle.calls_text.specs.Reading.{other_word, is_bad_answer, is_suited, is_over, takes_numbers}
 use Rattle.calls_text.specs.Reading.{gives_list, with_event, with_reply}
-use Rattle.calls_text.specs.Rules.{AreSmall, only, IsDeclaredIn, Takes, MayCall, after_call}
-use Rattle.calls_text.specs.Rules.{Suits, KeepsLimit, MayReturn, after_return}
+use Rattle.calls_text.specs.Rules.{AreSmall, only, IsDeclaredIn, TakesNumbers, MayCall, after_call}
+use Rattle.calls_text.specs.Rules.{SuitsCall, KeepsLimit, MayReturn, after_return}
 use Rattle.calls_text.proofs.CellWords.{and_then_back}
 use Rattle.calls_text.proofs.ObjectWords.{worker_below, event_below, sequencer_below, cell_below}
 use Rattle.calls_text.proofs.ObjectWords.{map_back, semaphore_named, database_named}
@@ -101,7 +102,7 @@ call_small _ ws o good = tt
 
 -- the object is declared, of the sort that the call asks for, and takes these numbers
 abbrev IsKept : Headed → Verb → List (List ℕ) → Object → Type 0
-IsKept h v ws o = IsDeclaredIn h o × Takes v o (called_numbers v ws)
+IsKept h v ws o = IsDeclaredIn h o × TakesNumbers v o (called_numbers v ws)
 
 pair_kept : (h : Headed) (o : List ℕ) (ws : List (List ℕ)) (obj : Object) (a : Option Semaphore)
     (b d : Option (ℕ × Semaphore)) → HasOutline h → both_of h.groups ≡ a → semaphore_in h o ≡ b
@@ -236,7 +237,7 @@ reply_same r w c answers.Numbers ws suits =
     (one_given r.heading c c.op (length ws) suits)
 
 suits_kept : (h : Headed) (c : PendingCall) (a : Answer) (ws : List (List ℕ)) → SaysAnswer a ws
-    → is_suited h c a ws ≡ true → Suits h c a (returned_numbers a ws)
+    → is_suited h c a ws ≡ true → SuitsCall h c a (returned_numbers a ws)
 suits_kept h c answers.Done ws says suits = (suits, refl)
 suits_kept h c answers.Timeout ws says suits = (suits, refl)
 suits_kept h c answers.Numbers ws says suits = (

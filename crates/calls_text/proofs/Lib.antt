@@ -15,7 +15,7 @@ mod EventLines
 mod OpeningLines
 mod TextParts
 mod Histories
-mod Fronts
+mod Prefixes
 mod FineWords
 mod GroupNames
 mod Rules
@@ -24,3 +24,4 @@ mod TakenEvents
 mod TakenOpening
 mod EventParts
 mod KeepingRules
+pub mod Example

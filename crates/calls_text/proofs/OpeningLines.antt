@@ -1,6 +1,7 @@
 -- The lines before `run` are those that spell what they declare.
 use Rattle.std.proofs.Common.{◌≡◌, ◌⊎◌, inl, inr, ℕ, ◌<◌, ◌≤◌, List, [], ◌∷◌, ◌++◌, length}
-use Rattle.std.proofs.Common.{Bool, true, false, cond, nat_lt, nat_le, not, ◌&&◌, ◌||◌, Option, Some}
+use Rattle.std.proofs.Common.{Bool, true, false, cond, nat_lt, nat_le, not, ◌&&◌, ◌||◌, Option}
+use Rattle.std.proofs.Common.{Some}
 use Rattle.std.proofs.Common.{None, Result, Ok, Err, refl, sym, ap, ap₂, ◌∙◌, subst, arith, codes}
 use Rattle.std.proofs.Common.{decimal, append-nil, append_assoc, bytes_eq, length-append}
 use Rattle.std.specs.List.{join_with_byte}
@@ -27,7 +28,8 @@ use Rattle.calls_text.specs.declared.fault.Kind.{Kind}
 use Rattle.calls_text.specs.declared.fault.Kind.TheVariants as kinds
 use Rattle.calls_text.specs.Recordings.{Recorded}
 use Rattle.calls_text.specs.Reading.{Draft, Stage, Declaring, Running, Ended, step, is_run}
-use Rattle.calls_text.specs.Reading.{draft_of, limit_digits, limited, limit_or, limit_step, from_words}
+use Rattle.calls_text.specs.Reading.{draft_of, limit_digits, limited, limit_or, limit_step}
+use Rattle.calls_text.specs.Reading.{from_words}
 use Rattle.calls_text.specs.Reading.{start_in, from_fault, with_start, started_at, started, from_or}
 use Rattle.calls_text.specs.Reading.{from_step, opens_from, is_from, headed_on, draft_step}
 use Rattle.calls_text.specs.Reading.{recorded_of, drafted_on}
@@ -292,13 +294,18 @@ draft_starts d e line some is =
     let long : nat_lt 0 (length d.from) ≡ true = lt-ltb _ _ some in
     let first : is_from d line ≡ true =
     ap (λ (b : Bool). b || (opens_from (words_of line) && nat_lt 0 d.heading.setup.workers)) long in
-    sym (ap (λ (b : Bool). cond b (from_step d line) (headed_on d (head_step d.heading line))) first)
+    sym (ap (λ (b : Bool).
+    cond b (from_step d line) (headed_on d (head_step d.heading line))) first)
     ∙ is
 
 more_starts : (d e : Draft) (line : List ℕ) → from_step d line ≡ Ok e → 0 < length e.from
 more_starts d e line is =
     let s : SaysStart d line e = start_said d e line is in
-    omega (arith, ap (λ (x : Draft). length x.from) s.adds, length-append d.from ((s.event, s.count) ∷ []))
+    omega (
+      arith,
+      ap (λ (x : Draft). length x.from) s.adds,
+      length-append d.from ((s.event, s.count) ∷ []),
+    )
 
 run_here : (d : Draft) (line : List ℕ) (lines : List (List ℕ)) (t : Recorded)
     → line ≡ codes "run" → 0 < d.heading.setup.workers

@@ -18,7 +18,7 @@ use Rattle.calls_text.specs.Reading.{Stage, Opening, Limiting, Declaring, Runnin
 use Rattle.calls_text.specs.Reading.{draft_of}
 use Rattle.calls_text.specs.Grammar.{from_lines}
 use Rattle.calls_text.specs.kept.Leading.{Leads}
-use Rattle.calls_text.specs.Rules.{GrowsOnce, Grows, KeepsRules}
+use Rattle.calls_text.specs.Rules.{GrowsByOne, GrowsBy, KeepsRules}
 use Rattle.calls_text.proofs.FineWords.{literal_lacks}
 use Rattle.calls_text.proofs.ObjectWords.{sound_of}
 use Rattle.calls_text.proofs.TakenEvents.{IsTaken, call_taken, return_taken}
@@ -28,13 +28,13 @@ use Rattle.calls_text.proofs.TakenOpening.{heading_leads, outline_parts, starts_
 
 -- EVENTS
 
-once_taken : (r s : Recorded) → HasOutline r.heading → GrowsOnce r s → IsTaken r s
+once_taken : (r s : Recorded) → HasOutline r.heading → GrowsByOne r s → IsTaken r s
 once_taken r s has (inl (w, v, o, ns, may, same)) =
     subst (IsTaken r) (sym same) (call_taken r w v o ns has may)
 once_taken r s has (inr (w, c, a, ns, may, same)) =
     subst (IsTaken r) (sym same) (return_taken r w c a ns has may)
 
-same_heading : (r s : Recorded) → GrowsOnce r s → s.heading ≡ r.heading
+same_heading : (r s : Recorded) → GrowsByOne r s → s.heading ≡ r.heading
 same_heading r s (inl (w, v, o, ns, may, same)) = ap (λ (x : Recorded). x.heading) same
 same_heading r s (inr (w, c, a, ns, may, same)) = ap (λ (x : Recorded). x.heading) same
 
@@ -51,7 +51,7 @@ pub record Lead (s : Stage) (t : Stage) : Type 0 where
   pub lines : List (List ℕ)
   pub taken : AreTaken s lines t
 
-grown : (k : ℕ) (r t : Recorded) → HasOutline r.heading → Grows k r t → Lead (Running r) (Ended t)
+grown : (k : ℕ) (r t : Recorded) → HasOutline r.heading → GrowsBy k r t → Lead (Running r) (Ended t)
 grown zero r t has same =
     subst (λ (x : Recorded). Lead (Running r) (Ended x)) same (record {
       lines = codes "end" ∷ [];

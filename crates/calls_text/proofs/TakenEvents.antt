@@ -7,7 +7,8 @@ use Rattle.std.specs.Char.{is_ascii_digit}
 use Rattle.std.specs.Prelude.{is_none, unwrap_or, option_map}
 use Rattle.std.specs.Option.{option_map_or}
 use Rattle.std.specs.List.{AllByRecursion, join_with_byte, list_all, list_any}
-use Rattle.std.proofs.lemmas.Bool.{and_from, lt-leb, lt-ltb, leb-false, eqb-true, false_from_ne_true}
+use Rattle.std.proofs.lemmas.Bool.{and_from, lt-leb, lt-ltb, leb-false, eqb-true}
+use Rattle.std.proofs.lemmas.Bool.{false_from_ne_true}
 use Rattle.std.proofs.lemmas.Slice.Eq.{bytes_eq-Decides}
 use Rattle.ec_text.specs.Words.{words_of, is_number_form}
 use Rattle.ec_text.proofs.shared.NumberLemmas.{number_again, number_is_form, number_is_other}
@@ -38,12 +39,14 @@ use Rattle.calls_text.specs.Reading.{index_of, with_event, with_call}
 use Rattle.calls_text.specs.Reading.{other_word, phrased, event_step, is_bad_answer}
 use Rattle.calls_text.specs.Reading.{is_over, suit_fault, takes_numbers, gives_list}
 use Rattle.calls_text.specs.Reading.{with_reply}
-use Rattle.calls_text.specs.Spelling.{worker_word, event_word, sequencer_word, cell_name, group_word}
-use Rattle.calls_text.specs.Rules.{AreSmall, only, IsDeclaredIn, Takes, MayCall}
+use Rattle.calls_text.specs.Spelling.{worker_word, event_word, sequencer_word, cell_name}
+use Rattle.calls_text.specs.Spelling.{group_word}
+use Rattle.calls_text.specs.Rules.{AreSmall, only, IsDeclaredIn, TakesNumbers, MayCall}
 use Rattle.calls_text.specs.Rules.{after_call, KeepsLimit, MayReturn}
 use Rattle.calls_text.specs.Rules.{after_return}
 use Rattle.calls_text.proofs.TextParts.{IsPart}
-use Rattle.calls_text.proofs.FineWords.{IsFine, literal_fine, number_fine, numbers_fine, numbers_short}
+use Rattle.calls_text.proofs.FineWords.{IsFine, literal_fine, number_fine, numbers_fine}
+use Rattle.calls_text.proofs.FineWords.{numbers_short}
 use Rattle.calls_text.proofs.FineWords.{IsLineOf, fine_line}
 use Rattle.calls_text.proofs.GroupNames.{database_fits, few_cells}
 use Rattle.calls_text.proofs.Finding.{worker_found, event_found, sequencer_found, cell_found}
@@ -139,7 +142,7 @@ one_number r v o (n ∷ []) w fine one small named formed good gives = record {
 }
 
 names : (r : Recorded) (v : Verb) (o : Object) (ns : List ℕ) → HasOutline r.heading
-    → IsDeclaredIn r.heading o → Takes v o ns → AreSmall ns → Names r v o ns
+    → IsDeclaredIn r.heading o → TakesNumbers v o ns → AreSmall ns → Names r v o ns
 names r verbs.Advance (objects.Event e) ns has there takes small =
     let f = event_found r.heading e has there in
     alone r verbs.Advance (objects.Event e) ns (event_word r.heading e) f.1
@@ -309,7 +312,8 @@ call_taken r w v o ns has may =
     (join_with_byte 32 (worker_word r.heading w ∷ codes "calls" ∷ verb_word v ∷ n.object ∷ n.tail))
     (worker_word r.heading w) (codes "calls") (verb_word v ∷ n.object ∷ n.tail)
     (Calls (worker_word r.heading w) v n.object n.tail)
-    (fine_line (worker_word r.heading w) (codes "calls" ∷ verb_word v ∷ n.object ∷ n.tail) fine long)
+    (fine_line (worker_word r.heading w) (codes "calls" ∷ verb_word v ∷ n.object ∷ n.tail) fine
+    long)
     (call_read (worker_word r.heading w) n.object v n.tail n.formed) takes
 
 -- RETURNS

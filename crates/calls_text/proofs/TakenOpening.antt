@@ -1,10 +1,13 @@
 -- The lines before `run` of a history that keeps the rules are taken.
-use Rattle.std.proofs.Common.{◌≡◌, ℕ, zero, suc, ◌<◌, ◌≤◌, List, [], ◌∷◌, ◌++◌, length, map, Bool, true}
+use Rattle.std.proofs.Common.{◌≡◌, ℕ, zero, suc, ◌<◌, ◌≤◌, List, [], ◌∷◌, ◌++◌, length, map, Bool}
+use Rattle.std.proofs.Common.{true}
 use Rattle.std.proofs.Common.{false, cond, eqb, nat_lt, nat_le, ◌&&◌, Option, Some, None}
-use Rattle.std.proofs.Common.{Ok, Err, if◌then◌else◌, refl, sym, ap, ◌∙◌, subst, arith, codes, decimal}
+use Rattle.std.proofs.Common.{Ok, Err, if◌then◌else◌, refl, sym, ap, ◌∙◌, subst, arith, codes}
+use Rattle.std.proofs.Common.{decimal}
 use Rattle.std.proofs.Common.{bytes_eq, get_or, ne_eqb, append_assoc, append-nil, length-append}
 use Rattle.std.specs.List.{AllByRecursion, join_with_byte}
-use Rattle.std.proofs.lemmas.Bool.{true≢false, and_parts, and_from, or_parts, or_right, lt-ltb, le-leb}
+use Rattle.std.proofs.lemmas.Bool.{true≢false, and_parts, and_from, or_parts, or_right, lt-ltb}
+use Rattle.std.proofs.lemmas.Bool.{le-leb}
 use Rattle.std.proofs.lemmas.Bool.{false_from_ne_true, ltb-true, and_left}
 use Rattle.std.proofs.lemmas.List.Elements.{All-from_recursion, recursion_from_All}
 use Rattle.std.proofs.lemmas.Slice.Eq.{bytes_eq-Decides}
@@ -20,16 +23,20 @@ use Rattle.ec_heading.specs.Headed.{Headed}
 use Rattle.ec_heading.specs.Heading.{head_step, is_no_line, words_step, opened_by, declared_or}
 use Rattle.ec_heading.specs.Heading.{workers_in}
 use Rattle.ec_heading.specs.HeadingLaws.{LinesLead, outline_lines}
-use Rattle.ec_heading.specs.Outline.{Declaration, Outline, IsOutline, IsDeclarable, AreDeclarable, opened}
+use Rattle.ec_heading.specs.Outline.{Declaration, Outline, IsOutline, IsDeclarable, AreDeclarable}
+use Rattle.ec_heading.specs.Outline.{opened}
 use Rattle.ec_heading.specs.Outline.{declared_by}
 use Rattle.ec_heading.specs.Outlined.{HasOutline}
-use Rattle.ec_heading.specs.Sorts.{sort_word, has_name, has_number, opener, second_opener, is_called}
+use Rattle.ec_heading.specs.Sorts.{sort_word, has_name, has_number, opener, second_opener}
+use Rattle.ec_heading.specs.Sorts.{is_called}
 use Rattle.ec_heading.specs.Spelled.{event_in}
 use Rattle.ec_heading.specs.Spelling.{limit_line, declaration_line, declaration_words, list_words}
 use Rattle.ec_heading.specs.Spelling.{name_words, number_words, second_words}
 use Rattle.ec_heading.proofs.shared.Each.{each_append, each_weaker}
-use Rattle.ec_heading.proofs.shared.SortFacts.{is_literal, literal, literal_lacks as letters_lack, is_stop}
-use Rattle.ec_heading.proofs.shared.SortFacts.{other_stop, sort_literal, opener_literal, number_small}
+use Rattle.ec_heading.proofs.shared.SortFacts.{is_literal, literal, literal_lacks as letters_lack}
+use Rattle.ec_heading.proofs.shared.SortFacts.{is_stop}
+use Rattle.ec_heading.proofs.shared.SortFacts.{other_stop, sort_literal, opener_literal}
+use Rattle.ec_heading.proofs.shared.SortFacts.{number_small}
 use Rattle.ec_heading.proofs.shared.SortFacts.{name_called, called}
 use Rattle.ec_heading.proofs.shared.VersionFacts.{limit_from}
 use Rattle.calls_text.specs.Reading.{Draft, Stage, Opening, Limiting, Declaring, Running, step}
@@ -355,4 +362,5 @@ starts_taken h from (p ∷ ps) has low some are =
 pub run_taken : (d : Draft) → 0 < d.heading.setup.workers
     → step (Declaring d) (codes "run") ≡ Ok (Running (recorded_of d))
 unfolding step
-run_taken d some = let few : nat_lt 0 d.heading.setup.workers ≡ true = lt-ltb _ _ some in rw few refl
+run_taken d some =
+    let few : nat_lt 0 d.heading.setup.workers ≡ true = lt-ltb _ _ some in rw few refl

@@ -1,5 +1,5 @@
--- Laws of the format: exactly the histories that keep the rules are read, each from its own text, and
--- no text begins another.
+-- Laws of the format: exactly the histories that keep the rules are read, each from its own text,
+-- and no text begins another.
 use Rattle.std.specs.Prelude.{◌≡◌, ◌≢◌, ℕ, ◌+◌, ◌==◌, List, [], ◌++◌, length, count_by}
 use Rattle.std.specs.Prelude.{Ok}
 use Rattle.calls_text.specs.declared.fault.Kind.{Kind}
@@ -54,5 +54,5 @@ pub record IsRefusedAtItsEnd (n : ℕ) (bytes : List ℕ) : Type 0 where
 
 -- so is each proper prefix of the text of a history
 abbrev pub PrefixIsRefused : Type 0
-PrefixIsRefused = (r : Recorded) (n : ℕ) (front more : List ℕ) → KeepsRules r
-    → history_text r ≡ front ++ more → more ≢ [] → IsRefusedAtItsEnd n front
+PrefixIsRefused = (r : Recorded) (n : ℕ) (prefix more : List ℕ) → KeepsRules r
+    → history_text r ≡ prefix ++ more → more ≢ [] → IsRefusedAtItsEnd n prefix

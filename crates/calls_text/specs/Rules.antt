@@ -23,7 +23,8 @@ use Rattle.calls_text.specs.Objects.{both_of, is_owned, has_right}
 use Rattle.calls_text.specs.Lists.{list_number, lists_after}
 use Rattle.calls_text.specs.Recordings.{Recorded}
 use Rattle.calls_text.specs.Reading.{pending_in, has_two_roles, is_spent, index_of, op_of}
-use Rattle.calls_text.specs.Reading.{with_event, takes_done, takes_timeout, takes_numbers, gives_list}
+use Rattle.calls_text.specs.Reading.{with_event, takes_done, takes_timeout, takes_numbers}
+use Rattle.calls_text.specs.Reading.{gives_list}
 use Rattle.calls_text.specs.Reading.{is_later}
 
 -- THE COUNTS AT THE BEGINNING
@@ -46,6 +47,7 @@ AreStarts h before (p ∷ ps) = IsStart h before p × AreStarts h (before ++ p �
 abbrev pub AreSmall : List ℕ → Type 0
 AreSmall ns = AllByRecursion (λ n. n < 1000000000000000000) ns
 
+-- the only number, 0 if there is none
 abbrev pub only : List ℕ → ℕ
 only [] = 0
 only (n ∷ ns) = n
@@ -65,25 +67,25 @@ IsDeclaredIn h (objects.Pair i one j other common) =
 IsDeclaredIn h (objects.Database i d) = slice_get h.groups i ≡ Some (groups.Database d)
 
 -- the object is of the sort that the call asks for, and the numbers are as many as it takes
-abbrev pub Takes : Verb → Object → List ℕ → Type 0
-Takes verbs.Advance (objects.Event e) ns = ns ≡ []
-Takes verbs.Read (objects.Event e) ns = ns ≡ []
-Takes verbs.Await (objects.Event e) ns = length ns ≡ 1
-Takes verbs.Ticket (objects.Sequencer q) ns = ns ≡ []
-Takes verbs.Put (objects.Cell x) ns = length ns ≡ 1
-Takes verbs.Get (objects.Cell x) ns = ns ≡ []
-Takes verbs.P (objects.Semaphore i s) ns = ns ≡ []
-Takes verbs.V (objects.Semaphore i s) ns = ns ≡ []
-Takes verbs.PBoth (objects.Pair i one j other common) ns = ns ≡ []
-Takes verbs.Write (objects.Database i d) ns = length ns ≡ d.cells
-Takes verbs.Snapshot (objects.Database i d) ns = ns ≡ []
-Takes v o ns = ⊥
+abbrev pub TakesNumbers : Verb → Object → List ℕ → Type 0
+TakesNumbers verbs.Advance (objects.Event e) ns = ns ≡ []
+TakesNumbers verbs.Read (objects.Event e) ns = ns ≡ []
+TakesNumbers verbs.Await (objects.Event e) ns = length ns ≡ 1
+TakesNumbers verbs.Ticket (objects.Sequencer q) ns = ns ≡ []
+TakesNumbers verbs.Put (objects.Cell x) ns = length ns ≡ 1
+TakesNumbers verbs.Get (objects.Cell x) ns = ns ≡ []
+TakesNumbers verbs.P (objects.Semaphore i s) ns = ns ≡ []
+TakesNumbers verbs.V (objects.Semaphore i s) ns = ns ≡ []
+TakesNumbers verbs.PBoth (objects.Pair i one j other common) ns = ns ≡ []
+TakesNumbers verbs.Write (objects.Database i d) ns = length ns ≡ d.cells
+TakesNumbers verbs.Snapshot (objects.Database i d) ns = ns ≡ []
+TakesNumbers v o ns = ⊥
 
 -- the worker may make this call: it has the right and no pending call, and it keeps the limit
 pub record MayCall (r : Recorded) (w : ℕ) (v : Verb) (o : Object) (ns : List ℕ) : Type 0 where
   pub worker : w < r.heading.setup.workers
   pub declared : IsDeclaredIn r.heading o
-  pub takes : Takes v o ns
+  pub takes : TakesNumbers v o ns
   pub small : AreSmall ns
   pub free : is_owned r.heading.groups o ≡ false
   pub roles : has_two_roles o ≡ false
@@ -109,10 +111,10 @@ after_call r w v o ns =
 -- RETURNS
 
 -- the call takes such an answer
-abbrev pub Suits : Headed → PendingCall → Answer → List ℕ → Type 0
-Suits h c answers.Done ns = (takes_done c.op ≡ true) × (ns ≡ [])
-Suits h c answers.Timeout ns = (takes_timeout c.op ≡ true) × (ns ≡ [])
-Suits h c answers.Numbers ns = (takes_numbers h c c.op (length ns) ≡ true) × (1 ≤ length ns)
+abbrev pub SuitsCall : Headed → PendingCall → Answer → List ℕ → Type 0
+SuitsCall h c answers.Done ns = (takes_done c.op ≡ true) × (ns ≡ [])
+SuitsCall h c answers.Timeout ns = (takes_timeout c.op ≡ true) × (ns ≡ [])
+SuitsCall h c answers.Numbers ns = (takes_numbers h c c.op (length ns) ≡ true) × (1 ≤ length ns)
 
 -- a ticket is below the limit
 abbrev pub KeepsLimit : ℕ → Op → List ℕ → Type 0
@@ -123,7 +125,7 @@ pub record MayReturn (r : Recorded) (w : ℕ) (c : PendingCall) (a : Answer) (ns
     : Type 0 where
   pub worker : w < r.heading.setup.workers
   pub pending : pending_in r.events w ≡ Some c
-  pub suits : Suits r.heading c a ns
+  pub suits : SuitsCall r.heading c a ns
   pub small : AreSmall ns
   pub within : KeepsLimit r.heading.setup.limit c.op ns
 
@@ -146,22 +148,22 @@ after_return r w c a ns =
 -- HISTORIES
 
 -- one event more: a call, or the return of one
-abbrev pub GrowsOnce : Recorded → Recorded → Type 0
-GrowsOnce r s =
+abbrev pub GrowsByOne : Recorded → Recorded → Type 0
+GrowsByOne r s =
     ((w : ℕ) × (v : Verb) × (o : Object) × (ns : List ℕ) × MayCall r w v o ns
     × (s ≡ after_call r w v o ns))
     ⊎ ((w : ℕ) × (c : PendingCall) × (a : Answer) × (ns : List ℕ) × MayReturn r w c a ns
     × (s ≡ after_return r w c a ns))
 
 -- so many events more
-abbrev pub Grows : ℕ → Recorded → Recorded → Type 0
-Grows zero r t = r ≡ t
-Grows (suc k) r t = (s : Recorded) × GrowsOnce r s × Grows k s t
+abbrev pub GrowsBy : ℕ → Recorded → Recorded → Type 0
+GrowsBy zero r t = r ≡ t
+GrowsBy (suc k) r t = (s : Recorded) × GrowsByOne r s × GrowsBy k s t
 
 -- the history keeps the rules: its heading is one of version 2, and it grows event by event
 pub record KeepsRules (t : Recorded) : Type 0 where
   pub heading : HasOutline t.heading
   pub version : t.heading.version ≡ Two
   pub starts : AreStarts t.heading [] t.from
-  pub grows : Grows (length t.events)
+  pub grows : GrowsBy (length t.events)
       (record { heading = t.heading; from = t.from; events = []; lists = [] }) t

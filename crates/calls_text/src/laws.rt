@@ -9,7 +9,7 @@ pub fn read_is_spelled()
 {}
 
 /// States that each history that keeps the rules is read from its text, whatever follows.
-#[tactic(auto, using(crate::proofs::Fronts::spelled_is_read))]
+#[tactic(auto, using(crate::proofs::Prefixes::spelled_is_read))]
 pub fn spelled_is_read()
     ensures { SpelledIsRead }
 {}

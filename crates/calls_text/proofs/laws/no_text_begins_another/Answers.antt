@@ -1,5 +1,5 @@
-use Rattle.calls_text.proofs.Fronts as fronts
+use Rattle.calls_text.proofs.Prefixes as prefixes
 use Rattle.calls_text.proofs.laws.no_text_begins_another.Goals as goal
 
 pub returns : goal.returns
-returns c = fronts.no_text_begins_another
+returns c = prefixes.no_text_begins_another

@@ -19,7 +19,8 @@ use Rattle.calls_text.specs.Laws.{SpelledIsRead, NoTextBeginsAnother}
 use Rattle.calls_text.specs.Laws.{PrefixIsRefused}
 use Rattle.calls_text.specs.Rules.{KeepsRules}
 use Rattle.calls_text.proofs.Rules.{Lead, all_taken}
-use Rattle.calls_text.proofs.TextParts.{IsPart, parts_alone, parts_line, parts_joined, by_line, by_rest}
+use Rattle.calls_text.proofs.TextParts.{IsPart, parts_alone, parts_line, parts_joined, by_line}
+use Rattle.calls_text.proofs.TextParts.{by_rest}
 use Rattle.calls_text.proofs.TextParts.{HasFirst, has_first}
 use Rattle.calls_text.proofs.Histories.{lines_back}
 
@@ -130,7 +131,12 @@ append_cases (x ∷ xs) ys (z ∷ zs) ws is =
       | inl longer ↦
           inl (longer.0, ap₂ (λ (a : ℕ) (bs : List ℕ). a ∷ bs) (sym head) longer.1, longer.2)
       | inr shorter ↦
-          inr (shorter.0, ap₂ (λ (a : ℕ) (bs : List ℕ). a ∷ bs) head shorter.1, shorter.2, shorter.3)
+          inr (
+            shorter.0,
+            ap₂ (λ (a : ℕ) (bs : List ℕ). a ∷ bs) head shorter.1,
+            shorter.2,
+            shorter.3,
+          )
     ]
 
 -- what is left of a line with its LF, where some bytes follow
