@@ -5,7 +5,6 @@ use Rattle.ec_heading.specs.declared.sort.Sort.{Sort}
 use Rattle.ec_heading.specs.declared.sort.Sort.TheVariants as sorts
 use Rattle.ec_heading.specs.declared.version.Version.TheVariants.{Two}
 use Rattle.ec_heading.specs.Form.{parts_in, split_words}
-use Rattle.ec_heading.specs.Headed.{Headed}
 use Rattle.ec_heading.specs.Heading.{head_step}
 use Rattle.ec_heading.specs.Outline.{Declaration, headed}
 use Rattle.ec_text.specs.Words.{digits_from}

@@ -1,5 +1,5 @@
 -- Lines that lead from one stage of reading to another.
-use Rattle.std.specs.Prelude.{◌≡◌, ℕ, List, [], ◌∷◌, Result, Ok}
+use Rattle.std.specs.Prelude.{◌≡◌, ℕ, List, [], ◌∷◌, Ok}
 use Rattle.calls_text.specs.Reading.{Stage, step}
 
 -- each in its turn
