@@ -1,11 +1,12 @@
 -- What is read is spelled.
-use Rattle.std.proofs.Common.{◌≡◌, ℕ, ◌+◌, List, ◌++◌, length, ap, ◌∙◌}
+use Rattle.std.proofs.Common.{◌≡◌, ℕ, ◌+◌, sym, List, ◌++◌, length, ap, ◌∙◌}
+use Rattle.std.specs.List.{join_with_byte}
 use Rattle.ec_heading.specs.Spelling.{text_of}
 use Rattle.calls_text.specs.Reading.{Opening}
 use Rattle.calls_text.specs.Outcomes.{OneRead}
 use Rattle.calls_text.specs.Grammar.{history_lines, history_text}
 use Rattle.calls_text.specs.Laws.{IsSpelled, ReadIsSpelled}
-use Rattle.calls_text.proofs.TextParts.{IsRead, is_read}
+use Rattle.calls_text.proofs.TextParts.{IsRead, is_read, parts_joined}
 use Rattle.calls_text.proofs.Histories.{IsHistory, history_back}
 
 spelled : (bytes : List ℕ) (n : ℕ) (read : OneRead) → IsRead bytes n Opening read
@@ -19,6 +20,8 @@ spelled bytes n read r =
       rest = r.rest;
       text = r.text ∙ ap (λ (ls : List (List ℕ)). text_of ls ++ r.rest) same;
       left = r.left;
+      same = λ others is. sym (parts_joined others) ∙ ap (join_with_byte 10) (sym is ∙ r.left)
+          ∙ parts_joined r.rest;
       number = r.number ∙ ap (λ (ls : List (List ℕ)). n + length ls) same;
     }
 

@@ -12,12 +12,14 @@ use Rattle.calls_text.specs.Grammar.{history_lines, history_text}
 
 -- WHAT IS READ IS SPELLED
 
--- the history keeps the rules, and the bytes are its text and what is left
+-- the history keeps the rules, and the bytes are its text and what is left: no other bytes have the
+-- parts that are left
 pub record IsSpelled (bytes : List ℕ) (n : ℕ) (read : OneRead) : Type 0 where
   pub keeps : KeepsRules read.recorded
   pub rest : List ℕ
   pub text : bytes ≡ history_text read.recorded ++ rest
   pub left : read.rest ≡ parts_of rest
+  pub same : (others : List ℕ) → read.rest ≡ parts_of others → others ≡ rest
   pub number : read.number ≡ n + length (history_lines read.recorded)
 
 abbrev pub ReadIsSpelled : Type 0
