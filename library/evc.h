@@ -1,4 +1,4 @@
-/* evc.h: `evc check`, `audit`, `upgrade` and `sim` as calls, for bytes in memory. C11 and C++.
+/* evc.h: `evc check`, `audit`, `upgrade` and `sim`, and `evc-calls check`, as calls, for bytes in memory. C11 and C++.
  *
  *     cc -std=c11 my_test.c libevc.a
  *
@@ -23,17 +23,21 @@
 extern "C" {
 #endif
 
-/* How a call has ended, by the numbers of the exit statuses of the program `evc`; 2 and 5 do not occur. */
+/* How a call has ended, by the numbers of the exit statuses of the programs `evc` and `evc-calls`; 2 does not occur. */
 enum evc_status {
     /* The whole text was written. */
     EVC_STATUS_DONE = 0,
     /* The input is no trace or no script, or a group is not followed, or the schedule names a worker that has ended.
-     * The notes say what is wrong, and in which line; no text was written. */
+     * Of evc_calls_check: the input is no history of calls, or one is not linearizable; then the texts of those before it
+     * were written. The notes say what is wrong, and in which line; of the other calls no text was written. */
     EVC_STATUS_REFUSED = 1,
     /* The text had too little room. What was written is a front of it, and the notes end in `write fault`. */
     EVC_STATUS_NO_ROOM = 3,
-    /* malloc gave nothing. No text was written. */
-    EVC_STATUS_NO_MEMORY = 4
+    /* malloc gave nothing. No text was written; of evc_calls_check those of some first histories may have been. */
+    EVC_STATUS_NO_MEMORY = 4,
+    /* Of evc_calls_check alone: a history is not decided. The notes say which cell, and why; the texts of the histories
+     * before it were written. */
+    EVC_STATUS_NOT_DECIDED = 5
 };
 
 /* How many bytes a call wrote of the text and of the notes, from the front of each. */
@@ -48,8 +52,13 @@ struct evc_written {
 /* Room enough for the text of evc_sim, for a script of so many bytes. */
 #define EVC_SIM_ROOM(script_length) (44 * (script_length) + 64)
 
-/* Room enough for the notes of any call. Where there is less, they are cut off. */
+/* Room enough for the notes of any call but evc_calls_check. Where there is less, they are cut off. */
 #define EVC_NOTES_ROOM 1024
+
+/* Room enough for the text and for the notes of evc_calls_check, for so many bytes with so many histories. Notes of one
+ * history without pending awaits mostly fit EVC_NOTES_ROOM. */
+#define EVC_CALLS_ROOM(calls_length, histories) (2 * (calls_length) + 16384 * (histories))
+#define EVC_CALLS_NOTES_ROOM(calls_length, histories) ((calls_length) + 4096 * (histories))
 
 /* Whether a trace is right, and the order of its finished calls and the totals. */
 uint8_t evc_check(const uint8_t *trace, size_t trace_length, uint8_t *text, size_t text_room, uint8_t *notes,
@@ -66,6 +75,12 @@ uint8_t evc_upgrade(const uint8_t *trace, size_t trace_length, uint8_t *text, si
 /* The trace of what the workers of a script do by its schedule. The notes then say how each worker has ended. */
 uint8_t evc_sim(const uint8_t *script, size_t script_length, uint8_t *text, size_t text_room, uint8_t *notes,
                 size_t notes_room, struct evc_written *written);
+
+/* Whether each history of calls is linearizable, and an order of the calls of each (docs/FORMATS.md, "Histories of
+ * calls"). The notes have a remark on each await that is pending although the count had surely reached its threshold; with
+ * status 0 nothing else. Those on all histories that were accepted stand first, and then what ended the check. */
+uint8_t evc_calls_check(const uint8_t *calls, size_t calls_length, uint8_t *text, size_t text_room, uint8_t *notes,
+                        size_t notes_room, struct evc_written *written);
 
 /* The version: 1000 for each first number and 1 for each second, so 2 for version 0.2. */
 uint32_t evc_version(void);

@@ -1,4 +1,4 @@
-//! `evc check`, `audit`, `upgrade` and `sim` as calls, for bytes in memory: safe Rust over libevc.a.
+//! `evc check`, `audit`, `upgrade` and `sim`, and `evc-calls check`, as calls, for bytes in memory: safe Rust over libevc.a.
 //!
 //!     rustc --edition 2021 --test my_test.rs -L FOLDER_OF_LIBEVC -l static=evc
 //!
@@ -12,15 +12,18 @@ use std::fmt;
 #[derive(Clone, Debug, PartialEq, Eq)]
 pub enum Fault {
     /// The input is no trace or no script, or a group is not followed, or the schedule names a worker that has ended.
-    /// The note says which, with a line feed at its end.
+    /// Or the input is no history of calls, or one is not linearizable.
+    /// The note says which, with a line feed at its end. (Of histories of calls the remarks on those before it come first.)
     Refused(String),
+    /// A history of calls is not decided: the note says which cell, and why.
+    NotDecided(String),
     NoMemory,
 }
 
 impl fmt::Display for Fault {
     fn fmt(&self, f: &mut fmt::Formatter<'_>) -> fmt::Result {
         match self {
-            Fault::Refused(note) => f.write_str(note.trim_end()),
+            Fault::Refused(note) | Fault::NotDecided(note) => f.write_str(note.trim_end()),
             Fault::NoMemory => f.write_str("no memory"),
         }
     }
@@ -36,25 +39,42 @@ pub struct Simulated {
     pub outcomes: String,
 }
 
+/// What `check_calls` writes of histories that are all linearizable.
+#[derive(Clone, Debug, PartialEq, Eq)]
+pub struct Ordered {
+    /// An order of the calls of each history, with the totals.
+    pub orders: String,
+    /// A line for each await that is pending although the count had surely reached its threshold: a lost wake-up.
+    pub remarks: String,
+}
+
 /// Checks a trace: the order of its finished calls, and the totals.
 pub fn check(trace: &[u8]) -> Result<String, Fault> {
-    answer(evc_check, trace, trace_room(trace)).map(|(text, _)| text)
+    answer(evc_check, trace, trace_room(trace), NOTES_ROOM).map(|(text, _)| text)
+}
+
+/// Checks histories of calls.
+pub fn check_calls(calls: &[u8]) -> Result<Ordered, Fault> {
+    let histories = calls.split(|it| *it == b'\n').filter(|it| *it == b"run").count();
+    let room = trace_room(calls).saturating_add(histories.saturating_mul(16384));
+    let notes_room = calls.len().saturating_add(histories.saturating_mul(4096)).saturating_add(NOTES_ROOM);
+    answer(evc_calls_check, calls, room, notes_room).map(|(orders, remarks)| Ordered { orders, remarks })
 }
 
 /// Audits the buffers, databases and semaphores of a trace: what came of them.
 pub fn audit(trace: &[u8]) -> Result<String, Fault> {
-    answer(evc_audit, trace, trace_room(trace)).map(|(text, _)| text)
+    answer(evc_audit, trace, trace_room(trace), NOTES_ROOM).map(|(text, _)| text)
 }
 
 /// The same trace in version 2 of the format.
 pub fn upgrade(trace: &[u8]) -> Result<String, Fault> {
-    answer(evc_upgrade, trace, trace.len()).map(|(text, _)| text)
+    answer(evc_upgrade, trace, trace.len(), NOTES_ROOM).map(|(text, _)| text)
 }
 
 /// Plays the schedule of a script.
 pub fn sim(script: &[u8]) -> Result<Simulated, Fault> {
     let room = 44usize.saturating_mul(script.len()).saturating_add(64).min(8_000_000);
-    answer(evc_sim, script, room).map(|(trace, outcomes)| Simulated { trace, outcomes })
+    answer(evc_sim, script, room, NOTES_ROOM).map(|(trace, outcomes)| Simulated { trace, outcomes })
 }
 
 /// The version: 1000 for each first number and 1 for each second.
@@ -78,6 +98,7 @@ extern "C" {
     fn evc_audit(trace: *const u8, length: usize, text: *mut u8, room: usize, notes: *mut u8, notes_room: usize, written: *mut Written) -> u8;
     fn evc_upgrade(trace: *const u8, length: usize, text: *mut u8, room: usize, notes: *mut u8, notes_room: usize, written: *mut Written) -> u8;
     fn evc_sim(script: *const u8, length: usize, text: *mut u8, room: usize, notes: *mut u8, notes_room: usize, written: *mut Written) -> u8;
+    fn evc_calls_check(calls: *const u8, length: usize, text: *mut u8, room: usize, notes: *mut u8, notes_room: usize, written: *mut Written) -> u8;
     fn evc_version() -> u32;
 }
 
@@ -87,10 +108,10 @@ fn trace_room(trace: &[u8]) -> usize {
 }
 
 /// Makes a call with so much room, and with twice as much for as long as that was too little.
-fn answer(call: Call, input: &[u8], mut room: usize) -> Result<(String, String), Fault> {
+fn answer(call: Call, input: &[u8], mut room: usize, notes_room: usize) -> Result<(String, String), Fault> {
     loop {
         let mut text = zeros(room)?;
-        let mut notes = zeros(NOTES_ROOM)?;
+        let mut notes = zeros(notes_room)?;
         let mut written = Written { text: 0, notes: 0 };
         // SAFETY: the pointers are those of slices, with their lengths, and no two of them overlap.
         let status = unsafe {
@@ -109,6 +130,7 @@ fn answer(call: Call, input: &[u8], mut room: usize) -> Result<(String, String),
         match status {
             0 => return Ok((string(text), string(notes))),
             1 => return Err(Fault::Refused(string(notes))),
+            5 => return Err(Fault::NotDecided(string(notes))),
             3 => room = room.checked_mul(2).ok_or(Fault::NoMemory)?.max(1),
             _ => return Err(Fault::NoMemory),
         }

@@ -1,7 +1,7 @@
 /* Makes calls of library/evc.h, one for each request on standard input, and answers on standard output.
    tests/run-library builds it, and says what is asked and what has to come.
 
-   A request: 8 bytes, the first of which names the call (c, a, u or s); three numbers of 8 bytes, lowest first: the length
+   A request: 8 bytes, the first of which names the call (c, a, u, s, or h for histories of calls); three numbers of 8 bytes, lowest first: the length
    of the input, the room for the text and that for the notes; and the input (v asks for the version, which comes as the status). An answer: 8 bytes, the status, one that is 1
    where a byte was changed that had to stay, and six more; the two lengths that the call told; the text and the notes. It
    takes nothing from malloc, so that every request for memory is the library's. */
@@ -16,7 +16,7 @@ extern void *memset(void *, int, size_t);
 #define ROOM (160u << 20)
 #define MARK 0xA5
 
-static uint8_t input[(68u << 20)], text[ROOM], notes[8192];
+static uint8_t input[(68u << 20)], text[ROOM], notes[(70u << 20)];
 
 static int take(void *to, size_t length) {
     uint8_t *at = to;
@@ -71,6 +71,7 @@ int main(void) {
             asked.call[0] == 'c'   ? evc_check
             : asked.call[0] == 'a' ? evc_audit
             : asked.call[0] == 'u' ? evc_upgrade
+            : asked.call[0] == 'h' ? evc_calls_check
                                    : evc_sim;
         uint8_t status = call(input, asked.length, text, asked.text, notes, asked.notes, &written);
         struct {

@@ -21,7 +21,9 @@ use Rattle.calls_report.specs.declared.checking.Stop.TheVariants as stops
 use Rattle.calls_report.specs.declared.status.Status.TheVariants as statuses
 use Rattle.calls_report.specs.Notes.{fault_note}
 use Rattle.calls_report.specs.Orders.{order_lines}
-use Rattle.calls_report.specs.Checks.{Judged, HasOrder, AreJudged, texts_of, history_text}
+use Rattle.calls_report.specs.Remarks.{remarks_text}
+use Rattle.calls_report.specs.Checks.{Judged, HasOrder, AreJudged, texts_of, remarks_on}
+use Rattle.calls_report.specs.Checks.{history_text}
 use Rattle.calls_report.specs.kept.Judging.{PutsOrder, StopsBy, status_by, EndsBy, fault_status}
 use Rattle.calls_report.specs.kept.Judging.{Judges, IsJudgedSoFar}
 
@@ -130,63 +132,95 @@ texts_more js j =
     flat_map-append (λ (k : Judged). history_text k.read.recorded k.order) js (j ∷ [])
     ∙ ap (λ t. texts_of js ++ t) (append-nil (history_text j.read.recorded j.order))
 
-pub so_far_more : (text : List ℕ) (n : ℕ) (rest : List ℕ) (old mid new : Outgoing) (r : Recorded)
-    (m : ℕ) (more : List ℕ) → IsJudgedSoFar text n rest old mid
+remarks_more : (js : List Judged) (j : Judged) → remarks_on (js ++ j ∷ [])
+    ≡ remarks_on js ++ remarks_text j.read.number j.read.recorded
+remarks_more js j =
+    flat_map-append (λ (k : Judged). remarks_text k.read.number k.read.recorded) js (j ∷ [])
+    ∙ ap (λ t. remarks_on js ++ t) (append-nil (remarks_text j.read.number j.read.recorded))
+
+pub so_far_more : (text : List ℕ) (n : ℕ) (rest : List ℕ) (old mid new before among after : Outgoing)
+    (r : Recorded) (m : ℕ) (more : List ℕ) → IsJudgedSoFar text n rest old mid before among
     → goes n Opening (parts_of rest)
     ≡ Ok (record { recorded = r; number = m; rest = parts_of more })
-    → PutsOrder r mid new → IsJudgedSoFar text m more old new
-so_far_more text n rest old mid new r m more so reads put =
+    → PutsOrder r mid new → Puts among after (remarks_text m r)
+    → IsJudgedSoFar text m more old new before after
+so_far_more text n rest old mid new before among after r m more so reads put remarked =
     let j : Judged = record {
       read = record { recorded = r; number = m; rest = parts_of more };
       order = put.0;
-    } in (
-      so.0 ++ j ∷ [],
-      judged_more 1 (parts_of text) so.0 n (parts_of rest) j so.1 reads put.1,
-      subst (Puts old new) (sym (texts_more so.0 j)) (puts_then old mid new _ _ so.2 put.2),
-    )
+    } in record {
+      judged = so.judged ++ j ∷ [];
+      judged_are = judged_more 1 (parts_of text) so.judged n (parts_of rest) j so.judged_are reads
+          put.1;
+      texts = subst (Puts old new) (sym (texts_more so.judged j))
+          (puts_then old mid new _ _ so.texts put.2);
+      remarks = subst (Puts before after) (sym (remarks_more so.judged j))
+          (puts_then before among after _ _ so.remarks remarked);
+    }
 
-pub none_so_far : (text : List ℕ) (now : Outgoing) → IsJudgedSoFar text 1 text now now
-none_so_far text now = ([], (refl, refl), λ first all h. rw append-nil h)
+none_put : (now : Outgoing) → Puts now now []
+none_put now = λ first all h. rw append-nil h
+
+pub none_so_far : (text : List ℕ) (now notes : Outgoing)
+    → IsJudgedSoFar text 1 text now now notes notes
+none_so_far text now notes = record {
+  judged = [];
+  judged_are = (refl, refl);
+  texts = none_put now;
+  remarks = none_put notes;
+}
 
 -- THE END
 
 same_put : (a b c : Outgoing) (bs : List ℕ) → c ≡ b → Puts a b bs → Puts a c bs
 same_put a b c bs same put = subst (λ k. Puts a k bs) (sym same) put
 
-pub judges_unread : (text : List ℕ) (n : ℕ) (rest : List ℕ) (old new before after : Outgoing)
-    (fault : TextFault) → IsJudgedSoFar text n rest old new
-    → TellsFault (goes n Opening (parts_of rest)) fault → Puts before after (fault_note fault)
+pub judges_unread : (text : List ℕ) (n : ℕ) (rest : List ℕ) (old new before among after : Outgoing)
+    (fault : TextFault) → IsJudgedSoFar text n rest old new before among
+    → TellsFault (goes n Opening (parts_of rest)) fault → Puts among after (fault_note fault)
     → Judges (fault_status fault) text old new before after
-judges_unread text n rest old new before after (faults.At m kind cause) so tells says = (
-  so.0,
+judges_unread text n rest old new before among after (faults.At m kind cause) so tells says = (
+  so.judged,
   record {
     number = n;
     rest = parts_of rest;
-    judged_are = so.1;
+    judged_are = so.judged_are;
+    remarked = among;
+    remarks = so.remarks;
     ends = inl (
       fault_note (faults.At m kind cause),
       (m, kind, tells.0, tells.1, ap (λ c. fault_note (faults.At m kind c)) tells.2),
       says,
     );
   },
-  so.2,
+  so.texts,
 )
-judges_unread text n rest old new before after faults.Memory so tells says = (
-  so.0,
-  record { number = n; rest = parts_of rest; judged_are = so.1; ends = says },
-  so.2,
-)
-
-pub judges_stopped : (text : List ℕ) (n : ℕ) (rest : List ℕ) (old new before mid after : Outgoing)
-    (o : OneRead) (stop : Stop) → IsJudgedSoFar text n rest old new
-    → goes n Opening (parts_of rest) ≡ Ok o → StopsBy o.number o.recorded before mid stop
-    → EndsBy stop mid after → Judges (status_by stop) text old new before after
-judges_stopped text n rest old new before mid after o stops.Refused so reads stop same = (
-  so.0,
+judges_unread text n rest old new before among after faults.Memory so tells says = (
+  so.judged,
   record {
     number = n;
     rest = parts_of rest;
-    judged_are = so.1;
+    judged_are = so.judged_are;
+    remarked = among;
+    remarks = so.remarks;
+    ends = says;
+  },
+  so.texts,
+)
+
+pub judges_stopped : (text : List ℕ) (n : ℕ) (rest : List ℕ)
+    (old new before among mid after : Outgoing) (o : OneRead) (stop : Stop)
+    → IsJudgedSoFar text n rest old new before among → goes n Opening (parts_of rest) ≡ Ok o
+    → StopsBy o.number o.recorded among mid stop → EndsBy stop mid after
+    → Judges (status_by stop) text old new before after
+judges_stopped text n rest old new before among mid after o stops.Refused so reads stop same = (
+  so.judged,
+  record {
+    number = n;
+    rest = parts_of rest;
+    judged_are = so.judged_are;
+    remarked = among;
+    remarks = so.remarks;
     ends = inr (
       o,
       stop.0,
@@ -195,45 +229,51 @@ judges_stopped text n rest old new before mid after o stops.Refused so reads sto
       (
         stop.2.0,
         stop.2.1,
-        same_put before mid after _ same stop.2.2,
+        same_put among mid after _ same stop.2.2,
       ),
     );
   },
-  so.2,
+  so.texts,
 )
-judges_stopped text n rest old new before mid after o stops.NotDecided so reads stop same = (
-  so.0,
+judges_stopped text n rest old new before among mid after o stops.NotDecided so reads stop same = (
+  so.judged,
   record {
     number = n;
     rest = parts_of rest;
-    judged_are = so.1;
-    ends = (o, stop.0, reads, stop.1, same_put before mid after _ same stop.2);
+    judged_are = so.judged_are;
+    remarked = among;
+    remarks = so.remarks;
+    ends = (o, stop.0, reads, stop.1, same_put among mid after _ same stop.2);
   },
-  so.2,
+  so.texts,
 )
-judges_stopped text n rest old new before mid after o stops.Memory so reads stop says = (
-  so.0,
+judges_stopped text n rest old new before among mid after o stops.Memory so reads stop says = (
+  so.judged,
   record {
     number = n;
     rest = parts_of rest;
-    judged_are = so.1;
+    judged_are = so.judged_are;
+    remarked = among;
+    remarks = so.remarks;
     ends = subst (λ k. Puts k after (codes "no memory\n")) stop says;
   },
-  so.2,
+  so.texts,
 )
 
-pub judges_all : (text : List ℕ) (n : ℕ) (rest : List ℕ) (old new notes : Outgoing)
-    → IsJudgedSoFar text n rest old new → 1 < n → rest ≡ []
-    → Judges statuses.Done text old new notes notes
-judges_all text n rest old new notes so past none = (
-  so.0,
+pub judges_all : (text : List ℕ) (n : ℕ) (rest : List ℕ) (old new before after : Outgoing)
+    → IsJudgedSoFar text n rest old new before after → 1 < n → rest ≡ []
+    → Judges statuses.Done text old new before after
+judges_all text n rest old new before after so past none = (
+  so.judged,
   record {
     number = n;
     rest = parts_of rest;
-    judged_are = so.1;
+    judged_are = so.judged_are;
+    remarked = after;
+    remarks = so.remarks;
     ends = (past, ap parts_of none, refl);
   },
-  so.2,
+  so.texts,
 )
 
 pub nothing : (xs : List ℕ) → length xs ≡ 0 → xs ≡ []

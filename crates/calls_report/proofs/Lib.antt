@@ -1,4 +1,5 @@
 pub mod Loops
+mod SureLemmas
 mod SumLemmas
 mod TotalLemmas
 mod JudgingLemmas

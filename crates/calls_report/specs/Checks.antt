@@ -26,6 +26,7 @@ use Rattle.calls_report.specs.declared.status.Status.TheVariants.{InputOutput, M
 use Rattle.calls_report.specs.Orders.{order_lines}
 use Rattle.calls_report.specs.Totals.{totals_text}
 use Rattle.calls_report.specs.Notes.{fault_note, scene_of, SaysRefusal, undecided_note}
+use Rattle.calls_report.specs.Remarks.{remarks_text}
 
 -- ONE HISTORY
 
@@ -71,6 +72,10 @@ AreJudged n ps (j ∷ js) m qs =
 abbrev pub texts_of : List Judged → List ℕ
 texts_of js = flat_map (λ (j : Judged). history_text j.read.recorded j.order) js
 
+-- and the remarks on them
+abbrev pub remarks_on : List Judged → List ℕ
+remarks_on js = flat_map (λ (j : Judged). remarks_text j.read.number j.read.recorded) js
+
 -- WHAT STOPS THE CHECK
 
 -- the lines from line m on are no history, and this note says why
@@ -103,13 +108,16 @@ Ends Memory m qs old new = Puts old new (codes "no memory\n")
 Ends Usage m qs old new = ⊥
 Ends InputOutput m qs old new = ⊥
 
--- the text was judged so: its first histories are linearizable, and then this came
+-- the text was judged so: its first histories are linearizable, and then this came. The notes have
+-- the remarks on these histories, in turn, and then the note that says why there are no more
 pub record IsJudged (status : Status) (text : List ℕ) (judged : List Judged) (old new : Outgoing)
     : Type 0 where
   pub number : ℕ
   pub rest : List (List ℕ)
   pub judged_are : AreJudged 1 (parts_of text) judged number rest
-  pub ends : Ends status number rest old new
+  pub remarked : Outgoing
+  pub remarks : Puts old remarked (remarks_on judged)
+  pub ends : Ends status number rest remarked new
 
 -- ALL OF IT
 

@@ -5,5 +5,6 @@ pub mod Counting
 pub mod Certificates
 pub mod Refusals
 pub mod Notes
+pub mod Remarks
 pub mod Checks
 pub mod kept

@@ -1,3 +1,4 @@
 pub mod Speakers
 pub mod Sums
+pub mod Sure
 pub mod Judging

@@ -66,7 +66,7 @@ fn advances_between(
 }
 
 /// Returns the count of an eventcount at the beginning.
-fn start_at(recording: &Recording, object: usize) -> u64
+pub(crate) fn start_at(recording: &Recording, object: usize) -> u64
     ensures { result ≡ start_at recording.now object }
 {
     match EventId::new(object) {

@@ -2,6 +2,7 @@
 ghost use Rattle.std.specs.Prelude.{◌≡◌, ◌≤◌, IfSome, OnOk, OnErr, IfErr, length};
 ghost use Rattle.ec_text.specs.Puts.{Puts, IsWrittenOut};
 ghost use Rattle.calls_report.specs.Notes.{fault_note};
+ghost use Rattle.calls_report.specs.Remarks.{remarks_text};
 ghost use Rattle.calls_report.specs.Checks.{history_text, ChecksText, Checks};
 ghost use Rattle.calls_report.specs.kept.Sums.{AreSums};
 ghost use Rattle.calls_report.specs.kept.Judging.{PutsOrder, StopsBy, status_by, EndsBy};
@@ -9,6 +10,7 @@ ghost use Rattle.calls_report.specs.kept.Judging.{fault_status, Judges, ChecksWh
 
 use crate::notes::{say_fault, say_refusal, say_undecided};
 use crate::order::put_order;
+use crate::remarks::{remarks_of, say_remarks};
 use crate::status::Status;
 use crate::sums::Sums;
 use crate::totals::Totals;
@@ -48,7 +50,7 @@ fn put_text<W: Write>(out: &mut Out<'_, W>, recording: &Recording, order: &[Plac
     out.put(b"end\n");
 }
 
-/// Judges a history: puts its text, or says why there is none.
+/// Judges a history: puts its text and says the remarks on it, or says why there is no text.
 fn judge<W: Write, N: Write>(
     alloc: Global,
     read: &OneRead<'_>,
@@ -56,7 +58,8 @@ fn judge<W: Write, N: Write>(
     notes: &mut Out<'_, N>,
 ) -> Result<(), Stop>
     ensures ok { OnOk result (PutsOrder read.now.recording out.old out.new) }
-    ensures quiet { OnOk result (notes.new ≡ notes.old) }
+    ensures remarks { OnOk result (Puts notes.old notes.new
+        (remarks_text read.now.number read.now.recording)) }
     ensures stop { IfErr result (StopsBy read.now.number read.now.recording notes.old notes.new) }
     ensures none { OnErr result (out.new ≡ out.old) }
     ensures written { IsWrittenOut notes.old → IsWrittenOut notes.new }
@@ -70,7 +73,11 @@ fn judge<W: Write, N: Write>(
             let Ok(sums) = Sums::of(alloc, &order) else {
                 return Err(Stop::Memory);
             };
+            let Ok(remarks) = remarks_of(alloc, recording) else {
+                return Err(Stop::Memory);
+            };
             put_text(out, recording, &order, &sums);
+            say_remarks(notes, read, &remarks);
             Ok(())
         }
         Verdict::Refused(refusal) => match say_refusal(alloc, notes, read, &refusal) {
@@ -189,6 +196,9 @@ fn check_whole<W: Write, N: Write>(
 
 /// Reads histories of calls, and writes an order of the calls of each, up to the first that has no
 /// linearization; then a note says why.
+///
+/// The notes begin with the remarks on the histories that have one: of each await that is pending
+/// although its threshold was surely passed.
 ///
 /// A text of more than 67108864 bytes is too large, whatever is in it. A read that fails is not
 /// tried again.

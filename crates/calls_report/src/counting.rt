@@ -1,5 +1,5 @@
 //! Calls, counted.
-ghost use Rattle.std.specs.Prelude.{◌≡◌, ◌≤◌, [], count_by, reverse, IfOk};
+ghost use Rattle.std.specs.Prelude.{◌≡◌, ◌≤◌, [], count_by, reverse, IfOk, IfSome};
 ghost use Rattle.std.specs.List.{cons_option};
 ghost use Rattle.calls_core.specs.Histories.{ended_call, pending_of};
 ghost use Rattle.calls_core.specs.Histories.{completed_calls, pending_calls};
@@ -52,9 +52,10 @@ fn is_counted(counted: Counted, call: &Call) -> bool
 }
 
 /// Returns the call that an event completes, if it completes one of these.
-fn completed(pending: &[PendingCall], event: &Event) -> Option<Call>
-    ensures { cons_option result [] ≡ ended_call event.now event.now.action
+pub(crate) fn completed(pending: &[PendingCall], event: &Event) -> Option<Call>
+    ensures call { cons_option result [] ≡ ended_call event.now event.now.action
         (pending_of event.now.worker pending.now) }
+    ensures at { IfSome result (λ c. c.last ≡ event.now.at) }
 {
     let Action::Respond(reply) = event.action else {
         return None;
@@ -112,6 +113,17 @@ fn count_pending(pending: &[PendingCall], object: usize, upto: usize) -> usize
         .count()
 }
 
+/// Returns the calls that are pending after these events, in the order of their invocations.
+pub(crate) fn pending_after(alloc: Global, events: &[Event]) -> Result<Vec<PendingCall>, AllocError>
+    ensures { IfOk result (λ calls. calls.items ≡ pending_calls (reverse events.now)) }
+{
+    let mut pending = Vec::new(alloc);
+    for event in events {
+        let _object = follow(&mut pending, event)?;
+    }
+    Ok(pending)
+}
+
 /// Returns how many tickets of an object are pending that were invoked up to a position.
 pub(crate) fn count_pending_tickets(
     alloc: Global,
@@ -122,11 +134,18 @@ pub(crate) fn count_pending_tickets(
     ensures { IfOk result (λ n. n ≡ count_by (is_counted_pending object upto)
         (pending_calls (reverse events.now))) }
 {
-    let mut pending = Vec::new(alloc);
-    for event in events {
-        let _object = follow(&mut pending, event)?;
-    }
+    let pending = pending_after(alloc, events)?;
     Ok(count_pending(&pending, object, upto))
+}
+
+/// Returns whether an event invokes an advance of an object.
+pub(crate) fn is_advance_of(event: &Event, object: usize) -> bool
+    ensures { result ≡ is_advance_of object event.now }
+{
+    match event.action {
+        Action::Invoke(k, Op::Advance) => k == object,
+        _ => false,
+    }
 }
 
 /// Returns how many advances of an object were invoked.
@@ -135,10 +154,7 @@ pub(crate) fn count_advances(events: &[Event], object: usize) -> usize
 {
     events
         .iter()
-        .filter(|event| match event.action {
-            Action::Invoke(k, Op::Advance) => k == object,
-            _ => false,
-        })
+        .filter(|event| is_advance_of(event, object))
         .count()
 }
 

@@ -8,8 +8,10 @@ mod counting;
 mod notes;
 mod order;
 mod refusal;
+mod remarks;
 mod status;
 mod sums;
+mod sure;
 mod totals;
 mod words;
 

@@ -116,7 +116,7 @@ fn first_line(read: &Read<'_>) -> u64
 }
 
 /// Returns where the certificate of an object stands.
-fn site_of<'a>(read: &'a Read<'_>, object: usize, at: usize) -> Site<'a>
+pub(crate) fn site_of<'a>(read: &'a Read<'_>, object: usize, at: usize) -> Site<'a>
     ensures { result ≡ scene_of read.now.number read.now.recording object at }
 {
     Site {

@@ -1,7 +1,7 @@
 //! A certificate in words.
 ghost use Rattle.std.specs.Prelude.{◌≡◌, ◌++◌, codes, decimal};
 ghost use Rattle.calls_tickets.specs.Faults.{number};
-ghost use Rattle.calls_text.specs.Spelling.{group_word, value_of, spaced};
+ghost use Rattle.calls_text.specs.Spelling.{worker_word, event_word, group_word, value_of, spaced};
 ghost use Rattle.ec_text.specs.Puts.{Puts};
 ghost use Rattle.calls_report.specs.Refusals.{line_of, advances_word, advances_text, start_text};
 ghost use Rattle.calls_report.specs.Refusals.{counted_text, count_text, threshold, returned_text};
@@ -225,6 +225,20 @@ impl<'a> Site<'a> {
         ensures { Puts out.old out.new (line_of self.now position) }
     {
         out.put_number(self.first.saturating_add(position as u64));
+    }
+
+    /// Puts the name of a worker.
+    pub(crate) fn put_worker<W: Write>(&self, out: &mut Out<'_, W>, worker: usize)
+        ensures { Puts out.old out.new (worker_word self.now.heading worker) }
+    {
+        self.speaker.put_worker(out, worker);
+    }
+
+    /// Puts the name of an eventcount.
+    pub(crate) fn put_event<W: Write>(&self, out: &mut Out<'_, W>, event: usize)
+        ensures { Puts out.old out.new (event_word self.now.heading event) }
+    {
+        self.speaker.put_event(out, event);
     }
 
     /// Puts a number of advances of the eventcount.

@@ -1,17 +1,20 @@
 -- What a contract says of writers that held something at first, said of writers that held nothing.
-use Rattle.std.proofs.Common.{◌≡◌, inl, inr, ℕ, List, [], ◌++◌, Option, Some, refl, sym, ap, ◌∙◌, take, append-nil, subst}
+use Rattle.std.proofs.Common.{◌≡◌, inl, inr, ℕ, List, [], ◌++◌, Option, None, Some, codes, refl, sym, ap, ◌∙◌, take, append-nil, subst}
 use Rattle.std.specs.Io.KnownBytes.{Appends, Keeps}
-use Rattle.ec_text.specs.Puts.{AppendsPrefix, Outgoing, at_first}
+use Rattle.ec_text.specs.Puts.{AppendsPrefix, Outgoing, Puts, at_first}
 use Rattle.evc_engine.specs.declared.status.Status.{Status}
 use Rattle.evc_engine.specs.declared.status.Status.TheVariants.{Done, Refused, Usage, InputOutput, Memory, Stopped}
 use Rattle.evc_engine.specs.Checks.{Checks, text_for}
 use Rattle.evc_engine.specs.Audits.{Audits}
 use Rattle.evc_engine.specs.AuditTexts.{audit_text}
 use Rattle.evc_engine.specs.Upgrades.{Upgrades}
-use Rattle.evc_engine.specs.Statuses.{status_code}
 use Rattle.evc_scripts.specs.Sims.{Sims}
-use Rattle.evc_c.specs.Answers.{Contract, Answers, outlets}
-use Rattle.evc_c.specs.Rooms.{room_holds, Fills}
+use Rattle.calls_report.specs.declared.status.Status as calls
+use Rattle.calls_report.specs.declared.status.Status.TheVariants as ends
+use Rattle.calls_report.specs.Checks as calls_checks
+use Rattle.calls_report.specs.Checks.{ChecksText, IsTooLarge, IsNothingRead, texts_of}
+use Rattle.evc_c.specs.Answers.{ContractBy, Contract, AnswersBy, outlets, calls_outlets}
+use Rattle.evc_c.specs.Rooms.{room_holds, FillsBy}
 use Rattle.evc_c.specs.declared.room.Room.{Room}
 
 -- THE TEXT
@@ -32,12 +35,16 @@ fronted a c bs p = (p.0, p.3, (p.0, p.1, p.2, refl, p.4))
 -- THE COMMANDS
 
 -- what a command wrote stands behind what was there, and by itself it is what the command would have written where nothing was
-abbrev pub GrowsAt : Contract → List ℕ → Option (List ℕ) → Status → (first last : Outgoing) → List ℕ → List ℕ → Type 0
-GrowsAt Does bytes left status first last a c = (w : List ℕ) × (c ≡ a ++ w) × Does bytes left status (outlets [] first) (outlets w last)
+abbrev pub GrowsAt : {S O : Type 0} → (List ℕ → Outgoing → O) → ContractBy S O → List ℕ → Option (List ℕ) → S → (first last : Outgoing) → List ℕ → List ℕ
+    → Type 0
+GrowsAt outlets Does bytes left status first last a c = Grown a c (λ w. Does bytes left status (outlets [] first) (outlets w last))
+
+abbrev pub GrowsBy : {S O : Type 0} → (List ℕ → Outgoing → O) → ContractBy S O → Type 0
+GrowsBy {S} {O} outlets Does = (bytes : List ℕ) (left : Option (List ℕ)) (status : S) (first last : Outgoing) (a c : List ℕ)
+    → Does bytes left status (outlets a first) (outlets c last) → GrowsAt outlets Does bytes left status first last a c
 
 abbrev pub Grows : Contract → Type 0
-Grows Does = (bytes : List ℕ) (left : Option (List ℕ)) (status : Status) (first last : Outgoing) (a c : List ℕ) → Does bytes left status (outlets a first) (outlets c last)
-    → GrowsAt Does bytes left status first last a c
+Grows Does = GrowsBy outlets Does
 
 pub check_grows : Grows Checks
 check_grows bytes left Done first last a c p =
@@ -121,6 +128,67 @@ sim_grows bytes left Memory first last a c p =
 sim_grows bytes left Usage first last a c p = absurd p
 sim_grows bytes left Stopped first last a c p = absurd p
 
+-- HISTORIES OF CALLS
+
+text_grows : (status : calls.Status) (bytes : List ℕ) (first last : Outgoing) (a c : List ℕ)
+    → ChecksText status bytes (calls_outlets a first) (calls_outlets c last)
+    → Grown a c (λ w. ChecksText status bytes (calls_outlets [] first) (calls_outlets w last))
+text_grows ends.InputOutput bytes first last a c p =
+    let out = fronted a c (texts_of p.1) p.4 in
+    (out.0, out.1, (p.0, p.1, p.2, p.3, out.2, p.5))
+text_grows ends.Done bytes first last a c p =
+    let out = appended a c (texts_of p.0) p.2 in
+    (out.0, out.1, (p.0, p.1, out.2))
+text_grows ends.Refused bytes first last a c p =
+    let out = appended a c (texts_of p.0) p.2 in
+    (out.0, out.1, (p.0, p.1, out.2))
+text_grows ends.Usage bytes first last a c p =
+    let out = appended a c (texts_of p.0) p.2 in
+    (out.0, out.1, (p.0, p.1, out.2))
+text_grows ends.Memory bytes first last a c p =
+    let out = appended a c (texts_of p.0) p.2 in
+    (out.0, out.1, (p.0, p.1, out.2))
+text_grows ends.NotDecided bytes first last a c p =
+    let out = appended a c (texts_of p.0) p.2 in
+    (out.0, out.1, (p.0, p.1, out.2))
+
+large_grows : (status : calls.Status) (bytes : List ℕ) (first last : Outgoing) (a c : List ℕ)
+    → IsTooLarge status bytes (calls_outlets a first) (calls_outlets c last)
+    → Grown a c (λ w. IsTooLarge status bytes (calls_outlets [] first) (calls_outlets w last))
+large_grows ends.Refused bytes first last a c p =
+    let out = kept a c p.1 in
+    (out.0, out.1, (p.0, out.2, p.2))
+large_grows ends.Done bytes first last a c p = absurd p
+large_grows ends.Usage bytes first last a c p = absurd p
+large_grows ends.InputOutput bytes first last a c p = absurd p
+large_grows ends.Memory bytes first last a c p = absurd p
+large_grows ends.NotDecided bytes first last a c p = absurd p
+
+unread_grows : (status : calls.Status) (bytes : List ℕ) (left : Option (List ℕ)) (first last : Outgoing) (a c : List ℕ)
+    → IsNothingRead status bytes left (calls_outlets a first) (calls_outlets c last)
+    → Grown a c (λ w. IsNothingRead status bytes left (calls_outlets [] first) (calls_outlets w last))
+unread_grows ends.InputOutput bytes left first last a c p =
+    let out = kept a c p.1 in
+    (out.0, out.1, (p.0, out.2, p.2))
+unread_grows ends.Memory bytes left first last a c p =
+    let out = kept a c p.0 in
+    (out.0, out.1, (out.2, p.1))
+unread_grows ends.Done bytes left first last a c p = absurd p
+unread_grows ends.Refused bytes left first last a c p = absurd p
+unread_grows ends.Usage bytes left first last a c p = absurd p
+unread_grows ends.NotDecided bytes left first last a c p = absurd p
+
+pub calls_check_grows : GrowsBy calls_outlets calls_checks.Checks
+calls_check_grows bytes left status first last a c (inl p) =
+    let out = text_grows status bytes first last a c p.1 in
+    (out.0, out.1, inl (p.0, out.2))
+calls_check_grows bytes left status first last a c (inr (inl p)) =
+    let out = large_grows status bytes first last a c p in
+    (out.0, out.1, inr (inl out.2))
+calls_check_grows bytes left status first last a c (inr (inr p)) =
+    let out = unread_grows status bytes left first last a c p in
+    (out.0, out.1, inr (inr out.2))
+
 -- THE CALLER'S BYTES
 
 -- a room in which nothing was written, and what is written in it behind that
@@ -130,9 +198,11 @@ grown r new w none e =
     let rest : take new.len new.bytes.now ≡ take r.len r.bytes.now ++ w = cc in
     (name, rest ∙ ap (λ (n : ℕ). take n r.bytes.now ++ w) none)
 
-pub fills : (Does : Contract) → Grows Does → (bytes : List ℕ) (left : Option (List ℕ)) (status : Status) (first last : Outgoing) (r new : Room)
-    → r.len ≡ 0 → Does bytes left status (outlets (room_holds r) first) (outlets (room_holds new) last) → Fills Does bytes status r new first last
-fills Does grows bytes left status first last r new empty p =
+pub fills : {S O : Type 0} (outlets : List ℕ → Outgoing → O) (Does : ContractBy S O) → GrowsBy outlets Does
+    → (bytes : List ℕ) (left : Option (List ℕ)) (status : S) (first last : Outgoing) (r new : Room)
+    → r.len ≡ 0 → Does bytes left status (outlets (room_holds r) first) (outlets (room_holds new) last)
+    → FillsBy outlets Does bytes status r new first last
+fills outlets Does grows bytes left status first last r new empty p =
     let done = grows bytes left status first last (room_holds r) (room_holds new) p in
     let out = grown r new done.0 empty done.1 in
     record {
@@ -141,12 +211,22 @@ fills Does grows bytes left status first last r new empty p =
       ends = subst (λ (w : List ℕ). Does bytes left status (outlets [] first) (outlets w last)) (sym out.1) done.2;
     }
 
+-- where there was no memory before anything was read
+pub no_memory_fills : (bytes : List ℕ) (r : Room) (first last : Outgoing) → r.len ≡ 0 → Puts first last (codes "no memory\n")
+    → FillsBy calls_outlets calls_checks.Checks bytes ends.Memory r r first last
+no_memory_fills bytes r first last empty puts = record {
+  same = refl;
+  left = None;
+  ends = inr (inr (ap (λ (n : ℕ). take n r.bytes.now) empty, puts));
+}
+
 -- and what is then answered, of the caller's bytes
-pub answers : (Does : Contract) (bytes : List ℕ) (status : Status) (code : ℕ) (r new : Room) (writer : ℕ) (first last : Outgoing) (start noted text notes : List ℕ) (m n room : ℕ)
-    → Fills Does bytes status r new first last → first ≡ at_first writer (Some start) → start ≡ [] → Some noted ≡ last.contents
-    → text ≡ new.bytes.now → m ≡ new.len → code ≡ status_code status → take n notes ≡ take room noted
-    → Answers Does bytes code (take m text) (take n notes) room
-answers Does bytes status code r new writer first last start noted text notes m n room f at none holds is len is_code told =
+pub answers : {S O : Type 0} (code_of : S → ℕ) (outlets : List ℕ → Outgoing → O) (Does : ContractBy S O) (bytes : List ℕ) (status : S) (code : ℕ)
+    (r new : Room) (writer : ℕ) (first last : Outgoing) (start noted text notes : List ℕ) (m n room : ℕ)
+    → FillsBy outlets Does bytes status r new first last → first ≡ at_first writer (Some start) → start ≡ [] → Some noted ≡ last.contents
+    → text ≡ new.bytes.now → m ≡ new.len → code ≡ code_of status → take n notes ≡ take room noted
+    → AnswersBy code_of outlets Does bytes code (take m text) (take n notes) room
+answers code_of outlets Does bytes status code r new writer first last start noted text notes m n room f at none holds is len is_code told =
     let e : first ≡ at_first writer (Some []) = at ∙ ap (λ (k : List ℕ). at_first writer (Some k)) none in
     let ends : Does bytes f.left status (outlets [] (at_first writer (Some []))) (outlets (take new.len new.bytes.now) last)
     = subst (λ (o : Outgoing). Does bytes f.left status (outlets [] o) (outlets (take new.len new.bytes.now) last)) e f.ends in

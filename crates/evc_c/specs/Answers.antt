@@ -1,24 +1,24 @@
 -- What a call answered and wrote, for the bytes that it was given.
 use Rattle.std.specs.Prelude.{◌≡◌, ℕ, List, [], take, Option, Some}
 use Rattle.ec_text.specs.Puts.{Outgoing, at_first}
-use Rattle.evc_engine.specs.declared.status.Status.{Status}
-use Rattle.evc_engine.specs.Statuses.{status_code}
-use Rattle.evc_engine.specs.Checks.{Outlets}
-
--- a writer of the text that holds these bytes, and these notes
-abbrev pub outlets : List ℕ → Outgoing → Outlets
-outlets text notes = record { out = Some text; notes = notes }
+use Rattle.evc_engine.specs.declared.status.Status as evc
+use Rattle.evc_engine.specs.Statuses as evc_statuses
+use Rattle.evc_engine.specs.Checks as evc_checks
+use Rattle.calls_report.specs.declared.status.Status as calls
+use Rattle.calls_report.specs.Statuses as calls_statuses
+use Rattle.calls_report.specs.Checks as calls_checks
 
 -- what a command does, as its contract says it: for the bytes of its input, and those that were left, how it ended, and the outlets
 -- before and after it
-abbrev pub Contract : Type 1
-Contract = List ℕ → Option (List ℕ) → Status → Outlets → Outlets → Type 0
+abbrev pub ContractBy : Type 0 → Type 0 → Type 1
+ContractBy S O = List ℕ → Option (List ℕ) → S → O → O → Type 0
 
 -- for these bytes the command ended with this status, where at first nothing was written and no note waited; this text was written, and
 -- of its notes their writer holds these, or as much of them as there is room for
-pub record Answers (Does : Contract) (bytes : List ℕ) (code : ℕ) (text notes : List ℕ) (room : ℕ) : Type 0 where
-  pub status : Status
-  pub is : code ≡ status_code status
+pub record AnswersBy {S O : Type 0} (code_of : S → ℕ) (outlets : List ℕ → Outgoing → O) (Does : ContractBy S O) (bytes : List ℕ) (code : ℕ)
+    (text notes : List ℕ) (room : ℕ) : Type 0 where
+  pub status : S
+  pub is : code ≡ code_of status
   pub left : Option (List ℕ)
   pub writer : ℕ
   pub last : Outgoing
@@ -26,3 +26,23 @@ pub record Answers (Does : Contract) (bytes : List ℕ) (code : ℕ) (text notes
   pub noted : List ℕ
   pub holds : last.contents ≡ Some noted
   pub told : notes ≡ take room noted
+
+-- COMMANDS ON TRACES AND SCRIPTS
+
+-- a writer of the text that holds these bytes, and these notes
+abbrev pub outlets : List ℕ → Outgoing → evc_checks.Outlets
+outlets text notes = record { out = Some text; notes = notes }
+
+abbrev pub Contract : Type 1
+Contract = ContractBy evc.Status evc_checks.Outlets
+
+abbrev pub Answers : Contract → List ℕ → ℕ → List ℕ → List ℕ → ℕ → Type 0
+Answers Does bytes code text notes room = AnswersBy evc_statuses.status_code outlets Does bytes code text notes room
+
+-- HISTORIES OF CALLS
+
+abbrev pub calls_outlets : List ℕ → Outgoing → calls_checks.Outlets
+calls_outlets text notes = record { out = Some text; notes = notes }
+
+abbrev pub CallsAnswers : List ℕ → ℕ → List ℕ → List ℕ → ℕ → Type 0
+CallsAnswers bytes code text notes room = AnswersBy calls_statuses.status_code calls_outlets calls_checks.Checks bytes code text notes room

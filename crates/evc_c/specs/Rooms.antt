@@ -1,9 +1,11 @@
 -- The caller's bytes, as a writer.
 use Rattle.std.specs.Prelude.{◌≡◌, ℕ, List, [], ◌∷◌, take, Option}
 use Rattle.ec_text.specs.Puts.{Outgoing}
-use Rattle.evc_engine.specs.declared.status.Status.{Status}
+use Rattle.evc_engine.specs.declared.status.Status as evc
+use Rattle.calls_report.specs.declared.status.Status as calls
+use Rattle.calls_report.specs.Checks.{Checks}
 use Rattle.evc_c.specs.declared.room.Room.{Room}
-use Rattle.evc_c.specs.Answers.{Contract, outlets}
+use Rattle.evc_c.specs.Answers.{ContractBy, Contract, outlets, calls_outlets}
 
 -- what a room holds, as a writer
 abbrev pub room_holds : Room → List ℕ
@@ -11,7 +13,14 @@ room_holds r = r.bytes.ghost_name ∷ take r.len r.bytes.now
 
 -- what a command did to a room in which nothing had been written, and to the notes: it is the same room, and what is written in it is
 -- what the command writes
-pub record Fills (Does : Contract) (bytes : List ℕ) (status : Status) (r new : Room) (first last : Outgoing) : Type 0 where
+pub record FillsBy {S O : Type 0} (outlets : List ℕ → Outgoing → O) (Does : ContractBy S O) (bytes : List ℕ) (status : S) (r new : Room)
+    (first last : Outgoing) : Type 0 where
   pub same : new.bytes.ghost_name ≡ r.bytes.ghost_name
   pub left : Option (List ℕ)
   pub ends : Does bytes left status (outlets [] first) (outlets (take new.len new.bytes.now) last)
+
+abbrev pub Fills : Contract → List ℕ → evc.Status → Room → Room → Outgoing → Outgoing → Type 0
+Fills Does bytes status r new first last = FillsBy outlets Does bytes status r new first last
+
+abbrev pub CallsFills : List ℕ → calls.Status → Room → Room → Outgoing → Outgoing → Type 0
+CallsFills bytes status r new first last = FillsBy calls_outlets Checks bytes status r new first last

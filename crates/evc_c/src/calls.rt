@@ -4,17 +4,17 @@ ghost use Rattle.evc_engine.specs.Checks.{Checks};
 ghost use Rattle.evc_engine.specs.Audits.{Audits};
 ghost use Rattle.evc_engine.specs.Upgrades.{Upgrades};
 ghost use Rattle.evc_scripts.specs.Sims.{Sims};
-ghost use Rattle.evc_c.specs.Answers.{Answers};
-ghost use Rattle.evc_c.specs.Rooms.{Fills};
+ghost use Rattle.evc_c.specs.Answers.{Answers, CallsAnswers};
+ghost use Rattle.evc_c.specs.Rooms.{Fills, CallsFills};
 
-use crate::room::{Room, put_at};
+use crate::room::{NotesRoom, Room, put_at};
 use arrayvec::ArrayVec;
 use ec_text::Out;
 use evc_engine::{Status, audit, check, upgrade};
 use evc_scripts::sim;
 use std::alloc::Global;
 
-/// The notes of a call, of which there are less than a thousand bytes.
+/// The notes of a call on a trace or a script, of which there are less than a thousand bytes.
 type Noted = ArrayVec<u8, 1024>;
 
 /// How many bytes were written of the text and of the notes.
@@ -25,15 +25,15 @@ pub struct EvcWritten {
 }
 
 /// Tells how much stands in a room, and hands out as much of the notes as there is room for.
-fn hand_out(out: &Room<'_>, told: &Noted, notes: &mut [u8], written: &mut EvcWritten)
+fn hand_out(out: &Room<'_>, told: &[u8], notes: &mut [u8], written: &mut EvcWritten)
     ensures text { written.new.text ≡ out.now.len }
     ensures within { written.new.notes ≤ length notes.new }
     ensures long { length notes.new ≡ length notes.old }
-    ensures notes { take written.new.notes notes.new ≡ take (length notes.old) told.now.items }
+    ensures notes { take written.new.notes notes.new ≡ take (length notes.old) told.now }
     ensures rest { drop written.new.notes notes.new ≡ drop written.new.notes notes.old }
 {
     written.text = out.len;
-    written.notes = put_at(notes, 0, told.as_slice());
+    written.notes = put_at(notes, 0, told);
 }
 
 /// `check`, of bytes and into a room.
@@ -73,7 +73,7 @@ pub extern "C" fn evc_check(
     let mut bytes = Noted::new();
     let mut told = Out::new(&mut bytes);
     let status = check_bytes(alloc, trace, &mut out, &mut told);
-    hand_out(&out, told.into_writer(), notes, written);
+    hand_out(&out, told.into_writer().as_slice(), notes, written);
     status.code()
 }
 
@@ -112,7 +112,7 @@ pub extern "C" fn evc_audit(
     let mut bytes = Noted::new();
     let mut told = Out::new(&mut bytes);
     let status = audit_bytes(alloc, trace, &mut out, &mut told);
-    hand_out(&out, told.into_writer(), notes, written);
+    hand_out(&out, told.into_writer().as_slice(), notes, written);
     status.code()
 }
 
@@ -151,7 +151,7 @@ pub extern "C" fn evc_upgrade(
     let mut bytes = Noted::new();
     let mut told = Out::new(&mut bytes);
     let status = upgrade_bytes(alloc, trace, &mut out, &mut told);
-    hand_out(&out, told.into_writer(), notes, written);
+    hand_out(&out, told.into_writer().as_slice(), notes, written);
     status.code()
 }
 
@@ -185,7 +185,80 @@ pub extern "C" fn evc_sim(
     let mut bytes = Noted::new();
     let mut told = Out::new(&mut bytes);
     let status = sim_bytes(alloc, script, &mut out, &mut told);
-    hand_out(&out, told.into_writer(), notes, written);
+    hand_out(&out, told.into_writer().as_slice(), notes, written);
+    status.code()
+}
+
+/// `check` of histories of calls, of bytes and into a room.
+fn calls_check_bytes(
+    alloc: Global,
+    calls: &[u8],
+    out: &mut Room<'_>,
+    notes: &mut Out<'_, NotesRoom>,
+) -> calls_report::Status
+    requires { out.old.len ≡ 0 }
+    ensures same { out.new.bytes.ghost_name ≡ out.old.bytes.ghost_name }
+    ensures fills { CallsFills calls.now result out.old out.new notes.old notes.new }
+{
+    let mut reader = calls;
+    calls_report::check(alloc, &mut reader, out, notes)
+}
+
+/// Says that there was no memory before anything was read.
+fn say_no_memory(
+    calls: &[u8],
+    out: &mut Room<'_>,
+    notes: &mut Out<'_, Noted>,
+) -> calls_report::Status
+    requires { out.old.len ≡ 0 }
+    ensures same { out.new.bytes.ghost_name ≡ out.old.bytes.ghost_name }
+    ensures fills { CallsFills calls.now result out.old out.new notes.old notes.new }
+{
+    notes.say(b"no memory\n");
+    calls_report::Status::Memory
+}
+
+/// Answers that there was no memory before anything was read.
+#[tactic(auto, using(crate::proofs::Grown::answers))]
+fn answer_no_memory(calls: &[u8], text: &mut [u8], notes: &mut [u8], written: &mut EvcWritten) -> u8
+    ensures answers { CallsAnswers calls.now result (take written.new.text text.new) (take written.new.notes notes.new) (length notes.old) }
+    ensures text { written.new.text ≤ length text.new }
+    ensures notes { written.new.notes ≤ length notes.new }
+    ensures rest { drop written.new.notes notes.new ≡ drop written.new.notes notes.old }
+{
+    let mut out = Room::new(text);
+    let mut bytes = Noted::new();
+    let mut told = Out::new(&mut bytes);
+    let status = say_no_memory(calls, &mut out, &mut told);
+    hand_out(&out, told.into_writer().as_slice(), notes, written);
+    status.code()
+}
+
+/// Checks histories of calls: an order of the calls of each is the text. The notes have the remarks on them, and then the note on what
+/// ended the check, if there is one.
+///
+/// The status is that of `evc-calls check`, and 3 where the text had no room: then a proper front of it was written.
+#[tactic(auto, using(crate::proofs::Grown::answers))]
+#[unsafe(no_mangle)]
+pub extern "C" fn evc_calls_check(
+    alloc: Global,
+    calls: &[u8],
+    text: &mut [u8],
+    notes: &mut [u8],
+    written: &mut EvcWritten,
+) -> u8
+    ensures answers { CallsAnswers calls.now result (take written.new.text text.new) (take written.new.notes notes.new) (length notes.old) }
+    ensures text { written.new.text ≤ length text.new }
+    ensures notes { written.new.notes ≤ length notes.new }
+    ensures rest { drop written.new.notes notes.new ≡ drop written.new.notes notes.old }
+{
+    let Ok(mut bytes) = NotesRoom::new(alloc, notes.len()) else {
+        return answer_no_memory(calls, text, notes, written);
+    };
+    let mut out = Room::new(text);
+    let mut told = Out::new(&mut bytes);
+    let status = calls_check_bytes(alloc, calls, &mut out, &mut told);
+    hand_out(&out, told.into_writer().as_slice(), notes, written);
     status.code()
 }
 

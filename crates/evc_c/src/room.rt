@@ -1,8 +1,9 @@
 //! The caller's bytes, as a writer.
-ghost use Rattle.std.specs.Prelude.{◌≡◌, ◌≤◌, ◌+◌, ◌-◌, ◌∷◌, ◌++◌, min, length, take, drop, Some, IsOk};
+ghost use Rattle.std.specs.Prelude.{◌≡◌, ◌≤◌, ◌+◌, ◌-◌, ◌∷◌, ◌++◌, [], min, length, take, drop, Some, IsOk, IfOk};
 ghost use Rattle.std.specs.Io.{WritesAtMost};
 ghost use Rattle.std.specs.Io.KnownBytes.{Keeps, WriteAppends};
 
+use std::alloc::{AllocError, Global};
 use std::io;
 use std::io::Write;
 
@@ -50,6 +51,47 @@ impl Write for Room<'_> {
         let n = put_at(self.bytes, self.len, buf);
         self.len += n;
         Ok(n)
+    }
+
+    fn flush(&mut self) -> io::Result<()> {
+        Ok(())
+    }
+}
+
+/// Notes, of which as many bytes are taken as there is room for.
+#[derive(Drop)]
+pub(crate) struct NotesRoom {
+    bytes: Vec<u8>,
+    room: usize,
+}
+
+impl NotesRoom {
+    /// Takes memory for so many bytes.
+    pub(crate) fn new(alloc: Global, room: usize) -> Result<NotesRoom, AllocError>
+        ensures { IfOk result (λ r. r.bytes.items ≡ []) }
+    {
+        let bytes = Vec::with_capacity(alloc, room)?;
+        Ok(NotesRoom { bytes, room })
+    }
+
+    /// The bytes that were taken.
+    pub(crate) fn as_slice(&self) -> &[u8]
+        ensures { result.now ≡ self.now.bytes.items }
+    {
+        self.bytes.as_slice()
+    }
+}
+
+impl Write for NotesRoom {
+    ghost contents = { λ r. Some r.bytes.items };
+
+    fn write(&mut self, buf: &[u8]) -> io::Result<usize>
+        ensures bound { WritesAtMost result buf.now }
+        ensures bytes { WriteAppends (Some self.old.bytes.items) (Some self.new.bytes.items) result buf.now }
+    {
+        let taken = buf.len().min(self.room.saturating_sub(self.bytes.len()));
+        self.bytes.extend_from_slice(&buf[..taken])?;
+        Ok(taken)
     }
 
     fn flush(&mut self) -> io::Result<()> {

@@ -15,7 +15,8 @@ use Rattle.calls_report.specs.declared.status.Status.{Status}
 use Rattle.calls_report.specs.declared.status.Status.TheVariants as statuses
 use Rattle.calls_report.specs.Notes.{scene_of, SaysRefusal, undecided_note}
 use Rattle.calls_report.specs.Checks.{Outlets, Judged, HasOrder, IsRefused, IsOpen, history_text}
-use Rattle.calls_report.specs.Checks.{texts_of, AreJudged, IsJudged, ChecksText, IsTooLarge}
+use Rattle.calls_report.specs.Checks.{texts_of, remarks_on, AreJudged, IsJudged, ChecksText}
+use Rattle.calls_report.specs.Checks.{IsTooLarge}
 
 -- the text of the history and of an order of its calls was put
 abbrev pub PutsOrder : Recorded → Outgoing → Outgoing → Type 0
@@ -52,8 +53,11 @@ abbrev pub ChecksWhole : Status → List ℕ → Outlets → Outlets → Type 0
 ChecksWhole status text old new =
     ((length text ≤ TEXT_MAX) × ChecksText status text old new) ⊎ IsTooLarge status text old new
 
--- the histories of a text up to line n were judged, and their texts were put; this is the rest
-abbrev pub IsJudgedSoFar : List ℕ → ℕ → List ℕ → Outgoing → Outgoing → Type 0
-IsJudgedSoFar text n rest old new =
-    (judged : List Judged) × AreJudged 1 (parts_of text) judged n (parts_of rest)
-    × Puts old new (texts_of judged)
+-- the histories of a text up to line n were judged, and their texts and the remarks on them were
+-- put; this is the rest
+pub record IsJudgedSoFar (text : List ℕ) (n : ℕ) (rest : List ℕ)
+    (old new old_notes new_notes : Outgoing) : Type 0 where
+  pub judged : List Judged
+  pub judged_are : AreJudged 1 (parts_of text) judged n (parts_of rest)
+  pub texts : Puts old new (texts_of judged)
+  pub remarks : Puts old_notes new_notes (remarks_on judged)

@@ -1,10 +1,8 @@
-use Rattle.std.proofs.Common.{◌<◌, ◌≤◌, ◌+◌, sym, ◌∙◌, subst, arith, rules}
-use Rattle.ec_text.specs.Puts.{Outgoing, Puts, IsWrittenOut}
+use Rattle.std.proofs.Common.{◌<◌, ◌≤◌, ◌+◌, sym, subst, arith, rules}
+use Rattle.ec_text.specs.Puts.{Outgoing}
 use Rattle.calls_text.specs.Outcomes.{OneRead, parts_of}
 use Rattle.calls_report.specs.declared.status.Status.{Status}
-use Rattle.calls_report.specs.declared.status.Status.TheVariants.{Done}
-use Rattle.calls_report.specs.Notes.{fault_note}
-use Rattle.calls_report.specs.kept.Judging.{Judges, StopsBy, IsJudgedSoFar}
+use Rattle.calls_report.specs.kept.Judging.{Judges, IsJudgedSoFar}
 use Rattle.calls_report.proofs.JudgingLemmas.{judges_unread, judges_stopped, judges_all}
 use Rattle.calls_report.proofs.JudgingLemmas.{so_far_more, goes_past, nothing}
 use Rattle.calls_report.proofs.checking.judge_all.Goals as goal
@@ -14,10 +12,8 @@ returns-in-Err-clause-judges g c =
     subst (λ (s : Status). Judges s c.args.text.now c.args.out.now c.loop-read.out c.args.notes.now
     c.end_unread.new.notes) (sym c.end_unread.ensures.status)
     (judges_unread c.args.text.now c.loop-read.number c.loop-read.rest.now c.args.out.now
-    c.loop-read.out c.args.notes.now c.end_unread.new.notes c.in-Err.fault
-    c.loop-read.invariant.judged c.in-Err.ensures.tells
-    (subst (λ (k : Outgoing). Puts k c.end_unread.new.notes (fault_note c.in-Err.fault))
-    c.loop-read.invariant.quiet c.end_unread.ensures.puts))
+    c.loop-read.out c.args.notes.now c.loop-read.notes c.end_unread.new.notes c.in-Err.fault
+    c.loop-read.invariant.judged c.in-Err.ensures.tells c.end_unread.ensures.puts)
 
 pub returns-in-Err-judge-clause-judges : goal.returns-in-Err-judge-clause-judges
 returns-in-Err-judge-clause-judges g c =
@@ -29,18 +25,16 @@ returns-in-Err-judge-clause-judges g c =
     subst (λ (s : Status). Judges s c.args.text.now c.args.out.now c.judge.new.out c.args.notes.now
     c.end_by.new.notes) (sym c.end_by.ensures.status)
     (judges_stopped c.args.text.now c.loop-read.number c.loop-read.rest.now c.args.out.now
-    c.judge.new.out c.args.notes.now c.judge.new.notes c.end_by.new.notes o c.in-Err-judge.stop
+    c.judge.new.out c.args.notes.now c.loop-read.notes c.judge.new.notes c.end_by.new.notes o
+    c.in-Err-judge.stop
     (subst (λ (k : Outgoing). IsJudgedSoFar c.args.text.now c.loop-read.number c.loop-read.rest.now
-    c.args.out.now k) (sym c.in-Err-judge.ensures.none) c.loop-read.invariant.judged)
-    c.in-Ok.ensures.tells
-    (subst (λ (k : Outgoing). StopsBy c.in-Ok.read.number c.in-Ok.read.recording k
-    c.judge.new.notes c.in-Err-judge.stop) c.loop-read.invariant.quiet c.in-Err-judge.ensures.stop)
-    c.end_by.ensures.notes)
+    c.args.out.now k c.args.notes.now c.loop-read.notes) (sym c.in-Err-judge.ensures.none)
+    c.loop-read.invariant.judged)
+    c.in-Ok.ensures.tells c.in-Err-judge.ensures.stop c.end_by.ensures.notes)
 
 pub returns-in-Err-judge-clause-written : goal.returns-in-Err-judge-clause-written
 returns-in-Err-judge-clause-written g c = λ written.
-    c.end_by.ensures.written (c.judge.ensures.written
-    (subst IsWrittenOut (sym c.loop-read.invariant.quiet) written))
+    c.end_by.ensures.written (c.judge.ensures.written (c.loop-read.invariant.written written))
 
 pub returns-then-is_empty-clause-judges : goal.returns-then-is_empty-clause-judges
 returns-then-is_empty-clause-judges g c =
@@ -51,14 +45,13 @@ returns-then-is_empty-clause-judges g c =
       rest = parts_of c.in-Ok.read.rest.now;
     }) c.in-Ok.ensures.tells in
     let past : 1 < c.in-Ok.read.number = omega (arith, more, c.loop-read.invariant.first) in
-    subst (λ (k : Outgoing). Judges Done c.args.text.now c.args.out.now c.judge.new.out
-    c.args.notes.now k) (sym (c.in_default.ensures.quiet ∙ c.loop-read.invariant.quiet))
-    (judges_all c.args.text.now c.in-Ok.read.number c.in-Ok.read.rest.now c.args.out.now
-    c.judge.new.out c.args.notes.now
+    judges_all c.args.text.now c.in-Ok.read.number c.in-Ok.read.rest.now c.args.out.now
+    c.judge.new.out c.args.notes.now c.judge.new.notes
     (so_far_more c.args.text.now c.loop-read.number c.loop-read.rest.now c.args.out.now
-    c.loop-read.out c.judge.new.out c.in-Ok.read.recording c.in-Ok.read.number
-    c.in-Ok.read.rest.now c.loop-read.invariant.judged c.in-Ok.ensures.tells
-    c.in_default.ensures.ok) past (nothing c.in-Ok.read.rest.now (search rules)))
+    c.loop-read.out c.judge.new.out c.args.notes.now c.loop-read.notes c.judge.new.notes
+    c.in-Ok.read.recording c.in-Ok.read.number c.in-Ok.read.rest.now c.loop-read.invariant.judged
+    c.in-Ok.ensures.tells c.in_default.ensures.ok c.in_default.ensures.remarks) past
+    (nothing c.in-Ok.read.rest.now (search rules))
 
 pub loop-read-preserved : goal.loop-read-preserved
 loop-read-preserved g c =
@@ -70,10 +63,11 @@ loop-read-preserved g c =
     }) c.in-Ok.ensures.tells in
     record {
       judged = so_far_more c.args.text.now c.loop-read.number c.loop-read.rest.now c.args.out.now
-          c.loop-read.out c.judge.new.out c.in-Ok.read.recording c.in-Ok.read.number
-          c.in-Ok.read.rest.now c.loop-read.invariant.judged c.in-Ok.ensures.tells
-          c.in_default.ensures.ok;
-      quiet = c.in_default.ensures.quiet ∙ c.loop-read.invariant.quiet;
+          c.loop-read.out c.judge.new.out c.args.notes.now c.loop-read.notes c.judge.new.notes
+          c.in-Ok.read.recording c.in-Ok.read.number c.in-Ok.read.rest.now
+          c.loop-read.invariant.judged c.in-Ok.ensures.tells c.in_default.ensures.ok
+          c.in_default.ensures.remarks;
+      written = λ written. c.judge.ensures.written (c.loop-read.invariant.written written);
       room = omega (arith, c.in-Ok.ensures.numbers, c.loop-read.invariant.room);
       first = omega (arith, more, c.loop-read.invariant.first);
     }

@@ -1,0 +1,11 @@
+use Rattle.ec_text.proofs.shared.PutLemmas.{puts_then}
+use Rattle.calls_report.proofs.remarks.put_awaits.Goals as goal
+
+pub returns : goal.returns
+returns g c =
+    puts_then _ _ _ _ _
+    (puts_then _ _ _ _ _
+    (puts_then _ _ _ _ _
+    (puts_then _ _ _ _ _ c.put_worker.ensures c.put.ensures.puts) c.put_event.ensures)
+    c.put-2.ensures.puts)
+    c.put_number.ensures.puts

@@ -1,0 +1,131 @@
+//! Remarks on awaits that are pending although their thresholds were surely passed.
+ghost use Rattle.std.specs.Prelude.{◌≡◌, [], reverse, IfOk};
+ghost use Rattle.std.specs.List.{cons_option};
+ghost use Rattle.ec_text.specs.Puts.{Puts, IsWrittenOut};
+ghost use Rattle.calls_core.specs.Histories.{pending_calls};
+ghost use Rattle.calls_report.specs.Notes.{scene_of};
+ghost use Rattle.calls_report.specs.Remarks.{remark_by, remark_on, remarks_of, remark_head};
+ghost use Rattle.calls_report.specs.Remarks.{awaits_text, sure_text, remark_text, remark_lines};
+
+use crate::counting::pending_after;
+use crate::notes::site_of;
+use crate::refusal::Site;
+use crate::sure::sure_count;
+use calls_core::{Op, PendingCall};
+use calls_text::{Read, Recording};
+use ec_text::Out;
+use std::alloc::{AllocError, Global};
+use std::io::Write;
+
+/// A pending await, its threshold, and the count that was surely reached.
+#[derive(Clone, Copy, Debug, PartialEq, Eq)]
+pub(crate) struct Remark {
+    pub(crate) call: PendingCall,
+    pub(crate) threshold: usize,
+    pub(crate) count: usize,
+}
+
+/// Returns the remark on a pending call, if it awaits no more than a count.
+fn remark_by(count: usize, call: &PendingCall) -> Option<Remark>
+    ensures { cons_option result [] ≡ remark_by count call.now call.now.op }
+{
+    match call.op {
+        Op::Await(threshold) if threshold <= count => Some(Remark {
+            call: *call,
+            threshold,
+            count,
+        }),
+        _ => None,
+    }
+}
+
+/// Returns the remark on a pending call, if it is an await whose threshold was surely passed.
+fn remark_on(
+    alloc: Global,
+    recording: &Recording,
+    pending: &[PendingCall],
+    call: &PendingCall,
+) -> Result<Option<Remark>, AllocError>
+    requires { pending.now ≡ pending_calls (reverse recording.now.events) }
+    ensures { IfOk result (λ m. cons_option m [] ≡ remark_on recording.now call.now) }
+{
+    if !matches!(call.op, Op::Await(_)) {
+        return Ok(None);
+    }
+    let count = sure_count(alloc, recording, pending, call.object)?;
+    Ok(remark_by(count, call))
+}
+
+/// Returns the remarks on a history, in the order of the invocations.
+pub(crate) fn remarks_of(alloc: Global, recording: &Recording) -> Result<Vec<Remark>, AllocError>
+    ensures { IfOk result (λ ms. ms.items ≡ remarks_of recording.now) }
+{
+    let pending = pending_after(alloc, recording.events())?;
+    let mut remarks = Vec::new(alloc);
+    for call in &pending {
+        if let Some(remark) = remark_on(alloc, recording, &pending, call)? {
+            remarks.push(remark)?;
+        }
+    }
+    Ok(remarks)
+}
+
+/// Puts the line of an invocation.
+fn put_head<W: Write>(out: &mut Out<'_, W>, site: &Site<'_>, call: &PendingCall)
+    ensures { Puts out.old out.new (remark_head site.now call.now) }
+{
+    out.put(b"remark: line ");
+    site.put_line(out, call.first);
+    out.put(b": ");
+}
+
+/// Puts who awaits what.
+fn put_awaits<W: Write>(out: &mut Out<'_, W>, site: &Site<'_>, call: &PendingCall, threshold: usize)
+    ensures { Puts out.old out.new (awaits_text site.now call.now threshold) }
+{
+    site.put_worker(out, call.worker);
+    out.put(b" awaits ");
+    site.put_event(out, call.object);
+    out.put(b" ");
+    out.put_number(threshold as u64);
+}
+
+/// Puts the count that was surely reached.
+fn put_sure<W: Write>(out: &mut Out<'_, W>, count: usize)
+    ensures { Puts out.old out.new (sure_text count) }
+{
+    out.put(b", and the count was surely ");
+    out.put_number(count as u64);
+    out.put(b"\n");
+}
+
+/// Puts a remark.
+fn put_remark<W: Write>(out: &mut Out<'_, W>, site: &Site<'_>, remark: &Remark)
+    ensures { Puts out.old out.new (remark_text site.now remark.now) }
+{
+    put_head(out, site, &remark.call);
+    put_awaits(out, site, &remark.call, remark.threshold);
+    put_sure(out, remark.count);
+}
+
+/// Puts remarks.
+fn put_remarks<W: Write>(out: &mut Out<'_, W>, site: &Site<'_>, remarks: &[Remark])
+    ensures { Puts out.old out.new (remark_lines site.now remarks.now) }
+{
+    for remark in remarks {
+        put_remark(out, site, remark);
+    }
+}
+
+/// Says the remarks on a history.
+pub(crate) fn say_remarks<N: Write>(notes: &mut Out<'_, N>, read: &Read<'_>, remarks: &[Remark])
+    ensures puts { Puts notes.old notes.new (remark_lines
+        (scene_of read.now.number read.now.recording 0 0) remarks.now) }
+    ensures written { IsWrittenOut notes.old → IsWrittenOut notes.new }
+{
+    if remarks.is_empty() {
+        return;
+    }
+    put_remarks(notes, &site_of(read, 0, 0), remarks);
+    notes.flush();
+}
