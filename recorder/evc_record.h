@@ -278,8 +278,8 @@ static inline void evc_pause_between(evc_record *r, int worker) {
     *chance ^= *chance >> 7;
     *chance ^= *chance << 17;
     if (*chance >> 60 < 4)
-        for (volatile unsigned i = (unsigned)(*chance >> 32) % 2000; i > 0; i = i - 1)
-            ;
+        for (unsigned i = (unsigned)(*chance >> 32) % 8000; i > 0; i--)
+            __asm__ __volatile__("" ::: "memory");
     else if (*chance >> 60 < 6)
         sched_yield();
 }

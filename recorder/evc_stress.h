@@ -12,9 +12,9 @@
  *     evc_stress s = {.fresh = fresh, .advance = advance, .read = read, .await = await};
  *     return evc_stress_says(&s, evc_stress_run(&s));
  *
- * SHAPES. EVC_STRESS_MIXED: half of the threads advance and read, the others read and await.
- * EVC_STRESS_RING: each thread awaits its turn and advances, so every wake-up is needed. For other
- * objects give `declare` and `work` in place of advance, read and await.
+ * SHAPES. EVC_STRESS_MIXED: half of the threads (`producers`) advance and read, the others read and
+ * await. EVC_STRESS_RING: each thread awaits its turn and advances, so every wake-up is needed. For
+ * other objects give `declare` and `work` in place of advance, read and await.
  *
  * All threads spin at a gate and start at once, and pause by chance between calls. The same seed
  * gives the same pauses; how the threads meet is up to the machine. It stops at the first history
@@ -88,12 +88,17 @@ static inline uint64_t evc_chance_below(evc_chance *chance, uint64_t bound) {
     return (chance->state >> 11) % bound;
 }
 
+/* Does nothing for a while. */
+static inline void evc_spin_(uint64_t turns) {
+    for (uint64_t i = 0; i < 4 * turns; i++)
+        EVC_BARRIER_();
+}
+
 /* Pauses: mostly not at all, now and then for a moment, until others ran, or asleep. */
 static inline void evc_chance_pause(evc_chance *chance) {
     uint64_t kind = evc_chance_below(chance, 64);
     if (kind < 16)
-        for (volatile uint64_t i = evc_chance_below(chance, 100); i > 0; i = i - 1)
-            ;
+        evc_spin_(evc_chance_below(chance, 100));
     else if (kind < 20)
         sched_yield();
     else if (kind == 20)
@@ -125,10 +130,11 @@ typedef struct evc_hand_ {
 
 typedef struct evc_stress {
     /* To be set. For 0 or NULL stands what is in brackets. */
-    int threads; /* at most 16 [4] */
-    int rounds;  /* [1000] */
-    int room;    /* for the calls of a thread in a round [64] */
-    int batch;   /* so many rounds are judged together [20] */
+    int threads;   /* at most 16 [4] */
+    int rounds;    /* [1000] */
+    int room;      /* for the calls of a thread in a round [64] */
+    int batch;     /* so many rounds are judged together [20] */
+    int producers; /* so many threads advance, where the shape is mixed [half, rounded up] */
     uint64_t seed;
     double hang_seconds; /* without an invocation or a response [10] */
     const char *keep;    /* the file for a wrong history ["refused.calls"] */
@@ -191,7 +197,7 @@ static inline uint64_t evc_stress_await_(evc_stress *s, evc_caller *w, uint64_t 
 
 /* Advances six times in ten calls, or reads and awaits what is to come. */
 static inline void evc_stress_mixed_(evc_stress *s, evc_hand_ *h) {
-    uint64_t producers = (uint64_t)(s->threads + 1) / 2, total = 6 * producers, left = 6, last = 0;
+    uint64_t producers = (uint64_t)s->producers, total = 6 * producers, left = 6, last = 0;
     for (uint64_t calls = 10; calls > 0; calls--) {
         evc_chance_pause(&h->chance);
         uint64_t by_chance = evc_chance_below(&h->chance, calls);
@@ -212,8 +218,7 @@ static inline void evc_stress_ring_(evc_stress *s, evc_hand_ *h) {
     for (int lap = 0; lap < 10; lap++) {
         evc_stress_await_(s, h->worker, (uint64_t)(lap * s->threads + h->number));
         if (evc_chance_below(&h->chance, 2))
-            for (volatile uint64_t i = evc_chance_below(&h->chance, 3000); i > 0; i = i - 1)
-                ;
+            evc_spin_(evc_chance_below(&h->chance, 3000));
         evc_stress_advance_(s, h->worker);
     }
 }
@@ -387,6 +392,7 @@ static inline void evc_stress_defaults_(evc_stress *s) {
     s->rounds = s->rounds ? s->rounds : 1000;
     s->room = s->room ? s->room : 64;
     s->batch = s->batch > 0 ? s->batch : 20;
+    s->producers = s->producers ? s->producers : (s->threads + 1) / 2;
     s->hang_seconds = s->hang_seconds > 0 ? s->hang_seconds : 10;
     s->keep = s->keep ? s->keep : "refused.calls";
     s->judge = s->judge ? s->judge : EVC_STRESS_JUDGE;

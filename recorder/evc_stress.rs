@@ -16,9 +16,9 @@
 //!         Stress::default().run::<Mine>().unwrap();
 //!     }
 //!
-//! `Shape::Mixed`: half of the threads advance and read, the others read and await. `Shape::Ring`:
-//! each thread awaits its turn and advances, so every wake-up is needed. `run_with` is for other
-//! objects. The head of recorder/evc_stress.h says more; the two do the same.
+//! `Shape::Mixed`: half of the threads (`producers`) advance and read, the others read and await.
+//! `Shape::Ring`: each thread awaits its turn and advances, so every wake-up is needed. `run_with` is
+//! for other objects. The head of recorder/evc_stress.h says more; the two do the same.
 #![allow(dead_code)]
 
 use super::evc_calls::{self, Call, Clock, Fault, Idle, Record, Reply, Worker};
@@ -138,6 +138,8 @@ pub struct Stress {
     pub room: u32,
     /// So many rounds are judged together.
     pub batch: usize,
+    /// So many threads advance, where the shape is mixed; 0 stands for half of them, rounded up.
+    pub producers: usize,
     pub seed: u64,
     /// So long without an invocation or a response.
     pub hang: Duration,
@@ -155,6 +157,7 @@ impl Default for Stress {
             rounds: 1000,
             room: 64,
             batch: 20,
+            producers: 0,
             seed: 0,
             hang: Duration::from_secs(10),
             keep: "refused.calls".into(),
@@ -217,8 +220,9 @@ impl Stress {
     /// Runs rounds on fresh eventcounts. After a hang the threads are still there: leave then.
     pub fn run<T: Eventcount>(&self) -> Result<Passed, Wrong> {
         let (shape, threads) = (self.shape, self.threads);
+        let producers = if self.producers > 0 { self.producers } else { threads.div_ceil(2) };
         let work = move |subject: &T, e, w: &mut Worker, number, chance: &mut Chance| match shape {
-            Shape::Mixed => mixed(subject, e, w, number, threads, chance),
+            Shape::Mixed => mixed(subject, e, w, number, producers, chance),
             Shape::Ring => ring(subject, e, w, number, threads, chance),
         };
         self.run_with(|record| record.eventcount("E", 0), T::fresh, work)
@@ -383,10 +387,9 @@ fn mixed<T: Eventcount>(
     e: evc_calls::Eventcount,
     w: &mut Worker,
     number: usize,
-    threads: usize,
+    producers: usize,
     chance: &mut Chance,
 ) {
-    let producers = threads.div_ceil(2);
     let (total, mut left, mut last) = (6 * producers as u64, 6, 0);
     for calls in (1..=10).rev() {
         chance.pause();
