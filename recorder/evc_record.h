@@ -1,7 +1,7 @@
 /* evc_record.h: records what a program does with its own eventcounts and sequencers, as a trace for
  * `evc check`.
  *
- * C11 and POSIX threads, this one header, nothing to link. docs/TRACING.md shows how it is used.
+ * C11 and POSIX threads, this one header, nothing to link. docs/RECORDING.md shows how it is used.
  * Nothing of it is proved: what it has written is judged by `evc check`.
  *
  *     evc_record r;
