@@ -119,27 +119,20 @@ static inline void evc_monitor_event_(evc_monitor_thread *m, int worker) {
     evc_monitor_find_(m, worker);
 }
 
-/* Ends the judging where a worker was used wrongly, or its events are in no order. */
-static inline void evc_monitor_fault_(evc_monitor_thread *m, enum evc_calls_fault fault) {
-    if (m->status != 0)
-        return;
-    snprintf(m->note, sizeof m->note, "%s%s%.150s", evc_calls_fault_name(fault),
-             m->calls->note[0] ? ": " : "", m->calls->note);
-    __atomic_store_n(&m->status, EVC_MONITOR_NO_RECORD, __ATOMIC_RELEASE);
-}
-
 /* Gives all events before a cut. */
 static inline void evc_monitor_batch_(evc_monitor_thread *m, uint64_t cut) {
     evc_pass_ *p = &m->pass;
-    int is_cut = 0, worker;
+    enum evc_calls_fault fault = EVC_CALLS_OK;
+    int worker;
     p->cut = cut;
     for (uint64_t i = 0; i < p->head->workers; i++) {
         uint64_t own = __atomic_load_n(&p->head->worker[i].cut, __ATOMIC_ACQUIRE);
         if (own && own < p->cut) {
+            uint64_t misuse = p->head->worker[i].misuse;
             p->cut = own;
-            is_cut = 1;
-            snprintf(m->calls->note, sizeof m->calls->note, "worker %s: %s",
-                     p->head->worker[i].name, evc_calls_misuse_(p->head->worker[i].misuse));
+            fault = misuse ? EVC_CALLS_MISUSED : EVC_CALLS_FULL;
+            snprintf(m->note, sizeof m->note, "%s: worker %s: %s", evc_calls_fault_name(fault),
+                     p->head->worker[i].name, evc_calls_misuse_(misuse));
         }
     }
     for (int i = 0; i < (int)p->head->workers; i++)
@@ -147,8 +140,10 @@ static inline void evc_monitor_batch_(evc_monitor_thread *m, uint64_t cut) {
             evc_monitor_find_(m, i);
     while (m->status == 0 && p->fault == EVC_CALLS_OK && (worker = evc_earliest_(p)) >= 0)
         evc_monitor_event_(m, worker);
-    if (p->fault != EVC_CALLS_OK || is_cut)
-        evc_monitor_fault_(m, p->fault != EVC_CALLS_OK ? p->fault : EVC_CALLS_MISUSED);
+    if (p->fault != EVC_CALLS_OK)
+        snprintf(m->note, sizeof m->note, "%s", evc_calls_fault_name(p->fault));
+    if (m->status == 0 && (p->fault != EVC_CALLS_OK || fault != EVC_CALLS_OK))
+        __atomic_store_n(&m->status, EVC_MONITOR_NO_RECORD, __ATOMIC_RELEASE);
 }
 
 static inline void *evc_monitor_main_(void *given) {
@@ -194,8 +189,10 @@ static inline int evc_monitor_stop(evc_monitor_thread *m) {
     if (m->status == 0) /* (another processor's clock may be ahead by the skew) */
         evc_monitor_batch_(m, evc_calls_cut_now_(m->calls) + m->calls->head->skew + 1);
     if (m->status == 0 && evc_has_bound_(m->calls->head->clock) &&
-        evc_measure_again_(m->calls->head) != EVC_CALLS_OK)
-        evc_monitor_fault_(m, EVC_CALLS_SKEWED);
+        evc_measure_again_(m->calls->head) != EVC_CALLS_OK) {
+        snprintf(m->note, sizeof m->note, "clock skewed: measured again at the end");
+        m->status = EVC_MONITOR_NO_RECORD;
+    }
     for (int i = 0; i < EVC_CALLS_WORKERS; i++)
         __atomic_store_n(&m->ring[i].is_over, 1, __ATOMIC_RELEASE);
     if (m->status == 0)

@@ -9,6 +9,10 @@
  * written into OUT; or with the word stop, it takes no more than 1000 lines. It says the status,
  * and the notes. Last it says whether its memory grew by more than 8 MB after the first tenth. */
 #include "../recorder/evc_monitor.h"
+/* (no names of these clash) */
+#include "../library/evc.h"
+#include "../recorder/evc_record.h"
+#include "../recorder/evc_stress.h"
 #include <sys/resource.h>
 
 static evc_calls calls;
