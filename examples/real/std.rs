@@ -166,7 +166,8 @@ fn main() {
         eprintln!("there is no object {name}");
         std::process::exit(2);
     };
-    let number = |place: usize, usual| words.get(place).and_then(|it| it.parse().ok()).unwrap_or(usual);
+    let number =
+        |place: usize, usual| words.get(place).and_then(|it| it.parse().ok()).unwrap_or(usual);
     let stress = Stress {
         threads: number(1, 4),
         rounds: number(2, 1000),
