@@ -214,6 +214,7 @@ static inline void evc_monitor_pending(const evc_monitor_thread *m, char *note, 
 /* A judge: `evc-calls check`, a process of its own, the program in EVC_CALLS or on PATH. It answers
  * at the end alone, and takes texts of at most 67108864 bytes: what comes after is not judged. */
 typedef struct evc_monitor_program {
+    const char *program;
     int in, notes, has_ended;
     pid_t child;
     uint64_t total;
@@ -224,9 +225,9 @@ typedef struct evc_monitor_program {
 
 /* Starts the program. Returns what evc_monitor_by_program takes. */
 static inline evc_monitor_program *evc_monitor_program_start(evc_monitor_program *p) {
-    const char *program = getenv("EVC_CALLS") ? getenv("EVC_CALLS") : "evc-calls";
     int in[2], notes[2];
     memset(p, 0, sizeof *p);
+    p->program = getenv("EVC_CALLS") ? getenv("EVC_CALLS") : "evc-calls";
     p->child = -1;
     if (pipe(in) != 0 || pipe(notes) != 0)
         return p;
@@ -234,7 +235,7 @@ static inline evc_monitor_program *evc_monitor_program_start(evc_monitor_program
     if (p->child == 0) {
         dup2(in[0], 0), dup2(open("/dev/null", O_WRONLY), 1), dup2(notes[1], 2);
         close(in[0]), close(in[1]), close(notes[0]), close(notes[1]);
-        execlp(program, program, "check", (char *)NULL);
+        execlp(p->program, p->program, "check", (char *)NULL);
         _exit(127);
     }
     close(in[0]), close(notes[1]);
@@ -267,6 +268,8 @@ static inline int evc_monitor_verdict_(evc_monitor_program *p) {
     if (waitpid(p->child, &status, 0) != p->child || !WIFEXITED(status))
         return EVC_MONITOR_NO_VERDICT;
     status = WEXITSTATUS(status);
+    if (status == 127)
+        snprintf(p->note, sizeof p->note, "there is no program %.200s\n", p->program);
     return status == 0 || status == 1 ? status : EVC_MONITOR_NO_VERDICT;
 }
 

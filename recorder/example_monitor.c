@@ -49,7 +49,8 @@ int main(int words, char **word) {
     for (int i = 0; i < 4; i++)
         pthread_join(thread[i], NULL);
     int status = evc_monitor_stop(&monitor);
-    printf("%s\n%s%s", status == 0 ? "right" : "wrong", judge.note, monitor.note);
+    const char *says = status == 0 ? "right" : status == 1 ? "wrong" : "no verdict";
+    printf("%s\n%s%s", says, judge.note, monitor.note);
     evc_calls_close(&calls);
     return status;
 }
