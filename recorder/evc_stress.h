@@ -25,6 +25,7 @@
 #define EVC_STRESS_H
 
 #include "evc_calls.h"
+#include <dirent.h>
 #include <signal.h>
 #include <sys/wait.h>
 
@@ -136,7 +137,8 @@ typedef struct evc_stress {
     int batch;     /* so many rounds are judged together [20] */
     int producers; /* so many threads advance, where the shape is mixed [half, rounded up] */
     uint64_t seed;
-    double hang_seconds; /* without an invocation or a response [10] */
+    double hang_seconds; /* without an invocation or a response [10]; it waits longer for threads
+                            that the machine has not given their turn */
     const char *keep;    /* the file for a wrong history ["refused.calls"] */
     enum evc_calls_clock clock;
     enum evc_stress_shape shape;
@@ -275,6 +277,65 @@ static inline void *evc_stress_main_(void *given) {
     return NULL;
 }
 
+/* What a look at the threads of this process saw: of each, how long it has run, in ticks of 10 ms.
+ */
+#define EVC_LOOK_THREADS_ 256
+typedef struct evc_look_ {
+    long thread[EVC_LOOK_THREADS_];
+    unsigned long ticks[EVC_LOOK_THREADS_];
+    int count;
+} evc_look_;
+
+/* Returns whether a thread is ready to run, and how long it has run. */
+static inline int evc_thread_runs_(const char *thread, unsigned long *ticks) {
+    char path[64], text[512];
+    unsigned long user = 0, system = 0;
+    snprintf(path, sizeof path, "/proc/self/task/%.20s/stat", thread);
+    int file = open(path, O_RDONLY);
+    ssize_t length = file < 0 ? -1 : read(file, text, sizeof text - 1);
+    if (file >= 0)
+        close(file);
+    text[length < 0 ? 0 : length] = 0;
+    const char *state = strrchr(text, ')');
+    if (!state || strlen(state) < 3)
+        return 0;
+    sscanf(state + 3, "%*d %*d %*d %*d %*d %*u %*u %*u %*u %*u %lu %lu", &user, &system);
+    *ticks = user + system;
+    return state[2] == 'R';
+}
+
+/* Looks at all threads but the calling one. Returns how many are ready to run and have hardly run
+ * since the look before: a machine with other work has not given them their turn. (On Linux, else
+ * 0.) */
+static inline int evc_starved_(evc_look_ *look) {
+    evc_look_ before = *look;
+    int starved = 0;
+#ifdef __linux__
+    DIR *folder = opendir("/proc/self/task");
+    look->count = 0;
+    for (struct dirent *it; folder && (it = readdir(folder)) && look->count < EVC_LOOK_THREADS_;) {
+        unsigned long ticks = 0;
+        long thread = atol(it->d_name);
+        if (thread == 0 || thread == syscall(SYS_gettid))
+            continue;
+        int is_ready = evc_thread_runs_(it->d_name, &ticks), has_run = 0;
+        for (int i = 0; i < before.count; i++)
+            has_run |= before.thread[i] == thread && ticks >= before.ticks[i] + 2;
+        starved += is_ready && !has_run;
+        look->thread[look->count] = thread;
+        look->ticks[look->count++] = ticks;
+    }
+    if (folder)
+        closedir(folder);
+#else
+    (void)before, (void)look;
+#endif
+    return starved;
+}
+
+/* How often a round is given more time for threads that have not had their turn. */
+#define EVC_STRESS_PATIENCE_ 40
+
 /* Lets the threads do one round. Returns whether it hung. */
 static inline int evc_stress_round_(evc_stress *s) {
     int is_pending;
@@ -284,13 +345,23 @@ static inline int evc_stress_round_(evc_stress *s) {
     __atomic_store_n(&s->left, (uint64_t)s->threads, __ATOMIC_RELEASE);
     __atomic_store_n(&s->begun, (uint64_t)s->round, __ATOMIC_RELEASE);
     uint64_t before = 0, since = evc_nanoseconds_(), idle = 0;
-    while (__atomic_load_n(&s->left, __ATOMIC_ACQUIRE) > 0) {
+    uint64_t half = (uint64_t)(s->hang_seconds * 5e8);
+    evc_look_ look;
+    look.count = 0;
+    for (int looks = 0; __atomic_load_n(&s->left, __ATOMIC_ACQUIRE) > 0;) {
         evc_nap_(20000);
         uint64_t moves = evc_calls_moves_(&s->record, &is_pending);
-        idle = moves == before ? idle + evc_lapse_(&since, 10000000) : 0;
+        uint64_t lapse = evc_lapse_(&since, 10000000);
+        idle = moves == before ? idle + lapse : 0;
+        looks = moves == before ? looks : 0;
         before = moves;
-        if ((double)idle > s->hang_seconds * 1e9)
+        if (idle <= half)
+            continue;
+        int starved = evc_starved_(&look);
+        if (looks > 0 && (starved == 0 || looks > EVC_STRESS_PATIENCE_))
             return 1;
+        looks++;
+        idle = 0;
     }
     return 0;
 }
@@ -380,7 +451,10 @@ static inline enum evc_stress_result evc_stress_hung_(evc_stress *s) {
         result = evc_stress_judge_(s);
     if (result != EVC_STRESS_PASSED)
         return result;
-    evc_put_pending_(&pass, 0, s->note, sizeof s->note);
+    if (pass.pending > 0)
+        evc_put_pending_(&pass, 0, s->note, sizeof s->note);
+    else
+        snprintf(s->note, sizeof s->note, "no call is pending: a thread hangs between its calls\n");
     evc_stress_keep_(s, s->texts.bytes, length);
     return EVC_STRESS_HUNG;
 }
