@@ -3,7 +3,7 @@
  *     monitor KIND CLOCK MILLISECONDS OUT
  *
  * Four threads use an eventcount, a sequencer and, as one in eight calls, a database, in rings that
- * are small. KIND is right; or with a bug: lost (one advance in 1000 is lost), twice (so are
+ * are small. KIND is right; or with a bug: lost (one advance in 100 is lost), twice (so are
  * tickets drawn twice); or misused, or pending (a call is under way at the stop). The judge is
  * `evc-calls`; or with the word file, which comes after the kind as in right-file, the lines are
  * written into OUT; or with the word stop, it takes no more than 1000 lines. It says the status,
@@ -36,7 +36,7 @@ static int until_stop(void *state, const char *line, size_t length) {
 
 /* Adds one, or seldom doesn't. */
 static uint64_t add(uint64_t *number, int has_bug, uint64_t chance) {
-    return has_bug && chance % 1000 == 0 ? __atomic_load_n(number, __ATOMIC_SEQ_CST)
+    return has_bug && chance % 100 == 0 ? __atomic_load_n(number, __ATOMIC_SEQ_CST)
                                          : __atomic_fetch_add(number, 1, __ATOMIC_SEQ_CST);
 }
 

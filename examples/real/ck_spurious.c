@@ -6,7 +6,7 @@
  *     ck_spurious [SECONDS]
  *
  * One thread advances, and stops for a moment now and then; three wait, and look at the count after
- * they were told that it changed. It only grows, so if it is still the old one, it had not changed.
+ * a wait that returned 0. It only grows, so if it is still the old one, it had not changed.
  * Run for so many seconds in each mode, by default 1. */
 #include <ck_ec.h>
 #include <linux/futex.h>
