@@ -1,7 +1,7 @@
 /* evc_record.h: records what a program does with its own eventcounts and sequencers, as a trace for
  * `evc check`.
  *
- * C11 and POSIX threads, this one header, nothing to link. docs/TRACING.md shows how it is used.
+ * C11 and POSIX threads, this one header, nothing to link. docs/RECORDING.md shows how it is used.
  * Nothing of it is proved: what it has written is judged by `evc check`.
  *
  *     evc_record r;
@@ -278,8 +278,8 @@ static inline void evc_pause_between(evc_record *r, int worker) {
     *chance ^= *chance >> 7;
     *chance ^= *chance << 17;
     if (*chance >> 60 < 4)
-        for (volatile unsigned i = (unsigned)(*chance >> 32) % 2000; i > 0; i = i - 1)
-            ;
+        for (unsigned i = (unsigned)(*chance >> 32) % 8000; i > 0; i--)
+            __asm__ __volatile__("" ::: "memory");
     else if (*chance >> 60 < 6)
         sched_yield();
 }

@@ -1,6 +1,6 @@
 //! Records what a program does with its own eventcounts and sequencers, as a trace for `evc check`.
 //!
-//! Plain Rust, this one module, no dependency; docs/TRACING.md shows how it is used. Nothing of it
+//! Plain Rust, this one module, no dependency; docs/RECORDING.md shows how it is used. Nothing of it
 //! is proved: what it has written is judged by `evc check`.
 //!
 //!     let record = Record::new(1_000_000, &["a", "b"], &["eventcount E signal a observe b"]);

@@ -12,9 +12,9 @@
  *     evc_stress s = {.fresh = fresh, .advance = advance, .read = read, .await = await};
  *     return evc_stress_says(&s, evc_stress_run(&s));
  *
- * SHAPES. EVC_STRESS_MIXED: half of the threads advance and read, the others read and await.
- * EVC_STRESS_RING: each thread awaits its turn and advances, so every wake-up is needed. For other
- * objects give `declare` and `work` in place of advance, read and await.
+ * SHAPES. EVC_STRESS_MIXED: half of the threads (`producers`) advance and read, the others read and
+ * await. EVC_STRESS_RING: each thread awaits its turn and advances, so every wake-up is needed. For
+ * other objects give `declare` and `work` in place of advance, read and await.
  *
  * All threads spin at a gate and start at once, and pause by chance between calls. The same seed
  * gives the same pauses; how the threads meet is up to the machine. It stops at the first history
@@ -25,6 +25,7 @@
 #define EVC_STRESS_H
 
 #include "evc_calls.h"
+#include <dirent.h>
 #include <signal.h>
 #include <sys/wait.h>
 
@@ -88,12 +89,17 @@ static inline uint64_t evc_chance_below(evc_chance *chance, uint64_t bound) {
     return (chance->state >> 11) % bound;
 }
 
+/* Does nothing for a while. */
+static inline void evc_spin_(uint64_t turns) {
+    for (uint64_t i = 0; i < 4 * turns; i++)
+        EVC_BARRIER_();
+}
+
 /* Pauses: mostly not at all, now and then for a moment, until others ran, or asleep. */
 static inline void evc_chance_pause(evc_chance *chance) {
     uint64_t kind = evc_chance_below(chance, 64);
     if (kind < 16)
-        for (volatile uint64_t i = evc_chance_below(chance, 100); i > 0; i = i - 1)
-            ;
+        evc_spin_(evc_chance_below(chance, 100));
     else if (kind < 20)
         sched_yield();
     else if (kind == 20)
@@ -125,12 +131,14 @@ typedef struct evc_hand_ {
 
 typedef struct evc_stress {
     /* To be set. For 0 or NULL stands what is in brackets. */
-    int threads; /* at most 16 [4] */
-    int rounds;  /* [1000] */
-    int room;    /* for the calls of a thread in a round [64] */
-    int batch;   /* so many rounds are judged together [20] */
+    int threads;   /* at most 16 [4] */
+    int rounds;    /* [1000] */
+    int room;      /* for the calls of a thread in a round [64] */
+    int batch;     /* so many rounds are judged together [20] */
+    int producers; /* so many threads advance, where the shape is mixed [half, rounded up] */
     uint64_t seed;
-    double hang_seconds; /* without an invocation or a response [10] */
+    double hang_seconds; /* without an invocation or a response [10]; it waits longer for threads
+                            that the machine has not given their turn */
     const char *keep;    /* the file for a wrong history ["refused.calls"] */
     enum evc_calls_clock clock;
     enum evc_stress_shape shape;
@@ -191,7 +199,7 @@ static inline uint64_t evc_stress_await_(evc_stress *s, evc_caller *w, uint64_t 
 
 /* Advances six times in ten calls, or reads and awaits what is to come. */
 static inline void evc_stress_mixed_(evc_stress *s, evc_hand_ *h) {
-    uint64_t producers = (uint64_t)(s->threads + 1) / 2, total = 6 * producers, left = 6, last = 0;
+    uint64_t producers = (uint64_t)s->producers, total = 6 * producers, left = 6, last = 0;
     for (uint64_t calls = 10; calls > 0; calls--) {
         evc_chance_pause(&h->chance);
         uint64_t by_chance = evc_chance_below(&h->chance, calls);
@@ -212,8 +220,7 @@ static inline void evc_stress_ring_(evc_stress *s, evc_hand_ *h) {
     for (int lap = 0; lap < 10; lap++) {
         evc_stress_await_(s, h->worker, (uint64_t)(lap * s->threads + h->number));
         if (evc_chance_below(&h->chance, 2))
-            for (volatile uint64_t i = evc_chance_below(&h->chance, 3000); i > 0; i = i - 1)
-                ;
+            evc_spin_(evc_chance_below(&h->chance, 3000));
         evc_stress_advance_(s, h->worker);
     }
 }
@@ -270,6 +277,65 @@ static inline void *evc_stress_main_(void *given) {
     return NULL;
 }
 
+/* What a look at the threads of this process saw: of each, how long it has run, in ticks of 10 ms.
+ */
+#define EVC_LOOK_THREADS_ 256
+typedef struct evc_look_ {
+    long thread[EVC_LOOK_THREADS_];
+    unsigned long ticks[EVC_LOOK_THREADS_];
+    int count;
+} evc_look_;
+
+/* Returns whether a thread is ready to run, and how long it has run. */
+static inline int evc_thread_runs_(const char *thread, unsigned long *ticks) {
+    char path[64], text[512];
+    unsigned long user = 0, system = 0;
+    snprintf(path, sizeof path, "/proc/self/task/%.20s/stat", thread);
+    int file = open(path, O_RDONLY);
+    ssize_t length = file < 0 ? -1 : read(file, text, sizeof text - 1);
+    if (file >= 0)
+        close(file);
+    text[length < 0 ? 0 : length] = 0;
+    const char *state = strrchr(text, ')');
+    if (!state || strlen(state) < 3)
+        return 0;
+    sscanf(state + 3, "%*d %*d %*d %*d %*d %*u %*u %*u %*u %*u %lu %lu", &user, &system);
+    *ticks = user + system;
+    return state[2] == 'R';
+}
+
+/* Looks at all threads but the calling one. Returns how many are ready to run and have hardly run
+ * since the look before: a machine with other work has not given them their turn. (On Linux, else
+ * 0.) */
+static inline int evc_starved_(evc_look_ *look) {
+    evc_look_ before = *look;
+    int starved = 0;
+#ifdef __linux__
+    DIR *folder = opendir("/proc/self/task");
+    look->count = 0;
+    for (struct dirent *it; folder && (it = readdir(folder)) && look->count < EVC_LOOK_THREADS_;) {
+        unsigned long ticks = 0;
+        long thread = atol(it->d_name);
+        if (thread == 0 || thread == syscall(SYS_gettid))
+            continue;
+        int is_ready = evc_thread_runs_(it->d_name, &ticks), has_run = 0;
+        for (int i = 0; i < before.count; i++)
+            has_run |= before.thread[i] == thread && ticks >= before.ticks[i] + 2;
+        starved += is_ready && !has_run;
+        look->thread[look->count] = thread;
+        look->ticks[look->count++] = ticks;
+    }
+    if (folder)
+        closedir(folder);
+#else
+    (void)before, (void)look;
+#endif
+    return starved;
+}
+
+/* How often a round is given more time for threads that have not had their turn. */
+#define EVC_STRESS_PATIENCE_ 40
+
 /* Lets the threads do one round. Returns whether it hung. */
 static inline int evc_stress_round_(evc_stress *s) {
     int is_pending;
@@ -279,13 +345,23 @@ static inline int evc_stress_round_(evc_stress *s) {
     __atomic_store_n(&s->left, (uint64_t)s->threads, __ATOMIC_RELEASE);
     __atomic_store_n(&s->begun, (uint64_t)s->round, __ATOMIC_RELEASE);
     uint64_t before = 0, since = evc_nanoseconds_(), idle = 0;
-    while (__atomic_load_n(&s->left, __ATOMIC_ACQUIRE) > 0) {
+    uint64_t half = (uint64_t)(s->hang_seconds * 5e8);
+    evc_look_ look;
+    look.count = 0;
+    for (int looks = 0; __atomic_load_n(&s->left, __ATOMIC_ACQUIRE) > 0;) {
         evc_nap_(20000);
         uint64_t moves = evc_calls_moves_(&s->record, &is_pending);
-        idle = moves == before ? idle + evc_lapse_(&since, 10000000) : 0;
+        uint64_t lapse = evc_lapse_(&since, 10000000);
+        idle = moves == before ? idle + lapse : 0;
+        looks = moves == before ? looks : 0;
         before = moves;
-        if ((double)idle > s->hang_seconds * 1e9)
+        if (idle <= half)
+            continue;
+        int starved = evc_starved_(&look);
+        if (looks > 0 && (starved == 0 || looks > EVC_STRESS_PATIENCE_))
             return 1;
+        looks++;
+        idle = 0;
     }
     return 0;
 }
@@ -375,7 +451,10 @@ static inline enum evc_stress_result evc_stress_hung_(evc_stress *s) {
         result = evc_stress_judge_(s);
     if (result != EVC_STRESS_PASSED)
         return result;
-    evc_put_pending_(&pass, 0, s->note, sizeof s->note);
+    if (pass.pending > 0)
+        evc_put_pending_(&pass, 0, s->note, sizeof s->note);
+    else
+        snprintf(s->note, sizeof s->note, "no call is pending: a thread hangs between its calls\n");
     evc_stress_keep_(s, s->texts.bytes, length);
     return EVC_STRESS_HUNG;
 }
@@ -387,6 +466,7 @@ static inline void evc_stress_defaults_(evc_stress *s) {
     s->rounds = s->rounds ? s->rounds : 1000;
     s->room = s->room ? s->room : 64;
     s->batch = s->batch > 0 ? s->batch : 20;
+    s->producers = s->producers ? s->producers : (s->threads + 1) / 2;
     s->hang_seconds = s->hang_seconds > 0 ? s->hang_seconds : 10;
     s->keep = s->keep ? s->keep : "refused.calls";
     s->judge = s->judge ? s->judge : EVC_STRESS_JUDGE;

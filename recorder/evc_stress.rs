@@ -16,12 +16,13 @@
 //!         Stress::default().run::<Mine>().unwrap();
 //!     }
 //!
-//! `Shape::Mixed`: half of the threads advance and read, the others read and await. `Shape::Ring`:
-//! each thread awaits its turn and advances, so every wake-up is needed. `run_with` is for other
-//! objects. The head of recorder/evc_stress.h says more; the two do the same.
+//! `Shape::Mixed`: half of the threads (`producers`) advance and read, the others read and await.
+//! `Shape::Ring`: each thread awaits its turn and advances, so every wake-up is needed. `run_with` is
+//! for other objects. The head of recorder/evc_stress.h says more; the two do the same.
 #![allow(dead_code)]
 
 use super::evc_calls::{self, Call, Clock, Fault, Idle, Record, Reply, Worker};
+use std::collections::HashMap;
 use std::fmt;
 use std::io::{Read, Write};
 use std::path::PathBuf;
@@ -138,8 +139,11 @@ pub struct Stress {
     pub room: u32,
     /// So many rounds are judged together.
     pub batch: usize,
+    /// So many threads advance, where the shape is mixed; 0 stands for half of them, rounded up.
+    pub producers: usize,
     pub seed: u64,
-    /// So long without an invocation or a response.
+    /// So long without an invocation or a response. It waits longer for threads that the machine
+    /// has not given their turn.
     pub hang: Duration,
     /// The file for a wrong history.
     pub keep: PathBuf,
@@ -155,6 +159,7 @@ impl Default for Stress {
             rounds: 1000,
             room: 64,
             batch: 20,
+            producers: 0,
             seed: 0,
             hang: Duration::from_secs(10),
             keep: "refused.calls".into(),
@@ -217,8 +222,9 @@ impl Stress {
     /// Runs rounds on fresh eventcounts. After a hang the threads are still there: leave then.
     pub fn run<T: Eventcount>(&self) -> Result<Passed, Wrong> {
         let (shape, threads) = (self.shape, self.threads);
+        let producers = if self.producers > 0 { self.producers } else { threads.div_ceil(2) };
         let work = move |subject: &T, e, w: &mut Worker, number, chance: &mut Chance| match shape {
-            Shape::Mixed => mixed(subject, e, w, number, threads, chance),
+            Shape::Mixed => mixed(subject, e, w, number, producers, chance),
             Shape::Ring => ring(subject, e, w, number, threads, chance),
         };
         self.run_with(|record| record.eventcount("E", 0), T::fresh, work)
@@ -289,16 +295,24 @@ impl Stress {
     fn have_ended(&self, record: &Record, ends: &Receiver<()>) -> bool {
         let (mut before, mut left) = (0, self.threads);
         let mut idle = Idle::new(Duration::from_millis(20));
+        let (mut looks, mut seen) = (0, HashMap::new());
         while left > 0 {
             match ends.recv_timeout(Duration::from_millis(5)) {
                 Ok(()) => left -= 1,
                 Err(RecvTimeoutError::Disconnected) => return true, // (a thread panicked)
                 Err(RecvTimeoutError::Timeout) => {
                     let moves = record.moves();
-                    if idle.grown(moves == before) > self.hang {
-                        return false;
-                    }
+                    let is_long = idle.grown(moves == before) > self.hang / 2;
+                    looks = if moves == before { looks } else { 0 };
                     before = moves;
+                    if is_long {
+                        let starved = starved(&mut seen);
+                        if looks > 0 && (starved == 0 || looks > PATIENCE) {
+                            return false;
+                        }
+                        looks += 1;
+                        idle.grown(false);
+                    }
                 }
             }
         }
@@ -311,7 +325,10 @@ impl Stress {
         let (text, pending) = record.text_so_far().map_err(Wrong::NoRecord)?;
         waiting.add(text.clone());
         self.judged(round, &mut waiting.texts)?;
-        let note: String = pending.iter().map(|it| format!("{it}\n")).collect();
+        let mut note: String = pending.iter().map(|it| format!("{it}\n")).collect();
+        if note.is_empty() {
+            note = "no call is pending: a thread hangs between its calls\n".into();
+        }
         Err(Wrong::Hung(round, note.clone(), self.kept(&text, &note)))
     }
 
@@ -343,6 +360,37 @@ impl Stress {
         }
         self.keep.clone()
     }
+}
+
+/// How often a round is given more time for threads that have not had their turn.
+const PATIENCE: usize = 40;
+
+/// Returns whether a thread is ready to run, and for how many ticks of 10 ms it has run.
+fn look_at(thread: &str) -> Option<(bool, u64)> {
+    let text = std::fs::read_to_string(format!("/proc/self/task/{thread}/stat")).ok()?;
+    let fields: Vec<&str> = text[text.rfind(')')? + 1..].split_whitespace().collect();
+    let ticks = |place: usize| fields.get(place).and_then(|it| it.parse::<u64>().ok());
+    Some((*fields.first()? == "R", ticks(11)? + ticks(12)?))
+}
+
+/// Looks at all threads but the calling one. Returns how many are ready to run and have hardly run
+/// since the look before: a machine with other work has not given them their turn. (On Linux, else
+/// 0.)
+fn starved(seen: &mut HashMap<String, u64>) -> usize {
+    let own = std::fs::read_link("/proc/thread-self").unwrap_or_default();
+    let (mut starved, mut looks) = (0, HashMap::new());
+    for it in std::fs::read_dir("/proc/self/task").into_iter().flatten().flatten() {
+        let thread = it.file_name().to_string_lossy().into_owned();
+        let Some((is_ready, ticks)) = look_at(&thread) else { continue };
+        if own.file_name() == Some(&it.file_name()) {
+            continue;
+        }
+        let has_run = seen.get(&thread).is_some_and(|before| ticks >= before + 2);
+        starved += (is_ready && !has_run) as usize;
+        looks.insert(thread, ticks);
+    }
+    *seen = looks;
+    starved
 }
 
 /// Waits for the others, spinning. The last one that comes opens for all.
@@ -383,10 +431,9 @@ fn mixed<T: Eventcount>(
     e: evc_calls::Eventcount,
     w: &mut Worker,
     number: usize,
-    threads: usize,
+    producers: usize,
     chance: &mut Chance,
 ) {
-    let producers = threads.div_ceil(2);
     let (total, mut left, mut last) = (6 * producers as u64, 6, 0);
     for calls in (1..=10).rev() {
         chance.pause();

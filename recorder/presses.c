@@ -3,7 +3,7 @@
  *
  *     presses FILE [BUG]
  *
- * writes what they did as a trace. BUG plants one: `twice`, `shared` or `ticket` (docs/TRACING.md). The three threads
+ * writes what they did as a trace. BUG plants one: `twice`, `shared` or `ticket` (docs/RECORDING.md). The three threads
  * take turns, so that each run is the same; a program of yours needs no turns. */
 #include "evc_record.h"
 #include <sched.h>

@@ -181,6 +181,10 @@ fn try_wrong(number: usize, out: &str) -> Result<(), Fault> {
     says(record.write(out))
 }
 
+extern "C" {
+    fn raise(signal: i32) -> i32;
+}
+
 /// How many threads have ended or hang.
 static ENDED: AtomicU64 = AtomicU64::new(0);
 
@@ -191,6 +195,10 @@ fn run(mut w: Worker, number: u64, kind: &str, e: evc_calls::Eventcount, count: 
             w.invoke(Call::Advance(e));
             count.fetch_add(1, SeqCst);
             std::process::abort();
+        }
+        if k == 2000 && number == 2 && kind == "kill" {
+            // SAFETY: it takes a number, and this process ends.
+            unsafe { raise(9) };
         }
         if k == 2000 && number == 2 && kind == "hang" {
             w.invoke(Call::Await(e, 1_000_000));

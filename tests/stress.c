@@ -4,8 +4,8 @@
  *
  * KIND is an eventcount: right, or with a bug: lost (it loads and stores), early (an await returns
  * one early), kept (a reader keeps what it saw), wake (it wakes one of all that sleep); or ticket
- * and lock, other objects with bugs; or full, misused, silent, faults of the test itself. SHAPE is
- * mixed or ring. */
+ * and lock, other objects with bugs; or full, misused, misnamed, silent, outside, faults of the
+ * test itself: outside hangs between its calls. SHAPE is mixed or ring. */
 #include "../recorder/evc_record.h"
 #include "../recorder/evc_stress.h"
 
@@ -91,10 +91,15 @@ static void hold(evc_caller *w, evc_chance *chance) {
 }
 
 static void work(void *mine, evc_caller *w, int number, evc_chance *chance) {
-    (void)mine, (void)number;
+    (void)mine;
     for (int k = 0; k < (is_kind("full") ? 100 : is_kind("silent") ? 0 : 8); k++) {
         evc_chance_pause(chance);
-        if (is_kind("ticket")) {
+        while (is_kind("outside") && number == 1 && k == 4)
+            pause();
+        if (is_kind("outside")) {
+            evc_call_p(w, object);
+            evc_return_timeout(w);
+        } else if (is_kind("ticket")) {
             evc_call_ticket(w, object);
             evc_return_number(w, add(&count, 1));
         } else if (is_kind("misused"))
@@ -105,7 +110,8 @@ static void work(void *mine, evc_caller *w, int number, evc_chance *chance) {
 }
 
 int main(int words, char **word) {
-    static const char *const works[] = {"ticket", "lock", "full", "misused", "misnamed", "silent"};
+    static const char *const works[] = {"ticket",   "lock",   "full",   "misused",
+                                        "misnamed", "silent", "outside"};
     static evc_stress s;
     if (words != 5)
         return 2;
@@ -115,7 +121,7 @@ int main(int words, char **word) {
               : strcmp(word[3], "monotonic") == 0 ? EVC_CALLS_MONOTONIC
                                                   : EVC_CALLS_COUNTER;
     s.rounds = atoi(word[4]);
-    s.hang_seconds = is_kind("wake") ? 2 : 20;
+    s.hang_seconds = is_kind("wake") || is_kind("outside") ? 2 : 20;
     s.fresh = fresh;
     s.advance = advance;
     s.read = read_count;

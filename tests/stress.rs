@@ -1,6 +1,6 @@
 //! tests/stress.rs: what tests/run-recorder asks of recorder/evc_stress.rs, by the words of
 //! tests/stress.c: KIND SHAPE CLOCK ROUNDS. KIND is right, lost, early, kept, wake, ticket, lock,
-//! full, misused, misnamed or silent.
+//! full, misused, misnamed, silent or outside.
 #[path = "../recorder/evc_calls.rs"]
 mod evc_calls;
 #[path = "../recorder/evc_stress.rs"]
@@ -110,13 +110,18 @@ fn hold(it: &Count, s: Semaphore, w: &mut Worker, chance: &mut Chance) {
     });
 }
 
-fn work(it: &Count, of: (Sequencer, Semaphore), w: &mut Worker, _: usize, chance: &mut Chance) {
-    for _ in 0..if is("full") { 100 } else { 8 } {
+fn work(it: &Count, of: (Sequencer, Semaphore), w: &mut Worker, me: usize, chance: &mut Chance) {
+    for k in 0..if is("full") { 100 } else { 8 } {
         if is("silent") {
             return;
         }
         chance.pause();
-        if is("ticket") {
+        while is("outside") && me == 1 && k == 4 {
+            std::thread::park();
+        }
+        if is("outside") {
+            w.call(Call::P(of.1), || Reply::Timeout);
+        } else if is("ticket") {
             w.call(Call::Ticket(of.0), || Reply::Number(add(&it.count, true)));
         } else if is("misused") {
             w.call(Call::Ticket(of.0), || Reply::Done);
@@ -152,7 +157,7 @@ fn main() {
     let _ = KIND.set(kind.clone());
     let stress = Stress {
         rounds: rounds.parse().unwrap_or(1),
-        hang: Duration::from_secs(if is("wake") { 2 } else { 20 }),
+        hang: Duration::from_secs(if is("wake") || is("outside") { 2 } else { 20 }),
         shape: if shape == "ring" { Shape::Ring } else { Shape::Mixed },
         clock: match clock.as_str() {
             "tsc" => Clock::Tsc,
@@ -161,7 +166,7 @@ fn main() {
         },
         ..Stress::default()
     };
-    let works = ["ticket", "lock", "full", "misused", "misnamed", "silent"];
+    let works = ["ticket", "lock", "full", "misused", "misnamed", "silent", "outside"];
     let result = if works.contains(&kind.as_str()) {
         stress.run_with(declare, Count::fresh, work)
     } else {
