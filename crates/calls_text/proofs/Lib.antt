@@ -2,4 +2,5 @@ mod Words
 mod Adding
 mod Fitting
 mod Coming
+mod Lifting
 mod Lines

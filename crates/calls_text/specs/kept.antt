@@ -1,4 +1,5 @@
-pub mod Runs
 pub mod Adding
+pub mod Runs
+pub mod Judging
 pub mod Results
 pub mod Stages
