@@ -1,9 +1,9 @@
 -- The lines of a text.
 use Rattle.std.proofs.Common.{◌≡◌, ◌≢◌, ◌<◌, ◌≤◌, ℕ, ◌+◌, List, [], ◌∷◌, ◌++◌, length, Result, Ok}
-use Rattle.std.proofs.Common.{Err, IfOk, cond}
-use Rattle.std.proofs.Common.{Bool, true, false, eqb, refl, ap, sym, ◌∙◌, ne_eqb, arith}
+use Rattle.std.proofs.Common.{Err, IfOk}
+use Rattle.std.proofs.Common.{true, false, eqb, refl, ap, sym, ◌∙◌, ne_eqb, arith}
 use Rattle.std.proofs.Common.{length-append}
-use Rattle.std.specs.List.{onto_first, All}
+use Rattle.std.specs.List.{All}
 use Rattle.std.proofs.lemmas.List.Splits.{slice_split_at, slice_split_none}
 use Rattle.std.proofs.lemmas.List.Elements.{All-weaker}
 use Rattle.calls_text.specs.declared.fault.Kind.{Kind}
@@ -16,33 +16,11 @@ use Rattle.calls_text.specs.kept.Stages.{seen}
 use Rattle.calls_text.specs.declared.fault.TextFault.{TextFault}
 use Rattle.calls_text.specs.declared.fault.LineFault.{LineFault}
 use Rattle.calls_text.specs.declared.fault.LineFault.TheVariants as faults
-use Rattle.calls_text.specs.Reading.{Stage, Opening, Limiting, Declaring, Running, Ended, step}
+use Rattle.calls_text.specs.Reading.{Stage, step}
 use Rattle.calls_text.specs.Reading.{StepFails, is_ended}
 use Rattle.calls_text.specs.Outcomes.{Parsed, parts_of, goes, taken, ended, fault_in, TellsFault}
 use Rattle.calls_text.specs.Outcomes.{fault_at}
-
--- a list of parts has a first
-record HasFirst (bytes : List ℕ) : Type 0 where
-  first : List ℕ
-  others : List (List ℕ)
-  is : parts_of bytes ≡ first ∷ others
-
-onto_has : (b : ℕ) (parts : List (List ℕ))
-    → (first : List ℕ) × (others : List (List ℕ)) × (onto_first b parts ≡ first ∷ others)
-onto_has b [] = (b ∷ [], [], refl)
-onto_has b (part ∷ parts) = (b ∷ part, parts, refl)
-
-has_first : (bytes : List ℕ) → HasFirst bytes
-has_first [] = record { first = []; others = []; is = refl }
-has_first (b ∷ bytes) =
-    let P : Bool → Type 0 =
-    λ t. (first : List ℕ) × (others : List (List ℕ)) ×
-    (cond t ([] ∷ parts_of bytes) (onto_first b (parts_of bytes)) ≡ first ∷ others) in
-    let w : P (eqb b 10) = elim (eqb b 10) as P [
-      | true ↦ ([], parts_of bytes, refl)
-      | false ↦ onto_has b (parts_of bytes)
-    ] in
-    record { first = w.0; others = w.1; is = w.2 }
+use Rattle.calls_text.proofs.TextParts.{HasFirst, has_first, by_line, by_rest}
 
 no_lf : (bytes : List ℕ) → All (λ b. b ≢ 10) bytes → All (λ b. eqb b 10 ≡ false) bytes
 no_lf bytes none = All-weaker (λ b. b ≢ 10) (λ b. eqb b 10
@@ -56,25 +34,6 @@ parts_rest : (rest : List ℕ) → All (λ b. b ≢ 10) rest → parts_of rest �
 parts_rest rest none = slice_split_none (λ b. eqb b 10) rest (no_lf rest none)
 
 -- GOING ON
-
-by_line : (n : ℕ) (s : Stage) (line next : List ℕ) (others : List (List ℕ)) → is_ended s ≡ false
-    → goes n s (line ∷ next ∷ others)
-    ≡ taken n line (step s line) (λ t. goes (n + 1) t (next ∷ others))
-unfolding goes is_ended
-by_line n Opening line next others going = refl
-by_line n Limiting line next others going = refl
-by_line n (Declaring d) line next others going = refl
-by_line n (Running r) line next others going = refl
-by_line n (Ended r) line next others going = cc
-
-by_rest : (n : ℕ) (s : Stage) (rest : List ℕ) → is_ended s ≡ false
-    → goes n s (rest ∷ []) ≡ ended n s rest
-unfolding goes is_ended
-by_rest n Opening rest going = refl
-by_rest n Limiting rest going = refl
-by_rest n (Declaring d) rest going = refl
-by_rest n (Running r) rest going = refl
-by_rest n (Ended r) rest going = cc
 
 goes_line : (n : ℕ) (s : Stage) (line more rest : List ℕ) → is_ended s ≡ false
     → All (λ b. b ≢ 10) line → rest ≡ line ++ 10 ∷ more

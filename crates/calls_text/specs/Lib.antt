@@ -9,4 +9,7 @@ pub mod Recordings
 pub mod Reading
 pub mod Outcomes
 pub mod Spelling
+pub mod Grammar
+pub mod Rules
+pub mod Laws
 pub mod kept

@@ -3,3 +3,4 @@ pub mod Runs
 pub mod Judging
 pub mod Results
 pub mod Stages
+pub mod Leading

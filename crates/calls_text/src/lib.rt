@@ -4,6 +4,7 @@
 mod fault;
 mod form;
 mod index;
+mod laws;
 mod lists;
 mod object;
 mod opening;

@@ -1,0 +1,124 @@
+-- A word that spells a cell is the one that spells it.
+use Rattle.std.proofs.Common.{◌≡◌, ℕ, ◌+◌, ◌<◌, List, [], ◌∷◌, ◌++◌, cond, eqb, true, false, Option}
+use Rattle.std.proofs.Common.{None, Some, refl, sym, ap, ◌∙◌, decimal, append_assoc, nat_lt}
+use Rattle.std.specs.Prelude.{option_map}
+use Rattle.std.specs.Option.{option_and_then}
+use Rattle.std.proofs.lemmas.Bool.{eqb-true, ltb-true}
+use Rattle.ec_count.specs.Names.{find_name}
+use Rattle.ec_count.specs.declared.target.Target.{Target}
+use Rattle.ec_count.specs.declared.target.Target.TheVariants.{Cells}
+use Rattle.ec_text.specs.Words.{number_of}
+use Rattle.ec_text.proofs.shared.NumberLemmas.{number_takes, guarded}
+use Rattle.ec_heading.specs.Spelling.{cell_word}
+use Rattle.ec_heading.specs.Spelled.{Named, cut_at, closed_number, block_of, cell_at, cell_of}
+use Rattle.ec_heading.specs.Spelled.{cell_by, cell_in_word}
+use Rattle.ec_heading.proofs.shared.ReadNames.{AreApart, bracketed, cell_back}
+
+pub and_then_back : {A B : Type 0} (f : A → Option B) (o : Option A) (y : B)
+    → option_and_then f o ≡ Some y → (x : A) × (o ≡ Some x) × (f x ≡ Some y)
+and_then_back f None y e = cc
+and_then_back f (Some x) y e = (x, refl, e)
+
+-- WHERE A WORD IS CUT
+
+abbrev onto_front : ℕ → List ℕ × List ℕ → List ℕ × List ℕ
+onto_front b p = (b ∷ p.0, p.1)
+
+front_back : (b : ℕ) (o : Option (List ℕ × List ℕ)) (front rest : List ℕ)
+    → option_map (onto_front b) o ≡ Some (front, rest)
+    → (mid : List ℕ) × (o ≡ Some (mid, rest)) × (front ≡ b ∷ mid)
+front_back b None front rest e = cc
+front_back b (Some p) front rest e =
+    let same : (b ∷ p.0, p.1) ≡ (front, rest) = cc in
+    let tail : p.1 ≡ rest = ap (λ (q : List ℕ × List ℕ). q.1) same in (
+      p.0,
+      ap (λ (r : List ℕ). Some (p.0, r)) tail,
+      sym (ap (λ (q : List ℕ × List ℕ). q.0) same),
+    )
+
+-- the pieces, with the byte between them, are the word
+cut_joins : (c : ℕ) (word front rest : List ℕ) → cut_at c word ≡ Some (front, rest)
+    → word ≡ front ++ c ∷ rest
+unfolding cut_at
+cut_joins c [] front rest e = cc
+cut_joins c (b ∷ word) front rest e =
+    elim (eqb b c) as (λ t. eqb b c ≡ t
+    → cond t (Some ([], word)) (option_map (onto_front b) (cut_at c word)) ≡ Some (front, rest)
+    → b ∷ word ≡ front ++ c ∷ rest) [
+      | true ↦ λ q g.
+          (let same : ([], word) ≡ (front, rest) = cc in
+          ap (λ (x : ℕ). x ∷ word) (eqb-true b c q)
+          ∙ ap (λ (p : List ℕ × List ℕ). p.0 ++ c ∷ p.1) same)
+      | false ↦ λ q g.
+          (let k = front_back b (cut_at c word) front rest g in
+          ap (λ (r : List ℕ). b ∷ r) (cut_joins c word k.0 rest k.1)
+          ∙ ap (λ (r : List ℕ). r ++ c ∷ rest) (sym k.2))
+    ] refl e
+
+-- THE BLOCK AND THE NUMBER
+
+block_back : (t : Target) (p : ℕ × ℕ) → block_of t ≡ Some p → t ≡ Cells p.0 p.1
+block_back (Cells first n) p e =
+    let same : (first, n) ≡ p = cc in ap (λ (q : ℕ × ℕ). Cells q.0 q.1) same
+block_back _ p e = cc
+
+inside_back : (i first n x : ℕ) → cell_at i (first, n) ≡ Some x → (i < n) × (first + i ≡ x)
+inside_back i first n x e =
+    let g = guarded (nat_lt i n) (Some (first + i)) x e in
+    (ltb-true _ _ g.0, cc)
+
+-- the number before the bracket
+closed_back : (p : Option (List ℕ × List ℕ)) (i : ℕ) → closed_number p ≡ Some i
+    → (digits : List ℕ) × (p ≡ Some (digits, [])) × (number_of digits ≡ Some i)
+closed_back None i e = cc
+closed_back (Some (digits, [])) i e = (digits, refl, e)
+closed_back (Some (digits, b ∷ bs)) i e = cc
+
+pub record IsCell (names : Named) (word : List ℕ) (x : ℕ) : Type 0 where
+  pub block : List ℕ
+  pub first : ℕ
+  pub count : ℕ
+  pub place : ℕ
+  pub found : find_name block names ≡ Some (Cells first count)
+  pub inside : place < count
+  pub is : first + place ≡ x
+  pub spelled : word ≡ bracketed block place
+
+cell_parts : (names : Named) (word : List ℕ) (p : Option (List ℕ × List ℕ)) (x : ℕ)
+    → cut_at 91 word ≡ p → cell_by names p ≡ Some x → IsCell names word x
+cell_parts names word None x at e = cc
+cell_parts names word (Some (name, rest)) x at e =
+    let n = and_then_back (cell_of names name) (closed_number (cut_at 93 rest)) x e in
+    let d = closed_back (cut_at 93 rest) n.0 n.1 in
+    let b = and_then_back (cell_at n.0) (option_and_then block_of (find_name name names)) x n.2 in
+    let t = and_then_back block_of (find_name name names) b.0 b.1 in
+    let k = inside_back n.0 b.0.0 b.0.1 x b.2 in
+    let number : d.0 ≡ decimal n.0 = (number_takes d.0 n.0 d.2).0 in
+    let inner : rest ≡ decimal n.0 ++ 93 ∷ [] =
+    cut_joins 93 rest d.0 [] d.1 ∙ ap (λ (r : List ℕ). r ++ 93 ∷ []) number in
+    let outer : word ≡ name ++ 91 ∷ rest = cut_joins 91 word name rest at in
+    let shape : bracketed name n.0 ≡ name ++ 91 ∷ (decimal n.0 ++ 93 ∷ []) =
+    append_assoc (name ++ 91 ∷ []) (decimal n.0) (93 ∷ [])
+    ∙ append_assoc name (91 ∷ []) (decimal n.0 ++ 93 ∷ []) in
+    record {
+      block = name;
+      first = b.0.0;
+      count = b.0.1;
+      place = n.0;
+      found = t.1 ∙ ap Some (block_back t.0 b.0 t.2);
+      inside = k.0;
+      is = k.1;
+      spelled = outer ∙ ap (λ (r : List ℕ). name ++ 91 ∷ r) inner ∙ sym shape;
+    }
+
+pub cell_is : (names : Named) (word : List ℕ) (x : ℕ) → cell_in_word names word ≡ Some x
+    → IsCell names word x
+unfolding cell_in_word
+cell_is names word x e = cell_parts names word (cut_at 91 word) x refl e
+
+pub cell_spelled : (names : Named) (word : List ℕ) (x : ℕ) → AreApart names
+    → cell_in_word names word ≡ Some x → cell_word names x ≡ word
+cell_spelled names word x apart e =
+    let c = cell_is names word x e in
+    ap (cell_word names) (sym c.is)
+    ∙ cell_back names c.block c.first c.count c.place apart c.inside c.found ∙ sym c.spelled

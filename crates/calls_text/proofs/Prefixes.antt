@@ -1,0 +1,304 @@
+-- A history is read from its text, and from no proper prefix of it.
+use Rattle.std.proofs.Common.{◌≡◌, ◌≢◌, ◌⊎◌, inl, inr, ℕ, ◌+◌, List, [], ◌∷◌, ◌++◌, length, false}
+use Rattle.std.proofs.Common.{eqb, Result, Ok, Err, refl, sym, ap, ap₂, ◌∙◌, subst, arith}
+use Rattle.std.proofs.Common.{append_assoc, length-append}
+use Rattle.std.specs.Prelude.{count_by}
+use Rattle.std.specs.List.{AllByRecursion, join_with_byte}
+use Rattle.std.proofs.lemmas.List.Splits.{length-slice_split}
+use Rattle.std.proofs.lemmas.List.Elements.{recursion_from_All, All-from_recursion}
+use Rattle.ec_heading.specs.Spelling.{text_of, ended_line}
+use Rattle.calls_text.specs.declared.fault.Kind.{Kind}
+use Rattle.calls_text.specs.declared.fault.Kind.TheVariants as kinds
+use Rattle.calls_text.specs.Recordings.{Recorded}
+use Rattle.calls_text.specs.Reading.{Stage, Opening, Limiting, Declaring, Running, Ended, step}
+use Rattle.calls_text.specs.Reading.{is_ended}
+use Rattle.calls_text.specs.Outcomes.{OneRead, Parsed, parts_of, goes, taken, ended, fault_in}
+use Rattle.calls_text.specs.Grammar.{history_lines, history_text}
+use Rattle.calls_text.specs.kept.Leading.{Leads}
+use Rattle.calls_text.specs.Laws.{SpelledIsRead, NoTextBeginsAnother}
+use Rattle.calls_text.specs.Laws.{PrefixIsRefused}
+use Rattle.calls_text.specs.Rules.{KeepsRules}
+use Rattle.calls_text.proofs.Rules.{Lead, all_taken}
+use Rattle.calls_text.proofs.TextParts.{IsPart, parts_alone, parts_line, parts_joined, by_line}
+use Rattle.calls_text.proofs.TextParts.{by_rest}
+use Rattle.calls_text.proofs.TextParts.{HasFirst, has_first}
+use Rattle.calls_text.proofs.Histories.{lines_back}
+
+-- LINES THAT ARE READ
+
+-- a stage that takes a line is not over
+is_open : (s t : Stage) (line : List ℕ) → step s line ≡ Ok t → is_ended s ≡ false
+unfolding step is_ended
+is_open Opening t line is = refl
+is_open Limiting t line is = refl
+is_open (Declaring d) t line is = refl
+is_open (Running r) t line is = refl
+is_open (Ended r) t line is = cc
+
+goes_line : (n : ℕ) (s t : Stage) (line more : List ℕ) → IsPart line → step s line ≡ Ok t
+    → goes n s (parts_of (line ++ 10 ∷ more)) ≡ goes (n + 1) t (parts_of more)
+goes_line n s t line more part is =
+    let f : HasFirst more = has_first more in
+    ap (goes n s) (parts_line line more part ∙ ap (λ (ps : List (List ℕ)). line ∷ ps) f.is)
+    ∙ by_line n s line f.first f.others (is_open s t line is)
+    ∙ ap (λ r. taken n line r (λ u. goes (n + 1) u (f.first ∷ f.others))) is
+    ∙ ap (goes (n + 1) t) (sym f.is)
+
+-- lines that lead to a stage are read, whatever follows
+pub goes_lines : (n : ℕ) (s t : Stage) (lines : List (List ℕ)) (more : List ℕ)
+    → AllByRecursion IsPart lines → Leads s lines t
+    → goes n s (parts_of (text_of lines ++ more)) ≡ goes (n + length lines) t (parts_of more)
+goes_lines n s t [] more each leads =
+    ap (λ (k : ℕ). goes k s (parts_of more)) (omega arith)
+    ∙ ap (λ (k : Stage). goes (n + 0) k (parts_of more)) leads
+goes_lines n s t (line ∷ lines) more each (next, is, leads) =
+    let grouped : (ended_line line ++ text_of lines) ++ more
+    ≡ line ++ 10 ∷ (text_of lines ++ more) =
+    append_assoc (ended_line line) (text_of lines) more
+    ∙ append_assoc line (10 ∷ []) (text_of lines ++ more) in
+    let count : n + 1 + length lines ≡ n + length (line ∷ lines) = omega arith in
+    ap (λ (bytes : List ℕ). goes n s (parts_of bytes)) grouped
+    ∙ goes_line n s next line (text_of lines ++ more) each.0 is
+    ∙ goes_lines (n + 1) next t lines more each.1 leads
+    ∙ ap (λ (k : ℕ). goes k t (parts_of more)) count
+
+pub goes_ended : (n : ℕ) (r : Recorded) (parts : List (List ℕ))
+    → goes n (Ended r) parts ≡ Ok (record { recorded = r; number = n; rest = parts })
+unfolding goes
+goes_ended n r parts = refl
+
+-- its lines lead to the history, and have no LF
+pub record IsLed (r : Recorded) : Type 0 where
+  pub each : AllByRecursion IsPart (history_lines r)
+  pub leads : Leads Opening (history_lines r) (Ended r)
+
+led_by : (r : Recorded) (lines : List (List ℕ)) → lines ≡ history_lines r
+    → AllByRecursion IsPart lines → Leads Opening lines (Ended r) → IsLed r
+led_by r lines same each leads = record {
+  each = subst (AllByRecursion IsPart) same each;
+  leads = subst (λ (ls : List (List ℕ)). Leads Opening ls (Ended r)) same leads;
+}
+
+pub is_led : (r : Recorded) → KeepsRules r → IsLed r
+is_led r keeps =
+    let l : Lead Opening (Ended r) = all_taken r keeps in
+    led_by r l.lines (lines_back l.lines r l.taken.leads) l.taken.each l.taken.leads
+
+-- WHAT IS SPELLED IS READ
+
+pub led_is_read : (r : Recorded) (n : ℕ) (rest : List ℕ) → IsLed r
+    → goes n Opening (parts_of (history_text r ++ rest))
+    ≡ Ok (record { recorded = r; number = n + length (history_lines r); rest = parts_of rest })
+unfolding history_text
+led_is_read r n rest led =
+    goes_lines n Opening (Ended r) (history_lines r) rest led.each led.leads
+    ∙ goes_ended (n + length (history_lines r)) r (parts_of rest)
+
+pub spelled_is_read : SpelledIsRead
+spelled_is_read r n rest keeps = led_is_read r n rest (is_led r keeps)
+
+-- NO TEXT BEGINS ANOTHER
+
+one_read : (r s : Recorded) (m n : ℕ) (x y : List (List ℕ))
+    → ◌≡◌ {A = Parsed} (Ok (record { recorded = r; number = m; rest = x }))
+    (Ok (record { recorded = s; number = n; rest = y })) → (r ≡ s) × (x ≡ y)
+one_read r s m n x y is =
+    let same : record { recorded = r; number = m; rest = x }
+    ≡ record { recorded = s; number = n; rest = y } = cc in
+    (ap (λ (o : OneRead). o.recorded) same, ap (λ (o : OneRead). o.rest) same)
+
+pub no_text_begins_another : NoTextBeginsAnother
+no_text_begins_another r s x y one other same =
+    let both = one_read r s (1 + length (history_lines r)) (1 + length (history_lines s))
+    (parts_of x) (parts_of y)
+    (sym (spelled_is_read r 1 x one)
+    ∙ ap (λ (bytes : List ℕ). goes 1 Opening (parts_of bytes)) same
+    ∙ spelled_is_read s 1 y other) in
+    (both.0, sym (parts_joined x) ∙ ap (join_with_byte 10) both.1 ∙ parts_joined y)
+
+-- WHERE A TEXT IS CUT
+
+-- one of two lists with one ending begins the other
+append_cases : (xs ys zs ws : List ℕ) → xs ++ ys ≡ zs ++ ws
+    → ((t : List ℕ) × (zs ≡ xs ++ t) × (ys ≡ t ++ ws))
+    ⊎ ((t : List ℕ) × (xs ≡ zs ++ t) × (ws ≡ t ++ ys) × (t ≢ []))
+append_cases [] ys zs ws is = inl (zs, refl, is)
+append_cases (x ∷ xs) ys [] ws is = inr (x ∷ xs, refl, sym is, λ none. (cc))
+append_cases (x ∷ xs) ys (z ∷ zs) ws is =
+    let head : x ≡ z = cc in
+    let tail : xs ++ ys ≡ zs ++ ws = cc in
+    elim (append_cases xs ys zs ws tail) [
+      | inl longer ↦
+          inl (longer.0, ap₂ (λ (a : ℕ) (bs : List ℕ). a ∷ bs) (sym head) longer.1, longer.2)
+      | inr shorter ↦
+          inr (
+            shorter.0,
+            ap₂ (λ (a : ℕ) (bs : List ℕ). a ∷ bs) head shorter.1,
+            shorter.2,
+            shorter.3,
+          )
+    ]
+
+-- what is left of a line with its LF, where some bytes follow
+short_of : (line front t : List ℕ) → line ++ 10 ∷ [] ≡ front ++ t → t ≢ []
+    → (tail : List ℕ) × (line ≡ front ++ tail)
+short_of line [] t is some = (line, refl)
+short_of [] (b ∷ []) t is some = absurd (some (cc))
+short_of [] (b ∷ c ∷ front) t is some = cc
+short_of (a ∷ line) (b ∷ front) t is some =
+    let head : a ≡ b = cc in
+    let tail : line ++ 10 ∷ [] ≡ front ++ t = cc in
+    let k = short_of line front t tail some in
+    (k.0, ap₂ (λ (x : ℕ) (xs : List ℕ). x ∷ xs) head k.1)
+
+-- whole lines, and a part of the next one
+record IsCut (lines : List (List ℕ)) (front : List ℕ) : Type 0 where
+  whole : List (List ℕ)
+  line : List ℕ
+  others : List (List ℕ)
+  part : List ℕ
+  tail : List ℕ
+  are : lines ≡ whole ++ line ∷ others
+  text : front ≡ text_of whole ++ part
+  begins : line ≡ part ++ tail
+
+cut_after : (line : List ℕ) (lines : List (List ℕ)) (front t : List ℕ)
+    → front ≡ ended_line line ++ t → IsCut lines t → IsCut (line ∷ lines) front
+cut_after line lines front t is c = record {
+  whole = line ∷ c.whole;
+  line = c.line;
+  others = c.others;
+  part = c.part;
+  tail = c.tail;
+  are = ap (λ (ls : List (List ℕ)). line ∷ ls) c.are;
+  text = is ∙ ap (λ (bytes : List ℕ). ended_line line ++ bytes) c.text
+      ∙ sym (append_assoc (ended_line line) (text_of c.whole) c.part);
+  begins = c.begins;
+}
+
+cut : (lines : List (List ℕ)) (front more : List ℕ) → text_of lines ≡ front ++ more → more ≢ []
+    → IsCut lines front
+cut [] [] more is some = absurd (some (sym is))
+cut [] (b ∷ front) more is some = cc
+cut (line ∷ lines) front more is some =
+    elim (append_cases (ended_line line) (text_of lines) front more is) [
+      | inl longer ↦
+          cut_after line lines front longer.0 longer.1 (cut lines longer.0 more longer.2 some)
+      | inr shorter ↦
+          (let k = short_of line front shorter.0 shorter.1 shorter.3 in
+          record {
+            whole = [];
+            line = line;
+            others = lines;
+            part = front;
+            tail = k.0;
+            are = refl;
+            text = refl;
+            begins = k.1;
+          })
+    ]
+
+-- THE FAULT OF A PREFIX
+
+lead_parts : (s u : Stage) (xs ys : List (List ℕ)) → Leads s (xs ++ ys) u
+    → (t : Stage) × Leads s xs t × Leads t ys u
+lead_parts s u [] ys leads = (s, refl, leads)
+lead_parts s u (x ∷ xs) ys (next, is, leads) =
+    let k = lead_parts next u xs ys leads in
+    (k.0, (next, is, k.1), k.2)
+
+part_front : (xs ys : List ℕ) → AllByRecursion (λ b. eqb b 10 ≡ false) (xs ++ ys)
+    → AllByRecursion (λ b. eqb b 10 ≡ false) xs
+part_front [] ys all = tt
+part_front (x ∷ xs) ys all = (all.0, part_front xs ys all.1)
+
+part_begins : (line part tail : List ℕ) → line ≡ part ++ tail → IsPart line → IsPart part
+part_begins line part tail is all =
+    All-from_recursion (λ b. eqb b 10 ≡ false) part
+    (part_front part tail (subst (AllByRecursion (λ b. eqb b 10 ≡ false)) is
+    (recursion_from_All (λ b. eqb b 10 ≡ false) line all)))
+
+each_front : (xs ys : List (List ℕ)) → AllByRecursion IsPart (xs ++ ys) → AllByRecursion IsPart xs
+each_front [] ys all = tt
+each_front (x ∷ xs) ys all = (all.0, each_front xs ys all.1)
+
+each_there : (xs : List (List ℕ)) (y : List ℕ) (ys : List (List ℕ))
+    → AllByRecursion IsPart (xs ++ y ∷ ys) → IsPart y
+each_there [] y ys all = all.0
+each_there (x ∷ xs) y ys all = each_there xs y ys all.1
+
+-- what stands after the last LF is at fault, as unfinished if nothing does
+taken_refused : (n : ℕ) (line : List ℕ) (r : Result Stage Kind)
+    → (kind : Kind)
+    × (taken n line r (λ t. fault_in n kinds.Unfinished line) ≡ fault_in n kind line)
+taken_refused n line (Ok t) = (kinds.Unfinished, refl)
+taken_refused n line (Err kind) = (kind, refl)
+
+end_refused : (n : ℕ) (s : Stage) (part : List ℕ)
+    → (kind : Kind) × (ended n s part ≡ fault_in n kind part)
+    × (part ≡ [] → kind ≡ kinds.Unfinished)
+end_refused n s [] = (kinds.Unfinished, refl, λ none. refl)
+end_refused n s (b ∷ bs) =
+    let k = taken_refused n (b ∷ bs) (step s (b ∷ bs)) in
+    (k.0, k.1, λ none. (cc))
+
+-- LFS
+
+parts_lines : (lines : List (List ℕ)) (part : List ℕ) → AllByRecursion IsPart lines → IsPart part
+    → parts_of (text_of lines ++ part) ≡ lines ++ part ∷ []
+parts_lines [] part each none = parts_alone part none
+parts_lines (line ∷ lines) part each none =
+    ap parts_of (append_assoc (ended_line line) (text_of lines) part
+    ∙ append_assoc line (10 ∷ []) (text_of lines ++ part))
+    ∙ parts_line line (text_of lines ++ part) each.0
+    ∙ ap (λ (ps : List (List ℕ)). line ∷ ps) (parts_lines lines part each.1 none)
+
+lfs : (lines : List (List ℕ)) (part : List ℕ) → AllByRecursion IsPart lines → IsPart part
+    → count_by (λ b. eqb b 10) (text_of lines ++ part) ≡ length lines
+lfs lines part each none =
+    omega (
+      arith,
+      length-slice_split (λ b. eqb b 10) (text_of lines ++ part),
+      ap length (parts_lines lines part each none),
+      length-append lines (part ∷ []),
+    )
+
+-- A PROPER PREFIX
+
+cut_refused : (n : ℕ) (s t : Stage) (front line : List ℕ) (whole others : List (List ℕ))
+    (part tail : List ℕ) (u : Stage) → front ≡ text_of whole ++ part → line ≡ part ++ tail
+    → AllByRecursion IsPart (whole ++ line ∷ others) → Leads s whole t → step t line ≡ Ok u
+    → (kind : Kind)
+    × (goes n s (parts_of front)
+    ≡ fault_in (n + count_by (λ b. eqb b 10) front) kind part)
+    × (part ≡ [] → kind ≡ kinds.Unfinished)
+cut_refused n s t front line whole others part tail u text begins each leads is =
+    let before : AllByRecursion IsPart whole = each_front whole (line ∷ others) each in
+    let none : IsPart part =
+    part_begins line part tail begins (each_there whole line others each) in
+    let e = end_refused (n + length whole) t part in
+    let count : length whole ≡ count_by (λ b. eqb b 10) front =
+    sym (lfs whole part before none) ∙ ap (count_by (λ b. eqb b 10)) (sym text) in
+    let reads : goes n s (parts_of front) ≡ fault_in (n + length whole) e.0 part =
+    ap (λ (bytes : List ℕ). goes n s (parts_of bytes)) text
+    ∙ goes_lines n s t whole part before leads
+    ∙ ap (goes (n + length whole) t) (parts_alone part none)
+    ∙ by_rest (n + length whole) t part (is_open t u line is) ∙ e.1 in
+    (e.0, reads ∙ ap (λ (k : ℕ). fault_in (n + k) e.0 part) count, e.2)
+
+pub prefix_is_refused : PrefixIsRefused
+unfolding history_text
+prefix_is_refused r n front more keeps is some =
+    let led : IsLed r = is_led r keeps in
+    let c : IsCut (history_lines r) front = cut (history_lines r) front more is some in
+    let k = lead_parts Opening (Ended r) c.whole (c.line ∷ c.others)
+    (subst (λ (ls : List (List ℕ)). Leads Opening ls (Ended r)) c.are led.leads) in
+    let f = cut_refused n Opening k.0 front c.line c.whole c.others c.part c.tail k.2.0 c.text
+    c.begins (subst (AllByRecursion IsPart) c.are led.each) k.1 k.2.1 in
+    record {
+      line = c.part;
+      kind = f.0;
+      refused = f.1;
+      ends = (text_of c.whole, c.text);
+      whole = f.2;
+    }

@@ -1,0 +1,235 @@
+-- The parts of a text: the lines that were read, and what is left.
+use Rattle.std.proofs.Common.{◌≡◌, ℕ, ◌+◌, List, [], ◌∷◌, ◌++◌, length, Bool, true, false, cond}
+use Rattle.std.proofs.Common.{eqb}
+use Rattle.std.proofs.Common.{Result, Ok, Err, refl, sym, ap, ◌∙◌, subst, arith, append_assoc}
+use Rattle.std.specs.List.{All, AllByRecursion, join_with_byte, onto_first}
+use Rattle.std.proofs.lemmas.List.Elements.{All-nil, All-cons}
+use Rattle.std.proofs.lemmas.List.Splits.{slice_split_at, slice_split_none}
+use Rattle.std.proofs.lemmas.List.Splits.{join_with_byte-slice_split}
+use Rattle.ec_heading.specs.Spelling.{text_of, ended_line}
+use Rattle.calls_text.specs.declared.fault.Kind.{Kind}
+use Rattle.calls_text.specs.declared.fault.Kind.TheVariants as kinds
+use Rattle.calls_text.specs.Recordings.{Recorded}
+use Rattle.calls_text.specs.Reading.{Stage, Opening, Limiting, Declaring, Running, Ended, step}
+use Rattle.calls_text.specs.Reading.{is_ended}
+use Rattle.calls_text.specs.Outcomes.{OneRead, Parsed, parts_of, goes, taken, ended, fault_in}
+use Rattle.calls_text.specs.kept.Leading.{Leads}
+
+-- JOINING AND SPLITTING
+
+abbrev pub IsPart : List ℕ → Type 0
+IsPart part = All (λ b. eqb b 10 ≡ false) part
+
+onto_parts : (b : ℕ) (ps : List (List ℕ)) → eqb b 10 ≡ false → AllByRecursion IsPart ps
+    → AllByRecursion IsPart (onto_first b ps)
+onto_parts b [] apart all =
+    (All-cons (λ x. eqb x 10 ≡ false) b [] apart (All-nil (λ x. eqb x 10 ≡ false)), tt)
+onto_parts b (p ∷ ps) apart all = (All-cons (λ x. eqb x 10 ≡ false) b p apart all.0, all.1)
+
+part_step : (t : Bool) (b : ℕ) (ps : List (List ℕ)) → eqb b 10 ≡ t → AllByRecursion IsPart ps
+    → AllByRecursion IsPart (cond t ([] ∷ ps) (onto_first b ps))
+part_step true b ps is all = (All-nil (λ x. eqb x 10 ≡ false), all)
+part_step false b ps is all = onto_parts b ps is all
+
+are_parts : (bytes : List ℕ) → AllByRecursion IsPart (parts_of bytes)
+are_parts [] = (All-nil (λ x. eqb x 10 ≡ false), tt)
+are_parts (b ∷ bytes) = part_step (eqb b 10) b (parts_of bytes) refl (are_parts bytes)
+
+parts_join : (p : List ℕ) (ps : List (List ℕ)) → AllByRecursion IsPart (p ∷ ps)
+    → parts_of (join_with_byte 10 (p ∷ ps)) ≡ p ∷ ps
+parts_join p [] all = slice_split_none (λ b. eqb b 10) p all.0
+parts_join p (q ∷ ps) all =
+    slice_split_at (λ b. eqb b 10) p 10 (join_with_byte 10 (q ∷ ps)) all.0 refl
+    ∙ ap (λ (r : List (List ℕ)). p ∷ r) (parts_join q ps all.1)
+
+-- lines, each with its LF, and what is left
+joined : (lines : List (List ℕ)) (p : List ℕ) (ps : List (List ℕ))
+    → join_with_byte 10 (lines ++ p ∷ ps) ≡ text_of lines ++ join_with_byte 10 (p ∷ ps)
+joined [] p ps = refl
+joined (line ∷ []) p ps =
+    sym (append_assoc (ended_line line) [] (join_with_byte 10 (p ∷ ps))
+    ∙ append_assoc line (10 ∷ []) (join_with_byte 10 (p ∷ ps)))
+joined (line ∷ next ∷ lines) p ps =
+    ap (λ (r : List ℕ). line ++ 10 ∷ r) (joined (next ∷ lines) p ps)
+    ∙ sym (append_assoc (ended_line line) (text_of (next ∷ lines)) (join_with_byte 10 (p ∷ ps))
+    ∙ append_assoc line (10 ∷ []) (text_of (next ∷ lines) ++ join_with_byte 10 (p ∷ ps)))
+
+later_parts : (lines ps : List (List ℕ)) → AllByRecursion IsPart (lines ++ ps)
+    → AllByRecursion IsPart ps
+later_parts [] ps all = all
+later_parts (line ∷ lines) ps all = later_parts lines ps all.1
+
+earlier_parts : (lines ps : List (List ℕ)) → AllByRecursion IsPart (lines ++ ps)
+    → AllByRecursion IsPart lines
+earlier_parts [] ps all = tt
+earlier_parts (line ∷ lines) ps all = (all.0, earlier_parts lines ps all.1)
+
+-- bytes without an LF are one part
+pub parts_alone : (part : List ℕ) → IsPart part → parts_of part ≡ part ∷ []
+parts_alone part none = slice_split_none (λ b. eqb b 10) part none
+
+pub parts_line : (line more : List ℕ) → IsPart line
+    → parts_of (line ++ 10 ∷ more) ≡ line ∷ parts_of more
+parts_line line more none = slice_split_at (λ b. eqb b 10) line 10 more none refl
+
+-- the parts of bytes, joined, are the bytes
+pub parts_joined : (bytes : List ℕ) → join_with_byte 10 (parts_of bytes) ≡ bytes
+parts_joined bytes = join_with_byte-slice_split 10 bytes
+
+-- WHAT WAS READ
+
+-- lines that lead to the history, and what is left
+pub record Reads (n : ℕ) (s : Stage) (parts : List (List ℕ)) (read : OneRead) : Type 0 where
+  pub lines : List (List ℕ)
+  pub first : List ℕ
+  pub others : List (List ℕ)
+  pub parts_are : parts ≡ lines ++ first ∷ others
+  pub left : read.rest ≡ first ∷ others
+  pub number : read.number ≡ n + length lines
+  pub leads : Leads s lines (Ended read.recorded)
+
+pub by_line : (n : ℕ) (s : Stage) (line next : List ℕ) (others : List (List ℕ)) → is_ended s ≡ false
+    → goes n s (line ∷ next ∷ others)
+    ≡ taken n line (step s line) (λ t. goes (n + 1) t (next ∷ others))
+unfolding goes is_ended
+by_line n Opening line next others going = refl
+by_line n Limiting line next others going = refl
+by_line n (Declaring d) line next others going = refl
+by_line n (Running r) line next others going = refl
+by_line n (Ended r) line next others going = cc
+
+pub by_rest : (n : ℕ) (s : Stage) (rest : List ℕ) → is_ended s ≡ false
+    → goes n s (rest ∷ []) ≡ ended n s rest
+unfolding goes is_ended
+by_rest n Opening rest going = refl
+by_rest n Limiting rest going = refl
+by_rest n (Declaring d) rest going = refl
+by_rest n (Running r) rest going = refl
+by_rest n (Ended r) rest going = cc
+
+was_taken : (n : ℕ) (line : List ℕ) (r : Result Stage Kind) (others : Stage → Parsed)
+    (read : OneRead) → taken n line r others ≡ Ok read
+    → (t : Stage) × (r ≡ Ok t) × (others t ≡ Ok read)
+was_taken n line (Ok t) others read is = (t, refl, is)
+was_taken n line (Err kind) others read is = cc
+
+-- what stands after the last LF ends no history
+not_at_end : (n : ℕ) (s : Stage) (rest : List ℕ) (read : OneRead) → ended n s rest ≡ Ok read → ⊥
+not_at_end n s [] read is = cc
+not_at_end n s (b ∷ bs) read is =
+    let t = was_taken n (b ∷ bs) (step s (b ∷ bs)) (λ t. fault_in n kinds.Unfinished (b ∷ bs)) read
+    is in
+    let none : fault_in n kinds.Unfinished (b ∷ bs) ≡ Ok read = t.2 in
+    cc
+
+over : (n : ℕ) (r : Recorded) (first : List ℕ) (others : List (List ℕ)) (read : OneRead)
+    → goes n (Ended r) (first ∷ others) ≡ Ok read → Reads n (Ended r) (first ∷ others) read
+unfolding goes
+over n r first others read is =
+    let same : record { recorded = r; number = n; rest = first ∷ others } ≡ read = cc in
+    subst (Reads n (Ended r) (first ∷ others)) same (record {
+      lines = [];
+      first = first;
+      others = others;
+      parts_are = refl;
+      left = refl;
+      number = omega arith;
+      leads = refl;
+    })
+
+line_read : (n : ℕ) (s t : Stage) (line : List ℕ) (parts : List (List ℕ)) (read : OneRead)
+    → step s line ≡ Ok t → Reads (n + 1) t parts read → Reads n s (line ∷ parts) read
+line_read n s t line parts read is rest = record {
+  lines = line ∷ rest.lines;
+  first = rest.first;
+  others = rest.others;
+  parts_are = ap (λ (ps : List (List ℕ)). line ∷ ps) rest.parts_are;
+  left = rest.left;
+  number = omega (arith, rest.number);
+  leads = (t, is, rest.leads);
+}
+
+-- a stage that is over, or one that is not
+ended_or_not : (P : Stage → Type 0) → ((r : Recorded) → P (Ended r))
+    → ((s : Stage) → is_ended s ≡ false → P s) → (s : Stage) → P s
+unfolding is_ended
+ended_or_not P over_is open_is Opening = open_is Opening refl
+ended_or_not P over_is open_is Limiting = open_is Limiting refl
+ended_or_not P over_is open_is (Declaring d) = open_is (Declaring d) refl
+ended_or_not P over_is open_is (Running r) = open_is (Running r) refl
+ended_or_not P over_is open_is (Ended r) = over_is r
+
+reads : (n : ℕ) (s : Stage) (first : List ℕ) (others : List (List ℕ)) (read : OneRead)
+    → goes n s (first ∷ others) ≡ Ok read → Reads n s (first ∷ others) read
+reads n s first [] read is =
+    ended_or_not (λ t. goes n t (first ∷ []) ≡ Ok read → Reads n t (first ∷ []) read)
+    (λ r e. over n r first [] read e)
+    (λ t going e. absurd (not_at_end n t first read (sym (by_rest n t first going) ∙ e)))
+    s is
+reads n s line (next ∷ others) read is =
+    ended_or_not (λ t. goes n t (line ∷ next ∷ others) ≡ Ok read
+    → Reads n t (line ∷ next ∷ others) read)
+    (λ r e. over n r line (next ∷ others) read e)
+    (λ t going e. (let k = was_taken n line (step t line) (λ u. goes (n + 1) u (next ∷ others)) read
+    (sym (by_line n t line next others going) ∙ e) in
+    line_read n t k.0 line (next ∷ others) read k.1
+    (reads (n + 1) k.0 next others read k.2)))
+    s is
+
+-- OF BYTES
+
+pub record HasFirst (bytes : List ℕ) : Type 0 where
+  pub first : List ℕ
+  pub others : List (List ℕ)
+  pub is : parts_of bytes ≡ first ∷ others
+
+onto_has : (b : ℕ) (parts : List (List ℕ))
+    → (first : List ℕ) × (others : List (List ℕ)) × (onto_first b parts ≡ first ∷ others)
+onto_has b [] = (b ∷ [], [], refl)
+onto_has b (part ∷ parts) = (b ∷ part, parts, refl)
+
+pub has_first : (bytes : List ℕ) → HasFirst bytes
+has_first [] = record { first = []; others = []; is = refl }
+has_first (b ∷ bytes) =
+    let P : Bool → Type 0 =
+    λ t. (first : List ℕ) × (others : List (List ℕ)) ×
+    (cond t ([] ∷ parts_of bytes) (onto_first b (parts_of bytes)) ≡ first ∷ others) in
+    let w : P (eqb b 10) = elim (eqb b 10) as P [
+      | true ↦ ([], parts_of bytes, refl)
+      | false ↦ onto_has b (parts_of bytes)
+    ] in
+    record { first = w.0; others = w.1; is = w.2 }
+
+-- lines that lead to the history, each with its LF, and the bytes that are left
+pub record IsRead (bytes : List ℕ) (n : ℕ) (s : Stage) (read : OneRead) : Type 0 where
+  pub lines : List (List ℕ)
+  pub rest : List ℕ
+  pub text : bytes ≡ text_of lines ++ rest
+  pub left : read.rest ≡ parts_of rest
+  pub number : read.number ≡ n + length lines
+  pub each : AllByRecursion IsPart lines
+  pub leads : Leads s lines (Ended read.recorded)
+
+of_parts : (bytes : List ℕ) (n : ℕ) (s : Stage) (read : OneRead) → Reads n s (parts_of bytes) read
+    → IsRead bytes n s read
+of_parts bytes n s read r =
+    let all : AllByRecursion IsPart (r.lines ++ r.first ∷ r.others) =
+    subst (AllByRecursion IsPart) r.parts_are (are_parts bytes) in
+    record {
+      lines = r.lines;
+      rest = join_with_byte 10 (r.first ∷ r.others);
+      text = sym (join_with_byte-slice_split 10 bytes) ∙ ap (join_with_byte 10) r.parts_are
+          ∙ joined r.lines r.first r.others;
+      left = r.left ∙ sym (parts_join r.first r.others
+          (later_parts r.lines (r.first ∷ r.others) all));
+      number = r.number;
+      each = earlier_parts r.lines (r.first ∷ r.others) all;
+      leads = r.leads;
+    }
+
+pub is_read : (bytes : List ℕ) (n : ℕ) (s : Stage) (read : OneRead)
+    → goes n s (parts_of bytes) ≡ Ok read → IsRead bytes n s read
+is_read bytes n s read is =
+    let f : HasFirst bytes = has_first bytes in
+    of_parts bytes n s read (subst (λ (ps : List (List ℕ)). Reads n s ps read) (sym f.is)
+    (reads n s f.first f.others read (ap (goes n s) (sym f.is) ∙ is)))

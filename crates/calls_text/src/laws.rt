@@ -1,0 +1,26 @@
+//! Theorems on the format. Each is the contract of a function that does nothing.
+ghost use Rattle.calls_text.specs.Laws.{ReadIsSpelled, SpelledIsRead, NoTextBeginsAnother};
+ghost use Rattle.calls_text.specs.Laws.{PrefixIsRefused};
+
+/// States that what is read keeps the rules, and is read from its text.
+#[tactic(auto, using(crate::proofs::Texts::read_is_spelled))]
+pub fn read_is_spelled()
+    ensures { ReadIsSpelled }
+{}
+
+/// States that each history that keeps the rules is read from its text, whatever follows.
+#[tactic(auto, using(crate::proofs::Prefixes::spelled_is_read))]
+pub fn spelled_is_read()
+    ensures { SpelledIsRead }
+{}
+
+/// States that no text of a history begins another, and that different histories have different
+/// texts.
+pub fn no_text_begins_another()
+    ensures { NoTextBeginsAnother }
+{}
+
+/// States that a proper prefix of the text of a history is refused at its end.
+pub fn prefix_is_refused()
+    ensures { PrefixIsRefused }
+{}
