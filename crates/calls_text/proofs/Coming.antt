@@ -2,10 +2,10 @@
 use Rattle.std.proofs.Common.{◌≡◌, ◌<◌, ◌&&◌, ◌==◌, ℕ, zero, suc, ◌+◌, ◌^◌, Bool, true, false, not}
 use Rattle.std.proofs.Common.{List, [], ◌∷◌}
 use Rattle.std.proofs.Common.{length, Option, Some, None, slice_get, refl, ap, sym, ◌∙◌, subst}
-use Rattle.std.proofs.Common.{arith}
+use Rattle.std.proofs.Common.{arith, cond, Ok}
 use Rattle.std.specs.Prelude.{is_some}
 use Rattle.std.specs.Option.{option_map_or}
-use Rattle.std.proofs.lemmas.Bool.{eq-eqb, leb-false}
+use Rattle.std.proofs.lemmas.Bool.{eq-eqb, leb-false, eqb-true}
 use Rattle.std.proofs.lemmas.List.{length-map}
 use Rattle.std.proofs.lemmas.Option.{slice_get_within}
 use Rattle.ec_count.specs.Tables.{IsDeclared, first_that}
@@ -19,8 +19,11 @@ use Rattle.calls_core.specs.declared.history.Kind.TheVariants.{Eventcount, Seque
 use Rattle.calls_core.specs.declared.history.Kind.TheVariants.{Database, Semaphores}
 use Rattle.calls_core.specs.declared.history.Op.{Op}
 use Rattle.calls_core.specs.declared.history.Op.TheVariants as ops
+use Rattle.calls_core.specs.declared.history.Action.{Action}
 use Rattle.calls_core.specs.declared.history.Action.TheVariants.{Invoke}
-use Rattle.calls_core.specs.Histories.{Takes, IsNext}
+use Rattle.calls_core.specs.declared.history.Event.{Event}
+use Rattle.calls_core.specs.Histories.{Takes, IsNext, pending_after}
+use Rattle.calls_counts.specs.Faults.{is_advance}
 use Rattle.calls_text.specs.declared.fault.Kind.{Kind}
 use Rattle.calls_text.specs.declared.fault.Kind.TheVariants as faults
 use Rattle.calls_text.specs.declared.verb.Verb.{Verb}
@@ -31,11 +34,15 @@ use Rattle.calls_text.specs.Objects.{has_right, is_owned}
 use Rattle.calls_text.specs.Verbs.{is_giving, tail_of}
 use Rattle.calls_text.specs.Recordings.{Recorded, AreKinds, start_of}
 use Rattle.calls_text.specs.Recordings.{first_sequencer, first_cell, semaphores, first_group}
-use Rattle.calls_text.specs.Reading.{is_bad_tail, is_spent}
-use Rattle.calls_text.specs.Reading.{call_fault, pending_in, has_two_roles, index_of, op_of}
+use Rattle.calls_text.specs.Reading.{is_bad_tail, call_fault_by, has_two_roles, index_of, op_of}
+use Rattle.calls_text.specs.Reading.{number_in, lists_of}
+use Rattle.calls_text.specs.declared.running.Running.{Running}
 use Rattle.calls_text.specs.declared.tally.Tally.{Tally}
-use Rattle.calls_text.specs.Tallies.{IsCounted, tally_at, advances_by}
-use Rattle.calls_text.specs.kept.Runs.{Fits, MayCome}
+use Rattle.calls_text.specs.Tallies.{tally_at, IsCountedFurther}
+use Rattle.calls_text.specs.kept.Judging.{pending_by, spent_at, spent_by, fault_by}
+use Rattle.calls_text.specs.kept.Judging.{invocation, Happening}
+use Rattle.calls_text.specs.kept.Judging.{TallyAfter, IsTallied, Answers}
+use Rattle.calls_text.specs.kept.Runs.{Fits}
 
 -- FAULTS
 
@@ -52,29 +59,29 @@ none_of : {A : Type 0} (o : Option A) → is_some o ≡ false → o ≡ None
 none_of None is = refl
 none_of (Some x) is = cc
 
-record NoFault (r : Recorded) (w : ℕ) (v : Verb) (o : Object) : Type 0 where
+record NoFault (h : Headed) (w : ℕ) (v : Verb) (o : Object) (busy spent : Bool) : Type 0 where
   roles : has_two_roles o ≡ false
-  right : has_right r.heading.setup w (is_giving v) o ≡ true
-  idle : pending_in r.events w ≡ None
-  more : is_spent r w v o ≡ false
+  right : has_right h.setup w (is_giving v) o ≡ true
+  idle : busy ≡ false
+  more : spent ≡ false
 
-no_fault : (r : Recorded) (w : ℕ) (v : Verb) (o : Object) (ws : List (List ℕ))
-    → call_fault r w v o ws ≡ None → NoFault r w v o
-no_fault r w v o ws is =
-    let t : List (Bool × Kind) = (is_spent r w v o, faults.AtLimit) ∷ [] in
-    let s : List (Bool × Kind) = (is_some (pending_in r.events w), faults.Busy) ∷ t in
-    let right : Bool = not (has_right r.heading.setup w (is_giving v) o) in
+no_fault : (h : Headed) (w : ℕ) (v : Verb) (o : Object) (ws : List (List ℕ)) (busy spent : Bool)
+    → call_fault_by h w v o ws busy spent ≡ None → NoFault h w v o busy spent
+no_fault h w v o ws busy spent is =
+    let t : List (Bool × Kind) = (spent, faults.AtLimit) ∷ [] in
+    let s : List (Bool × Kind) = (busy, faults.Busy) ∷ t in
+    let right : Bool = not (has_right h.setup w (is_giving v) o) in
     let p : List (Bool × Kind) = (right, faults.NoRight) ∷ s in
     let q : List (Bool × Kind) = (has_two_roles o, faults.TwoRoles) ∷ p in
-    let owned : Bool = is_owned r.heading.groups o in
+    let owned : Bool = is_owned h.groups o in
     let a = passes (is_bad_tail (tail_of v) ws o) faults.BadNumber ((owned, faults.Hidden) ∷ q) is
     in
     let b = passes owned faults.Hidden q a.1 in
     let c = passes (has_two_roles o) faults.TwoRoles p b.1 in
     let d = passes right faults.NoRight s c.1 in
-    let e = passes (is_some (pending_in r.events w)) faults.Busy t d.1 in
-    let f = passes (is_spent r w v o) faults.AtLimit [] e.1 in
-    record { roles = c.0; right = held _ d.0; idle = none_of _ e.0; more = f.0 }
+    let e = passes busy faults.Busy t d.1 in
+    let f = passes spent faults.AtLimit [] e.1 in
+    record { roles = c.0; right = held _ d.0; idle = e.0; more = f.0 }
 
 -- WHAT IS DECLARED
 
@@ -84,7 +91,7 @@ declared f [] i is = cc
 declared f (x ∷ xs) zero is = omega arith
 declared f (x ∷ xs) (suc i) is = let r : i < length xs = declared f xs i is in omega arith
 
-signs : (w : ℕ) (events : List Rights) (e : ℕ)
+pub signs : (w : ℕ) (events : List Rights) (e : ℕ)
     → is_some (members.place_of w (option_map_or (λ (r : Rights). r.signal) (slice_get events e)
     [])) ≡ true
     → e < length events
@@ -159,36 +166,158 @@ takes h from kinds w verbs.Snapshot (objects.Database i d) n are fits right role
     (are.databases i (groups.Database d) fits) tt
 takes h from kinds w v o n are fits right roles = absurd fits
 
-pub may_call : (r : Recorded) (w : ℕ) (v : Verb) (o : Object) (ws : List (List ℕ)) (n : ℕ)
-    → Fits r.heading v o → call_fault r w v o ws ≡ None
-    → MayCome r w (Invoke (index_of r.heading o) (op_of v o n))
-may_call r w v o ws n fits none = λ kinds are.
-    let f : NoFault r w v o = no_fault r w v o ws none in
-    subst (IsNext kinds (Invoke (index_of r.heading o) (op_of v o n))) (sym f.idle)
-    (takes r.heading r.from kinds w v o n are fits f.right f.roles)
-
--- the lists have no part in it
-pub may_call_then : (r s : Recorded) (w : ℕ) (v : Verb) (o : Object) (ws lists : List (List ℕ))
-    (n k : ℕ)
-    (op : Op) → s ≡ record r { lists = lists } → k ≡ index_of s.heading o → op ≡ op_of v o n
-    → Fits r.heading v o → call_fault r w v o ws ≡ None → MayCome s w (Invoke k op)
-may_call_then r s w v o ws lists n k op is at asks fits none =
-    let index : k ≡ index_of r.heading o = at ∙ ap (λ (t : Recorded). index_of t.heading o) is in
-    let P : ℕ → Op → Type 0 = λ i p. MayCome r w (Invoke i p) in
-    subst (λ (t : Recorded). MayCome t w (Invoke k op)) (sym is)
-    (subst (λ (i : ℕ). P i op) (sym index)
-    (subst (P (index_of r.heading o)) (sym asks) (may_call r w v o ws n fits none)))
+pub may_call : (run : Running) (w : ℕ) (v : Verb) (o : Object) (ws : List (List ℕ))
+    → Fits run.recording.heading v o → fault_by run w v o ws ≡ None
+    → (ks : List sorts.Kind) → AreKinds run.recording.heading run.recording.from ks
+    → IsNext ks (invocation run w v o ws).action (pending_by run w)
+may_call run w v o ws fits none ks are =
+    let h = run.recording.heading in
+    let n = number_in run.recording.lists v ws in
+    let f = no_fault h w v o ws (is_some (pending_by run w)) (spent_by run w v o) none in
+    subst (IsNext ks (Invoke (index_of h o) (op_of v o n))) (sym (none_of _ f.idle))
+    (takes h run.recording.from ks w v o n are fits f.right f.roles)
 
 -- one more advance fits
-pub may_add : (r : Recorded) (w e : ℕ) (v : Verb) (o : Object) (ws : List (List ℕ)) (t u : Tally)
-    → v ≡ verbs.Advance → o ≡ objects.Event e → u ≡ t → call_fault r w v o ws ≡ None
-    → IsDeclared r.heading.setup → IsCounted t r.events → w < 16 → e < 32
-    → tally_at u w e + 1 < 2 ^ 64
-may_add r w e v o ws t u is of same none declared counted few some =
-    let f : NoFault r w v o = no_fault r w v o ws none in
-    let more : is_spent r w verbs.Advance (objects.Event e) ≡ false =
-    sym (ap (λ (x : Verb). is_spent r w x o) is ∙ ap (is_spent r w verbs.Advance) of) ∙ f.more in
-    let value : tally_at u w e ≡ advances_by w e r.events =
-    ap (λ (x : Tally). tally_at x w e) same ∙ counted w e few some in
-    let below : advances_by w e r.events < r.heading.setup.limit = leb-false _ _ more in
+pub may_add : (run : Running) (w e : ℕ) (v : Verb) (o : Object) → v ≡ verbs.Advance
+    → o ≡ objects.Event e → spent_by run w v o ≡ false → IsDeclared run.recording.heading.setup
+    → tally_at run.tally w e + 1 < 2 ^ 64
+may_add run w e v o is of none declared =
+    let more : spent_by run w verbs.Advance (objects.Event e) ≡ false =
+    sym (ap (λ (x : Verb). spent_by run w x o) is ∙ ap (spent_by run w verbs.Advance) of) ∙ none in
+    let below : tally_at run.tally w e < run.recording.heading.setup.limit = leb-false _ _ more in
     omega (arith, declared.limit.1)
+
+-- the call is not one too many
+not_spent : (run : Running) (w : ℕ) (v : Verb) (o : Object) (ws : List (List ℕ))
+    → fault_by run w v o ws ≡ None → spent_by run w v o ≡ false
+not_spent run w v o ws none =
+    (no_fault run.recording.heading w v o ws (is_some (pending_by run w)) (spent_by run w v o)
+    none).more
+
+-- of the lists that takes nothing
+pub still_not_spent : (old new : Running) (mid : Recorded) (w : ℕ) (v : Verb) (o : Object)
+    (ws lists : List (List ℕ)) → mid ≡ record old.recording { lists = lists }
+    → new.recording ≡ mid → new.tally ≡ old.tally → fault_by old w v o ws ≡ None
+    → spent_by new w v o ≡ false
+still_not_spent old new mid w v o ws lists mid_is is same none =
+    ap (λ (r : Recorded). spent_at r.heading.setup.limit new.tally w v o) (is ∙ mid_is)
+    ∙ ap (λ (t : Tally). spent_at old.recording.heading.setup.limit t w v o) same
+    ∙ not_spent old w v o ws none
+
+-- TALLIES
+
+no_more : (b : Bool) (m n : ℕ) → n ≡ cond (b && false) m n
+no_more true m n = refl
+no_more false m n = refl
+
+other_call : (old new : Tally) (w k : ℕ) (op : Op) → is_advance op ≡ false → new ≡ old
+    → (u f : ℕ) → tally_at new u f
+    ≡ cond ((w == u) && (is_advance op && (k == f))) (tally_at old u f + 1) (tally_at old u f)
+other_call old new w k op none same u f =
+    ap (λ (t : Tally). tally_at t u f) same
+    ∙ no_more (w == u) (tally_at old u f + 1) (tally_at old u f)
+    ∙ ap (λ (b : Bool). cond ((w == u) && (b && (k == f))) (tally_at old u f + 1)
+    (tally_at old u f)) (sym none)
+
+swapped : (a b : ℕ) → (a == b) ≡ (b == a)
+swapped a b = elim (a == b) as (λ x. (a == b) ≡ x → x ≡ (b == a)) [
+  | true ↦ λ e. sym (eq-eqb b a (sym (eqb-true a b e)))
+  | false ↦ λ e. elim (b == a) as (λ y. (b == a) ≡ y → false ≡ y) [
+    | true ↦ λ f. cc (e, eq-eqb a b (sym (eqb-true b a f)))
+    | false ↦ λ f. refl
+  ] refl
+] refl
+
+advanced : (old new : Tally) (w e : ℕ) → IsCountedFurther old new w e → (u f : ℕ) → u < 16 → f < 32
+    → tally_at new u f
+    ≡ cond ((w == u) && (e == f)) (tally_at old u f + 1) (tally_at old u f)
+advanced old new w e after u f few some =
+    after u f few some
+    ∙ ap (λ (b : Bool). cond (b && (f == e)) (tally_at old u f + 1) (tally_at old u f))
+    (swapped u w)
+    ∙ ap (λ (b : Bool). cond ((w == u) && b) (tally_at old u f + 1) (tally_at old u f))
+    (swapped f e)
+
+tallied : (h : Headed) (old new : Tally) (w : ℕ) (v : Verb) (o : Object) (n at : ℕ) → Fits h v o
+    → TallyAfter old new w v o → IsTallied old new (record {
+      at = at;
+      worker = w;
+      action = Invoke (index_of h o) (op_of v o n);
+    })
+tallied h old new w verbs.Advance (objects.Event e) n at fits after =
+    λ u f few some. advanced old new w e after u f few some
+tallied h old new w verbs.Advance o n at fits after = absurd fits
+tallied h old new w verbs.Read o n at fits after =
+    λ u f few some. other_call old new w (index_of h o) ops.Read refl after u f
+tallied h old new w verbs.Await o n at fits after =
+    λ u f few some. other_call old new w (index_of h o) (ops.Await n) refl after u f
+tallied h old new w verbs.Ticket o n at fits after =
+    λ u f few some. other_call old new w (index_of h o) ops.Ticket refl after u f
+tallied h old new w verbs.Put o n at fits after =
+    λ u f few some. other_call old new w (index_of h o) (ops.Put n) refl after u f
+tallied h old new w verbs.Get o n at fits after =
+    λ u f few some. other_call old new w (index_of h o) ops.Get refl after u f
+tallied h old new w verbs.P o n at fits after =
+    λ u f few some. other_call old new w (index_of h o) (op_of verbs.P o n) refl after u f
+tallied h old new w verbs.V o n at fits after =
+    λ u f few some. other_call old new w (index_of h o) (op_of verbs.V o n) refl after u f
+tallied h old new w verbs.PBoth o n at fits after =
+    λ u f few some. other_call old new w (index_of h o) (op_of verbs.PBoth o n) refl after u f
+tallied h old new w verbs.Write o n at fits after =
+    λ u f few some. other_call old new w (index_of h o) (ops.Put n) refl after u f
+tallied h old new w verbs.Snapshot o n at fits after =
+    λ u f few some. other_call old new w (index_of h o) ops.Get refl after u f
+
+-- WHAT A CALL LEAVES
+
+abbrev pub happening : ℕ → Action → List (List ℕ) → Happening
+happening w a lists = record { worker = w; action = a; lists = lists }
+
+-- what is known of a call that was made
+pub record IsMade (old : Running) (w : ℕ) (v : Verb) (o : Object) (ws : List (List ℕ))
+    (mid : Recorded) (new : Running) (n k : ℕ) (op : Op) (x : Event) : Type 0 where
+  pub mid_is : mid ≡ record old.recording { lists = lists_of old.recording.lists v ws }
+  pub number : n ≡ number_in old.recording.lists v ws
+  pub index : k ≡ index_of mid.heading o
+  pub op_is : op ≡ op_of v o n
+  pub event : x ≡ record { at = old.count; worker = w; action = Invoke k op }
+  pub recording : new.recording ≡ mid
+  pub count : new.count ≡ old.count + 1
+  pub pending : new.pending.items ≡ pending_after x x.action old.pending.items
+  pub tally : TallyAfter old.tally new.tally w v o
+
+pub call_made : (old : Running) (w : ℕ) (v : Verb) (o : Object) (ws : List (List ℕ))
+    (mid : Recorded) (new : Running) (n k : ℕ) (op : Op) (x : Event)
+    → IsMade old w v o ws mid new n k op x → Fits old.recording.heading v o
+    → fault_by old w v o ws ≡ None
+    → Answers old new (Ok x) (Ok (invocation old w v o ws))
+call_made old w v o ws mid new n k op x is fits none =
+    let h = old.recording.heading in
+    let lists = lists_of old.recording.lists v ws in
+    let last : new.recording ≡ record old.recording { lists = lists } = is.recording ∙ is.mid_is in
+    let action : Invoke k op ≡ (invocation old w v o ws).action =
+    ap (λ i. Invoke i op) (is.index ∙ ap (λ (r : Recorded). index_of r.heading o) is.mid_is)
+    ∙ ap (λ (p : Op). Invoke (index_of h o) p) (is.op_is ∙ ap (op_of v o) is.number) in
+    let event : x ≡ record {
+      at = old.count;
+      worker = w;
+      action = (invocation old w v o ws).action;
+    } = is.event
+    ∙ ap (λ (a : Action). (let y : Event = record { at = old.count; worker = w; action = a } in y))
+    action in
+    let all : happening x.worker x.action new.recording.lists ≡ invocation old w v o ws =
+    ap (λ (y : Event). happening y.worker y.action new.recording.lists) event
+    ∙ ap (λ (r : Recorded). happening w (invocation old w v o ws).action r.lists) last in (
+      ap Ok (sym all),
+      record {
+        at = ap (λ (y : Event). y.at) event;
+        count = is.count;
+        pending = is.pending;
+        tally = subst (IsTallied old.tally new.tally) (sym event)
+            (tallied h old.tally new.tally w v o _ old.count fits is.tally);
+        recording = last ∙ ap (λ (ls : List (List ℕ)). (let r : Recorded = record old.recording
+            { lists = ls } in r)) (sym (ap (λ (r : Recorded). r.lists) last));
+        next = λ ks are. subst (λ (y : Event). IsNext ks y.action (pending_by old y.worker))
+            (sym event) (may_call old w v o ws fits none ks are);
+      },
+    )

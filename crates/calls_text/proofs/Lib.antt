@@ -2,6 +2,7 @@ mod Words
 mod Adding
 mod Fitting
 mod Coming
+mod Lifting
 mod Lines
 mod Groups
 mod Texts

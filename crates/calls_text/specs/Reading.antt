@@ -90,16 +90,21 @@ is_spent r w verbs.Advance (objects.Event e) = nat_le r.heading.setup.limit
     (advances_by w e r.events)
 is_spent r w _ _ = false
 
--- the least fault of an invocation by a worker, of an object
-abbrev pub call_fault : Recorded → ℕ → Verb → Object → List (List ℕ) → Option Kind
-call_fault r w v o ws = first_that (
+-- the least fault of an invocation by a worker, of an object; busy: whether its call is pending;
+-- spent: whether it may call no more
+abbrev pub call_fault_by : Headed → ℕ → Verb → Object → List (List ℕ) → Bool → Bool → Option Kind
+call_fault_by h w v o ws busy spent = first_that (
     (is_bad_tail (tail_of v) ws o, kinds.BadNumber)
-    ∷ (is_owned r.heading.groups o, kinds.Hidden)
+    ∷ (is_owned h.groups o, kinds.Hidden)
     ∷ (has_two_roles o, kinds.TwoRoles)
-    ∷ (not (has_right r.heading.setup w (is_giving v) o), kinds.NoRight)
-    ∷ (is_some (pending_in r.events w), kinds.Busy)
-    ∷ (is_spent r w v o, kinds.AtLimit)
+    ∷ (not (has_right h.setup w (is_giving v) o), kinds.NoRight)
+    ∷ (busy, kinds.Busy)
+    ∷ (spent, kinds.AtLimit)
     ∷ [])
+
+abbrev pub call_fault : Recorded → ℕ → Verb → Object → List (List ℕ) → Option Kind
+call_fault r w v o ws =
+    call_fault_by r.heading w v o ws (is_some (pending_in r.events w)) (is_spent r w v o)
 
 -- the index of an object
 abbrev pub index_of : Headed → Object → ℕ
@@ -143,12 +148,20 @@ abbrev pub lists_of : List (List ℕ) → Verb → List (List ℕ) → List (Lis
 lists_of lists verbs.Write ws = lists_after lists (numbers_in ws)
 lists_of lists _ ws = lists
 
+-- the history with these events
+abbrev pub with_events : Recorded → List Event → Recorded
+with_events r events = record r { events = events }
+
+-- the event that comes after these
+abbrev pub event_of : List Event → ℕ → Action → Event
+event_of events w a = record { at = length events; worker = w; action = a }
+
 -- the history with one more event
 abbrev pub with_event : Recorded → ℕ → Action → List (List ℕ) → Recorded
 with_event r w a lists = record {
   heading = r.heading;
   from = r.from;
-  events = r.events ++ record { at = length r.events; worker = w; action = a } ∷ [];
+  events = r.events ++ event_of r.events w a ∷ [];
   lists = lists;
 }
 

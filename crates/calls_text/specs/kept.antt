@@ -1,5 +1,6 @@
-pub mod Runs
 pub mod Adding
+pub mod Runs
+pub mod Judging
 pub mod Results
 pub mod Stages
 pub mod Leading

@@ -36,17 +36,17 @@ fn fault_at(line: u64, text: &[u8], fault: LineFault) -> TextFault
 }
 
 /// Returns what a text comes to whose last line, of number n, lacks its LF.
-fn cut_off(alloc: Global, stage: Stage, line: u64, rest: &[u8]) -> TextFault
-    requires sound { IsSound stage }
-    requires going { is_ended (seen stage) ≡ false }
-    ensures { TellsFault (ended line (seen stage) rest.now) result }
+fn cut_off(alloc: Global, stage: &mut Stage, line: u64, rest: &[u8]) -> TextFault
+    requires sound { IsSound stage.old }
+    requires going { is_ended (seen stage.old) ≡ false }
+    ensures { TellsFault (ended line (seen stage.old) rest.now) result }
 {
     if rest.is_empty() {
         return fault_at(line, rest, LineFault::Of(Kind::Unfinished));
     }
-    match stage.after(alloc, rest) {
+    match stage.take(alloc, rest) {
         Err(fault) => fault_at(line, rest, fault),
-        Ok(_) => fault_at(line, rest, LineFault::Of(Kind::Unfinished)),
+        Ok(()) => fault_at(line, rest, LineFault::Of(Kind::Unfinished)),
     }
 }
 
@@ -70,7 +70,7 @@ fn finish<'a>(
             number,
             rest,
         }),
-        other => Err(cut_off(alloc, other, number, rest)),
+        mut other => Err(cut_off(alloc, &mut other, number, rest)),
     }
 }
 
@@ -91,10 +91,9 @@ pub fn read_history(alloc: Global, text: &[u8], number: u64) -> Result<Read<'_>,
         let Some((line, behind)) = cut_line(rest) else {
             return finish(alloc, stage, at, rest);
         };
-        stage = match stage.after(alloc, line) {
-            Ok(stage) => stage,
-            Err(fault) => return Err(fault_at(at, line, fault)),
-        };
+        if let Err(fault) = stage.take(alloc, line) {
+            return Err(fault_at(at, line, fault));
+        }
         at += 1;
         rest = behind;
     }

@@ -1,17 +1,18 @@
 //! A history of calls under a heading.
-ghost use Rattle.std.specs.Prelude.{◌≡◌, ◌≤◌, ◌<◌, ◌+◌, ◌++◌, [], ℕ, length, map, slice_get, IfOk};
+ghost use Rattle.std.specs.Prelude.{◌≡◌, ◌≤◌, ◌<◌, ◌+◌, ◌++◌, ◌∷◌, [], ℕ, length, map, slice_get};
+ghost use Rattle.std.specs.Prelude.{IfOk};
 ghost use Rattle.std.specs.Prelude.{OnOk, Some};
 ghost use Rattle.calls_core.specs.declared.history.Kind.TheVariants.{Eventcount, Sequencer, Cell};
 ghost use Rattle.calls_core.specs.declared.history.Kind.TheVariants.{Database, Semaphores};
 ghost use Rattle.calls_text.specs.Recordings.{AreKinds, IsRecording, HasFrom, HasUnits, HasGroups};
 ghost use Rattle.calls_text.specs.Recordings.{start_of, initial_of, cells_of};
 ghost use Rattle.calls_text.specs.kept.Adding.{Grows};
-ghost use Rattle.calls_text.specs.kept.Runs.{MayCome};
-ghost use Rattle.calls_text.specs.Reading.{with_event, recorded_of};
+ghost use Rattle.calls_text.specs.kept.Runs.{IsNextOf};
+ghost use Rattle.calls_text.specs.Reading.{with_events, recorded_of};
 
 use crate::index::cells_of;
 use crate::lists::Lists;
-use calls_core::{Action, Event, Kind};
+use calls_core::{Event, Kind};
 use ec_count::EventId;
 use ec_heading::{Group, Heading};
 use std::alloc::{AllocError, Global};
@@ -178,13 +179,13 @@ impl Recording {
         })
     }
 
-    /// Adds an event.
-    pub(crate) fn push(&mut self, worker: usize, action: Action) -> Result<(), AllocError>
-        requires { MayCome self.old worker action }
-        ensures { OnOk result (self.new ≡ with_event self.old worker action self.old.lists) }
+    /// Adds the next event.
+    pub(crate) fn push(&mut self, event: Event) -> Result<(), AllocError>
+        requires { IsNextOf self.old event }
+        ensures { OnOk result
+            (self.new ≡ with_events self.old (self.old.events ++ event ∷ [])) }
     {
-        let at = self.events.len();
-        self.events.push(Event { at, worker, action })?;
+        self.events.push(event)?;
         Ok(())
     }
 

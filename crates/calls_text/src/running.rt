@@ -1,23 +1,23 @@
 //! The events of a history, as their lines come.
-ghost use Rattle.std.specs.Prelude.{◌≡◌, ◌++◌, ◌==◌, ◌||◌, [], not, length, map, None, Some, IfOk};
-ghost use Rattle.std.specs.Prelude.{OnOk, option_map};
+ghost use Rattle.std.specs.Prelude.{◌≡◌, ◌+◌, ◌++◌, ◌==◌, ◌||◌, [], not, length, map, None, Some, false};
+ghost use Rattle.std.specs.Prelude.{Ok, IfOk, OnOk, option_map};
 ghost use Rattle.std.specs.List.{list_any};
 ghost use Rattle.ec_text.specs.Words.{words_of};
-ghost use Rattle.calls_core.specs.declared.history.Action.TheVariants.{Invoke, Respond};
+ghost use Rattle.calls_core.specs.Histories.{pending_after};
 ghost use Rattle.calls_text.specs.Forms.{only_in, rest_words, shown};
 ghost use Rattle.calls_text.specs.Lists.{list_number, lists_after};
 ghost use Rattle.calls_text.specs.Objects.{object_in};
 ghost use Rattle.calls_text.specs.Recordings.{first_group};
-ghost use Rattle.calls_text.specs.Reading.{Steps, is_no_number, number_or_0, only_number};
-ghost use Rattle.calls_text.specs.Reading.{numbers_in, pending_in, cells_in, is_bad_tail};
-ghost use Rattle.calls_text.specs.Reading.{has_two_roles, is_spent, call_fault, index_of, place_in};
-ghost use Rattle.calls_text.specs.Reading.{second_place_in, op_of, number_in, lists_of, with_event};
-ghost use Rattle.calls_text.specs.Reading.{with_call, is_bad_answer, takes_done, takes_timeout};
-ghost use Rattle.calls_text.specs.Reading.{takes_numbers, is_suited, is_over, suit_fault};
-ghost use Rattle.calls_text.specs.Reading.{gives_list, reply_of, lists_with, with_reply, called};
-ghost use Rattle.calls_text.specs.Reading.{answered, returned, phrased, event_step, other_word};
-ghost use Rattle.calls_text.specs.Reading.{recorded_of};
-ghost use Rattle.calls_text.specs.kept.Runs.{MayCome, IsRunning, IsPendingAfter, IsPlaced, Fits};
+ghost use Rattle.calls_text.specs.Reading.{is_no_number, number_or_0, only_number, numbers_in};
+ghost use Rattle.calls_text.specs.Reading.{cells_in, is_bad_tail, has_two_roles, call_fault_by};
+ghost use Rattle.calls_text.specs.Reading.{index_of, place_in, second_place_in, op_of, number_in};
+ghost use Rattle.calls_text.specs.Reading.{lists_of, takes_done, takes_timeout, takes_numbers};
+ghost use Rattle.calls_text.specs.Reading.{is_suited, is_over, suit_fault, gives_list, reply_of};
+ghost use Rattle.calls_text.specs.Reading.{lists_with, other_word};
+ghost use Rattle.calls_text.specs.kept.Judging.{pending_by, spent_by, fault_by, invocation};
+ghost use Rattle.calls_text.specs.kept.Judging.{called_by, response, returned_by, event_by, Answers};
+ghost use Rattle.calls_text.specs.kept.Judging.{TallyAfter};
+ghost use Rattle.calls_text.specs.kept.Runs.{IsRunning, IsPlaced, Fits};
 ghost use Rattle.calls_text.specs.Verbs.{tail_of};
 
 use crate::fault::{Kind, LineFault};
@@ -35,12 +35,14 @@ use ec_heading::{Heading, LINE_MAX, count_words};
 use ec_text::{cut_word, has_blank, number};
 use std::alloc::{AllocError, Global};
 
-/// A history while its events come.
+/// A history while its events come. Whoever reads it may keep them, or not.
 #[derive(Drop)]
 pub(crate) struct Running {
+    /// What is declared, the lists so far, and the events that are kept.
     pub(crate) recording: Recording,
     pending: Vec<PendingCall>,
     tally: Tally,
+    count: usize,
 }
 
 /// Returns whether a word spells no number in range.
@@ -318,24 +320,60 @@ fn reply_of(
     }
 }
 
+/// Returns the least fault of an invocation, by a worker whose call is pending or not, and who may
+/// call no more advances or may.
+fn call_fault(
+    heading: &Heading,
+    worker: WorkerId,
+    verb: Verb,
+    object: &Object,
+    rest: Option<&[u8]>,
+    is_busy: bool,
+    is_spent: bool,
+) -> Option<Kind>
+    ensures { result ≡ call_fault_by heading.now worker verb object.now (rest_words rest.entry)
+        is_busy is_spent }
+{
+    if is_bad_tail(verb.tail(), rest, object) {
+        return Some(Kind::BadNumber);
+    }
+    if is_owned(heading.groups(), object) {
+        return Some(Kind::Hidden);
+    }
+    if has_two_roles(object) {
+        return Some(Kind::TwoRoles);
+    }
+    if !has_right(heading.setup(), worker, verb.is_giving(), object) {
+        return Some(Kind::NoRight);
+    }
+    if is_busy {
+        return Some(Kind::Busy);
+    }
+    if is_spent {
+        return Some(Kind::AtLimit);
+    }
+    None
+}
+
 impl Running {
     /// Returns a history before its events.
     pub(crate) fn new(alloc: Global, recording: Recording) -> Running
         requires { recording.events ≡ [] }
         ensures recording { result.recording ≡ recording }
-        ensures run { IsRunning result }
+        ensures run { IsRunning [] result }
     {
+        recording.heading().setup().known();
         Running {
             recording,
             pending: Vec::new(alloc),
             tally: Tally::zeros(),
+            count: 0,
         }
     }
 
     /// Returns the pending call of a worker.
     fn pending_call(&self, worker: WorkerId) -> Option<PendingCall>
-        requires { IsRunning self.now }
-        ensures { result ≡ pending_in self.now.recording.events worker }
+        ensures { result ≡ pending_by self.now worker }
     {
         match find(&self.pending, worker.get()) {
             Some(i) => Some(self.pending[i]),
@@ -345,8 +383,7 @@ impl Running {
 
     /// Returns whether the worker has called as many advances of it as the limit allows.
     fn is_spent(&self, worker: WorkerId, verb: Verb, object: &Object) -> bool
-        requires { IsRunning self.now }
-        ensures { result ≡ is_spent self.now.recording worker verb object.now }
+        ensures { result ≡ spent_by self.now worker verb object.now }
     {
         match (verb, *object) {
             (Verb::Advance, Object::Event(event)) => {
@@ -356,59 +393,45 @@ impl Running {
         }
     }
 
-    /// Returns the least fault of an invocation.
-    fn call_fault(
-        &self,
-        worker: WorkerId,
-        verb: Verb,
-        object: &Object,
-        rest: Option<&[u8]>,
-    ) -> Option<Kind>
-        requires { IsRunning self.now }
-        ensures { result ≡ call_fault self.now.recording worker verb object.now
-            (rest_words rest.entry) }
-    {
-        let heading = &self.recording.heading;
-        if is_bad_tail(verb.tail(), rest, object) {
-            return Some(Kind::BadNumber);
-        }
-        if is_owned(heading.groups(), object) {
-            return Some(Kind::Hidden);
-        }
-        if has_two_roles(object) {
-            return Some(Kind::TwoRoles);
-        }
-        if !has_right(heading.setup(), worker, verb.is_giving(), object) {
-            return Some(Kind::NoRight);
-        }
-        if self.pending_call(worker).is_some() {
-            return Some(Kind::Busy);
-        }
-        if self.is_spent(worker, verb, object) {
-            return Some(Kind::AtLimit);
-        }
-        None
-    }
-
-    /// Adds an event that is no advance.
-    fn push(&mut self, worker: WorkerId, action: Action) -> Result<(), AllocError>
-        requires run { IsRunning self.old }
-        requires next { MayCome self.old.recording worker action }
-        ensures after { OnOk result (self.new.recording
-            ≡ with_event self.old.recording worker action self.old.recording.lists) }
-        ensures pending { OnOk result (IsPendingAfter self.new) }
+    /// Returns the next event, after which other calls are pending.
+    fn event(&mut self, worker: WorkerId, action: Action) -> Result<Event, AllocError>
+        ensures at { IfOk result (λ x. x ≡ record {
+          at = self.old.count;
+          worker = worker;
+          action = action;
+        }) }
+        ensures pending { IfOk result (λ x. self.new.pending.items
+            ≡ pending_after x x.action self.old.pending.items) }
+        ensures count { OnOk result (self.new.count ≡ self.old.count + 1) }
+        ensures recording { self.new.recording ≡ self.old.recording }
         ensures tally { self.new.tally ≡ self.old.tally }
     {
         let event = Event {
-            at: self.recording.events.len(),
+            at: self.count,
             worker: worker.get(),
             action,
         };
+        // (so many events would take centuries)
+        self.count = self.count.checked_add(1).ok_or(AllocError)?;
         let _object = follow(&mut self.pending, &event)?;
-        self.recording.push(worker.get(), action)
+        Ok(event)
     }
 
-    /// Adds an invocation.
+    /// Counts the call, if it is an advance.
+    fn count(&mut self, worker: WorkerId, verb: Verb, object: &Object)
+        requires { spent_by self.old worker verb object.now ≡ false }
+        ensures tally { TallyAfter self.old.tally self.new.tally worker verb object.now }
+        ensures pending { self.new.pending ≡ self.old.pending }
+        ensures count { self.new.count ≡ self.old.count }
+        ensures recording { self.new.recording ≡ self.old.recording }
+    {
+        self.recording.heading().setup().known();
+        if let (Verb::Advance, Object::Event(event)) = (verb, *object) {
+            self.tally.add(worker, event);
+        }
+    }
+
+    /// Returns an invocation.
     fn call(
         &mut self,
         alloc: Global,
@@ -416,24 +439,18 @@ impl Running {
         verb: Verb,
         object: &Object,
         rest: Option<&[u8]>,
-    ) -> Result<(), AllocError>
-        requires run { IsRunning self.old }
+    ) -> Result<Event, AllocError>
         requires fits { Fits self.old.recording.heading verb object.now }
-        requires none { call_fault self.old.recording worker verb object.now (rest_words rest)
-            ≡ None }
-        ensures after { OnOk result (self.new.recording
-            ≡ with_call self.old.recording worker verb object.now (rest_words rest.entry)) }
-        ensures run { OnOk result (IsRunning self.new) }
+        requires none { fault_by self.old worker verb object.now (rest_words rest) ≡ None }
+        ensures { IfOk result (λ x. Answers self.old self.new (Ok x)
+            (Ok (invocation self.old worker verb object.now (rest_words rest.entry)))) }
     {
-        self.recording.heading().setup().known();
         let n = number_in(alloc, &mut self.recording, verb, rest)?;
         let index = index_of(&self.recording, object);
         let action = Action::Invoke(index, op_of(verb, object, n));
-        self.push(worker, action)?;
-        if let (Verb::Advance, Object::Event(event)) = (verb, *object) {
-            self.tally.add(worker, event);
-        }
-        Ok(())
+        let event = self.event(worker, action)?;
+        self.count(worker, verb, object);
+        Ok(event)
     }
 
     /// Takes an invocation.
@@ -444,31 +461,32 @@ impl Running {
         verb: Verb,
         word: &[u8],
         rest: Option<&[u8]>,
-    ) -> Result<(), LineFault>
-        requires { IsRunning self.old }
-        ensures steps { Steps result (called self.old.recording worker verb
+    ) -> Result<Event, LineFault>
+        ensures { Answers self.old self.new result (called_by self.old worker verb
             (object_in self.old.recording.heading verb word.now
-            (other_word verb (rest_words rest.entry))) (rest_words rest.entry)) self.new.recording }
-        ensures run { OnOk result (IsRunning self.new) }
+            (other_word verb (rest_words rest.entry))) (rest_words rest.entry)) }
     {
         let other = match verb {
             Verb::PBoth => only_word(rest),
             _ => None,
         };
-        let object = object_in(self.recording.heading(), verb, word, other);
+        let heading = self.recording.heading();
+        let object = object_in(heading, verb, word, other);
         let (Some(worker), Some(object)) = (worker, object) else {
             return Err(LineFault::Of(Kind::UnknownName));
         };
-        if let Some(kind) = self.call_fault(worker, verb, &object, rest) {
+        let is_busy = self.pending_call(worker).is_some();
+        let is_spent = self.is_spent(worker, verb, &object);
+        if let Some(kind) = call_fault(heading, worker, verb, &object, rest, is_busy, is_spent) {
             return Err(LineFault::Of(kind));
         }
         match self.call(alloc, worker, verb, &object, rest) {
-            Ok(()) => Ok(()),
+            Ok(event) => Ok(event),
             Err(_) => Err(LineFault::Memory),
         }
     }
 
-    /// Adds a response.
+    /// Returns a response.
     fn respond(
         &mut self,
         alloc: Global,
@@ -476,17 +494,15 @@ impl Running {
         call: &PendingCall,
         answer: Answer,
         list: &[u8],
-    ) -> Result<(), AllocError>
-        requires run { IsRunning self.old }
-        requires pending { pending_in self.old.recording.events worker ≡ Some call.now }
+    ) -> Result<Event, AllocError>
+        requires pending { pending_by self.old worker ≡ Some call.now }
         requires none { suit_fault self.old.recording.heading call.now answer (words_of list.now)
             ≡ None }
-        ensures after { OnOk result (self.new.recording
-            ≡ with_reply self.old.recording worker call.now answer (words_of list.now)) }
-        ensures run { OnOk result (IsRunning self.new) }
+        ensures { IfOk result (λ x. Answers self.old self.new (Ok x)
+            (Ok (response self.old worker call.now answer (words_of list.now)))) }
     {
         let reply = reply_of(alloc, &mut self.recording, call, answer, list)?;
-        self.push(worker, Action::Respond(reply))
+        self.event(worker, Action::Respond(reply))
     }
 
     /// Takes a response.
@@ -496,11 +512,9 @@ impl Running {
         worker: Option<WorkerId>,
         answer: Answer,
         list: &[u8],
-    ) -> Result<(), LineFault>
-        requires { IsRunning self.old }
-        ensures steps { Steps result (returned self.old.recording worker answer (words_of list.now))
-            self.new.recording }
-        ensures run { OnOk result (IsRunning self.new) }
+    ) -> Result<Event, LineFault>
+        ensures { Answers self.old self.new result
+            (returned_by self.old worker answer (words_of list.now)) }
     {
         let Some(worker) = worker else {
             return Err(LineFault::Of(Kind::UnknownName));
@@ -515,17 +529,15 @@ impl Running {
             return Err(LineFault::Of(kind));
         }
         match self.respond(alloc, worker, &call, answer, list) {
-            Ok(()) => Ok(()),
+            Ok(event) => Ok(event),
             Err(_) => Err(LineFault::Memory),
         }
     }
 
-    /// Takes the line of an event, without its LF.
-    #[tactic(auto, unfolding(crate::specs::Reading::event_step))]
-    pub(crate) fn line(&mut self, alloc: Global, line: &[u8]) -> Result<(), LineFault>
-        requires { IsRunning self.old }
-        ensures steps { Steps result (event_step self.old.recording line.now) self.new.recording }
-        ensures run { OnOk result (IsRunning self.new) }
+    /// Takes the line of an event, without its LF, and returns the event.
+    #[tactic(auto, unfolding(crate::specs::kept::Judging::event_by))]
+    pub(crate) fn line(&mut self, alloc: Global, line: &[u8]) -> Result<Event, LineFault>
+        ensures { Answers self.old self.new result (event_by self.old line.now) }
     {
         if line.len() > LINE_MAX || has_blank(line) {
             return Err(LineFault::Of(Kind::BadLine));

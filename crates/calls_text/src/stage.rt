@@ -1,15 +1,19 @@
 //! What the lines of a history so far have built.
-ghost use Rattle.std.specs.Prelude.{◌≡◌, Ok};
+ghost use Rattle.std.specs.Prelude.{◌≡◌, [], List, Ok, IfOk, OnOk, true};
+ghost use Rattle.calls_core.specs.declared.history.Event.{Event};
 ghost use Rattle.calls_text.specs.Reading.{step, recorded_of, is_ended};
 ghost use Rattle.calls_text.specs.Reading as reading;
-ghost use Rattle.calls_text.specs.kept.Runs.{IsRunning};
-ghost use Rattle.calls_text.specs.kept.Stages.{seen, IsSound, GoesTo};
+ghost use Rattle.calls_text.specs.kept.Stages.{seen, IsSound, Takes, kept_events, IsNextIn, Keeps};
+ghost use Rattle.calls_text.specs.kept.Stages.{seen_with, IsFollowing, Follows, turns, GoesTo};
+ghost use Rattle.calls_text.specs.kept.Stages.{TurnsTo};
 
 use crate::fault::{Kind, LineFault};
 use crate::opening::Draft;
 use crate::recording::Recording;
 use crate::running::Running;
-use std::alloc::Global;
+use calls_core::Event;
+use std::alloc::{AllocError, Global};
+use std::mem;
 
 /// What the lines so far have built.
 #[derive(Drop)]
@@ -29,7 +33,8 @@ pub(crate) enum Stage {
 /// Takes the first line.
 #[tactic(auto, unfolding(crate::specs::Reading::step))]
 fn after_first(line: &[u8]) -> Result<Stage, LineFault>
-    ensures { GoesTo result (step reading.Opening line.now) }
+    ensures goes { GoesTo result (step reading.Opening line.now) [] }
+    ensures kept { IfOk result (λ s. kept_events s ≡ []) }
 {
     if line == b"evc-calls 1".as_slice() {
         Ok(Stage::Limiting)
@@ -41,7 +46,8 @@ fn after_first(line: &[u8]) -> Result<Stage, LineFault>
 /// Takes the line of the limit.
 #[tactic(auto, unfolding(crate::specs::Reading::step))]
 fn after_limit(alloc: Global, line: &[u8]) -> Result<Stage, LineFault>
-    ensures { GoesTo result (step reading.Limiting line.now) }
+    ensures goes { GoesTo result (step reading.Limiting line.now) [] }
+    ensures kept { IfOk result (λ s. kept_events s ≡ []) }
 {
     match Draft::open(alloc, line) {
         Ok(draft) => Ok(Stage::Declaring(draft)),
@@ -51,7 +57,8 @@ fn after_limit(alloc: Global, line: &[u8]) -> Result<Stage, LineFault>
 
 /// Goes on from the declarations to the events.
 fn running(alloc: Global, draft: Draft) -> Result<Stage, LineFault>
-    ensures { GoesTo result (Ok (reading.Running (recorded_of draft))) }
+    ensures goes { GoesTo result (Ok (reading.Running (recorded_of draft))) [] }
+    ensures kept { IfOk result (λ s. kept_events s ≡ []) }
 {
     let Draft { heading, from } = draft;
     match Recording::new(alloc, heading, from) {
@@ -60,49 +67,103 @@ fn running(alloc: Global, draft: Draft) -> Result<Stage, LineFault>
     }
 }
 
-/// Takes a line before the events.
-#[tactic(auto, unfolding(crate::specs::Reading::step))]
-fn after_draft(alloc: Global, draft: Draft, line: &[u8]) -> Result<Stage, LineFault>
-    ensures { GoesTo result (step (reading.Declaring draft) line.now) }
-{
-    let mut draft = draft;
-    if draft.is_run(line) {
-        return running(alloc, draft);
-    }
-    match draft.line(line) {
-        Ok(()) => Ok(Stage::Declaring(draft)),
-        Err(fault) => Err(fault),
-    }
-}
-
-/// Takes a line of the events, or their end.
-#[tactic(auto, unfolding(crate::specs::Reading::step))]
-fn after_event(alloc: Global, running: Running, line: &[u8]) -> Result<Stage, LineFault>
-    requires { IsRunning running }
-    ensures { GoesTo result (step (reading.Running running.recording) line.now) }
-{
-    let mut running = running;
-    if line == b"end".as_slice() {
-        return Ok(Stage::Ended(running.recording));
-    }
-    match running.line(alloc, line) {
-        Ok(()) => Ok(Stage::Running(running)),
-        Err(fault) => Err(fault),
-    }
-}
-
 impl Stage {
-    /// Returns the stage after a line, given without its LF.
+    /// Takes a line, given without its LF, and returns the event if it is one. The event is not
+    /// kept.
+    ///
+    /// A stage is large, and most lines leave it where it is.
     #[tactic(auto, unfolding(crate::specs::Reading::step))]
-    pub(crate) fn after(self, alloc: Global, line: &[u8]) -> Result<Stage, LineFault>
-        requires { IsSound self }
-        ensures { GoesTo result (step (seen self) line.now) }
+    fn follow(&mut self, alloc: Global, line: &[u8]) -> Result<Option<Event>, LineFault>
+        ensures follows { (events : List Event) → IsFollowing events self.old
+            → Follows result (step (seen_with events self.old) line.now) events self.new }
+        ensures kept { OnOk result (kept_events self.new ≡ kept_events self.old) }
+    {
+        if self.is_turned(line) {
+            return match self.turn(alloc, line) {
+                Ok(()) => Ok(None),
+                Err(fault) => Err(fault),
+            };
+        }
+        match self {
+            Stage::Running(running) => match running.line(alloc, line) {
+                Ok(event) => Ok(Some(event)),
+                Err(fault) => Err(fault),
+            },
+            Stage::Declaring(draft) => match draft.line(line) {
+                Ok(()) => Ok(None),
+                Err(fault) => Err(fault),
+            },
+            Stage::Opening | Stage::Limiting | Stage::Ended(_) => Ok(None),
+        }
+    }
+
+    /// Keeps the event that came.
+    fn keep(&mut self, event: Event) -> Result<(), AllocError>
+        requires { IsNextIn self.old event }
+        ensures { OnOk result (Keeps self.old self.new event) }
     {
         match self {
-            Stage::Running(running) => after_event(alloc, running, line),
-            Stage::Declaring(draft) => after_draft(alloc, draft, line),
+            Stage::Running(running) => running.recording.push(event),
+            _ => Ok(()),
+        }
+    }
+
+    /// Takes a line, given without its LF, and keeps the event if it is one.
+    pub(crate) fn take(&mut self, alloc: Global, line: &[u8]) -> Result<(), LineFault>
+        requires { IsSound self.old }
+        ensures { Takes result (step (seen self.old) line.now) self.new }
+    {
+        match self.follow(alloc, line) {
+            Err(fault) => Err(fault),
+            Ok(None) => Ok(()),
+            Ok(Some(event)) => match self.keep(event) {
+                Ok(()) => Ok(()),
+                Err(_) => Err(LineFault::Memory),
+            },
+        }
+    }
+
+    /// Returns whether a line ends the stage.
+    fn is_turned(&self, line: &[u8]) -> bool
+        ensures { result ≡ turns self.now line.now }
+    {
+        match self {
+            Stage::Running(_) => line == b"end".as_slice(),
+            Stage::Declaring(draft) => draft.is_run(line),
+            Stage::Opening | Stage::Limiting | Stage::Ended(_) => true,
+        }
+    }
+
+    /// Goes on to the next stage.
+    fn turn(&mut self, alloc: Global, line: &[u8]) -> Result<(), LineFault>
+        requires { turns self.old line.now ≡ true }
+        ensures turns { (events : List Event) → IsFollowing events self.old
+            → TurnsTo result (step (seen_with events self.old) line.now) events self.new }
+        ensures kept { OnOk result (kept_events self.new ≡ kept_events self.old) }
+    {
+        let before = mem::replace(self, Stage::Opening);
+        match before.turned(alloc, line) {
+            Ok(next) => {
+                *self = next;
+                Ok(())
+            }
+            Err(fault) => Err(fault),
+        }
+    }
+
+    /// Returns the next stage, after the line that ends this one.
+    #[tactic(auto, unfolding(crate::specs::Reading::step))]
+    fn turned(self, alloc: Global, line: &[u8]) -> Result<Stage, LineFault>
+        requires { turns self line.now ≡ true }
+        ensures goes { (events : List Event) → IsFollowing events self
+            → GoesTo result (step (seen_with events self) line.now) events }
+        ensures kept { IfOk result (λ s. kept_events s ≡ kept_events self) }
+    {
+        match self {
             Stage::Opening => after_first(line),
             Stage::Limiting => after_limit(alloc, line),
+            Stage::Declaring(draft) => running(alloc, draft),
+            Stage::Running(running) => Ok(Stage::Ended(running.recording)),
             Stage::Ended(_) => Err(LineFault::Of(Kind::BadLine)),
         }
     }

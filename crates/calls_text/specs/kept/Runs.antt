@@ -1,10 +1,11 @@
 -- What the code keeps of a history while its events come.
 use Rattle.std.specs.Prelude.{◌≡◌, ℕ, ◌<◌, List, length, reverse, Some, slice_get}
-use Rattle.calls_core.specs.declared.history.Kind.{Kind}
+use Rattle.ec_count.specs.Tables.{IsDeclared}
+use Rattle.calls_core.specs.declared.history.Kind as sorts
+use Rattle.calls_core.specs.declared.history.Event.{Event}
 use Rattle.calls_core.specs.declared.history.Action.{Action}
 use Rattle.calls_core.specs.declared.history.PendingCall.{PendingCall}
 use Rattle.calls_core.specs.Histories.{pending_calls, IsNext}
-use Rattle.calls_text.specs.declared.tally.Tally.{Tally}
 use Rattle.calls_text.specs.Recordings.{Recorded, AreKinds}
 use Rattle.calls_text.specs.Tallies.{IsCounted}
 use Rattle.calls_text.specs.Reading.{pending_in}
@@ -16,21 +17,25 @@ use Rattle.calls_text.specs.declared.object.Object.TheVariants as objects
 use Rattle.ec_heading.specs.Headed.{Headed}
 use Rattle.ec_heading.specs.declared.group.Group.TheVariants as groups
 
--- these are the pending calls, and the numbers of the advances
-pub record IsRun (r : Recorded) (pending : List PendingCall) (tally : Tally) : Type 0 where
-  pub pending_is : pending ≡ pending_calls (reverse r.events)
-  pub counted : IsCounted tally r.events
+-- these were the events so far, whether they are kept or not
+pub record IsRunning (events : List Event) (r : Running) : Type 0 where
+  pub pending : r.pending.items ≡ pending_calls (reverse events)
+  pub counted : IsCounted r.tally events
+  pub count : r.count ≡ length events
+  pub declared : IsDeclared r.recording.heading.setup
+
+-- the events so far are kept
+abbrev pub IsKeeping : Running → Type 0
+IsKeeping r = IsRunning r.recording.events r
 
 -- this may be the next event of the worker
 abbrev pub MayCome : Recorded → ℕ → Action → Type 0
 MayCome r w a =
-    (kinds : List Kind) → AreKinds r.heading r.from kinds → IsNext kinds a (pending_in r.events w)
+    (ks : List sorts.Kind) → AreKinds r.heading r.from ks → IsNext ks a (pending_in r.events w)
 
-abbrev pub IsRunning : Running → Type 0
-IsRunning r = IsRun r.recording r.pending.items r.tally
-
-abbrev pub IsPendingAfter : Running → Type 0
-IsPendingAfter r = r.pending.items ≡ pending_calls (reverse r.recording.events)
+-- the event may be the next of a history
+abbrev pub IsNextOf : Recorded → Event → Type 0
+IsNextOf r x = (x.at ≡ length r.events) × MayCome r x.worker x.action
 
 -- a database is one of the groups
 abbrev pub IsPlaced : Headed → Object → Type 0

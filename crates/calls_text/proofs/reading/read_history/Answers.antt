@@ -43,11 +43,11 @@ loop-rest-preserved c =
       number = omega arith;
       within = omega arith;
       shorter = λ e. omega arith;
-      goes = goes_on c.loop-rest.at (seen c.loop-rest.stage) (seen c.in-Ok.stage) c.in-Some.line.now
+      goes = goes_on c.loop-rest.at (seen c.loop-rest.stage) (seen c.take.new.self) c.in-Some.line.now
           c.in-Some.behind.now c.loop-rest.rest.now _
           (sym c.is_ended.ensures ∙ c.loop-rest-test.true) c.in-Some.ensures.plain
-          c.in-Some.ensures.whole c.loop-rest.invariant.goes c.in-Ok.ensures.0;
-      sound = c.in-Ok.ensures.1;
+          c.in-Some.ensures.whole c.loop-rest.invariant.goes c.in_default-take.ensures.0;
+      sound = c.in_default-take.ensures.1;
     }
 
 pub returns-clause-shorter : goal.returns-clause-shorter
