@@ -45,7 +45,8 @@ pub(crate) const CHECK_LONG_ABOUT: &str =
     "Writes a linearization of each history, or a note that says why there is none.
 
 For each linearizable history it writes `evc-order 1`, the calls in order, each with its point (the
-position of the event before which it takes effect), the totals of the objects, and `end`. The first
+position of the event before which it takes effect), the totals of the objects, and `end`; and a
+remark for each await that is pending although the count has surely reached its threshold. The first
 history that is not linearizable ends the check: a note names the first faulty line, and shows by
 counting that no order can be right.";
 
