@@ -13,5 +13,5 @@ mod sums;
 mod totals;
 mod words;
 
-pub use checking::{TEXT_MAX, check};
+pub use checking::{TEXT_MAX, check, linearize, note_unread};
 pub use status::Status;
