@@ -1,7 +1,6 @@
 //! The texts of errors.
-use crate::writing_tests::worker;
 use ec_core::{AuditFault, Refusal, StepFault};
-use ec_count::{AtLimit, NameFault, SetupFault};
+use ec_count::{AtLimit, NameFault, SetupFault, WorkerId};
 use ec_order::OrderFault;
 use ec_runner::{BoardFault, RunFault, SimFault};
 use ec_script::{Kind, ScriptFault};
@@ -22,26 +21,17 @@ fn says(alloc: Global, error: &impl Display, wanted: &str) -> Result<(), Fail> {
 }
 
 #[test]
-fn errors_of_declarations(rt: HostRuntime) -> Result<(), Fail> {
+fn errors_of_kernels(rt: HostRuntime) -> Result<(), Fail> {
     let alloc = rt.alloc();
-    says(alloc, &AtLimit, "the count is at its limit")?;
-    says(alloc, &SetupFault::Repeated, "a list names a worker twice")?;
-    says(alloc, &NameFault::BadName, "the word is no name")
-}
-
-#[test]
-fn errors_of_runs(rt: HostRuntime) -> Result<(), Fail> {
-    let alloc = rt.alloc();
-    let refused = StepFault::Refused(Refusal::Busy);
+    let busy = "the step is refused: a call of the worker is under way";
     let broken = AuditFault::NotFollowed {
-        worker: worker(1),
+        worker: WorkerId::new(1).unwrap(),
         entry: 10,
     };
-    says(
-        alloc,
-        &refused,
-        "the step is refused: a call of the worker is under way",
-    )?;
+    says(alloc, &AtLimit, "the count is at its limit")?;
+    says(alloc, &SetupFault::Repeated, "a list names a worker twice")?;
+    says(alloc, &NameFault::BadName, "the word is no name")?;
+    says(alloc, &StepFault::Refused(Refusal::Busy), busy)?;
     says(
         alloc,
         &broken,
@@ -54,43 +44,32 @@ fn errors_of_runs(rt: HostRuntime) -> Result<(), Fail> {
 fn errors_of_texts(rt: HostRuntime) -> Result<(), Fail> {
     let alloc = rt.alloc();
     let refused = TraceFault::Refused(8, Refusal::AtLimit);
+    let unright = ScriptFault::At {
+        line: 8,
+        kind: Kind::NoRight,
+    };
     says(alloc, &WriteFault, "a write failed")?;
     says(alloc, &HeadFault::BadLine, "bad line")?;
     says(
         alloc,
         &refused,
         "line 8: refused: the count is at its limit",
-    )
-}
-
-#[test]
-fn errors_of_scripts(rt: HostRuntime) -> Result<(), Fail> {
-    let alloc = rt.alloc();
-    let fault = ScriptFault::At {
-        line: 8,
-        kind: Kind::NoRight,
-    };
+    )?;
     says(alloc, &Kind::BadNesting, "bad nesting")?;
-    says(alloc, &fault, "line 8: the worker lacks the right")
+    says(alloc, &unright, "line 8: the worker lacks the right")
 }
 
 #[test]
 fn errors_of_workers(rt: HostRuntime) -> Result<(), Fail> {
     let alloc = rt.alloc();
     let refused = BoardFault::Refused(Refusal::AtLimit);
+    let full = "the step is refused: the count is at its limit";
     let ended = SimFault::Ended {
         place: 3,
-        worker: worker(1),
+        worker: WorkerId::new(1).unwrap(),
     };
-    says(
-        alloc,
-        &refused,
-        "the step is refused: the count is at its limit",
-    )?;
-    says(
-        alloc,
-        &ended,
-        "place 3 of the schedule names a worker that has ended",
-    )?;
+    let place = "place 3 of the schedule names a worker that has ended";
+    says(alloc, &refused, full)?;
+    says(alloc, &ended, place)?;
     says(alloc, &RunFault::Spawn, "a thread could not be started")
 }

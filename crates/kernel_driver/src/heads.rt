@@ -1,224 +1,149 @@
 //! What a heading is asked.
-use crate::ids::{cell, cell_of, event, event_of, group_of, sequencer_of, worker, worker_of};
-use crate::writing::write_size;
+use crate::ask::{Ask, cell, cell_of, event, event_of, group_of, sequencer_of, worker, worker_of};
 use ec_count::Target;
 use ec_heading::{Group, Heading, Version};
 use std::io::Write;
-use test_support::{Fault, Words, size, word};
-
-/// Writes what a name or a word stands for.
-fn write_target<W: Write>(target: Target, out: &mut W) -> Result<(), Fault> {
-    match target {
-        Target::Worker(worker) => writeln!(out, "worker {}", worker.get())?,
-        Target::Event(event) => writeln!(out, "eventcount {}", event.get())?,
-        Target::Sequencer(line) => writeln!(out, "sequencer {}", line.get())?,
-        Target::Cells(first, many) => writeln!(out, "cells {} {many}", first.get())?,
-        Target::Group(place) => writeln!(out, "group {place}")?,
-    }
-    Ok(())
-}
-
-/// Writes what was found, or `-`.
-fn write_found<W: Write>(found: Option<Target>, out: &mut W) -> Result<(), Fault> {
-    match found {
-        Some(target) => write_target(target, out),
-        None => {
-            writeln!(out, "-")?;
-            Ok(())
-        }
-    }
-}
+use test_support::{
+    Fault, tell, tell_if, write_buffer, write_database, write_semaphore, write_target,
+};
 
 /// Writes how many there are of each sort.
-fn write_sizes<W: Write>(heading: &Heading, out: &mut W) -> Result<(), Fault> {
+fn tell_sizes<W: Write>(ask: &mut Ask<'_, W>) -> Result<(), Fault> {
+    let heading = ask.about;
     let setup = heading.setup();
-    write!(
-        out,
-        "{} workers, {} eventcounts, ",
-        setup.workers(),
-        setup.events()
-    )?;
-    write!(
-        out,
-        "{} sequencers, {} cells, ",
-        setup.sequencers(),
-        setup.cells()
-    )?;
-    write!(
-        out,
-        "{} names, {} words, ",
-        heading.names().len(),
-        heading.words().len()
-    )?;
-    let (groups, lines) = (heading.groups().len(), heading.declarations().len());
-    writeln!(out, "{groups} groups, {lines} declarations")?;
+    let (workers, events) = (setup.workers(), setup.events());
+    let (lines, cells) = (setup.sequencers(), setup.cells());
+    let (names, words) = (heading.names().len(), heading.words().len());
+    let (groups, declared) = (heading.groups().len(), heading.declarations().len());
+    write!(ask.out, "{workers} workers, {events} eventcounts, ")?;
+    write!(ask.out, "{lines} sequencers, {cells} cells, ")?;
+    write!(ask.out, "{names} names, {words} words, ")?;
+    writeln!(ask.out, "{groups} groups, {declared} declarations")?;
     Ok(())
 }
 
 /// Writes what the declarations stand for, in order.
-fn write_declared<W: Write>(heading: &Heading, out: &mut W) -> Result<(), Fault> {
-    for target in heading.declarations() {
-        write_target(*target, out)?;
+fn tell_declared<W: Write>(ask: &mut Ask<'_, W>) -> Result<(), Fault> {
+    for target in ask.about.declarations() {
+        write_target(Some(*target), ask.out)?;
     }
     Ok(())
 }
 
 /// Writes the word at a place, and what it stands for.
-fn write_word<W: Write>(heading: &Heading, place: usize, out: &mut W) -> Result<(), Fault> {
-    match heading.words().at(place) {
-        Some((word, target)) => {
-            out.write_all(word)?;
-            write!(out, ": ")?;
-            write_target(target, out)
-        }
-        None => write_found(None, out),
-    }
-}
-
-/// Writes the sort of a group, and its numbers.
-fn write_shape<W: Write>(group: &Group, out: &mut W) -> Result<(), Fault> {
-    match group {
-        Group::Buffer(it) => {
-            it.known();
-            let (first, many) = (it.first_cell().get(), it.cells());
-            let (puts, gets) = (it.in_count().get(), it.out_count().get());
-            let (put, take) = (it.put_seq().get(), it.take_seq().get());
-            write!(out, "buffer, {many} cells from {first}, ")?;
-            write!(out, "eventcounts {puts} {gets}, sequencers {put} {take}, ")?;
-        }
-        Group::Database(it) => {
-            it.known();
-            let (first, many) = (it.first_cell().get(), it.cells());
-            let (start, done, turn) = (it.start().get(), it.done().get(), it.turn().get());
-            write!(out, "database, {many} cells from {first}, ")?;
-            write!(out, "eventcounts {start} {done}, sequencer {turn}, ")?;
-        }
-        Group::Semaphore(it) | Group::Both(it) => {
-            let (initial, count, line) = (it.initial(), it.count().get(), it.line().get());
-            write!(
-                out,
-                "semaphore of {initial}, eventcount {count}, sequencer {line}, "
-            )?;
-        }
-    }
-    Ok(())
+fn tell_word<W: Write>(place: usize, ask: &mut Ask<'_, W>) -> Result<(), Fault> {
+    let Some((word, target)) = ask.about.words().at(place) else {
+        return tell("-", ask.out);
+    };
+    ask.out.write_all(word)?;
+    write!(ask.out, ": ")?;
+    write_target(Some(target), ask.out)
 }
 
 /// Writes a group, and whether it fits what is declared.
-fn write_group<W: Write>(heading: &Heading, group: &Group, out: &mut W) -> Result<(), Fault> {
-    write_shape(group, out)?;
-    let setup = heading.setup();
+fn tell_group<W: Write>(group: &Group, ask: &mut Ask<'_, W>) -> Result<(), Fault> {
+    let setup = ask.about.setup();
     let fits = match group {
-        Group::Buffer(it) => it.fits(setup),
-        Group::Database(it) => it.fits(setup),
-        Group::Semaphore(it) | Group::Both(it) => it.fits(setup),
+        Group::Buffer(it) => {
+            write_buffer(it, ask.out)?;
+            it.fits(setup)
+        }
+        Group::Database(it) => {
+            write_database(it, ask.out)?;
+            it.fits(setup)
+        }
+        Group::Semaphore(it) | Group::Both(it) => {
+            write_semaphore(it, ask.out)?;
+            it.fits(setup)
+        }
     };
-    writeln!(out, "fits: {fits}")?;
+    writeln!(ask.out, "fits: {fits}")?;
     Ok(())
 }
 
-/// Writes a right of a worker, or whether an eventcount may be handed over, if that is asked.
-fn answer_right<W: Write>(
-    heading: &Heading,
-    what: &str,
-    words: &mut Words<'_>,
-    out: &mut W,
-) -> Result<bool, Fault> {
-    let setup = heading.setup();
-    let is_so = match what {
-        "observes" => {
-            let worker = worker(heading, words)?;
-            setup.may_observe(event(heading, words)?, worker)
-        }
-        "writes" => {
-            let worker = worker(heading, words)?;
-            setup.may_write(cell(heading, words)?, worker)
-        }
-        "reads" => {
-            let worker = worker(heading, words)?;
-            setup.may_read(cell(heading, words)?, worker)
-        }
-        "handed" => setup.may_hand(event(heading, words)?),
-        _ => return Ok(false),
-    };
-    writeln!(out, "{is_so}")?;
-    Ok(true)
+/// Returns a right of a worker, or whether an eventcount may be handed over, if that is asked.
+fn right_of<W: Write>(what: &str, ask: &mut Ask<'_, W>) -> Result<Option<bool>, Fault> {
+    let setup = ask.about.setup();
+    if what == "handed" {
+        return Ok(Some(setup.may_hand(event(ask)?)));
+    }
+    if what != "observes" && what != "writes" && what != "reads" {
+        return Ok(None);
+    }
+    let worker = worker(ask)?;
+    Ok(Some(match what {
+        "observes" => setup.may_observe(event(ask)?, worker),
+        "writes" => setup.may_write(cell(ask)?, worker),
+        _ => setup.may_read(cell(ask)?, worker),
+    }))
 }
 
-/// Writes the number that a word spells, as a worker or an object, if that is asked.
-fn answer_spelled<W: Write>(
-    heading: &Heading,
-    what: &str,
-    word: &str,
-    out: &mut W,
-) -> Result<bool, Fault> {
-    let found = match what {
+/// Returns the number that a word spells, as a worker or an object.
+fn spelled(heading: &Heading, what: &str, word: &str) -> Result<Option<usize>, Fault> {
+    Ok(match what {
         "worker" => worker_of(heading, word).map(|id| id.get()),
         "eventcount" => event_of(heading, word).map(|id| id.get()),
         "sequencer" => sequencer_of(heading, word).map(|id| id.get()),
         "cell" => cell_of(heading, word).map(|id| id.get()),
-        _ => return Ok(false),
-    };
-    write_size(out, found)?;
-    Ok(true)
+        _ => return Err(Fault::Line),
+    })
 }
 
-/// Writes what the heading is asked of a word.
-fn answer_word<W: Write>(
-    heading: &Heading,
-    what: &str,
-    word: &str,
-    out: &mut W,
-) -> Result<(), Fault> {
+/// Answers what the heading is asked of a word.
+fn answer_word<W: Write>(what: &str, ask: &mut Ask<'_, W>) -> Result<(), Fault> {
+    let (heading, word) = (ask.about, ask.word());
     match what {
-        "word" => write_found(heading.words().find(word.as_bytes()), out),
-        "name" => write_found(heading.names().find(word), out),
+        "word" => write_target(heading.words().find(word.as_bytes()), ask.out),
+        "name" => write_target(heading.names().find(word), ask.out),
         "group" => match group_of(heading, word) {
-            Some(group) => write_group(heading, group, out),
+            Some(group) => tell_group(group, ask),
             None => Err(Fault::Line),
         },
-        _ => {
-            if answer_spelled(heading, what, word, out)? {
-                Ok(())
-            } else {
-                Err(Fault::Line)
-            }
-        }
+        _ => tell_if(spelled(heading, what, word)?, ask.out),
     }
-}
-
-/// Writes the name of the group at a place.
-fn write_named<W: Write>(heading: &Heading, place: usize, out: &mut W) -> Result<(), Fault> {
-    match heading.names().name_of(Target::Group(place)) {
-        Some(name) => writeln!(out, "{name}")?,
-        None => writeln!(out, "-")?,
-    }
-    Ok(())
 }
 
 /// Answers what the heading is asked.
-pub fn answer_heading<W: Write>(
-    heading: &Heading,
-    words: &mut Words<'_>,
-    out: &mut W,
-) -> Result<(), Fault> {
-    let what = word(words);
+pub fn answer_heading<W: Write>(ask: &mut Ask<'_, W>) -> Result<(), Fault> {
+    let what = ask.word();
     match what {
-        "sizes" => write_sizes(heading, out),
-        "declared" => write_declared(heading, out),
-        "version" => {
-            let is_two = heading.version() == Version::Two;
-            writeln!(out, "{}", if is_two { 2 } else { 1 })?;
-            Ok(())
-        }
-        "at" => write_word(heading, size(words)?, out),
-        "named" => write_named(heading, size(words)?, out),
-        _ => {
-            if answer_right(heading, what, words, out)? {
-                Ok(())
+        "sizes" => tell_sizes(ask),
+        "declared" => tell_declared(ask),
+        "version" => tell(
+            if ask.about.version() == Version::Two {
+                2
             } else {
-                answer_word(heading, what, word(words), out)
-            }
+                1
+            },
+            ask.out,
+        ),
+        "at" => {
+            let place = ask.size()?;
+            tell_word(place, ask)
+        }
+        "named" => {
+            let group = Target::Group(ask.size()?);
+            tell_if(ask.about.names().name_of(group), ask.out)
+        }
+        _ => match right_of(what, ask)? {
+            Some(is_so) => tell(is_so, ask.out),
+            None => answer_word(what, ask),
+        },
+    }
+}
+
+/// Writes all that a heading is asked: how many there are of each sort, and its words and names.
+pub fn tell_heading<W: Write>(ask: &mut Ask<'_, W>) -> Result<(), Fault> {
+    let (words, names) = (ask.about.words(), ask.about.names());
+    tell_sizes(ask)?;
+    for place in 0..words.len() {
+        tell_word(place, ask)?;
+    }
+    for place in 0..names.len() {
+        if let Some((name, target)) = names.at(place) {
+            write!(ask.out, "{name}: ")?;
+            write_target(Some(target), ask.out)?;
         }
     }
+    Ok(())
 }

@@ -1,15 +1,15 @@
 //! Machines of programs, whose steps are made in a run.
-use crate::ids::worker;
-use crate::kernel::{Kernel, Stage};
-use crate::programs::write_first_off;
-use crate::writing::{write_act, write_reply};
-use ec_core::{Act, Reply, Run, StepFault};
+use crate::ask::{Ask, worker};
+use crate::kernel::Kernel;
+use crate::runs::step;
+use crate::stage::Stage;
+use crate::writing::{tell_act, tell_answered, tell_worker};
+use ec_core::{Act, Reply, Run};
 use ec_count::WorkerId;
-use ec_heading::Heading;
-use ec_machine::{Machine, Outcome, Program};
+use ec_machine::{Machine, Outcome, Program, follows};
 use std::alloc::{AllocError, Global};
 use std::io::Write;
-use test_support::{Driver, Fault, Words, word};
+use test_support::{Fault, Line, answer_lines, tell, word};
 
 /// A kernel, and the machines of programs, one for each worker in order.
 #[derive(Drop)]
@@ -28,48 +28,21 @@ fn machines_of<'a>(alloc: Global, programs: &'a [Program]) -> Result<Vec<Machine
     Ok(list)
 }
 
-/// Makes the step that a machine asks for.
-fn step(run: &mut Run, worker: WorkerId, machine: &mut Machine<'_>) -> Result<Reply, Fault> {
-    let Some(act) = machine.next() else {
-        return Err(Fault::Line);
-    };
-    match run.step(worker, act) {
-        Ok(reply) => {
-            machine.take(reply);
-            Ok(reply)
-        }
-        Err(StepFault::Memory) => Err(Fault::Memory),
-        Err(StepFault::Refused(_)) => Err(Fault::Line),
-    }
-}
-
 /// Makes the step that a machine asks for, and writes it.
 fn play<W: Write>(
-    heading: &Heading,
     run: &mut Run,
     worker: WorkerId,
     machine: &mut Machine<'_>,
-    out: &mut W,
+    ask: &mut Ask<'_, W>,
 ) -> Result<(), Fault> {
     let Some(act) = machine.next() else {
         return Err(Fault::Line);
     };
-    let reply = step(run, worker, machine)?;
-    write_act(out, heading, act)?;
-    write!(out, " = ")?;
-    write_reply(out, reply)?;
-    writeln!(out)?;
-    Ok(())
-}
-
-/// Writes the act that is due.
-fn write_due<W: Write>(heading: &Heading, machine: &Machine<'_>, out: &mut W) -> Result<(), Fault> {
-    match machine.next() {
-        Some(act) => write_act(out, heading, act)?,
-        None => write!(out, "-")?,
-    }
-    writeln!(out)?;
-    Ok(())
+    let Ok(reply) = step(run, worker, act)? else {
+        return Err(Fault::Line);
+    };
+    machine.take(reply);
+    tell_answered(act, reply, ask)
 }
 
 /// Returns the name of an outcome.
@@ -86,8 +59,8 @@ fn name_of(outcome: Outcome) -> &'static str {
 }
 
 /// Reads how a program is ended from outside.
-fn outcome(words: &mut Words<'_>) -> Result<Outcome, Fault> {
-    match word(words) {
+fn outcome<W: Write>(ask: &mut Ask<'_, W>) -> Result<Outcome, Fault> {
+    match ask.word() {
         "running" => Ok(Outcome::Running),
         "finished" => Ok(Outcome::Finished),
         "value-too-large" => Ok(Outcome::ValueTooLarge),
@@ -98,86 +71,78 @@ fn outcome(words: &mut Words<'_>) -> Result<Outcome, Fault> {
 }
 
 /// Gives a machine the reply to an advance, where one is due.
-fn give<W: Write>(heading: &Heading, machine: &mut Machine<'_>, out: &mut W) -> Result<(), Fault> {
-    write_due(heading, machine, out)?;
-    match machine.next() {
-        Some(Act::Advance(_)) => {
-            machine.take(Reply::Done);
-            Ok(())
-        }
-        _ => Err(Fault::Line),
-    }
-}
-
-/// Answers a line about a machine alone.
-fn answer_machine<W: Write>(
-    heading: &Heading,
-    machine: &mut Machine<'_>,
-    verb: &str,
-    words: &mut Words<'_>,
-    out: &mut W,
-) -> Result<(), Fault> {
-    match verb {
-        "next" => write_due(heading, machine, out)?,
-        "outcome" => writeln!(out, "{}", name_of(machine.outcome()))?,
-        "give" => give(heading, machine, out)?,
-        _ => {
-            machine.refuse(outcome(words)?);
-            writeln!(out, "{}", name_of(machine.outcome()))?;
-        }
-    }
-    Ok(())
+fn give<W: Write>(machine: &mut Machine<'_>, ask: &mut Ask<'_, W>) -> Result<(), Fault> {
+    let act = machine.next();
+    let Some(Act::Advance(_)) = act else {
+        return Err(Fault::Line);
+    };
+    machine.take(Reply::Done);
+    tell_act(act, ask)
 }
 
 impl<'a> Machines<'a> {
-    /// Has a machine of each program.
-    pub fn new(alloc: Global, kernel: Kernel, programs: &'a [Program]) -> Result<Self, Fault> {
+    /// Answers the lines of a text by a kernel and a machine of each program.
+    pub fn answer_text<W: Write>(
+        alloc: Global,
+        kernel: Kernel,
+        programs: &'a [Program],
+        watched: bool,
+        text: &str,
+        out: &mut W,
+    ) -> Result<(), Fault> {
         let list = machines_of(alloc, programs)?;
-        Ok(Machines {
+        let mut machines = Machines {
             kernel,
             programs,
             list,
-        })
+        };
+        for line in text.lines() {
+            machines.answer(alloc, line, watched, out)?;
+        }
+        Ok(())
     }
 
     /// Answers a line about a worker and its machine.
-    fn answer_worker<W: Write>(
-        &mut self,
-        verb: &str,
-        words: &mut Words<'_>,
-        out: &mut W,
-    ) -> Result<(), Fault> {
-        let heading = &self.kernel.heading;
-        let worker = worker(heading, words)?;
+    fn answer_worker<W: Write>(&mut self, line: &str, out: &mut W) -> Result<(), Fault> {
+        let ask = &mut Line::new(&self.kernel.heading, line, out);
+        let worker = worker(ask)?;
         let Some(machine) = self.list.get_mut(worker.get()) else {
             return Err(Fault::Line);
         };
-        match (verb, &mut self.kernel.stage) {
-            ("play", Stage::Run(run)) => play(heading, run, worker, machine, out),
-            ("play", _) => Err(Fault::Line),
-            _ => answer_machine(heading, machine, verb, words, out),
-        }
-    }
-}
-
-impl Driver for Machines<'_> {
-    fn answer<W: Write>(&mut self, alloc: Global, line: &str, out: &mut W) -> Result<(), Fault> {
-        let mut words = line.split_whitespace();
-        match word(&mut words) {
-            "follows" => match self.kernel.stage.run() {
-                Some(run) => write_first_off(&self.kernel.heading, run, self.programs, out),
-                None => Err(Fault::Line),
-            },
-            "play" => self.answer_worker("play", &mut words, out),
-            "next" => self.answer_worker("next", &mut words, out),
-            "outcome" => self.answer_worker("outcome", &mut words, out),
-            "give" => self.answer_worker("give", &mut words, out),
-            "refuse" => self.answer_worker("refuse", &mut words, out),
-            _ => self.kernel.answer(alloc, line, out),
+        match (ask.verb, &mut self.kernel.parts.stage) {
+            ("play", Stage::Run(run)) => play(run, worker, machine, ask),
+            ("next", _) => tell_act(machine.next(), ask),
+            ("outcome", _) => tell(name_of(machine.outcome()), ask.out),
+            ("give", _) => give(machine, ask),
+            ("refuse", _) => {
+                machine.refuse(outcome(ask)?);
+                tell(name_of(machine.outcome()), ask.out)
+            }
+            _ => Err(Fault::Line),
         }
     }
 
-    fn mark(&self) -> u64 {
-        self.kernel.mark()
+    /// Writes who is first off its program.
+    fn tell_first_off<W: Write>(&self, out: &mut W) -> Result<(), Fault> {
+        let Some(run) = self.kernel.parts.stage.run() else {
+            return Err(Fault::Line);
+        };
+        let worker = follows(run, self.programs);
+        tell_worker(worker, &mut Line::new(&self.kernel.heading, "", out))
+    }
+
+    /// Answers a line.
+    fn answer<W: Write>(
+        &mut self,
+        alloc: Global,
+        line: &str,
+        watched: bool,
+        out: &mut W,
+    ) -> Result<(), Fault> {
+        match word(&mut line.split_whitespace()) {
+            "follows" => self.tell_first_off(out),
+            "play" | "next" | "outcome" | "give" | "refuse" => self.answer_worker(line, out),
+            _ => answer_lines(alloc, &mut self.kernel, watched, line, out),
+        }
     }
 }

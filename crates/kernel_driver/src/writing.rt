@@ -1,136 +1,154 @@
 //! Workers, objects, acts and entries as words.
+use crate::ask::Ask;
 use ec_core::{Act, Entry, Reply};
-use ec_count::{CellId, SeqId, Target, WorkerId};
-use ec_heading::Heading;
-use std::io;
+use ec_count::{CellId, EventId, SeqId, Target, WorkerId};
 use std::io::Write;
-
-/// Writes the word of an object, or its number behind a `#`.
-pub fn write_object<W: Write>(
-    out: &mut W,
-    heading: &Heading,
-    target: Target,
-    number: usize,
-) -> io::Result<()> {
-    let words = heading.words();
-    for place in 0..words.len() {
-        if let Some((word, found)) = words.at(place) {
-            if found == target {
-                return out.write_all(word);
-            }
-        }
-    }
-    write!(out, "#{number}")
-}
-
-/// Writes a worker.
-pub fn write_worker<W: Write>(out: &mut W, heading: &Heading, worker: WorkerId) -> io::Result<()> {
-    write_object(out, heading, Target::Worker(worker), worker.get())
-}
-
-/// Writes a sequencer.
-pub fn write_sequencer<W: Write>(out: &mut W, heading: &Heading, line: SeqId) -> io::Result<()> {
-    write_object(out, heading, Target::Sequencer(line), line.get())
-}
+use test_support::{Fault, tell};
 
 /// Returns the place of a cell in a block of cells.
-fn index_in(target: Target, n: usize) -> Option<usize> {
-    match target {
+fn index_in(block: Target, cell: CellId) -> Option<usize> {
+    match block {
         Target::Cells(first, many) => {
-            let index = n.checked_sub(first.get())?;
+            let index = cell.get().checked_sub(first.get())?;
             if index < many { Some(index) } else { None }
         }
         _ => None,
     }
 }
 
-/// Writes a cell.
-fn write_cell<W: Write>(out: &mut W, heading: &Heading, cell: CellId) -> io::Result<()> {
-    let words = heading.words();
-    let n = cell.get();
+/// Writes the word of an object, or its number behind a `#`.
+fn put_object<W: Write>(object: Target, number: usize, ask: &mut Ask<'_, W>) -> Result<(), Fault> {
+    let words = ask.about.words();
     for place in 0..words.len() {
-        if let Some((word, target)) = words.at(place) {
-            if let Some(index) = index_in(target, n) {
-                out.write_all(word)?;
-                return write!(out, "[{index}]");
+        if let Some((word, found)) = words.at(place) {
+            if found == object {
+                ask.out.write_all(word)?;
+                return Ok(());
             }
         }
     }
-    write!(out, "#{n}")
+    write!(ask.out, "#{number}")?;
+    Ok(())
 }
 
-/// Writes a verb and an eventcount.
-fn write_on_event<W: Write>(
-    out: &mut W,
-    heading: &Heading,
-    verb: &str,
-    event: ec_count::EventId,
-) -> io::Result<()> {
-    write!(out, "{verb} ")?;
-    write_object(out, heading, Target::Event(event), event.get())
+/// Writes a worker.
+pub fn put_worker<W: Write>(worker: WorkerId, ask: &mut Ask<'_, W>) -> Result<(), Fault> {
+    put_object(Target::Worker(worker), worker.get(), ask)
+}
+
+/// Writes an eventcount.
+fn put_event<W: Write>(event: EventId, ask: &mut Ask<'_, W>) -> Result<(), Fault> {
+    put_object(Target::Event(event), event.get(), ask)
+}
+
+/// Writes a sequencer.
+pub fn put_sequencer<W: Write>(line: SeqId, ask: &mut Ask<'_, W>) -> Result<(), Fault> {
+    put_object(Target::Sequencer(line), line.get(), ask)
+}
+
+/// Writes a cell.
+fn put_cell<W: Write>(cell: CellId, ask: &mut Ask<'_, W>) -> Result<(), Fault> {
+    let words = ask.about.words();
+    for place in 0..words.len() {
+        if let Some((word, target)) = words.at(place) {
+            if let Some(index) = index_in(target, cell) {
+                ask.out.write_all(word)?;
+                write!(ask.out, "[{index}]")?;
+                return Ok(());
+            }
+        }
+    }
+    write!(ask.out, "#{}", cell.get())?;
+    Ok(())
+}
+
+/// Writes the words of an act behind its first.
+fn put_object_of<W: Write>(act: Act, ask: &mut Ask<'_, W>) -> Result<(), Fault> {
+    match act {
+        Act::Advance(event) | Act::Read(event) => put_event(event, ask)?,
+        Act::Await(event, threshold) => {
+            put_event(event, ask)?;
+            write!(ask.out, " {threshold}")?;
+        }
+        Act::Go => {}
+        Act::Ticket(line) => put_sequencer(line, ask)?,
+        Act::Put(cell, value) => {
+            put_cell(cell, ask)?;
+            write!(ask.out, " {value}")?;
+        }
+        Act::Get(cell) => put_cell(cell, ask)?,
+        Act::Hand(event, to) => {
+            put_event(event, ask)?;
+            write!(ask.out, " ")?;
+            put_worker(to, ask)?;
+        }
+    }
+    Ok(())
 }
 
 /// Writes an act.
-pub fn write_act<W: Write>(out: &mut W, heading: &Heading, act: Act) -> io::Result<()> {
-    match act {
-        Act::Advance(event) => write_on_event(out, heading, "advance", event),
-        Act::Read(event) => write_on_event(out, heading, "read", event),
-        Act::Await(event, threshold) => {
-            write_on_event(out, heading, "await", event)?;
-            write!(out, " {threshold}")
-        }
-        Act::Go => write!(out, "go"),
-        Act::Ticket(line) => {
-            write!(out, "ticket ")?;
-            write_sequencer(out, heading, line)
-        }
-        Act::Put(cell, value) => {
-            write!(out, "put ")?;
-            write_cell(out, heading, cell)?;
-            write!(out, " {value}")
-        }
-        Act::Get(cell) => {
-            write!(out, "get ")?;
-            write_cell(out, heading, cell)
-        }
-        Act::Hand(event, to) => {
-            write_on_event(out, heading, "hand", event)?;
-            write!(out, " ")?;
-            write_worker(out, heading, to)
-        }
-    }
-}
-
-/// Writes a reply.
-pub fn write_reply<W: Write>(out: &mut W, reply: Reply) -> io::Result<()> {
-    match reply {
-        Reply::Done => write!(out, "done"),
-        Reply::Pending => write!(out, "pending"),
-        Reply::Number(n) => write!(out, "{n}"),
-    }
+pub fn put_act<W: Write>(act: Act, ask: &mut Ask<'_, W>) -> Result<(), Fault> {
+    let verb = match act {
+        Act::Advance(_) => "advance ",
+        Act::Read(_) => "read ",
+        Act::Await(_, _) => "await ",
+        Act::Go => "go",
+        Act::Ticket(_) => "ticket ",
+        Act::Put(_, _) => "put ",
+        Act::Get(_) => "get ",
+        Act::Hand(_, _) => "hand ",
+    };
+    write!(ask.out, "{verb}")?;
+    put_object_of(act, ask)
 }
 
 /// Writes an entry.
-pub fn write_entry<W: Write>(out: &mut W, heading: &Heading, entry: &Entry) -> io::Result<()> {
-    write_worker(out, heading, entry.worker)?;
-    write!(out, " ")?;
-    write_act(out, heading, entry.act)?;
-    write!(out, " = ")?;
-    write_reply(out, entry.reply)
-}
-
-/// Writes a number, or `-` where there is none, and ends the line.
-pub fn write_number<W: Write>(out: &mut W, number: Option<u64>) -> io::Result<()> {
-    match number {
-        Some(n) => writeln!(out, "{n}"),
-        None => writeln!(out, "-"),
+pub fn put_entry<W: Write>(entry: &Entry, ask: &mut Ask<'_, W>) -> Result<(), Fault> {
+    match ec_trace::write_entry(entry, ask.about, ask.out) {
+        Ok(()) => Ok(()),
+        Err(_) => Err(Fault::Write),
     }
 }
 
-/// Writes a size, or `-` where there is none, and ends the line.
-pub fn write_size<W: Write>(out: &mut W, size: Option<usize>) -> io::Result<()> {
-    match size {
-        Some(n) => writeln!(out, "{n}"),
-        None => writeln!(out, "-"),
+/// Writes a line of a worker, or `-`.
+pub fn tell_worker<W: Write>(worker: Option<WorkerId>, ask: &mut Ask<'_, W>) -> Result<(), Fault> {
+    if let Some(worker) = worker {
+        put_worker(worker, ask)?;
+        return tell("", ask.out);
     }
+    tell("-", ask.out)
+}
+
+/// Writes a line of an act, or `-`.
+pub fn tell_act<W: Write>(act: Option<Act>, ask: &mut Ask<'_, W>) -> Result<(), Fault> {
+    if let Some(act) = act {
+        put_act(act, ask)?;
+        return tell("", ask.out);
+    }
+    tell("-", ask.out)
+}
+
+/// Writes a line of a reply.
+pub fn tell_reply<W: Write>(reply: Reply, ask: &mut Ask<'_, W>) -> Result<(), Fault> {
+    match reply {
+        Reply::Done => tell("done", ask.out),
+        Reply::Pending => tell("pending", ask.out),
+        Reply::Number(n) => tell(n, ask.out),
+    }
+}
+
+/// Writes a line of an act and its reply.
+pub fn tell_answered<W: Write>(act: Act, reply: Reply, ask: &mut Ask<'_, W>) -> Result<(), Fault> {
+    put_act(act, ask)?;
+    write!(ask.out, " = ")?;
+    tell_reply(reply, ask)
+}
+
+/// Writes a line of an entry, or `-`.
+pub fn tell_entry<W: Write>(entry: Option<Entry>, ask: &mut Ask<'_, W>) -> Result<(), Fault> {
+    if let Some(entry) = entry {
+        put_entry(&entry, ask)?;
+        return tell("", ask.out);
+    }
+    tell("-", ask.out)
 }

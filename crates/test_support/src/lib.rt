@@ -3,10 +3,10 @@
 
 mod driver;
 mod fault;
-mod sum;
-mod words;
+mod line;
+mod writing;
 
-pub use driver::{Driver, answer_lines, status_of};
+pub use driver::{Driver, Program, answer_lines, drive, status_of};
 pub use fault::Fault;
-pub use sum::Sum;
-pub use words::{Words, number, size, word};
+pub use line::{Line, Words, number, tell, tell_if, word};
+pub use writing::{write_buffer, write_database, write_semaphore, write_target};
