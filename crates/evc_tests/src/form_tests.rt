@@ -36,25 +36,20 @@ fn forms_of_the_sorts(rt: HostRuntime) {
     assert!(rt; Sort::Database.needs_disjoint_lists() && !Sort::Cells.needs_disjoint_lists());
 }
 
-/// The greatest limit of each version, and whether it has `hand`.
-static VERSIONS: [(Version, u64, bool); 2] = [
-    (Version::One, 4_294_967_295, false),
-    (Version::Two, 281_474_976_710_655, true),
-];
-
-/// Whether the limit that a version has of a number is this one.
-fn has_limit(version: Version, n: u64, limit: Option<u64>) -> bool {
-    version.limit(n).map(|found| found.get()) == limit
+/// Whether a version has this greatest limit.
+fn has_limits(version: Version, greatest: u64) -> bool {
+    let has_limit = |n: u64| version.limit(n).map(|limit| limit.get()) == Some(n);
+    version.greatest_limit() == greatest
+        && !has_limit(0)
+        && has_limit(1)
+        && has_limit(greatest)
+        && version.limit(greatest.saturating_add(1)).is_none()
 }
 
 #[test]
 fn each_version_has_its_limits(rt: HostRuntime) {
-    for (version, greatest, hand) in &VERSIONS {
-        assert!(rt; version.greatest_limit() == *greatest && version.has_hand() == *hand);
-        assert!(rt; has_limit(*version, 0, None) && has_limit(*version, 1, Some(1)));
-        assert!(rt; has_limit(*version, *greatest, Some(*greatest)));
-        assert!(rt; has_limit(*version, greatest.saturating_add(1), None));
-    }
+    assert!(rt; has_limits(Version::One, 4_294_967_295) && !Version::One.has_hand());
+    assert!(rt; has_limits(Version::Two, 281_474_976_710_655) && Version::Two.has_hand());
 }
 
 static NUMBERS: [(HeadFault, Option<u64>); 8] = [

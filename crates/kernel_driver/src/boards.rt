@@ -30,16 +30,16 @@ fn name_of(parked: Parked) -> &'static str {
 }
 
 /// Makes a call of a board, if the line is one.
-pub fn answer_board<W: Write>(board: &mut Board, ask: &mut Ask<'_, W>) -> Result<bool, Fault> {
+pub fn answer_board<W: Write>(board: &mut Board, ask: &mut Ask<'_, W>) -> Result<(), Fault> {
     match ask.verb {
         "waiting" => tell_waiting(board, ask)?,
         "stuck" => tell(board.is_stuck(), ask.out)?,
         "park" => tell(name_of(board.park(worker(ask)?)), ask.out)?,
         "leave" => board.leave(worker(ask)?),
         "live" => tell(board.is_live(worker(ask)?), ask.out)?,
-        _ => return Ok(false),
+        _ => return Err(Fault::Line),
     }
-    Ok(true)
+    Ok(())
 }
 
 /// Writes all that a board is asked beside its run.

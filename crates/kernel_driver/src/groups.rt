@@ -79,12 +79,8 @@ fn semaphores_of<W: Write>(
 }
 
 /// Answers what is asked of a group, if the line asks that. The common one of `pairs` is `both`.
-pub fn answer_group<W: Write>(
-    alloc: Global,
-    run: &Run,
-    ask: &mut Ask<'_, W>,
-) -> Result<bool, Fault> {
-    let told = match ask.verb {
+pub fn answer_group<W: Write>(alloc: Global, run: &Run, ask: &mut Ask<'_, W>) -> Result<(), Fault> {
+    match ask.verb {
         "deliveries" => match deliveries(alloc, run, &buffer(ask)?) {
             Ok(found) => tell_deliveries(found.as_slice(), ask),
             Err(fault) => tell_break(fault, ask),
@@ -105,8 +101,6 @@ pub fn answer_group<W: Write>(
                 Err(fault) => tell_break(fault, ask),
             }
         }
-        _ => return Ok(false),
-    };
-    told?;
-    Ok(true)
+        _ => Err(Fault::Line),
+    }
 }

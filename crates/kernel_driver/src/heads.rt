@@ -61,23 +61,6 @@ fn tell_group<W: Write>(group: &Group, ask: &mut Ask<'_, W>) -> Result<(), Fault
     Ok(())
 }
 
-/// Returns a right of a worker, or whether an eventcount may be handed over, if that is asked.
-fn right_of<W: Write>(what: &str, ask: &mut Ask<'_, W>) -> Result<Option<bool>, Fault> {
-    let setup = ask.about.setup();
-    if what == "handed" {
-        return Ok(Some(setup.may_hand(event(ask)?)));
-    }
-    if what != "observes" && what != "writes" && what != "reads" {
-        return Ok(None);
-    }
-    let worker = worker(ask)?;
-    Ok(Some(match what {
-        "observes" => setup.may_observe(event(ask)?, worker),
-        "writes" => setup.may_write(cell(ask)?, worker),
-        _ => setup.may_read(cell(ask)?, worker),
-    }))
-}
-
 /// Returns the number that a word spells, as a worker or an object.
 fn spelled(heading: &Heading, what: &str, word: &str) -> Result<Option<usize>, Fault> {
     Ok(match what {
@@ -125,10 +108,7 @@ pub fn answer_heading<W: Write>(ask: &mut Ask<'_, W>) -> Result<(), Fault> {
             let group = Target::Group(ask.size()?);
             tell_if(ask.about.names().name_of(group), ask.out)
         }
-        _ => match right_of(what, ask)? {
-            Some(is_so) => tell(is_so, ask.out),
-            None => answer_word(what, ask),
-        },
+        _ => answer_word(what, ask),
     }
 }
 

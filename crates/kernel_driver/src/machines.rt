@@ -3,8 +3,8 @@ use crate::ask::{Ask, worker};
 use crate::kernel::Kernel;
 use crate::runs::step;
 use crate::stage::Stage;
-use crate::writing::{tell_act, tell_answered, tell_worker};
-use ec_core::{Act, Reply, Run};
+use crate::writing::{pending, tell_entry, tell_worker};
+use ec_core::{Act, Entry, Reply, Run};
 use ec_count::WorkerId;
 use ec_machine::{Machine, Outcome, Program, follows};
 use std::alloc::{AllocError, Global};
@@ -42,7 +42,7 @@ fn play<W: Write>(
         return Err(Fault::Line);
     };
     machine.take(reply);
-    tell_answered(act, reply, ask)
+    tell_entry(Some(Entry { worker, act, reply }), ask)
 }
 
 /// Returns the name of an outcome.
@@ -71,13 +71,20 @@ fn outcome<W: Write>(ask: &mut Ask<'_, W>) -> Result<Outcome, Fault> {
 }
 
 /// Gives a machine the reply to an advance, where one is due.
-fn give<W: Write>(machine: &mut Machine<'_>, ask: &mut Ask<'_, W>) -> Result<(), Fault> {
-    let act = machine.next();
-    let Some(Act::Advance(_)) = act else {
+fn give<W: Write>(
+    worker: WorkerId,
+    machine: &mut Machine<'_>,
+    ask: &mut Ask<'_, W>,
+) -> Result<(), Fault> {
+    let Some(act) = machine.next() else {
         return Err(Fault::Line);
     };
-    machine.take(Reply::Done);
-    tell_act(act, ask)
+    let Act::Advance(_) = act else {
+        return Err(Fault::Line);
+    };
+    let reply = Reply::Done;
+    machine.take(reply);
+    tell_entry(Some(Entry { worker, act, reply }), ask)
 }
 
 impl<'a> Machines<'a> {
@@ -111,9 +118,12 @@ impl<'a> Machines<'a> {
         };
         match (ask.verb, &mut self.kernel.parts.stage) {
             ("play", Stage::Run(run)) => play(run, worker, machine, ask),
-            ("next", _) => tell_act(machine.next(), ask),
+            ("next", _) => match machine.next() {
+                Some(act) => tell_entry(Some(pending(worker, act)), ask),
+                None => tell("-", ask.out),
+            },
             ("outcome", _) => tell(name_of(machine.outcome()), ask.out),
-            ("give", _) => give(machine, ask),
+            ("give", _) => give(worker, machine, ask),
             ("refuse", _) => {
                 machine.refuse(outcome(ask)?);
                 tell(name_of(machine.outcome()), ask.out)
@@ -124,10 +134,7 @@ impl<'a> Machines<'a> {
 
     /// Writes who is first off its program.
     fn tell_first_off<W: Write>(&self, out: &mut W) -> Result<(), Fault> {
-        let Some(run) = self.kernel.parts.stage.run() else {
-            return Err(Fault::Line);
-        };
-        let worker = follows(run, self.programs);
+        let worker = follows(self.kernel.parts.stage.run()?, self.programs);
         tell_worker(worker, &mut Line::new(&self.kernel.heading, "", out))
     }
 

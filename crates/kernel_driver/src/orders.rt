@@ -1,6 +1,6 @@
 //! The completed calls of a run, their order by points, and verdicts on orders.
 use crate::ask::{Ask, act, reply, worker};
-use crate::writing::{put_act, put_entry, tell_entry};
+use crate::writing::{pending, put_entry, tell_entry};
 use ec_core::{Calls, Entry, Run, walk};
 use ec_order::{Call, OrderFault, Placed, Timeline, Verdict, calls, in_order, order, verify};
 use std::alloc::Global;
@@ -34,7 +34,7 @@ fn is_timed(alloc: Global, run: &Run, placed: &[Placed]) -> Result<bool, Fault> 
     for right in placed {
         match dated.next() {
             Some(found) if found.point == right.point && found.entry == entry_of(&right.call) => {}
-            _ => return Ok(false),
+            _ => return Err(Fault::Line),
         }
     }
     Ok(dated.next().is_none())
@@ -111,18 +111,18 @@ fn answer_calls<W: Write>(alloc: Global, run: &Run, ask: &mut Ask<'_, W>) -> Res
 /// Writes the call that the entry at a place is part of, up to that entry.
 fn answer_so_far<W: Write>(run: &Run, ask: &mut Ask<'_, W>) -> Result<(), Fault> {
     let last = ask.size()?;
-    let mut pending = Calls::new();
+    let mut calls = Calls::new();
     let mut so_far = None;
     for (place, entry) in run.entries().enumerate() {
-        let call = pending.take(run.setup(), place, &entry);
+        let call = calls.take(run.setup(), place, &entry);
         if place == last {
-            so_far = call;
+            so_far = call.map(|call| (entry.worker, call));
         }
     }
-    let Some(call) = so_far else {
+    let Some((worker, call)) = so_far else {
         return Err(Fault::Line);
     };
-    put_act(call.op, ask)?;
+    put_entry(&pending(worker, call.op), ask)?;
     writeln!(ask.out, " at {} {}", call.first, call.round)?;
     Ok(())
 }
@@ -166,7 +166,7 @@ pub fn answer_order<W: Write>(
     run: &Run,
     judged: &mut Vec<Placed>,
     ask: &mut Ask<'_, W>,
-) -> Result<bool, Fault> {
+) -> Result<(), Fault> {
     match ask.verb {
         "order" => answer_the_order(alloc, run, ask)?,
         "calls" => answer_calls(alloc, run, ask)?,
@@ -181,7 +181,7 @@ pub fn answer_order<W: Write>(
             judged.clear();
             tell_verdict(verdict, ask)?;
         }
-        _ => return Ok(false),
+        _ => return Err(Fault::Line),
     }
-    Ok(true)
+    Ok(())
 }

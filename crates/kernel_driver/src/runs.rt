@@ -35,16 +35,16 @@ fn tell_entries<W: Write>(run: &Run, ask: &mut Ask<'_, W>) -> Result<(), Fault> 
 }
 
 /// Answers what is asked of a run, if the line asks that.
-pub fn answer_look<W: Write>(run: &Run, ask: &mut Ask<'_, W>) -> Result<bool, Fault> {
+pub fn answer_look<W: Write>(run: &Run, ask: &mut Ask<'_, W>) -> Result<(), Fault> {
     match ask.verb {
         "length" => tell(run.len(), ask.out)?,
         "count" => tell(run.entries().count(), ask.out)?,
         "entries" => tell_entries(run, ask)?,
         "entry" => tell_entry(run.entry(ask.size()?), ask)?,
         "silent" => tell(run.is_silent(worker(ask)?), ask.out)?,
-        _ => return Ok(false),
+        _ => return Err(Fault::Line),
     }
-    Ok(true)
+    Ok(())
 }
 
 /// Writes what a run is asked: how long it is, its last entry, what stands behind that, and its

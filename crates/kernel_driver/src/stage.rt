@@ -50,33 +50,32 @@ impl Stage {
     }
 
     /// Returns the run, where there is one.
-    pub fn run(&self) -> Option<&Run> {
+    pub fn run(&self) -> Result<&Run, Fault> {
         match self {
-            Stage::Run(run) => Some(run),
-            Stage::Board(board) => Some(board.run()),
-            _ => None,
+            Stage::Run(run) => Ok(run),
+            Stage::Board(board) => Ok(board.run()),
+            _ => Err(Fault::Line),
         }
     }
 
     /// Returns the world, where there is one.
-    fn world(&self) -> Option<&World> {
+    fn world(&self) -> Result<&World, Fault> {
         match self {
-            Stage::Heading => None,
-            Stage::World(world) => Some(world),
-            Stage::Run(run) => Some(run.world()),
-            Stage::Board(board) => Some(board.run().world()),
+            Stage::World(world) => Ok(world),
+            _ => Ok(self.run()?.world()),
         }
     }
 
     /// Writes all that can be asked.
     pub fn tell<W: Write>(&self, ask: &mut Ask<'_, W>) -> Result<(), Fault> {
-        if let Stage::Board(board) = self {
-            tell_board(board, ask)?;
-        }
-        match (self.run(), self) {
-            (Some(run), _) => tell_run(run, ask),
-            (None, Stage::World(world)) => tell_world(world, ask),
-            _ => Ok(()),
+        match self {
+            Stage::Heading => Ok(()),
+            Stage::World(world) => tell_world(world, ask),
+            Stage::Run(run) => tell_run(run, ask),
+            Stage::Board(board) => {
+                tell_board(board, ask)?;
+                tell_run(board.run(), ask)
+            }
         }
     }
 }
@@ -115,9 +114,7 @@ impl Parts {
     /// Keeps the run without a silent worker.
     fn strike_out<W: Write>(&mut self, ask: &mut Ask<'_, W>) -> Result<(), Fault> {
         let worker = worker(ask)?;
-        let Some(run) = self.stage.run() else {
-            return Err(Fault::Line);
-        };
+        let run = self.stage.run()?;
         if !run.is_silent(worker) {
             return tell("not silent", ask.out);
         }
@@ -126,65 +123,25 @@ impl Parts {
     }
 
     /// Asks the run that was kept.
-    fn ask_rest<W: Write>(&mut self, ask: &mut Ask<'_, W>) -> Result<(), Fault> {
-        let (Some(run), Some(rest)) = (self.stage.run(), &self.rest) else {
+    fn ask_rest<W: Write>(&self, ask: &mut Ask<'_, W>) -> Result<(), Fault> {
+        let Some(rest) = &self.rest else {
             return Err(Fault::Line);
         };
         ask.verb = ask.word();
         if ask.verb == "same" {
-            return tell(is_same(run, rest), ask.out);
+            return tell(is_same(self.stage.run()?, rest), ask.out);
         }
-        if answer_look(rest, ask)? {
-            Ok(())
-        } else {
-            Err(Fault::Line)
-        }
+        answer_look(rest, ask)
     }
 
-    /// Makes a call that changes what is kept beside the run, if the line is one.
-    fn keep<W: Write>(&mut self, alloc: Global, ask: &mut Ask<'_, W>) -> Result<bool, Fault> {
-        match ask.verb {
-            "copy" => match self.stage.run() {
-                Some(run) => self.rest = Some(run.copy()?),
-                None => return Err(Fault::Line),
-            },
-            "rest" => self.ask_rest(ask)?,
-            "without" => self.strike_out(ask)?,
-            "program" => self.programs.open(alloc, 0)?,
-            _ => return Ok(false),
-        }
-        Ok(true)
-    }
-
-    /// Makes a call that changes the world, the run or the board, if the line is one.
-    fn change<W: Write>(&mut self, ask: &mut Ask<'_, W>) -> Result<bool, Fault> {
+    /// Makes a call that changes the world, the run or the board.
+    fn change<W: Write>(&mut self, ask: &mut Ask<'_, W>) -> Result<(), Fault> {
         match &mut self.stage {
-            Stage::Heading => Ok(false),
+            Stage::Heading => Err(Fault::Line),
             Stage::World(world) => answer_world(world, ask),
             Stage::Run(run) => self.works.answer(run, ask),
             Stage::Board(board) => answer_board(board, ask),
         }
-    }
-
-    /// Answers what is asked of a world, a run or a board, if the line asks that.
-    fn look<W: Write>(&mut self, alloc: Global, ask: &mut Ask<'_, W>) -> Result<bool, Fault> {
-        if let Some(world) = self.stage.world() {
-            if answer_state(world, ask)? {
-                return Ok(true);
-            }
-        }
-        let Some(run) = self.stage.run() else {
-            return Ok(false);
-        };
-        if ask.verb == "follows" {
-            tell_worker(self.programs.first_off(run), ask)?;
-            return Ok(true);
-        }
-        Ok(
-            answer_look(run, ask)?
-                || answer_order(alloc, run, &mut self.judged, ask)?
-                || answer_group(alloc, run, ask)?,
-        )
     }
 
     /// Answers a line behind the heading.
@@ -192,11 +149,27 @@ impl Parts {
         if let Some(worker) = worker_of(ask.about, ask.verb) {
             return self.step(worker, ask);
         }
-        let is_answered = self.keep(alloc, ask)? || self.change(ask)? || self.look(alloc, ask)?;
-        if is_answered {
-            Ok(())
-        } else {
-            Err(Fault::Line)
+        match ask.verb {
+            "copy" => {
+                self.rest = Some(self.stage.run()?.copy()?);
+                Ok(())
+            }
+            "rest" => self.ask_rest(ask),
+            "without" => self.strike_out(ask),
+            "program" => self.programs.open(alloc, 0),
+            "follows" => tell_worker(self.programs.first_off(self.stage.run()?), ask),
+            "total" | "component" | "signaller" | "component-of" | "issued" | "value" | "pending" =>
+                answer_state(self.stage.world()?, ask),
+            "length" | "count" | "entries" | "entry" | "silent" => {
+                answer_look(self.stage.run()?, ask)
+            }
+            "order" | "calls" | "so-far" | "verify" | "placed" | "judge" => {
+                answer_order(alloc, self.stage.run()?, &mut self.judged, ask)
+            }
+            "deliveries" | "versions" | "balance" | "pairs" => {
+                answer_group(alloc, self.stage.run()?, ask)
+            }
+            _ => self.change(ask),
         }
     }
 }

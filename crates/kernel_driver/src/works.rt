@@ -179,7 +179,7 @@ impl Works {
     /// Answers a line about procedures, if it is one. `begin` adds one, `go-on` makes steps of the
     /// one at a place, `turn` does so and says nothing, and `make` goes through one in at most nine
     /// steps.
-    pub fn answer<W: Write>(&mut self, run: &mut Run, ask: &mut Ask<'_, W>) -> Result<bool, Fault> {
+    pub fn answer<W: Write>(&mut self, run: &mut Run, ask: &mut Ask<'_, W>) -> Result<(), Fault> {
         match ask.verb {
             "begin" => self.list.push(begun_of(ask)?)?,
             "make" => {
@@ -199,8 +199,8 @@ impl Works {
                 ) => tell_end(snapshot, ask)?,
                 _ => return Err(Fault::Line),
             },
-            _ => return Ok(false),
+            _ => return Err(Fault::Line),
         }
-        Ok(true)
+        Ok(())
     }
 }

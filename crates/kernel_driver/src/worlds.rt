@@ -1,7 +1,7 @@
 //! What a world is asked, and its steps where it stands alone.
 use crate::ask::{Ask, act, cell, event, sequencer, worker};
-use crate::writing::{put_act, tell_answered, tell_reply, tell_worker};
-use ec_core::World;
+use crate::writing::{pending, put_entry, tell_entry, tell_reply, tell_worker};
+use ec_core::{Entry, Step, World};
 use ec_count::{CellId, EventId, SeqId, WorkerId};
 use std::io::Write;
 use test_support::{Fault, tell, tell_if};
@@ -14,7 +14,7 @@ fn tell_pending<W: Write>(
 ) -> Result<(), Fault> {
     match world.under_way(worker) {
         Some(call) => {
-            put_act(call.op(), ask)?;
+            put_entry(&pending(worker, call.op()), ask)?;
             writeln!(ask.out, ", component {}, sum {}", call.index(), call.sum())?;
             Ok(())
         }
@@ -23,7 +23,7 @@ fn tell_pending<W: Write>(
 }
 
 /// Answers what is asked of a world, if the line asks that.
-pub fn answer_state<W: Write>(world: &World, ask: &mut Ask<'_, W>) -> Result<bool, Fault> {
+pub fn answer_state<W: Write>(world: &World, ask: &mut Ask<'_, W>) -> Result<(), Fault> {
     match ask.verb {
         "total" => tell_if(world.total(event(ask)?), ask.out)?,
         "component" => tell_if(world.component(event(ask)?, ask.size()?), ask.out)?,
@@ -35,17 +35,14 @@ pub fn answer_state<W: Write>(world: &World, ask: &mut Ask<'_, W>) -> Result<boo
             let worker = worker(ask)?;
             tell_pending(world, worker, ask)?;
         }
-        _ => return Ok(false),
+        _ => return Err(Fault::Line),
     }
-    Ok(true)
+    Ok(())
 }
 
 /// Makes a call of a world that stands alone, if the line is one: `would` asks for the answer to a
 /// step, and `call` makes one that is part of a call, and writes what began that.
-pub fn answer_world<W: Write>(world: &mut World, ask: &mut Ask<'_, W>) -> Result<bool, Fault> {
-    if ask.verb != "would" && ask.verb != "call" {
-        return Ok(false);
-    }
+pub fn answer_world<W: Write>(world: &mut World, ask: &mut Ask<'_, W>) -> Result<(), Fault> {
     let (worker, act) = (worker(ask)?, act(ask)?);
     if ask.verb == "would" {
         match world.answer(worker, &act) {
@@ -54,11 +51,14 @@ pub fn answer_world<W: Write>(world: &mut World, ask: &mut Ask<'_, W>) -> Result
         }
     } else {
         match world.step_of_call(worker, act) {
-            Ok(step) => tell_answered(step.op, step.reply, ask)?,
+            Ok(Step { op, reply }) => {
+                let act = op;
+                tell_entry(Some(Entry { worker, act, reply }), ask)?;
+            }
             Err(refusal) => tell(refusal.name(), ask.out)?,
         }
     }
-    Ok(true)
+    Ok(())
 }
 
 /// Writes all that is asked of an eventcount.

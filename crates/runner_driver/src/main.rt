@@ -7,7 +7,7 @@
 mod gate;
 mod running;
 
-use ec_script::{Plan, ScriptFault, parse};
+use ec_script::{ScriptFault, parse};
 use gate::rule_of;
 use running::run;
 use std::alloc::Global;
@@ -16,38 +16,9 @@ use std::io::{BufWriter, Read, Write};
 use std::process::ExitCode;
 use std::sync::Wait;
 use std::thread::Threads;
-use test_support::{Fault, status_of, word};
+use test_support::{Fault, status_of, tell, word};
 
-/// Parses a script.
-fn plan_of(alloc: Global, text: &str) -> Result<Plan, Fault> {
-    match parse(alloc, text.as_bytes()) {
-        Ok(plan) => Ok(plan),
-        Err(ScriptFault::Memory) => Err(Fault::Memory),
-        Err(_) => Err(Fault::Line),
-    }
-}
-
-/// Answers the lines behind a script.
-fn answer_lines<R: Threads + Wait + Sync, W: Write>(
-    rt: &R,
-    alloc: Global,
-    plan: &Plan,
-    lines: &str,
-    out: &mut W,
-) -> Result<(), Fault> {
-    let mut rules = Vec::new(alloc);
-    for line in lines.lines() {
-        let mut words = line.split_whitespace();
-        match word(&mut words) {
-            "hold" => rules.push(rule_of(&plan.heading, &mut words)?)?,
-            "run" => run(rt, alloc, plan, rules.as_slice(), &mut words, out)?,
-            _ => return Err(Fault::Line),
-        }
-    }
-    Ok(())
-}
-
-/// Answers a script and the lines behind it.
+/// Answers a script and the lines behind it, or writes what is wrong with the script.
 fn answer_all<R: Threads + Wait + Sync, W: Write>(
     rt: &R,
     alloc: Global,
@@ -57,8 +28,21 @@ fn answer_all<R: Threads + Wait + Sync, W: Write>(
     let Some((script, lines)) = text.split_once("gate\n") else {
         return Err(Fault::Line);
     };
-    let plan = plan_of(alloc, script)?;
-    answer_lines(rt, alloc, &plan, lines, out)
+    let plan = match parse(alloc, script.as_bytes()) {
+        Ok(plan) => plan,
+        Err(ScriptFault::Memory) => return Err(Fault::Memory),
+        Err(fault) => return tell(fault, out),
+    };
+    let mut rules = Vec::new(alloc);
+    for line in lines.lines() {
+        let mut words = line.split_whitespace();
+        match word(&mut words) {
+            "hold" => rules.push(rule_of(&plan.heading, &mut words)?)?,
+            "run" => run(rt, alloc, &plan, rules.as_slice(), &mut words, out)?,
+            _ => return Err(Fault::Line),
+        }
+    }
+    Ok(())
 }
 
 fn main(rt: HostRuntime) -> io::Result<ExitCode> {

@@ -4,14 +4,14 @@ use crate::gate::{Rule, Rules};
 use ec_core::{Act, Entry, Reply, Run};
 use ec_heading::Heading;
 use ec_machine::Outcome;
-use ec_runner::{Report, RunFault, run_workers};
+use ec_runner::{Report, run_workers};
 use ec_script::Plan;
 use ec_trace::write_entry;
 use std::alloc::Global;
 use std::io::Write;
 use std::sync::Wait;
 use std::thread::Threads;
-use test_support::{Fault, Words, number};
+use test_support::{Fault, Words, number, tell};
 
 /// Writes all entries of a run.
 fn write_entries<W: Write>(heading: &Heading, run: &Run, out: &mut W) -> Result<(), Fault> {
@@ -121,9 +121,7 @@ pub fn run<R: Threads + Wait + Sync, W: Write>(
     let gate = Rules::new(rules, workers);
     match run_workers(rt, alloc, plan, &gate, turns) {
         Ok(report) => write_report(plan, &report, &gate, words, out)?,
-        Err(RunFault::Memory) => writeln!(out, "no memory")?,
-        Err(RunFault::Spawn) => writeln!(out, "no thread")?,
-        Err(RunFault::Mismatch(_)) => writeln!(out, "a mismatch")?,
+        Err(fault) => tell(fault, out)?,
     }
     if gate.has_failed() {
         writeln!(out, "a rule was broken")?;

@@ -8,7 +8,7 @@ use std::io::Write;
 use test_support::{Fault, tell, write_buffer, write_database, write_semaphore};
 
 /// The last group of each sort.
-#[derive(Clone, Copy)]
+#[derive(Clone, Copy, Default)]
 pub struct Shapes {
     buffer: Option<BufferShape>,
     database: Option<DatabaseShape>,
@@ -17,16 +17,6 @@ pub struct Shapes {
 }
 
 impl Shapes {
-    /// Has no group.
-    pub fn new() -> Self {
-        Shapes {
-            buffer: None,
-            database: None,
-            semaphore: None,
-            both: None,
-        }
-    }
-
     /// Declares a group of a number that its line says.
     fn add<W: Write>(
         &mut self,

@@ -32,9 +32,9 @@ impl Table {
         Ok(Table {
             setup: no_declarations(),
             kept: no_declarations(),
-            shapes: Shapes::new(),
+            shapes: Shapes::default(),
             naming: Naming::new(alloc)?,
-            values: Values::new(),
+            values: Values::default(),
             texts: Texts::new(alloc),
         })
     }

@@ -5,7 +5,7 @@ use std::io::Write;
 use test_support::{Fault, tell_if};
 
 /// A count.
-#[derive(Clone, Copy)]
+#[derive(Clone, Copy, Default)]
 pub struct Values {
     count: Option<Count>,
 }
@@ -22,11 +22,6 @@ fn id_of(sort: &str, n: usize) -> Result<Option<usize>, Fault> {
 }
 
 impl Values {
-    /// Has no count.
-    pub fn new() -> Self {
-        Values { count: None }
-    }
-
     /// Writes the value of the count, and whether that is the limit.
     fn tell<W: Write>(&self, line: &mut Line<'_, W>) -> Result<(), Fault> {
         let Some(count) = &self.count else {
