@@ -109,8 +109,7 @@ impl Driver for Kernel {
 }
 
 impl Program for Kernel {
-    /// Answers the lines of a text. Those behind a line `machines` are for the machines of the
-    /// programs.
+    /// Has the lines behind a line `machines` answered by the machines of the programs.
     fn answer_text<W: Write>(
         alloc: Global,
         watched: bool,

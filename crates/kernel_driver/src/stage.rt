@@ -80,11 +80,10 @@ impl Stage {
     }
 }
 
-/// What lines behind a heading are about.
+/// What lines behind a heading are about. `copy` and `without` give the rest.
 #[derive(Drop)]
 pub struct Parts {
     pub stage: Stage,
-    /// The run that the last `copy` or `without` gave.
     rest: Option<Run>,
     works: Works,
     judged: Vec<Placed>,
@@ -113,8 +112,7 @@ impl Parts {
 
     /// Keeps the run without a silent worker.
     fn strike_out<W: Write>(&mut self, ask: &mut Ask<'_, W>) -> Result<(), Fault> {
-        let worker = worker(ask)?;
-        let run = self.stage.run()?;
+        let (worker, run) = (worker(ask)?, self.stage.run()?);
         if !run.is_silent(worker) {
             return tell("not silent", ask.out);
         }

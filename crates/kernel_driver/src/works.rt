@@ -190,13 +190,8 @@ impl Works {
             "turn" => {
                 let _progress = self.go_on(run, ask)?;
             }
-            "ended" => match self.list.get(ask.size()?) {
-                Some(
-                    Begun {
-                        work: Work::Snapshot(snapshot),
-                        ..
-                    },
-                ) => tell_end(snapshot, ask)?,
+            "ended" => match self.list.get(ask.size()?).map(|begun| &begun.work) {
+                Some(Work::Snapshot(snapshot)) => tell_end(snapshot, ask)?,
                 _ => return Err(Fault::Line),
             },
             _ => return Err(Fault::Line),

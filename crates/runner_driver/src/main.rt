@@ -16,7 +16,7 @@ use std::io::{BufWriter, Read, Write};
 use std::process::ExitCode;
 use std::sync::Wait;
 use std::thread::Threads;
-use test_support::{Fault, status_of, tell, word};
+use test_support::{Fault, status_of, word};
 
 /// Answers a script and the lines behind it, or writes what is wrong with the script.
 fn answer_all<R: Threads + Wait + Sync, W: Write>(
@@ -31,7 +31,11 @@ fn answer_all<R: Threads + Wait + Sync, W: Write>(
     let plan = match parse(alloc, script.as_bytes()) {
         Ok(plan) => plan,
         Err(ScriptFault::Memory) => return Err(Fault::Memory),
-        Err(fault) => return tell(fault, out),
+        Err(ScriptFault::At { line, kind }) => {
+            let fault = ScriptFault::At { line, kind };
+            writeln!(out, "{fault}, {} {}", kind.number(), kind.name())?;
+            return Ok(());
+        }
     };
     let mut rules = Vec::new(alloc);
     for line in lines.lines() {

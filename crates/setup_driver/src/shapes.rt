@@ -1,5 +1,5 @@
 //! The groups that were declared last, which may be asked of other declarations too.
-use crate::line::{Line, two_lists};
+use crate::line::{Line, Lists, two_lists};
 use ec_buffer::{BufferShape, declare_buffer};
 use ec_count::{Setup, SetupFault};
 use ec_database::{DatabaseShape, declare_database};
@@ -17,26 +17,24 @@ pub struct Shapes {
 }
 
 impl Shapes {
-    /// Declares a group of a number that its line says.
-    fn add<W: Write>(
+    /// Declares a group of a sort.
+    fn add(
         &mut self,
         setup: &mut Setup,
+        sort: &str,
         number: usize,
-        line: &mut Line<'_, W>,
-    ) -> Result<Result<(), SetupFault>, Fault> {
-        let lists = two_lists(line)?;
+        lists: &Lists,
+    ) -> Result<(), SetupFault> {
         let (first, second) = (&lists.first, &lists.second);
-        Ok(match line.verb {
-            "buffer" => declare_buffer(setup, number, first, second).map(|shape| self.buffer = Some(
-                shape,
-            )),
-            "database" => declare_database(setup, number, first, second).map(|shape| self.database =
-                Some(shape)),
-            "semaphore" => declare_semaphore(setup, number as u64, first).map(
-                |shape| self.semaphore = Some(shape),
-            ),
-            _ => declare_both(setup, first).map(|shape| self.both = Some(shape)),
-        })
+        match sort {
+            "buffer" => self.buffer = Some(declare_buffer(setup, number, first, second)?),
+            "database" => self.database = Some(declare_database(setup, number, first, second)?),
+            "semaphore" => {
+                self.semaphore = Some(declare_semaphore(setup, number as u64, first)?);
+            }
+            _ => self.both = Some(declare_both(setup, first)?),
+        }
+        Ok(())
     }
 
     /// Declares a group, if the line says that.
@@ -50,7 +48,8 @@ impl Shapes {
             "both" => 1,
             _ => return Ok(false),
         };
-        match self.add(setup, number, line)? {
+        let lists = two_lists(line)?;
+        match self.add(setup, line.verb, number, &lists) {
             Ok(()) => tell("declared", line.out)?,
             Err(fault) => tell(fault, line.out)?,
         }
