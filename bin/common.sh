@@ -44,19 +44,27 @@ crates_of() {
         }' crates.txt
 }
 
+# lines_of NAME: the lines of crates.txt of the crate NAME and of all that it stands on, in one order everywhere.
+lines_of() {
+    for crate in $(crates_of "$1" | LC_ALL=C sort); do
+        grep "^$crate[ :]" crates.txt
+    done
+}
+
 # sources_of NAME: the files that the crate NAME is made from, a line each, in one order everywhere.
 sources_of() {
-    echo crates.txt
     for crate in $(crates_of "$1" | LC_ALL=C sort); do
         find "crates/$crate" \( -name out -o -name must-fail \) -prune -o \
             \( -name '*.rt' -o -name '*.antt' \) -type f -print
     done | LC_ALL=C sort
 }
 
-# digest_of NAME: one sum over the kit's line and the names and contents of all that the crate NAME is made from.
+# digest_of NAME: one sum over the kit's line, the lines of crates.txt, and the names and contents of all that the crate
+# NAME is made from.
 digest_of() {
     {
         echo "$kit"
+        lines_of "$1"
         sources_of "$1" | tr '\n' '\0' | xargs -0 sha256sum
     } | sha256sum | cut -d ' ' -f 1
 }
