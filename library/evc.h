@@ -4,7 +4,7 @@
  *
  * Each call reads a text that you give, writes its answer into memory that you give, and returns a status. It keeps
  * nothing: two threads may call at once, each with memory of its own. It takes memory by malloc and lets go of all of
- * it. What a call promises is proved; docs/PROMISES.md says what that is.
+ * it. docs/PROMISES.md says what is proved of a call, and what is only tested.
  *
  *     uint8_t *text = malloc(EVC_ROOM(length)), notes[EVC_NOTES_ROOM];
  *     struct evc_written written;

@@ -2,8 +2,8 @@
 //!
 //!     rustc --edition 2021 --test my_test.rs -L FOLDER_OF_LIBEVC -l static=evc
 //!
-//! Plain Rust, this one module, no dependency. What the calls below it promise is proved (docs/PROMISES.md); this
-//! module is not. A call keeps nothing, so any threads may call at once.
+//! Plain Rust, this one module, no dependency. What is proved of the calls below it stands in docs/PROMISES.md; of this
+//! module nothing is. A call keeps nothing, so any threads may call at once.
 #![allow(dead_code)]
 
 use std::fmt;
