@@ -1,13 +1,14 @@
 /* tests/monitor.c: what tests/run-recorder asks of recorder/evc_monitor.h.
  *
- *     monitor KIND CLOCK MILLISECONDS OUT
+ *     monitor KIND CLOCK CALLS OUT
  *
- * Four threads use an eventcount, a sequencer and, as one in eight calls, a database, in rings that
- * are small. KIND is right; or with a bug: lost (one advance in 100 is lost), twice (so are
- * tickets drawn twice); or misused, or pending (a call is under way at the stop). The judge is
- * `evc-calls`; or with the word file, which comes after the kind as in right-file, the lines are
- * written into OUT; or with the word stop, it takes no more than 1000 lines. It says the status,
- * and the notes. Last it says whether its memory grew by more than 8 MB after the first tenth. */
+ * Four threads make so many calls each, of an eventcount, a sequencer and, as one in eight calls, a
+ * database, in rings that are small. KIND is right; or with a bug: lost (one advance in 100 is
+ * lost), twice (so are tickets drawn twice); or misused, or pending (a call is under way at the
+ * stop). The judge is `evc-calls`; or with the word file, which comes after the kind as in
+ * right-file, the lines are written into OUT; or with the word stop, it takes no more than 1000
+ * lines. It says the status, and the notes. Last it says whether its memory grew by more than 8 MB
+ * after the first tenth. */
 #include "../recorder/evc_monitor.h"
 /* (no names of these clash) */
 #include "../library/evc.h"
@@ -18,7 +19,8 @@
 static evc_calls calls;
 static evc_monitor_thread monitor;
 static const char *kind;
-static int E, T, D, has_ended;
+static int E, T, D, calls_to_make;
+static long memory_before;
 static uint64_t count, next, lines;
 static FILE *out;
 
@@ -58,22 +60,6 @@ static void call(evc_caller *w, uint64_t chance) {
     }
 }
 
-static void *run(void *given) {
-    evc_caller *w = (evc_caller *)given;
-    uint64_t chance = 0x9E3779B97F4A7C15u * (uint64_t)(w->number + 1), calls_made = 0;
-    while (!__atomic_load_n(&has_ended, __ATOMIC_ACQUIRE)) {
-        chance ^= chance << 13;
-        chance ^= chance >> 7;
-        chance ^= chance << 17;
-        call(w, chance >> 11);
-        if (is_kind("misused") && w->number == 2 && ++calls_made == 500)
-            evc_return_done(w);
-    }
-    if (is_kind("pending") && w->number == 1)
-        evc_call_await(w, E, 1000000000);
-    return NULL;
-}
-
 /* Returns the greatest memory so far, in KB. */
 static long memory(void) {
     struct rusage usage;
@@ -81,9 +67,22 @@ static long memory(void) {
     return usage.ru_maxrss;
 }
 
-static void nap(int milliseconds) {
-    for (int i = 0; i < milliseconds; i++)
-        evc_nap_(1000000);
+static void *run(void *given) {
+    evc_caller *w = (evc_caller *)given;
+    uint64_t chance = 0x9E3779B97F4A7C15u * (uint64_t)(w->number + 1);
+    for (int made = 0; made < calls_to_make; made++) {
+        chance ^= chance << 13;
+        chance ^= chance >> 7;
+        chance ^= chance << 17;
+        call(w, chance >> 11);
+        if (is_kind("misused") && w->number == 2 && made == 500)
+            evc_return_done(w);
+        if (w->number == 0 && made == calls_to_make / 10)
+            memory_before = memory();
+    }
+    if (is_kind("pending") && w->number == 1)
+        evc_call_await(w, E, 1000000000);
+    return NULL;
 }
 
 int main(int words, char **word) {
@@ -94,6 +93,7 @@ int main(int words, char **word) {
     if (words != 5)
         return 2;
     kind = word[1];
+    calls_to_make = atoi(word[3]);
     evc_calls_open(&calls, strcmp(word[2], "tsc") == 0 ? EVC_CALLS_TSC : EVC_CALLS_COUNTER, NULL);
     for (int i = 0; i < 4; i++) {
         snprintf(name, sizeof name, "w%d", i);
@@ -111,13 +111,9 @@ int main(int words, char **word) {
                                                          : evc_monitor_program_start(&program));
     for (int i = 0; i < 4; i++)
         pthread_create(&thread[i], NULL, run, w[i]);
-    nap(atoi(word[3]) / 10);
-    long before = memory();
-    nap(atoi(word[3]) * 9 / 10);
-    long grown = memory() - before;
-    __atomic_store_n(&has_ended, 1, __ATOMIC_RELEASE);
     for (int i = 0; i < 4; i++)
         pthread_join(thread[i], NULL);
+    long grown = memory() - memory_before;
     int status = evc_monitor_stop(&monitor);
     evc_monitor_pending(&monitor, note, sizeof note);
     printf("%d\n%s%s%s%s", status, program.note, monitor.note, *monitor.note ? "\n" : "", note);
