@@ -254,8 +254,8 @@ static inline enum evc_fault evc_first_fault(evc_record *r) {
     return fault;
 }
 
-/* Waits until so many threads are here, each time anew: before the first step, that they start at
- * once. */
+/* Waits until so many threads are here: before the first step, that they start at once. It can be
+ * used again. */
 static inline void evc_gate(evc_record *r, int threads) {
     pthread_mutex_lock(&r->lock);
     int all = (r->at_gate / threads + 1) * threads, here = ++r->at_gate;
@@ -332,7 +332,7 @@ EVC_FORMAT_(3) static inline void evc_pending(evc_record *r, int worker, const c
     va_end(more);
 }
 
-/* The step was told a number: the sum of a read or an await at its last step, a ticket, or the
+/* The step returned a number: the sum of a read or an await at its last step, a ticket, or the
  * value of a get. */
 EVC_FORMAT_(4)
 static inline void evc_number(evc_record *r, int worker, unsigned long long number, const char *act,

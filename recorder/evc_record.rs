@@ -201,7 +201,7 @@ impl Record {
         fault.map_or(Ok(bytes), Err)
     }
 
-    /// Ends the record, and writes the trace into a file: where there was a fault, the front up to
+    /// Ends the record, and writes the trace into a file: if there was a fault, the prefix up to
     /// it.
     pub fn write(self, path: impl AsRef<Path>) -> Result<(), Fault> {
         let (bytes, fault) = self.ended();

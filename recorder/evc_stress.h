@@ -1,8 +1,10 @@
 /* evc_stress.h: many short rounds of threads on fresh objects, each judged.
  *
  * C11 or C++17, gcc or clang, POSIX threads, with evc_calls.h. Nothing of it is proved: a history
- * is right or wrong because the judge says so. That is the program `evc-calls`, found on PATH or by
- * the variable EVC_CALLS, or a function of yours.
+ * is right or wrong because the judge says so.
+ *
+ *     #include "evc.h"                                        the library judges, in this process:
+ *     #include "evc_stress.h"                                 link it, as cc my_test.c libevc.a
  *
  *     static void fresh(void *mine) { .. }                    makes the eventcount new
  *     static void advance(void *mine) { .. }
@@ -11,6 +13,12 @@
  *
  *     evc_stress s = {.fresh = fresh, .advance = advance, .read = read, .await = await};
  *     return evc_stress_says(&s, evc_stress_run(&s));
+ *
+ * (In C++ set its fields one after another, as their order counts there.)
+ *
+ * JUDGES. Without evc.h before it the judge is the program `evc-calls`, found on PATH or by the
+ * variable EVC_CALLS. Or set `judge`: evc_stress_by_library, evc_stress_by_program, or a function
+ * of yours.
  *
  * SHAPES. EVC_STRESS_MIXED: half of the threads (`producers`) advance and read, the others read and
  * await. EVC_STRESS_RING: each thread awaits its turn and advances, so every wake-up is needed. For
@@ -30,7 +38,7 @@
 #include <sys/wait.h>
 
 /* Judges a history, or several, one after another. Returns 0 if each is linearizable, 1 if one is
- * refused, and else that there is no verdict. The note is one or more lines, ended by 0. */
+ * refused, and else that there is no verdict. The note is lines, ended by 0: why, or remarks. */
 typedef int (*evc_judge)(const char *text, size_t length, char *note, size_t room);
 
 /* Hands a text to the judge's input, and reads its notes. */
@@ -68,13 +76,38 @@ static inline int evc_stress_by_program(const char *text, size_t length, char *n
     if (child < 0 || waitpid(child, &status, 0) != child || !WIFEXITED(status))
         return snprintf(note, room, "the judge was stopped\n"), 4;
     if (WEXITSTATUS(status) == 127)
-        snprintf(note, room, "there is no program %.200s\n", program);
+        snprintf(note, room, "there is no program %.200s: %s\n", program,
+                 "set EVC_CALLS, or include evc.h first and link libevc");
     return WEXITSTATUS(status);
 }
 
+#ifdef EVC_H
+/* Judges by evc_calls_check of the library, in this process. */
+static inline int evc_stress_by_library(const char *text, size_t length, char *note, size_t room) {
+    const char *at = text, *end = text + length, *line;
+    size_t histories = 0;
+    for (; at < end && (line = (const char *)memchr(at, '\n', (size_t)(end - at))); at = line + 1)
+        histories += line - at == 3 && memcmp(at, "run", 3) == 0;
+    struct evc_written written = {0, 0};
+    size_t order_room = EVC_CALLS_ROOM(length, histories + 1);
+    uint8_t *order = (uint8_t *)malloc(order_room);
+    if (!order)
+        return snprintf(note, room, "no memory\n"), EVC_STATUS_NO_MEMORY;
+    int status = evc_calls_check((const uint8_t *)text, length, order, order_room, (uint8_t *)note,
+                                 room - 1, &written);
+    note[written.notes] = 0;
+    free(order);
+    return status;
+}
+#endif
+
 /* The judge where none is given. */
 #ifndef EVC_STRESS_JUDGE
+#ifdef EVC_H
+#define EVC_STRESS_JUDGE evc_stress_by_library
+#else
 #define EVC_STRESS_JUDGE evc_stress_by_program
+#endif
 #endif
 
 /* Where the pauses and choices of a thread come from. */
@@ -134,12 +167,13 @@ typedef struct evc_stress {
     int threads;   /* at most 16 [4] */
     int rounds;    /* [1000] */
     int room;      /* for the calls of a thread in a round [64] */
-    int batch;     /* so many rounds are judged together [20] */
+    int batch;     /* so many rounds are judged together [20 by the program, else 1] */
     int producers; /* so many threads advance, where the shape is mixed [half, rounded up] */
     uint64_t seed;
     double hang_seconds; /* without an invocation or a response [10]; it waits longer for threads
                             that the machine has not given their turn */
     const char *keep;    /* the file for a wrong history ["refused.calls"] */
+    const char *file;    /* keeps the record of the round, should the program die: for recover.c */
     enum evc_calls_clock clock;
     enum evc_stress_shape shape;
     evc_judge judge; /* [EVC_STRESS_JUDGE] */
@@ -227,14 +261,15 @@ static inline void evc_stress_ring_(evc_stress *s, evc_hand_ *h) {
 
 /* The threads. */
 
-/* Waits for a round, spinning. The last thread that comes opens for all. Returns 0 at the end. */
+/* Waits for a round, and then for the other threads, spinning. The last one that comes opens for
+ * all. Returns 0 at the end. */
 static inline int evc_stress_gate_(evc_stress *s, uint64_t round) {
     int spins = 0;
     while (__atomic_load_n(&s->begun, __ATOMIC_ACQUIRE) != round) {
         if (__atomic_load_n(&s->ends, __ATOMIC_ACQUIRE))
             return 0;
-        if (++spins % 2000 == 0)
-            sched_yield();
+        if (++spins > 2000)
+            evc_nap_(20000);
     }
     uint64_t all = round * (uint64_t)s->threads;
     uint64_t here = __atomic_add_fetch(&s->ready, 1, __ATOMIC_ACQ_REL);
@@ -277,25 +312,33 @@ static inline void *evc_stress_main_(void *given) {
     return NULL;
 }
 
-/* What a look at the threads of this process saw: of each, how long it has run, in ticks of 10 ms.
- */
+/* What a look at the threads of this process saw: of each, how long it has run, in ticks of 10 ms,
+ * and how often it was given a processor. */
 #define EVC_LOOK_THREADS_ 256
 typedef struct evc_look_ {
     long thread[EVC_LOOK_THREADS_];
-    unsigned long ticks[EVC_LOOK_THREADS_];
+    unsigned long ticks[EVC_LOOK_THREADS_], turns[EVC_LOOK_THREADS_];
     int count;
 } evc_look_;
 
-/* Returns whether a thread is ready to run, and how long it has run. */
-static inline int evc_thread_runs_(const char *thread, unsigned long *ticks) {
-    char path[64], text[512];
-    unsigned long user = 0, system = 0;
-    snprintf(path, sizeof path, "/proc/self/task/%.20s/stat", thread);
+/* Reads a file of a thread, as text. */
+static inline void evc_thread_file_(const char *thread, const char *name, char *text, size_t room) {
+    char path[64];
+    snprintf(path, sizeof path, "/proc/self/task/%.20s/%s", thread, name);
     int file = open(path, O_RDONLY);
-    ssize_t length = file < 0 ? -1 : read(file, text, sizeof text - 1);
+    ssize_t length = file < 0 ? -1 : read(file, text, room - 1);
     if (file >= 0)
         close(file);
     text[length < 0 ? 0 : length] = 0;
+}
+
+/* Returns whether a thread is ready to run, how long it has run and how often. */
+static inline int evc_thread_runs_(const char *thread, unsigned long *ticks, unsigned long *turns) {
+    char text[512];
+    unsigned long user = 0, system = 0;
+    evc_thread_file_(thread, "schedstat", text, sizeof text);
+    sscanf(text, "%*u %*u %lu", turns);
+    evc_thread_file_(thread, "stat", text, sizeof text);
     const char *state = strrchr(text, ')');
     if (!state || strlen(state) < 3)
         return 0;
@@ -314,15 +357,17 @@ static inline int evc_starved_(evc_look_ *look) {
     DIR *folder = opendir("/proc/self/task");
     look->count = 0;
     for (struct dirent *it; folder && (it = readdir(folder)) && look->count < EVC_LOOK_THREADS_;) {
-        unsigned long ticks = 0;
+        unsigned long ticks = 0, turns = 0;
         long thread = atol(it->d_name);
         if (thread == 0 || thread == syscall(SYS_gettid))
             continue;
-        int is_ready = evc_thread_runs_(it->d_name, &ticks), has_run = 0;
+        int is_ready = evc_thread_runs_(it->d_name, &ticks, &turns), has_run = 0;
         for (int i = 0; i < before.count; i++)
-            has_run |= before.thread[i] == thread && ticks >= before.ticks[i] + 2;
+            has_run |= before.thread[i] == thread &&
+                       (ticks >= before.ticks[i] + 2 || turns >= before.turns[i] + 20);
         starved += is_ready && !has_run;
         look->thread[look->count] = thread;
+        look->turns[look->count] = turns;
         look->ticks[look->count++] = ticks;
     }
     if (folder)
@@ -407,14 +452,12 @@ static inline enum evc_stress_result evc_stress_find_(evc_stress *s) {
     return evc_stress_no_(s, EVC_STRESS_NO_VERDICT, "the judge refuses them together only");
 }
 
-/* Judges the histories that wait. */
+/* Judges the histories that wait. If none is refused, the note has the judge's remarks. */
 static inline enum evc_stress_result evc_stress_judge_(evc_stress *s) {
     enum evc_stress_result result = EVC_STRESS_PASSED;
     s->note[0] = 0;
     if (s->waiting > 0 && s->judge(s->texts.bytes, s->texts.length, s->note, sizeof s->note) != 0)
         result = evc_stress_find_(s);
-    else
-        s->note[0] = 0;
     s->waiting = 0;
     s->texts.length = 0;
     s->texts.total = 0;
@@ -437,6 +480,19 @@ static inline enum evc_stress_result evc_stress_text_(evc_stress *s, uint64_t cu
                : evc_stress_no_(s, EVC_STRESS_NO_RECORD, evc_calls_fault_name(pass->fault));
 }
 
+/* Notes what is pending in a round that hung, and then what the judge has remarked on it. */
+static inline void evc_stress_pending_(evc_stress *s, const evc_pass_ *pass) {
+    char remarks[sizeof s->note];
+    memcpy(remarks, s->note, sizeof remarks);
+    if (pass->pending > 0)
+        evc_put_pending_(pass, 0, s->note, sizeof s->note);
+    else
+        snprintf(s->note, sizeof s->note, "no call is pending: a thread hangs between its calls\n");
+    size_t have = strlen(s->note), more = strlen(remarks), room = sizeof s->note - 1 - have;
+    memcpy(s->note + have, remarks, more < room ? more : room);
+    s->note[have + (more < room ? more : room)] = 0;
+}
+
 /* Judges a round that hung, with those that wait. If none is refused, it is kept as hung. */
 static inline enum evc_stress_result evc_stress_hung_(evc_stress *s) {
     evc_pass_ pass;
@@ -451,10 +507,7 @@ static inline enum evc_stress_result evc_stress_hung_(evc_stress *s) {
         result = evc_stress_judge_(s);
     if (result != EVC_STRESS_PASSED)
         return result;
-    if (pass.pending > 0)
-        evc_put_pending_(&pass, 0, s->note, sizeof s->note);
-    else
-        snprintf(s->note, sizeof s->note, "no call is pending: a thread hangs between its calls\n");
+    evc_stress_pending_(s, &pass);
     evc_stress_keep_(s, s->texts.bytes, length);
     return EVC_STRESS_HUNG;
 }
@@ -465,11 +518,11 @@ static inline void evc_stress_defaults_(evc_stress *s) {
     s->threads = s->threads ? s->threads : 4;
     s->rounds = s->rounds ? s->rounds : 1000;
     s->room = s->room ? s->room : 64;
-    s->batch = s->batch > 0 ? s->batch : 20;
     s->producers = s->producers ? s->producers : (s->threads + 1) / 2;
     s->hang_seconds = s->hang_seconds > 0 ? s->hang_seconds : 10;
     s->keep = s->keep ? s->keep : "refused.calls";
     s->judge = s->judge ? s->judge : EVC_STRESS_JUDGE;
+    s->batch = s->batch > 0 ? s->batch : s->judge == evc_stress_by_program ? 20 : 1;
     s->round = s->waiting = 0;
     s->calls = s->overlaps = s->begun = s->ready = s->left = s->ends = 0;
     s->overlap = s->seconds = 0;
@@ -485,7 +538,7 @@ static inline enum evc_stress_result evc_stress_begin_(evc_stress *s) {
     if (!s->work && !(s->advance && s->read && (s->await || s->shape == EVC_STRESS_MIXED)))
         return evc_stress_no_(s, EVC_STRESS_NO_RECORD, "there is nothing to call");
     s->starts = (size_t *)calloc((size_t)s->batch, sizeof *s->starts);
-    evc_calls_open(&s->record, s->clock, NULL);
+    evc_calls_open(&s->record, s->clock, s->file);
     for (int i = 0; i < s->threads; i++) {
         snprintf(name, sizeof name, "w%d", i);
         evc_hand_ hand = {s, evc_calls_worker(&s->record, name, (uint64_t)s->room), i, {0}};
@@ -524,6 +577,8 @@ static inline enum evc_stress_result evc_stress_run(evc_stress *s) {
         int is_due = s->waiting == s->batch || s->texts.length > 8000000 || s->round == s->rounds;
         if (result == EVC_STRESS_PASSED && is_due)
             result = evc_stress_judge_(s);
+        if (result == EVC_STRESS_PASSED)
+            s->note[0] = 0;
     }
     s->seconds = (double)(evc_nanoseconds_() - since) / 1e9;
     s->overlap = s->calls ? (double)s->overlaps / (double)s->calls : 0;

@@ -1,8 +1,11 @@
 //! Many short rounds of threads on fresh objects, each judged.
 //!
 //! Plain Rust, this module beside evc_calls.rs, no dependency. Nothing of it is proved: a history
-//! is right or wrong because the judge says so. That is the program `evc-calls`, found on PATH or
-//! by the variable EVC_CALLS, or a function of yours.
+//! is right or wrong because the judge says so.
+//!
+//!     mod evc; // library/evc.rs: with --cfg libevc the library judges, in this process
+//!     mod evc_calls;
+//!     mod evc_stress;
 //!
 //!     impl Eventcount for Mine {
 //!         fn fresh() -> Self { .. }
@@ -16,21 +19,25 @@
 //!         Stress::default().run::<Mine>().unwrap();
 //!     }
 //!
+//! Without `--cfg libevc` the judge is the program `evc-calls`, found on PATH or by the variable
+//! EVC_CALLS, and there is no need for evc.rs. Or set `judge`: to `by_library`, `by_program`, or a
+//! function of yours.
+//!
 //! `Shape::Mixed`: half of the threads (`producers`) advance and read, the others read and await.
-//! `Shape::Ring`: each thread awaits its turn and advances, so every wake-up is needed. `run_with` is
-//! for other objects. The head of recorder/evc_stress.h says more; the two do the same.
+//! `Shape::Ring`: each thread awaits its turn and advances, so every wake-up is needed. `run_with`
+//! is for other objects. The head of recorder/evc_stress.h says more; the two do the same.
 #![allow(dead_code)]
 
 use super::evc_calls::{self, Call, Clock, Fault, Idle, Record, Reply, Worker};
 use std::collections::HashMap;
 use std::fmt;
 use std::io::{Read, Write};
+use std::panic::{catch_unwind, AssertUnwindSafe};
 use std::path::PathBuf;
 use std::process::{Command, Stdio};
-use std::sync::atomic::{AtomicUsize, Ordering::SeqCst};
-use std::sync::mpsc::{channel, Receiver, RecvTimeoutError};
-use std::sync::Arc;
-use std::thread;
+use std::sync::atomic::{AtomicBool, AtomicUsize, Ordering::SeqCst};
+use std::sync::{Arc, Mutex, MutexGuard};
+use std::thread::{self, JoinHandle, Thread};
 use std::time::{Duration, Instant};
 
 /// An eventcount of yours.
@@ -48,11 +55,14 @@ pub enum Shape {
     Ring,
 }
 
-/// What a judge says of one history or several: the notes of the first one that is refused.
+/// What a judge says of one history or several, with its notes.
 #[derive(Clone, Debug, PartialEq, Eq)]
 pub enum Verdict {
-    Linearizable,
+    /// Each is linearizable: remarks, or nothing.
+    Linearizable(String),
+    /// One is not: why.
     Refused(String),
+    /// There is no verdict: why.
     None(String),
 }
 
@@ -62,9 +72,7 @@ pub struct Chance(u64);
 impl Chance {
     fn of(seed: u64, round: usize, thread: usize) -> Chance {
         let state = seed.wrapping_add(1).wrapping_mul(0x9E37_79B9_7F4A_7C15);
-        Chance(
-            state ^ (round as u64 + 1).wrapping_mul(0xD1B5_4A32_D192_ED03) ^ (thread as u64) << 17,
-        )
+        Chance(state ^ (round as u64).wrapping_mul(0xD1B5_4A32_D192_ED03) ^ (thread as u64) << 17)
     }
 
     pub fn below(&mut self, bound: u64) -> u64 {
@@ -100,8 +108,11 @@ pub struct Passed {
 pub enum Wrong {
     /// The round from 1, the judge's notes, and where the history is.
     Refused(usize, String, PathBuf),
-    /// The round, the calls that have not returned, and where the history is.
+    /// The round, the calls that have not returned with the judge's remarks, and where the history
+    /// is.
     Hung(usize, String, PathBuf),
+    /// The same, if a thread panicked: what it said is on standard error.
+    Panicked(usize, String, PathBuf),
     NoRecord(Fault),
     NoVerdict(String),
 }
@@ -114,6 +125,7 @@ impl fmt::Display for Wrong {
         match self {
             Wrong::Refused(round, note, path) => kept("REFUSED", round, note, path),
             Wrong::Hung(round, note, path) => kept("HUNG", round, note, path),
+            Wrong::Panicked(round, note, path) => kept("PANICKED", round, note, path),
             Wrong::NoRecord(fault) => write!(f, "no record: {fault}"),
             Wrong::NoVerdict(note) => write!(f, "no verdict: {note}"),
         }
@@ -137,7 +149,7 @@ pub struct Stress {
     pub rounds: usize,
     /// For the calls of a thread in a round.
     pub room: u32,
-    /// So many rounds are judged together.
+    /// So many rounds are judged together: 1 by the library, 20 by the program.
     pub batch: usize,
     /// So many threads advance, where the shape is mixed; 0 stands for half of them, rounded up.
     pub producers: usize,
@@ -147,6 +159,8 @@ pub struct Stress {
     pub hang: Duration,
     /// The file for a wrong history.
     pub keep: PathBuf,
+    /// Keeps the record of the round, should the program die: for recorder/recover.c.
+    pub file: Option<PathBuf>,
     pub clock: Clock,
     pub shape: Shape,
     pub judge: fn(&str) -> Verdict,
@@ -158,15 +172,29 @@ impl Default for Stress {
             threads: 4,
             rounds: 1000,
             room: 64,
-            batch: 20,
+            batch: if cfg!(libevc) { 1 } else { 20 },
             producers: 0,
             seed: 0,
             hang: Duration::from_secs(10),
             keep: "refused.calls".into(),
+            file: None,
             clock: Clock::Counter,
             shape: Shape::Mixed,
+            #[cfg(libevc)]
+            judge: by_library,
+            #[cfg(not(libevc))]
             judge: by_program,
         }
+    }
+}
+
+/// Judges by the library, in this process.
+#[cfg(libevc)]
+pub fn by_library(text: &str) -> Verdict {
+    match super::evc::check_calls(text.as_bytes()) {
+        Ok(ordered) => Verdict::Linearizable(ordered.remarks),
+        Err(super::evc::Fault::Refused(note)) => Verdict::Refused(note),
+        Err(fault) => Verdict::None(format!("{fault}\n")),
     }
 }
 
@@ -176,7 +204,8 @@ pub fn by_program(text: &str) -> Verdict {
     let mut command = Command::new(&program);
     command.arg("check").stdin(Stdio::piped()).stdout(Stdio::null()).stderr(Stdio::piped());
     let Ok(mut child) = command.spawn() else {
-        return Verdict::None(format!("there is no program {program}\n"));
+        let how = "set EVC_CALLS, or link libevc and use --cfg libevc";
+        return Verdict::None(format!("there is no program {program}: {how}\n"));
     };
     let mut note = String::new();
     if let Some(mut input) = child.stdin.take() {
@@ -186,7 +215,7 @@ pub fn by_program(text: &str) -> Verdict {
         let _ = notes.read_to_string(&mut note);
     }
     match child.wait().ok().and_then(|it| it.code()) {
-        Some(0) => Verdict::Linearizable,
+        Some(0) => Verdict::Linearizable(note),
         Some(1) => Verdict::Refused(note),
         _ => Verdict::None(note),
     }
@@ -237,19 +266,21 @@ impl Stress {
         fresh: impl Fn() -> T,
         work: impl Fn(&T, O, &mut Worker, usize, &mut Chance) + Send + Sync + 'static,
     ) -> Result<Passed, Wrong> {
-        let (work, mut waiting) = (Arc::new(work), Waiting::default());
+        let mut waiting = Waiting::default();
         let first = Record::new(self.clock).map_err(Wrong::NoRecord)?;
+        let threads = Threads::start(self.threads, self.seed, work).map_err(Wrong::NoRecord)?;
         let mut result = Ok(());
-        for round in 0..self.rounds {
-            result = self.round(&first, round, &declare, fresh(), &work, &mut waiting);
-            let is_due = waiting.texts.len() >= self.batch || round + 1 == self.rounds;
+        for round in 1..=self.rounds {
+            result = self.round(&first, round, &declare, fresh(), &threads, &mut waiting);
+            let is_due = waiting.texts.len() >= self.batch || round == self.rounds;
             if result.is_ok() && is_due {
-                result = self.judged(round + 1, &mut waiting.texts);
+                result = self.judged(round, &mut waiting.texts).map(drop);
             }
             if result.is_err() {
                 break;
             }
         }
+        threads.end();
         first.measured_again().map_err(Wrong::NoRecord)?;
         let overlap = waiting.overlaps as f64 / waiting.calls.max(1) as f64;
         result.map(|()| Passed { rounds: self.rounds, calls: waiting.calls, overlap })
@@ -262,86 +293,86 @@ impl Stress {
         round: usize,
         declare: &impl Fn(&mut Record) -> Result<O, Fault>,
         subject: T,
-        work: &Arc<impl Fn(&T, O, &mut Worker, usize, &mut Chance) + Send + Sync + 'static>,
+        threads: &Threads<T, O>,
         waiting: &mut Waiting,
     ) -> Result<(), Wrong> {
-        let mut record = first.another().map_err(Wrong::NoRecord)?;
+        let mut record = first.another(self.file.as_deref()).map_err(Wrong::NoRecord)?;
         let worker = |it| record.worker(&format!("w{it}"), self.room);
         let workers = (0..self.threads).map(worker).collect::<Result<Vec<_>, _>>();
         let workers = workers.map_err(Wrong::NoRecord)?;
         let objects = declare(&mut record).map_err(Wrong::NoRecord)?;
-        let (subject, gate, all) = (Arc::new(subject), Arc::new(AtomicUsize::new(0)), self.threads);
-        let (ended, ends) = channel();
-        for (number, mut w) in workers.into_iter().enumerate() {
-            let (subject, gate, ended) = (subject.clone(), gate.clone(), ended.clone());
-            let (work, mut chance) = (work.clone(), Chance::of(self.seed, round, number));
-            thread::spawn(move || {
-                evc_calls::spread(number);
-                pass_gate(&gate, all);
-                work(&subject, objects, &mut w, number, &mut chance);
-                let _ = ended.send(());
-            });
-        }
-        drop(ended);
-        if !self.have_ended(&record, &ends) {
-            return self.hung(round + 1, &record, waiting);
+        threads.begin(round, subject, objects, workers);
+        if !self.have_ended(&record, &threads.stage) {
+            return self.stopped(round, &record, &threads.stage, waiting);
         }
         let (text, cut) = record.unmeasured_text().map_err(Wrong::NoRecord)?;
         waiting.add(text);
         cut.map_or(Ok(()), |fault| Err(Wrong::NoRecord(fault)))
     }
 
-    /// Waits for all threads, and returns whether they ended before nothing moved for long.
-    fn have_ended(&self, record: &Record, ends: &Receiver<()>) -> bool {
-        let (mut before, mut left) = (0, self.threads);
+    /// Waits for all threads, and returns whether they ended: none panicked, and something moved.
+    fn have_ended<T, O>(&self, record: &Record, stage: &Stage<T, O>) -> bool {
         let mut idle = Idle::new(Duration::from_millis(20));
-        let (mut looks, mut seen) = (0, HashMap::new());
-        while left > 0 {
-            match ends.recv_timeout(Duration::from_millis(5)) {
-                Ok(()) => left -= 1,
-                Err(RecvTimeoutError::Disconnected) => return true, // (a thread panicked)
-                Err(RecvTimeoutError::Timeout) => {
-                    let moves = record.moves();
-                    let is_long = idle.grown(moves == before) > self.hang / 2;
-                    looks = if moves == before { looks } else { 0 };
-                    before = moves;
-                    if is_long {
-                        let starved = starved(&mut seen);
-                        if looks > 0 && (starved == 0 || looks > PATIENCE) {
-                            return false;
-                        }
-                        looks += 1;
-                        idle.grown(false);
-                    }
+        let (mut before, mut looks, mut seen) = (0, 0, HashMap::new());
+        while stage.left.load(SeqCst) > 0 {
+            thread::park_timeout(Duration::from_millis(5));
+            if stage.panicked.load(SeqCst) {
+                break;
+            }
+            let moves = record.moves();
+            let is_long = idle.grown(moves == before) > self.hang / 2;
+            looks = if moves == before { looks } else { 0 };
+            before = moves;
+            if is_long {
+                let starved = starved(&mut seen);
+                if looks > 0 && (starved == 0 || looks > PATIENCE) {
+                    return false;
                 }
+                looks += 1;
+                idle.grown(false);
             }
         }
-        true
+        !stage.panicked.load(SeqCst)
     }
 
-    /// Judges a round that hung, with those that wait. If none is refused, it is kept as hung.
-    fn hung(&self, round: usize, record: &Record, waiting: &mut Waiting) -> Result<(), Wrong> {
+    /// Judges a round that hung, or in which a thread panicked, with those that wait. If none is
+    /// refused, it is kept as that.
+    fn stopped<T, O>(
+        &self,
+        round: usize,
+        record: &Record,
+        stage: &Stage<T, O>,
+        waiting: &mut Waiting,
+    ) -> Result<(), Wrong> {
         self.judged(round - 1, &mut waiting.texts)?;
         let (text, pending) = record.text_so_far().map_err(Wrong::NoRecord)?;
         waiting.add(text.clone());
-        self.judged(round, &mut waiting.texts)?;
+        let remarks = self.judged(round, &mut waiting.texts)?;
+        let has_panicked = stage.panicked.load(SeqCst);
         let mut note: String = pending.iter().map(|it| format!("{it}\n")).collect();
-        if note.is_empty() {
+        if note.is_empty() && !has_panicked {
             note = "no call is pending: a thread hangs between its calls\n".into();
         }
-        Err(Wrong::Hung(round, note.clone(), self.kept(&text, &note)))
+        note += &remarks;
+        let path = self.kept(&text, &note);
+        let kind = if has_panicked { Wrong::Panicked } else { Wrong::Hung };
+        Err(kind(round, note, path))
     }
 
-    /// Judges the histories that wait, of which the last is of this round.
-    fn judged(&self, round: usize, texts: &mut Vec<String>) -> Result<(), Wrong> {
+    /// Judges the histories that wait, of which the last is of this round. Returns the judge's
+    /// remarks.
+    fn judged(&self, round: usize, texts: &mut Vec<String>) -> Result<String, Wrong> {
         let waiting = std::mem::take(texts);
-        if waiting.is_empty() || (self.judge)(&waiting.concat()) == Verdict::Linearizable {
-            return Ok(());
+        if waiting.is_empty() {
+            return Ok(String::new());
+        }
+        if let Verdict::Linearizable(remarks) = (self.judge)(&waiting.concat()) {
+            return Ok(remarks);
         }
         for (place, text) in waiting.iter().enumerate() {
             let of = round + 1 + place - waiting.len();
             match (self.judge)(text) {
-                Verdict::Linearizable => (),
+                Verdict::Linearizable(_) => (),
                 Verdict::Refused(note) => {
                     return Err(Wrong::Refused(of, note.clone(), self.kept(text, &note)));
                 }
@@ -365,43 +396,161 @@ impl Stress {
 /// How often a round is given more time for threads that have not had their turn.
 const PATIENCE: usize = 40;
 
-/// Returns whether a thread is ready to run, and for how many ticks of 10 ms it has run.
-fn look_at(thread: &str) -> Option<(bool, u64)> {
+/// For how many ticks of 10 ms a thread has run, and how often it was given a processor.
+#[derive(Clone, Copy)]
+struct Run {
+    ticks: u64,
+    turns: u64,
+}
+
+/// Returns whether a thread is ready to run, and how it has run.
+fn look_at(thread: &str) -> Option<(bool, Run)> {
     let text = std::fs::read_to_string(format!("/proc/self/task/{thread}/stat")).ok()?;
     let fields: Vec<&str> = text[text.rfind(')')? + 1..].split_whitespace().collect();
     let ticks = |place: usize| fields.get(place).and_then(|it| it.parse::<u64>().ok());
-    Some((*fields.first()? == "R", ticks(11)? + ticks(12)?))
+    let turns = std::fs::read_to_string(format!("/proc/self/task/{thread}/schedstat"));
+    let turns = turns.ok().and_then(|it| it.split_whitespace().nth(2)?.parse().ok()).unwrap_or(0);
+    Some((*fields.first()? == "R", Run { ticks: ticks(11)? + ticks(12)?, turns }))
 }
 
 /// Looks at all threads but the calling one. Returns how many are ready to run and have hardly run
 /// since the look before: a machine with other work has not given them their turn. (On Linux, else
 /// 0.)
-fn starved(seen: &mut HashMap<String, u64>) -> usize {
+fn starved(seen: &mut HashMap<String, Run>) -> usize {
     let own = std::fs::read_link("/proc/thread-self").unwrap_or_default();
     let (mut starved, mut looks) = (0, HashMap::new());
     for it in std::fs::read_dir("/proc/self/task").into_iter().flatten().flatten() {
         let thread = it.file_name().to_string_lossy().into_owned();
-        let Some((is_ready, ticks)) = look_at(&thread) else { continue };
+        let Some((is_ready, run)) = look_at(&thread) else { continue };
         if own.file_name() == Some(&it.file_name()) {
             continue;
         }
-        let has_run = seen.get(&thread).is_some_and(|before| ticks >= before + 2);
+        let has_run =
+            |before: &Run| run.ticks >= before.ticks + 2 || run.turns >= before.turns + 20;
+        let has_run = seen.get(&thread).is_some_and(has_run);
         starved += (is_ready && !has_run) as usize;
-        looks.insert(thread, ticks);
+        looks.insert(thread, run);
     }
     *seen = looks;
     starved
 }
 
-/// Waits for the others, spinning. The last one that comes opens for all.
-fn pass_gate(gate: &AtomicUsize, all: usize) {
-    gate.fetch_add(1, SeqCst);
-    let start = Instant::now();
-    while gate.load(SeqCst) < all {
-        if start.elapsed() > Duration::from_micros(50) {
-            thread::yield_now();
+// The threads of a test. Between two rounds they are parked.
+
+/// What one thread does a round with.
+type Given<T, O> = (Arc<T>, O, Worker);
+
+struct Stage<T, O> {
+    given: Vec<Mutex<Option<Given<T, O>>>>,
+    /// The round that has begun, from 1.
+    begun: AtomicUsize,
+    /// How often a thread came to the gate, in all rounds.
+    ready: AtomicUsize,
+    /// How many threads are in the round.
+    left: AtomicUsize,
+    panicked: AtomicBool,
+    ends: AtomicBool,
+    main: Thread,
+}
+
+struct Threads<T, O> {
+    stage: Arc<Stage<T, O>>,
+    running: Vec<JoinHandle<()>>,
+}
+
+impl<T: Send + Sync + 'static, O: Copy + Send + 'static> Threads<T, O> {
+    fn start(
+        threads: usize,
+        seed: u64,
+        work: impl Fn(&T, O, &mut Worker, usize, &mut Chance) + Send + Sync + 'static,
+    ) -> Result<Threads<T, O>, Fault> {
+        let stage = Arc::new(Stage {
+            given: (0..threads).map(|_| Mutex::new(None)).collect(),
+            begun: AtomicUsize::new(0),
+            ready: AtomicUsize::new(0),
+            left: AtomicUsize::new(0),
+            panicked: AtomicBool::new(false),
+            ends: AtomicBool::new(false),
+            main: thread::current(),
+        });
+        let (mut running, work) = (vec![], Arc::new(work));
+        for number in 0..threads {
+            let (stage, work) = (stage.clone(), work.clone());
+            let stays = move || stage.stay(number, seed, &*work);
+            running.push(thread::Builder::new().spawn(stays).map_err(|_| Fault::NoMemory)?);
+        }
+        Ok(Threads { stage, running })
+    }
+
+    fn begin(&self, round: usize, subject: T, objects: O, workers: Vec<Worker>) {
+        let subject = Arc::new(subject);
+        for (place, worker) in self.stage.given.iter().zip(workers) {
+            *locked(place) = Some((subject.clone(), objects, worker));
+        }
+        self.stage.left.store(self.running.len(), SeqCst);
+        self.stage.begun.store(round, SeqCst);
+        self.running.iter().for_each(|it| it.thread().unpark());
+    }
+
+    /// Ends the threads that are not in a round: of a round that hung they stay.
+    fn end(self) {
+        let is_round = self.stage.left.load(SeqCst) > 0;
+        self.stage.ends.store(true, SeqCst);
+        for it in self.running {
+            it.thread().unpark();
+            if !is_round {
+                let _ = it.join();
+            }
         }
     }
+}
+
+impl<T, O: Copy> Stage<T, O> {
+    /// Does what one thread does, round after round.
+    fn stay(
+        &self,
+        number: usize,
+        seed: u64,
+        work: &impl Fn(&T, O, &mut Worker, usize, &mut Chance),
+    ) {
+        evc_calls::spread(number);
+        for round in 1.. {
+            while self.begun.load(SeqCst) < round {
+                if self.ends.load(SeqCst) {
+                    return;
+                }
+                thread::park();
+            }
+            let Some((subject, objects, mut w)) = locked(&self.given[number]).take() else {
+                return;
+            };
+            let mut chance = Chance::of(seed, round, number);
+            self.pass_gate(round);
+            let work = || work(&subject, objects, &mut w, number, &mut chance);
+            if catch_unwind(AssertUnwindSafe(work)).is_err() {
+                self.panicked.store(true, SeqCst);
+            }
+            drop((subject, w));
+            self.left.fetch_sub(1, SeqCst);
+            self.main.unpark();
+        }
+    }
+
+    /// Waits for the others, spinning. The last one that comes opens for all.
+    fn pass_gate(&self, round: usize) {
+        let all = round * self.given.len();
+        let (start, mut here) = (Instant::now(), self.ready.fetch_add(1, SeqCst) + 1);
+        while here < all {
+            if start.elapsed() > Duration::from_micros(50) {
+                thread::yield_now();
+            }
+            here = self.ready.load(SeqCst);
+        }
+    }
+}
+
+fn locked<T>(mutex: &Mutex<T>) -> MutexGuard<'_, T> {
+    mutex.lock().unwrap_or_else(|it| it.into_inner())
 }
 
 // The shapes.

@@ -1,9 +1,9 @@
 /* A whole test of one's own eventcount: it passes. With the word `bug` it is refused, or hangs.
  *
- *     cc -std=c11 -pthread example_stress.c -o example_stress
- *     EVC_CALLS=evc-calls ./example_stress [bug]
+ *     cc -std=c11 example_stress.c $(pkg-config --cflags --libs evc) -o example_stress
  *
- * The program in EVC_CALLS judges. The harness is not proved. */
+ * The library judges, in this process. The harness is not proved. */
+#include "evc.h"
 #include "evc_stress.h"
 #include <stdatomic.h>
 
@@ -13,9 +13,9 @@ static int has_bug;
 static void fresh(void *mine) { atomic_store(&count, 0), (void)mine; }
 
 static void advance(void *mine) {
-    (void)mine;
+    uint64_t seen = ((void)mine, atomic_load(&count));
     if (has_bug)
-        atomic_store(&count, atomic_load(&count) + 1); /* another one may come in between */
+        sched_yield(), atomic_store(&count, seen + 1); /* others may come in between */
     else
         atomic_fetch_add(&count, 1);
 }

@@ -3,15 +3,17 @@
  *     stress KIND SHAPE CLOCK ROUNDS
  *
  * KIND is an eventcount: right, or with a bug: lost (it loads and stores), early (an await returns
- * one early), kept (a reader keeps what it saw), wake (it wakes one of all that sleep); or ticket
- * and lock, other objects with bugs; or full, misused, misnamed, silent, outside, faults of the
- * test itself: outside hangs between its calls. SHAPE is mixed or ring. */
+ * one early), kept (a reader keeps what it saw), wake (it wakes one of all that sleep), abort (it
+ * aborts in an advance of the third round, and the file x.record has that round); or ticket and
+ * lock, other objects with bugs; or full, misused, misnamed, silent, outside, faults of the test
+ * itself: outside hangs between its calls. SHAPE is mixed or ring. The judge is the library if the
+ * compiler was given evc.h before this. */
 #include "../recorder/evc_record.h"
 #include "../recorder/evc_stress.h"
 
 static const char *kind = "right";
 static uint64_t count, holds;
-static int object;
+static int object, rounds_begun;
 static pthread_mutex_t lock = PTHREAD_MUTEX_INITIALIZER;
 static pthread_cond_t reached = PTHREAD_COND_INITIALIZER;
 
@@ -35,6 +37,7 @@ static void fresh(void *mine) {
     (void)mine;
     store(&count, 0);
     store(&holds, 0);
+    rounds_begun++;
 }
 
 static void advance(void *mine) {
@@ -44,8 +47,8 @@ static void advance(void *mine) {
         add(&count, 0);
         pthread_cond_signal(&reached);
         pthread_mutex_unlock(&lock);
-    } else
-        add(&count, is_kind("lost"));
+    } else if (add(&count, is_kind("lost")) == 9 && is_kind("abort") && rounds_begun == 3)
+        abort();
 }
 
 static uint64_t read_count(void *mine) {
@@ -66,7 +69,7 @@ static uint64_t await(void *mine, uint64_t threshold) {
         return EVC_STRESS_DONE;
     }
     for (int looks = 0; load(&count) + (uint64_t)is_kind("early") < threshold; sched_yield())
-        if (is_kind("lost") && ++looks == 1000)
+        if (is_kind("lost") && ++looks == 30)
             return EVC_STRESS_TIMEOUT; /* (it may not come any more) */
     return is_kind("early") ? EVC_STRESS_DONE : load(&count);
 }
@@ -122,6 +125,7 @@ int main(int words, char **word) {
                                                   : EVC_CALLS_COUNTER;
     s.rounds = atoi(word[4]);
     s.hang_seconds = is_kind("wake") || is_kind("outside") ? 2 : 20;
+    s.file = is_kind("abort") ? "x.record" : NULL;
     s.fresh = fresh;
     s.advance = advance;
     s.read = read_count;

@@ -1,6 +1,9 @@
 //! tests/stress.rs: what tests/run-recorder asks of recorder/evc_stress.rs, by the words of
-//! tests/stress.c: KIND SHAPE CLOCK ROUNDS. KIND is right, lost, early, kept, wake, ticket, lock,
-//! full, misused, misnamed, silent or outside.
+//! tests/stress.c: KIND SHAPE CLOCK ROUNDS. KIND is right, lost, early, kept, wake, abort, ticket,
+//! lock, full, misused, misnamed, silent or outside; or panics: an advance of the third round does.
+#[cfg(libevc)]
+#[path = "../library/evc.rs"]
+mod evc;
 #[path = "../recorder/evc_calls.rs"]
 mod evc_calls;
 #[path = "../recorder/evc_stress.rs"]
@@ -15,6 +18,7 @@ use std::thread::yield_now;
 use std::time::Duration;
 
 static KIND: OnceLock<String> = OnceLock::new();
+static ROUNDS_BEGUN: AtomicU64 = AtomicU64::new(0);
 
 fn is(kind: &str) -> bool {
     KIND.get().is_some_and(|it| it == kind)
@@ -45,15 +49,20 @@ thread_local! {
 
 impl Eventcount for Count {
     fn fresh() -> Self {
+        ROUNDS_BEGUN.fetch_add(1, SeqCst);
         Count::default()
     }
 
     fn advance(&self) {
         let _guard = is("wake").then(|| self.lock.lock());
-        add(&self.count, is("lost"));
+        let dies = add(&self.count, is("lost")) == 9 && ROUNDS_BEGUN.load(SeqCst) == 3;
         if is("wake") {
             self.reached.notify_one();
         }
+        if dies && is("abort") {
+            std::process::abort();
+        }
+        assert!(!(dies && is("panics")), "this advance panics");
     }
 
     fn read(&self) -> u64 {
@@ -76,7 +85,7 @@ impl Eventcount for Count {
         let mut looks = 0;
         while self.count.load(SeqCst) + (is("early") as u64) < threshold {
             looks += 1;
-            if is("lost") && looks == 1000 {
+            if is("lost") && looks == 30 {
                 return Reply::Timeout; // (it may not come any more)
             }
             yield_now();
@@ -147,6 +156,7 @@ fn status(result: Result<Passed, Wrong>) -> i32 {
         Err(Wrong::Refused(..)) => 1,
         Err(Wrong::NoRecord(_)) => 2,
         Err(Wrong::Hung(..)) => 5,
+        Err(Wrong::Panicked(..)) => 6,
         _ => 3,
     }
 }
@@ -158,6 +168,7 @@ fn main() {
     let stress = Stress {
         rounds: rounds.parse().unwrap_or(1),
         hang: Duration::from_secs(if is("wake") || is("outside") { 2 } else { 20 }),
+        file: is("abort").then(|| "x.record".into()),
         shape: if shape == "ring" { Shape::Ring } else { Shape::Mixed },
         clock: match clock.as_str() {
             "tsc" => Clock::Tsc,

@@ -1,11 +1,11 @@
 /* real.h: what the programs of examples/real have in common: a table of objects, and their words.
  *
- *     PROGRAM                                           lists its objects
- *     PROGRAM OBJECT [THREADS [ROUNDS [CLOCK [SEED]]]]  tries one; CLOCK is counter, tsc or
- * monotonic
+ *     PROGRAM                                                   lists its objects
+ *     PROGRAM OBJECT [THREADS [ROUNDS [CLOCK [SEED [SHAPE]]]]]  tries one
  *
- * The status is that of evc_stress_says: 0 passed, 1 refused, 5 hung. A wrong history is kept as
- * OBJECT.calls. */
+ * CLOCK is counter, tsc or monotonic. SHAPE is mixed or, for an object that is listed with it,
+ * ring. The status is that of evc_stress_says: 0 passed, 1 refused, 5 hung. A wrong history is kept
+ * as OBJECT.calls. */
 #ifndef REAL_H
 #define REAL_H
 
@@ -37,10 +37,16 @@ static int chosen, threads;
         evc_return_done(worker);                                                                   \
     } while (0)
 
+/* Returns whether threads can take turns on an object: each of them advances and awaits. */
+static inline int real_has_ring(const real_object *it) {
+    return it->await != NULL && it->producers == 0;
+}
+
 static inline int real_list(const real_object *objects) {
     static const char *const kinds[] = {"right", "bug", "maybe"};
     for (; objects->name; objects++)
-        printf("%s %s\n", kinds[objects->kind], objects->name);
+        printf("%s %s%s\n", kinds[objects->kind], objects->name,
+               real_has_ring(objects) ? " ring" : "");
     return 0;
 }
 
@@ -62,6 +68,11 @@ static inline int real_main(int words, char **word, const real_object *objects,
         if (words > 4 && strcmp(word[4], clocks[i]) == 0)
             s.clock = (enum evc_calls_clock)i;
     s.seed = words > 5 ? strtoull(word[5], NULL, 10) : 0;
+    if (words > 6 && strcmp(word[6], "ring") == 0) {
+        if (!real_has_ring(objects))
+            return fprintf(stderr, "%s takes no turns\n", objects->name), 2;
+        s.shape = EVC_STRESS_RING;
+    }
     s.hang_seconds = 2;
     s.producers = objects->producers;
     snprintf(keep, sizeof keep, "%.50s.calls", objects->name);

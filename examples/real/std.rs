@@ -1,19 +1,23 @@
 //! std.rs: eventcounts over Rust's std: an atomic, a Mutex with a Condvar, an RwLock, and
 //! `thread::park`.
 //!
-//!     rustc -O --edition 2021 std.rs
-//!     std                                           lists its objects
-//!     std OBJECT [THREADS [ROUNDS [CLOCK [SEED]]]]  tries one; CLOCK is counter, tsc or monotonic
+//!     rustc -O --edition 2021 --cfg libevc std.rs -L FOLDER_OF_LIBEVC -l static=evc
+//!     std                                                   lists its objects
+//!     std OBJECT [THREADS [ROUNDS [CLOCK [SEED [SHAPE]]]]]  tries one
 //!
-//! Bugs: `rust_load_store` raises by a load and a store, `rust_condvar_one` wakes one, which may be
-//! one that waits for more. The status is 0 if it passed, 1 if it is refused, 5 if it hung.
+//! CLOCK is counter, tsc or monotonic. SHAPE is mixed or ring. Bugs: `rust_load_store` raises by a
+//! load and a store, `rust_condvar_one` wakes one, which may be one that waits for more. The status
+//! is 0 if it passed, 1 if it is refused, 5 if it hung.
+#[cfg(libevc)]
+#[path = "../../library/evc.rs"]
+mod evc;
 #[path = "../../recorder/evc_calls.rs"]
 mod evc_calls;
 #[path = "../../recorder/evc_stress.rs"]
 mod evc_stress;
 
 use evc_calls::{Clock, Reply};
-use evc_stress::{Eventcount, Passed, Stress, Wrong};
+use evc_stress::{Eventcount, Passed, Shape, Stress, Wrong};
 use std::sync::atomic::{AtomicU64, Ordering::SeqCst};
 use std::sync::{Condvar, Mutex, RwLock};
 use std::thread::{self, Thread};
@@ -151,6 +155,7 @@ fn says(result: Result<Passed, Wrong>) -> i32 {
         Err(Wrong::NoRecord(..)) => 2,
         Err(Wrong::NoVerdict(..)) => 3,
         Err(Wrong::Hung(..)) => 5,
+        Err(Wrong::Panicked(..)) => 6,
     };
     result.map_or_else(|wrong| eprintln!("{wrong}"), |_| ());
     status
@@ -159,7 +164,7 @@ fn says(result: Result<Passed, Wrong>) -> i32 {
 fn main() {
     let words: Vec<String> = std::env::args().skip(1).collect();
     let Some(name) = words.first() else {
-        OBJECTS.iter().for_each(|(kind, name, _)| println!("{kind} {name}"));
+        OBJECTS.iter().for_each(|(kind, name, _)| println!("{kind} {name} ring"));
         return;
     };
     let Some((_, _, run)) = OBJECTS.iter().find(|it| it.1 == name) else {
@@ -174,6 +179,7 @@ fn main() {
         seed: number(4, 0) as u64,
         hang: Duration::from_secs(2),
         keep: format!("{name}.calls").into(),
+        shape: if words.get(5).is_some_and(|it| it == "ring") { Shape::Ring } else { Shape::Mixed },
         clock: match words.get(3).map(String::as_str) {
             Some("tsc") => Clock::Tsc,
             Some("monotonic") => Clock::Monotonic,
