@@ -188,6 +188,7 @@ typedef struct evc_stress {
     int round; /* the last one, from 1 */
     uint64_t calls;
     double overlap, seconds;
+    int is_kept; /* a wrong history is in the file `keep` */
     char note[4096];
     /* Its own. */
     evc_calls record;
@@ -428,13 +429,17 @@ static inline int evc_stress_write_(const char *path, const char *bytes, size_t 
     return is_written;
 }
 
-/* Keeps a history, with its note. */
+/* Keeps a history, with its note: on standard error, if its file can't be written. */
 static inline void evc_stress_keep_(evc_stress *s, const char *text, size_t length) {
     char path[512];
     int fits = snprintf(path, sizeof path, "%s.note", s->keep) < (int)sizeof path;
-    if (!evc_stress_write_(s->keep, text, length) || !fits ||
-        !evc_stress_write_(path, s->note, strlen(s->note)))
-        fprintf(stderr, "could not write %s and its note\n", s->keep);
+    s->is_kept = evc_stress_write_(s->keep, text, length) && fits &&
+                 evc_stress_write_(path, s->note, strlen(s->note));
+    if (!s->is_kept) {
+        fprintf(stderr, "could not write %s and its note, so here it is\n", s->keep);
+        fflush(stderr);
+        evc_write_all_(2, text, length);
+    }
 }
 
 /* Finds the first wrong one of the histories that wait, and keeps it. */
@@ -523,7 +528,7 @@ static inline void evc_stress_defaults_(evc_stress *s) {
     s->keep = s->keep ? s->keep : "refused.calls";
     s->judge = s->judge ? s->judge : EVC_STRESS_JUDGE;
     s->batch = s->batch > 0 ? s->batch : s->judge == evc_stress_by_program ? 20 : 1;
-    s->round = s->waiting = 0;
+    s->round = s->waiting = s->is_kept = 0;
     s->calls = s->overlaps = s->begun = s->ready = s->left = s->ends = 0;
     s->overlap = s->seconds = 0;
     s->note[0] = 0;
@@ -602,7 +607,7 @@ static inline int evc_stress_says(const evc_stress *s, enum evc_stress_result re
             (unsigned long long)s->calls, s->overlap, s->seconds, s->note);
     if (result == EVC_STRESS_PASSED && s->overlap < 0.3)
         fprintf(stderr, "weak: the calls hardly overlapped\n");
-    if (result == EVC_STRESS_REFUSED || result == EVC_STRESS_HUNG)
+    if (s->is_kept)
         fprintf(stderr, "the history is in %s\n", s->keep);
     return (int)result;
 }

@@ -382,12 +382,13 @@ impl Stress {
         Err(Wrong::NoVerdict("the judge refuses them together only\n".into()))
     }
 
-    /// Keeps a history, with its note.
+    /// Keeps a history, with its note: on standard error, if its file can't be written.
     fn kept(&self, text: &str, note: &str) -> PathBuf {
         let mut path = self.keep.clone().into_os_string();
         path.push(".note");
         if std::fs::write(&self.keep, text).and_then(|()| std::fs::write(path, note)).is_err() {
-            eprintln!("could not write {} and its note", self.keep.display());
+            eprint!("could not write {} and its note, so here it is\n{text}", self.keep.display());
+            return "(standard error)".into();
         }
         self.keep.clone()
     }

@@ -4,10 +4,10 @@
  *
  * KIND is an eventcount: right, or with a bug: lost (it loads and stores), early (an await returns
  * one early), kept (a reader keeps what it saw), wake (it wakes one of all that sleep), abort (it
- * aborts in an advance of the third round, and the file x.record has that round); or ticket and
- * lock, other objects with bugs; or full, misused, misnamed, silent, outside, faults of the test
- * itself: outside hangs between its calls. SHAPE is mixed or ring. The judge is the library if the
- * compiler was given evc.h before this. */
+ * aborts in an advance of the third round, and the file x.record has that round); unkept (lost, and
+ * its history can't be written); or ticket and lock, other objects with bugs; or full, misused,
+ * misnamed, silent, outside, faults of the test itself: outside hangs between its calls. SHAPE is
+ * mixed or ring. The judge is the library if the compiler was given evc.h before this. */
 #include "../recorder/evc_record.h"
 #include "../recorder/evc_stress.h"
 
@@ -18,6 +18,7 @@ static pthread_mutex_t lock = PTHREAD_MUTEX_INITIALIZER;
 static pthread_cond_t reached = PTHREAD_COND_INITIALIZER;
 
 static int is_kind(const char *word) { return strcmp(kind, word) == 0; }
+static int has_bug(void) { return is_kind("lost") || is_kind("unkept"); }
 static uint64_t load(uint64_t *number) { return __atomic_load_n(number, __ATOMIC_SEQ_CST); }
 static void store(uint64_t *number, uint64_t value) {
     __atomic_store_n(number, value, __ATOMIC_SEQ_CST);
@@ -47,7 +48,7 @@ static void advance(void *mine) {
         add(&count, 0);
         pthread_cond_signal(&reached);
         pthread_mutex_unlock(&lock);
-    } else if (add(&count, is_kind("lost")) == 9 && is_kind("abort") && rounds_begun == 3)
+    } else if (add(&count, has_bug()) == 9 && is_kind("abort") && rounds_begun == 3)
         abort();
 }
 
@@ -69,7 +70,7 @@ static uint64_t await(void *mine, uint64_t threshold) {
         return EVC_STRESS_DONE;
     }
     for (int looks = 0; load(&count) + (uint64_t)is_kind("early") < threshold; sched_yield())
-        if (is_kind("lost") && ++looks == 30)
+        if (has_bug() && ++looks == 30)
             return EVC_STRESS_TIMEOUT; /* (it may not come any more) */
     return is_kind("early") ? EVC_STRESS_DONE : load(&count);
 }
@@ -126,6 +127,7 @@ int main(int words, char **word) {
     s.rounds = atoi(word[4]);
     s.hang_seconds = is_kind("wake") || is_kind("outside") ? 2 : 20;
     s.file = is_kind("abort") ? "x.record" : NULL;
+    s.keep = is_kind("unkept") ? "nowhere/refused.calls" : NULL;
     s.fresh = fresh;
     s.advance = advance;
     s.read = read_count;

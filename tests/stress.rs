@@ -1,6 +1,6 @@
 //! tests/stress.rs: what tests/run-recorder asks of recorder/evc_stress.rs, by the words of
-//! tests/stress.c: KIND SHAPE CLOCK ROUNDS. KIND is right, lost, early, kept, wake, abort, ticket,
-//! lock, full, misused, misnamed, silent or outside; or panics: an advance of the third round does.
+//! tests/stress.c: KIND SHAPE CLOCK ROUNDS. KIND is right, lost, early, kept, wake, abort, unkept,
+//! ticket, lock, full, misused, misnamed, silent or outside; or panics: an advance of the third round does.
 #[cfg(libevc)]
 #[path = "../library/evc.rs"]
 mod evc;
@@ -22,6 +22,10 @@ static ROUNDS_BEGUN: AtomicU64 = AtomicU64::new(0);
 
 fn is(kind: &str) -> bool {
     KIND.get().is_some_and(|it| it == kind)
+}
+
+fn has_bug() -> bool {
+    is("lost") || is("unkept")
 }
 
 /// Returns a number and adds one. With a bug others come in between.
@@ -55,7 +59,7 @@ impl Eventcount for Count {
 
     fn advance(&self) {
         let _guard = is("wake").then(|| self.lock.lock());
-        let dies = add(&self.count, is("lost")) == 9 && ROUNDS_BEGUN.load(SeqCst) == 3;
+        let dies = add(&self.count, has_bug()) == 9 && ROUNDS_BEGUN.load(SeqCst) == 3;
         if is("wake") {
             self.reached.notify_one();
         }
@@ -85,7 +89,7 @@ impl Eventcount for Count {
         let mut looks = 0;
         while self.count.load(SeqCst) + (is("early") as u64) < threshold {
             looks += 1;
-            if is("lost") && looks == 30 {
+            if has_bug() && looks == 30 {
                 return Reply::Timeout; // (it may not come any more)
             }
             yield_now();
@@ -165,7 +169,9 @@ fn main() {
     let words: Vec<String> = std::env::args().skip(1).collect();
     let [kind, shape, clock, rounds] = &words[..] else { std::process::exit(2) };
     let _ = KIND.set(kind.clone());
+    let keep = if is("unkept") { "nowhere/refused.calls" } else { "refused.calls" };
     let stress = Stress {
+        keep: keep.into(),
         rounds: rounds.parse().unwrap_or(1),
         hang: Duration::from_secs(if is("wake") || is("outside") { 2 } else { 20 }),
         file: is("abort").then(|| "x.record".into()),
