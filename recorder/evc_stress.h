@@ -263,7 +263,8 @@ static inline void evc_stress_ring_(evc_stress *s, evc_hand_ *h) {
 /* The threads. */
 
 /* Waits for a round, and then for the other threads, spinning. The last one that comes opens for
- * all. Returns 0 at the end. */
+ * all. If each thread can have a processor it spins for long, so that all start at once on a
+ * machine with other work too. Returns 0 at the end. */
 static inline int evc_stress_gate_(evc_stress *s, uint64_t round) {
     int spins = 0;
     while (__atomic_load_n(&s->begun, __ATOMIC_ACQUIRE) != round) {
@@ -274,8 +275,9 @@ static inline int evc_stress_gate_(evc_stress *s, uint64_t round) {
     }
     uint64_t all = round * (uint64_t)s->threads;
     uint64_t here = __atomic_add_fetch(&s->ready, 1, __ATOMIC_ACQ_REL);
+    int most = s->threads <= sysconf(_SC_NPROCESSORS_ONLN) ? 1000000 : 20000;
     for (spins = 0; here < all; here = __atomic_load_n(&s->ready, __ATOMIC_ACQUIRE))
-        if (++spins % 20000 == 0)
+        if (++spins % most == 0)
             sched_yield();
     return 1;
 }

@@ -537,12 +537,16 @@ impl<T, O: Copy> Stage<T, O> {
         }
     }
 
-    /// Waits for the others, spinning. The last one that comes opens for all.
+    /// Waits for the others, spinning. The last one that comes opens for all. If each thread can
+    /// have a processor it spins for long, so that all start at once on a machine with other work
+    /// too.
     fn pass_gate(&self, round: usize) {
         let all = round * self.given.len();
+        let processors = thread::available_parallelism().map_or(1, |it| it.get());
+        let most = if self.given.len() <= processors { 1000 } else { 50 };
         let (start, mut here) = (Instant::now(), self.ready.fetch_add(1, SeqCst) + 1);
         while here < all {
-            if start.elapsed() > Duration::from_micros(50) {
+            if start.elapsed() > Duration::from_micros(most) {
                 thread::yield_now();
             }
             here = self.ready.load(SeqCst);
