@@ -5,7 +5,13 @@
  *
  * Each row is a way to record, each pair of columns a loop: the call alone, and the call with 200
  * ns of other work. A figure is nanoseconds of a processor's time for each call, the least of 31
- * turns in which all rows take part, and how many times the bare call that is. */
+ * turns in which all rows take part, and how many times the bare call that is.
+ *
+ * Then the same for 1, 2, 4 and 8 threads that begin at once: first each with a counter of its own,
+ * so that they share the recorder's clock alone, and then all with one. It is the time of all
+ * threads together, by their calls, the median of 9 turns: a thread that waits for a cache line
+ * costs, and one that waits for a processor doesn't. So it says little of a machine whose
+ * processors are busy: there the threads hardly run at once. */
 #include "evc_calls.h"
 #include "evc_record.h"
 
@@ -24,6 +30,21 @@ static unsigned work; /* turns of a loop */
 static evc_calls calls;
 static evc_record steps;
 static int way, E;
+
+#define THREADS 8
+#define THREAD_CALLS 300000
+#define THREAD_TURNS 9
+
+/* A thread, with a counter on a cache line of its own. */
+typedef struct lane {
+    char before[128];
+    uint64_t own;
+    char after[128];
+    uint64_t *counter, took;
+    evc_caller *worker;
+} lane;
+static lane lanes[THREADS];
+static int at_gate, threads;
 
 static uint64_t own_time(void) {
     struct timespec now;
@@ -105,6 +126,77 @@ static void set_work(double nanoseconds) {
     work = (unsigned)(nanoseconds / (least / 1000000));
 }
 
+static void *run_lane(void *given) {
+    lane *it = (lane *)given;
+    __atomic_add_fetch(&at_gate, 1, __ATOMIC_SEQ_CST);
+    while (__atomic_load_n(&at_gate, __ATOMIC_ACQUIRE) < threads)
+        sched_yield();
+    uint64_t begun = own_time();
+    for (int i = 0; i < THREAD_CALLS; i++) {
+        do_work();
+        if (way != BARE)
+            evc_call_advance(it->worker, E);
+        __atomic_fetch_add(it->counter, 1, __ATOMIC_SEQ_CST);
+        if (way != BARE)
+            evc_return_done(it->worker);
+    }
+    it->took = own_time() - begun;
+    return NULL;
+}
+
+/* Returns the nanoseconds for each call of several threads. */
+static double turn_of_threads(int is_one) {
+    pthread_t thread[THREADS];
+    char name[8];
+    uint64_t took = 0;
+    at_gate = 0;
+    evc_calls_open(&calls, clocks[way], NULL);
+    for (int i = 0; i < threads; i++) {
+        snprintf(name, sizeof name, "w%d", i);
+        lanes[i].worker = evc_calls_worker(&calls, name, THREAD_CALLS);
+        lanes[i].counter = is_one ? &count : &lanes[i].own;
+    }
+    E = evc_calls_eventcount(&calls, "E", 0);
+    for (int i = 0; i < threads; i++)
+        pthread_create(&thread[i], NULL, run_lane, &lanes[i]);
+    for (int i = 0; i < threads; i++) {
+        pthread_join(thread[i], NULL);
+        took += lanes[i].took;
+    }
+    if (calls.fault != EVC_CALLS_OK)
+        printf("%s: there was a fault\n", names[way]);
+    evc_calls_close(&calls);
+    return (double)took / THREAD_CALLS / threads;
+}
+
+static int compare(const void *one, const void *other) {
+    double a = *(const double *)one, b = *(const double *)other;
+    return (a > b) - (a < b);
+}
+
+/* Shows what recording costs several threads. */
+static void show_threads(int is_one) {
+    double turns[WAYS][THREAD_TURNS], took[THREADS + 1][WAYS];
+    printf("\n%s, %-*s", is_one ? "one counter" : "own counters", is_one ? 11 : 10,
+           work ? "200 ns" : "alone");
+    for (threads = 1; threads <= THREADS; threads *= 2) {
+        printf(" %16d", threads);
+        for (int at = 0; at < THREAD_TURNS; at++)
+            for (way = BARE; way <= MONOTONIC; way++)
+                turns[way][at] = turn_of_threads(is_one);
+        for (way = BARE; way <= MONOTONIC; way++) {
+            qsort(turns[way], THREAD_TURNS, sizeof(double), compare);
+            took[threads][way] = turns[way][THREAD_TURNS / 2];
+        }
+    }
+    for (way = BARE; way <= MONOTONIC; way++) {
+        printf("\n%-24s", names[way]);
+        for (threads = 1; threads <= THREADS; threads *= 2)
+            printf(" %8.0f %6.1fx", took[threads][way], took[threads][way] / took[threads][BARE]);
+    }
+    printf("\n");
+}
+
 int main(void) {
     double least[2][WAYS];
     for (int loop = 0; loop < 2; loop++) {
@@ -123,5 +215,12 @@ int main(void) {
         for (int loop = 0; loop < 2; loop++)
             printf(" %9.0f %7.1fx", least[loop][way], least[loop][way] / least[loop][BARE]);
         printf("\n");
+    }
+    for (int loop = 0; loop < 2; loop++) {
+        work = 0;
+        if (loop == 1)
+            set_work(200);
+        show_threads(0);
+        show_threads(1);
     }
 }
