@@ -135,13 +135,14 @@ impl Eventcount for Parked {
 
 type Run = fn(&Stress) -> Result<Passed, Wrong>;
 
+/// Each object, with its kind. It has a ring if threads can take turns on it: no await gives up.
 const OBJECTS: [(&str, &str, Run); 6] = [
-    ("right", "rust_atomic", Stress::run::<Atomic<false>>),
-    ("right", "rust_condvar", Stress::run::<Guarded<false>>),
-    ("right", "rust_rwlock", Stress::run::<Shared>),
-    ("right", "rust_park", Stress::run::<Parked>),
+    ("right", "rust_atomic ring", Stress::run::<Atomic<false>>),
+    ("right", "rust_condvar ring", Stress::run::<Guarded<false>>),
+    ("right", "rust_rwlock ring", Stress::run::<Shared>),
+    ("right", "rust_park ring", Stress::run::<Parked>),
     ("bug", "rust_load_store", Stress::run::<Atomic<true>>),
-    ("bug", "rust_condvar_one", Stress::run::<Guarded<true>>),
+    ("bug", "rust_condvar_one ring", Stress::run::<Guarded<true>>),
 ];
 
 /// Says what came out, and returns the status for it.
@@ -164,10 +165,11 @@ fn says(result: Result<Passed, Wrong>) -> i32 {
 fn main() {
     let words: Vec<String> = std::env::args().skip(1).collect();
     let Some(name) = words.first() else {
-        OBJECTS.iter().for_each(|(kind, name, _)| println!("{kind} {name} ring"));
+        OBJECTS.iter().for_each(|(kind, name, _)| println!("{kind} {name}"));
         return;
     };
-    let Some((_, _, run)) = OBJECTS.iter().find(|it| it.1 == name) else {
+    let is_it = |it: &&(&str, &str, Run)| it.1.split(' ').next() == Some(name);
+    let Some((_, _, run)) = OBJECTS.iter().find(is_it) else {
         eprintln!("there is no object {name}");
         std::process::exit(2);
     };
