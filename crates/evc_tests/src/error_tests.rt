@@ -1,12 +1,10 @@
-//! The texts of errors.
-use crate::writing_tests::worker;
+//! The texts of errors that no row shows.
 use ec_core::{AuditFault, Refusal, StepFault};
-use ec_count::{AtLimit, NameFault, SetupFault};
+use ec_count::WorkerId;
 use ec_order::OrderFault;
-use ec_runner::{BoardFault, RunFault, SimFault};
-use ec_script::{Kind, ScriptFault};
+use ec_runner::{BoardFault, SimFault};
 use ec_text::WriteFault;
-use ec_trace::{HeadFault, TraceFault};
+use ec_trace::TraceFault;
 use std::alloc::Global;
 use std::fmt::Display;
 use std::test::Fail;
@@ -22,75 +20,23 @@ fn says(alloc: Global, error: &impl Display, wanted: &str) -> Result<(), Fail> {
 }
 
 #[test]
-fn errors_of_declarations(rt: HostRuntime) -> Result<(), Fail> {
+fn errors_that_no_row_shows(rt: HostRuntime) -> Result<(), Fail> {
     let alloc = rt.alloc();
-    says(alloc, &AtLimit, "the count is at its limit")?;
-    says(alloc, &SetupFault::Repeated, "a list names a worker twice")?;
-    says(alloc, &NameFault::BadName, "the word is no name")
-}
-
-#[test]
-fn errors_of_runs(rt: HostRuntime) -> Result<(), Fail> {
-    let alloc = rt.alloc();
-    let refused = StepFault::Refused(Refusal::Busy);
-    let broken = AuditFault::NotFollowed {
-        worker: worker(1),
-        entry: 10,
-    };
-    says(
-        alloc,
-        &refused,
-        "the step is refused: a call of the worker is under way",
-    )?;
+    let (worker, entry, place) = (WorkerId::new(1).unwrap(), 10, 3);
+    let busy = "the step is refused: a call of the worker is under way";
+    let full = "the step is refused: the count is at its limit";
+    let line = "line 8: refused: the count is at its limit";
+    let ended = "place 3 of the schedule names a worker that has ended";
+    let broken = AuditFault::NotFollowed { worker, entry };
+    says(alloc, &StepFault::Refused(Refusal::Busy), busy)?;
+    says(alloc, &BoardFault::Refused(Refusal::AtLimit), full)?;
+    says(alloc, &TraceFault::Refused(8, Refusal::AtLimit), line)?;
+    says(alloc, &SimFault::Ended { place, worker }, ended)?;
     says(
         alloc,
         &broken,
         "entry 10 breaks the call lists of its worker",
     )?;
-    says(alloc, &OrderFault::Memory, "memory was refused")
-}
-
-#[test]
-fn errors_of_texts(rt: HostRuntime) -> Result<(), Fail> {
-    let alloc = rt.alloc();
-    let refused = TraceFault::Refused(8, Refusal::AtLimit);
-    says(alloc, &WriteFault, "a write failed")?;
-    says(alloc, &HeadFault::BadLine, "bad line")?;
-    says(
-        alloc,
-        &refused,
-        "line 8: refused: the count is at its limit",
-    )
-}
-
-#[test]
-fn errors_of_scripts(rt: HostRuntime) -> Result<(), Fail> {
-    let alloc = rt.alloc();
-    let fault = ScriptFault::At {
-        line: 8,
-        kind: Kind::NoRight,
-    };
-    says(alloc, &Kind::BadNesting, "bad nesting")?;
-    says(alloc, &fault, "line 8: the worker lacks the right")
-}
-
-#[test]
-fn errors_of_workers(rt: HostRuntime) -> Result<(), Fail> {
-    let alloc = rt.alloc();
-    let refused = BoardFault::Refused(Refusal::AtLimit);
-    let ended = SimFault::Ended {
-        place: 3,
-        worker: worker(1),
-    };
-    says(
-        alloc,
-        &refused,
-        "the step is refused: the count is at its limit",
-    )?;
-    says(
-        alloc,
-        &ended,
-        "place 3 of the schedule names a worker that has ended",
-    )?;
-    says(alloc, &RunFault::Spawn, "a thread could not be started")
+    says(alloc, &OrderFault::Memory, "memory was refused")?;
+    says(alloc, &WriteFault, "a write failed")
 }

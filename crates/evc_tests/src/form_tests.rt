@@ -1,6 +1,5 @@
-//! What small types tell of themselves: sorts of declarations, versions, faults and statuses.
+//! What small types tell of themselves: sorts of declarations, versions and faults.
 use ec_trace::{HeadFault, Sort, Version};
-use evc_engine::Status;
 
 /// A sort by its word: whether it has a name, and whether its number may be 0.
 type Form = (&'static str, Sort, bool, bool);
@@ -37,31 +36,20 @@ fn forms_of_the_sorts(rt: HostRuntime) {
     assert!(rt; Sort::Database.needs_disjoint_lists() && !Sort::Cells.needs_disjoint_lists());
 }
 
-/// The greatest limit of each version, one more, and whether it has `hand`.
-static VERSIONS: [(Version, u64, u64, bool); 2] = [
-    (Version::One, 4_294_967_295, 4_294_967_296, false),
-    (Version::Two, 281_474_976_710_655, 281_474_976_710_656, true),
-];
-
-/// The limit that a version may have, as a number.
-fn limit_in(version: Version, n: u64) -> Option<u64> {
-    Some(version.limit(n)?.get())
-}
-
-/// Whether a version has these limits.
-fn has_limits(version: Version, greatest: u64, more: u64) -> bool {
+/// Whether a version has this greatest limit.
+fn has_limits(version: Version, greatest: u64) -> bool {
+    let has_limit = |n: u64| version.limit(n).map(|limit| limit.get()) == Some(n);
     version.greatest_limit() == greatest
-        && limit_in(version, 0).is_none()
-        && limit_in(version, 1) == Some(1)
-        && limit_in(version, greatest) == Some(greatest)
-        && limit_in(version, more).is_none()
+        && !has_limit(0)
+        && has_limit(1)
+        && has_limit(greatest)
+        && version.limit(greatest.saturating_add(1)).is_none()
 }
 
 #[test]
 fn each_version_has_its_limits(rt: HostRuntime) {
-    for (version, greatest, more, hand) in &VERSIONS {
-        assert!(rt; has_limits(*version, *greatest, *more) && version.has_hand() == *hand);
-    }
+    assert!(rt; has_limits(Version::One, 4_294_967_295) && !Version::One.has_hand());
+    assert!(rt; has_limits(Version::Two, 281_474_976_710_655) && Version::Two.has_hand());
 }
 
 static NUMBERS: [(HeadFault, Option<u64>); 8] = [
@@ -75,21 +63,9 @@ static NUMBERS: [(HeadFault, Option<u64>); 8] = [
     (HeadFault::Memory, None),
 ];
 
-static CODES: [(Status, u8); 6] = [
-    (Status::Done, 0),
-    (Status::Refused, 1),
-    (Status::Usage, 2),
-    (Status::InputOutput, 3),
-    (Status::Memory, 4),
-    (Status::Stopped, 5),
-];
-
 #[test]
-fn faults_and_statuses_tell_their_numbers(rt: HostRuntime) {
+fn faults_tell_their_numbers(rt: HostRuntime) {
     for (fault, number) in &NUMBERS {
         assert!(rt; fault.number() == *number, "of {fault}");
-    }
-    for (status, code) in &CODES {
-        assert_eq!(rt; status.code(), *code);
     }
 }

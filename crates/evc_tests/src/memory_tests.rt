@@ -1,23 +1,31 @@
 //! Commands called on bytes in memory.
-use crate::texts::{BUFFER, BUFFER_AUDIT, TICKETS};
 use ec_text::Out;
 use evc_engine::{Status, audit};
 use evc_scripts::engine_without_threads;
 use evc_task::Task;
 
+/// A trace of a semaphore that nobody uses.
+const UNUSED: &str = "evc-trace 1\nlimit 10\nworkers a\nsemaphore S 1 use a\nrun\nend\n";
+
+/// Its audit.
+const UNUSED_AUDIT: &str = "evc-audit 1\nbalance S 1 0 0 1\nend\n";
+
+/// A script of no programs.
+const IDLE: &str = "evc-script 1\nlimit 10\nworkers a\n";
+
 #[test]
 fn an_audit_of_bytes_in_memory(rt: HostRuntime) {
     let mut out = Vec::new(rt.alloc());
     let mut told = Vec::<u8>::new(rt.alloc());
-    let mut reader = BUFFER.as_bytes();
+    let mut reader = UNUSED.as_bytes();
     let status = audit(rt.alloc(), &mut reader, &mut out, &mut Out::new(&mut told));
-    assert!(rt; status == Status::Done && out.as_slice() == BUFFER_AUDIT.as_bytes());
+    assert!(rt; status == Status::Done && out.as_slice() == UNUSED_AUDIT.as_bytes());
     assert!(rt; told.is_empty());
 }
 
 #[test]
 fn a_run_is_left_to_threads(rt: HostRuntime) {
-    let text = TICKETS.as_bytes();
+    let text = IDLE.as_bytes();
     let mut reader = text;
     let mut out = Vec::<u8>::new(rt.alloc());
     let mut told = Vec::<u8>::new(rt.alloc());

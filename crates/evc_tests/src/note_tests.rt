@@ -1,22 +1,60 @@
-//! The note of a mismatch. No run is known to come to one, so the note is written by itself.
-use crate::fakes::Fickle;
-use crate::texts::OVERTAKEN_READ;
-use crate::writing_tests::{read, worker};
-use ec_text::Out;
+//! The note of a mismatch, which no run is known to come to, and what is put after a failed write.
+use ec_count::WorkerId;
+use ec_text::{Out, ShortText};
+use ec_trace::read_trace;
 use evc_scripts::note_mismatch;
 use std::alloc::Global;
-use std::io::Write;
+use std::io;
+use std::io::{ErrorKind, Write};
 use std::test::Fail;
 
-/// Notes a mismatch of the worker of each number, by the names of a worked trace.
-fn note_each<N: Write>(
-    alloc: Global,
-    notes: &mut Out<'_, N>,
-    numbers: &[usize],
-) -> Result<(), Fail> {
-    let traced = read(alloc, OVERTAKEN_READ)?;
-    for n in numbers {
-        note_mismatch(notes, traced.heading(), worker(*n));
+/// A writer that takes at most so many bytes at a time. One of its writes, by number from 0, fails.
+#[derive(Drop)]
+struct Fickle {
+    bytes: Vec<u8>,
+    most: usize,
+    at: usize,
+    writes: usize,
+}
+
+impl Fickle {
+    fn new(alloc: Global, most: usize, at: usize) -> Self {
+        Fickle {
+            bytes: Vec::new(alloc),
+            most,
+            at,
+            writes: 0,
+        }
+    }
+}
+
+impl Write for Fickle {
+    fn write(&mut self, buf: &[u8]) -> io::Result<usize> {
+        let number = self.writes;
+        self.writes = number.saturating_add(1);
+        if number == self.at {
+            return Err(io::Error::from(ErrorKind::BrokenPipe));
+        }
+        let n = buf.len().min(self.most);
+        self.bytes.extend_from_slice(&buf[..n])?;
+        Ok(n)
+    }
+
+    fn flush(&mut self) -> io::Result<()> {
+        Ok(())
+    }
+}
+
+/// A trace with two workers and no entry.
+const TWO_WORKERS: &str = "evc-trace 1\nlimit 10\nworkers a b\nrun\nend\n";
+
+/// Notes a mismatch of the second worker, so often.
+fn note<N: Write>(alloc: Global, notes: &mut Out<'_, N>, times: usize) -> Result<(), Fail> {
+    let Ok(traced) = read_trace(alloc, &mut TWO_WORKERS.as_bytes()) else {
+        return Err(Fail::new("no trace"));
+    };
+    for _ in 0..times {
+        note_mismatch(notes, traced.heading(), WorkerId::new(1).unwrap());
     }
     Ok(())
 }
@@ -24,7 +62,7 @@ fn note_each<N: Write>(
 #[test]
 fn a_mismatch_is_noted(rt: HostRuntime) -> Result<(), Fail> {
     let mut told = Vec::new(rt.alloc());
-    note_each(rt.alloc(), &mut Out::new(&mut told), &[1])?;
+    note(rt.alloc(), &mut Out::new(&mut told), 1)?;
     assert!(rt; told.as_slice() == b"mismatch b\n".as_slice());
     Ok(())
 }
@@ -32,7 +70,22 @@ fn a_mismatch_is_noted(rt: HostRuntime) -> Result<(), Fail> {
 #[test]
 fn a_mismatch_is_noted_up_to_a_failed_write(rt: HostRuntime) -> Result<(), Fail> {
     let mut told = Fickle::new(rt.alloc(), 1, 4);
-    note_each(rt.alloc(), &mut Out::new(&mut told), &[1, 2])?;
+    note(rt.alloc(), &mut Out::new(&mut told), 2)?;
     assert!(rt; told.bytes.as_slice() == b"mism".as_slice());
+    Ok(())
+}
+
+#[test]
+fn nothing_is_written_after_a_failure(rt: HostRuntime) -> Result<(), Fail> {
+    let mut text = ShortText::new();
+    assert!(rt; text.take_in(b"abcdefghijklmnopqrstuvwxyz012345"));
+    let mut writer = Fickle::new(rt.alloc(), 8192, 0);
+    let mut out = Out::new(&mut writer);
+    for _ in 0..1000 {
+        out.put_short(&text);
+        out.put(b"\n");
+    }
+    assert!(rt; out.finish().is_err());
+    assert!(rt; writer.bytes.is_empty());
     Ok(())
 }

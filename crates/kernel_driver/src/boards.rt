@@ -1,54 +1,50 @@
 //! What a board is asked.
-use crate::ids::worker;
-use crate::writing::write_worker;
+use crate::ask::{Ask, worker};
+use crate::writing::put_worker;
 use ec_count::WorkerId;
-use ec_heading::Heading;
-use ec_runner::{Board, Parked};
+use ec_runner::Board;
 use std::io::Write;
-use test_support::{Fault, Words};
+use test_support::{Fault, tell};
 
 /// Writes who waits.
-fn write_waiting<W: Write>(heading: &Heading, board: &Board, out: &mut W) -> Result<(), Fault> {
-    write!(out, "waiting")?;
+fn tell_waiting<W: Write>(board: &Board, ask: &mut Ask<'_, W>) -> Result<(), Fault> {
+    write!(ask.out, "waiting")?;
     for n in 0..16 {
         if let Some(worker) = WorkerId::new(n) {
             if board.is_waiting(worker) {
-                write!(out, " ")?;
-                write_worker(out, heading, worker)?;
+                write!(ask.out, " ")?;
+                put_worker(worker, ask)?;
             }
         }
     }
-    writeln!(out)?;
-    Ok(())
-}
-
-/// Returns the name of what a worker that would wait is told.
-fn name_of(parked: Parked) -> &'static str {
-    match parked {
-        Parked::Stuck => "stuck",
-        Parked::Ready => "ready",
-        Parked::Asleep => "asleep",
-    }
+    tell("", ask.out)
 }
 
 /// Makes a call of a board, if the line is one.
-pub fn answer_board<W: Write>(
-    heading: &Heading,
-    board: &mut Board,
-    verb: &str,
-    words: &mut Words<'_>,
-    out: &mut W,
-) -> Result<bool, Fault> {
-    match verb {
-        "waiting" => write_waiting(heading, board, out)?,
-        "stuck" => writeln!(out, "{}", board.is_stuck())?,
+pub fn answer_board<W: Write>(board: &mut Board, ask: &mut Ask<'_, W>) -> Result<(), Fault> {
+    match ask.verb {
+        "waiting" => tell_waiting(board, ask),
+        "stuck" => tell(board.is_stuck(), ask.out),
         "park" => {
-            let parked = board.park(worker(heading, words)?);
-            writeln!(out, "{}", name_of(parked))?;
+            let parked = board.park(worker(ask)?);
+            tell(format_args!("{parked:?}"), ask.out)
         }
-        "leave" => board.leave(worker(heading, words)?),
-        "live" => writeln!(out, "{}", board.is_live(worker(heading, words)?))?,
-        _ => return Ok(false),
+        "live" => tell(board.is_live(worker(ask)?), ask.out),
+        "leave" => {
+            board.leave(worker(ask)?);
+            Ok(())
+        }
+        _ => Err(Fault::Line),
     }
-    Ok(true)
+}
+
+/// Writes all that a board is asked beside its run.
+pub fn tell_board<W: Write>(board: &Board, ask: &mut Ask<'_, W>) -> Result<(), Fault> {
+    for n in 0..16 {
+        if let Some(worker) = WorkerId::new(n) {
+            tell(board.is_live(worker), ask.out)?;
+        }
+    }
+    tell(board.is_stuck(), ask.out)?;
+    tell_waiting(board, ask)
 }

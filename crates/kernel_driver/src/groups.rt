@@ -1,153 +1,106 @@
 //! The audits of buffers, databases and semaphores.
-use crate::ids::{buffer, database, semaphore, semaphore_of};
-use crate::writing::{write_sequencer, write_worker};
-use ec_buffer::{BufferShape, deliveries};
+use crate::ask::{Ask, buffer, database, semaphore, semaphore_of};
+use crate::writing::{put_sequencer, put_worker};
+use ec_buffer::{Delivery, deliveries};
 use ec_core::{AuditFault, Run};
-use ec_database::{DatabaseShape, versions};
-use ec_heading::Heading;
-use ec_semaphore::{SemaphoreShape, balance, pairs};
+use ec_database::{Accepted, versions};
+use ec_semaphore::{Balance, Pair, SemaphoreShape, balance, pairs};
 use std::alloc::Global;
 use std::io::Write;
-use test_support::{Fault, Words};
+use test_support::Fault;
 
 /// Writes whose entry is the first that breaks the lists.
-fn write_break<W: Write>(heading: &Heading, fault: AuditFault, out: &mut W) -> Result<(), Fault> {
+fn tell_break<W: Write>(fault: AuditFault, ask: &mut Ask<'_, W>) -> Result<(), Fault> {
     match fault {
         AuditFault::Memory => Err(Fault::Memory),
         AuditFault::NotFollowed { worker, entry } => {
-            write!(out, "not followed: worker ")?;
-            write_worker(out, heading, worker)?;
-            writeln!(out, " entry {entry}")?;
+            write!(ask.out, "not followed: worker ")?;
+            put_worker(worker, ask)?;
+            writeln!(ask.out, " entry {entry}")?;
             Ok(())
         }
     }
 }
 
-/// Writes the deliveries of a buffer: number, producer, consumer and item.
-fn write_deliveries<W: Write>(
-    alloc: Global,
-    heading: &Heading,
-    run: &Run,
-    shape: &BufferShape,
-    out: &mut W,
-) -> Result<(), Fault> {
-    let found = match deliveries(alloc, run, shape) {
-        Ok(found) => found,
-        Err(fault) => return write_break(heading, fault, out),
-    };
-    for delivery in found.as_slice() {
-        write!(out, "{} ", delivery.number)?;
-        write_worker(out, heading, delivery.producer)?;
-        write!(out, " ")?;
-        write_worker(out, heading, delivery.consumer)?;
-        writeln!(out, " {}", delivery.item)?;
+/// Writes deliveries: number, producer, consumer and item.
+fn tell_deliveries<W: Write>(found: &[Delivery], ask: &mut Ask<'_, W>) -> Result<(), Fault> {
+    for delivery in found {
+        write!(ask.out, "{} ", delivery.number)?;
+        put_worker(delivery.producer, ask)?;
+        write!(ask.out, " ")?;
+        put_worker(delivery.consumer, ask)?;
+        writeln!(ask.out, " {}", delivery.item)?;
     }
     Ok(())
 }
 
-/// Writes the accepting tries of a database: version, reader and values.
-fn write_versions<W: Write>(
-    alloc: Global,
-    heading: &Heading,
-    run: &Run,
-    shape: &DatabaseShape,
-    out: &mut W,
-) -> Result<(), Fault> {
-    let found = match versions(alloc, run, shape) {
-        Ok(found) => found,
-        Err(fault) => return write_break(heading, fault, out),
-    };
-    for accepted in found.as_slice() {
-        write!(out, "{} ", accepted.version)?;
-        write_worker(out, heading, accepted.worker)?;
+/// Writes accepting tries: version, reader and values.
+fn tell_versions<W: Write>(found: &[Accepted], ask: &mut Ask<'_, W>) -> Result<(), Fault> {
+    for accepted in found {
+        write!(ask.out, "{} ", accepted.version)?;
+        put_worker(accepted.worker, ask)?;
         for value in accepted.values.as_slice() {
-            write!(out, " {value}")?;
+            write!(ask.out, " {value}")?;
         }
-        writeln!(out)?;
+        writeln!(ask.out)?;
     }
     Ok(())
 }
 
-/// Writes the balance of a semaphore: initial value, downs and ups.
-fn write_balance<W: Write>(
-    heading: &Heading,
-    run: &Run,
-    shape: &SemaphoreShape,
-    out: &mut W,
-) -> Result<(), Fault> {
-    match balance(run, shape) {
-        Ok(found) => {
-            writeln!(out, "{} {} {}", found.initial, found.downs, found.ups)?;
-            Ok(())
-        }
-        Err(fault) => write_break(heading, fault, out),
-    }
+/// Writes a balance: initial value, downs and ups.
+fn tell_balance<W: Write>(found: &Balance, ask: &mut Ask<'_, W>) -> Result<(), Fault> {
+    writeln!(ask.out, "{} {} {}", found.initial, found.downs, found.ups)?;
+    Ok(())
 }
 
-/// Writes the pairs on semaphores: worker, and each sequencer with its ticket.
-fn write_pairs<W: Write>(
-    alloc: Global,
-    heading: &Heading,
-    run: &Run,
-    common: &SemaphoreShape,
-    shapes: &[SemaphoreShape],
-    out: &mut W,
-) -> Result<(), Fault> {
-    let found = match pairs(alloc, run, common, shapes) {
-        Ok(found) => found,
-        Err(fault) => return write_break(heading, fault, out),
-    };
-    for pair in found.as_slice() {
-        write_worker(out, heading, pair.worker)?;
-        write!(out, " ")?;
-        write_sequencer(out, heading, pair.first)?;
-        write!(out, " {} ", pair.first_ticket)?;
-        write_sequencer(out, heading, pair.second)?;
-        writeln!(out, " {}", pair.second_ticket)?;
+/// Writes pairs of tickets: worker, and each sequencer with its ticket.
+fn tell_pairs<W: Write>(found: &[Pair], ask: &mut Ask<'_, W>) -> Result<(), Fault> {
+    for pair in found {
+        put_worker(pair.worker, ask)?;
+        write!(ask.out, " ")?;
+        put_sequencer(pair.first, ask)?;
+        write!(ask.out, " {} ", pair.first_ticket)?;
+        put_sequencer(pair.second, ask)?;
+        writeln!(ask.out, " {}", pair.second_ticket)?;
     }
     Ok(())
 }
 
-/// Writes the pairs on the semaphores that are named, and whose common one is `both`.
-fn answer_pairs<W: Write>(
+/// Reads semaphores.
+fn semaphores_of<W: Write>(
     alloc: Global,
-    heading: &Heading,
-    run: &Run,
-    words: &mut Words<'_>,
-    out: &mut W,
-) -> Result<(), Fault> {
-    let common = semaphore_of(heading, "both")?;
+    ask: &mut Ask<'_, W>,
+) -> Result<Vec<SemaphoreShape>, Fault> {
     let mut shapes = Vec::new(alloc);
-    for word in words {
-        shapes.push(semaphore_of(heading, word)?)?;
+    for word in &mut ask.words {
+        shapes.push(semaphore_of(ask.about, word)?)?;
     }
-    write_pairs(alloc, heading, run, &common, shapes.as_slice(), out)
+    Ok(shapes)
 }
 
-/// Answers what is asked of a group, if the line asks that.
-pub fn answer_group<W: Write>(
-    alloc: Global,
-    heading: &Heading,
-    run: &Run,
-    verb: &str,
-    words: &mut Words<'_>,
-    out: &mut W,
-) -> Result<bool, Fault> {
-    match verb {
-        "pairs" => answer_pairs(alloc, heading, run, words, out)?,
-        "deliveries" => {
-            let shape = buffer(heading, words)?;
-            write_deliveries(alloc, heading, run, &shape, out)?;
+/// Answers what is asked of a group, if the line asks that. The common one of `pairs` is `both`.
+pub fn answer_group<W: Write>(alloc: Global, run: &Run, ask: &mut Ask<'_, W>) -> Result<(), Fault> {
+    match ask.verb {
+        "deliveries" => match deliveries(alloc, run, &buffer(ask)?) {
+            Ok(found) => tell_deliveries(found.as_slice(), ask),
+            Err(fault) => tell_break(fault, ask),
+        },
+        "versions" => match versions(alloc, run, &database(ask)?) {
+            Ok(found) => tell_versions(found.as_slice(), ask),
+            Err(fault) => tell_break(fault, ask),
+        },
+        "balance" => match balance(run, &semaphore(ask)?) {
+            Ok(found) => tell_balance(&found, ask),
+            Err(fault) => tell_break(fault, ask),
+        },
+        "pairs" => {
+            let common = semaphore_of(ask.about, "both")?;
+            let shapes = semaphores_of(alloc, ask)?;
+            match pairs(alloc, run, &common, shapes.as_slice()) {
+                Ok(found) => tell_pairs(found.as_slice(), ask),
+                Err(fault) => tell_break(fault, ask),
+            }
         }
-        "versions" => {
-            let shape = database(heading, words)?;
-            write_versions(alloc, heading, run, &shape, out)?;
-        }
-        "balance" => {
-            let shape = semaphore(heading, words)?;
-            write_balance(heading, run, &shape, out)?;
-        }
-        _ => return Ok(false),
+        _ => Err(Fault::Line),
     }
-    Ok(true)
 }

@@ -1,224 +1,102 @@
 //! What a heading is asked.
-use crate::ids::{cell, cell_of, event, event_of, group_of, sequencer_of, worker, worker_of};
-use crate::writing::write_size;
+use crate::ask::{Ask, cell, cell_of, event, event_of, group_of, sequencer_of, worker, worker_of};
 use ec_count::Target;
-use ec_heading::{Group, Heading, Version};
+use ec_heading::{Group, Heading};
 use std::io::Write;
-use test_support::{Fault, Words, size, word};
-
-/// Writes what a name or a word stands for.
-fn write_target<W: Write>(target: Target, out: &mut W) -> Result<(), Fault> {
-    match target {
-        Target::Worker(worker) => writeln!(out, "worker {}", worker.get())?,
-        Target::Event(event) => writeln!(out, "eventcount {}", event.get())?,
-        Target::Sequencer(line) => writeln!(out, "sequencer {}", line.get())?,
-        Target::Cells(first, many) => writeln!(out, "cells {} {many}", first.get())?,
-        Target::Group(place) => writeln!(out, "group {place}")?,
-    }
-    Ok(())
-}
-
-/// Writes what was found, or `-`.
-fn write_found<W: Write>(found: Option<Target>, out: &mut W) -> Result<(), Fault> {
-    match found {
-        Some(target) => write_target(target, out),
-        None => {
-            writeln!(out, "-")?;
-            Ok(())
-        }
-    }
-}
+use test_support::{
+    Fault, tell, tell_if, write_buffer, write_database, write_found, write_name, write_semaphore,
+    write_sizes, write_target, write_word,
+};
 
 /// Writes how many there are of each sort.
-fn write_sizes<W: Write>(heading: &Heading, out: &mut W) -> Result<(), Fault> {
-    let setup = heading.setup();
-    write!(
-        out,
-        "{} workers, {} eventcounts, ",
-        setup.workers(),
-        setup.events()
-    )?;
-    write!(
-        out,
-        "{} sequencers, {} cells, ",
-        setup.sequencers(),
-        setup.cells()
-    )?;
-    write!(
-        out,
-        "{} names, {} words, ",
-        heading.names().len(),
-        heading.words().len()
-    )?;
-    let (groups, lines) = (heading.groups().len(), heading.declarations().len());
-    writeln!(out, "{groups} groups, {lines} declarations")?;
+fn tell_sizes<W: Write>(ask: &mut Ask<'_, W>) -> Result<(), Fault> {
+    let heading = ask.about;
+    let (names, words) = (heading.names().len(), heading.words().len());
+    let (groups, declared) = (heading.groups().len(), heading.declarations().len());
+    write_sizes(heading.setup(), ask.out)?;
+    write!(ask.out, ", {names} names, {words} words, ")?;
+    writeln!(ask.out, "{groups} groups, {declared} declarations")?;
     Ok(())
 }
 
 /// Writes what the declarations stand for, in order.
-fn write_declared<W: Write>(heading: &Heading, out: &mut W) -> Result<(), Fault> {
-    for target in heading.declarations() {
-        write_target(*target, out)?;
-    }
-    Ok(())
-}
-
-/// Writes the word at a place, and what it stands for.
-fn write_word<W: Write>(heading: &Heading, place: usize, out: &mut W) -> Result<(), Fault> {
-    match heading.words().at(place) {
-        Some((word, target)) => {
-            out.write_all(word)?;
-            write!(out, ": ")?;
-            write_target(target, out)
-        }
-        None => write_found(None, out),
-    }
-}
-
-/// Writes the sort of a group, and its numbers.
-fn write_shape<W: Write>(group: &Group, out: &mut W) -> Result<(), Fault> {
-    match group {
-        Group::Buffer(it) => {
-            it.known();
-            let (first, many) = (it.first_cell().get(), it.cells());
-            let (puts, gets) = (it.in_count().get(), it.out_count().get());
-            let (put, take) = (it.put_seq().get(), it.take_seq().get());
-            write!(out, "buffer, {many} cells from {first}, ")?;
-            write!(out, "eventcounts {puts} {gets}, sequencers {put} {take}, ")?;
-        }
-        Group::Database(it) => {
-            it.known();
-            let (first, many) = (it.first_cell().get(), it.cells());
-            let (start, done, turn) = (it.start().get(), it.done().get(), it.turn().get());
-            write!(out, "database, {many} cells from {first}, ")?;
-            write!(out, "eventcounts {start} {done}, sequencer {turn}, ")?;
-        }
-        Group::Semaphore(it) | Group::Both(it) => {
-            let (initial, count, line) = (it.initial(), it.count().get(), it.line().get());
-            write!(
-                out,
-                "semaphore of {initial}, eventcount {count}, sequencer {line}, "
-            )?;
-        }
+fn tell_declared<W: Write>(ask: &mut Ask<'_, W>) -> Result<(), Fault> {
+    for target in ask.about.declarations() {
+        write_target(*target, ask.out)?;
     }
     Ok(())
 }
 
 /// Writes a group, and whether it fits what is declared.
-fn write_group<W: Write>(heading: &Heading, group: &Group, out: &mut W) -> Result<(), Fault> {
-    write_shape(group, out)?;
-    let setup = heading.setup();
+fn tell_group<W: Write>(group: &Group, ask: &mut Ask<'_, W>) -> Result<(), Fault> {
+    let setup = ask.about.setup();
     let fits = match group {
-        Group::Buffer(it) => it.fits(setup),
-        Group::Database(it) => it.fits(setup),
-        Group::Semaphore(it) | Group::Both(it) => it.fits(setup),
+        Group::Buffer(it) => {
+            write_buffer(it, ask.out)?;
+            it.fits(setup)
+        }
+        Group::Database(it) => {
+            write_database(it, ask.out)?;
+            it.fits(setup)
+        }
+        Group::Semaphore(it) | Group::Both(it) => {
+            write_semaphore(it, ask.out)?;
+            it.fits(setup)
+        }
     };
-    writeln!(out, "fits: {fits}")?;
+    writeln!(ask.out, "fits: {fits}")?;
     Ok(())
 }
 
-/// Writes a right of a worker, or whether an eventcount may be handed over, if that is asked.
-fn answer_right<W: Write>(
-    heading: &Heading,
-    what: &str,
-    words: &mut Words<'_>,
-    out: &mut W,
-) -> Result<bool, Fault> {
-    let setup = heading.setup();
-    let is_so = match what {
-        "observes" => {
-            let worker = worker(heading, words)?;
-            setup.may_observe(event(heading, words)?, worker)
-        }
-        "writes" => {
-            let worker = worker(heading, words)?;
-            setup.may_write(cell(heading, words)?, worker)
-        }
-        "reads" => {
-            let worker = worker(heading, words)?;
-            setup.may_read(cell(heading, words)?, worker)
-        }
-        "handed" => setup.may_hand(event(heading, words)?),
-        _ => return Ok(false),
-    };
-    writeln!(out, "{is_so}")?;
-    Ok(true)
+/// Returns the number that a word spells, as a worker or an object.
+fn spelled(heading: &Heading, what: &str, word: &str) -> Option<usize> {
+    Some(match what {
+        "worker" => worker_of(heading, word)?.get(),
+        "eventcount" => event_of(heading, word)?.get(),
+        "sequencer" => sequencer_of(heading, word)?.get(),
+        _ => cell_of(heading, word)?.get(),
+    })
 }
 
-/// Writes the number that a word spells, as a worker or an object, if that is asked.
-fn answer_spelled<W: Write>(
-    heading: &Heading,
-    what: &str,
-    word: &str,
-    out: &mut W,
-) -> Result<bool, Fault> {
-    let found = match what {
-        "worker" => worker_of(heading, word).map(|id| id.get()),
-        "eventcount" => event_of(heading, word).map(|id| id.get()),
-        "sequencer" => sequencer_of(heading, word).map(|id| id.get()),
-        "cell" => cell_of(heading, word).map(|id| id.get()),
-        _ => return Ok(false),
-    };
-    write_size(out, found)?;
-    Ok(true)
-}
-
-/// Writes what the heading is asked of a word.
-fn answer_word<W: Write>(
-    heading: &Heading,
-    what: &str,
-    word: &str,
-    out: &mut W,
-) -> Result<(), Fault> {
+/// Answers what the heading is asked of a word.
+fn answer_word<W: Write>(what: &str, ask: &mut Ask<'_, W>) -> Result<(), Fault> {
+    let (heading, word) = (ask.about, ask.word());
     match what {
-        "word" => write_found(heading.words().find(word.as_bytes()), out),
-        "name" => write_found(heading.names().find(word), out),
+        "word" => write_found(heading.words().find(word.as_bytes()), ask.out),
+        "name" => write_found(heading.names().find(word), ask.out),
         "group" => match group_of(heading, word) {
-            Some(group) => write_group(heading, group, out),
+            Some(group) => tell_group(group, ask),
             None => Err(Fault::Line),
         },
-        _ => {
-            if answer_spelled(heading, what, word, out)? {
-                Ok(())
-            } else {
-                Err(Fault::Line)
-            }
-        }
+        _ => tell_if(spelled(heading, what, word), ask.out),
     }
-}
-
-/// Writes the name of the group at a place.
-fn write_named<W: Write>(heading: &Heading, place: usize, out: &mut W) -> Result<(), Fault> {
-    match heading.names().name_of(Target::Group(place)) {
-        Some(name) => writeln!(out, "{name}")?,
-        None => writeln!(out, "-")?,
-    }
-    Ok(())
 }
 
 /// Answers what the heading is asked.
-pub fn answer_heading<W: Write>(
-    heading: &Heading,
-    words: &mut Words<'_>,
-    out: &mut W,
-) -> Result<(), Fault> {
-    let what = word(words);
+pub fn answer_heading<W: Write>(ask: &mut Ask<'_, W>) -> Result<(), Fault> {
+    let what = ask.word();
     match what {
-        "sizes" => write_sizes(heading, out),
-        "declared" => write_declared(heading, out),
-        "version" => {
-            let is_two = heading.version() == Version::Two;
-            writeln!(out, "{}", if is_two { 2 } else { 1 })?;
-            Ok(())
+        "sizes" => tell_sizes(ask),
+        "declared" => tell_declared(ask),
+        "has-hand" => tell(ask.about.version().has_hand(), ask.out),
+        "at" => write_word(ask.about.words(), ask.size()?, ask.out),
+        "named" => {
+            let group = Target::Group(ask.size()?);
+            tell_if(ask.about.names().name_of(group), ask.out)
         }
-        "at" => write_word(heading, size(words)?, out),
-        "named" => write_named(heading, size(words)?, out),
-        _ => {
-            if answer_right(heading, what, words, out)? {
-                Ok(())
-            } else {
-                answer_word(heading, what, word(words), out)
-            }
-        }
+        _ => answer_word(what, ask),
     }
+}
+
+/// Writes all that a heading is asked: how many there are of each sort, and its words and names.
+pub fn tell_heading<W: Write>(ask: &mut Ask<'_, W>) -> Result<(), Fault> {
+    let (words, names) = (ask.about.words(), ask.about.names());
+    tell_sizes(ask)?;
+    for place in 0..words.len() {
+        write_word(words, place, ask.out)?;
+    }
+    for place in 0..names.len() {
+        write_name(names, place, ask.out)?;
+    }
+    Ok(())
 }

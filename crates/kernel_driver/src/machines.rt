@@ -1,20 +1,19 @@
 //! Machines of programs, whose steps are made in a run.
-use crate::ids::worker;
-use crate::kernel::{Kernel, Stage};
-use crate::programs::write_first_off;
-use crate::writing::{write_act, write_reply};
-use ec_core::{Act, Reply, Run, StepFault};
+use crate::ask::{Ask, worker};
+use crate::kernel::Kernel;
+use crate::stage::Stage;
+use crate::writing::{pending, tell_entry, tell_worker};
+use ec_core::{Act, Entry, Reply, Run, StepFault};
 use ec_count::WorkerId;
 use ec_heading::Heading;
-use ec_machine::{Machine, Outcome, Program};
+use ec_machine::{Machine, Outcome, Program, follows};
 use std::alloc::{AllocError, Global};
 use std::io::Write;
-use test_support::{Driver, Fault, Words, word};
+use test_support::{Fault, Line, answer_lines, tell, word};
 
-/// A kernel, and the machines of programs, one for each worker in order.
+/// The machines of programs, one for each worker in order.
 #[derive(Drop)]
 pub struct Machines<'a> {
-    kernel: Kernel,
     programs: &'a [Program],
     list: Vec<Machine<'a>>,
 }
@@ -28,66 +27,35 @@ fn machines_of<'a>(alloc: Global, programs: &'a [Program]) -> Result<Vec<Machine
     Ok(list)
 }
 
-/// Makes the step that a machine asks for.
-fn step(run: &mut Run, worker: WorkerId, machine: &mut Machine<'_>) -> Result<Reply, Fault> {
+/// Makes the step that a machine asks for, and writes it.
+fn play<W: Write>(
+    run: &mut Run,
+    worker: WorkerId,
+    machine: &mut Machine<'_>,
+    ask: &mut Ask<'_, W>,
+) -> Result<(), Fault> {
     let Some(act) = machine.next() else {
         return Err(Fault::Line);
     };
     match run.step(worker, act) {
         Ok(reply) => {
             machine.take(reply);
-            Ok(reply)
+            tell_entry(run.entry(run.len().saturating_sub(1)), ask)
         }
         Err(StepFault::Memory) => Err(Fault::Memory),
         Err(StepFault::Refused(_)) => Err(Fault::Line),
     }
 }
 
-/// Makes the step that a machine asks for, and writes it.
-fn play<W: Write>(
-    heading: &Heading,
-    run: &mut Run,
-    worker: WorkerId,
-    machine: &mut Machine<'_>,
-    out: &mut W,
-) -> Result<(), Fault> {
-    let Some(act) = machine.next() else {
-        return Err(Fault::Line);
-    };
-    let reply = step(run, worker, machine)?;
-    write_act(out, heading, act)?;
-    write!(out, " = ")?;
-    write_reply(out, reply)?;
-    writeln!(out)?;
+/// Writes how a program has ended.
+fn tell_outcome<W: Write>(machine: &Machine<'_>, ask: &mut Ask<'_, W>) -> Result<(), Fault> {
+    writeln!(ask.out, "{:?}", machine.outcome())?;
     Ok(())
-}
-
-/// Writes the act that is due.
-fn write_due<W: Write>(heading: &Heading, machine: &Machine<'_>, out: &mut W) -> Result<(), Fault> {
-    match machine.next() {
-        Some(act) => write_act(out, heading, act)?,
-        None => write!(out, "-")?,
-    }
-    writeln!(out)?;
-    Ok(())
-}
-
-/// Returns the name of an outcome.
-fn name_of(outcome: Outcome) -> &'static str {
-    match outcome {
-        Outcome::Running => "running",
-        Outcome::Finished => "finished",
-        Outcome::Refused(refusal) => refusal.name(),
-        Outcome::ValueTooLarge => "value too large",
-        Outcome::Stopped => "stopped",
-        Outcome::OutOfTurns => "out of turns",
-        Outcome::Memory => "no memory",
-    }
 }
 
 /// Reads how a program is ended from outside.
-fn outcome(words: &mut Words<'_>) -> Result<Outcome, Fault> {
-    match word(words) {
+fn outcome<W: Write>(ask: &mut Ask<'_, W>) -> Result<Outcome, Fault> {
+    match ask.word() {
         "running" => Ok(Outcome::Running),
         "finished" => Ok(Outcome::Finished),
         "value-too-large" => Ok(Outcome::ValueTooLarge),
@@ -98,86 +66,94 @@ fn outcome(words: &mut Words<'_>) -> Result<Outcome, Fault> {
 }
 
 /// Gives a machine the reply to an advance, where one is due.
-fn give<W: Write>(heading: &Heading, machine: &mut Machine<'_>, out: &mut W) -> Result<(), Fault> {
-    write_due(heading, machine, out)?;
-    match machine.next() {
-        Some(Act::Advance(_)) => {
-            machine.take(Reply::Done);
-            Ok(())
+fn give<W: Write>(
+    worker: WorkerId,
+    machine: &mut Machine<'_>,
+    ask: &mut Ask<'_, W>,
+) -> Result<(), Fault> {
+    let Some(act) = machine.next() else {
+        return Err(Fault::Line);
+    };
+    let reply = Reply::Done;
+    match act {
+        Act::Advance(_) => machine.take(reply),
+        _ => return Err(Fault::Line),
+    }
+    tell_entry(Some(Entry { worker, act, reply }), ask)
+}
+
+/// Answers a line about a worker and its machine.
+fn answer_worker<'a, W: Write>(
+    heading: &'a Heading,
+    stage: &mut Stage,
+    machines: &mut [Machine<'_>],
+    line: &'a str,
+    out: &'a mut W,
+) -> Result<(), Fault> {
+    let ask = &mut Line::new(heading, line, out);
+    let worker = worker(ask)?;
+    let Some(machine) = machines.get_mut(worker.get()) else {
+        return Err(Fault::Line);
+    };
+    match (ask.verb, stage) {
+        ("play", Stage::Run(run)) => play(run, worker, machine, ask),
+        ("next", _) => match machine.next() {
+            Some(act) => tell_entry(Some(pending(worker, act)), ask),
+            None => tell("-", ask.out),
+        },
+        ("outcome", _) => tell_outcome(machine, ask),
+        ("give", _) => give(worker, machine, ask),
+        ("refuse", _) => {
+            machine.refuse(outcome(ask)?);
+            tell_outcome(machine, ask)
         }
         _ => Err(Fault::Line),
     }
 }
 
-/// Answers a line about a machine alone.
-fn answer_machine<W: Write>(
-    heading: &Heading,
-    machine: &mut Machine<'_>,
-    verb: &str,
-    words: &mut Words<'_>,
-    out: &mut W,
-) -> Result<(), Fault> {
-    match verb {
-        "next" => write_due(heading, machine, out)?,
-        "outcome" => writeln!(out, "{}", name_of(machine.outcome()))?,
-        "give" => give(heading, machine, out)?,
-        _ => {
-            machine.refuse(outcome(words)?);
-            writeln!(out, "{}", name_of(machine.outcome()))?;
-        }
-    }
-    Ok(())
-}
-
 impl<'a> Machines<'a> {
-    /// Has a machine of each program.
-    pub fn new(alloc: Global, kernel: Kernel, programs: &'a [Program]) -> Result<Self, Fault> {
-        let list = machines_of(alloc, programs)?;
-        Ok(Machines {
-            kernel,
-            programs,
-            list,
-        })
-    }
-
-    /// Answers a line about a worker and its machine.
-    fn answer_worker<W: Write>(
-        &mut self,
-        verb: &str,
-        words: &mut Words<'_>,
+    /// Answers the lines of a text by a kernel and a machine of each program.
+    pub fn answer_text<W: Write>(
+        alloc: Global,
+        kernel: &mut Kernel,
+        programs: &'a [Program],
+        watched: bool,
+        text: &str,
         out: &mut W,
     ) -> Result<(), Fault> {
-        let heading = &self.kernel.heading;
-        let worker = worker(heading, words)?;
-        let Some(machine) = self.list.get_mut(worker.get()) else {
-            return Err(Fault::Line);
-        };
-        match (verb, &mut self.kernel.stage) {
-            ("play", Stage::Run(run)) => play(heading, run, worker, machine, out),
-            ("play", _) => Err(Fault::Line),
-            _ => answer_machine(heading, machine, verb, words, out),
+        let list = machines_of(alloc, programs)?;
+        let mut machines = Machines { programs, list };
+        for line in text.lines() {
+            machines.answer(alloc, kernel, line, watched, out)?;
         }
-    }
-}
-
-impl Driver for Machines<'_> {
-    fn answer<W: Write>(&mut self, alloc: Global, line: &str, out: &mut W) -> Result<(), Fault> {
-        let mut words = line.split_whitespace();
-        match word(&mut words) {
-            "follows" => match self.kernel.stage.run() {
-                Some(run) => write_first_off(&self.kernel.heading, run, self.programs, out),
-                None => Err(Fault::Line),
-            },
-            "play" => self.answer_worker("play", &mut words, out),
-            "next" => self.answer_worker("next", &mut words, out),
-            "outcome" => self.answer_worker("outcome", &mut words, out),
-            "give" => self.answer_worker("give", &mut words, out),
-            "refuse" => self.answer_worker("refuse", &mut words, out),
-            _ => self.kernel.answer(alloc, line, out),
-        }
+        Ok(())
     }
 
-    fn mark(&self) -> u64 {
-        self.kernel.mark()
+    /// Writes who is first off its program.
+    fn tell_first_off<W: Write>(&self, kernel: &Kernel, out: &mut W) -> Result<(), Fault> {
+        let worker = follows(kernel.parts.stage.run()?, self.programs);
+        tell_worker(worker, &mut Line::new(&kernel.heading, "", out))
+    }
+
+    /// Answers a line.
+    fn answer<W: Write>(
+        &mut self,
+        alloc: Global,
+        kernel: &mut Kernel,
+        line: &str,
+        watched: bool,
+        out: &mut W,
+    ) -> Result<(), Fault> {
+        match word(&mut line.split_whitespace()) {
+            "follows" => self.tell_first_off(kernel, out),
+            "play" | "next" | "outcome" | "give" | "refuse" => answer_worker(
+                &kernel.heading,
+                &mut kernel.parts.stage,
+                &mut self.list,
+                line,
+                out,
+            ),
+            _ => answer_lines(alloc, kernel, watched, line, out),
+        }
     }
 }

@@ -1,27 +1,11 @@
 //! The completed calls of a run, their order by points, and verdicts on orders.
-use crate::ids::{act, reply, worker};
-use crate::writing::{write_act, write_entry};
+use crate::ask::{Ask, act, reply, worker};
+use crate::writing::{pending, put_entry, tell_entry};
 use ec_core::{Calls, Entry, Run, walk};
-use ec_heading::Heading;
-use ec_order::{Call, OrderFault, Placed, Timeline, Verdict, calls, in_order, order, verify};
+use ec_order::{Call, OrderFault, Placed, Timeline, calls, in_order, order, verify};
 use std::alloc::Global;
 use std::io::Write;
-use test_support::{Fault, Words, size};
-
-/// The calls at their points that are to be judged.
-#[derive(Drop)]
-pub struct Judged {
-    list: Vec<Placed>,
-}
-
-impl Judged {
-    /// Has no call yet.
-    pub fn new(alloc: Global) -> Self {
-        Judged {
-            list: Vec::new(alloc),
-        }
-    }
-}
+use test_support::{Fault, tell};
 
 /// Gives what a call on orders gave, or says that an allocation failed.
 fn given<T: Drop>(given: Result<T, OrderFault>) -> Result<T, Fault> {
@@ -50,7 +34,7 @@ fn is_timed(alloc: Global, run: &Run, placed: &[Placed]) -> Result<bool, Fault> 
     for right in placed {
         match dated.next() {
             Some(found) if found.point == right.point && found.entry == entry_of(&right.call) => {}
-            _ => return Ok(false),
+            _ => return Err(Fault::Line),
         }
     }
     Ok(dated.next().is_none())
@@ -68,109 +52,74 @@ fn comes_in_order(alloc: Global, run: &Run, placed: &[Placed]) -> Result<bool, F
 }
 
 /// Writes a call at its point.
-fn write_placed<W: Write>(heading: &Heading, placed: &Placed, out: &mut W) -> Result<(), Fault> {
-    write!(out, "{} ", placed.point)?;
-    write_entry(out, heading, &entry_of(&placed.call))?;
-    writeln!(out)?;
-    Ok(())
+fn tell_placed<W: Write>(placed: &Placed, ask: &mut Ask<'_, W>) -> Result<(), Fault> {
+    write!(ask.out, "{} ", placed.point)?;
+    tell_entry(Some(entry_of(&placed.call)), ask)
 }
 
 /// Writes a call with the places of its first step, of its last round, and of its last step.
-fn write_call<W: Write>(heading: &Heading, call: &Call, out: &mut W) -> Result<(), Fault> {
-    write_entry(out, heading, &entry_of(call))?;
-    writeln!(out, " at {} {} {}", call.first, call.round, call.last)?;
+fn tell_call<W: Write>(call: &Call, ask: &mut Ask<'_, W>) -> Result<(), Fault> {
+    put_entry(&entry_of(call), ask)?;
+    writeln!(ask.out, " at {} {} {}", call.first, call.round, call.last)?;
     Ok(())
 }
 
-/// Writes an order: all of it, how many calls it has, or the call at a place.
-fn write_order<W: Write>(
-    heading: &Heading,
-    placed: &[Placed],
-    part: Option<&str>,
-    out: &mut W,
-) -> Result<(), Fault> {
-    let Some(part) = part else {
-        for one in placed {
-            write_placed(heading, one, out)?;
+/// Returns the part of a list that is asked for: the one at a place, or all of it. Where it is asked
+/// how many there are, that is written, and the part is empty.
+fn part_of<'a, T, W: Write>(list: &'a [T], ask: &mut Ask<'_, W>) -> Result<&'a [T], Fault> {
+    match ask.word() {
+        "" => Ok(list),
+        "size" => {
+            tell(list.len(), ask.out)?;
+            Ok(&[])
         }
-        return Ok(());
-    };
-    if part == "size" {
-        writeln!(out, "{}", placed.len())?;
-        return Ok(());
-    }
-    let place: Option<usize> = part.parse().ok();
-    match place {
-        Some(place) => match placed.get(place) {
-            Some(one) => write_placed(heading, one, out),
-            None => Err(Fault::Line),
+        place => match place.parse() {
+            Ok(place) => match list.get(place..).and_then(|rest| rest.get(..1)) {
+                Some(one) => Ok(one),
+                None => Err(Fault::Line),
+            },
+            Err(_) => Err(Fault::Line),
         },
-        None => Err(Fault::Line),
     }
 }
 
 /// Writes the order of a run, which three calls give.
-fn answer_the_order<W: Write>(
-    alloc: Global,
-    heading: &Heading,
-    run: &Run,
-    part: Option<&str>,
-    out: &mut W,
-) -> Result<(), Fault> {
+fn answer_the_order<W: Write>(alloc: Global, run: &Run, ask: &mut Ask<'_, W>) -> Result<(), Fault> {
     let placed = given(order(alloc, run))?;
     let placed = placed.as_slice();
-    if !comes_in_order(alloc, run, placed)? {
-        writeln!(out, "another order, one call after another")?;
-        return Ok(());
+    if !comes_in_order(alloc, run, placed)? || !is_timed(alloc, run, placed)? {
+        tell(
+            "another order, one call after another or by the timeline",
+            ask.out,
+        )?;
     }
-    if !is_timed(alloc, run, placed)? {
-        writeln!(out, "another order by the timeline")?;
-        return Ok(());
+    for one in part_of(placed, ask)? {
+        tell_placed(one, ask)?;
     }
-    write_order(heading, placed, part, out)
+    Ok(())
 }
 
-/// Writes the completed calls of a run: all, how many there are, or that at a place.
-fn answer_calls<W: Write>(
-    alloc: Global,
-    heading: &Heading,
-    run: &Run,
-    part: Option<&str>,
-    out: &mut W,
-) -> Result<(), Fault> {
+/// Writes the completed calls of a run.
+fn answer_calls<W: Write>(alloc: Global, run: &Run, ask: &mut Ask<'_, W>) -> Result<(), Fault> {
     let found = calls(alloc, run)?;
-    let place: Option<usize> = part.unwrap_or("").parse().ok();
-    match (part, place) {
-        (None, _) => {
-            for call in found.as_slice() {
-                write_call(heading, call, out)?;
-            }
-        }
-        (Some(_), None) => writeln!(out, "{}", found.len())?,
-        (Some(_), Some(place)) => match found.as_slice().get(place) {
-            Some(call) => write_call(heading, call, out)?,
-            None => return Err(Fault::Line),
-        },
+    for call in part_of(found.as_slice(), ask)? {
+        tell_call(call, ask)?;
     }
     Ok(())
 }
 
 /// Writes the call that the entry at a place is part of, up to that entry.
-fn write_so_far<W: Write>(
-    heading: &Heading,
-    run: &Run,
-    last: usize,
-    out: &mut W,
-) -> Result<(), Fault> {
-    let mut pending = Calls::new();
+fn answer_so_far<W: Write>(run: &Run, ask: &mut Ask<'_, W>) -> Result<(), Fault> {
+    let last = ask.size()?;
+    let mut calls = Calls::new();
     for (place, entry) in run.entries().enumerate() {
-        let call = pending.take(run.setup(), place, &entry);
+        let call = calls.take(run.setup(), place, &entry);
         if place == last {
             let Some(call) = call else {
                 return Err(Fault::Line);
             };
-            write_act(out, heading, call.op)?;
-            writeln!(out, " at {} {}", call.first, call.round)?;
+            put_entry(&pending(entry.worker, call.op), ask)?;
+            writeln!(ask.out, " at {} {}", call.first, call.round)?;
             return Ok(());
         }
     }
@@ -178,19 +127,16 @@ fn write_so_far<W: Write>(
 }
 
 /// Reads a call at its point: `POINT FIRST ROUND LAST W ACT = REPLY`.
-fn placed_of(heading: &Heading, words: &mut Words<'_>) -> Result<Placed, Fault> {
-    let point = size(words)?;
-    let (first, round, last) = (size(words)?, size(words)?, size(words)?);
-    let worker = worker(heading, words)?;
-    let op = act(heading, words)?;
-    if words.next() != Some("=") {
+fn placed_of<W: Write>(ask: &mut Ask<'_, W>) -> Result<Placed, Fault> {
+    let (point, first, round, last) = (ask.size()?, ask.size()?, ask.size()?, ask.size()?);
+    let (worker, op) = (worker(ask)?, act(ask)?);
+    if ask.word() != "=" {
         return Err(Fault::Line);
     }
-    let reply = reply(words)?;
     let call = Call {
         worker,
         op,
-        reply,
+        reply: reply(ask)?,
         first,
         round,
         last,
@@ -198,53 +144,35 @@ fn placed_of(heading: &Heading, words: &mut Words<'_>) -> Result<Placed, Fault> 
     Ok(Placed { call, point })
 }
 
-/// Writes a verdict.
-fn write_verdict<W: Write>(verdict: Verdict, out: &mut W) -> Result<(), Fault> {
-    match verdict {
-        Verdict::Good => writeln!(out, "good")?,
-        Verdict::Missing(place) => writeln!(out, "missing {place}")?,
-        Verdict::Repeated(place) => writeln!(out, "repeated {place}")?,
-        Verdict::OutOfOrder(place) => writeln!(out, "out of order {place}")?,
-        Verdict::WrongReply(place) => writeln!(out, "wrong reply {place}")?,
-        Verdict::WrongPoint(place) => writeln!(out, "wrong point {place}")?,
-    }
-    Ok(())
-}
-
-/// Judges the calls that were given, and has none then.
+/// Writes the verdict on calls, and has none then.
 fn judge<W: Write>(
     alloc: Global,
     run: &Run,
-    judged: &mut Judged,
-    out: &mut W,
+    judged: &mut Vec<Placed>,
+    ask: &mut Ask<'_, W>,
 ) -> Result<(), Fault> {
-    let verdict = verify(alloc, run, judged.list.as_slice())?;
-    judged.list.clear();
-    write_verdict(verdict, out)
+    let verdict = verify(alloc, run, judged.as_slice())?;
+    judged.clear();
+    writeln!(ask.out, "{verdict:?}")?;
+    Ok(())
 }
 
-/// Answers what is asked of the calls of a run, if the line asks that.
+/// Answers what is asked of the calls of a run. `placed` adds a call to those that `judge` judges.
 pub fn answer_order<W: Write>(
     alloc: Global,
-    heading: &Heading,
     run: &Run,
-    judged: &mut Judged,
-    verb: &str,
-    words: &mut Words<'_>,
-    out: &mut W,
-) -> Result<bool, Fault> {
-    match verb {
-        "order" => answer_the_order(alloc, heading, run, words.next(), out)?,
-        "calls" => answer_calls(alloc, heading, run, words.next(), out)?,
-        "so-far" => write_so_far(heading, run, size(words)?, out)?,
-        "verify" => {
-            let placed = given(order(alloc, run))?;
-            let verdict = verify(alloc, run, placed.as_slice())?;
-            write_verdict(verdict, out)?;
+    judged: &mut Vec<Placed>,
+    ask: &mut Ask<'_, W>,
+) -> Result<(), Fault> {
+    match ask.verb {
+        "order" => answer_the_order(alloc, run, ask),
+        "calls" => answer_calls(alloc, run, ask),
+        "so-far" => answer_so_far(run, ask),
+        "verify" => judge(alloc, run, &mut given(order(alloc, run))?, ask),
+        "judge" => judge(alloc, run, judged, ask),
+        _ => {
+            judged.push(placed_of(ask)?)?;
+            Ok(())
         }
-        "placed" => judged.list.push(placed_of(heading, words)?)?,
-        "judge" => judge(alloc, run, judged, out)?,
-        _ => return Ok(false),
     }
-    Ok(true)
 }

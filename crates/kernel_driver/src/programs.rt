@@ -1,13 +1,12 @@
 //! Programs, from the commands of scripts. The bounds of a program are not looked at here.
-use crate::ids::{buffer, cell, database, event, semaphore, sequencer, worker};
-use crate::writing::write_worker;
+use crate::ask::{Ask, buffer, cell, database, digits, event, semaphore, sequencer, worker};
 use ec_core::Run;
-use ec_heading::Heading;
+use ec_count::{EventId, WorkerId};
 use ec_machine::{Command, Program, Value, follows};
 use std::alloc::Global;
 use std::io::Write;
 use std::mem;
-use test_support::{Fault, Words, number, size, word};
+use test_support::{Fault, tell};
 
 /// Commands that are repeated, or those of a whole program.
 #[derive(Drop)]
@@ -23,96 +22,62 @@ pub struct Programs {
     list: Vec<Program>,
 }
 
-/// Reads digits.
-fn digits(word: &str) -> Result<u64, Fault> {
-    match word.parse() {
-        Ok(n) => Ok(n),
-        Err(_) => Err(Fault::Line),
-    }
-}
-
 /// Returns the value of a word.
 fn value_of(word: &str) -> Result<Value, Fault> {
-    if word == "last" {
-        return Ok(Value::Last);
-    }
-    match word.strip_prefix("last+") {
-        Some(more) => Ok(Value::LastPlus(digits(more)?)),
+    match word.strip_prefix("last") {
+        Some("") => Ok(Value::Last),
+        Some(more) => Ok(Value::LastPlus(digits(more.strip_prefix('+').unwrap_or(""))?)),
         None => Ok(Value::Number(digits(word)?)),
     }
 }
 
-/// Reads a value.
-fn value(words: &mut Words<'_>) -> Result<Value, Fault> {
-    value_of(word(words))
-}
-
-/// Reads a command that is one call.
-fn raw_command(
-    heading: &Heading,
-    verb: &str,
-    words: &mut Words<'_>,
-) -> Result<Option<Command>, Fault> {
-    Ok(Some(match verb {
-        "advance" => Command::Advance(event(heading, words)?),
-        "read" => Command::Read(event(heading, words)?),
-        "await" => Command::Await(event(heading, words)?, value(words)?),
-        "ticket" => Command::Ticket(sequencer(heading, words)?),
-        "put" => Command::Put(cell(heading, words)?, value(words)?),
-        "get" => Command::Get(cell(heading, words)?),
-        "hand" => Command::Hand(event(heading, words)?, worker(heading, words)?),
-        _ => return Ok(None),
-    }))
-}
-
 /// Reads the values of a writing.
-fn values(alloc: Global, words: &mut Words<'_>) -> Result<Vec<Value>, Fault> {
+fn values<W: Write>(alloc: Global, ask: &mut Ask<'_, W>) -> Result<Vec<Value>, Fault> {
     let mut list = Vec::new(alloc);
-    for word in words {
+    for word in &mut ask.words {
         list.push(value_of(word)?)?;
     }
     Ok(list)
 }
 
-/// Reads a P on two semaphores, of which the common one is named first.
-fn down_both(heading: &Heading, words: &mut Words<'_>) -> Result<Command, Fault> {
-    let common = semaphore(heading, words)?;
-    let (one, other) = (semaphore(heading, words)?, semaphore(heading, words)?);
-    Ok(Command::DownBoth(common, one, other))
+/// Reads a command on an eventcount.
+fn command_on<W: Write>(event: EventId, ask: &mut Ask<'_, W>) -> Result<Command, Fault> {
+    match ask.verb {
+        "advance" => Ok(Command::Advance(event)),
+        "read" => Ok(Command::Read(event)),
+        "await" => Ok(Command::Await(event, value_of(ask.word())?)),
+        _ => Ok(Command::Hand(event, worker(ask)?)),
+    }
 }
 
-/// Reads a command of a group.
-fn command_of_group(
-    alloc: Global,
-    heading: &Heading,
-    verb: &str,
-    words: &mut Words<'_>,
-) -> Result<Command, Fault> {
-    match verb {
-        "produce" => Ok(Command::Produce(buffer(heading, words)?, value(words)?)),
-        "consume" => Ok(Command::Consume(buffer(heading, words)?)),
-        "write" => {
-            let shape = database(heading, words)?;
-            Ok(Command::WriteAll(shape, values(alloc, words)?))
+/// Reads a command that is one call, or one on semaphores. Of those that take two semaphores the
+/// common one is named first.
+fn small_command<W: Write>(ask: &mut Ask<'_, W>) -> Result<Command, Fault> {
+    match ask.verb {
+        "ticket" => Ok(Command::Ticket(sequencer(ask)?)),
+        "put" => Ok(Command::Put(cell(ask)?, value_of(ask.word())?)),
+        "get" => Ok(Command::Get(cell(ask)?)),
+        "p" => Ok(Command::Down(semaphore(ask)?)),
+        "v" => Ok(Command::Up(semaphore(ask)?)),
+        "pboth" => {
+            let (common, one) = (semaphore(ask)?, semaphore(ask)?);
+            Ok(Command::DownBoth(common, one, semaphore(ask)?))
         }
-        "snapshot" => Ok(Command::Snapshot(database(heading, words)?, size(words)?)),
-        "p" => Ok(Command::Down(semaphore(heading, words)?)),
-        "v" => Ok(Command::Up(semaphore(heading, words)?)),
-        "pboth" => down_both(heading, words),
         _ => Err(Fault::Line),
     }
 }
 
 /// Reads a command.
-fn command(
-    alloc: Global,
-    heading: &Heading,
-    verb: &str,
-    words: &mut Words<'_>,
-) -> Result<Command, Fault> {
-    match raw_command(heading, verb, words)? {
-        Some(command) => Ok(command),
-        None => command_of_group(alloc, heading, verb, words),
+fn command<W: Write>(alloc: Global, ask: &mut Ask<'_, W>) -> Result<Command, Fault> {
+    if ["advance", "read", "await", "hand"].contains(&ask.verb) {
+        return command_on(event(ask)?, ask);
+    }
+    match ask.verb {
+        "produce" => Ok(Command::Produce(buffer(ask)?, value_of(ask.word())?)),
+        "consume" => Ok(Command::Consume(buffer(ask)?)),
+        "write" => Ok(Command::WriteAll(database(ask)?, values(alloc, ask)?)),
+        "snapshot" => Ok(Command::Snapshot(database(ask)?, ask.size()?)),
+        _ => small_command(ask),
     }
 }
 
@@ -135,18 +100,11 @@ impl Programs {
         mem::replace(&mut self.list, Vec::new(alloc))
     }
 
-    /// Opens a block.
-    fn open_block(&mut self, alloc: Global, times: u64) -> Result<(), Fault> {
-        self.open.push(Block {
-            times,
-            commands: Vec::new(alloc),
-        })?;
+    /// Opens a block. The outermost one is a program.
+    pub fn open(&mut self, alloc: Global, times: u64) -> Result<(), Fault> {
+        let commands = Vec::new(alloc);
+        self.open.push(Block { times, commands })?;
         Ok(())
-    }
-
-    /// Begins a program.
-    pub fn begin(&mut self, alloc: Global) -> Result<(), Fault> {
-        self.open_block(alloc, 0)
     }
 
     /// Adds a command to the last open block.
@@ -161,67 +119,33 @@ impl Programs {
     }
 
     /// Ends the last open block. The outermost one makes a program, or none.
-    fn end<W: Write>(&mut self, out: &mut W) -> Result<(), Fault> {
-        let Some(block) = self.open.pop() else {
+    fn end<W: Write>(&mut self, ask: &mut Ask<'_, W>) -> Result<(), Fault> {
+        let Some(Block { times, commands }) = self.open.pop() else {
             return Err(Fault::Line);
         };
-        let Block { times, commands } = block;
         if !self.open.is_empty() {
             return self.add(Command::Repeat(times, commands));
         }
         match Program::new(commands) {
             Some(program) => {
                 self.list.push(program)?;
-                writeln!(out, "a program")?;
+                tell("a program", ask.out)
             }
-            None => writeln!(out, "no program")?,
+            None => tell("no program", ask.out),
         }
-        Ok(())
     }
 
     /// Takes a line of the program that is being read.
-    pub fn take<W: Write>(
-        &mut self,
-        alloc: Global,
-        heading: &Heading,
-        line: &str,
-        out: &mut W,
-    ) -> Result<(), Fault> {
-        let mut words = line.split_whitespace();
-        match word(&mut words) {
-            "end" => self.end(out),
-            "repeat" => self.open_block(alloc, number(&mut words)?),
-            verb => self.add(command(alloc, heading, verb, &mut words)?),
+    pub fn take<W: Write>(&mut self, alloc: Global, ask: &mut Ask<'_, W>) -> Result<(), Fault> {
+        match ask.verb {
+            "end" => self.end(ask),
+            "repeat" => self.open(alloc, ask.number()?),
+            _ => self.add(command(alloc, ask)?),
         }
     }
 
-    /// Writes who is first off its program, if the line asks that.
-    pub fn answer<W: Write>(
-        &self,
-        heading: &Heading,
-        run: &Run,
-        verb: &str,
-        out: &mut W,
-    ) -> Result<bool, Fault> {
-        if verb != "follows" {
-            return Ok(false);
-        }
-        write_first_off(heading, run, self.list.as_slice(), out)?;
-        Ok(true)
+    /// Returns who is first off its program.
+    pub fn first_off(&self, run: &Run) -> Option<WorkerId> {
+        follows(run, self.list.as_slice())
     }
-}
-
-/// Writes who is first off its program.
-pub fn write_first_off<W: Write>(
-    heading: &Heading,
-    run: &Run,
-    programs: &[Program],
-    out: &mut W,
-) -> Result<(), Fault> {
-    match follows(run, programs) {
-        Some(worker) => write_worker(out, heading, worker)?,
-        None => write!(out, "-")?,
-    }
-    writeln!(out)?;
-    Ok(())
 }

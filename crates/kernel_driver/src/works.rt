@@ -2,17 +2,16 @@
 ghost use Rattle.std.specs.Prelude.{◌≤◌, IfOk};
 ghost use Rattle.ec_core.specs.declared.act.TheConstants.{VALUE_MAX};
 
-use crate::ids::{buffer, database, semaphore, semaphore_of, worker};
+use crate::ask::{Ask, buffer, database, semaphore, semaphore_of, worker};
 use arrayvec::ArrayVec;
 use ec_buffer::{Consume, Produce};
 use ec_core::{Procedure, Run, StepFault, VALUE_MAX};
 use ec_count::WorkerId;
 use ec_database::{Snapshot, SnapshotEnd, WriteAll};
-use ec_heading::Heading;
 use ec_semaphore::{Down, DownBoth, Up};
 use std::alloc::Global;
 use std::io::Write;
-use test_support::{Fault, Words, number, size, word};
+use test_support::{Fault, tell};
 
 /// A procedure.
 #[derive(Drop)]
@@ -39,46 +38,33 @@ pub struct Works {
     list: Vec<Begun>,
 }
 
-/// How far steps have come.
-#[derive(Clone, Copy, PartialEq, Eq)]
-enum Progress {
-    /// The procedure has ended.
-    Ended,
-    /// It goes on.
-    GoesOn,
-    /// A step was refused.
-    Refused(&'static str),
-    /// An allocation failed.
-    Memory,
-}
-
-/// Makes so many steps of a procedure, or fewer where it ends.
+/// Makes so many steps of a procedure, or fewer where it ends, and returns how far it came.
 fn go_on<P: Procedure>(
     run: &mut Run,
     worker: WorkerId,
     procedure: &mut P,
     steps: usize,
-) -> Progress {
+) -> Result<&'static str, Fault> {
     for _ in 0..steps {
         let Some(act) = procedure.next() else {
-            return Progress::Ended;
+            return Ok("ended");
         };
         match run.step(worker, act) {
             Ok(reply) => procedure.take(reply),
-            Err(StepFault::Memory) => return Progress::Memory,
-            Err(StepFault::Refused(refusal)) => return Progress::Refused(refusal.name()),
+            Err(StepFault::Refused(refusal)) => return Ok(refusal.name()),
+            Err(StepFault::Memory) => return Err(Fault::Memory),
         }
     }
-    if procedure.next().is_none() {
-        Progress::Ended
+    Ok(if procedure.next().is_none() {
+        "ended"
     } else {
-        Progress::GoesOn
-    }
+        "goes on"
+    })
 }
 
 impl Begun {
     /// Makes so many steps, or fewer where the procedure ends.
-    fn go_on(&mut self, run: &mut Run, steps: usize) -> Progress {
+    fn go_on(&mut self, run: &mut Run, steps: usize) -> Result<&'static str, Fault> {
         let worker = self.worker;
         match &mut self.work {
             Work::Produce(produce) => go_on(run, worker, produce, steps),
@@ -92,22 +78,11 @@ impl Begun {
     }
 }
 
-/// Writes how far steps have come.
-fn write_progress<W: Write>(progress: Progress, out: &mut W) -> Result<(), Fault> {
-    match progress {
-        Progress::Ended => writeln!(out, "ended")?,
-        Progress::GoesOn => writeln!(out, "goes on")?,
-        Progress::Refused(name) => writeln!(out, "{name}")?,
-        Progress::Memory => return Err(Fault::Memory),
-    }
-    Ok(())
-}
-
 /// Reads a value.
-fn value(words: &mut Words<'_>) -> Result<u64, Fault>
+fn value<W: Write>(ask: &mut Ask<'_, W>) -> Result<u64, Fault>
     ensures { IfOk result (λ n. n ≤ VALUE_MAX) }
 {
-    let n = number(words)?;
+    let n = ask.number()?;
     if n > VALUE_MAX {
         Err(Fault::Line)
     } else {
@@ -116,9 +91,9 @@ fn value(words: &mut Words<'_>) -> Result<u64, Fault>
 }
 
 /// Reads the writing of two values into a database of two cells.
-fn write_of(heading: &Heading, words: &mut Words<'_>) -> Result<Work, Fault> {
-    let shape = database(heading, words)?;
-    let (first, second) = (value(words)?, value(words)?);
+fn write_of<W: Write>(ask: &mut Ask<'_, W>) -> Result<Work, Fault> {
+    let shape = database(ask)?;
+    let (first, second) = (value(ask)?, value(ask)?);
     let mut values = ArrayVec::new();
     values.push(first);
     values.push(second);
@@ -129,9 +104,8 @@ fn write_of(heading: &Heading, words: &mut Words<'_>) -> Result<Work, Fault> {
 }
 
 /// Reads a snapshot of so many tries.
-fn snapshot_of(heading: &Heading, words: &mut Words<'_>) -> Result<Work, Fault> {
-    let shape = database(heading, words)?;
-    let tries = size(words)?;
+fn snapshot_of<W: Write>(ask: &mut Ask<'_, W>) -> Result<Work, Fault> {
+    let (shape, tries) = (database(ask)?, ask.size()?);
     if tries == 0 || tries > 1000 {
         return Err(Fault::Line);
     }
@@ -139,9 +113,9 @@ fn snapshot_of(heading: &Heading, words: &mut Words<'_>) -> Result<Work, Fault> 
 }
 
 /// Reads a P on two semaphores.
-fn down_both_of(heading: &Heading, words: &mut Words<'_>) -> Result<Work, Fault> {
-    let both = semaphore_of(heading, "both")?;
-    let (one, other) = (semaphore(heading, words)?, semaphore(heading, words)?);
+fn down_both_of<W: Write>(ask: &mut Ask<'_, W>) -> Result<Work, Fault> {
+    let both = semaphore_of(ask.about, "both")?;
+    let (one, other) = (semaphore(ask)?, semaphore(ask)?);
     if both.initial() != 1 || both == one || both == other || one == other {
         return Err(Fault::Line);
     }
@@ -149,46 +123,40 @@ fn down_both_of(heading: &Heading, words: &mut Words<'_>) -> Result<Work, Fault>
 }
 
 /// Reads a procedure.
-fn work_of(heading: &Heading, words: &mut Words<'_>) -> Result<Work, Fault> {
-    match word(words) {
+fn work_of<W: Write>(ask: &mut Ask<'_, W>) -> Result<Work, Fault> {
+    match ask.word() {
         "produce" => {
-            let shape = buffer(heading, words)?;
-            Ok(Work::Produce(Produce::new(shape, value(words)?)))
+            let shape = buffer(ask)?;
+            Ok(Work::Produce(Produce::new(shape, value(ask)?)))
         }
-        "consume" => Ok(Work::Consume(Consume::new(buffer(heading, words)?))),
-        "write" => write_of(heading, words),
-        "snapshot" => snapshot_of(heading, words),
-        "p" => Ok(Work::Down(Down::new(semaphore(heading, words)?))),
-        "v" => Ok(Work::Up(Up::new(semaphore(heading, words)?))),
-        "pboth" => down_both_of(heading, words),
+        "consume" => Ok(Work::Consume(Consume::new(buffer(ask)?))),
+        "write" => write_of(ask),
+        "snapshot" => snapshot_of(ask),
+        "p" => Ok(Work::Down(Down::new(semaphore(ask)?))),
+        "v" => Ok(Work::Up(Up::new(semaphore(ask)?))),
+        "pboth" => down_both_of(ask),
         _ => Err(Fault::Line),
     }
 }
 
 /// Reads a worker and its procedure.
-fn begun_of(heading: &Heading, words: &mut Words<'_>) -> Result<Begun, Fault> {
-    let worker = worker(heading, words)?;
-    let work = work_of(heading, words)?;
+fn begun_of<W: Write>(ask: &mut Ask<'_, W>) -> Result<Begun, Fault> {
+    let (worker, work) = (worker(ask)?, work_of(ask)?);
     Ok(Begun { worker, work })
 }
 
 /// Writes how a snapshot has ended.
-fn write_end<W: Write>(work: &Work, out: &mut W) -> Result<(), Fault> {
-    let Work::Snapshot(snapshot) = work else {
-        return Err(Fault::Line);
+fn tell_end<W: Write>(snapshot: &Snapshot, ask: &mut Ask<'_, W>) -> Result<(), Fault> {
+    let (version, values) = match snapshot.ended() {
+        None => return tell("goes on", ask.out),
+        Some(SnapshotEnd::Disturbed) => return tell("disturbed", ask.out),
+        Some(SnapshotEnd::Accepted(version, values)) => (version, values),
     };
-    match snapshot.ended() {
-        None => writeln!(out, "goes on")?,
-        Some(SnapshotEnd::Disturbed) => writeln!(out, "disturbed")?,
-        Some(SnapshotEnd::Accepted(version, values)) => {
-            write!(out, "accepted {version}")?;
-            for value in values.as_slice() {
-                write!(out, " {value}")?;
-            }
-            writeln!(out)?;
-        }
+    write!(ask.out, "accepted {version}")?;
+    for value in values.as_slice() {
+        write!(ask.out, " {value}")?;
     }
-    Ok(())
+    tell("", ask.out)
 }
 
 impl Works {
@@ -200,44 +168,50 @@ impl Works {
     }
 
     /// Has the procedure at a place go on.
-    fn go_on(&mut self, run: &mut Run, words: &mut Words<'_>) -> Result<Progress, Fault> {
-        let (place, steps) = (size(words)?, size(words)?);
+    fn go_on<W: Write>(
+        &mut self,
+        run: &mut Run,
+        ask: &mut Ask<'_, W>,
+    ) -> Result<&'static str, Fault> {
+        let (place, steps) = (ask.size()?, ask.size()?);
         match self.list.get_mut(place) {
-            Some(begun) => Ok(begun.go_on(run, steps)),
+            Some(begun) => begun.go_on(run, steps),
             None => Err(Fault::Line),
+        }
+    }
+
+    /// Adds a procedure.
+    fn begin<W: Write>(&mut self, ask: &mut Ask<'_, W>) -> Result<(), Fault> {
+        self.list.push(begun_of(ask)?)?;
+        Ok(())
+    }
+
+    /// Writes how the snapshot at a place has ended.
+    fn ended<W: Write>(&self, ask: &mut Ask<'_, W>) -> Result<(), Fault> {
+        let place = ask.size()?;
+        let Some(begun) = self.list.get(place) else {
+            return Err(Fault::Line);
+        };
+        match &begun.work {
+            Work::Snapshot(snapshot) => tell_end(snapshot, ask),
+            _ => Err(Fault::Line),
         }
     }
 
     /// Answers a line about procedures, if it is one. `begin` adds one, `go-on` makes steps of the
     /// one at a place, `turn` does so and says nothing, and `make` goes through one in at most nine
     /// steps.
-    pub fn answer<W: Write>(
-        &mut self,
-        heading: &Heading,
-        run: &mut Run,
-        verb: &str,
-        words: &mut Words<'_>,
-        out: &mut W,
-    ) -> Result<bool, Fault> {
-        match verb {
-            "begin" => self.list.push(begun_of(heading, words)?)?,
-            "make" => {
-                let mut begun = begun_of(heading, words)?;
-                write_progress(begun.go_on(run, 9), out)?;
-            }
-            "go-on" => {
-                let progress = self.go_on(run, words)?;
-                write_progress(progress, out)?;
-            }
+    pub fn answer<W: Write>(&mut self, run: &mut Run, ask: &mut Ask<'_, W>) -> Result<(), Fault> {
+        match ask.verb {
+            "begin" => self.begin(ask),
+            "make" => tell(begun_of(ask)?.go_on(run, 9)?, ask.out),
+            "go-on" => tell(self.go_on(run, ask)?, ask.out),
             "turn" => {
-                let _progress = self.go_on(run, words)?;
+                let _progress = self.go_on(run, ask)?;
+                Ok(())
             }
-            "ended" => match self.list.get(size(words)?) {
-                Some(begun) => write_end(&begun.work, out)?,
-                None => return Err(Fault::Line),
-            },
-            _ => return Ok(false),
+            "ended" => self.ended(ask),
+            _ => Err(Fault::Line),
         }
-        Ok(true)
     }
 }

@@ -1,127 +1,94 @@
 //! What a world is asked, and its steps where it stands alone.
-use crate::ids::{act, cell, event, sequencer, worker};
-use crate::writing::{write_act, write_number, write_reply, write_size, write_worker};
-use ec_core::{Act, World};
-use ec_count::{EventId, WorkerId};
-use ec_heading::Heading;
+use crate::ask::{Ask, act, cell, event, sequencer, worker};
+use crate::writing::{pending, put_entry, tell_entry, tell_reply, tell_worker};
+use ec_core::{Entry, Step, World};
+use ec_count::{CellId, EventId, SeqId, WorkerId};
 use std::io::Write;
-use test_support::{Fault, Words, size};
+use test_support::{Fault, tell, tell_if};
 
 /// Writes the call of a worker that is pending: its act, the next component, and the sum so far.
-fn write_pending<W: Write>(
-    heading: &Heading,
+fn tell_pending<W: Write>(
     world: &World,
     worker: WorkerId,
-    out: &mut W,
+    ask: &mut Ask<'_, W>,
 ) -> Result<(), Fault> {
     match world.under_way(worker) {
         Some(call) => {
-            write_act(out, heading, call.op())?;
-            writeln!(out, ", component {}, sum {}", call.index(), call.sum())?;
+            put_entry(&pending(worker, call.op()), ask)?;
+            writeln!(ask.out, ", component {}, sum {}", call.index(), call.sum())?;
+            Ok(())
         }
-        None => writeln!(out, "-")?,
+        None => tell("-", ask.out),
     }
-    Ok(())
 }
 
-/// Writes who signals a component.
-fn write_signaller<W: Write>(
-    heading: &Heading,
-    world: &World,
-    event: EventId,
-    component: usize,
-    out: &mut W,
-) -> Result<(), Fault> {
-    match world.signaller(event, component) {
-        Some(worker) => write_worker(out, heading, worker)?,
-        None => write!(out, "-")?,
+/// Writes what is asked of an eventcount.
+pub fn answer_event<W: Write>(world: &World, ask: &mut Ask<'_, W>) -> Result<(), Fault> {
+    let event = event(ask)?;
+    match ask.verb {
+        "total" => tell_if(world.total(event), ask.out),
+        "component" => tell_if(world.component(event, ask.size()?), ask.out),
+        "signaller" => tell_worker(world.signaller(event, ask.size()?), ask),
+        _ => tell_if(world.component_of(event, worker(ask)?), ask.out),
     }
-    writeln!(out)?;
-    Ok(())
 }
 
-/// Answers what is asked of a world, if the line asks that.
-pub fn answer_state<W: Write>(
-    heading: &Heading,
-    world: &World,
-    verb: &str,
-    words: &mut Words<'_>,
-    out: &mut W,
-) -> Result<bool, Fault> {
-    match verb {
-        "total" => write_number(out, world.total(event(heading, words)?))?,
-        "component" => {
-            let event = event(heading, words)?;
-            write_number(out, world.component(event, size(words)?))?;
+/// Answers another line about a world.
+pub fn answer_state<W: Write>(world: &World, ask: &mut Ask<'_, W>) -> Result<(), Fault> {
+    match ask.verb {
+        "issued" => tell_if(world.issued(sequencer(ask)?), ask.out),
+        "value" => tell_if(world.cell(cell(ask)?), ask.out),
+        _ => {
+            let worker = worker(ask)?;
+            tell_pending(world, worker, ask)
         }
-        "signaller" => {
-            let event = event(heading, words)?;
-            write_signaller(heading, world, event, size(words)?, out)?;
-        }
-        "component-of" => {
-            let event = event(heading, words)?;
-            write_size(out, world.component_of(event, worker(heading, words)?))?;
-        }
-        "issued" => write_number(out, world.issued(sequencer(heading, words)?))?,
-        "value" => write_number(out, world.cell(cell(heading, words)?))?,
-        "pending" => write_pending(heading, world, worker(heading, words)?, out)?,
-        _ => return Ok(false),
     }
-    Ok(true)
 }
 
-/// Writes what a step would be answered.
-fn write_answer<W: Write>(
-    world: &World,
-    worker: WorkerId,
-    act: Act,
-    out: &mut W,
-) -> Result<(), Fault> {
-    match world.answer(worker, &act) {
-        Ok(reply) => write_reply(out, reply)?,
-        Err(refusal) => write!(out, "{}", refusal.name())?,
+/// Makes a call of a world that stands alone, if the line is one: `would` asks for the answer to a
+/// step, and `call` makes one that is part of a call, and writes what began that.
+pub fn answer_world<W: Write>(world: &mut World, ask: &mut Ask<'_, W>) -> Result<(), Fault> {
+    let (worker, act) = (worker(ask)?, act(ask)?);
+    if ask.verb == "would" {
+        return match world.answer(worker, &act) {
+            Ok(reply) => tell_reply(reply, ask),
+            Err(refusal) => tell(refusal.name(), ask.out),
+        };
     }
-    writeln!(out)?;
-    Ok(())
-}
-
-/// Makes a step that is part of a call, and writes what began that.
-fn write_step_of_call<W: Write>(
-    heading: &Heading,
-    world: &mut World,
-    worker: WorkerId,
-    act: Act,
-    out: &mut W,
-) -> Result<(), Fault> {
     match world.step_of_call(worker, act) {
-        Ok(step) => {
-            write_act(out, heading, step.op)?;
-            write!(out, " = ")?;
-            write_reply(out, step.reply)?;
-        }
-        Err(refusal) => write!(out, "{}", refusal.name())?,
+        Ok(Step { op: act, reply }) => tell_entry(Some(Entry { worker, act, reply }), ask),
+        Err(refusal) => tell(refusal.name(), ask.out),
     }
-    writeln!(out)?;
+}
+
+/// Writes all that is asked of an eventcount.
+fn tell_event<W: Write>(world: &World, event: EventId, ask: &mut Ask<'_, W>) -> Result<(), Fault> {
+    tell_if(world.total(event), ask.out)?;
+    for place in 0..16 {
+        tell_if(world.component(event, place), ask.out)?;
+        tell_worker(world.signaller(event, place), ask)?;
+    }
     Ok(())
 }
 
-/// Makes a call of a world that stands alone, if the line is one.
-pub fn answer_world<W: Write>(
-    heading: &Heading,
-    world: &mut World,
-    verb: &str,
-    words: &mut Words<'_>,
-    out: &mut W,
-) -> Result<bool, Fault> {
-    if verb != "would" && verb != "call" {
-        return Ok(false);
+/// Writes all that a world is asked of its objects and workers, by numbers below the most that there
+/// are of one sort.
+pub fn tell_world<W: Write>(world: &World, ask: &mut Ask<'_, W>) -> Result<(), Fault> {
+    let setup = world.setup();
+    let most = setup.events().max(setup.sequencers());
+    for n in 0..most.max(setup.cells()).max(setup.workers()) {
+        if let Some(event) = EventId::new(n) {
+            tell_event(world, event, ask)?;
+        }
+        if let Some(line) = SeqId::new(n) {
+            tell_if(world.issued(line), ask.out)?;
+        }
+        if let Some(cell) = CellId::new(n) {
+            tell_if(world.cell(cell), ask.out)?;
+        }
+        if let Some(worker) = WorkerId::new(n) {
+            tell_pending(world, worker, ask)?;
+        }
     }
-    let worker = worker(heading, words)?;
-    let act = act(heading, words)?;
-    if verb == "call" {
-        write_step_of_call(heading, world, worker, act, out)?;
-    } else {
-        write_answer(world, worker, act, out)?;
-    }
-    Ok(true)
+    Ok(())
 }

@@ -1,136 +1,74 @@
-//! Workers, objects, acts and entries as words.
+//! Workers, sequencers, replies and entries as words.
+use crate::ask::Ask;
 use ec_core::{Act, Entry, Reply};
-use ec_count::{CellId, SeqId, Target, WorkerId};
-use ec_heading::Heading;
-use std::io;
+use ec_count::{SeqId, Target, WorkerId};
 use std::io::Write;
+use test_support::{Fault, tell};
 
-/// Writes the word of an object, or its number behind a `#`.
-pub fn write_object<W: Write>(
-    out: &mut W,
-    heading: &Heading,
-    target: Target,
-    number: usize,
-) -> io::Result<()> {
-    let words = heading.words();
+/// Writes the word of a worker or an object.
+fn put_object<W: Write>(object: Target, ask: &mut Ask<'_, W>) -> Result<(), Fault> {
+    let words = ask.about.words();
     for place in 0..words.len() {
         if let Some((word, found)) = words.at(place) {
-            if found == target {
-                return out.write_all(word);
+            if found == object {
+                ask.out.write_all(word)?;
+                return Ok(());
             }
         }
     }
-    write!(out, "#{number}")
+    Err(Fault::Line)
 }
 
 /// Writes a worker.
-pub fn write_worker<W: Write>(out: &mut W, heading: &Heading, worker: WorkerId) -> io::Result<()> {
-    write_object(out, heading, Target::Worker(worker), worker.get())
+pub fn put_worker<W: Write>(worker: WorkerId, ask: &mut Ask<'_, W>) -> Result<(), Fault> {
+    put_object(Target::Worker(worker), ask)
 }
 
 /// Writes a sequencer.
-pub fn write_sequencer<W: Write>(out: &mut W, heading: &Heading, line: SeqId) -> io::Result<()> {
-    write_object(out, heading, Target::Sequencer(line), line.get())
-}
-
-/// Returns the place of a cell in a block of cells.
-fn index_in(target: Target, n: usize) -> Option<usize> {
-    match target {
-        Target::Cells(first, many) => {
-            let index = n.checked_sub(first.get())?;
-            if index < many { Some(index) } else { None }
-        }
-        _ => None,
-    }
-}
-
-/// Writes a cell.
-fn write_cell<W: Write>(out: &mut W, heading: &Heading, cell: CellId) -> io::Result<()> {
-    let words = heading.words();
-    let n = cell.get();
-    for place in 0..words.len() {
-        if let Some((word, target)) = words.at(place) {
-            if let Some(index) = index_in(target, n) {
-                out.write_all(word)?;
-                return write!(out, "[{index}]");
-            }
-        }
-    }
-    write!(out, "#{n}")
-}
-
-/// Writes a verb and an eventcount.
-fn write_on_event<W: Write>(
-    out: &mut W,
-    heading: &Heading,
-    verb: &str,
-    event: ec_count::EventId,
-) -> io::Result<()> {
-    write!(out, "{verb} ")?;
-    write_object(out, heading, Target::Event(event), event.get())
-}
-
-/// Writes an act.
-pub fn write_act<W: Write>(out: &mut W, heading: &Heading, act: Act) -> io::Result<()> {
-    match act {
-        Act::Advance(event) => write_on_event(out, heading, "advance", event),
-        Act::Read(event) => write_on_event(out, heading, "read", event),
-        Act::Await(event, threshold) => {
-            write_on_event(out, heading, "await", event)?;
-            write!(out, " {threshold}")
-        }
-        Act::Go => write!(out, "go"),
-        Act::Ticket(line) => {
-            write!(out, "ticket ")?;
-            write_sequencer(out, heading, line)
-        }
-        Act::Put(cell, value) => {
-            write!(out, "put ")?;
-            write_cell(out, heading, cell)?;
-            write!(out, " {value}")
-        }
-        Act::Get(cell) => {
-            write!(out, "get ")?;
-            write_cell(out, heading, cell)
-        }
-        Act::Hand(event, to) => {
-            write_on_event(out, heading, "hand", event)?;
-            write!(out, " ")?;
-            write_worker(out, heading, to)
-        }
-    }
-}
-
-/// Writes a reply.
-pub fn write_reply<W: Write>(out: &mut W, reply: Reply) -> io::Result<()> {
-    match reply {
-        Reply::Done => write!(out, "done"),
-        Reply::Pending => write!(out, "pending"),
-        Reply::Number(n) => write!(out, "{n}"),
-    }
+pub fn put_sequencer<W: Write>(line: SeqId, ask: &mut Ask<'_, W>) -> Result<(), Fault> {
+    put_object(Target::Sequencer(line), ask)
 }
 
 /// Writes an entry.
-pub fn write_entry<W: Write>(out: &mut W, heading: &Heading, entry: &Entry) -> io::Result<()> {
-    write_worker(out, heading, entry.worker)?;
-    write!(out, " ")?;
-    write_act(out, heading, entry.act)?;
-    write!(out, " = ")?;
-    write_reply(out, entry.reply)
-}
-
-/// Writes a number, or `-` where there is none, and ends the line.
-pub fn write_number<W: Write>(out: &mut W, number: Option<u64>) -> io::Result<()> {
-    match number {
-        Some(n) => writeln!(out, "{n}"),
-        None => writeln!(out, "-"),
+pub fn put_entry<W: Write>(entry: &Entry, ask: &mut Ask<'_, W>) -> Result<(), Fault> {
+    match ec_trace::write_entry(entry, ask.about, ask.out) {
+        Ok(()) => Ok(()),
+        Err(_) => Err(Fault::Write),
     }
 }
 
-/// Writes a size, or `-` where there is none, and ends the line.
-pub fn write_size<W: Write>(out: &mut W, size: Option<usize>) -> io::Result<()> {
-    match size {
-        Some(n) => writeln!(out, "{n}"),
-        None => writeln!(out, "-"),
+/// Returns the entry of an act that is due, or of a call that is pending.
+pub fn pending(worker: WorkerId, act: Act) -> Entry {
+    Entry {
+        worker,
+        act,
+        reply: Reply::Pending,
     }
+}
+
+/// Writes a line of a worker, or `-`.
+pub fn tell_worker<W: Write>(worker: Option<WorkerId>, ask: &mut Ask<'_, W>) -> Result<(), Fault> {
+    if let Some(worker) = worker {
+        put_worker(worker, ask)?;
+        return tell("", ask.out);
+    }
+    tell("-", ask.out)
+}
+
+/// Writes a line of a reply.
+pub fn tell_reply<W: Write>(reply: Reply, ask: &mut Ask<'_, W>) -> Result<(), Fault> {
+    match reply {
+        Reply::Done => tell("done", ask.out),
+        Reply::Pending => tell("pending", ask.out),
+        Reply::Number(n) => tell(n, ask.out),
+    }
+}
+
+/// Writes a line of an entry, or `-`.
+pub fn tell_entry<W: Write>(entry: Option<Entry>, ask: &mut Ask<'_, W>) -> Result<(), Fault> {
+    if let Some(entry) = entry {
+        put_entry(&entry, ask)?;
+        return tell("", ask.out);
+    }
+    tell("-", ask.out)
 }

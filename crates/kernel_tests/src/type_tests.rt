@@ -53,24 +53,21 @@ fn a_list_of_entries_goes_on_behind_its_segments(rt: HostRuntime) -> Result<(), 
     Ok(())
 }
 
-static REFUSALS: [(Refusal, u64, &str); 9] = [
-    (Refusal::UnknownWorker, 1, "UnknownWorker"),
-    (Refusal::Busy, 2, "Busy"),
-    (Refusal::Idle, 3, "Idle"),
-    (Refusal::UnknownObject, 4, "UnknownObject"),
-    (Refusal::NoRight, 5, "NoRight"),
-    (Refusal::ValueTooLarge, 6, "ValueTooLarge"),
-    (Refusal::AtLimit, 7, "AtLimit"),
-    (Refusal::NotHandable, 8, "NotHandable"),
-    (Refusal::AlreadySignals, 9, "AlreadySignals"),
+static REFUSALS: [Refusal; 9] = [
+    Refusal::UnknownWorker,
+    Refusal::Busy,
+    Refusal::Idle,
+    Refusal::UnknownObject,
+    Refusal::NoRight,
+    Refusal::ValueTooLarge,
+    Refusal::AtLimit,
+    Refusal::NotHandable,
+    Refusal::AlreadySignals,
 ];
 
 #[test]
-fn refusals_by_number_and_name(rt: HostRuntime) {
-    for (refusal, number, name) in &REFUSALS {
-        assert!(rt;
-            refusal.number() == *number && refusal.name() == *name,
-            "at {number}"
-        );
+fn refusals_by_number(rt: HostRuntime) {
+    for (place, refusal) in REFUSALS.iter().enumerate() {
+        assert!(rt; refusal.number() == place as u64 + 1, "at {place}");
     }
 }

@@ -1,14 +1,14 @@
 //! The groups that were declared last, which may be asked of other declarations too.
-use crate::lists::Lists;
+use crate::line::{Line, Lists, two_lists};
 use ec_buffer::{BufferShape, declare_buffer};
 use ec_count::{Setup, SetupFault};
 use ec_database::{DatabaseShape, declare_database};
 use ec_semaphore::{SemaphoreShape, declare_both, declare_semaphore};
 use std::io::Write;
-use test_support::{Fault, Words, word};
+use test_support::{Fault, tell, write_buffer, write_database, write_semaphore};
 
 /// The last group of each sort.
-#[derive(Clone, Copy)]
+#[derive(Clone, Copy, Default)]
 pub struct Shapes {
     buffer: Option<BufferShape>,
     database: Option<DatabaseShape>,
@@ -16,53 +16,9 @@ pub struct Shapes {
     both: Option<SemaphoreShape>,
 }
 
-/// Writes a buffer.
-fn write_buffer<W: Write>(it: &BufferShape, out: &mut W) -> Result<(), Fault> {
-    it.known();
-    let (first, many) = (it.first_cell().get(), it.cells());
-    let (puts, gets) = (it.in_count().get(), it.out_count().get());
-    let (put, take) = (it.put_seq().get(), it.take_seq().get());
-    write!(out, "{many} cells from {first}, ")?;
-    writeln!(out, "eventcounts {puts} {gets}, sequencers {put} {take}")?;
-    Ok(())
-}
-
-/// Writes a database.
-fn write_database<W: Write>(it: &DatabaseShape, out: &mut W) -> Result<(), Fault> {
-    it.known();
-    let (first, many) = (it.first_cell().get(), it.cells());
-    let (start, done, turn) = (it.start().get(), it.done().get(), it.turn().get());
-    writeln!(
-        out,
-        "{many} cells from {first}, eventcounts {start} {done}, sequencer {turn}"
-    )?;
-    Ok(())
-}
-
-/// Writes a semaphore.
-fn write_semaphore<W: Write>(it: &SemaphoreShape, out: &mut W) -> Result<(), Fault> {
-    let (count, line) = (it.count().get(), it.line().get());
-    writeln!(
-        out,
-        "initial {}, eventcount {count}, sequencer {line}",
-        it.initial()
-    )?;
-    Ok(())
-}
-
 impl Shapes {
-    /// Has no group.
-    pub fn new() -> Self {
-        Shapes {
-            buffer: None,
-            database: None,
-            semaphore: None,
-            both: None,
-        }
-    }
-
-    /// Declares a group.
-    pub fn declare(
+    /// Declares a group of a sort.
+    fn add(
         &mut self,
         setup: &mut Setup,
         sort: &str,
@@ -81,40 +37,42 @@ impl Shapes {
         Ok(())
     }
 
-    /// Writes whether the last group of a sort fits declarations.
-    pub fn fits<W: Write>(
-        &self,
-        setup: &Setup,
-        words: &mut Words<'_>,
-        out: &mut W,
-    ) -> Result<(), Fault> {
-        let fits = match word(words) {
-            "buffer" => self.buffer.as_ref().map(|shape| shape.fits(setup)),
-            "database" => self.database.as_ref().map(|shape| shape.fits(setup)),
-            "semaphore" => self.semaphore.as_ref().map(|shape| shape.fits(setup)),
-            "both" => self.both.as_ref().map(|shape| shape.fits(setup)),
-            _ => None,
+    /// Declares a group, if the line says that.
+    pub fn declare<W: Write>(
+        &mut self,
+        setup: &mut Setup,
+        line: &mut Line<'_, W>,
+    ) -> Result<bool, Fault> {
+        let number = match line.verb {
+            "buffer" | "database" | "semaphore" => line.size()?,
+            "both" => 1,
+            _ => return Ok(false),
         };
-        let Some(fits) = fits else {
-            return Err(Fault::Line);
-        };
-        writeln!(out, "{fits}")?;
-        Ok(())
+        let lists = two_lists(line)?;
+        match self.add(setup, line.verb, number, &lists) {
+            Ok(()) => tell("declared", line.out)?,
+            Err(fault) => tell(fault, line.out)?,
+        }
+        Ok(true)
+    }
+
+    /// Whether the last group of a sort fits declarations.
+    pub fn fits(&self, setup: &Setup, sort: &str) -> Result<bool, Fault> {
+        Ok(match sort {
+            "buffer" => self.buffer.ok_or(Fault::Line)?.fits(setup),
+            "database" => self.database.ok_or(Fault::Line)?.fits(setup),
+            "semaphore" => self.semaphore.ok_or(Fault::Line)?.fits(setup),
+            _ => self.both.ok_or(Fault::Line)?.fits(setup),
+        })
     }
 
     /// Writes the objects of the last group of a sort.
-    pub fn write<W: Write>(&self, words: &mut Words<'_>, out: &mut W) -> Result<(), Fault> {
-        let sort = word(words);
-        if let (Some(shape), "buffer") = (&self.buffer, sort) {
-            write_buffer(shape, out)
-        } else if let (Some(shape), "database") = (&self.database, sort) {
-            write_database(shape, out)
-        } else if let (Some(shape), "semaphore") = (&self.semaphore, sort) {
-            write_semaphore(shape, out)
-        } else if let (Some(shape), "both") = (&self.both, sort) {
-            write_semaphore(shape, out)
-        } else {
-            Err(Fault::Line)
+    pub fn write<W: Write>(&self, sort: &str, out: &mut W) -> Result<(), Fault> {
+        match sort {
+            "buffer" => write_buffer(&self.buffer.ok_or(Fault::Line)?, out),
+            "database" => write_database(&self.database.ok_or(Fault::Line)?, out),
+            "semaphore" => write_semaphore(&self.semaphore.ok_or(Fault::Line)?, out),
+            _ => write_semaphore(&self.both.ok_or(Fault::Line)?, out),
         }
     }
 }

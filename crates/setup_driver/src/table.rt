@@ -1,15 +1,16 @@
 //! What lines are about.
-use crate::declaring::{declare, declare_group, declares};
-use crate::naming::Naming;
-use crate::rights::answer_setup;
+use crate::line::Line;
+use crate::naming::{Naming, cut};
+use crate::setups::{answer_setup, declare, declares};
 use crate::shapes::Shapes;
+use crate::texts::Texts;
 use crate::values::Values;
 use ec_count::{Limit, Setup};
 use std::alloc::Global;
 use std::io::Write;
-use test_support::{Driver, Fault, Sum, Words, number, word};
+use test_support::{Driver, Fault, Program, answer_lines, tell};
 
-/// Declarations, with a copy that was kept, the last groups, and names, words and values.
+/// Declarations, with a copy that was kept, the last groups, and names, words, values and texts.
 #[derive(Drop)]
 pub struct Table {
     setup: Setup,
@@ -17,51 +18,59 @@ pub struct Table {
     shapes: Shapes,
     naming: Naming,
     values: Values,
-}
-
-/// Returns no declarations, under limit 10.
-fn no_declarations() -> Setup {
-    Setup::new(Limit::new(10).unwrap())
+    texts: Texts,
 }
 
 impl Table {
-    /// Has nothing.
-    pub fn new(alloc: Global) -> Result<Self, Fault> {
-        Ok(Table {
-            setup: no_declarations(),
-            kept: no_declarations(),
-            shapes: Shapes::new(),
-            naming: Naming::new(alloc)?,
-            values: Values::new(),
-        })
+    /// Begins with no declarations under a limit.
+    fn begin<W: Write>(&mut self, line: &mut Line<'_, W>) -> Result<(), Fault> {
+        let Some(limit) = Limit::new(line.number()?) else {
+            return tell("-", line.out);
+        };
+        self.setup = Setup::new(limit);
+        tell(self.setup.limit().get(), line.out)
     }
 
-    /// Begins with no declarations under a limit.
-    fn begin<W: Write>(&mut self, words: &mut Words<'_>, out: &mut W) -> Result<(), Fault> {
-        match Limit::new(number(words)?) {
-            Some(limit) => {
-                self.setup = Setup::new(limit);
-                writeln!(out, "{}", self.setup.limit().get())?;
-            }
-            None => writeln!(out, "-")?,
+    /// Answers a line with a text in brackets.
+    fn answer_brackets<W: Write>(&mut self, text: &str, out: &mut W) -> Result<(), Fault> {
+        let Some((verb, text, behind)) = cut(text) else {
+            return Err(Fault::Line);
+        };
+        let line = &mut Line {
+            about: (),
+            verb,
+            words: behind.split_whitespace(),
+            out,
+        };
+        if self.naming.take(text, line)? {
+            return Ok(());
         }
-        Ok(())
+        self.texts.take(text, line)
+    }
+
+    /// Answers a line without one.
+    fn answer_line<W: Write>(&mut self, line: &mut Line<'_, W>) -> Result<(), Fault> {
+        let is_answered = declare(&mut self.setup, line)?
+            || self.shapes.declare(&mut self.setup, line)?
+            || self.answer_declarations(line)?
+            || self.values.answer(line)?
+            || self.texts.answer(line)?
+            || self.naming.answer(line)?;
+        if is_answered {
+            return Ok(());
+        }
+        answer_setup(&self.setup, line)
     }
 
     /// Answers a line about declarations or groups, if it is one.
-    fn answer_declarations<W: Write>(
-        &mut self,
-        verb: &str,
-        words: &mut Words<'_>,
-        out: &mut W,
-    ) -> Result<bool, Fault> {
-        match verb {
-            "limit" => self.begin(words, out)?,
+    fn answer_declarations<W: Write>(&mut self, line: &mut Line<'_, W>) -> Result<bool, Fault> {
+        match line.verb {
+            "limit" => self.begin(line)?,
             "keep" => self.kept = self.setup.copy(),
-            "is-kept" => writeln!(out, "{}", self.setup == self.kept)?,
-            "declares" => declares(&self.setup, words, out)?,
-            "fits" => self.shapes.fits(&self.setup, words, out)?,
-            "group" => self.shapes.write(words, out)?,
+            "is-kept" => tell(self.setup == self.kept, line.out)?,
+            "declares" => tell(declares(&self.setup, line)?, line.out)?,
+            "fits" => tell(self.shapes.fits(&self.setup, line.word())?, line.out)?,
+            "group" => self.shapes.write(line.word(), line.out)?,
             _ => return Ok(false),
         }
         Ok(true)
@@ -69,29 +78,38 @@ impl Table {
 }
 
 impl Driver for Table {
-    fn answer<W: Write>(&mut self, _alloc: Global, line: &str, out: &mut W) -> Result<(), Fault> {
-        if line.contains('<') {
-            return self.naming.answer_text(line, out);
+    fn answer<W: Write>(&mut self, _alloc: Global, text: &str, out: &mut W) -> Result<(), Fault> {
+        if text.contains('<') {
+            return self.answer_brackets(text, out);
         }
-        let mut words = line.split_whitespace();
-        let verb = word(&mut words);
-        let words = &mut words;
-        let is_answered = declare(&mut self.setup, verb, words, out)?
-            || declare_group(&mut self.setup, &mut self.shapes, verb, words, out)?
-            || self.answer_declarations(verb, words, out)?
-            || answer_setup(&self.setup, verb, words, out)?
-            || self.values.answer(verb, words, out)?
-            || self.naming.answer(verb, words, out)?;
-        if is_answered {
-            Ok(())
-        } else {
-            Err(Fault::Line)
-        }
+        self.answer_line(&mut Line::new((), text, out))
     }
 
-    fn mark(&self) -> u64 {
-        let mut sum = Sum::new();
-        self.naming.add_to(&mut sum);
-        sum.get()
+    fn write_all<W: Write>(&self, out: &mut W) -> Result<(), Fault> {
+        self.naming.tell(out)
+    }
+}
+
+impl Program for Table {
+    fn new(alloc: Global) -> Result<Self, Fault> {
+        let (naming, limit) = (Naming::new(alloc)?, Limit::new(10).unwrap());
+        Ok(Table {
+            setup: Setup::new(limit),
+            kept: Setup::new(limit),
+            shapes: Shapes::default(),
+            naming,
+            values: Values::default(),
+            texts: Texts::new(alloc),
+        })
+    }
+
+    fn answer_text<W: Write>(
+        &mut self,
+        alloc: Global,
+        watched: bool,
+        text: &str,
+        out: &mut W,
+    ) -> Result<(), Fault> {
+        answer_lines(alloc, self, watched, text, out)
     }
 }

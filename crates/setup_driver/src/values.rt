@@ -1,76 +1,55 @@
 //! Counts and ids, each by itself.
-use crate::rights::write_size;
+use crate::line::Line;
 use ec_count::{CellId, Count, EventId, Limit, SeqId, WorkerId};
 use std::io::Write;
-use test_support::{Fault, Words, number, size, word};
+use test_support::{Fault, tell_if};
 
 /// A count.
-#[derive(Clone, Copy)]
+#[derive(Clone, Copy, Default)]
 pub struct Values {
     count: Option<Count>,
 }
 
-/// Writes the number of an id, where a number has one.
-fn write_id<W: Write>(words: &mut Words<'_>, out: &mut W) -> Result<(), Fault> {
-    let (sort, n) = (word(words), size(words)?);
-    let found = match sort {
-        "worker" => WorkerId::new(n).map(|id| id.get()),
-        "eventcount" => EventId::new(n).map(|id| id.get()),
-        "sequencer" => SeqId::new(n).map(|id| id.get()),
-        "cell" => CellId::new(n).map(|id| id.get()),
-        _ => return Err(Fault::Line),
-    };
-    write_size(found, out)
-}
-
-/// Writes the value of a count, and whether that is the limit.
-fn write_count<W: Write>(count: &Count, out: &mut W) -> Result<(), Fault> {
-    writeln!(out, "{}, full: {}", count.value(), count.is_full())?;
-    Ok(())
+/// Returns the number of an id, where a number has one.
+fn id_of(sort: &str, n: usize) -> Option<usize> {
+    Some(match sort {
+        "worker" => WorkerId::new(n)?.get(),
+        "eventcount" => EventId::new(n)?.get(),
+        "sequencer" => SeqId::new(n)?.get(),
+        _ => CellId::new(n)?.get(),
+    })
 }
 
 impl Values {
-    /// Has no count.
-    pub fn new() -> Self {
-        Values { count: None }
-    }
-
-    /// Begins a count at 0.
-    fn begin<W: Write>(&mut self, words: &mut Words<'_>, out: &mut W) -> Result<(), Fault> {
-        let Some(limit) = Limit::new(number(words)?) else {
+    /// Writes the value of the count, and whether that is the limit.
+    fn tell<W: Write>(&self, line: &mut Line<'_, W>) -> Result<(), Fault> {
+        let Some(count) = &self.count else {
             return Err(Fault::Line);
         };
-        let count = Count::zero(limit);
-        write_count(&count, out)?;
-        self.count = Some(count);
+        writeln!(line.out, "{}, full: {}", count.value(), count.is_full())?;
         Ok(())
     }
 
     /// Advances the count.
-    fn advance<W: Write>(&mut self, out: &mut W) -> Result<(), Fault> {
+    fn advance<W: Write>(&mut self, line: &mut Line<'_, W>) -> Result<(), Fault> {
         let Some(count) = &mut self.count else {
             return Err(Fault::Line);
         };
-        match count.advance() {
-            Ok(()) => write_count(count, out),
-            Err(fault) => {
-                write!(out, "{fault}: ")?;
-                write_count(count, out)
-            }
+        if let Err(fault) = count.advance() {
+            write!(line.out, "{fault}: ")?;
         }
+        self.tell(line)
     }
 
     /// Answers a line about these, if it is one.
-    pub fn answer<W: Write>(
-        &mut self,
-        verb: &str,
-        words: &mut Words<'_>,
-        out: &mut W,
-    ) -> Result<bool, Fault> {
-        match verb {
-            "id" => write_id(words, out)?,
-            "count" => self.begin(words, out)?,
-            "advance" => self.advance(out)?,
+    pub fn answer<W: Write>(&mut self, line: &mut Line<'_, W>) -> Result<bool, Fault> {
+        match line.verb {
+            "id" => tell_if(id_of(line.word(), line.size()?), line.out)?,
+            "count" => {
+                self.count = Limit::new(line.number()?).map(Count::zero);
+                self.tell(line)?;
+            }
+            "advance" => self.advance(line)?,
             _ => return Ok(false),
         }
         Ok(true)

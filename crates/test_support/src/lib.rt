@@ -3,10 +3,13 @@
 
 mod driver;
 mod fault;
-mod sum;
-mod words;
+mod line;
+mod writing;
 
-pub use driver::{Driver, answer_lines, status_of};
+pub use driver::{Driver, Program, answer_lines, drive, status_of};
 pub use fault::Fault;
-pub use sum::Sum;
-pub use words::{Words, number, size, word};
+pub use line::{Line, Words, number, tell, tell_if, word};
+pub use writing::{
+    write_buffer, write_database, write_found, write_name, write_semaphore, write_sizes,
+    write_target, write_word,
+};

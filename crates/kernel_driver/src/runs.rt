@@ -1,0 +1,47 @@
+//! What a run is asked.
+use crate::ask::{Ask, worker};
+use crate::worlds::tell_world;
+use crate::writing::tell_entry;
+use ec_core::Run;
+use std::io::Write;
+use test_support::{Fault, tell};
+
+/// Whether two runs have the same entries, also by their places.
+pub fn is_same(run: &Run, other: &Run) -> bool {
+    for (place, entry) in run.entries().enumerate() {
+        if other.entry(place) != Some(entry) {
+            return false;
+        }
+    }
+    run.len() == other.len()
+}
+
+/// Writes all entries.
+fn tell_entries<W: Write>(run: &Run, ask: &mut Ask<'_, W>) -> Result<(), Fault> {
+    for entry in run.entries() {
+        tell_entry(Some(entry), ask)?;
+    }
+    Ok(())
+}
+
+/// Answers what is asked of a run, if the line asks that.
+pub fn answer_look<W: Write>(run: &Run, ask: &mut Ask<'_, W>) -> Result<(), Fault> {
+    match ask.verb {
+        "length" => tell(run.len(), ask.out),
+        "count" => tell(run.entries().count(), ask.out),
+        "entries" => tell_entries(run, ask),
+        "entry" => tell_entry(run.entry(ask.size()?), ask),
+        "silent" => tell(run.is_silent(worker(ask)?), ask.out),
+        _ => Err(Fault::Line),
+    }
+}
+
+/// Writes what a run is asked: how long it is, its last entry, what stands behind that, and its
+/// world.
+pub fn tell_run<W: Write>(run: &Run, ask: &mut Ask<'_, W>) -> Result<(), Fault> {
+    let many = run.len();
+    tell(many, ask.out)?;
+    tell_entry(run.entry(many.saturating_sub(1)), ask)?;
+    tell_entry(run.entry(many), ask)?;
+    tell_world(run.world(), ask)
+}
