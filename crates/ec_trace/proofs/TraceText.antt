@@ -6,6 +6,7 @@ use Rattle.ec_heading.specs.Sorts.{sort_word, opener, second_opener}
 use Rattle.ec_heading.specs.Outline.{Declaration, Outline, IsOutline, headed}
 use Rattle.ec_heading.specs.Spelling.{Named, list_words, second_words, name_words, number_words, declaration_line, limit_line, workers_line, trace_header, entry_line, heading_lines, text_of, trace_text}
 use Rattle.ec_heading.specs.Recalled.{names_of, second_names, declared_words, declared_line, declarations_of, worker_names, opening_text, written_text}
+use Rattle.ec_trace.specs.Written.{heading_text}
 use Rattle.ec_trace.proofs.shared.LineParts.{join_spaced, text_of-append}
 use Rattle.ec_heading.proofs.shared.OutlineNames.{workers_found}
 use Rattle.ec_heading.proofs.shared.OutlineFound.{declarations_found, name_of_worker, version_found, limit_found, worker_names_found}
@@ -48,3 +49,15 @@ text_found o entries is =
     let front : trace_header h.version ∷ limit_line h.setup.limit ∷ workers_line (worker_names h) ∷ map (declared_line h.words) (declarations_of h) ≡ trace_header o.version ∷ heading_lines o = cc in
     regroup (trace_header h.version ∷ limit_line h.setup.limit ∷ workers_line (worker_names h) ∷ map (declared_line h.words) (declarations_of h)) (codes "run" ∷ []) (map (entry_line h.words) entries) (codes "end" ∷ [])
     ∙ ap (λ (a : List (List ℕ)). text_of ((a ++ codes "run" ∷ map (entry_line h.words) entries) ++ codes "end" ∷ [])) front
+
+pub heading_found : (o : Outline) → IsOutline o → heading_text (headed o).words (headed o) ≡ text_of (heading_lines o ++ codes "run" ∷ [])
+unfolding heading_text
+heading_found o is =
+    let h = headed o in
+    let named : (ids : List ℕ) → names_of h.words ids ≡ list_words o.workers ids = λ ids. workers_found o.workers h.words ids (name_of_worker o) in
+    let limit = limit_found o in
+    let workers = worker_names_found o in
+    let lines : map (declared_line h.words) (declarations_of h) ≡ map (declaration_line o.workers) o.declarations =
+    ap (map (declared_line h.words)) (declarations_found o is) ∙ lines_same o.workers h.words o.declarations named in
+    let front : limit_line h.setup.limit ∷ workers_line (worker_names h) ∷ map (declared_line h.words) (declarations_of h) ≡ heading_lines o = cc in
+    ap (λ (a : List (List ℕ)). text_of (a ++ codes "run" ∷ [])) front

@@ -1,4 +1,5 @@
 pub mod Grammar
+pub mod Written
 pub mod WordTables
 pub mod Entries
 pub mod Keys

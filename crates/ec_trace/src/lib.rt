@@ -35,5 +35,6 @@ pub use reading_laws::{
 pub use spell::Spellings;
 pub use traced::Traced;
 pub use write::{
-    LastNumbers, put_cell, put_entry, put_next_entry, put_reply, write_entry, write_trace,
+    LastNumbers, put_act, put_cell, put_entry, put_next_entry, put_reply, write_entry, write_trace,
 };
+pub use write_heading::put_heading;

@@ -54,9 +54,9 @@ fn put_next<W: Write>(out: &mut Out<'_, W>, before: &[u8], last: &mut LastNumber
     out.put_with_decimal(before, number);
 }
 
-/// Puts what a worker asks for, behind a space.
+/// Puts what a worker asks for, behind a space. Numbers that lie near the last ones need little work.
 #[inline(always)]
-fn put_act<W: Write>(
+pub fn put_act<W: Write>(
     out: &mut Out<'_, W>,
     spellings: &Spellings<'_>,
     last: &mut LastNumbers,

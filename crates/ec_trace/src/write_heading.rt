@@ -1,9 +1,11 @@
 //! Writes what a heading declares.
-ghost use Rattle.std.specs.Prelude.{◌≡◌, ◌≤◌, ◌∷◌, ◌++◌, [], Some, None, map};
+ghost use Rattle.std.specs.Prelude.{◌≡◌, ◌≤◌, ◌∷◌, ◌++◌, [], Some, None, map, codes};
 ghost use Rattle.std.specs.List.{range_with_len};
 ghost use Rattle.ec_text.specs.Puts.{Puts};
-ghost use Rattle.ec_heading.specs.Spelling.{trace_header, word_of, name_words, number_words, limit_line, workers_line, text_of};
+ghost use Rattle.ec_heading.specs.Spelling.{trace_header, word_of, name_words, number_words, limit_line, workers_line, heading_lines, text_of};
+ghost use Rattle.ec_heading.specs.Outline.{Outline, IsOutline, headed};
 ghost use Rattle.ec_heading.specs.Sorts.{sort_word, opener, second_opener};
+ghost use Rattle.ec_trace.specs.Written.{heading_text};
 ghost use Rattle.ec_heading.specs.Recalled.{names_of, worker_names, declared_group, declaration_of, declarations_of, declared_line, declared_text, opening_text, second_names, spaced};
 
 use crate::spell::Spellings;
@@ -234,6 +236,25 @@ fn put_first<W: Write>(out: &mut Out<'_, W>, version: Version)
     out.put(first_line(version));
 }
 
+/// Puts the lines of a heading after the first one, up to `run`: the limit, the workers and the
+/// declarations.
+#[tactic(auto, using(crate::proofs::shared::LineParts::heading_parts))]
+pub fn put_heading<W: Write>(out: &mut Out<'_, W>, spellings: &Spellings<'_>, heading: &Heading)
+    ensures words { Puts out.old out.new (heading_text spellings.now heading.now) }
+    ensures outline { (o : Outline) → IsOutline o → headed o ≡ heading.now
+        → spellings.now ≡ heading.now.words
+        → Puts out.old out.new (text_of (heading_lines o ++ codes "run" ∷ [])) }
+{
+    let setup = heading.setup();
+    out.put(b"limit ");
+    out.put_number(setup.limit().get());
+    out.put(b"\nworkers");
+    put_workers(out, spellings, setup.workers());
+    out.put_byte(b'\n');
+    put_targets(out, spellings, heading);
+    out.put(b"run\n");
+}
+
 /// Puts the lines before the entries.
 #[tactic(auto, using(crate::proofs::shared::LineParts::opening_parts))]
 pub(crate) fn put_opening<W: Write>(
@@ -243,13 +264,7 @@ pub(crate) fn put_opening<W: Write>(
 )
     ensures { Puts out.old out.new (opening_text spellings.now heading.now) }
 {
-    let setup = heading.setup();
     put_first(out, heading.version());
-    out.put(b"\nlimit ");
-    out.put_number(setup.limit().get());
-    out.put(b"\nworkers");
-    put_workers(out, spellings, setup.workers());
     out.put_byte(b'\n');
-    put_targets(out, spellings, heading);
-    out.put(b"run\n");
+    put_heading(out, spellings, heading);
 }

@@ -32,8 +32,8 @@ pub(crate) fn status_of(fault: &TraceFault) -> Status
     }
 }
 
-/// Notes that a trace was not read.
-pub(crate) fn note_unread<N: Write>(fault: &TraceFault, notes: &mut Out<'_, N>) -> Status
+/// Notes that a trace was not read, and returns how the command ends.
+pub fn note_unread<N: Write>(fault: &TraceFault, notes: &mut Out<'_, N>) -> Status
     ensures status { result ≡ fault_status fault.now }
     ensures note { Puts notes.old notes.new (fault_note fault.now) }
     ensures written { IsWrittenOut notes.new }

@@ -14,7 +14,7 @@ mod upgrading;
 mod walked;
 
 pub use auditing::audit;
-pub use checking::check;
+pub use checking::{check, note_unread};
 pub use laws::{
     audits_end_one_way, audits_have_one_text, checks_and_audits_refuse_alike,
     notes_leave_the_table, refused_audits_have_one_note, refused_checks_have_one_note,

@@ -13,6 +13,7 @@ use Rattle.ec_count.specs.declared.target.Target.{Target}
 use Rattle.ec_count.specs.declared.target.Target.TheVariants.{Worker}
 use Rattle.ec_core.specs.declared.act.Entry.{Entry}
 use Rattle.ec_heading.specs.Spelling.{entry_line, Named, name_words, number_words, word_of, text_of, ended_line, limit_line, workers_line, trace_header}
+use Rattle.ec_trace.specs.Written.{heading_text}
 use Rattle.ec_heading.specs.Recalled.{spaced, names_of, second_names, declared_line, declared_text, declaration_of, declarations_of, opening_text, entry_text}
 
 pub spaced-append : (xs ys : List (List ℕ)) → spaced (xs ++ ys) ≡ spaced xs ++ spaced ys
@@ -76,20 +77,27 @@ one_more_target names h ts t all =
     ∙ ap (λ (r : List ℕ). all ++ (before ++ r)) (text_of_one names (f t))
     ∙ sym (append_assoc all before (declared_text names (f t)))
 
-opened : (all lf a b n c ws ds e : List ℕ)
-    → all ++ ((a ++ lf) ++ (((b ++ n) ++ lf) ++ (((c ++ ws) ++ lf) ++ (ds ++ e)))) ≡ (((((((all ++ a) ++ (lf ++ b)) ++ n) ++ (lf ++ c)) ++ ws) ++ lf) ++ ds) ++ e
-opened all lf a b n c ws ds e = simp append_assoc
+headed_parts : (all lf b n c ws ds e : List ℕ)
+    → all ++ (((b ++ n) ++ lf) ++ (((c ++ ws) ++ lf) ++ (ds ++ e))) ≡ ((((((all ++ b) ++ n) ++ (lf ++ c)) ++ ws) ++ lf) ++ ds) ++ e
+headed_parts all lf b n c ws ds e = simp append_assoc
 
-pub opening_parts : (names : Named) (h : Headed) (all : List ℕ)
-    → all ++ opening_text names h ≡ (((((((all ++ trace_header h.version) ++ codes "\nlimit ") ++ decimal h.setup.limit) ++ codes "\nworkers") ++ spaced (names_of names (range_with_len 0 h.setup.workers))) ++ 10 ∷ []) ++ text_of (map (declared_line names) (declarations_of h))) ++ codes "run\n"
-unfolding opening_text
-opening_parts names h all =
+pub heading_parts : (names : Named) (h : Headed) (all : List ℕ)
+    → all ++ heading_text names h ≡ ((((((all ++ codes "limit ") ++ decimal h.setup.limit) ++ codes "\nworkers") ++ spaced (names_of names (range_with_len 0 h.setup.workers))) ++ 10 ∷ []) ++ text_of (map (declared_line names) (declarations_of h))) ++ codes "run\n"
+unfolding heading_text
+heading_parts names h all =
     let ws = names_of names (range_with_len 0 h.setup.workers) in
     let lines = map (declared_line names) (declarations_of h) in
-    let front = trace_header h.version ++ 10 ∷ [] in
-    ap (λ (r : List ℕ). all ++ (front ++ ((limit_line h.setup.limit ++ 10 ∷ []) ++ ((workers_line ws ++ 10 ∷ []) ++ r)))) (text_of-append lines (codes "run" ∷ []))
-    ∙ ap (λ (r : List ℕ). all ++ (front ++ ((limit_line h.setup.limit ++ 10 ∷ []) ++ ((r ++ 10 ∷ []) ++ (text_of lines ++ codes "run\n"))))) (join_spaced (codes "workers") ws)
-    ∙ opened all (10 ∷ []) (trace_header h.version) (codes "limit ") (decimal h.setup.limit) (codes "workers") (spaced ws) (text_of lines) (codes "run\n")
+    ap (λ (r : List ℕ). all ++ ((limit_line h.setup.limit ++ 10 ∷ []) ++ ((workers_line ws ++ 10 ∷ []) ++ r))) (text_of-append lines (codes "run" ∷ []))
+    ∙ ap (λ (r : List ℕ). all ++ ((limit_line h.setup.limit ++ 10 ∷ []) ++ ((r ++ 10 ∷ []) ++ (text_of lines ++ codes "run\n")))) (join_spaced (codes "workers") ws)
+    ∙ headed_parts all (10 ∷ []) (codes "limit ") (decimal h.setup.limit) (codes "workers") (spaced ws) (text_of lines) (codes "run\n")
+
+opened : (all a lf r : List ℕ) → all ++ ((a ++ lf) ++ r) ≡ ((all ++ a) ++ lf) ++ r
+opened all a lf r = simp append_assoc
+
+pub opening_parts : (names : Named) (h : Headed) (all : List ℕ)
+    → all ++ opening_text names h ≡ ((all ++ trace_header h.version) ++ 10 ∷ []) ++ heading_text names h
+unfolding opening_text heading_text
+opening_parts names h all = opened all (trace_header h.version) (10 ∷ []) _
 
 ended : (a b c : List ℕ) → a ++ (b ++ (c ++ [])) ≡ (a ++ b) ++ c
 ended a b c = simp (append_assoc, append-nil)

@@ -1,32 +1,17 @@
-use Rattle.std.proofs.Common.{◌≡◌, ℕ, [], sym, ◌∙◌, ap, subst, decimal}
-use Rattle.std.specs.List.{range_with_len}
-use Rattle.ec_count.specs.Tables.{Tables}
+use Rattle.std.proofs.Common.{[], sym, subst}
 use Rattle.ec_text.specs.Puts.{Puts}
 use Rattle.ec_text.proofs.shared.PutLemmas.{puts_then}
 use Rattle.ec_heading.specs.declared.version.Version.{Version}
 use Rattle.ec_heading.specs.Spelling.{trace_header}
-use Rattle.ec_heading.specs.Recalled.{spaced, names_of}
 use Rattle.ec_trace.proofs.shared.LineParts.{opening_parts}
 use Rattle.ec_trace.proofs.write_heading.put_opening.Goals as goal
 
 pub returns : goal.returns
 returns g c =
-    let limit : c.get.result ≡ c.args.heading.now.setup.limit = c.get.ensures.value ∙ c.limit.ensures ∙ ap (λ (t : Tables). t.limit) c.setup-setup.ensures in
-    let workers : c.workers.result ≡ c.args.heading.now.setup.workers = c.workers.ensures.value ∙ ap (λ (t : Tables). t.workers) c.setup-setup.ensures in
-    subst (Puts c.args.out.now c.put-3.new.self)
+    subst (Puts c.args.out.now c.put_heading.new.out)
     (sym (opening_parts c.args.spellings.now c.args.heading.now []))
     (puts_then _ _ _ _ _
     (puts_then _ _ _ _ _
-    (puts_then _ _ _ _ _
-    (puts_then _ _ _ _ _
-    (puts_then _ _ _ _ _
-    (puts_then _ _ _ _ _
-    (puts_then _ _ _ _ _
     (subst (λ (v : Version). Puts c.args.out.now c.put_first.new.out (trace_header v)) c.version.ensures c.put_first.ensures)
-    c.put.ensures.puts)
-    (subst (λ (n : ℕ). Puts c.put.new.self c.put_number.new.self (decimal n)) limit c.put_number.ensures.puts))
-    c.put-2.ensures.puts)
-    (subst (λ (n : ℕ). Puts c.put-2.new.self c.put_workers.new.out (spaced (names_of c.args.spellings.now (range_with_len 0 n)))) workers c.put_workers.ensures))
     c.put_byte.ensures.puts)
-    c.put_targets.ensures)
-    c.put-3.ensures.puts)
+    c.put_heading.ensures.words)

@@ -1,0 +1,23 @@
+use Rattle.std.proofs.Common.{sym, subst}
+use Rattle.ec_trace.proofs.shared.KnownInputs.{if_known, known}
+use Rattle.evc_engine.specs.Checks.{Outlets}
+use Rattle.calls_extract.specs.Extracts.{Extracts}
+use Rattle.calls_extract.proofs.Ends.{unread_so, stays}
+use Rattle.calls_extract.proofs.extracting.extract_calls.Goals as goal
+
+pub returns-in-Err-clause-ends : goal.returns-in-Err-clause-ends
+returns-in-Err-clause-ends g c = if_known (g.R.Read.remaining c.args.reader.now) _ (λ bytes is.
+    let old : Outlets = record {
+      out = g.W.Write.contents c.args.out.now;
+      notes = c.args.notes.now;
+    } in
+    let new : Outlets = record {
+      out = g.W.Write.contents c.args.out.now;
+      notes = c.note_unread.new.notes;
+    } in
+    subst (λ s. Extracts bytes (g.R.Read.remaining c.read_trace.new.reader) s old new)
+    (sym c.note_unread.ensures.status)
+    (unread_so bytes (g.R.Read.remaining c.read_trace.new.reader) c.in-Err.fault old new
+    (known (g.R.Read.remaining c.args.reader.now) _ bytes c.in-Err.ensures.tells is)
+    (stays (g.W.Write.contents c.args.out.now))
+    (c.note_unread.ensures.note, c.note_unread.ensures.written)))

@@ -1,0 +1,4 @@
+pub mod Lines
+pub mod Causes
+pub mod Extracts
+pub mod kept

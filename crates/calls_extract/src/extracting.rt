@@ -1,0 +1,60 @@
+//! `of`: a trace of steps in, the history of its calls out.
+ghost use Rattle.std.specs.Prelude.{◌≡◌, IfSome};
+ghost use Rattle.ec_text.specs.Puts.{IsWrittenOut};
+ghost use Rattle.calls_extract.specs.Extracts.{Extracts, Tells};
+
+use crate::cause::{first_cause, say_cause};
+use crate::writing::write_calls;
+use calls_kernel::calls_of_accepted_histories_are_linearizable;
+use ec_text::Out;
+use ec_trace::{Spellings, Traced, read_trace};
+use evc_engine::{Status, note_unread};
+use std::alloc::Global;
+use std::io::{Read, Write};
+
+/// Writes the calls of a trace, or notes which entry has no place in a history of calls.
+fn tell_calls<W: Write, N: Write>(traced: &Traced, out: &mut W, notes: &mut Out<'_, N>) -> Status
+    ensures ends { Tells traced.now result
+        (record { out = W.contents out.old; notes = notes.old })
+        (record { out = W.contents out.new; notes = notes.new }) }
+    ensures written { IsWrittenOut notes.old → IsWrittenOut notes.new }
+{
+    let (run, heading) = (traced.run(), traced.heading());
+    if let Some((place, cause)) = first_cause(heading.groups(), run) {
+        say_cause(notes, &Spellings::new(heading.words()), run, place, cause);
+        return Status::Usage;
+    }
+    run.known();
+    calls_of_accepted_histories_are_linearizable();
+    match write_calls(run, heading, out) {
+        Ok(()) => Status::Done,
+        Err(_) => {
+            notes.say(b"write fault\n");
+            Status::InputOutput
+        }
+    }
+}
+
+/// Reads a trace of steps, and writes its calls as a history of calls, which is linearizable; notes
+/// say what is wrong.
+///
+/// Nothing is written to `out` before the trace was read to its end and each of its entries has a
+/// place in a history of calls.
+#[tactic(auto, using(crate::proofs::Ends::extracted_so))]
+pub fn extract_calls<R: Read, W: Write, N: Write>(
+    alloc: Global,
+    reader: &mut R,
+    out: &mut W,
+    notes: &mut Out<'_, N>,
+) -> Status
+    ensures ends { IfSome (R.remaining reader.old) (λ bytes. Extracts bytes (R.remaining reader.new)
+        result
+        (record { out = W.contents out.old; notes = notes.old })
+        (record { out = W.contents out.new; notes = notes.new })) }
+    ensures written { IsWrittenOut notes.old → IsWrittenOut notes.new }
+{
+    match read_trace(alloc, reader) {
+        Ok(traced) => tell_calls(&traced, out, notes),
+        Err(fault) => note_unread(&fault, notes),
+    }
+}

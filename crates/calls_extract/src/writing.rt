@@ -1,0 +1,160 @@
+//! Writes the calls of a run.
+ghost use Rattle.std.specs.Prelude.{◌≡◌, ◌++◌, ◌∷◌, [], codes, OnOk, OnErr};
+ghost use Rattle.std.specs.Io.KnownBytes.{Appends};
+ghost use Rattle.std.specs.List.{flat_map};
+ghost use Rattle.ec_text.specs.Puts.{Puts, AppendsPrefix};
+ghost use Rattle.ec_heading.specs.Spelling.{reply_word};
+ghost use Rattle.ec_heading.specs.Outline.{Outline, IsOutline, headed};
+ghost use Rattle.calls_kernel.specs.Seen.{is_call, is_of_call};
+ghost use Rattle.calls_extract.specs.Lines.{calls_text};
+ghost use Rattle.calls_extract.specs.kept.Entries.{call_text, return_text, entry_text, text_at};
+
+use ec_core::{Act, Entry, Reply, Run};
+use ec_heading::Heading;
+use ec_text::{Out, WriteFault};
+use ec_trace::{LastNumbers, Spellings, put_act, put_heading, put_reply};
+use std::io::Write;
+
+/// Returns whether an act begins a call.
+#[inline(always)]
+fn is_call(act: &Act) -> bool
+    ensures { result ≡ is_call act.now }
+{
+    match *act {
+        Act::Go | Act::Hand(_, _) => false,
+        _ => true,
+    }
+}
+
+/// Returns whether an act belongs to a call.
+#[inline(always)]
+fn is_of_call(act: &Act) -> bool
+    ensures { result ≡ is_of_call act.now }
+{
+    match *act {
+        Act::Hand(_, _) => false,
+        _ => true,
+    }
+}
+
+/// Puts the line of the call that an entry begins, if it begins one.
+#[inline(always)]
+fn put_call<W: Write>(
+    out: &mut Out<'_, W>,
+    spellings: &Spellings<'_>,
+    last: &mut LastNumbers,
+    entry: &Entry,
+)
+    ensures { Puts out.old out.new (call_text spellings.now entry.now) }
+{
+    if is_call(&entry.act) {
+        out.put(spellings.worker(entry.worker));
+        out.put(b" calls");
+        put_act(out, spellings, last, &entry.act);
+        out.put_byte(b'\n');
+    }
+}
+
+/// Puts the line of a response.
+#[inline(always)]
+fn put_response<W: Write>(out: &mut Out<'_, W>, worker: &[u8], reply: &Reply)
+    ensures { Puts out.old out.new (worker.now ++ codes " returns " ++ reply_word reply.now
+        ++ 10 ∷ []) }
+{
+    out.put(worker);
+    out.put(b" returns ");
+    put_reply(out, reply);
+    out.put_byte(b'\n');
+}
+
+/// Puts the line of the call that an entry ends, if it ends one.
+#[inline(always)]
+fn put_return<W: Write>(out: &mut Out<'_, W>, spellings: &Spellings<'_>, entry: &Entry)
+    ensures { Puts out.old out.new (return_text spellings.now entry.now) }
+{
+    match entry.reply {
+        Reply::Pending => {}
+        Reply::Done | Reply::Number(_) => {
+            if is_of_call(&entry.act) {
+                put_response(out, spellings.worker(entry.worker), &entry.reply);
+            }
+        }
+    }
+}
+
+/// Puts the lines of an entry.
+#[inline(always)]
+#[tactic(auto, unfolding(crate::specs::kept::Entries::entry_text))]
+fn put_lines<W: Write>(
+    out: &mut Out<'_, W>,
+    spellings: &Spellings<'_>,
+    last: &mut LastNumbers,
+    entry: &Entry,
+)
+    ensures { Puts out.old out.new (entry_text spellings.now entry.now) }
+{
+    put_call(out, spellings, last, entry);
+    put_return(out, spellings, entry);
+}
+
+/// Puts the lines of the entry at a place of a run, if there is one.
+fn put_lines_at<W: Write>(
+    out: &mut Out<'_, W>,
+    spellings: &Spellings<'_>,
+    last: &mut LastNumbers,
+    run: &Run,
+    place: usize,
+)
+    ensures { Puts out.old out.new (text_at spellings.now run.now.entries place) }
+{
+    if let Some(entry) = run.entry(place) {
+        put_lines(out, spellings, last, &entry);
+    }
+}
+
+/// Puts the lines of a run's entries.
+#[tactic(auto, using(crate::proofs::Events::one_more_entry))]
+fn put_events<W: Write>(out: &mut Out<'_, W>, spellings: &Spellings<'_>, run: &Run)
+    ensures { Puts out.old out.new (flat_map (entry_text spellings.now) run.now.entries) }
+{
+    let mut last = LastNumbers::new();
+    for place in 0..run.len() {
+        put_lines_at(out, spellings, &mut last, run, place);
+    }
+}
+
+/// Puts the calls of a run.
+fn put_history<W: Write>(
+    out: &mut Out<'_, W>,
+    spellings: &Spellings<'_>,
+    heading: &Heading,
+    run: &Run,
+)
+    ensures { (o : Outline) → IsOutline o → headed o ≡ heading.now → spellings.now ≡ heading.now.words
+        → Puts out.old out.new (calls_text o run.now.entries) }
+{
+    out.put(b"evc-calls 1\n");
+    put_heading(out, spellings, heading);
+    put_events(out, spellings, run);
+    out.put(b"end\n");
+}
+
+/// Writes the calls of a run, seen from outside, as a history under the heading whose declarations
+/// the run is on: of the entry that begins a call its invocation, and of the entry that ends one its
+/// response. A hand leaves no line.
+///
+/// A WriteFault comes only where a write failed or wrote none of its bytes. It takes no memory.
+pub fn write_calls<W: Write>(run: &Run, heading: &Heading, writer: &mut W) -> Result<(), WriteFault>
+    ensures ok { (o : Outline) → IsOutline o → headed o ≡ heading.now → OnOk result
+        (Appends (W.contents writer.old) (W.contents writer.new) (calls_text o run.now.entries)) }
+    ensures err { (o : Outline) → IsOutline o → headed o ≡ heading.now → OnErr result
+        (AppendsPrefix (W.contents writer.old) (W.contents writer.new)
+        (calls_text o run.now.entries)) }
+{
+    let spellings = Spellings::new(heading.words());
+    let mut text = Out::new(writer);
+    put_history(&mut text, &spellings, heading, run);
+    let done = text.finish();
+    text.into_writer();
+    done
+}
