@@ -1,12 +1,12 @@
 //! `check`: histories of calls in, an order of the calls of each out.
-ghost use Rattle.std.specs.Prelude.{◌≡◌, ◌≤◌, IfSome, OnOk, OnErr, IfErr, length};
+ghost use Rattle.std.specs.Prelude.{◌≡◌, ◌≤◌, IfSome, IfOk, OnOk, OnErr, IfErr, length};
 ghost use Rattle.ec_text.specs.Puts.{Puts, IsWrittenOut};
 ghost use Rattle.calls_report.specs.Notes.{fault_note};
 ghost use Rattle.calls_report.specs.Remarks.{remarks_text};
-ghost use Rattle.calls_report.specs.Checks.{history_text, ChecksText, Checks};
+ghost use Rattle.calls_report.specs.Checks.{history_text, HasOrder, ChecksText, Checks};
 ghost use Rattle.calls_report.specs.kept.Sums.{AreSums};
 ghost use Rattle.calls_report.specs.kept.Judging.{PutsOrder, StopsBy, status_by, EndsBy};
-ghost use Rattle.calls_report.specs.kept.Judging.{fault_status, Judges, ChecksWhole};
+ghost use Rattle.calls_report.specs.kept.Judging.{fault_status, StopsAs, Judges, ChecksWhole};
 
 use crate::notes::{say_fault, say_refusal, say_undecided};
 use crate::order::put_order;
@@ -50,6 +50,34 @@ fn put_text<W: Write>(out: &mut Out<'_, W>, recording: &Recording, order: &[Plac
     out.put(b"end\n");
 }
 
+/// Returns a linearization of a history, or says why there is none.
+fn find_order<N: Write>(
+    alloc: Global,
+    read: &OneRead<'_>,
+    notes: &mut Out<'_, N>,
+) -> Result<Vec<Placed>, Stop>
+    ensures ok { IfOk result (λ order. HasOrder read.now.recording order.items) }
+    ensures quiet { OnOk result (notes.new ≡ notes.old) }
+    ensures stop { IfErr result (StopsBy read.now.number read.now.recording notes.old notes.new) }
+    ensures written { IsWrittenOut notes.old → IsWrittenOut notes.new }
+{
+    let recording = &read.recording;
+    let Ok(verdict) = decide(alloc, recording.kinds(), recording.events()) else {
+        return Err(Stop::Memory);
+    };
+    match verdict {
+        Verdict::Linearizable(order) => Ok(order),
+        Verdict::Refused(refusal) => match say_refusal(alloc, notes, read, &refusal) {
+            Ok(()) => Err(Stop::Refused),
+            Err(_) => Err(Stop::Memory),
+        },
+        Verdict::NotDecided(undecided) => {
+            say_undecided(notes, read, &undecided);
+            Err(Stop::NotDecided)
+        }
+    }
+}
+
 /// Judges a history: puts its text and says the remarks on it, or says why there is no text.
 fn judge<W: Write, N: Write>(
     alloc: Global,
@@ -64,31 +92,19 @@ fn judge<W: Write, N: Write>(
     ensures none { OnErr result (out.new ≡ out.old) }
     ensures written { IsWrittenOut notes.old → IsWrittenOut notes.new }
 {
-    let recording = &read.recording;
-    let Ok(verdict) = decide(alloc, recording.kinds(), recording.events()) else {
+    let order = match find_order(alloc, read, notes) {
+        Ok(order) => order,
+        Err(stop) => return Err(stop),
+    };
+    let Ok(sums) = Sums::of(alloc, &order) else {
         return Err(Stop::Memory);
     };
-    match verdict {
-        Verdict::Linearizable(order) => {
-            let Ok(sums) = Sums::of(alloc, &order) else {
-                return Err(Stop::Memory);
-            };
-            let Ok(remarks) = remarks_of(alloc, recording) else {
-                return Err(Stop::Memory);
-            };
-            put_text(out, recording, &order, &sums);
-            say_remarks(notes, read, &remarks);
-            Ok(())
-        }
-        Verdict::Refused(refusal) => match say_refusal(alloc, notes, read, &refusal) {
-            Ok(()) => Err(Stop::Refused),
-            Err(_) => Err(Stop::Memory),
-        },
-        Verdict::NotDecided(undecided) => {
-            say_undecided(notes, read, &undecided);
-            Err(Stop::NotDecided)
-        }
-    }
+    let Ok(remarks) = remarks_of(alloc, &read.recording) else {
+        return Err(Stop::Memory);
+    };
+    put_text(out, &read.recording, &order, &sums);
+    say_remarks(notes, read, &remarks);
+    Ok(())
 }
 
 /// Returns how a check ends that was stopped, and says that memory ran out.
@@ -107,8 +123,27 @@ fn end_by<N: Write>(stop: Stop, notes: &mut Out<'_, N>) -> Status
     }
 }
 
-/// Says why a text is no history, and returns how the check ends.
-fn end_unread<N: Write>(fault: TextFault, notes: &mut Out<'_, N>) -> Status
+/// Returns a linearization of a history, or says why there is none and returns how a command ends
+/// then.
+pub fn linearize<N: Write>(
+    alloc: Global,
+    read: &OneRead<'_>,
+    notes: &mut Out<'_, N>,
+) -> Result<Vec<Placed>, Status>
+    ensures ok { IfOk result (λ order. HasOrder read.now.recording order.items) }
+    ensures quiet { OnOk result (notes.new ≡ notes.old) }
+    ensures stop { IfErr result
+        (StopsAs read.now.number read.now.recording notes.old notes.new) }
+    ensures written { IsWrittenOut notes.old → IsWrittenOut notes.new }
+{
+    match find_order(alloc, read, notes) {
+        Ok(order) => Ok(order),
+        Err(stop) => Err(end_by(stop, notes)),
+    }
+}
+
+/// Says why a text is no history, and returns how a command ends then.
+pub fn note_unread<N: Write>(fault: TextFault, notes: &mut Out<'_, N>) -> Status
     ensures status { result ≡ fault_status fault }
     ensures puts { Puts notes.old notes.new (fault_note fault) }
     ensures written { IsWrittenOut notes.new }
@@ -136,7 +171,7 @@ fn judge_all<W: Write, N: Write>(
     loop {
         let read = match read_history(alloc, rest, number) {
             Ok(read) => read,
-            Err(fault) => return end_unread(fault, notes),
+            Err(fault) => return note_unread(fault, notes),
         };
         if let Err(stop) = judge(alloc, &read, out, notes) {
             return end_by(stop, notes);

@@ -15,5 +15,5 @@ mod sure;
 mod totals;
 mod words;
 
-pub use checking::{TEXT_MAX, check};
+pub use checking::{TEXT_MAX, check, linearize, note_unread};
 pub use status::Status;

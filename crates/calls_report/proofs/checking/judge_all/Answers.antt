@@ -10,10 +10,10 @@ use Rattle.calls_report.proofs.checking.judge_all.Goals as goal
 pub returns-in-Err-clause-judges : goal.returns-in-Err-clause-judges
 returns-in-Err-clause-judges g c =
     subst (λ (s : Status). Judges s c.args.text.now c.args.out.now c.loop-read.out c.args.notes.now
-    c.end_unread.new.notes) (sym c.end_unread.ensures.status)
+    c.note_unread.new.notes) (sym c.note_unread.ensures.status)
     (judges_unread c.args.text.now c.loop-read.number c.loop-read.rest.now c.args.out.now
-    c.loop-read.out c.args.notes.now c.loop-read.notes c.end_unread.new.notes c.in-Err.fault
-    c.loop-read.invariant.judged c.in-Err.ensures.tells c.end_unread.ensures.puts)
+    c.loop-read.out c.args.notes.now c.loop-read.notes c.note_unread.new.notes c.in-Err.fault
+    c.loop-read.invariant.judged c.in-Err.ensures.tells c.note_unread.ensures.puts)
 
 pub returns-in-Err-judge-clause-judges : goal.returns-in-Err-judge-clause-judges
 returns-in-Err-judge-clause-judges g c =

@@ -1,0 +1,32 @@
+use Rattle.std.proofs.Common.{◌≡◌, ap, ◌∙◌, rules}
+use Rattle.ec_core.specs.Recorded.{Recorded}
+use Rattle.ec_core.specs.declared.act.Reply.TheVariants as replies
+use Rattle.calls_replay.proofs.Steps.{begun, gone_on, begun_spelled, gone_spelled}
+use Rattle.calls_replay.proofs.making.make.Goals as goal
+
+pub loop-component-init : goal.loop-component-init
+loop-component-init c =
+    let old = c.args.run.now in
+    let new = c.step.new.run in
+    let entries = ap (λ (r : Recorded). r.entries) c.in_ok-reply.ensures in (
+      ap (λ (r : Recorded). r.setup) c.in_ok-reply.ensures,
+      λ b free. begun old.setup old.entries new.entries c.args.worker c.args.act c.in_ok-reply.reply
+          entries b free,
+      λ b all. begun_spelled old.entries new.entries c.args.worker c.args.act c.in_ok-reply.reply
+          entries b all,
+    )
+
+pub loop-component-preserved : goal.loop-component-preserved
+loop-component-preserved c =
+    let old = c.args.run.now in
+    let now = c.loop-component.run in
+    let new = c.step-in-loop-component.new.run in
+    let entries = ap (λ (r : Recorded). r.entries) c.in_ok-reply-2.ensures in
+    let pending : c.loop-component.reply ≡ replies.Pending = search rules in (
+      ap (λ (r : Recorded). r.setup) c.in_ok-reply-2.ensures ∙ c.loop-component.invariant.0,
+      λ b free. gone_on old.setup old.entries now.entries new.entries c.args.worker c.args.act
+          c.loop-component.reply c.in_ok-reply-2.reply entries pending
+          (c.loop-component.invariant.1 b free),
+      λ b all. gone_spelled now.entries new.entries c.args.worker c.in_ok-reply-2.reply entries
+          (c.loop-component.invariant.2 b all),
+    )

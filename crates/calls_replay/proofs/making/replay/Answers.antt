@@ -1,0 +1,39 @@
+use Rattle.std.proofs.Common.{◌≡◌, [], true, List, reverse, take, refl, sym, ap, ◌∙◌, subst}
+use Rattle.std.proofs.lemmas.List.Elements.{All-nil, All-same}
+use Rattle.ec_count.specs.Tables.{Tables}
+use Rattle.ec_core.specs.declared.act.Entry.{Entry}
+use Rattle.ec_core.specs.Recorded.{Recorded}
+use Rattle.ec_heading.specs.Versions.{can_spell}
+use Rattle.ec_heading.specs.declared.version.Version.TheVariants.{One}
+use Rattle.calls_replay.specs.kept.Going.{AreMadeIn}
+use Rattle.calls_replay.specs.Made.{made_of}
+use Rattle.calls_replay.proofs.Rows.{nothing_made, one_more}
+use Rattle.calls_replay.proofs.making.replay.Goals as goal
+
+pub loop-index-init : goal.loop-index-init
+loop-index-init c =
+    let none : c.in-Ok.run'.entries ≡ [] = ap (λ (r : Recorded). r.entries) c.in-Ok.ensures in (
+      ap (λ (r : Recorded). r.setup) c.in-Ok.ensures ∙ c.copy.ensures ∙ c.setup.ensures,
+      subst (λ (es : List Entry). AreMadeIn c.args.heading.now.setup [] (reverse es)) (sym none)
+          (nothing_made c.args.heading.now.setup),
+      All-same (λ (e : Entry). can_spell One e.act ≡ true) c.in-Ok.run'.entries [] none
+          (All-nil (λ (e : Entry). can_spell One e.act ≡ true)),
+    )
+
+pub loop-index-preserved : goal.loop-index-preserved
+loop-index-preserved c =
+    let t : Tables = c.args.heading.now.setup in
+    let before = c.loop-index.invariant in
+    let limit : c.get-limit.result ≡ t.limit =
+    c.get-limit.ensures.value ∙ c.limit.ensures ∙ ap (λ (s : Tables). s.limit) c.setup-2.ensures in
+    let now : AreMadeIn c.loop-index.run.setup
+    (made_of t.limit (take c.loop-index.index c.args.order.now))
+    (reverse c.loop-index.run.entries) =
+    subst (λ (s : Tables). AreMadeIn s (made_of t.limit (take c.loop-index.index c.args.order.now))
+    (reverse c.loop-index.run.entries)) (sym before.0) before.1 in (
+      c.in_ok-make_next.ensures.setup ∙ before.0,
+      one_more t.limit c.args.order.now c.loop-index.index _ t c.loop-index.run.setup
+          c.get-limit.result (reverse c.make_next.new.run.entries) refl limit before.0
+          c.loop-index-test.true (c.in_ok-make_next.ensures.made _ now),
+      c.in_ok-make_next.ensures.spelled before.2,
+    )

@@ -1,0 +1,4 @@
+pub mod Made
+pub mod Obstacles
+pub mod Replays
+pub mod kept

@@ -1,0 +1,52 @@
+-- Which histories of calls have no trace of steps, and what a note says of it.
+use Rattle.std.specs.Prelude.{◌≡◌, ℕ, ◌+◌, ◌-◌, ◌^◌, ◌<◌, min, Bool, false, nat_le, List, [], ◌++◌, length}
+use Rattle.std.specs.Prelude.{Option, Some, None, position, codes, decimal}
+use Rattle.ec_count.specs.declared.target.Target.TheVariants.{Event}
+use Rattle.ec_heading.specs.Headed.{Headed}
+use Rattle.ec_heading.specs.Spelling.{word_of}
+use Rattle.calls_core.specs.declared.history.Action.{Action}
+use Rattle.calls_core.specs.declared.history.Action.TheVariants.{Invoke, Respond}
+use Rattle.calls_core.specs.declared.history.Event as events
+use Rattle.calls_text.specs.Recordings.{Recorded, start_of, semaphores}
+use Rattle.calls_replay.specs.declared.obstacle.Obstacle.{Obstacle}
+use Rattle.calls_replay.specs.declared.obstacle.Obstacle.TheVariants.{Begun, OfGroup, Second}
+
+abbrev pub is_group_action : Headed → Action → Bool
+is_group_action h (Invoke k op) = nat_le (semaphores h) k
+is_group_action h (Respond reply) = false
+
+-- the position of the first call of a semaphore or a database
+abbrev pub first_of_group : Recorded → Option ℕ
+first_of_group r = position (λ (e : events.Event). is_group_action r.heading e.action) r.events
+
+abbrev pub HasZeros : Recorded → Type 0
+HasZeros r = (e : ℕ) → e < length r.heading.setup.events → start_of r.from e ≡ 0
+
+-- each call of the only history is on an eventcount that is 0 at the beginning, a sequencer or a
+-- cell; n is the number of the line after its `end`, and rest the text from there on
+pub record IsPlain (r : Recorded) (rest : List ℕ) : Type 0 where
+  pub only : rest ≡ []
+  pub zeros : HasZeros r
+  pub plain : first_of_group r ≡ None
+
+-- why it is not so
+abbrev pub IsObstacle : Recorded → ℕ → List ℕ → Obstacle → Type 0
+IsObstacle r n rest (Begun e) = start_of r.from e ≡ 0 → ⊥
+IsObstacle r n rest (OfGroup i) = first_of_group r ≡ Some i
+IsObstacle r n rest (Second line) = (rest ≡ [] → ⊥) × (line ≡ n)
+
+-- THE NOTE
+
+-- the number of the line of the event at a position; it does not go past the greatest of 64 bits
+abbrev pub line_of : Recorded → ℕ → ℕ → ℕ
+line_of r n i = min (n - 1 - length r.events + i) (2 ^ 64 - 1)
+
+abbrev pub obstacle_note : Recorded → ℕ → Obstacle → List ℕ
+obstacle_note r n (Begun e) =
+    codes "no trace: the count of " ++ word_of r.heading.words (Event e)
+    ++ codes " is not 0 at the beginning\n"
+obstacle_note r n (OfGroup i) =
+    codes "line " ++ decimal (line_of r n i)
+    ++ codes ": no trace: the call is of a semaphore or a database\n"
+obstacle_note r n (Second line) =
+    codes "line " ++ decimal line ++ codes ": no trace: another history follows\n"

@@ -1,0 +1,2 @@
+-- What only the proofs need.
+pub mod Going

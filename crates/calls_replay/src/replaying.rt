@@ -1,0 +1,185 @@
+//! `trace`: a history of calls in, a trace of steps out.
+ghost use Rattle.std.specs.Prelude.{◌≡◌, ◌≤◌, length, count_by};
+ghost use Rattle.ec_text.specs.Puts.{Puts, IsWrittenOut};
+ghost use Rattle.calls_replay.specs.Replays.{left_out, left_note, differs_note, is_invocation};
+ghost use Rattle.calls_replay.specs.Made.{is_made};
+
+use crate::making::{Stop, is_made, replay};
+use crate::obstacle::{find_obstacle, say_obstacle};
+use calls_core::{Action, Event, Placed};
+use calls_report::{Status, TEXT_MAX, linearize, note_unread};
+use calls_text::{Read as OneRead, read_history};
+use ec_text::{Input, Out, read_up_to};
+use ec_trace::write_trace;
+use std::alloc::Global;
+use std::io::{Read, Write};
+
+/// Returns whether an event is an invocation.
+fn is_invocation(event: &Event) -> bool
+    ensures { result ≡ is_invocation event.now.action }
+{
+    match event.action {
+        Action::Invoke(_, _) => true,
+        Action::Respond(_) => false,
+    }
+}
+
+/// Returns how many calls were invoked.
+fn count_invoked(events: &[Event]) -> usize
+    ensures { result ≡ count_by (λ e. is_invocation e.action) events.now }
+{
+    events.iter().filter(|event| is_invocation(event)).count()
+}
+
+/// Returns how many calls of an order are made.
+fn count_made(limit: u64, order: &[Placed]) -> usize
+    ensures { result ≡ count_by (λ p. is_made limit p.call) order.now }
+{
+    order
+        .iter()
+        .filter(|placed| is_made(limit, &placed.call))
+        .count()
+}
+
+/// Returns how many calls leave no step: they timed out, or are pending and took no effect.
+fn left_out(read: &OneRead<'_>, order: &[Placed]) -> usize
+    ensures { result ≡ left_out read.now.recording order.now }
+{
+    let limit = read.recording.heading().setup().limit().get();
+    let invoked = count_invoked(read.recording.events());
+    invoked.saturating_sub(count_made(limit, order))
+}
+
+/// Says that calls leave no step.
+fn say_left_out<N: Write>(notes: &mut Out<'_, N>, count: usize)
+    ensures puts { Puts notes.old notes.new (left_note count) }
+    ensures written { IsWrittenOut notes.old → IsWrittenOut notes.new }
+{
+    if count == 0 {
+        return;
+    }
+    if count == 1 {
+        notes.say(b"1 call leaves no step: it timed out, or is pending and took no effect\n");
+        return;
+    }
+    notes.put_number(count as u64);
+    notes.say(b" calls leave no step: they timed out, or are pending and took no effect\n");
+}
+
+/// Says that the kernel makes a call otherwise.
+fn say_differs<N: Write>(notes: &mut Out<'_, N>, index: usize)
+    ensures puts { Puts notes.old notes.new (differs_note index) }
+    ensures written { IsWrittenOut notes.new }
+{
+    notes.put(b"no trace: the kernel makes call ");
+    notes.put_number(index as u64);
+    notes.say(b" of the order otherwise\n");
+}
+
+/// Makes the calls of a linearization, and writes the trace.
+fn write_steps<W: Write, N: Write>(
+    alloc: Global,
+    read: &OneRead<'_>,
+    order: &[Placed],
+    out: &mut W,
+    notes: &mut Out<'_, N>,
+) -> Status
+    ensures written { IsWrittenOut notes.old → IsWrittenOut notes.new }
+{
+    let heading = read.recording.heading();
+    let run = match replay(alloc, heading, order) {
+        Ok(run) => run,
+        Err(Stop::Memory) => {
+            notes.say(b"no memory\n");
+            return Status::Memory;
+        }
+        Err(Stop::Differs(index)) => {
+            say_differs(notes, index);
+            return Status::Refused;
+        }
+    };
+    match write_trace(&run, heading, out) {
+        Ok(()) => {
+            say_left_out(notes, left_out(read, order));
+            Status::Done
+        }
+        Err(_) => {
+            notes.say(b"write fault\n");
+            Status::InputOutput
+        }
+    }
+}
+
+/// Writes the trace of a history that was read.
+fn replay_read<W: Write, N: Write>(
+    alloc: Global,
+    read: &OneRead<'_>,
+    out: &mut W,
+    notes: &mut Out<'_, N>,
+) -> Status
+    ensures written { IsWrittenOut notes.old → IsWrittenOut notes.new }
+{
+    if let Some(obstacle) = find_obstacle(read) {
+        say_obstacle(notes, read, obstacle);
+        return Status::Usage;
+    }
+    match linearize(alloc, read, notes) {
+        Ok(order) => write_steps(alloc, read, &order, out, notes),
+        Err(status) => status,
+    }
+}
+
+/// Writes the trace of a text within the bound.
+fn replay_text<W: Write, N: Write>(
+    alloc: Global,
+    text: &[u8],
+    out: &mut W,
+    notes: &mut Out<'_, N>,
+) -> Status
+    requires { length text.now ≤ TEXT_MAX }
+    ensures written { IsWrittenOut notes.old → IsWrittenOut notes.new }
+{
+    match read_history(alloc, text, 1) {
+        Ok(read) => replay_read(alloc, &read, out, notes),
+        Err(fault) => note_unread(fault, notes),
+    }
+}
+
+/// Writes the trace of a text that was read whole, or more of it than a text may have.
+fn replay_whole<W: Write, N: Write>(
+    alloc: Global,
+    text: &[u8],
+    out: &mut W,
+    notes: &mut Out<'_, N>,
+) -> Status
+    ensures written { IsWrittenOut notes.old → IsWrittenOut notes.new }
+{
+    if text.len() > TEXT_MAX {
+        notes.say(b"too large\n");
+        return Status::Refused;
+    }
+    replay_text(alloc, text, out, notes)
+}
+
+/// Reads a history of calls, and writes a trace of steps with the calls of a linearization, one
+/// after another; notes say what is wrong, and how many calls leave no step.
+pub fn replay_calls<R: Read, W: Write, N: Write>(
+    alloc: Global,
+    reader: &mut R,
+    out: &mut W,
+    notes: &mut Out<'_, N>,
+) -> Status
+    ensures written { IsWrittenOut notes.old → IsWrittenOut notes.new }
+{
+    match read_up_to(alloc, reader, TEXT_MAX) {
+        Ok(Input::Whole(text)) => replay_whole(alloc, text.as_slice(), out, notes),
+        Ok(Input::CutOff(_)) => {
+            notes.say(b"read fault\n");
+            Status::InputOutput
+        }
+        Err(_) => {
+            notes.say(b"no memory\n");
+            Status::Memory
+        }
+    }
+}
