@@ -31,9 +31,11 @@ It is linearizable if its calls can be put in an order in which each takes effec
 between its invocation and its response, and each reply is that of one number for each object.";
 
 pub(crate) const AFTER_HELP: &str = "Exit status:
-  0  each history is linearizable, or the help or the version was written
+  0  each history is linearizable, the history or the trace was written, or the help or the
+     version
   1  the text is no history, or a history is not linearizable: a note says why
-  2  the command line is wrong
+  2  the command line is wrong; or a trace has no history of calls, or a history no trace: a note
+     says why
   3  a read or a write failed
   4  out of memory
   5  a history is not decided: a note says which cell, and why";
@@ -50,5 +52,40 @@ remark for each await that is pending although the count has surely reached its 
 history that is not linearizable ends the check: a note names the first faulty line, and shows by
 counting that no order can be right.";
 
+pub(crate) const OF_ABOUT: &str = "Writes the calls of a trace of steps as a history of calls";
+
+pub(crate) const OF_LONG_ABOUT: &str = "Writes the calls of a trace of steps as a history of calls.
+
+The trace is one that `evc check` accepts, and the history is linearizable: that is proved. The
+entry that begins a call gives its invocation, and the entry that ends it its response:
+
+    watcher read Sheets = pending       watcher calls read Sheets
+    press2 advance Sheets = done        press2 calls advance Sheets
+                                        press2 returns done
+    watcher go = 1                      watcher returns 1
+
+Each entry must be on an eventcount, a sequencer or a cell of no group. If one is on an object of a
+buffer, a database, a semaphore or `both`, or hands a component over, nothing is written, a note
+names it, and the status is 2.";
+
+pub(crate) const TRACE_ABOUT: &str = "Writes a trace of steps with the calls of a history";
+
+pub(crate) const TRACE_LONG_ABOUT: &str =
+    "Writes a trace of steps with the calls of a linearizable history of calls.
+
+The calls stand in the order of the linearization that `check` writes, each with its steps next to
+each other. `evc check` accepts the trace, and `evc-draw` draws it. A call that timed out, or is
+pending and took no effect, leaves no step; a note says how many these are.
+
+All calls must be on eventcounts that are 0 at the beginning, on sequencers and on cells, and the
+input must be one history. If it is not so, nothing is written, a note says why, and the status is
+2.";
+
 pub(crate) const FILE: &str =
     "The file with the histories; without it they are read from standard input";
+
+pub(crate) const TRACE_FILE: &str =
+    "The file with the trace; without it, it is read from standard input";
+
+pub(crate) const HISTORY_FILE: &str =
+    "The file with the history; without it, it is read from standard input";

@@ -1,32 +1,48 @@
-//! `evc-calls`: judges histories of calls.
+//! `evc-calls`: judges histories of calls, and makes them of traces.
 #![tactic(auto)]
 
 mod command;
 mod help;
 
-use crate::command::{Task, read_task};
+use crate::command::{Action, Task, read_task};
+use calls_extract::extract_calls;
+use calls_replay::replay_calls;
 use calls_report::{Status, check};
 use clap::Error;
 use clap::error::ErrorKind;
 use ec_text::Out;
 use std::alloc::AllocError;
-use std::io::Write;
+use std::io::{Read, Write};
 use std::process::ExitCode;
 use std::{env, fs, io};
 
-/// Checks a file, or standard input.
-fn check_input<N: Write>(rt: &HostRuntime, file: Option<&str>, notes: &mut Out<'_, N>) -> Status {
+/// Does what is asked with an input, and returns the exit status.
+fn run<R: Read, N: Write>(
+    rt: &HostRuntime,
+    action: Action,
+    reader: &mut R,
+    notes: &mut Out<'_, N>,
+) -> u8 {
     let alloc = rt.alloc();
-    let Some(path) = file else {
-        return check(alloc, &mut rt.stdin(), &mut rt.stdout(), notes);
+    match action {
+        Action::Check => check(alloc, reader, &mut rt.stdout(), notes).code(),
+        Action::Of => extract_calls(alloc, reader, &mut rt.stdout(), notes).code(),
+        Action::Trace => replay_calls(alloc, reader, &mut rt.stdout(), notes).code(),
+    }
+}
+
+/// Does what is asked with a file, or with standard input, and returns the exit status.
+fn run_task<N: Write>(rt: &HostRuntime, task: Task<'_>, notes: &mut Out<'_, N>) -> u8 {
+    let Some(path) = task.file else {
+        return run(rt, task.action, &mut rt.stdin(), notes);
     };
     match fs::open(rt, path) {
-        Ok(mut file) => check(alloc, &mut file, &mut rt.stdout(), notes),
+        Ok(mut file) => run(rt, task.action, &mut file, notes),
         Err(_) => {
             notes.put(b"cannot open ");
             notes.put(path.as_bytes());
             notes.say(b"\n");
-            Status::InputOutput
+            Status::InputOutput.code()
         }
     }
 }
@@ -64,8 +80,8 @@ fn main(rt: HostRuntime) -> ExitCode {
         return ExitCode::from(Status::Memory.code());
     };
     let status = match read_task(alloc, words.as_slice()) {
-        Ok(Task::Check(file)) => check_input(&rt, file, &mut notes),
-        Err(error) => end_by(&rt, &error, &mut notes),
+        Ok(task) => run_task(&rt, task, &mut notes),
+        Err(error) => end_by(&rt, &error, &mut notes).code(),
     };
-    ExitCode::from(status.code())
+    ExitCode::from(status)
 }
