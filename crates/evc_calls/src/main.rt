@@ -1,16 +1,11 @@
 //! `evc-calls`: judges histories of calls, and makes them of traces.
 #![tactic(auto)]
 
-mod command;
-mod help;
-
-use crate::command::{Action, Task, read_task};
 use calls_extract::extract_calls;
 use calls_replay::replay_calls;
 use calls_report::{Status, check};
-use clap::Error;
-use clap::error::ErrorKind;
 use ec_text::Out;
+use evc_calls_task::{Action, Error, Task, status_of, task};
 use std::alloc::AllocError;
 use std::io::{Read, Write};
 use std::process::ExitCode;
@@ -47,18 +42,14 @@ fn run_task<N: Write>(rt: &HostRuntime, task: Task<'_>, notes: &mut Out<'_, N>) 
     }
 }
 
-/// Writes what the command line gave in place of a task, and returns how the program ends.
-fn end_by<N: Write>(rt: &HostRuntime, error: &Error, notes: &mut Out<'_, N>) -> Status {
-    // (help goes to standard output, and that a note could not be written is not told)
+/// Writes what the command line gave in place of a task, and returns the exit status.
+fn end_by<N: Write>(rt: &HostRuntime, error: &Error, notes: &mut Out<'_, N>) -> u8 {
+    // (help goes to standard output, and that a note could not be written is not reported)
     if error.print(rt).is_err() && !error.use_stderr() {
         notes.say(b"write fault\n");
-        return Status::InputOutput;
+        return Status::InputOutput.code();
     }
-    match error.kind() {
-        ErrorKind::DisplayHelp | ErrorKind::DisplayVersion => Status::Done,
-        ErrorKind::OutOfMemory => Status::Memory,
-        _ => Status::Usage,
-    }
+    status_of(error)
 }
 
 fn main(rt: HostRuntime) -> ExitCode {
@@ -79,9 +70,9 @@ fn main(rt: HostRuntime) -> ExitCode {
         notes.say(b"no memory\n");
         return ExitCode::from(Status::Memory.code());
     };
-    let status = match read_task(alloc, words.as_slice()) {
+    let status = match task(alloc, words.as_slice()) {
         Ok(task) => run_task(&rt, task, &mut notes),
-        Err(error) => end_by(&rt, &error, &mut notes).code(),
+        Err(error) => end_by(&rt, &error, &mut notes),
     };
     ExitCode::from(status)
 }
