@@ -1,3 +1,5 @@
 pub mod Going
 pub mod Rows
 pub mod Steps
+pub mod Traces
+pub mod Ends

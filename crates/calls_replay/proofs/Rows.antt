@@ -1,13 +1,12 @@
 -- Calls made one after another.
-use Rattle.std.proofs.Common.{◌≡◌, ℕ, ◌+◌, ◌-◌, ◌<◌, ◌≤◌, List, [], ◌∷◌, ◌++◌, length, reverse}
-use Rattle.std.proofs.Common.{refl, sym, ap, ◌∙◌, subst, arith, append-nil, Bool, true, false, cond}
+use Rattle.std.proofs.Common.{◌≡◌, ℕ, ◌+◌, ◌<◌, ◌≤◌, List, [], ◌∷◌, ◌++◌, length}
+use Rattle.std.proofs.Common.{refl, sym, ap, ◌∙◌, subst, append-nil, true, false, cond}
 use Rattle.std.proofs.Common.{map, take, get_or}
 use Rattle.std.specs.List.{filter}
 use Rattle.std.proofs.lemmas.List.{map-append, take_more}
 use Rattle.std.proofs.lemmas.List.Elements.{filter-append}
 use Rattle.calls_core.specs.declared.history.Placed.{Placed}
 use Rattle.ec_count.specs.Tables.{Tables}
-use Rattle.ec_core.specs.declared.act.Act.{Act}
 use Rattle.ec_core.specs.declared.act.Reply.{Reply}
 use Rattle.ec_core.specs.declared.act.Reply.TheVariants as replies
 use Rattle.ec_core.specs.declared.act.Entry.{Entry}
@@ -19,7 +18,7 @@ use Rattle.calls_core.specs.declared.history.Op.TheVariants as ops
 use Rattle.calls_core.specs.declared.history.Reply as answers
 use Rattle.calls_core.specs.declared.history.Reply.TheVariants as given
 use Rattle.calls_core.specs.declared.history.Call.{Call}
-use Rattle.calls_kernel.specs.Made.{act_of, IsReplyOf, IsMadeAs, AreMadeAs, AreInARow, AreMade}
+use Rattle.calls_kernel.specs.Made.{act_of, IsReplyOf, IsMadeAs, AreMadeAs, AreInARow}
 use Rattle.calls_replay.specs.Made.{is_made, made_of}
 use Rattle.calls_replay.specs.kept.Going.{HasGone, Goes, AreMadeIn}
 

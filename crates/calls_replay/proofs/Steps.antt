@@ -1,6 +1,5 @@
 -- The steps of a call, by the entries of the run before and after it.
-use Rattle.std.proofs.Common.{◌≡◌, ◌≢◌, ℕ, List, [], ◌∷◌, ◌++◌, reverse, refl, sym, ap, ◌∙◌, subst, true}
-use Rattle.std.proofs.lemmas.List.Elements.{All-same, All-push}
+use Rattle.std.proofs.Common.{◌≡◌, ℕ, List, [], ◌∷◌, ◌++◌, reverse, sym, ap, ◌∙◌, subst, true}
 use Rattle.std.proofs.lemmas.List.{reverse-append}
 use Rattle.ec_count.specs.Tables.{Tables}
 use Rattle.ec_core.specs.declared.act.Act.{Act}
@@ -8,8 +7,6 @@ use Rattle.ec_core.specs.declared.act.Act.TheVariants as acts
 use Rattle.ec_core.specs.declared.act.Reply.{Reply}
 use Rattle.ec_core.specs.declared.act.Reply.TheVariants as replies
 use Rattle.ec_core.specs.declared.act.Entry.{Entry}
-use Rattle.ec_heading.specs.Versions.{CanSpellAll, can_spell}
-use Rattle.ec_heading.specs.declared.version.Version.TheVariants.{One}
 use Rattle.calls_kernel.specs.Seen.{is_call}
 use Rattle.calls_replay.specs.kept.Going.{IsFree, IsGoing, Goes}
 use Rattle.calls_replay.proofs.Going.{entry, first_step, next_step}
@@ -37,28 +34,3 @@ gone_on t es now late w act before reply is pending g =
     subst (λ (l : List Entry). Goes t (reverse es) w act l reply)
     (sym (ap reverse is ∙ newest now (entry w acts.Go reply)))
     (next_step t (reverse es) w act (reverse now) reply going)
-
--- no step is a hand
-call_spelled : (act : Act) → is_call act ≡ true → can_spell One act ≡ true
-call_spelled (acts.Advance e) c = refl
-call_spelled (acts.Read e) c = refl
-call_spelled (acts.Await e v) c = refl
-call_spelled (acts.Ticket q) c = refl
-call_spelled (acts.Put x v) c = refl
-call_spelled (acts.Get x) c = refl
-call_spelled acts.Go c = refl
-call_spelled (acts.Hand e b) c = cc
-
-pub begun_spelled : (es late : List Entry) (w : ℕ) (act : Act) (reply : Reply)
-    → late ≡ es ++ entry w act reply ∷ [] → is_call act ≡ true → CanSpellAll One es
-    → CanSpellAll One late
-begun_spelled es late w act reply is c all =
-    All-same (λ (e : Entry). can_spell One e.act ≡ true) late (es ++ entry w act reply ∷ []) is
-    (All-push (λ (e : Entry). can_spell One e.act ≡ true) es (entry w act reply) all
-    (call_spelled act c))
-
-pub gone_spelled : (now late : List Entry) (w : ℕ) (reply : Reply)
-    → late ≡ now ++ entry w acts.Go reply ∷ [] → CanSpellAll One now → CanSpellAll One late
-gone_spelled now late w reply is all =
-    All-same (λ (e : Entry). can_spell One e.act ≡ true) late (now ++ entry w acts.Go reply ∷ []) is
-    (All-push (λ (e : Entry). can_spell One e.act ≡ true) now (entry w acts.Go reply) all refl)

@@ -29,11 +29,17 @@ pub record IsPlain (r : Recorded) (rest : List ℕ) : Type 0 where
   pub zeros : HasZeros r
   pub plain : first_of_group r ≡ None
 
--- why it is not so
+-- the first eventcount that has a count at the beginning
+pub record IsFirstBegun (r : Recorded) (e : ℕ) : Type 0 where
+  pub declared : e < length r.heading.setup.events
+  pub begun : start_of r.from e ≡ 0 → ⊥
+  pub first : (f : ℕ) → f < e → start_of r.from f ≡ 0
+
+-- why it is not so: the first of these that holds
 abbrev pub IsObstacle : Recorded → ℕ → List ℕ → Obstacle → Type 0
-IsObstacle r n rest (Begun e) = start_of r.from e ≡ 0 → ⊥
-IsObstacle r n rest (OfGroup i) = first_of_group r ≡ Some i
 IsObstacle r n rest (Second line) = (rest ≡ [] → ⊥) × (line ≡ n)
+IsObstacle r n rest (Begun e) = (rest ≡ []) × IsFirstBegun r e
+IsObstacle r n rest (OfGroup i) = (rest ≡ []) × HasZeros r × (first_of_group r ≡ Some i)
 
 -- THE NOTE
 

@@ -1,2 +1,3 @@
 -- What only the proofs need.
 pub mod Going
+pub mod Ends

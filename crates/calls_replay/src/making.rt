@@ -1,7 +1,5 @@
 //! Makes calls on a kernel, one after another.
 ghost use Rattle.std.specs.Prelude.{◌≡◌, ◌++◌, ◌∷◌, [], List, reverse, true, IsTrue, IfOk, OnOk, IfSome};
-ghost use Rattle.ec_heading.specs.Versions.{CanSpellAll};
-ghost use Rattle.ec_heading.specs.declared.version.Version.TheVariants.{One};
 ghost use Rattle.std.specs.List.{filter};
 ghost use Rattle.calls_core.specs.declared.history.Call.{Call};
 ghost use Rattle.calls_core.specs.declared.history.Reply.TheVariants as answers;
@@ -126,8 +124,6 @@ fn make(run: &mut Run, worker: WorkerId, act: Act, index: usize) -> Result<Reply
     ensures setup { IfOk result (λ reply. run.new.setup ≡ run.old.setup) }
     ensures goes { IfOk result (λ reply. is_call act ≡ true → IsFree (reverse run.old.entries)
         → Goes run.old.setup (reverse run.old.entries) worker act (reverse run.new.entries) reply) }
-    ensures spelled { IfOk result (λ reply. is_call act ≡ true
-        → CanSpellAll One run.old.entries → CanSpellAll One run.new.entries) }
 {
     let mut reply = step(run, worker, act, index)?;
     for _component in 1..ROUND {
@@ -146,8 +142,6 @@ fn make_call(run: &mut Run, heading: &Heading, call: &Call, index: usize) -> Res
     ensures made { OnOk result ((cs : List Call)
         → AreMadeIn run.old.setup cs (reverse run.old.entries)
         → AreMadeIn run.old.setup (cs ++ call.now ∷ []) (reverse run.new.entries)) }
-    ensures spelled { OnOk result (CanSpellAll One run.old.entries
-        → CanSpellAll One run.new.entries) }
 {
     let Some(act) = act_of(heading, call) else {
         return Err(Stop::Differs(index));
@@ -190,8 +184,6 @@ fn make_next(
         → AreMadeIn run.old.setup cs (reverse run.old.entries)
         → AreMadeIn run.old.setup (cs ++ filter (is_made limit) (call.now ∷ []))
         (reverse run.new.entries)) }
-    ensures spelled { OnOk result (CanSpellAll One run.old.entries
-        → CanSpellAll One run.new.entries) }
 {
     if is_made(limit, call) {
         return make_call(run, heading, call, index);
@@ -203,9 +195,8 @@ fn make_next(
 /// those that timed out, and for pending tickets past the limit.
 pub fn replay(alloc: Global, heading: &Heading, order: &[Placed]) -> Result<Run, Stop>
     ensures setup { IfOk result (λ run. run.setup ≡ heading.now.setup) }
-    ensures made { IfOk result (λ run. AreMadeIn heading.now.setup (made_of heading.now.setup.limit order.now)
-        (reverse run.entries)) }
-    ensures spelled { IfOk result (λ run. CanSpellAll One run.entries) }
+    ensures made { IfOk result (λ run. AreMadeIn heading.now.setup
+        (made_of heading.now.setup.limit order.now) (reverse run.entries)) }
 {
     let Ok(mut run) = Run::open(alloc, heading.setup().copy()) else {
         return Err(Stop::Memory);

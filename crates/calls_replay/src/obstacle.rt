@@ -1,9 +1,8 @@
 //! Which histories of calls have no trace of steps.
-ghost use Rattle.std.specs.Prelude.{◌≡◌, ◌≢◌, ◌++◌, codes, decimal, IfSome};
+ghost use Rattle.std.specs.Prelude.{◌≡◌, ◌++◌, codes, decimal, IfSome};
 ghost use Rattle.std.specs.Option.{IfNone};
 ghost use Rattle.ec_text.specs.Puts.{Puts, IsWrittenOut};
-ghost use Rattle.calls_text.specs.Recordings.{start_of};
-ghost use Rattle.calls_replay.specs.Obstacles.{HasZeros, IsPlain, IsObstacle, line_of};
+ghost use Rattle.calls_replay.specs.Obstacles.{HasZeros, IsPlain, IsFirstBegun, IsObstacle, line_of};
 ghost use Rattle.calls_replay.specs.Obstacles.{first_of_group, obstacle_note};
 
 use calls_core::Action;
@@ -26,7 +25,7 @@ pub enum Obstacle {
 
 /// Returns the first eventcount that has a count at the beginning.
 fn first_begun(recording: &Recording) -> Option<EventId>
-    ensures some { IfSome result (λ e. start_of recording.now.from e ≢ 0) }
+    ensures some { IfSome result (λ e. IsFirstBegun recording.now e) }
     ensures none { IfNone result (HasZeros recording.now) }
 {
     let setup = recording.heading().setup();
@@ -67,10 +66,8 @@ pub(crate) fn find_obstacle(read: &Read<'_>) -> Option<Obstacle>
     if let Some(event) = first_begun(&read.recording) {
         return Some(Obstacle::Begun(event));
     }
-    match first_of_group(&read.recording) {
-        Some(position) => Some(Obstacle::OfGroup(position)),
-        None => None,
-    }
+    let position = first_of_group(&read.recording)?;
+    Some(Obstacle::OfGroup(position))
 }
 
 /// Returns the number of the line of the event at a position.

@@ -1,14 +1,17 @@
 //! `trace`: a history of calls in, a trace of steps out.
-ghost use Rattle.std.specs.Prelude.{◌≡◌, ◌≤◌, length, count_by};
+ghost use Rattle.std.specs.Prelude.{◌≡◌, ◌≤◌, length, count_by, IfSome};
 ghost use Rattle.ec_text.specs.Puts.{Puts, IsWrittenOut};
+ghost use Rattle.calls_text.specs.Rules.{KeepsRules};
 ghost use Rattle.calls_replay.specs.Replays.{left_out, left_note, differs_note, is_invocation};
+ghost use Rattle.calls_replay.specs.Replays.{ReplaysText, Replays};
 ghost use Rattle.calls_replay.specs.Made.{is_made};
+ghost use Rattle.calls_replay.specs.kept.Ends.{WritesSteps, ReplaysRead, ReplaysWhole};
 
 use crate::making::{Stop, is_made, replay};
 use crate::obstacle::{find_obstacle, say_obstacle};
 use calls_core::{Action, Event, Placed};
 use calls_report::{Status, TEXT_MAX, linearize, note_unread};
-use calls_text::{Read as OneRead, read_history};
+use calls_text::{Read as OneRead, read_history, read_is_spelled};
 use ec_text::{Input, Out, read_up_to};
 use ec_trace::write_trace;
 use std::alloc::Global;
@@ -84,6 +87,10 @@ fn write_steps<W: Write, N: Write>(
     out: &mut W,
     notes: &mut Out<'_, N>,
 ) -> Status
+    requires { KeepsRules read.now.recording }
+    ensures ends { WritesSteps read.now.recording order.now result
+        (record { out = W.contents out.old; notes = notes.old })
+        (record { out = W.contents out.new; notes = notes.new }) }
     ensures written { IsWrittenOut notes.old → IsWrittenOut notes.new }
 {
     let heading = read.recording.heading();
@@ -98,6 +105,7 @@ fn write_steps<W: Write, N: Write>(
             return Status::Refused;
         }
     };
+    run.known();
     match write_trace(&run, heading, out) {
         Ok(()) => {
             say_left_out(notes, left_out(read, order));
@@ -117,6 +125,10 @@ fn replay_read<W: Write, N: Write>(
     out: &mut W,
     notes: &mut Out<'_, N>,
 ) -> Status
+    requires { KeepsRules read.now.recording }
+    ensures ends { ReplaysRead read.now.number read.now.recording read.now.rest.now result
+        (record { out = W.contents out.old; notes = notes.old })
+        (record { out = W.contents out.new; notes = notes.new }) }
     ensures written { IsWrittenOut notes.old → IsWrittenOut notes.new }
 {
     if let Some(obstacle) = find_obstacle(read) {
@@ -137,8 +149,12 @@ fn replay_text<W: Write, N: Write>(
     notes: &mut Out<'_, N>,
 ) -> Status
     requires { length text.now ≤ TEXT_MAX }
+    ensures ends { ReplaysText result text.now
+        (record { out = W.contents out.old; notes = notes.old })
+        (record { out = W.contents out.new; notes = notes.new }) }
     ensures written { IsWrittenOut notes.old → IsWrittenOut notes.new }
 {
+    read_is_spelled();
     match read_history(alloc, text, 1) {
         Ok(read) => replay_read(alloc, &read, out, notes),
         Err(fault) => note_unread(fault, notes),
@@ -152,6 +168,9 @@ fn replay_whole<W: Write, N: Write>(
     out: &mut W,
     notes: &mut Out<'_, N>,
 ) -> Status
+    ensures ends { ReplaysWhole result text.now
+        (record { out = W.contents out.old; notes = notes.old })
+        (record { out = W.contents out.new; notes = notes.new }) }
     ensures written { IsWrittenOut notes.old → IsWrittenOut notes.new }
 {
     if text.len() > TEXT_MAX {
@@ -163,12 +182,19 @@ fn replay_whole<W: Write, N: Write>(
 
 /// Reads a history of calls, and writes a trace of steps with the calls of a linearization, one
 /// after another; notes say what is wrong, and how many calls leave no step.
+///
+/// A text of more than 67108864 bytes is too large, whatever is in it. The trace may have more bytes
+/// than that, and then `evc check` takes it for too large.
 pub fn replay_calls<R: Read, W: Write, N: Write>(
     alloc: Global,
     reader: &mut R,
     out: &mut W,
     notes: &mut Out<'_, N>,
 ) -> Status
+    ensures ends { IfSome (R.remaining reader.old) (λ bytes. Replays bytes (R.remaining reader.new)
+        result
+        (record { out = W.contents out.old; notes = notes.old })
+        (record { out = W.contents out.new; notes = notes.new })) }
     ensures written { IsWrittenOut notes.old → IsWrittenOut notes.new }
 {
     match read_up_to(alloc, reader, TEXT_MAX) {

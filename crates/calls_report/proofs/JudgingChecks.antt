@@ -11,7 +11,7 @@ use Rattle.calls_report.specs.Checks.{Outlets, ChecksText, IsTooLarge, Checks}
 use Rattle.calls_report.specs.kept.Judging.{ChecksWhole}
 
 -- a text that is within its bound is all that there is
-all_of_it : (max : ℕ) (bytes : List ℕ) → length (looked_at max bytes) ≤ max
+pub all_of_it : (max : ℕ) (bytes : List ℕ) → length (looked_at max bytes) ≤ max
     → looked_at max bytes ≡ bytes
 all_of_it max bytes short =
     let small : length bytes ≤ max + 1 = omega (arith, length-take (max + 1) bytes, short) in
@@ -20,7 +20,7 @@ all_of_it max bytes short =
 longer : (max : ℕ) (bytes : List ℕ) → max < length (looked_at max bytes) → max < length bytes
 longer max bytes long = omega (arith, length-take (max + 1) bytes, long)
 
-too_large : (bytes : List ℕ) (status : Status) (old new : Outlets)
+pub too_large : (bytes : List ℕ) (status : Status) (old new : Outlets)
     → IsTooLarge status (looked_at TEXT_MAX bytes) old new → IsTooLarge status bytes old new
 too_large bytes Done old new l = l
 too_large bytes Refused old new l = (longer TEXT_MAX bytes l.0, l.1, l.2)

@@ -3,4 +3,5 @@ mod SureLemmas
 mod SumLemmas
 mod TotalLemmas
 mod JudgingLemmas
-mod JudgingChecks
+pub mod JudgingChecks
+mod StopLemmas

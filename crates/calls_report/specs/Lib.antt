@@ -7,4 +7,5 @@ pub mod Refusals
 pub mod Notes
 pub mod Remarks
 pub mod Checks
+pub mod Stops
 pub mod kept

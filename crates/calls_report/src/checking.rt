@@ -4,9 +4,10 @@ ghost use Rattle.ec_text.specs.Puts.{Puts, IsWrittenOut};
 ghost use Rattle.calls_report.specs.Notes.{fault_note};
 ghost use Rattle.calls_report.specs.Remarks.{remarks_text};
 ghost use Rattle.calls_report.specs.Checks.{history_text, HasOrder, ChecksText, Checks};
+ghost use Rattle.calls_report.specs.Stops.{StopsAs};
 ghost use Rattle.calls_report.specs.kept.Sums.{AreSums};
 ghost use Rattle.calls_report.specs.kept.Judging.{PutsOrder, StopsBy, status_by, EndsBy};
-ghost use Rattle.calls_report.specs.kept.Judging.{fault_status, StopsAs, Judges, ChecksWhole};
+ghost use Rattle.calls_report.specs.kept.Judging.{fault_status, Judges, ChecksWhole};
 
 use crate::notes::{say_fault, say_refusal, say_undecided};
 use crate::order::put_order;

@@ -38,12 +38,6 @@ abbrev pub EndsBy : Stop → Outgoing → Outgoing → Type 0
 EndsBy stops.Memory old new = Puts old new (codes "no memory\n")
 EndsBy _ old new = new ≡ old
 
--- no linearization was found, so a command ends with this status, and the notes say why
-abbrev pub StopsAs : ℕ → Recorded → Outgoing → Outgoing → Status → Type 0
-StopsAs n r old new status =
-    (stop : Stop) × (said : Outgoing) × (status ≡ status_by stop) × StopsBy n r old said stop
-    × EndsBy stop said new
-
 abbrev pub fault_status : TextFault → Status
 fault_status (faults.At n kind cause) = statuses.Refused
 fault_status faults.Memory = statuses.Memory

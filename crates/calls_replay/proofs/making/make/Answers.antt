@@ -1,7 +1,7 @@
 use Rattle.std.proofs.Common.{◌≡◌, ap, ◌∙◌, rules}
 use Rattle.ec_core.specs.Recorded.{Recorded}
 use Rattle.ec_core.specs.declared.act.Reply.TheVariants as replies
-use Rattle.calls_replay.proofs.Steps.{begun, gone_on, begun_spelled, gone_spelled}
+use Rattle.calls_replay.proofs.Steps.{begun, gone_on}
 use Rattle.calls_replay.proofs.making.make.Goals as goal
 
 pub loop-component-init : goal.loop-component-init
@@ -12,8 +12,6 @@ loop-component-init c =
       ap (λ (r : Recorded). r.setup) c.in_ok-reply.ensures,
       λ b free. begun old.setup old.entries new.entries c.args.worker c.args.act c.in_ok-reply.reply
           entries b free,
-      λ b all. begun_spelled old.entries new.entries c.args.worker c.args.act c.in_ok-reply.reply
-          entries b all,
     )
 
 pub loop-component-preserved : goal.loop-component-preserved
@@ -27,6 +25,4 @@ loop-component-preserved c =
       λ b free. gone_on old.setup old.entries now.entries new.entries c.args.worker c.args.act
           c.loop-component.reply c.in_ok-reply-2.reply entries pending
           (c.loop-component.invariant.1 b free),
-      λ b all. gone_spelled now.entries new.entries c.args.worker c.in_ok-reply-2.reply entries
-          (c.loop-component.invariant.2 b all),
     )

@@ -1,6 +1,4 @@
 use Rattle.std.proofs.Common.{◌≡◌, true, reverse}
-use Rattle.ec_heading.specs.Versions.{CanSpellAll}
-use Rattle.ec_heading.specs.declared.version.Version.TheVariants.{One}
 use Rattle.calls_kernel.specs.Seen.{is_call}
 use Rattle.calls_replay.specs.kept.Going.{IsFree, Goes}
 use Rattle.calls_replay.proofs.making.make.Given as goal
@@ -10,4 +8,3 @@ invariant-loop-component l =
     (l.run.setup ≡ l.fn.run.setup)
     × (is_call l.fn.act ≡ true → IsFree (reverse l.fn.run.entries)
     → Goes l.fn.run.setup (reverse l.fn.run.entries) l.fn.worker l.fn.act (reverse l.run.entries) l.reply)
-    × (is_call l.fn.act ≡ true → CanSpellAll One l.fn.run.entries → CanSpellAll One l.run.entries)

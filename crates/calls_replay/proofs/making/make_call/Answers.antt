@@ -4,7 +4,7 @@ use Rattle.ec_core.specs.declared.act.Act.{Act}
 use Rattle.ec_core.specs.declared.act.Entry.{Entry}
 use Rattle.calls_core.specs.declared.history.Call.{Call}
 use Rattle.calls_kernel.specs.Made.{act_of, IsReplyOf}
-use Rattle.calls_replay.specs.kept.Going.{AreMadeIn, Goes}
+use Rattle.calls_replay.specs.kept.Going.{Goes}
 use Rattle.calls_replay.proofs.Rows.{call_made}
 use Rattle.calls_replay.proofs.making.make_call.Goals as goal
 

@@ -1,10 +1,7 @@
-use Rattle.std.proofs.Common.{◌≡◌, [], true, List, reverse, take, refl, sym, ap, ◌∙◌, subst}
-use Rattle.std.proofs.lemmas.List.Elements.{All-nil, All-same}
+use Rattle.std.proofs.Common.{◌≡◌, [], List, reverse, take, refl, sym, ap, ◌∙◌, subst}
 use Rattle.ec_count.specs.Tables.{Tables}
 use Rattle.ec_core.specs.declared.act.Entry.{Entry}
 use Rattle.ec_core.specs.Recorded.{Recorded}
-use Rattle.ec_heading.specs.Versions.{can_spell}
-use Rattle.ec_heading.specs.declared.version.Version.TheVariants.{One}
 use Rattle.calls_replay.specs.kept.Going.{AreMadeIn}
 use Rattle.calls_replay.specs.Made.{made_of}
 use Rattle.calls_replay.proofs.Rows.{nothing_made, one_more}
@@ -16,8 +13,6 @@ loop-index-init c =
       ap (λ (r : Recorded). r.setup) c.in-Ok.ensures ∙ c.copy.ensures ∙ c.setup.ensures,
       subst (λ (es : List Entry). AreMadeIn c.args.heading.now.setup [] (reverse es)) (sym none)
           (nothing_made c.args.heading.now.setup),
-      All-same (λ (e : Entry). can_spell One e.act ≡ true) c.in-Ok.run'.entries [] none
-          (All-nil (λ (e : Entry). can_spell One e.act ≡ true)),
     )
 
 pub loop-index-preserved : goal.loop-index-preserved
@@ -35,5 +30,4 @@ loop-index-preserved c =
       one_more t.limit c.args.order.now c.loop-index.index _ t c.loop-index.run.setup
           c.get-limit.result (reverse c.make_next.new.run.entries) refl limit before.0
           c.loop-index-test.true (c.in_ok-make_next.ensures.made _ now),
-      c.in_ok-make_next.ensures.spelled before.2,
     )

@@ -1,6 +1,4 @@
 use Rattle.std.proofs.Common.{◌≡◌, reverse, take}
-use Rattle.ec_heading.specs.Versions.{CanSpellAll}
-use Rattle.ec_heading.specs.declared.version.Version.TheVariants.{One}
 use Rattle.calls_replay.specs.Made.{made_of}
 use Rattle.calls_replay.specs.kept.Going.{AreMadeIn}
 use Rattle.calls_replay.proofs.making.replay.Given as goal
@@ -10,4 +8,3 @@ invariant-loop-index l =
     (l.run.setup ≡ l.heading.setup)
     × AreMadeIn l.heading.setup (made_of l.heading.setup.limit (take l.index l.order))
     (reverse l.run.entries)
-    × CanSpellAll One l.run.entries

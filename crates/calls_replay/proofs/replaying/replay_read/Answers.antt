@@ -1,0 +1,33 @@
+use Rattle.std.proofs.Common.{List, subst}
+use Rattle.calls_core.specs.declared.history.Placed.{Placed}
+use Rattle.calls_replay.specs.kept.Ends.{WritesSteps}
+use Rattle.calls_replay.proofs.Ends.{is_hindered, found_none, order_written}
+use Rattle.calls_replay.proofs.replaying.replay_read.Goals as goal
+
+pub returns-in-Some-clause-ends : goal.returns-in-Some-clause-ends
+returns-in-Some-clause-ends g c =
+    is_hindered c.args.read.now.number c.args.read.now.recording c.args.read.now.rest.now
+    (g.W.Write.contents c.args.out.now) c.args.notes.now c.say_obstacle.new.notes
+    c.in-Some.obstacle c.in-Some.ensures.some c.say_obstacle.ensures.puts
+
+pub returns-in-Ok-clause-ends : goal.returns-in-Ok-clause-ends
+returns-in-Ok-clause-ends g c =
+    order_written c.args.read.now.number c.args.read.now.recording c.args.read.now.rest.now
+    c.in-Ok.order.items (g.W.Write.contents c.args.out.now) c.args.notes.now
+    c.linearize.new.notes c.write_steps.result
+    (record {
+      out = g.W.Write.contents c.write_steps.new.out;
+      notes = c.write_steps.new.notes;
+    })
+    c.in_default.ensures.none c.in-Ok.ensures.ok c.in-Ok.ensures.quiet
+    (subst (λ (order : List Placed). WritesSteps c.args.read.now.recording order
+    c.write_steps.result
+    (record { out = g.W.Write.contents c.args.out.now; notes = c.linearize.new.notes })
+    (record { out = g.W.Write.contents c.write_steps.new.out; notes = c.write_steps.new.notes }))
+    c.deref.ensures.value c.write_steps.ensures.ends)
+
+pub returns-in-Err-clause-ends : goal.returns-in-Err-clause-ends
+returns-in-Err-clause-ends g c =
+    found_none c.args.read.now.number c.args.read.now.recording c.args.read.now.rest.now
+    (g.W.Write.contents c.args.out.now) c.args.notes.now c.linearize.new.notes c.in-Err.status
+    c.in-Err.ensures.stop
