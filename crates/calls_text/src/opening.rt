@@ -1,6 +1,8 @@
 //! What the lines of a history declare, up to its line `run`.
-ghost use Rattle.std.specs.Prelude.{◌≡◌, option_map, Some};
+ghost use Rattle.std.specs.Prelude.{◌≡◌, ◌≤◌, [], IfOk, option_map, Some};
 ghost use Rattle.ec_heading.specs.Heading.{head_step};
+ghost use Rattle.ec_heading.specs.Outline.{opened};
+ghost use Rattle.ec_heading.specs.Versions.{greatest_limit};
 ghost use Rattle.ec_text.specs.Words.{words_of, number_of};
 ghost use Rattle.calls_text.specs.Reading.{Steps, limit_digits, limit_step, from_words, is_later};
 ghost use Rattle.calls_text.specs.Reading.{from_step, started, start_in, opens_from, is_from};
@@ -18,7 +20,8 @@ use std::marker::Model;
 /// What is declared, and the counts at the beginning so far.
 #[derive(Drop)]
 pub(crate) struct Draft {
-    pub(crate) heading: Heading,
+    /// In a box, since a heading is large and a draft is moved.
+    pub(crate) heading: Box<Heading>,
     pub(crate) from: Vec<(EventId, u64)>,
 }
 
@@ -27,7 +30,7 @@ impl Model for Draft {
 
     ghost Value = { reading.Draft };
 
-    ghost view = { λ d. record { heading = d.heading; from = d.from.items } };
+    ghost view = { λ d. record { heading = d.heading.value; from = d.from.items } };
 }
 
 /// Returns the digits after the word `limit`, if nothing else stands there.
@@ -108,6 +111,15 @@ fn is_later(from: &[(EventId, u64)], event: EventId) -> bool
     }
 }
 
+/// Returns a heading with this limit, and nothing else.
+#[inline(never)]
+fn no_declarations(alloc: Global, limit: Limit) -> Result<Box<Heading>, AllocError>
+    requires { limit ≤ greatest_limit Version.Two }
+    ensures { IfOk result (λ heading. heading.value ≡ opened Version.Two limit []) }
+{
+    Ok(Box::new(alloc, Heading::new(alloc, Version::Two, limit)?)?)
+}
+
 impl Draft {
     /// Returns a draft with the limit that a line gives, and nothing else.
     pub(crate) fn open(alloc: Global, line: &[u8]) -> Result<Draft, LineFault>
@@ -117,7 +129,7 @@ impl Draft {
             Ok(limit) => limit,
             Err(kind) => return Err(LineFault::Of(kind)),
         };
-        match Heading::new(alloc, Version::Two, limit) {
+        match no_declarations(alloc, limit) {
             Ok(heading) => Ok(Draft {
                 heading,
                 from: Vec::new(alloc),
@@ -192,6 +204,7 @@ impl Draft {
     }
 
     /// Takes the next line, without its LF.
+    #[inline(never)]
     pub(crate) fn line(&mut self, line: &[u8]) -> Result<(), LineFault>
         ensures { Steps result (draft_step self.old line.now) self.new }
     {

@@ -21,7 +21,8 @@ use std::marker::Model;
 /// A history of calls: what is declared, and the events.
 #[derive(Drop)]
 pub struct Recording {
-    pub(crate) heading: Heading,
+    /// In a box, since a heading is large and a history is moved.
+    pub(crate) heading: Box<Heading>,
     pub(crate) from: Vec<(EventId, u64)>,
     pub(crate) kinds: Vec<Kind>,
     pub(crate) events: Vec<Event>,
@@ -34,14 +35,14 @@ impl Model for Recording {
     ghost Value = { Recorded };
 
     ghost view = { λ r. record {
-      heading = r.heading;
+      heading = r.heading.value;
       from = r.from.items;
       events = r.events.items;
       lists = r.lists;
     } };
 
     ghost invariant = { λ r. IsRecording (record {
-      heading = r.heading;
+      heading = r.heading.value;
       from = r.from.items;
       events = r.events.items;
       lists = r.lists;
@@ -163,11 +164,11 @@ impl Recording {
     /// Returns a history without events.
     pub(crate) fn new(
         alloc: Global,
-        heading: Heading,
+        heading: Box<Heading>,
         from: Vec<(EventId, u64)>,
     ) -> Result<Recording, AllocError>
         ensures { IfOk result (λ r. r ≡ recorded_of
-            (record { heading = heading; from = from.items })) }
+            (record { heading = heading.value; from = from.items })) }
     {
         let kinds = kinds_of(alloc, &heading, &from)?;
         Ok(Recording {

@@ -311,7 +311,7 @@ fn reply_of(
         Answer::Done => Ok(Reply::Done),
         Answer::Timeout => Ok(Reply::Timeout),
         Answer::Numbers => {
-            if gives_list(&recording.heading, call) {
+            if gives_list(recording.heading(), call) {
                 Ok(Reply::Number(list_number(alloc, &mut recording.lists, list)?))
             } else {
                 Ok(Reply::Number(only_number(Some(list)) as usize))
@@ -525,7 +525,7 @@ impl Running {
         let Some(call) = self.pending_call(worker) else {
             return Err(LineFault::Of(Kind::Idle));
         };
-        if let Some(kind) = suit_fault(&self.recording.heading, &call, answer, list) {
+        if let Some(kind) = suit_fault(self.recording.heading(), &call, answer, list) {
             return Err(LineFault::Of(kind));
         }
         match self.respond(alloc, worker, &call, answer, list) {

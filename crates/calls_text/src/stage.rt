@@ -134,7 +134,10 @@ impl Stage {
         }
     }
 
-    /// Goes on to the next stage.
+    /// Goes on to the next stage. What it moves is large, and takes no room in the callers, which
+    /// mostly turn nothing.
+    #[cold]
+    #[inline(never)]
     fn turn(&mut self, alloc: Global, line: &[u8]) -> Result<(), LineFault>
         requires { turns self.old line.now ≡ true }
         ensures turns { (events : List Event) → IsFollowing events self.old
