@@ -36,7 +36,7 @@ pub(crate) const AFTER_HELP: &str = "Exit status:
   2  the command line is wrong
   3  a read or a write failed
   4  out of memory
-  5  a history is not decided: a note says which cell, and why";
+  5  a history is not decided: a note says which cell, and why; or it is not watched";
 
 pub(crate) const CHECK_ABOUT: &str =
     "Writes a linearization of each history, or a note that says why there is none";
@@ -49,6 +49,23 @@ position of the event before which it takes effect), the totals of the objects, 
 remark for each await that is pending although the count has surely reached its threshold. The first
 history that is not linearizable ends the check: a note names the first faulty line, and shows by
 counting that no order can be right.";
+
+pub(crate) const WATCH_ABOUT: &str = "Judges each event when its line comes, in constant memory";
+
+pub(crate) const WATCH_LONG_ABOUT: &str =
+    "Judges each event when its line comes, in constant memory.
+
+It reads the output of a program that still runs, for example through a pipe, and keeps no history.
+The first event with which a history is not linearizable ends it at once, with a note. At the end it
+writes one line: how many histories and calls there were, and how many other calls are pending on
+average when one is called, to two decimals, cut off:
+
+    2 histories, 1200 calls, overlap 1.37
+
+Calls that rarely overlap test little. The bound on the length of a text does not hold here. No
+order is written, and no remark. A history that declares a cell or a database is not watched: it ends
+at its line `run`, with status 5. For the certificate of a refusal with all its lines, record the
+text and run `evc-calls check` on it.";
 
 pub(crate) const FILE: &str =
     "The file with the histories; without it they are read from standard input";

@@ -6,6 +6,7 @@ mod help;
 
 use crate::command::{Task, read_task};
 use calls_report::{Status, check};
+use calls_watch::watch;
 use clap::Error;
 use clap::error::ErrorKind;
 use ec_text::Out;
@@ -13,6 +14,14 @@ use std::alloc::AllocError;
 use std::io::Write;
 use std::process::ExitCode;
 use std::{env, fs, io};
+
+/// Says that a file cannot be opened.
+fn end_unopened<N: Write>(path: &str, notes: &mut Out<'_, N>) -> Status {
+    notes.put(b"cannot open ");
+    notes.put(path.as_bytes());
+    notes.say(b"\n");
+    Status::InputOutput
+}
 
 /// Checks a file, or standard input.
 fn check_input<N: Write>(rt: &HostRuntime, file: Option<&str>, notes: &mut Out<'_, N>) -> Status {
@@ -22,12 +31,19 @@ fn check_input<N: Write>(rt: &HostRuntime, file: Option<&str>, notes: &mut Out<'
     };
     match fs::open(rt, path) {
         Ok(mut file) => check(alloc, &mut file, &mut rt.stdout(), notes),
-        Err(_) => {
-            notes.put(b"cannot open ");
-            notes.put(path.as_bytes());
-            notes.say(b"\n");
-            Status::InputOutput
-        }
+        Err(_) => end_unopened(path, notes),
+    }
+}
+
+/// Watches a file, or standard input.
+fn watch_input<N: Write>(rt: &HostRuntime, file: Option<&str>, notes: &mut Out<'_, N>) -> Status {
+    let alloc = rt.alloc();
+    let Some(path) = file else {
+        return watch(alloc, &mut rt.stdin(), &mut rt.stdout(), notes);
+    };
+    match fs::open(rt, path) {
+        Ok(mut file) => watch(alloc, &mut file, &mut rt.stdout(), notes),
+        Err(_) => end_unopened(path, notes),
     }
 }
 
@@ -65,6 +81,7 @@ fn main(rt: HostRuntime) -> ExitCode {
     };
     let status = match read_task(alloc, words.as_slice()) {
         Ok(Task::Check(file)) => check_input(&rt, file, &mut notes),
+        Ok(Task::Watch(file)) => watch_input(&rt, file, &mut notes),
         Err(error) => end_by(&rt, &error, &mut notes),
     };
     ExitCode::from(status.code())
