@@ -17,6 +17,7 @@ mod verb;
 
 pub use fault::{Cause, Kind, TextFault};
 pub use index::{first_cell, first_group, first_sequencer, numbers_of};
+pub use laws::{no_text_begins_another, prefix_is_refused, read_is_spelled, spelled_is_read};
 pub use lists::Lists;
 pub use object::{has_cell, has_count, has_line};
 pub use reading::{Read, read_history};
