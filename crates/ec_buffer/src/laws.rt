@@ -1,4 +1,5 @@
 //! What the definitions mean: each function says a law and does nothing.
+ghost use Rattle.ec_buffer.specs.Auditing.{OthersMayBeLeftOut, GoesMayBeLeftOut};
 ghost use Rattle.ec_buffer.specs.Joined.{FollowingMeansLists};
 ghost use Rattle.ec_buffer.specs.Laws.{BuffersStay, PutsGoByNumber, GetsGoByNumber, ItemsArePutOnce, ItemsAreGotOnce, WhatIsGotWasPut, PutsWaitForRoom, DeliveriesAreDetermined};
 
@@ -39,4 +40,11 @@ pub fn puts_wait_for_room()
 /// The deliveries of a history that follows a buffer make one list, and no other.
 pub fn deliveries_are_determined()
     ensures { DeliveriesAreDetermined }
+{}
+
+/// The audit of a buffer need not take in an entry whose call is not on the buffer, nor a go that ends
+/// no call: without them it is the same.
+pub fn audits_may_leave_out_entries()
+    ensures off { OthersMayBeLeftOut }
+    ensures goes { GoesMayBeLeftOut }
 {}

@@ -14,8 +14,9 @@ pub use audit::{DeliveryAudit, deliveries};
 pub use consume::Consume;
 pub use delivery::Delivery;
 pub use laws::{
-    declared_buffers_stay, deliveries_are_determined, following_means_lists, items_go_by_number,
-    items_move_once, puts_wait_for_room, what_is_got_was_put,
+    audits_may_leave_out_entries, declared_buffers_stay, deliveries_are_determined,
+    following_means_lists, items_go_by_number, items_move_once, puts_wait_for_room,
+    what_is_got_was_put,
 };
 pub use lists::is_on;
 pub use produce::Produce;

@@ -1,5 +1,5 @@
 -- What an audit of a database keeps, and what it takes from an entry.
-use Rattle.std.specs.Prelude.{◌≡◌, ℕ, ◌+◌, ◌-◌, ◌<◌, Bool, false, ◌==◌, ◌&&◌, ◌||◌, not, nat_le, nat_lt, List, [], ◌∷◌, length, map, take, slice_get, slice_set, Option, Some, None, if◌then◌else◌}
+use Rattle.std.specs.Prelude.{◌≡◌, ℕ, ◌+◌, ◌-◌, ◌<◌, Bool, true, false, ◌==◌, ◌&&◌, ◌||◌, not, nat_le, nat_lt, List, [], ◌∷◌, length, map, take, slice_get, slice_set, Option, Some, None, if◌then◌else◌}
 use Rattle.ec_core.specs.declared.act.Act.{Act}
 use Rattle.ec_core.specs.declared.act.Entry.{Entry}
 use Rattle.ec_core.specs.declared.protocol.Kept.{Kept}
@@ -10,7 +10,7 @@ use Rattle.ec_database.specs.declared.tries.Accepted.{Accepted}
 use Rattle.ec_database.specs.declared.audit.ReaderCall.{ReaderCall}
 use Rattle.ec_database.specs.Shapes.{Database}
 use Rattle.ec_count.specs.Tables.{Tables}
-use Rattle.ec_core.specs.Calls.{under_way}
+use Rattle.ec_core.specs.Calls.{under_way, goes_on}
 use Rattle.ec_core.specs.Following.{opened}
 use Rattle.ec_core.specs.Scanning.{Tracked, IsTracked}
 use Rattle.ec_database.specs.Following.{is_on, try_rule, writes, database_rules}
@@ -86,3 +86,12 @@ pub record IsVersioning (a : Versioning) (past : List Entry) : Type 0 where
 -- of the same database, after a past
 abbrev pub VersionsOn : Versioning → Versioning → List Entry → Type 0
 VersionsOn start now past = (now.shape ≡ start.shape) × (now.setup ≡ start.setup) × IsVersioning now past
+
+-- the audit of a past is, as it is, that of the past and one more entry whose call is not on the database
+abbrev pub OthersMayBeLeftOut : Type 0
+OthersMayBeLeftOut = (a : Versioning) (x : Entry) (past : List Entry) → is_on a.shape (opened x.act (under_way x.worker past)) ≡ false
+    → IsVersioning a past → IsVersioning a (x ∷ past)
+
+-- and that of the past and a go that ends no call
+abbrev pub GoesMayBeLeftOut : Type 0
+GoesMayBeLeftOut = (a : Versioning) (x : Entry) (past : List Entry) → goes_on x ≡ true → IsVersioning a past → IsVersioning a (x ∷ past)

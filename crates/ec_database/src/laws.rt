@@ -1,4 +1,5 @@
 //! What the definitions mean: each function says a law and does nothing.
+ghost use Rattle.ec_database.specs.Auditing.{OthersMayBeLeftOut, GoesMayBeLeftOut};
 ghost use Rattle.ec_database.specs.Joined.{FollowingMeansLists};
 ghost use Rattle.ec_database.specs.Laws.{DatabasesStay, VersionsArePutOnce, AcceptedTriesAreUndisturbed, TriesHaveOwnEntries, TriesAreListed, TriesAreDetermined, CallListsAreWritten, SnapshotsAreTries};
 
@@ -51,4 +52,11 @@ pub fn snapshots_are_tries()
 /// lists joined end to end, and the beginning of one more.
 pub fn following_means_lists()
     ensures { FollowingMeansLists }
+{}
+
+/// The audit of a database need not take in an entry whose call is not on the database, nor a go that
+/// ends no call: without them it is the same.
+pub fn audits_may_leave_out_entries()
+    ensures off { OthersMayBeLeftOut }
+    ensures goes { GoesMayBeLeftOut }
 {}

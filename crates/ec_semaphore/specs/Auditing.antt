@@ -1,14 +1,15 @@
 -- What the audits of a semaphore and of its guarded parts keep in a walk over a run.
-use Rattle.std.specs.Prelude.{◌≡◌, ℕ, Bool, false, List}
+use Rattle.std.specs.Prelude.{◌≡◌, ℕ, Bool, true, false, List, ◌∷◌}
 use Rattle.ec_count.specs.Tables.{Tables, IsDeclared}
 use Rattle.ec_core.specs.declared.act.Entry.{Entry}
 use Rattle.ec_core.specs.Acceptance.{IsAccepted}
-use Rattle.ec_core.specs.Following.{Follow}
+use Rattle.ec_core.specs.Calls.{under_way, goes_on}
+use Rattle.ec_core.specs.Following.{Follow, opened}
 use Rattle.ec_core.specs.Scanning.{Tracked, IsTracked}
 use Rattle.ec_semaphore.specs.declared.pair.Pair.{Pair}
 use Rattle.ec_semaphore.specs.declared.pairing.Drawn.{Drawn}
 use Rattle.ec_semaphore.specs.Shapes.{Semaphore}
-use Rattle.ec_semaphore.specs.Uses.{use_rules}
+use Rattle.ec_semaphore.specs.Uses.{is_on, use_rules}
 use Rattle.ec_semaphore.specs.Keeping.{kept_of_use, kept_of_both}
 use Rattle.ec_semaphore.specs.Both.{is_line, both_rules}
 use Rattle.ec_semaphore.specs.Completing.{AreDrawn}
@@ -56,3 +57,17 @@ pub record IsPairing (a : Pairing) (past : List Entry) : Type 0 where
 -- of the same semaphores, after a past
 abbrev pub PairsOn : Pairing → Pairing → List Entry → Type 0
 PairsOn start now past = (now.common ≡ start.common) × (now.shapes ≡ start.shapes) × IsPairing now past
+
+-- the audit of a past is, as it is, that of the past and one more entry whose call is not on the semaphore
+abbrev pub OthersMayBeLeftOut : Type 0
+OthersMayBeLeftOut = (a : Balancing) (x : Entry) (past : List Entry) → is_on a.shape (opened x.act (under_way x.worker past)) ≡ false
+    → IsCounted a past → IsCounted a (x ∷ past)
+
+-- and that of the past and a go that ends no call
+abbrev pub GoesMayBeLeftOut : Type 0
+GoesMayBeLeftOut = (a : Balancing) (x : Entry) (past : List Entry) → goes_on x ≡ true → IsCounted a past → IsCounted a (x ∷ past)
+
+-- so is the audit of guarded parts after a go that ends no call; it needs every other entry, since within a guarded part a worker
+-- makes no other call
+abbrev pub GoesMayBeLeftOutOfPairs : Type 0
+GoesMayBeLeftOutOfPairs = (a : Pairing) (x : Entry) (past : List Entry) → goes_on x ≡ true → IsPairing a past → IsPairing a (x ∷ past)

@@ -1,6 +1,7 @@
 //! What the definitions mean, in order of time: each function says a law and does nothing.
 ghost use Rattle.std.specs.Prelude.{◌≡◌};
 ghost use Rattle.ec_semaphore.specs.declared.shape.TheConstants.{INITIAL_MAX};
+ghost use Rattle.ec_semaphore.specs.Auditing.{OthersMayBeLeftOut, GoesMayBeLeftOut, GoesMayBeLeftOutOfPairs};
 ghost use Rattle.ec_semaphore.specs.Joined.{FollowingMeansUses, UsesAreDownsAndUps, FollowingBothMeansGuardedParts, WholePartsAreGuarded, DownIsWritten, UpIsWritten, DownBothIsWritten};
 ghost use Rattle.ec_semaphore.specs.Laws.{SemaphoresStay, DownsCountFinishedWaits, BalancesAreNeverNegative, BothIsFollowedAsASemaphore, PairsAreDrawn, TicketsAgree};
 
@@ -61,4 +62,13 @@ pub fn tickets_agree()
 /// The greatest number that a semaphore begins with, as a number.
 pub fn greatest_initial_value_is_a_million()
     ensures { INITIAL_MAX ≡ 1000000 }
+{}
+
+/// The audit of a semaphore need not take in an entry whose call is not on the semaphore, nor a go
+/// that ends no call: without them it is the same. The audit of guarded parts need not take in such
+/// a go.
+pub fn audits_may_leave_out_entries()
+    ensures off { OthersMayBeLeftOut }
+    ensures goes { GoesMayBeLeftOut }
+    ensures pairs { GoesMayBeLeftOutOfPairs }
 {}

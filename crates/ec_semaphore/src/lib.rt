@@ -19,10 +19,10 @@ pub use balancing::{BalanceAudit, balance};
 pub use down::Down;
 pub use down_both::DownBoth;
 pub use laws::{
-    balances_are_never_negative, both_is_followed_as_a_semaphore, declared_semaphores_stay,
-    downs_count_finished_waits, following_both_means_guarded_parts, following_means_uses,
-    greatest_initial_value_is_a_million, pairs_are_drawn, procedures_ask_for_whole_lists,
-    tickets_agree,
+    audits_may_leave_out_entries, balances_are_never_negative, both_is_followed_as_a_semaphore,
+    declared_semaphores_stay, downs_count_finished_waits, following_both_means_guarded_parts,
+    following_means_uses, greatest_initial_value_is_a_million, pairs_are_drawn,
+    procedures_ask_for_whole_lists, tickets_agree,
 };
 pub use pair::Pair;
 pub use pairing::{PairAudit, pairs};

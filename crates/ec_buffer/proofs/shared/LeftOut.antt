@@ -4,12 +4,12 @@ use Rattle.ec_count.specs.Tables.{may_take}
 use Rattle.ec_core.specs.declared.act.Act.{Act}
 use Rattle.ec_core.specs.declared.act.Act.TheVariants.{Advance, Read, Await, Go, Ticket, Put, Get, Hand}
 use Rattle.ec_core.specs.declared.act.Entry.{Entry}
-use Rattle.ec_core.specs.Calls.{CallSoFar, under_way, goes_on}
+use Rattle.ec_core.specs.Calls.{CallSoFar, under_way}
 use Rattle.ec_core.specs.Following.{opened}
 use Rattle.ec_core.proofs.shared.Following.{op_at}
 use Rattle.ec_core.specs.JoinedLists.{SpeaksOf}
 use Rattle.ec_core.proofs.shared.Tracking.{tracked_off, tracked_going, going, by_going}
-use Rattle.ec_buffer.specs.Auditing.{Delivering, IsDelivering}
+use Rattle.ec_buffer.specs.Auditing.{IsDelivering, OthersMayBeLeftOut, GoesMayBeLeftOut}
 use Rattle.ec_buffer.specs.Collecting.{place_of, put_place, get_place, writers_after, list_after, writers_of, collected}
 use Rattle.ec_buffer.specs.Follows.{is_on, is_cell, produce_rule, consume_rule, buffer_rules}
 use Rattle.ec_buffer.specs.Keeping.{kept_of}
@@ -50,7 +50,7 @@ speaks : (b : Buffer) (produces : Bool) → SpeaksOf (cond produces (produce_rul
 speaks b true = λ calls op. refl
 speaks b false = λ calls op. refl
 
-pub delivering_off : (a : Delivering) (x : Entry) (past : List Entry) → is_on a.shape (op_at x past) ≡ false → IsDelivering a past → IsDelivering a (x ∷ past)
+pub delivering_off : OthersMayBeLeftOut
 delivering_off a x past off s = record {
   tracked = tracked_off (buffer_rules a.setup a.shape) kept_of (is_on a.shape) a.tracked x past (λ w. speaks a.shape (may_take a.setup a.shape.put_seq w)) off s.tracked;
   writers = s.writers ∙ sym (writers_off a.shape x past off);
@@ -66,7 +66,7 @@ collected_going : (b : Buffer) (w : ℕ) (past : List Entry) → collected b (go
 unfolding collected
 collected_going b w past = refl
 
-pub delivering_going : (a : Delivering) (x : Entry) (past : List Entry) → goes_on x ≡ true → IsDelivering a past → IsDelivering a (x ∷ past)
+pub delivering_going : GoesMayBeLeftOut
 delivering_going a x past on s =
     by_going (λ y. IsDelivering a (y ∷ past)) (λ w. record {
       tracked = tracked_going (buffer_rules a.setup a.shape) kept_of a.tracked w past s.tracked;

@@ -2,13 +2,12 @@
 use Rattle.std.proofs.Common.{◌≡◌, ℕ, Bool, true, false, ◌||◌, List, ◌∷◌, ◌++◌, None, cond, refl, ap, sym, subst, ◌∙◌, append-nil}
 use Rattle.std.specs.Option.{option_to_list}
 use Rattle.ec_core.specs.declared.act.Reply.TheVariants.{Pending}
-use Rattle.ec_core.specs.Calls.{goes_on}
 use Rattle.ec_core.specs.Following.{Told, block}
 use Rattle.ec_core.specs.declared.act.Entry.{Entry}
 use Rattle.ec_core.specs.JoinedLists.{SpeaksOf}
 use Rattle.ec_core.proofs.shared.Following.{op_at, block_pending}
 use Rattle.ec_core.proofs.shared.Tracking.{tracked_off, tracked_going, going, by_going}
-use Rattle.ec_database.specs.Auditing.{Versioning, IsVersioning, HasRow, HoldsGot, got_so_far}
+use Rattle.ec_database.specs.Auditing.{IsVersioning, HasRow, HoldsGot, got_so_far, OthersMayBeLeftOut, GoesMayBeLeftOut}
 use Rattle.ec_database.specs.Tries.{ended_at, ended_by, accepted_tries}
 use Rattle.ec_database.specs.Following.{is_on, write_rule, try_rule, writes, database_rules}
 use Rattle.ec_database.specs.Places.{kept_of}
@@ -20,7 +19,7 @@ speaks : (d : Database) (is_writer : Bool) → SpeaksOf (cond is_writer (write_r
 speaks d true = λ calls op. refl
 speaks d false = λ calls op. refl
 
-pub versioning_off : (a : Versioning) (x : Entry) (past : List Entry) → is_on a.shape (op_at x past) ≡ false → IsVersioning a past → IsVersioning a (x ∷ past)
+pub versioning_off : OthersMayBeLeftOut
 versioning_off a x past off s =
     let writers = writes a.setup a.shape in
     record {
@@ -44,7 +43,7 @@ tries_going : (d : Database) (writers : ℕ → Bool) (w : ℕ) (past : List Ent
 unfolding accepted_tries
 tries_going d writers w past = ap (λ o. accepted_tries d writers past ++ option_to_list o) (none_going d writers w past) ∙ append-nil (accepted_tries d writers past)
 
-pub versioning_going : (a : Versioning) (x : Entry) (past : List Entry) → goes_on x ≡ true → IsVersioning a past → IsVersioning a (x ∷ past)
+pub versioning_going : GoesMayBeLeftOut
 versioning_going a x past on s =
     let writers = writes a.setup a.shape in
     by_going (λ y. IsVersioning a (y ∷ past)) (λ w. record {

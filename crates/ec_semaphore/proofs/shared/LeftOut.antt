@@ -5,12 +5,12 @@ use Rattle.ec_core.specs.declared.act.Act.{Act}
 use Rattle.ec_core.specs.declared.act.Act.TheVariants.{Advance, Read, Await, Go, Ticket, Put, Get, Hand}
 use Rattle.ec_core.specs.declared.act.Entry.{Entry}
 use Rattle.ec_core.specs.Counts.{total, is_advance}
-use Rattle.ec_core.specs.Calls.{CallSoFar, under_way, is_pending, goes_on}
+use Rattle.ec_core.specs.Calls.{CallSoFar, under_way, is_pending}
 use Rattle.ec_core.specs.Following.{Told, opened, block}
 use Rattle.ec_core.proofs.shared.Following.{op_at, block_pending}
 use Rattle.ec_core.proofs.shared.Tracking.{tracked_off, tracked_going, going, by_going}
 use Rattle.ec_semaphore.specs.Shapes.{Semaphore}
-use Rattle.ec_semaphore.specs.Auditing.{Balancing, IsCounted, Pairing, ArePaired, IsPairing}
+use Rattle.ec_semaphore.specs.Auditing.{IsCounted, ArePaired, IsPairing, OthersMayBeLeftOut, GoesMayBeLeftOut, GoesMayBeLeftOutOfPairs}
 use Rattle.ec_semaphore.specs.declared.pair.Pair.{Pair}
 use Rattle.ec_semaphore.specs.declared.pairing.Drawn.{Drawn}
 use Rattle.ec_semaphore.specs.Both.{is_line, both_rule, both_rules}
@@ -54,7 +54,7 @@ ups_off s x past h =
     let next : total s.count (x ∷ past) ≡ cond {A = ℕ} (is_advance s.count x.act) 1 0 + total s.count past = refl in
     omega arith
 
-pub counted_off : (a : Balancing) (x : Entry) (past : List Entry) → is_on a.shape (op_at x past) ≡ false → IsCounted a past → IsCounted a (x ∷ past)
+pub counted_off : OthersMayBeLeftOut
 counted_off a x past off s = record {
   tracked = tracked_off (use_rules a.shape) kept_of_use (is_on a.shape) a.tracked x past (λ w calls op. refl) off s.tracked;
   downs = s.downs ∙ sym (downs_off a.shape x past off);
@@ -74,7 +74,7 @@ ups_going : (s : Semaphore) (w : ℕ) (past : List Entry) → ups s (going w ∷
 unfolding total
 ups_going s w past = none (total s.count past)
 
-pub counted_going : (a : Balancing) (x : Entry) (past : List Entry) → goes_on x ≡ true → IsCounted a past → IsCounted a (x ∷ past)
+pub counted_going : GoesMayBeLeftOut
 counted_going a x past on s =
     by_going (λ y. IsCounted a (y ∷ past)) (λ w. record {
       tracked = tracked_going (use_rules a.shape) kept_of_use a.tracked w past s.tracked;
@@ -99,7 +99,7 @@ paired_going c lines latest list w past p = record {
   pairs = p.pairs ∙ sym (pairs_going c lines w past);
 }
 
-pub pairing_going : (a : Pairing) (x : Entry) (past : List Entry) → goes_on x ≡ true → IsPairing a past → IsPairing a (x ∷ past)
+pub pairing_going : GoesMayBeLeftOutOfPairs
 pairing_going a x past on s =
     let lines = is_line a.common a.shapes in
     by_going (λ y. IsPairing a (y ∷ past)) (λ w. record {
