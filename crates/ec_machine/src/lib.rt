@@ -18,7 +18,10 @@ mod values;
 
 pub use command::{Command, Value};
 pub use follow::follows;
-pub use laws::{beginnings_are_runs, own_steps_are_cut, runs_are_of_whole_lists};
+pub use laws::{
+    beginnings_are_runs, following_means_whole_lists, own_steps_are_cut, runs_are_of_whole_lists,
+    runs_mean_whole_lists,
+};
 pub use limits::{COMMANDS_MAX, NESTING_MAX, TIMES_MAX, TRIES_MAX, are_apart};
 pub use machine::Machine;
 pub use outcome::Outcome;

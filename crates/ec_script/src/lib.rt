@@ -21,10 +21,10 @@ mod verb;
 pub use fault::{Kind, ScriptFault};
 pub use laws::{
     blocks_are_counted, confined_lines_are_confined_commands, fault_is_the_first,
-    faultless_lines_are_taken, faults_are_told, layouts_are_scripts, layouts_are_spelled,
-    least_kind_is_told, lines_are_spelled, lines_say_orders, long_is_line_1, plans_are_confined,
-    read_is_script, script_is_read, scripts_are_laid_out, scripts_are_spelled,
-    scripts_have_a_mebibyte_at_most, unfinished_is_told,
+    faultless_lines_are_taken, faults_are_told, head_faults_keep_their_numbers,
+    layouts_are_scripts, layouts_are_spelled, least_kind_is_told, lines_are_spelled,
+    lines_say_orders, long_is_line_1, plans_are_confined, read_is_script, script_is_read,
+    scripts_are_laid_out, scripts_are_spelled, scripts_have_a_mebibyte_at_most, unfinished_is_told,
 };
 pub use order::{Order, Values};
 pub use pairs::{
