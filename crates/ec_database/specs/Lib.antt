@@ -5,7 +5,6 @@ pub mod Versions
 pub mod Snapshots
 pub mod Places
 pub mod Tries
-pub mod Numbers
 pub mod Rows
 pub mod Auditing
 pub mod Standing

@@ -7,7 +7,6 @@ mod audit;
 mod ending;
 mod laws;
 mod lists;
-mod numbers;
 mod places;
 mod shape;
 mod snapshot;

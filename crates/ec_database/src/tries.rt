@@ -2,8 +2,8 @@
 ghost use Rattle.std.specs.Prelude.{◌≡◌, ◌≤◌, [], ◌∷◌, ◌++◌, length, map, take, slice_get, IfOk, OnOk, OnErr};
 ghost use Rattle.ec_database.specs.Auditing.{shown};
 
-use crate::numbers::Numbers;
 use ec_count::WorkerId;
+use ec_numbers::NumberList;
 use std::alloc::{AllocError, Global};
 use std::marker::Model;
 
@@ -23,7 +23,7 @@ pub struct Accepted {
 pub struct TryView<'a> {
     worker: WorkerId,
     version: u64,
-    numbers: &'a Numbers,
+    numbers: &'a NumberList,
     /// Where its values begin.
     first: usize,
     cells: usize,
@@ -36,9 +36,9 @@ impl<'a> Model for TryView<'a> {
 
     ghost Value = { AcceptedTry };
 
-    ghost view = { λ s. record { worker = s.worker; version = s.version; values = take s.cells (drop s.first s.numbers.now) } };
+    ghost view = { λ s. record { worker = s.worker; version = s.version; values = take s.cells (drop s.first s.numbers.now.list) } };
 
-    ghost invariant = { λ s. AreWithin s.first s.cells s.numbers.now };
+    ghost invariant = { λ s. AreWithin s.first s.cells s.numbers.now.list };
 }
 
 impl<'a> TryView<'a> {
@@ -106,7 +106,7 @@ impl<'a> TryView<'a> {
 pub struct AcceptedTries {
     cells: usize,
     count: usize,
-    numbers: Numbers,
+    numbers: NumberList,
 }
 
 impl Model for AcceptedTries {
@@ -115,20 +115,20 @@ impl Model for AcceptedTries {
 
     ghost Value = { TryTable };
 
-    ghost view = { λ s. record { cells = s.cells; list = tries_in s.cells s.numbers s.count } };
+    ghost view = { λ s. record { cells = s.cells; list = tries_in s.cells s.numbers.list s.count } };
 
-    ghost invariant = { λ s. AreRows s.cells s.numbers s.count };
+    ghost invariant = { λ s. AreRows s.cells s.numbers.list s.count };
 }
 
 /// Adds the numbers of a row, or of a front of it.
 fn add_front(
-    numbers: &mut Numbers,
+    numbers: &mut NumberList,
     reader: u64,
     version: u64,
     values: &[u64],
 ) -> Result<(), AllocError>
-    ensures ok { OnOk result (numbers.new ≡ numbers.old ++ reader ∷ version ∷ values.now) }
-    ensures front { take (length numbers.old) numbers.new ≡ numbers.old }
+    ensures ok { OnOk result (numbers.new.list ≡ numbers.old.list ++ reader ∷ version ∷ values.now) }
+    ensures front { take (length numbers.old.list) numbers.new.list ≡ numbers.old.list }
 {
     numbers.push(reader)?;
     numbers.push(version)?;
@@ -140,13 +140,13 @@ fn add_front(
 
 /// Adds the numbers of a row, or changes nothing.
 fn add_row(
-    numbers: &mut Numbers,
+    numbers: &mut NumberList,
     reader: u64,
     version: u64,
     values: &[u64],
 ) -> Result<(), AllocError>
-    ensures ok { OnOk result (numbers.new ≡ numbers.old ++ reader ∷ version ∷ values.now) }
-    ensures err { OnErr result (numbers.new ≡ numbers.old) }
+    ensures ok { OnOk result (numbers.new.list ≡ numbers.old.list ++ reader ∷ version ∷ values.now) }
+    ensures err { OnErr result (numbers.new.list ≡ numbers.old.list) }
 {
     let before = numbers.len();
     if add_front(numbers, reader, version, values).is_err() {
@@ -165,7 +165,7 @@ impl AcceptedTries {
         AcceptedTries {
             cells,
             count: 0,
-            numbers: Numbers::new(alloc),
+            numbers: NumberList::new(alloc),
         }
     }
 

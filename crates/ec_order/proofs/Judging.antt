@@ -1,5 +1,5 @@
 -- What the check of a list keeps, and the verdicts that it comes to.
-use Rattle.std.proofs.Common.{◌≡◌, ℕ, ◌+◌, ◌<◌, ◌≤◌, ◌⊎◌, inl, inr, max, Bool, true, false, List, [], ◌∷◌, ◌++◌, length, Some, None, refl, ap, sym, ◌∙◌, arith, subst, cond, ◌==◌, nat_le, get_or, set, take, slice_get, slice_index, slice_set, length-set, get_or-set_same, get_or-set_other, Vec, Global, length-append}
+use Rattle.std.proofs.Common.{◌≡◌, ℕ, ◌+◌, ◌<◌, ◌≤◌, ◌⊎◌, inl, inr, max, Bool, true, false, List, [], ◌∷◌, ◌++◌, length, Some, None, refl, ap, sym, ◌∙◌, arith, subst, cond, ◌==◌, nat_le, get_or, set, take, slice_get, slice_index, slice_set, length-set, get_or-set_same, get_or-set_other, length-append}
 use Rattle.std.specs.List.{All, AllPairs, Any, Contains}
 use Rattle.std.proofs.lemmas.Bool.{true≢false, eqb-true, eqb-false, cases_order, cases_eq, cases_lt}
 use Rattle.std.proofs.lemmas.List.{set_past, take_all, get_or_append_left, get_or_push, get_or_past}
@@ -13,6 +13,7 @@ use Rattle.ec_core.specs.declared.act.Entry.{Entry}
 use Rattle.ec_core.specs.Acceptance.{IsAccepted}
 use Rattle.ec_core.specs.Fields.{IsNamed}
 use Rattle.ec_core.proofs.shared.Places.{get_set}
+use Rattle.ec_numbers.specs.Numbers.{KeptNumbers}
 use Rattle.ec_order.specs.declared.call.Call.{Call}
 use Rattle.ec_order.specs.declared.placed.Placed.{Placed}
 use Rattle.ec_order.specs.declared.numbers.Numbers.{Numbers}
@@ -161,12 +162,12 @@ module _ (t : Tables) (past : List Entry) (ps : List Placed) (i : ℕ) (cs : Lis
     );
   }
 
-  point_same : (lists : List (Vec ℕ Global)) (j : ℕ) → IsIndex past lists → slice_get cs j ≡ Some p.call → point_in lists p.call ≡ point_of past p.call
+  point_same : (lists : List KeptNumbers) (j : ℕ) → IsIndex past lists → slice_get cs j ≡ Some p.call → point_in lists p.call ≡ point_of past p.call
   point_same lists j index c =
       let f : Fits past p.call = All-contains (Fits past) (finished_calls t past) p.call (all_fit t past g.declared g.accepted) (known_at t past cs j p.call g c) in
       ap (λ (q : Placed). q.point) (placed_is past lists p.call index f)
 
-  pub wrong_point_at : (lists : List (Vec ℕ Global)) (j : ℕ) → IsIndex past lists → slice_get cs j ≡ Some p.call → slice_get seen j ≡ Some false → latest ≤ p.call.last → IsNamed p.call.op
+  pub wrong_point_at : (lists : List KeptNumbers) (j : ℕ) → IsIndex past lists → slice_get cs j ≡ Some p.call → slice_get seen j ≡ Some false → latest ≤ p.call.last → IsNamed p.call.op
       → reply_in n p.call.op ≡ Some p.call.reply → (p.point ≡ point_in lists p.call → ⊥) → IsVerdict t past ps (WrongPoint i)
   wrong_point_at lists j index c m le k r h = record {
     sound = s.sound;
@@ -181,7 +182,7 @@ module _ (t : Tables) (past : List Entry) (ps : List Placed) (i : ℕ) (cs : Lis
     );
   }
 
-  sound_here : (lists : List (Vec ℕ Global)) (j : ℕ) → IsIndex past lists → slice_get cs j ≡ Some p.call → slice_get seen j ≡ Some false → latest ≤ p.call.last → IsNamed p.call.op
+  sound_here : (lists : List KeptNumbers) (j : ℕ) → IsIndex past lists → slice_get cs j ≡ Some p.call → slice_get seen j ≡ Some false → latest ≤ p.call.last → IsNamed p.call.op
       → reply_in n p.call.op ≡ Some p.call.reply → p.point ≡ point_in lists p.call → IsSound t past (take i ps) p
   sound_here lists j index c m le k r e = record {
     known = known_at t past cs j p.call g c;
@@ -279,7 +280,7 @@ checked_start t past ps cs seen n long none shown few = record {
   few = few;
 }
 
-pub checked_more : (t : Tables) (past : List Entry) (ps : List Placed) (i : ℕ) (cs : List Call) (seen : List Bool) (latest : ℕ) (n : Numbers) (p : Placed) (lists : List (Vec ℕ Global)) (j : ℕ)
+pub checked_more : (t : Tables) (past : List Entry) (ps : List Placed) (i : ℕ) (cs : List Call) (seen : List Bool) (latest : ℕ) (n : Numbers) (p : Placed) (lists : List KeptNumbers) (j : ℕ)
     → IsGiven t past cs → IsChecked t past ps i cs seen latest n → slice_get ps i ≡ Some p
     → IsIndex past lists → slice_get cs j ≡ Some p.call → slice_get seen j ≡ Some false → latest ≤ p.call.last → IsNamed p.call.op
     → reply_in n p.call.op ≡ Some p.call.reply → p.point ≡ point_in lists p.call

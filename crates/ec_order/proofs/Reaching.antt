@@ -1,10 +1,11 @@
 -- The point of a read or an await is where the index of the advances says.
-use Rattle.std.proofs.Common.{◌≡◌, ℕ, zero, suc, ◌+◌, ◌-◌, ◌<◌, ◌≤◌, inl, inr, max, Bool, true, false, List, [], ◌∷◌, ◌++◌, length, refl, ap, sym, ◌∙◌, arith, cond, ◌==◌, nat_le, get_or, length-append, append-nil, Vec, Global}
+use Rattle.std.proofs.Common.{◌≡◌, ℕ, zero, suc, ◌+◌, ◌-◌, ◌<◌, ◌≤◌, inl, inr, max, Bool, true, false, List, [], ◌∷◌, ◌++◌, length, refl, ap, sym, ◌∙◌, arith, cond, ◌==◌, nat_le, get_or, length-append, append-nil}
 use Rattle.std.proofs.lemmas.Bool.{leb-true, eq-eqb, ne_eqb, cases_lt, lt-leb, le-leb}
 use Rattle.std.proofs.lemmas.List.{get_or_append_left, get_or_push}
 use Rattle.ec_core.specs.declared.act.Entry.{Entry}
 use Rattle.ec_core.specs.Counts.{total, is_advance}
 use Rattle.ec_core.specs.Rounds.{event_or}
+use Rattle.ec_numbers.specs.Numbers.{KeptNumbers}
 use Rattle.ec_order.specs.declared.call.Call.{Call}
 use Rattle.ec_order.specs.declared.placed.Placed.{Placed}
 use Rattle.ec_order.specs.Calls.{is_reading, number_of}
@@ -150,7 +151,7 @@ point_is past c f =
     ] refl
 
 -- a call is placed as the index says
-pub placed_is : (past : List Entry) (lists : List (Vec ℕ Global)) (c : Call) → IsIndex past lists → Fits past c → placed_in lists c ≡ with_point past c
+pub placed_is : (past : List Entry) (lists : List KeptNumbers) (c : Call) → IsIndex past lists → Fits past c → placed_in lists c ≡ with_point past c
 placed_is past lists c index f =
     let at : ℕ → Placed = λ k. record { call = c; point = k } in
     let same : point_in lists c ≡ point_of past c =

@@ -5,6 +5,7 @@ ghost use Rattle.ec_order.specs.Index.{moment_of, moments_in, IsIndex, NotesAct,
 
 use crate::Call;
 use ec_core::{Act, Reply, Run};
+use ec_numbers::NumberList;
 use std::alloc::{AllocError, Global};
 
 /// The number that a reply tells; 0 where it tells none.
@@ -30,34 +31,21 @@ pub(crate) fn advanced(act: Act) -> Option<usize>
     }
 }
 
-/// A moment or a place in the 32 bits that are kept of it. One that does not fit is told as want of memory: by then the history has
-/// more than four thousand million entries.
-#[inline(always)]
-pub(crate) fn short(number: usize) -> Result<u32, AllocError>
-    ensures { IfOk result (λ n. n ≡ number) }
-{
-    if number > u32::MAX as usize {
-        return Err(AllocError);
-    }
-    Ok(number as u32)
-}
-
 /// Adds a moment to those of eventcount e.
-fn add_moment(lists: &mut Vec<Vec<u32>>, event: usize, moment: usize) -> Result<(), AllocError>
+fn add_moment(lists: &mut Vec<NumberList>, event: usize, moment: usize) -> Result<(), AllocError>
     requires { event < length lists.old.items }
     ensures long { length lists.new.items ≡ length lists.old.items }
     ensures added { OnOk result ((v : _)
-        × (v.items ≡ moments_in lists.old.items event ++ moment ∷ [])
+        × (v.list ≡ moments_in lists.old.items event ++ moment ∷ [])
         × (lists.new.items ≡ slice_set lists.old.items event v)) }
 {
-    let moment = short(moment)?;
     let list = &mut lists[event];
-    list.push(moment)?;
+    list.push(moment as u64)?;
     Ok(())
 }
 
 /// Adds the moment after an act to those of the eventcount that it advances, if it advances one.
-fn note(lists: &mut Vec<Vec<u32>>, act: Act, moment: usize) -> Result<(), AllocError>
+fn note(lists: &mut Vec<NumberList>, act: Act, moment: usize) -> Result<(), AllocError>
     requires { length lists.old.items ≡ 32 }
     ensures long { length lists.new.items ≡ 32 }
     ensures notes { OnOk result (NotesAct lists.old.items act moment lists.new.items) }
@@ -69,19 +57,19 @@ fn note(lists: &mut Vec<Vec<u32>>, act: Act, moment: usize) -> Result<(), AllocE
 }
 
 /// An index with no moment.
-fn no_moments(alloc: Global) -> Result<Vec<Vec<u32>>, AllocError>
+fn no_moments(alloc: Global) -> Result<Vec<NumberList>, AllocError>
     ensures long { IfOk result (λ ls. length ls.items ≡ 32) }
     ensures value { IfOk result (λ ls. (e : ℕ) → moments_in ls.items e ≡ []) }
 {
     let mut lists = Vec::new(alloc);
     for event in 0..32usize {
-        lists.push(Vec::new(alloc))?;
+        lists.push(NumberList::new(alloc))?;
     }
     Ok(lists)
 }
 
 /// For each eventcount the moments after its advances, in order.
-pub(crate) fn index(alloc: Global, run: &Run) -> Result<Vec<Vec<u32>>, AllocError>
+pub(crate) fn index(alloc: Global, run: &Run) -> Result<Vec<NumberList>, AllocError>
     ensures long { IfOk result (λ ls. length ls.items ≡ 32) }
     ensures value { IfOk result (λ ls. IsIndex (reverse run.now.entries) ls.items) }
 {
@@ -96,20 +84,20 @@ pub(crate) fn index(alloc: Global, run: &Run) -> Result<Vec<Vec<u32>>, AllocErro
 
 /// The moment after the r-th advance, by the list of the moments after each advance; moment 0 for r = 0.
 #[inline(always)]
-fn moment_of(moments: &[u32], r: u64) -> usize
-    ensures { result ≡ moment_of moments.now r }
+fn moment_of(moments: &NumberList, r: u64) -> usize
+    ensures { result ≡ moment_of moments.now.list r }
 {
     if r == 0 {
         0
     } else {
-        moments.get((r - 1) as usize).copied().unwrap_or(0) as usize
+        moments.get((r - 1) as usize).unwrap_or(0) as usize
     }
 }
 
 /// The point of a call: of a read or an await the greater of its round's start and the moment after the advance that
 /// made the total its answer, of any other call its position.
 #[inline(always)]
-pub(crate) fn point(lists: &[Vec<u32>], call: &Call) -> usize
+pub(crate) fn point(lists: &[NumberList], call: &Call) -> usize
     requires { length lists.now ≡ 32 }
     ensures { result ≡ point_in lists.now call.now }
 {

@@ -1,8 +1,8 @@
 //! The advances of one eventcount.
-ghost use Rattle.std.specs.Prelude.{◌≡◌, ◌+◌, ◌-◌, ◌^◌, ◌<◌, max, [], ◌∷◌, ◌++◌, length, OnOk};
+ghost use Rattle.std.specs.Prelude.{◌≡◌, ◌<◌, max, [], OnOk, OnErr};
 ghost use Rattle.ec_order.specs.Raised.{moment_since, IsBegun, IsLeft, IsRaisedOnce};
 
-use crate::index::short;
+use ec_numbers::NumberList;
 use std::alloc::{AllocError, Global};
 use std::marker::Model;
 
@@ -12,7 +12,7 @@ use std::marker::Model;
 #[derive(Drop)]
 pub(crate) struct Raised {
     before: usize,
-    moments: Vec<u32>,
+    moments: NumberList,
     readers: u8,
 }
 
@@ -21,7 +21,7 @@ impl Model for Raised {
 
     ghost Value = { Raised };
 
-    ghost view = { λ s. record { before = s.before; moments = s.moments.items; readers = s.readers } };
+    ghost view = { λ s. record { before = s.before; moments = s.moments.list; readers = s.readers } };
 }
 
 impl Raised {
@@ -31,21 +31,22 @@ impl Raised {
     {
         Raised {
             before: 0,
-            moments: Vec::new(alloc),
+            moments: NumberList::new(alloc),
             readers: 0,
         }
     }
 
-    /// One more advance, and the moment after it.
+    /// One more advance, and the moment after it. It wants memory only for a moment that is kept.
     #[inline(always)]
     pub(crate) fn raise(&mut self, moment: usize) -> Result<(), AllocError>
-        ensures { OnOk result (IsRaisedOnce self.old moment self.new) }
+        ensures ok { OnOk result (IsRaisedOnce self.old moment self.new) }
+        ensures err { OnErr result (0 < self.old.readers) }
     {
         if self.readers == 0 {
             self.before = self.before.saturating_add(1);
             return Ok(());
         }
-        keep(&mut self.moments, moment)
+        self.moments.push(moment as u64)
     }
 
     /// One more read or await is under way.
@@ -64,7 +65,7 @@ impl Raised {
             return;
         }
         self.before = self.before.saturating_add(self.moments.len());
-        self.moments.clear();
+        self.moments.truncate(0);
     }
 
     /// The point of a read or an await whose last round began there, and which was answered this number.
@@ -76,14 +77,6 @@ impl Raised {
             return round;
         }
         let place = (number - before - 1) as usize;
-        round.max(self.moments.get(place).copied().unwrap_or(0) as usize)
+        round.max(self.moments.get(place).unwrap_or(0) as usize)
     }
-}
-
-/// Adds a moment to those that are kept.
-fn keep(moments: &mut Vec<u32>, moment: usize) -> Result<(), AllocError>
-    ensures { OnOk result (moments.new.items ≡ moments.old.items ++ moment ∷ []) }
-{
-    moments.push(short(moment)?)?;
-    Ok(())
 }

@@ -7,4 +7,4 @@ use Rattle.ec_database.proofs.tries.AcceptedTries.len.Goals as goal
 pub returns : goal.returns
 returns c =
     let s = c.self.inside in
-    sym (length-map-range_with_len (try_at s.cells s.numbers) 0 s.count) ∙ ap (λ (t : TryTable). length t.list) c.self.view_is
+    sym (length-map-range_with_len (try_at s.cells s.numbers.list) 0 s.count) ∙ ap (λ (t : TryTable). length t.list) c.self.view_is

@@ -1,0 +1,20 @@
+-- The numbers of a list that keeps them in 32 bits each or in 64.
+use Rattle.std.specs.Prelude.{◌≡◌, ℕ, ◌-◌, ◌^◌, ◌<◌, Bool, true, false, List, vec_len}
+use Rattle.std.specs.Vec.{vec_capacity}
+use Rattle.ec_numbers.specs.declared.list.Width.{Width}
+use Rattle.ec_numbers.specs.declared.list.Width.TheVariants.{Narrow, Wide}
+
+-- numbers in order, whether they are in 64 bits each, and how many more the list has room for as it is
+pub record KeptNumbers : Type 0 where
+  pub list : List ℕ
+  pub wide : Bool
+  pub room : ℕ
+
+abbrev pub numbers_in : Width → KeptNumbers
+numbers_in (Narrow v) = record { list = v.items; wide = false; room = vec_capacity v - vec_len v }
+numbers_in (Wide v) = record { list = v.items; wide = true; room = vec_capacity v - vec_len v }
+
+-- there is room for this number
+pub record HasRoom (k : KeptNumbers) (number : ℕ) : Type 0 where
+  pub one : 0 < k.room
+  pub fits : k.wide ≡ false → number < 2 ^ 32
