@@ -1,5 +1,5 @@
 -- The numbers of a list that keeps them in 32 bits each or in 64.
-use Rattle.std.specs.Prelude.{◌≡◌, ℕ, ◌-◌, ◌^◌, ◌<◌, Bool, true, false, List, vec_len}
+use Rattle.std.specs.Prelude.{◌≡◌, ℕ, ◌-◌, ◌^◌, ◌<◌, Bool, true, false, ◌||◌, nat_le, List, vec_len}
 use Rattle.std.specs.Vec.{vec_capacity}
 use Rattle.ec_numbers.specs.declared.list.Width.{Width}
 use Rattle.ec_numbers.specs.declared.list.Width.TheVariants.{Narrow, Wide}
@@ -18,3 +18,7 @@ numbers_in (Wide v) = record { list = v.items; wide = true; room = vec_capacity 
 pub record HasRoom (k : KeptNumbers) (number : ℕ) : Type 0 where
   pub one : 0 < k.room
   pub fits : k.wide ≡ false → number < 2 ^ 32
+
+-- whether the numbers are in 64 bits each once this one is among them
+abbrev pub is_wide_with : KeptNumbers → ℕ → Bool
+is_wide_with k number = k.wide || nat_le (2 ^ 32) number

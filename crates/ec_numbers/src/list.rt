@@ -1,8 +1,8 @@
 //! A list of numbers in 32 bits each, or in 64.
-ghost use Rattle.std.specs.Prelude.{◌≡◌, ◌+◌, ◌^◌, ◌≤◌, ◌<◌, [], ◌∷◌, ◌++◌, length, take, slice_get, slice_index, vec_len, IfOk, IfSome, OnOk, OnErr};
+ghost use Rattle.std.specs.Prelude.{◌≡◌, ◌+◌, ◌^◌, ◌≤◌, ◌<◌, false, nat_le, [], ◌∷◌, ◌++◌, length, take, slice_get, slice_index, vec_len, IfOk, IfSome, OnOk, OnErr};
 ghost use Rattle.std.specs.List.{insert};
 ghost use Rattle.std.specs.Vec.{vec_capacity};
-ghost use Rattle.ec_numbers.specs.Numbers.{HasRoom};
+ghost use Rattle.ec_numbers.specs.Numbers.{HasRoom, is_wide_with};
 
 use std::alloc::{AllocError, Global};
 use std::marker::Model;
@@ -32,17 +32,40 @@ impl Model for NumberList {
     ghost view = { λ s. numbers_in s.list };
 }
 
+/// Whether a number needs 64 bits.
+#[inline(always)]
+fn is_wide(number: u64) -> bool
+    ensures { result ≡ nat_le (2 ^ 32) number }
+{
+    number >= WIDE
+}
+
 /// The numbers of a list in 64 bits each, with room for one more.
 fn widened(list: &Vec<u32>) -> Result<Vec<u64>, AllocError>
     ensures items { IfOk result (λ wide. wide.items ≡ list.now.items) }
     ensures room { IfOk result (λ wide. vec_len wide < vec_capacity wide) }
 {
-    let mut wide = Vec::with_capacity(*list.allocator(), list.len())?;
+    let mut wide = Vec::with_capacity(*list.allocator(), list.len() + 1)?;
     for narrow in list {
-        wide.push(*narrow as u64)?;
+        wide.push_reserved(*narrow as u64);
     }
-    wide.reserve(1)?;
     Ok(wide)
+}
+
+/// Makes room for one more where there is none, and changes nothing where there is.
+#[inline(always)]
+fn make_room_in<T: Copy>(list: &mut Vec<T>) -> Result<(), AllocError>
+    ensures items { list.new.items ≡ list.old.items }
+    ensures len { vec_len list.new ≡ vec_len list.old }
+    ensures room { OnOk result (vec_len list.new < vec_capacity list.new) }
+    ensures kept { vec_len list.old < vec_capacity list.old → vec_capacity list.new ≡ vec_capacity list.old }
+    ensures err { OnErr result (vec_capacity list.new ≡ vec_capacity list.old) }
+    ensures full { OnErr result (vec_capacity list.old ≤ vec_len list.old) }
+{
+    if list.len() < list.capacity() {
+        return Ok(());
+    }
+    list.reserve(1)
 }
 
 /// Puts one in at a place, for which there is room.
@@ -50,7 +73,9 @@ fn widened(list: &Vec<u32>) -> Result<Vec<u64>, AllocError>
 fn put_in<T: Copy>(list: &mut Vec<T>, place: usize, number: T)
     requires room { vec_len list.old < vec_capacity list.old }
     requires within { place ≤ length list.old.items }
-    ensures { list.new.items ≡ insert list.old.items place number }
+    ensures items { list.new.items ≡ insert list.old.items place number }
+    ensures len { vec_len list.new ≡ vec_len list.old + 1 }
+    ensures capacity { vec_capacity list.new ≡ vec_capacity list.old }
 {
     if place == list.len() {
         list.push_reserved(number);
@@ -60,9 +85,9 @@ fn put_in<T: Copy>(list: &mut Vec<T>, place: usize, number: T)
 }
 
 impl NumberList {
-    /// Makes a list of no numbers. It takes no memory.
+    /// Makes a list of no numbers, for numbers of 32 bits. It takes no memory.
     pub fn new(alloc: Global) -> Self
-        ensures { result.list ≡ [] }
+        ensures { result ≡ record { list = []; wide = false; room = 0 } }
     {
         NumberList {
             list: Width::Narrow(Vec::new(alloc)),
@@ -104,18 +129,21 @@ impl NumberList {
         }
     }
 
-    /// Makes room for this number. It asks for memory only where there is none for one more, or where
-    /// this is the first number that needs 64 bits.
+    /// Makes room for this number. Where there is room for it already, nothing changes; there is none
+    /// where the list is full, or where this is its first number that needs 64 bits.
     #[inline(always)]
     pub fn make_room(&mut self, number: u64) -> Result<(), AllocError>
         ensures same { self.new.list ≡ self.old.list }
         ensures room { OnOk result (HasRoom self.new number) }
+        ensures wide { OnOk result (self.new.wide ≡ is_wide_with self.old number) }
+        ensures kept { HasRoom self.old number → self.new ≡ self.old }
+        ensures err { OnErr result (self.new ≡ self.old) }
         ensures full { OnErr result (HasRoom self.old number → ⊥) }
     {
         match &mut self.list {
-            Width::Narrow(list) if number < WIDE => list.reserve(1)?,
-            Width::Narrow(list) => self.list = Width::Wide(widened(list)?),
-            Width::Wide(list) => list.reserve(1)?,
+            Width::Narrow(list) if is_wide(number) => self.list = Width::Wide(widened(list)?),
+            Width::Narrow(list) => make_room_in(list)?,
+            Width::Wide(list) => make_room_in(list)?,
         }
         Ok(())
     }
@@ -124,7 +152,9 @@ impl NumberList {
     #[inline(always)]
     fn put(&mut self, number: u64)
         requires { HasRoom self.old number }
-        ensures { self.new.list ≡ self.old.list ++ number ∷ [] }
+        ensures list { self.new.list ≡ self.old.list ++ number ∷ [] }
+        ensures wide { self.new.wide ≡ self.old.wide }
+        ensures room { self.new.room + 1 ≡ self.old.room }
     {
         match &mut self.list {
             Width::Narrow(list) => list.push_reserved(number as u32),
@@ -132,11 +162,13 @@ impl NumberList {
         }
     }
 
-    /// Adds one at the end, or changes none.
+    /// Adds one at the end, or changes nothing. Where there is room for it, it stands in that room.
     #[inline(always)]
     pub fn push(&mut self, number: u64) -> Result<(), AllocError>
         ensures ok { OnOk result (self.new.list ≡ self.old.list ++ number ∷ []) }
-        ensures err { OnErr result (self.new.list ≡ self.old.list) }
+        ensures wide { OnOk result (self.new.wide ≡ is_wide_with self.old number) }
+        ensures in_place { HasRoom self.old number → self.new.room + 1 ≡ self.old.room }
+        ensures err { OnErr result (self.new ≡ self.old) }
         ensures full { OnErr result (HasRoom self.old number → ⊥) }
     {
         self.make_room(number)?;
@@ -149,7 +181,9 @@ impl NumberList {
     pub fn insert(&mut self, place: usize, number: u64)
         requires room { HasRoom self.old number }
         requires within { place ≤ length self.old.list }
-        ensures { self.new.list ≡ insert self.old.list place number }
+        ensures list { self.new.list ≡ insert self.old.list place number }
+        ensures wide { self.new.wide ≡ self.old.wide }
+        ensures room { self.new.room + 1 ≡ self.old.room }
     {
         match &mut self.list {
             Width::Narrow(list) => put_in(list, place, number as u32),
@@ -157,9 +191,11 @@ impl NumberList {
         }
     }
 
-    /// Keeps the first n. What memory the list has stays with it.
+    /// Keeps the first n. What memory the list has stays with it, and so does its width.
     pub fn truncate(&mut self, n: usize)
-        ensures { self.new.list ≡ take n self.old.list }
+        ensures list { self.new.list ≡ take n self.old.list }
+        ensures wide { self.new.wide ≡ self.old.wide }
+        ensures room { self.new.room + length self.new.list ≡ self.old.room + length self.old.list }
     {
         match &mut self.list {
             Width::Narrow(list) => list.truncate(n),
