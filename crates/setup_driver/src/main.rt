@@ -1,5 +1,6 @@
-//! Makes calls on declarations, names, words and texts, and writes what they return, for rows of
-//! `tests/rows`. Workers and objects are numbers here, so that a list can name any.
+//! Makes calls on declarations, names, words, lists of numbers and texts, and writes what they
+//! return, for rows of `tests/rows`. Workers and objects are numbers here, so that a list of
+//! workers can name any.
 //!
 //! With a word on the command line it is watched: where an allocation failed, it says whether all
 //! is as it was before the call.
@@ -7,6 +8,7 @@
 
 mod line;
 mod naming;
+mod numbers;
 mod setups;
 mod shapes;
 mod table;

@@ -1,6 +1,7 @@
 //! What lines are about.
 use crate::line::Line;
 use crate::naming::{Naming, cut};
+use crate::numbers::Numbers;
 use crate::setups::{answer_setup, declare, declares};
 use crate::shapes::Shapes;
 use crate::texts::Texts;
@@ -10,7 +11,8 @@ use std::alloc::Global;
 use std::io::Write;
 use test_support::{Driver, Fault, Program, answer_lines, tell};
 
-/// Declarations, with a copy that was kept, the last groups, and names, words, values and texts.
+/// Declarations, with a copy that was kept, the last groups, and names, words, values,
+/// numbers and texts.
 #[derive(Drop)]
 pub struct Table {
     setup: Setup,
@@ -18,6 +20,7 @@ pub struct Table {
     shapes: Shapes,
     naming: Naming,
     values: Values,
+    numbers: Numbers,
     texts: Texts,
 }
 
@@ -54,6 +57,7 @@ impl Table {
             || self.shapes.declare(&mut self.setup, line)?
             || self.answer_declarations(line)?
             || self.values.answer(line)?
+            || self.numbers.answer(line)?
             || self.texts.answer(line)?
             || self.naming.answer(line)?;
         if is_answered {
@@ -86,7 +90,8 @@ impl Driver for Table {
     }
 
     fn write_all<W: Write>(&self, out: &mut W) -> Result<(), Fault> {
-        self.naming.tell(out)
+        self.naming.tell(out)?;
+        self.numbers.tell(out)
     }
 }
 
@@ -99,6 +104,7 @@ impl Program for Table {
             shapes: Shapes::default(),
             naming,
             values: Values::default(),
+            numbers: Numbers::new(alloc),
             texts: Texts::new(alloc),
         })
     }
