@@ -1,5 +1,5 @@
 //! A list of numbers in 32 bits each, or in 64.
-ghost use Rattle.std.specs.Prelude.{◌≡◌, ◌+◌, ◌^◌, ◌≤◌, ◌<◌, false, nat_le, [], ◌∷◌, ◌++◌, length, take, slice_get, slice_index, vec_len, IfOk, IfSome, OnOk, OnErr};
+ghost use Rattle.std.specs.Prelude.{◌≡◌, ◌+◌, ◌^◌, ◌≤◌, ◌<◌, true, false, nat_le, [], ◌∷◌, ◌++◌, length, take, slice_get, slice_index, vec_len, IfOk, IfSome, OnOk, OnErr};
 ghost use Rattle.std.specs.List.{insert};
 ghost use Rattle.std.specs.Vec.{vec_capacity};
 ghost use Rattle.ec_numbers.specs.Numbers.{HasRoom, is_wide_with};
@@ -58,7 +58,8 @@ fn make_room_in<T: Copy>(list: &mut Vec<T>) -> Result<(), AllocError>
     ensures items { list.new.items ≡ list.old.items }
     ensures len { vec_len list.new ≡ vec_len list.old }
     ensures room { OnOk result (vec_len list.new < vec_capacity list.new) }
-    ensures kept { vec_len list.old < vec_capacity list.old → vec_capacity list.new ≡ vec_capacity list.old }
+    ensures kept { vec_len list.old < vec_capacity list.old
+        → vec_capacity list.new ≡ vec_capacity list.old }
     ensures err { OnErr result (vec_capacity list.new ≡ vec_capacity list.old) }
     ensures full { OnErr result (vec_capacity list.old ≤ vec_len list.old) }
 {
@@ -129,8 +130,24 @@ impl NumberList {
         }
     }
 
-    /// Makes room for this number. Where there is room for it already, nothing changes; there is none
-    /// where the list is full, or where this is its first number that needs 64 bits.
+    /// Takes 64 bits for each number from now on, and makes room for one more. (It stands apart
+    /// from `make_room`, which is put into its callers, since a list calls it once at most.)
+    #[inline(never)]
+    fn widen(&mut self) -> Result<(), AllocError>
+        ensures same { self.new.list ≡ self.old.list }
+        ensures wide { OnOk result (self.new.wide ≡ true) }
+        ensures room { OnOk result (0 < self.new.room) }
+        ensures err { OnErr result (self.new ≡ self.old) }
+    {
+        match &mut self.list {
+            Width::Narrow(list) => self.list = Width::Wide(widened(list)?),
+            Width::Wide(list) => list.reserve(1)?,
+        }
+        Ok(())
+    }
+
+    /// Makes room for this number. Where there is room for it already, nothing changes; there is
+    /// none where the list is full, or where this is its first number that needs 64 bits.
     #[inline(always)]
     pub fn make_room(&mut self, number: u64) -> Result<(), AllocError>
         ensures same { self.new.list ≡ self.old.list }
@@ -141,7 +158,7 @@ impl NumberList {
         ensures full { OnErr result (HasRoom self.old number → ⊥) }
     {
         match &mut self.list {
-            Width::Narrow(list) if is_wide(number) => self.list = Width::Wide(widened(list)?),
+            Width::Narrow(_) if is_wide(number) => self.widen()?,
             Width::Narrow(list) => make_room_in(list)?,
             Width::Wide(list) => make_room_in(list)?,
         }
@@ -176,8 +193,8 @@ impl NumberList {
         Ok(())
     }
 
-    /// Puts one in at a place, which is mostly behind the last, where there is room for it. It takes no
-    /// memory.
+    /// Puts one in at a place, which is mostly behind the last, where there is room for it. It
+    /// takes no memory.
     pub fn insert(&mut self, place: usize, number: u64)
         requires room { HasRoom self.old number }
         requires within { place ≤ length self.old.list }
