@@ -1,6 +1,7 @@
 //! Whole examples of the kernel as a library: those that the README and the pages of the crates show.
 use ec_core::{Act, Refusal, Reply, Run, World};
 use ec_count::{Limit, Setup, SetupFault};
+use ec_numbers::NumberList;
 use ec_order::{Verdict, order, verify};
 use std::alloc::Global;
 use std::test::Fail;
@@ -75,4 +76,18 @@ fn watcher_is_told_one(alloc: Global, limit: Limit) -> Result<bool, Fail> {
 #[test]
 fn a_read_is_put_between_two_advances(rt: HostRuntime) -> Result<(), Fail> {
     is_so(watcher_is_told_one(rt.alloc(), hundred()?)?)
+}
+
+/// A small number and one that needs 64 bits.
+fn large_number_is_kept(alloc: Global) -> Result<bool, Fail> {
+    let mut list = NumberList::new(alloc);
+    list.push(7)?;
+    list.push(1 << 32)?;
+    let last = list.get(1);
+    Ok(last == Some(4_294_967_296) && list.get(0) == Some(7) && list.len() == 2)
+}
+
+#[test]
+fn a_list_of_numbers_is_widened(rt: HostRuntime) -> Result<(), Fail> {
+    is_so(large_number_is_kept(rt.alloc())?)
 }
