@@ -1,10 +1,10 @@
 -- One walk over the entries of a run, for the audits of all groups.
-use Rattle.std.specs.Prelude.{◌≡◌, ◌⊎◌, ℕ, ◌<◌, ◌≤◌, Bool, true, false, ◌||◌, List, ◌∷◌, length, Some, slice_get}
+use Rattle.std.specs.Prelude.{◌≡◌, ◌⊎◌, ℕ, ◌+◌, ◌<◌, ◌≤◌, Bool, true, false, ◌||◌, ◌&&◌, not, List, [], ◌∷◌, length, Some, slice_get}
 use Rattle.std.specs.Option.{option_map_or}
 use Rattle.ec_core.specs.declared.act.Act.{Act}
 use Rattle.ec_core.specs.declared.act.Act.TheVariants.{Read, Ticket, Get}
 use Rattle.ec_core.specs.declared.act.Entry.{Entry}
-use Rattle.ec_core.specs.Calls.{under_way}
+use Rattle.ec_core.specs.Calls.{under_way, goes_on}
 use Rattle.ec_core.specs.Following.{opened}
 use Rattle.ec_buffer.specs.Follows as buffers
 use Rattle.ec_database.specs.Following as databases
@@ -38,25 +38,43 @@ is_on g act = is_wide g || names g act
 abbrev pub is_wide_at : List Group → ℕ → Bool
 is_wide_at gs i = option_map_or is_wide (slice_get gs i) false
 
+-- whether a call that an act begins is on the group with this number, if there is one
+abbrev pub is_on_at : List Group → Act → ℕ → Bool
+is_on_at gs act i = option_map_or (λ g. is_on g act) (slice_get gs i) false
+
+-- whether the group with this number, if there is one, is wide; or, as it is asked, another of which an act names an object
+abbrev pub is_asked_at : List Group → Bool → Act → ℕ → Bool
+is_asked_at gs true act i = is_wide_at gs i
+is_asked_at gs false act i = option_map_or (λ g. not (is_wide g) && names g act) (slice_get gs i) false
+
 -- THE TABLE
 
--- those of the first n groups that pass a test are among these
-abbrev pub CoversFirst : List Group → (Group → Bool) → Span → ℕ → Type 0
-CoversFirst gs test span n = (i : ℕ) → i < n → (g : Group) → slice_get gs i ≡ Some g → test g ≡ true → (span.first ≤ i) × (i < span.end)
+-- there is a group with this number, and it passes a test
+abbrev pub PassesAt : List Group → (Group → Bool) → ℕ → Type 0
+PassesAt gs test i = (g : Group) × (slice_get gs i ≡ Some g) × (test g ≡ true)
 
--- the groups that pass a test are among these
-abbrev pub Covers : List Group → (Group → Bool) → Span → Type 0
-Covers gs test span = (i : ℕ) (g : Group) → slice_get gs i ≡ Some g → test g ≡ true → (span.first ≤ i) × (i < span.end)
+-- the least span in which those of the first n groups are that pass a test: where it is not empty, the groups at its two ends pass it
+pub record CoversFirst (gs : List Group) (test : Group → Bool) (span : Span) (n : ℕ) : Type 0 where
+  pub among : (i : ℕ) → i < n → (g : Group) → slice_get gs i ≡ Some g → test g ≡ true → (span.first ≤ i) × (i < span.end)
+  pub within : span.end ≤ n
+  pub lowest : span.first < span.end → PassesAt gs test span.first
+  pub highest : (i : ℕ) → span.end ≡ i + 1 → PassesAt gs test i
 
--- the groups of which an act names an object are among these
+-- the least span in which the groups are that pass a test
+pub record Covers (gs : List Group) (test : Group → Bool) (span : Span) : Type 0 where
+  pub among : (i : ℕ) (g : Group) → slice_get gs i ≡ Some g → test g ≡ true → (span.first ≤ i) × (i < span.end)
+  pub lowest : span.first < span.end → PassesAt gs test span.first
+  pub highest : (i : ℕ) → span.end ≡ i + 1 → PassesAt gs test i
+
+-- the least span in which the groups are of which an act names an object
 abbrev pub CoversAct : List Group → Act → Span → Type 0
 CoversAct gs act span = Covers gs (λ g. names g act) span
 
--- so they are at a place of a table
+-- so is what stands at a place of a table
 abbrev pub CoversAt : List Group → Act → List Span → ℕ → Type 0
 CoversAt gs act spans place = (span : Span) → slice_get spans place ≡ Some span → CoversAct gs act span
 
--- by object, the groups that it is of are among these; and so are those that are wide
+-- by object, the least span of the groups that it is of; and that of the wide ones
 pub record IsTable (gs : List Group) (table : Table) : Type 0 where
   pub events : (e : ℕ) → e < 32 → CoversAt gs (Read e) table.events e
   pub sequencers : (q : ℕ) → q < 32 → CoversAt gs (Ticket q) table.sequencers q
@@ -71,23 +89,42 @@ abbrev pub Hands : {A : Type 0} → (A → A → List Entry → Type 0) → ℕ 
 Hands {A} stands place op x old new =
     (start : A) (past : List Entry) → place ≡ length past → op ≡ opened x.act (under_way x.worker past) → stands start old past → stands start new (x ∷ past)
 
--- the audit with this number has taken it in, if there is one whose group is wide or not, as it is asked; and the others are
--- as before
-abbrev pub HandsTo : {A : Type 0} → (A → A → List Entry → Type 0) → List Group → Bool → ℕ → ℕ → Act → Entry → List A → List A → Type 0
-HandsTo {A} stands gs wide number place op x old new = (i : ℕ) (a : A) → slice_get old i ≡ Some a
-    → (b : A) × (slice_get new i ≡ Some b)
-    × ((Hands stands place op x a b × (i ≡ number) × (is_wide_at gs i ≡ wide)) ⊎ ((b ≡ a) × (i ≡ number → is_wide_at gs i ≡ wide → ⊥)))
+-- of a list of audits, those with the numbers that are picked have taken an entry in; the others are as before, and none is added or taken away
+abbrev pub HandsWhere : {A : Type 0} → (A → A → List Entry → Type 0) → (ℕ → Type 0) → ℕ → Act → Entry → List A → List A → Type 0
+HandsWhere {A} stands IsPicked place op x old new = (length new ≡ length old) × ((i : ℕ) (a : A) → slice_get old i ≡ Some a
+    → (b : A) × (slice_get new i ≡ Some b) × ((IsPicked i × Hands stands place op x a b) ⊎ ((IsPicked i → ⊥) × (b ≡ a))))
 
--- those of the groups from `first` on, before `end`, that are wide, or not, have taken it in, and the others are as before
+-- so the one with this number has
+abbrev pub HandsTo : {A : Type 0} → (A → A → List Entry → Type 0) → ℕ → ℕ → Act → Entry → List A → List A → Type 0
+HandsTo stands number place op x old new = HandsWhere stands (λ i. i ≡ number) place op x old new
+
+-- so has the one with this number, if its group is wide; or if that is not and is named, as it is asked
+abbrev pub HandsAt : {A : Type 0} → (A → A → List Entry → Type 0) → List Group → Bool → ℕ → ℕ → Act → Entry → List A → List A → Type 0
+HandsAt stands gs wide number place op x old new = HandsWhere stands (λ i. (i ≡ number) × (is_asked_at gs wide op i ≡ true)) place op x old new
+
+-- so have those of the groups from `first` on, before `end`, that are wide, or that are not and are named, as it is asked
 abbrev pub HandsAmong : {A : Type 0} → (A → A → List Entry → Type 0) → List Group → Bool → ℕ → ℕ → ℕ → Act → Entry → List A → List A → Type 0
-HandsAmong {A} stands gs wide first end place op x old new = (i : ℕ) (a : A) → slice_get old i ≡ Some a
-    → (b : A) × (slice_get new i ≡ Some b)
-    × ((Hands stands place op x a b × (is_wide_at gs i ≡ wide)) ⊎ ((b ≡ a) × (first ≤ i → i < end → is_wide_at gs i ≡ wide → ⊥)))
+HandsAmong stands gs wide first end place op x old new = HandsWhere stands (λ i. (first ≤ i) × (i < end) × (is_asked_at gs wide op i ≡ true)) place op x old new
 
--- so have those that an act names, and then those that are wide
-abbrev pub HandsBoth : {A : Type 0} → (A → A → List Entry → Type 0) → List Group → Span → Span → ℕ → Act → Entry → List A → List A → Type 0
-HandsBoth {A} stands gs named wide place op x old new =
-    (list : List A) × HandsAmong stands gs false named.first named.end place op x old list × HandsAmong stands gs true wide.first wide.end place op x list new
+-- so have those of the groups that a call is on
+abbrev pub HandsOn : {A : Type 0} → (A → A → List Entry → Type 0) → List Group → ℕ → Act → Entry → List A → List A → Type 0
+HandsOn stands gs place op x old new = HandsWhere stands (λ i. is_on_at gs op i ≡ true) place op x old new
+
+-- whether an entry after a past goes to the audit of the group with this number: it ends its call or is not a go, and the call is on the group
+abbrev pub goes_to : List Group → ℕ → Entry → List Entry → Bool
+goes_to gs i x past = not (goes_on x) && is_on_at gs (opened x.act (under_way x.worker past)) i
+
+-- what an audit has come to that was handed, of a past, the entries that are picked, and no others
+abbrev pub IsHanded : {A : Type 0} → (A → A → List Entry → Type 0) → (Entry → List Entry → Bool) → A → A → List Entry → Type 0
+IsHanded stands picks start now [] = now ≡ start
+IsHanded {A} stands picks start now (x ∷ past) = (before : A) × IsHanded stands picks start before past
+    × (((picks x past ≡ true) × Hands stands (length past) (opened x.act (under_way x.worker past)) x before now) ⊎ ((picks x past ≡ false) × (now ≡ before)))
+
+-- each audit of a list was handed the entries whose calls are on its own group, and no others; they stand in the order in which they stood, and none was added or
+-- taken away
+abbrev pub AreHanded : {A : Type 0} → (A → A → List Entry → Type 0) → List Group → List A → List A → List Entry → Type 0
+AreHanded {A} stands gs starts list past = (length list ≡ length starts) × ((i : ℕ) (start : A) → slice_get starts i ≡ Some start
+    → (now : A) × (slice_get list i ≡ Some now) × IsHanded stands (goes_to gs i) start now past)
 
 -- each group had its audit, in order, and has it after a past: what that would be if it had walked alone
 abbrev pub AreWalked : {A : Type 0} → (A → Group) → (A → A → List Entry → Type 0) → List Group → List A → List A → List Entry → Type 0
@@ -102,3 +139,4 @@ pub record Walking (A : Type 0) : Type 0 where
 -- the walk has come this far
 abbrev pub WalksOn : {A : Type 0} → (A → Group) → (A → A → List Entry → Type 0) → Walking A → Walking A → List Entry → Type 0
 WalksOn group stands start now past = (now.groups ≡ start.groups) × AreWalked group stands start.groups start.audits now.audits past
+    × AreHanded stands start.groups start.audits now.audits past
