@@ -14,7 +14,7 @@ use Rattle.ec_core.proofs.shared.Places.{get_set}
 use Rattle.ec_heading.specs.declared.group.Group.{Group}
 use Rattle.ec_heading.specs.declared.group.Group.TheVariants as groups
 use Rattle.ec_walk.specs.declared.table.Span.{Span}
-use Rattle.ec_walk.specs.Walks.{names, is_wide, is_on, is_wide_at, is_on_at, is_asked_at, PassesAt, CoversFirst, Covers, CoversAct, CoversAt, Hands, HandsWhere, HandsTo, HandsAt, HandsAmong, HandsOn, goes_to, IsHanded, AreHanded, AreWalked}
+use Rattle.ec_walk.specs.Walks.{names, is_wide, is_on, is_wide_at, is_on_at, is_asked_at, passes_at, CoversFirst, Covers, CoversAct, CoversAt, Hands, HandsWhere, HandsTo, HandsAt, HandsAmong, HandsOn, goes_to, IsHanded, AreHanded, AreWalked}
 
 -- THE TABLE
 
@@ -27,11 +27,14 @@ covers_on gs test span new n g at on c alone more end = record {
       (λ h got yes. (low, omega arith));
   within = omega arith;
   lowest = λ some. lowest_by (leb_tells span.end span.first);
-  highest = λ i is. (let same : n ≡ i = omega arith in (g, ap (slice_get gs) (sym same) ∙ at, on));
+  highest = λ i is. (let same : n ≡ i = omega arith in subst (λ k. passes_at gs test k ≡ true) same here);
 }
   where
     P : ℕ → Type 0
     P i = (h : Group) → slice_get gs i ≡ Some h → test h ≡ true → (new.first ≤ i) × (i < new.end)
+
+    here : passes_at gs test n ≡ true
+    here = ap (λ o. option_map_or test o false) at ∙ on
 
     low_by : ((leb span.end span.first ≡ true) × (span.end ≤ span.first)) ⊎ ((leb span.end span.first ≡ false) × (span.first < span.end)) → new.first ≤ n
     low_by (inl p) = (let same = alone p.1 in omega arith)
@@ -40,9 +43,9 @@ covers_on gs test span new n g at on c alone more end = record {
     low : new.first ≤ n
     low = low_by (leb_tells span.end span.first)
 
-    lowest_by : ((leb span.end span.first ≡ true) × (span.end ≤ span.first)) ⊎ ((leb span.end span.first ≡ false) × (span.first < span.end)) → PassesAt gs test new.first
-    lowest_by (inl p) = (g, ap (slice_get gs) (alone p.1) ∙ at, on)
-    lowest_by (inr p) = (let was = c.lowest p.1 in (was.0, ap (slice_get gs) (more p.1) ∙ was.1, was.2))
+    lowest_by : ((leb span.end span.first ≡ true) × (span.end ≤ span.first)) ⊎ ((leb span.end span.first ≡ false) × (span.first < span.end)) → passes_at gs test new.first ≡ true
+    lowest_by (inl p) = ap (passes_at gs test) (alone p.1) ∙ here
+    lowest_by (inr p) = ap (passes_at gs test) (more p.1) ∙ c.lowest p.1
 
 -- one more group, which does not
 pub covers_off : (gs : List Group) (test : Group → Bool) (span : Span) (n : ℕ) (g : Group) → CoversFirst gs test span n → slice_get gs n ≡ Some g → test g ≡ false
@@ -69,15 +72,16 @@ pub covers_at : (gs : List Group) (act read : Act) (spans : List Span) (place : 
     → ((g : Group) → names g act ≡ names g read) → CoversAct gs act span
 covers_at gs act read spans place span c at same = record {
   among = λ i g is on. was.among i g is (sym (same g) ∙ on);
-  lowest = λ some. over (was.lowest some);
-  highest = λ i is. over (was.highest i is);
+  lowest = λ some. over (slice_get gs span.first) (was.lowest some);
+  highest = λ i is. over (slice_get gs i) (was.highest i is);
 }
   where
     was : CoversAct gs read span
     was = c span at
 
-    over : {i : ℕ} → PassesAt gs (λ g. names g read) i → PassesAt gs (λ g. names g act) i
-    over (g, at, on) = (g, at, same g ∙ on)
+    over : (o : Option Group) → option_map_or (λ g. names g read) o false ≡ true → option_map_or (λ g. names g act) o false ≡ true
+    over None on = on
+    over (Some g) on = same g ∙ on
 
 -- one more place of a table is filled
 pub covers_more : (gs : List Group) (acts : ℕ → Act) (spans : List Span) (n : ℕ) (span : Span) → n < length spans → ((e : ℕ) → e < n → CoversAt gs (acts e) spans e) → CoversAct gs (acts n) span
@@ -129,10 +133,12 @@ on_put y v (groups.Both s) = refl
 -- WHICH GROUPS ARE ASKED
 
 -- a group that an act names, and that is not wide
-pub asked_named : (gs : List Group) (op : Act) (i : ℕ) → PassesAt gs (λ g. names g op) i → is_wide_at gs i ≡ false → is_asked_at gs false op i ≡ true
-asked_named gs op i (g, at, on) narrow =
-    (let here : is_wide g ≡ false = sym (ap (λ o. option_map_or is_wide o false) at) ∙ narrow in
-    ap (λ o. option_map_or (λ h. not (is_wide h) && names h op) o false) at ∙ ap (λ b. not b && names g op) here ∙ on)
+pub asked_named : (gs : List Group) (op : Act) (i : ℕ) → passes_at gs (λ g. names g op) i ≡ true → is_wide_at gs i ≡ false → is_asked_at gs false op i ≡ true
+asked_named gs op i = go (slice_get gs i)
+  where
+    go : (o : Option Group) → option_map_or (λ g. names g op) o false ≡ true → option_map_or is_wide o false ≡ false → option_map_or (λ g. not (is_wide g) && names g op) o false ≡ true
+    go None on narrow = on
+    go (Some g) on narrow = ap (λ b. not b && names g op) narrow ∙ on
 
 -- a wide group is asked as such alone
 pub asked_once : (gs : List Group) (op : Act) (i : ℕ) → is_wide_at gs i ≡ true → is_asked_at gs false op i ≡ true → ⊥
@@ -175,22 +181,25 @@ on_is_asked gs op named wide i covers wides on one other = by_group (slice_get_c
         by_width false w =
             (let named_here : names g op ≡ true = sym (ap (λ b. b || names g op) w) ∙ sym (ap (λ o. option_map_or (λ h. is_on h op) o false) here) ∙ on in
             let in_span = covers.among i g here named_here in
-            one (in_span.0, in_span.1, asked_named gs op i (g, here, named_here) (ap (λ o. option_map_or is_wide o false) here ∙ w)))
+            one (in_span.0, in_span.1, asked_named gs op i (ap (λ o. option_map_or (λ h. names h op) o false) here ∙ named_here) (ap (λ o. option_map_or is_wide o false) here ∙ w)))
 
 -- WHO IS HANDED AN ENTRY
 
 module _ {A : Type 0} (stands : A → A → List Entry → Type 0) (place : ℕ) (op : Act) (x : Entry) where
   -- one audit has taken the entry in
   pub hands_one : (old : List A) (n : ℕ) (a b : A) → n < length old → slice_get old n ≡ Some a → Hands stands place op x a b → HandsTo stands n place op x old (slice_set old n b)
-  hands_one old n a b room is hands = (length-set old n b, λ i o at.
-      elim (n == i) as (λ t. (n == i) ≡ t → (p : A) × (slice_get (slice_set old n b) i ≡ Some p) × (((i ≡ n) × Hands stands place op x o p) ⊎ ((i ≡ n → ⊥) × (p ≡ o)))) [
-        | true ↦ λ e.
-            (let same : n ≡ i = eqb-true n i e in
-            let both : Some a ≡ Some o = sym is ∙ ap (slice_get old) same ∙ at in
-            let one : a ≡ o = cc in
-            (b, get_set old n i b room ∙ ap (λ t. cond t (Some b) (slice_get old i)) e, inl (sym same, subst (λ z. Hands stands place op x z b) one hands)))
-        | false ↦ λ e. (o, get_set old n i b room ∙ ap (λ t. cond t (Some b) (slice_get old i)) e ∙ at, inr (λ same. eqb-false n i e (sym same), refl))
-      ] refl)
+  hands_one old n a b room is hands = (
+    length-set old n b,
+    λ i o at.
+        elim (n == i) as (λ t. (n == i) ≡ t → (p : A) × (slice_get (slice_set old n b) i ≡ Some p) × (((i ≡ n) × Hands stands place op x o p) ⊎ ((i ≡ n → ⊥) × (p ≡ o)))) [
+          | true ↦ λ e.
+              (let same : n ≡ i = eqb-true n i e in
+              let both : Some a ≡ Some o = sym is ∙ ap (slice_get old) same ∙ at in
+              let one : a ≡ o = cc in
+              (b, get_set old n i b room ∙ ap (λ t. cond t (Some b) (slice_get old i)) e, inl (sym same, subst (λ z. Hands stands place op x z b) one hands)))
+          | false ↦ λ e. (o, get_set old n i b room ∙ ap (λ t. cond t (Some b) (slice_get old i)) e ∙ at, inr (λ same. eqb-false n i e (sym same), refl))
+        ] refl,
+  )
 
   -- none is picked
   pub hands_nobody : (IsPicked : ℕ → Type 0) (old : List A) → ((i : ℕ) → i < length old → IsPicked i → ⊥) → HandsWhere stands IsPicked place op x old old
@@ -198,15 +207,18 @@ module _ {A : Type 0} (stands : A → A → List Entry → Type 0) (place : ℕ)
 
   -- the same are picked
   pub hands_same : (P Q : ℕ → Type 0) (old new : List A) → ((i : ℕ) → P i → Q i) → ((i : ℕ) → Q i → P i) → HandsWhere stands P place op x old new → HandsWhere stands Q place op x old new
-  hands_same P Q old new there back h = (h.0, λ i a at.
-      (let k = h.1 i a at in (
-        k.0,
-        k.1,
-        elim k.2 [
-          | inl p ↦ inl (there i p.0, p.1)
-          | inr q ↦ inr (λ on. q.0 (back i on), q.1)
-        ],
-      )))
+  hands_same P Q old new there back h = (
+    h.0,
+    λ i a at.
+        (let k = h.1 i a at in (
+          k.0,
+          k.1,
+          elim k.2 [
+            | inl p ↦ inl (there i p.0, p.1)
+            | inr q ↦ inr (λ on. q.0 (back i on), q.1)
+          ],
+        )),
+  )
 
   -- first some, then others
   pub hands_then : (P Q R : ℕ → Type 0) (old mid new : List A) → ((i : ℕ) → P i → Q i → ⊥) → ((i : ℕ) → P i → R i) → ((i : ℕ) → Q i → R i)
@@ -286,15 +298,16 @@ pub handed_first : {A : Type 0} (stands : A → A → List Entry → Type 0) (gs
 handed_first stands gs starts = (refl, λ i start at. (start, at, refl))
 
 -- without groups an entry goes nowhere
-pub goes_nowhere : (gs : List Group) (i : ℕ) (x : Entry) (past : List Entry) → gs ≡ [] → goes_to gs i x past ≡ false
-goes_nowhere gs i x past none = subst (λ (l : List Group). goes_to l i x past ≡ false) (sym none) (by (goes_on x))
+goes_nowhere : (gs : List Group) (i : ℕ) (x : Entry) (past : List Entry) → length gs ≡ 0 → goes_to gs i x past ≡ false
+goes_nowhere (g ∷ gs) i x past none = absurd (omega arith)
+goes_nowhere [] i x past none = by (goes_on x)
   where
     by : (b : Bool) → (not b && false) ≡ false
     by true = refl
     by false = refl
 
--- where there are no groups
-pub handed_nowhere : {A : Type 0} (stands : A → A → List Entry → Type 0) (gs : List Group) (starts : List A) (past : List Entry) → gs ≡ [] → AreHanded stands gs starts starts past
+-- so all audits stand as at first
+pub handed_nowhere : {A : Type 0} (stands : A → A → List Entry → Type 0) (gs : List Group) (starts : List A) (past : List Entry) → length gs ≡ 0 → AreHanded stands gs starts starts past
 handed_nowhere {A} stands gs starts past none = (refl, λ i start at. (start, at, go i start past))
   where
     go : (i : ℕ) (start : A) (past : List Entry) → IsHanded stands (goes_to gs i) start start past
@@ -325,12 +338,12 @@ module _ {A : Type 0} (group : A → Group) (stands : A → A → List Entry →
       Stands : ℕ → Group → Type 0
       Stands i g = (start : A) × (now : A) × (slice_get starts i ≡ Some start) × (slice_get new i ≡ Some now) × (group start ≡ g) × stands start now (x ∷ past)
 
-      off : (i : ℕ) (g : Group) (b : Bool) → slice_get gs i ≡ Some g → is_on_at gs op i ≡ b → is_on g op ≡ b
-      off i g b here is = sym (ap (λ o. option_map_or (λ h. is_on h op) o false) here) ∙ is
+      at_group : (i : ℕ) (g : Group) (b : Bool) → slice_get gs i ≡ Some g → is_on_at gs op i ≡ b → is_on g op ≡ b
+      at_group i g b here is = sym (ap (λ o. option_map_or (λ h. is_on h op) o false) here) ∙ is
 
       none : (i : ℕ) (b : Bool) → is_on_at gs op i ≡ b → (is_on_at gs op i ≡ true → ⊥) → is_on_at gs op i ≡ false
-      none i true e no = absurd (no e)
-      none i false e no = e
+      none i true e off = absurd (off e)
+      none i false e off = e
 
       go : (i : ℕ) (g : Group) → slice_get gs i ≡ Some g → (start now : A) → slice_get starts i ≡ Some start → group start ≡ g → stands start now past
           → (b : A) × (slice_get new i ≡ Some b) × (((is_on_at gs op i ≡ true) × Hands stands place op x now b) ⊎ ((is_on_at gs op i ≡ true → ⊥) × (b ≡ now))) → Stands i g
@@ -342,7 +355,7 @@ module _ {A : Type 0} (group : A → Group) (stands : A → A → List Entry →
         got,
         of,
         subst (λ z. stands start z (x ∷ past)) (sym q.1)
-            (passes start now x past (ap (λ (k : Group). is_on k (op_at x past)) of ∙ ap (is_on g) (sym is) ∙ off i g false here (none i (is_on_at gs op i) refl q.0)) was),
+            (passes start now x past (ap (λ (k : Group). is_on k (op_at x past)) of ∙ ap (is_on g) (sym is) ∙ at_group i g false here (none i (is_on_at gs op i) refl q.0)) was),
       )
 
   -- each audit was handed the entry if it goes to its group
@@ -353,8 +366,8 @@ module _ {A : Type 0} (group : A → Group) (stands : A → A → List Entry →
       goes i = ap (λ b. not b && is_on_at gs (op_at x past) i) ends ∙ ap (λ a. is_on_at gs a i) (sym is)
 
       none : (i : ℕ) (b : Bool) → is_on_at gs op i ≡ b → (is_on_at gs op i ≡ true → ⊥) → is_on_at gs op i ≡ false
-      none i true e no = absurd (no e)
-      none i false e no = e
+      none i true e off = absurd (off e)
+      none i false e off = e
 
       own : (a b : A) → Hands stands place op x a b → Hands stands (length past) (op_at x past) x a b
       own a b h = subst (λ n. Hands stands n (op_at x past) x a b) at (subst (λ o. Hands stands place o x a b) is h)

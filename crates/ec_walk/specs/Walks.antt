@@ -34,37 +34,37 @@ is_wide (groups.Both s) = true
 abbrev pub is_on : Group → Act → Bool
 is_on g act = is_wide g || names g act
 
--- whether the group with this number, if there is one, is wide
+-- whether there is a group with this number, and it passes a test
+abbrev pub passes_at : List Group → (Group → Bool) → ℕ → Bool
+passes_at gs test i = option_map_or test (slice_get gs i) false
+
+-- whether it is wide
 abbrev pub is_wide_at : List Group → ℕ → Bool
-is_wide_at gs i = option_map_or is_wide (slice_get gs i) false
+is_wide_at gs i = passes_at gs is_wide i
 
--- whether a call that an act begins is on the group with this number, if there is one
+-- whether a call that an act begins is on it
 abbrev pub is_on_at : List Group → Act → ℕ → Bool
-is_on_at gs act i = option_map_or (λ g. is_on g act) (slice_get gs i) false
+is_on_at gs act i = passes_at gs (λ g. is_on g act) i
 
--- whether the group with this number, if there is one, is wide; or, as it is asked, another of which an act names an object
+-- whether it is wide; or, as it is asked, another of which an act names an object
 abbrev pub is_asked_at : List Group → Bool → Act → ℕ → Bool
 is_asked_at gs true act i = is_wide_at gs i
-is_asked_at gs false act i = option_map_or (λ g. not (is_wide g) && names g act) (slice_get gs i) false
+is_asked_at gs false act i = passes_at gs (λ g. not (is_wide g) && names g act) i
 
 -- THE TABLE
-
--- there is a group with this number, and it passes a test
-abbrev pub PassesAt : List Group → (Group → Bool) → ℕ → Type 0
-PassesAt gs test i = (g : Group) × (slice_get gs i ≡ Some g) × (test g ≡ true)
 
 -- the least span in which those of the first n groups are that pass a test: where it is not empty, the groups at its two ends pass it
 pub record CoversFirst (gs : List Group) (test : Group → Bool) (span : Span) (n : ℕ) : Type 0 where
   pub among : (i : ℕ) → i < n → (g : Group) → slice_get gs i ≡ Some g → test g ≡ true → (span.first ≤ i) × (i < span.end)
   pub within : span.end ≤ n
-  pub lowest : span.first < span.end → PassesAt gs test span.first
-  pub highest : (i : ℕ) → span.end ≡ i + 1 → PassesAt gs test i
+  pub lowest : span.first < span.end → passes_at gs test span.first ≡ true
+  pub highest : (i : ℕ) → span.end ≡ i + 1 → passes_at gs test i ≡ true
 
 -- the least span in which the groups are that pass a test
 pub record Covers (gs : List Group) (test : Group → Bool) (span : Span) : Type 0 where
   pub among : (i : ℕ) (g : Group) → slice_get gs i ≡ Some g → test g ≡ true → (span.first ≤ i) × (i < span.end)
-  pub lowest : span.first < span.end → PassesAt gs test span.first
-  pub highest : (i : ℕ) → span.end ≡ i + 1 → PassesAt gs test i
+  pub lowest : span.first < span.end → passes_at gs test span.first ≡ true
+  pub highest : (i : ℕ) → span.end ≡ i + 1 → passes_at gs test i ≡ true
 
 -- the least span in which the groups are of which an act names an object
 abbrev pub CoversAct : List Group → Act → Span → Type 0

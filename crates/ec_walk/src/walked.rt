@@ -154,9 +154,10 @@ fn hand_one<A: Audit>(
     requires one { named.end ≡ named.first + 1 }
     ensures { HandsAmong A.stands groups.now false named.first named.end place op.now entry.now audits.old audits.new }
 {
-    if !is_wide_at(groups, among, named.first) {
-        hand_to(audits, named.first, place, op, entry);
+    if is_wide_at(groups, among, named.first) {
+        return;
     }
+    hand_to(audits, named.first, place, op, entry);
 }
 
 /// Hands an entry to the audits of the groups of which its call names an object, but not to those

@@ -1,9 +1,9 @@
-use Rattle.std.proofs.Common.{◌≡◌, ◌∷◌, ◌∙◌, List, [], true, false, rules, ap, subst, sym}
+use Rattle.std.proofs.Common.{◌≡◌, ◌∷◌, ◌∙◌, List, true, false, rules, subst, sym}
 use Rattle.std.proofs.lemmas.List.{with_items_is, places}
 use Rattle.std.specs.Vec.{with_items}
 use Rattle.ec_heading.specs.declared.group.Group.{Group}
 use Rattle.ec_walk.specs.Walks.{Walking, WalksOn, HandsOn, AreWalked, AreHanded}
-use Rattle.ec_walk.proofs.WalkLemmas.{each_taken, handed_taken, each_stays, handed_none, goes_on_to_none, goes_nowhere, hands_both, hands_nowhere}
+use Rattle.ec_walk.proofs.WalkLemmas.{each_taken, handed_taken, each_stays, handed_none, goes_on_to_none, hands_both, hands_nowhere}
 use Rattle.ec_walk.proofs.walked.WalkedAudit.take.Goals as goal
 
 pub returns : goal.returns
