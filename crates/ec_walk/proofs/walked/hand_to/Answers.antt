@@ -1,4 +1,4 @@
-use Rattle.std.proofs.Common.{◌≡◌, ℕ, ◌<◌, arith, get_or}
+use Rattle.std.proofs.Common.{◌≡◌, ℕ, arith, get_or}
 use Rattle.std.proofs.lemmas.Option.{slice_get-get_or}
 use Rattle.ec_walk.proofs.WalkLemmas.{hands_one, hands_nobody}
 use Rattle.ec_walk.proofs.walked.hand_to.Goals as goal
