@@ -129,7 +129,8 @@ fn hand<A: Audit>(
 )
     requires place { place + 1 < 2 ^ 64 }
     requires among { Covers groups.now is_wide among }
-    ensures { HandsAmong A.stands groups.now wide span.first span.end place op.now entry.now audits.old audits.new }
+    ensures { HandsAmong A.stands groups.now wide span.first span.end place op.now entry.now
+        audits.old audits.new }
 {
     for number in span.first..span.end {
         hand_at(groups, audits, among, wide, number, place, op, entry);
@@ -152,7 +153,8 @@ fn hand_one<A: Audit>(
     requires among { Covers groups.now is_wide among }
     requires named { CoversAct groups.now op.now named }
     requires one { named.end ≡ named.first + 1 }
-    ensures { HandsAmong A.stands groups.now false named.first named.end place op.now entry.now audits.old audits.new }
+    ensures { HandsAmong A.stands groups.now false named.first named.end place op.now entry.now
+        audits.old audits.new }
 {
     if is_wide_at(groups, among, named.first) {
         return;
@@ -174,7 +176,8 @@ fn hand_named<A: Audit>(
     requires place { place + 1 < 2 ^ 64 }
     requires named { CoversAct groups.now op.now named }
     requires wide { Covers groups.now is_wide wide }
-    ensures { HandsAmong A.stands groups.now false named.first named.end place op.now entry.now audits.old audits.new }
+    ensures { HandsAmong A.stands groups.now false named.first named.end place op.now entry.now
+        audits.old audits.new }
 {
     if named.is_one() {
         hand_one(groups, audits, named, wide, place, op, entry);
@@ -279,8 +282,10 @@ impl<'a, A: GroupAudit> Audit for Walked<'a, A> {
 /// in which they were given, and none is added or taken away.
 pub fn walk_groups<A: GroupAudit>(run: &Run, groups: &[Group], audits: Vec<A>) -> Vec<A>
     requires { AreWalked A.group A.stands groups.now audits.items audits.items [] }
-    ensures walked { AreWalked A.group A.stands groups.now audits.items result.items (reverse run.now.entries) }
-    ensures handed { AreHanded A.stands groups.now audits.items result.items (reverse run.now.entries) }
+    ensures walked { AreWalked A.group A.stands groups.now audits.items result.items
+        (reverse run.now.entries) }
+    ensures handed { AreHanded A.stands groups.now audits.items result.items
+        (reverse run.now.entries) }
 {
     if groups.is_empty() {
         return audits;
