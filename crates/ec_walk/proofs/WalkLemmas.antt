@@ -19,8 +19,10 @@ use Rattle.ec_walk.specs.Walks.{names, is_wide, is_on, is_wide_at, is_on_at, is_
 -- THE TABLE
 
 -- one more group, which passes the test
-pub covers_on : (gs : List Group) (test : Group → Bool) (span new : Span) (n : ℕ) (g : Group) → slice_get gs n ≡ Some g → test g ≡ true → CoversFirst gs test span n
-    → (span.end ≤ span.first → new.first ≡ n) → (span.first < span.end → new.first ≡ span.first) → new.end ≡ n + 1 → CoversFirst gs test new (n + 1)
+pub covers_on : (gs : List Group) (test : Group → Bool) (span new : Span) (n : ℕ) (g : Group)
+    → slice_get gs n ≡ Some g → test g ≡ true → CoversFirst gs test span n
+    → (span.end ≤ span.first → new.first ≡ n) → (span.first < span.end → new.first ≡ span.first)
+    → new.end ≡ n + 1 → CoversFirst gs test new (n + 1)
 covers_on gs test span new n g at on c alone more end = record {
   among = below_more P n
       (λ i less h got yes. (let was = c.among i less h got yes in let same = more (omega (arith, was.0, was.1)) in (omega (arith, was.0), omega arith)))
@@ -36,19 +38,23 @@ covers_on gs test span new n g at on c alone more end = record {
     here : passes_at gs test n ≡ true
     here = ap (λ o. option_map_or test o false) at ∙ on
 
-    low_by : ((leb span.end span.first ≡ true) × (span.end ≤ span.first)) ⊎ ((leb span.end span.first ≡ false) × (span.first < span.end)) → new.first ≤ n
+    low_by : ((leb span.end span.first ≡ true) × (span.end ≤ span.first))
+        ⊎ ((leb span.end span.first ≡ false) × (span.first < span.end)) → new.first ≤ n
     low_by (inl p) = (let same = alone p.1 in omega arith)
     low_by (inr p) = (let same = more p.1 in let least = c.within in let less = p.1 in omega arith)
 
     low : new.first ≤ n
     low = low_by (leb_tells span.end span.first)
 
-    lowest_by : ((leb span.end span.first ≡ true) × (span.end ≤ span.first)) ⊎ ((leb span.end span.first ≡ false) × (span.first < span.end)) → passes_at gs test new.first ≡ true
+    lowest_by : ((leb span.end span.first ≡ true) × (span.end ≤ span.first))
+        ⊎ ((leb span.end span.first ≡ false) × (span.first < span.end))
+        → passes_at gs test new.first ≡ true
     lowest_by (inl p) = ap (passes_at gs test) (alone p.1) ∙ here
     lowest_by (inr p) = ap (passes_at gs test) (more p.1) ∙ c.lowest p.1
 
 -- one more group, which does not
-pub covers_off : (gs : List Group) (test : Group → Bool) (span : Span) (n : ℕ) (g : Group) → CoversFirst gs test span n → slice_get gs n ≡ Some g → test g ≡ false
+pub covers_off : (gs : List Group) (test : Group → Bool) (span : Span) (n : ℕ) (g : Group)
+    → CoversFirst gs test span n → slice_get gs n ≡ Some g → test g ≡ false
     → CoversFirst gs test span (n + 1)
 covers_off gs test span n g c is off = record {
   among = below_more (λ i. (f : Group) → slice_get gs i ≡ Some f → test f ≡ true → (span.first ≤ i) × (i < span.end)) n c.among
@@ -60,7 +66,8 @@ covers_off gs test span n g c is off = record {
   highest = c.highest;
 }
 
-pub covers_all : (gs : List Group) (test : Group → Bool) (span : Span) (n : ℕ) → CoversFirst gs test span n → length gs ≤ n → Covers gs test span
+pub covers_all : (gs : List Group) (test : Group → Bool) (span : Span) (n : ℕ)
+    → CoversFirst gs test span n → length gs ≤ n → Covers gs test span
 covers_all gs test span n c all = record {
   among = λ i g at on. (let less : i < length gs = slice_get_within gs i g at in c.among i (omega arith) g at on);
   lowest = c.lowest;
@@ -68,7 +75,8 @@ covers_all gs test span n c all = record {
 }
 
 -- what a table has at a place, for an act that is on the same groups
-pub covers_at : (gs : List Group) (act read : Act) (spans : List Span) (place : ℕ) (span : Span) → CoversAt gs read spans place → slice_get spans place ≡ Some span
+pub covers_at : (gs : List Group) (act read : Act) (spans : List Span) (place : ℕ) (span : Span)
+    → CoversAt gs read spans place → slice_get spans place ≡ Some span
     → ((g : Group) → names g act ≡ names g read) → CoversAct gs act span
 covers_at gs act read spans place span c at same = record {
   among = λ i g is on. was.among i g is (sym (same g) ∙ on);
@@ -84,7 +92,9 @@ covers_at gs act read spans place span c at same = record {
     over (Some g) on = same g ∙ on
 
 -- one more place of a table is filled
-pub covers_more : (gs : List Group) (acts : ℕ → Act) (spans : List Span) (n : ℕ) (span : Span) → n < length spans → ((e : ℕ) → e < n → CoversAt gs (acts e) spans e) → CoversAct gs (acts n) span
+pub covers_more : (gs : List Group) (acts : ℕ → Act) (spans : List Span) (n : ℕ) (span : Span)
+    → n < length spans → ((e : ℕ) → e < n → CoversAt gs (acts e) spans e)
+    → CoversAct gs (acts n) span
     → (e : ℕ) → e < n + 1 → CoversAt gs (acts e) (slice_set spans n span) e
 covers_more gs acts spans n span room before here =
     below_more (λ e. CoversAt gs (acts e) (slice_set spans n span) e) n
@@ -141,15 +151,18 @@ asked_named gs op i = go (slice_get gs i)
     go (Some g) on narrow = ap (λ b. not b && names g op) narrow ∙ on
 
 -- a wide group is asked as such alone
-pub asked_once : (gs : List Group) (op : Act) (i : ℕ) → is_wide_at gs i ≡ true → is_asked_at gs false op i ≡ true → ⊥
+pub asked_once : (gs : List Group) (op : Act) (i : ℕ) → is_wide_at gs i ≡ true
+    → is_asked_at gs false op i ≡ true → ⊥
 asked_once gs op i = go (slice_get gs i)
   where
-    go : (o : Option Group) → option_map_or is_wide o false ≡ true → option_map_or (λ g. not (is_wide g) && names g op) o false ≡ true → ⊥
+    go : (o : Option Group) → option_map_or is_wide o false ≡ true
+        → option_map_or (λ g. not (is_wide g) && names g op) o false ≡ true → ⊥
     go None w on = true≢false (sym w)
     go (Some g) w on = true≢false (sym on ∙ ap (λ b. not b && names g op) w)
 
 -- a call is on each group that is asked
-pub asked_is_on : (gs : List Group) (op : Act) (i : ℕ) → is_asked_at gs false op i ≡ true → is_on_at gs op i ≡ true
+pub asked_is_on : (gs : List Group) (op : Act) (i : ℕ) → is_asked_at gs false op i ≡ true
+    → is_on_at gs op i ≡ true
 asked_is_on gs op i = go (slice_get gs i)
   where
     by : (w n : Bool) → (not w && n) ≡ true → (w || n) ≡ true
@@ -160,19 +173,24 @@ asked_is_on gs op i = go (slice_get gs i)
     go None on = on
     go (Some g) on = by (is_wide g) (names g op) on
 
-pub wide_is_on : (gs : List Group) (op : Act) (i : ℕ) → is_wide_at gs i ≡ true → is_on_at gs op i ≡ true
+pub wide_is_on : (gs : List Group) (op : Act) (i : ℕ) → is_wide_at gs i ≡ true
+    → is_on_at gs op i ≡ true
 wide_is_on gs op i = go (slice_get gs i)
   where
-    go : (o : Option Group) → option_map_or is_wide o false ≡ true → option_map_or (λ g. is_on g op) o false ≡ true
+    go : (o : Option Group) → option_map_or is_wide o false ≡ true
+        → option_map_or (λ g. is_on g op) o false ≡ true
     go None on = on
     go (Some g) on = ap (λ b. b || names g op) on
 
 -- a group that a call is on is among the wide ones, or among those that it names
-pub on_is_asked : (gs : List Group) (op : Act) (named wide : Span) (i : ℕ) → CoversAct gs op named → Covers gs is_wide wide → is_on_at gs op i ≡ true
-    → ((named.first ≤ i) × (i < named.end) × (is_asked_at gs false op i ≡ true) → ⊥) → ((wide.first ≤ i) × (i < wide.end) × (is_asked_at gs true op i ≡ true) → ⊥) → ⊥
+pub on_is_asked : (gs : List Group) (op : Act) (named wide : Span) (i : ℕ) → CoversAct gs op named
+    → Covers gs is_wide wide → is_on_at gs op i ≡ true
+    → ((named.first ≤ i) × (i < named.end) × (is_asked_at gs false op i ≡ true) → ⊥)
+    → ((wide.first ≤ i) × (i < wide.end) × (is_asked_at gs true op i ≡ true) → ⊥) → ⊥
 on_is_asked gs op named wide i covers wides on one other = by_group (slice_get_cases gs i).1
   where
-    by_group : ((g : Group) × (i < length gs) × (slice_get gs i ≡ Some g) × (get_or gs i g ≡ g)) ⊎ ((length gs ≤ i) × (slice_get gs i ≡ None)) → ⊥
+    by_group : ((g : Group) × (i < length gs) × (slice_get gs i ≡ Some g) × (get_or gs i g ≡ g))
+        ⊎ ((length gs ≤ i) × (slice_get gs i ≡ None)) → ⊥
     by_group (inr none) = true≢false (sym on ∙ ap (λ o. option_map_or (λ h. is_on h op) o false) none.1)
     by_group (inl (g, less, here, same)) = by_width (is_wide g) refl
       where
@@ -185,9 +203,11 @@ on_is_asked gs op named wide i covers wides on one other = by_group (slice_get_c
 
 -- WHO IS HANDED AN ENTRY
 
-module _ {A : Type 0} (stands : A → A → List Entry → Type 0) (place : ℕ) (op : Act) (x : Entry) where
+module _ {A : Type 0} (stands : A → A → List Entry
+    → Type 0) (place : ℕ) (op : Act) (x : Entry) where
   -- one audit has taken the entry in
-  pub hands_one : (old : List A) (n : ℕ) (a b : A) → n < length old → slice_get old n ≡ Some a → Hands stands place op x a b → HandsTo stands n place op x old (slice_set old n b)
+  pub hands_one : (old : List A) (n : ℕ) (a b : A) → n < length old → slice_get old n ≡ Some a
+      → Hands stands place op x a b → HandsTo stands n place op x old (slice_set old n b)
   hands_one old n a b room is hands = (
     length-set old n b,
     λ i o at.
@@ -202,11 +222,13 @@ module _ {A : Type 0} (stands : A → A → List Entry → Type 0) (place : ℕ)
   )
 
   -- none is picked
-  pub hands_nobody : (IsPicked : ℕ → Type 0) (old : List A) → ((i : ℕ) → i < length old → IsPicked i → ⊥) → HandsWhere stands IsPicked place op x old old
+  pub hands_nobody : (IsPicked : ℕ → Type 0) (old : List A) → ((i : ℕ) → i < length old → IsPicked i
+      → ⊥) → HandsWhere stands IsPicked place op x old old
   hands_nobody IsPicked old none = (refl, λ i a at. (a, at, inr (none i (slice_get_within old i a at), refl)))
 
   -- the same are picked
-  pub hands_same : (P Q : ℕ → Type 0) (old new : List A) → ((i : ℕ) → P i → Q i) → ((i : ℕ) → Q i → P i) → HandsWhere stands P place op x old new → HandsWhere stands Q place op x old new
+  pub hands_same : (P Q : ℕ → Type 0) (old new : List A) → ((i : ℕ) → P i → Q i) → ((i : ℕ) → Q i
+      → P i) → HandsWhere stands P place op x old new → HandsWhere stands Q place op x old new
   hands_same P Q old new there back h = (
     h.0,
     λ i a at.
@@ -221,21 +243,27 @@ module _ {A : Type 0} (stands : A → A → List Entry → Type 0) (place : ℕ)
   )
 
   -- first some, then others
-  pub hands_then : (P Q R : ℕ → Type 0) (old mid new : List A) → ((i : ℕ) → P i → Q i → ⊥) → ((i : ℕ) → P i → R i) → ((i : ℕ) → Q i → R i)
-      → ((i : ℕ) → R i → (P i → ⊥) → (Q i → ⊥) → ⊥) → HandsWhere stands P place op x old mid → HandsWhere stands Q place op x mid new → HandsWhere stands R place op x old new
+  pub hands_then : (P Q R : ℕ → Type 0) (old mid new : List A) → ((i : ℕ) → P i → Q i → ⊥)
+      → ((i : ℕ) → P i → R i) → ((i : ℕ) → Q i → R i)
+      → ((i : ℕ) → R i → (P i → ⊥) → (Q i → ⊥) → ⊥) → HandsWhere stands P place op x old mid
+      → HandsWhere stands Q place op x mid new → HandsWhere stands R place op x old new
   hands_then P Q R old mid new apart one other all first second = (second.0 ∙ first.0, λ i a at. (let k = first.1 i a at in go i a k.0 k.2 (second.1 i k.0 k.1)))
     where
       go : (i : ℕ) (a b : A) → ((P i × Hands stands place op x a b) ⊎ ((P i → ⊥) × (b ≡ a)))
-          → (c : A) × (slice_get new i ≡ Some c) × ((Q i × Hands stands place op x b c) ⊎ ((Q i → ⊥) × (c ≡ b)))
-          → (c : A) × (slice_get new i ≡ Some c) × ((R i × Hands stands place op x a c) ⊎ ((R i → ⊥) × (c ≡ a)))
+          → (c : A) × (slice_get new i ≡ Some c) × ((Q i × Hands stands place op x b c) ⊎ ((Q i
+          → ⊥) × (c ≡ b)))
+          → (c : A) × (slice_get new i ≡ Some c) × ((R i × Hands stands place op x a c) ⊎ ((R i
+          → ⊥) × (c ≡ a)))
       go i a b (inl k) (c, got, inl s) = absurd (apart i k.0 s.0)
       go i a b (inl k) (c, got, inr s) = (c, got, inl (one i k.0, subst (λ z. Hands stands place op x a z) (sym s.1) k.1))
       go i a b (inr k) (c, got, inl s) = (c, got, inl (other i s.0, subst (λ z. Hands stands place op x z c) k.1 s.1))
       go i a b (inr k) (c, got, inr s) = (c, got, inr (λ on. all i on k.0 s.0, s.1 ∙ k.1))
 
   -- one more number
-  pub hands_more : (gs : List Group) (wide : Bool) (first n : ℕ) (old now new : List A) → first ≤ n → HandsAmong stands gs wide first n place op x old now
-      → HandsAt stands gs wide n place op x now new → HandsAmong stands gs wide first (n + 1) place op x old new
+  pub hands_more : (gs : List Group) (wide : Bool) (first n : ℕ) (old now new : List A) → first ≤ n
+      → HandsAmong stands gs wide first n place op x old now
+      → HandsAt stands gs wide n place op x now new
+      → HandsAmong stands gs wide first (n + 1) place op x old new
   hands_more gs wide first n old now new from =
       hands_then (λ i. (first ≤ i) × (i < n) × (is_asked_at gs wide op i ≡ true)) (λ i. (i ≡ n) × (is_asked_at gs wide op i ≡ true))
       (λ i. (first ≤ i) × (i < n + 1) × (is_asked_at gs wide op i ≡ true)) old now new
@@ -249,31 +277,37 @@ module _ {A : Type 0} (stands : A → A → List Entry → Type 0) (place : ℕ)
       ] refl)
 
   -- up to the end, or none where that is before the first
-  pub hands_all : (gs : List Group) (wide : Bool) (first end n : ℕ) (old new : List A) → end ≤ n → (end < n → n ≡ first) → HandsAmong stands gs wide first n place op x old new
+  pub hands_all : (gs : List Group) (wide : Bool) (first end n : ℕ) (old new : List A) → end ≤ n
+      → (end < n → n ≡ first) → HandsAmong stands gs wide first n place op x old new
       → HandsAmong stands gs wide first end place op x old new
   hands_all gs wide first end n old new all none =
       hands_same (λ i. (first ≤ i) × (i < n) × (is_asked_at gs wide op i ≡ true)) (λ i. (first ≤ i) × (i < end) × (is_asked_at gs wide op i ≡ true)) old new
       (λ i p. (p.0, before i p.0 p.1 (leb_tells n end), p.2)) (λ i q. (let less : i < end = q.1 in (q.0, omega arith, q.2)))
     where
-      before : (i : ℕ) → first ≤ i → i < n → ((leb n end ≡ true) × (n ≤ end)) ⊎ ((leb n end ≡ false) × (end < n)) → i < end
+      before : (i : ℕ) → first ≤ i → i < n → ((leb n end ≡ true) × (n ≤ end))
+          ⊎ ((leb n end ≡ false) × (end < n)) → i < end
       before i from less (inl p) = (let up : n ≤ end = p.1 in omega arith)
       before i from less (inr p) = (let same : n ≡ first = none p.1 in absurd (omega arith))
 
   -- there are none
-  pub hands_nowhere : (gs : List Group) (wide : Bool) (first end : ℕ) (old : List A) → end ≤ first → HandsAmong stands gs wide first end place op x old old
+  pub hands_nowhere : (gs : List Group) (wide : Bool) (first end : ℕ) (old : List A) → end ≤ first
+      → HandsAmong stands gs wide first end place op x old old
   hands_nowhere gs wide first end old none =
       hands_nobody (λ i. (first ≤ i) × (i < end) × (is_asked_at gs wide op i ≡ true)) old (λ i less p. (let from : first ≤ i = p.0 in let before : i < end = p.1 in omega arith))
 
   -- the one that is named
-  pub hands_named : (gs : List Group) (named : Span) (old new : List A) → CoversAct gs op named → named.end ≡ named.first + 1 → is_wide_at gs named.first ≡ false
-      → HandsTo stands named.first place op x old new → HandsAmong stands gs false named.first named.end place op x old new
+  pub hands_named : (gs : List Group) (named : Span) (old new : List A) → CoversAct gs op named
+      → named.end ≡ named.first + 1 → is_wide_at gs named.first ≡ false
+      → HandsTo stands named.first place op x old new
+      → HandsAmong stands gs false named.first named.end place op x old new
   hands_named gs named old new covers one narrow =
       hands_same (λ i. i ≡ named.first) (λ i. (named.first ≤ i) × (i < named.end) × (is_asked_at gs false op i ≡ true)) old new
       (λ i same. (omega arith, omega arith, ap (is_asked_at gs false op) same ∙ asked_named gs op named.first (covers.lowest (omega arith)) narrow))
       (λ i q. (let from : named.first ≤ i = q.0 in let before : i < named.end = q.1 in omega arith))
 
   -- it is wide
-  pub hands_wide : (gs : List Group) (named : Span) (old : List A) → named.end ≡ named.first + 1 → is_wide_at gs named.first ≡ true
+  pub hands_wide : (gs : List Group) (named : Span) (old : List A) → named.end ≡ named.first + 1
+      → is_wide_at gs named.first ≡ true
       → HandsAmong stands gs false named.first named.end place op x old old
   hands_wide gs named old one wide =
       hands_nobody (λ i. (named.first ≤ i) × (i < named.end) × (is_asked_at gs false op i ≡ true)) old
@@ -284,8 +318,11 @@ module _ {A : Type 0} (stands : A → A → List Entry → Type 0) (place : ℕ)
       asked_once gs op i (ap (is_wide_at gs) same ∙ wide) q.2))
 
   -- those that are named, and then the wide ones
-  pub hands_both : (gs : List Group) (named wide : Span) (old mid new : List A) → CoversAct gs op named → Covers gs is_wide wide
-      → HandsAmong stands gs false named.first named.end place op x old mid → HandsAmong stands gs true wide.first wide.end place op x mid new → HandsOn stands gs place op x old new
+  pub hands_both : (gs : List Group) (named wide : Span) (old mid new : List A)
+      → CoversAct gs op named → Covers gs is_wide wide
+      → HandsAmong stands gs false named.first named.end place op x old mid
+      → HandsAmong stands gs true wide.first wide.end place op x mid new
+      → HandsOn stands gs place op x old new
   hands_both gs named wide old mid new covers wides =
       hands_then (λ i. (named.first ≤ i) × (i < named.end) × (is_asked_at gs false op i ≡ true)) (λ i. (wide.first ≤ i) × (i < wide.end) × (is_asked_at gs true op i ≡ true))
       (λ i. is_on_at gs op i ≡ true) old mid new (λ i p q. asked_once gs op i q.2 p.2) (λ i p. asked_is_on gs op i p.2) (λ i q. wide_is_on gs op i q.2)
@@ -294,11 +331,13 @@ module _ {A : Type 0} (stands : A → A → List Entry → Type 0) (place : ℕ)
 -- A WALK
 
 -- before the first entry
-pub handed_first : {A : Type 0} (stands : A → A → List Entry → Type 0) (gs : List Group) (starts : List A) → AreHanded stands gs starts starts []
+pub handed_first : {A : Type 0} (stands : A → A → List Entry
+    → Type 0) (gs : List Group) (starts : List A) → AreHanded stands gs starts starts []
 handed_first stands gs starts = (refl, λ i start at. (start, at, refl))
 
 -- without groups an entry goes nowhere
-goes_nowhere : (gs : List Group) (i : ℕ) (x : Entry) (past : List Entry) → length gs ≡ 0 → goes_to gs i x past ≡ false
+goes_nowhere : (gs : List Group) (i : ℕ) (x : Entry) (past : List Entry) → length gs ≡ 0
+    → goes_to gs i x past ≡ false
 goes_nowhere (g ∷ gs) i x past none = absurd (omega arith)
 goes_nowhere [] i x past none = by (goes_on x)
   where
@@ -307,7 +346,9 @@ goes_nowhere [] i x past none = by (goes_on x)
     by false = refl
 
 -- so all audits stand as at first
-pub handed_nowhere : {A : Type 0} (stands : A → A → List Entry → Type 0) (gs : List Group) (starts : List A) (past : List Entry) → length gs ≡ 0 → AreHanded stands gs starts starts past
+pub handed_nowhere : {A : Type 0} (stands : A → A → List Entry
+    → Type 0) (gs : List Group) (starts : List A) (past : List Entry) → length gs ≡ 0
+    → AreHanded stands gs starts starts past
 handed_nowhere {A} stands gs starts past none = (refl, λ i start at. (start, at, go i start past))
   where
     go : (i : ℕ) (start : A) (past : List Entry) → IsHanded stands (goes_to gs i) start start past
@@ -315,37 +356,50 @@ handed_nowhere {A} stands gs starts past none = (refl, λ i start at. (start, at
     go i start (x ∷ past) = (start, go i start past, inr (goes_nowhere gs i x past none, refl))
 
 -- an entry that goes to none
-pub handed_none : {A : Type 0} (stands : A → A → List Entry → Type 0) (gs : List Group) (starts now : List A) (x : Entry) (past : List Entry) → ((i : ℕ) → goes_to gs i x past ≡ false)
+pub handed_none : {A : Type 0} (stands : A → A → List Entry
+    → Type 0) (gs : List Group) (starts now : List A) (x : Entry) (past : List Entry) → ((i : ℕ)
+    → goes_to gs i x past ≡ false)
     → AreHanded stands gs starts now past → AreHanded stands gs starts now (x ∷ past)
 handed_none stands gs starts now x past none h = (h.0, λ i start at. (let k = h.1 i start at in (k.0, k.1, (k.0, k.2, inr (none i, refl)))))
 
 -- each audit stands after a go that ends no call as before
-pub each_stays : {A : Type 0} (group : A → Group) (stands : A → A → List Entry → Type 0) (stays : (start now : A) (x : Entry) (past : List Entry) → goes_on x ≡ true → stands start now past → stands start now (x ∷ past))
-    (gs : List Group) (starts now : List A) (x : Entry) (past : List Entry) → goes_on x ≡ true → AreWalked group stands gs starts now past → AreWalked group stands gs starts now (x ∷ past)
+pub each_stays : {A : Type 0} (group : A → Group) (stands : A → A → List Entry
+    → Type 0) (stays : (start now : A) (x : Entry) (past : List Entry) → goes_on x ≡ true
+    → stands start now past → stands start now (x ∷ past))
+    (gs : List Group) (starts now : List A) (x : Entry) (past : List Entry) → goes_on x ≡ true
+    → AreWalked group stands gs starts now past
+    → AreWalked group stands gs starts now (x ∷ past)
 each_stays group stands stays gs starts now x past on each = λ i g here. (let k = each i g here in (k.0, k.1, k.2, k.3, k.4, stays k.0 k.1 x past on k.5))
 
 -- such a go goes to none
-pub goes_on_to_none : (gs : List Group) (i : ℕ) (x : Entry) (past : List Entry) → goes_on x ≡ true → goes_to gs i x past ≡ false
+pub goes_on_to_none : (gs : List Group) (i : ℕ) (x : Entry) (past : List Entry) → goes_on x ≡ true
+    → goes_to gs i x past ≡ false
 goes_on_to_none gs i x past on = ap (λ b. not b && is_on_at gs (op_at x past) i) on
 
 module _ {A : Type 0} (group : A → Group) (stands : A → A → List Entry → Type 0)
-    (passes : (start now : A) (x : Entry) (past : List Entry) → is_on (group start) (op_at x past) ≡ false → stands start now past → stands start now (x ∷ past))
+    (passes : (start now : A) (x : Entry) (past : List Entry)
+    → is_on (group start) (op_at x past) ≡ false → stands start now past
+    → stands start now (x ∷ past))
     (gs : List Group) (place : ℕ) (op : Act) (x : Entry) (past : List Entry) (at : place ≡ length past) (is : op ≡ op_at x past) where
   -- each group's audit has taken the entry in, or is as before and the entry's call is not on the group
-  pub each_taken : (starts old new : List A) → HandsOn stands gs place op x old new → AreWalked group stands gs starts old past → AreWalked group stands gs starts new (x ∷ past)
+  pub each_taken : (starts old new : List A) → HandsOn stands gs place op x old new
+      → AreWalked group stands gs starts old past → AreWalked group stands gs starts new (x ∷ past)
   each_taken starts old new hands each = λ i g here. (let was = each i g here in go i g here was.0 was.1 was.2 was.4 was.5 (hands.1 i was.1 was.3))
     where
       Stands : ℕ → Group → Type 0
       Stands i g = (start : A) × (now : A) × (slice_get starts i ≡ Some start) × (slice_get new i ≡ Some now) × (group start ≡ g) × stands start now (x ∷ past)
 
-      at_group : (i : ℕ) (g : Group) (b : Bool) → slice_get gs i ≡ Some g → is_on_at gs op i ≡ b → is_on g op ≡ b
+      at_group : (i : ℕ) (g : Group) (b : Bool) → slice_get gs i ≡ Some g → is_on_at gs op i ≡ b
+          → is_on g op ≡ b
       at_group i g b here is = sym (ap (λ o. option_map_or (λ h. is_on h op) o false) here) ∙ is
 
-      none : (i : ℕ) (b : Bool) → is_on_at gs op i ≡ b → (is_on_at gs op i ≡ true → ⊥) → is_on_at gs op i ≡ false
+      none : (i : ℕ) (b : Bool) → is_on_at gs op i ≡ b → (is_on_at gs op i ≡ true → ⊥)
+          → is_on_at gs op i ≡ false
       none i true e off = absurd (off e)
       none i false e off = e
 
-      go : (i : ℕ) (g : Group) → slice_get gs i ≡ Some g → (start now : A) → slice_get starts i ≡ Some start → group start ≡ g → stands start now past
+      go : (i : ℕ) (g : Group) → slice_get gs i ≡ Some g → (start now : A)
+          → slice_get starts i ≡ Some start → group start ≡ g → stands start now past
           → (b : A) × (slice_get new i ≡ Some b) × (((is_on_at gs op i ≡ true) × Hands stands place op x now b) ⊎ ((is_on_at gs op i ≡ true → ⊥) × (b ≡ now))) → Stands i g
       go i g here start now first of was (b, got, inl p) = (start, b, first, got, of, p.1 start past at is was)
       go i g here start now first of was (b, got, inr q) = (
@@ -359,17 +413,21 @@ module _ {A : Type 0} (group : A → Group) (stands : A → A → List Entry →
       )
 
   -- each audit was handed the entry if it goes to its group
-  pub handed_taken : (starts old new : List A) → goes_on x ≡ false → HandsOn stands gs place op x old new → AreHanded stands gs starts old past → AreHanded stands gs starts new (x ∷ past)
+  pub handed_taken : (starts old new : List A) → goes_on x ≡ false
+      → HandsOn stands gs place op x old new → AreHanded stands gs starts old past
+      → AreHanded stands gs starts new (x ∷ past)
   handed_taken starts old new ends hands h = (hands.0 ∙ h.0, λ i start first. (let k = h.1 i start first in go i start k.0 k.2 (hands.1 i k.0 k.1)))
     where
       goes : (i : ℕ) → goes_to gs i x past ≡ is_on_at gs op i
       goes i = ap (λ b. not b && is_on_at gs (op_at x past) i) ends ∙ ap (λ a. is_on_at gs a i) (sym is)
 
-      none : (i : ℕ) (b : Bool) → is_on_at gs op i ≡ b → (is_on_at gs op i ≡ true → ⊥) → is_on_at gs op i ≡ false
+      none : (i : ℕ) (b : Bool) → is_on_at gs op i ≡ b → (is_on_at gs op i ≡ true → ⊥)
+          → is_on_at gs op i ≡ false
       none i true e off = absurd (off e)
       none i false e off = e
 
-      own : (a b : A) → Hands stands place op x a b → Hands stands (length past) (op_at x past) x a b
+      own : (a b : A) → Hands stands place op x a b
+          → Hands stands (length past) (op_at x past) x a b
       own a b h = subst (λ n. Hands stands n (op_at x past) x a b) at (subst (λ o. Hands stands place o x a b) is h)
 
       go : (i : ℕ) (start now : A) → IsHanded stands (goes_to gs i) start now past
