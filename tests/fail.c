@@ -1,6 +1,7 @@
 /* Has one read or one write of the program that it is preloaded into fail, and others move few bytes.
 
-   FAILED_READ=N    read N of standard input fails, counted from 0.
+   FAILED_READ=N    read N of standard input fails, counted from 0, with the error of number FAILED_ERROR, or else as a
+                    connection that was reset.
    FAILED_WRITE=N   write N to standard output fails, or takes nothing where FAILED_TAKES is set.
    FAILED_NOTE=N    write N to standard error fails.
    FAILED_PIECE=N   each other read and write of these moves N bytes at most.
@@ -45,7 +46,8 @@ ssize_t read(int file, void *buffer, size_t size) {
     static ssize_t (*next)(int, void *, size_t);
     if (!next) next = (ssize_t (*)(int, void *, size_t))dlsym(NEXT, "read");
     if (file != 0) return next(file, buffer, size);
-    return is_failing(&reads, "FAILED_READ") ? failed(RESET) : next(file, buffer, piece(size));
+    if (is_failing(&reads, "FAILED_READ")) return failed((int)number_of("FAILED_ERROR", RESET));
+    return next(file, buffer, piece(size));
 }
 
 ssize_t write(int file, const void *buffer, size_t size) {

@@ -1,9 +1,10 @@
 -- Each entry is handed to the audits of the groups that its call may be on, and the others stand as they are.
-use Rattle.std.proofs.Common.{◌≡◌, ◌≢◌, ℕ, ◌+◌, ◌<◌, ◌≤◌, Bool, true, false, List, ◌∷◌, length, Some, refl, ap, sym, ◌∙◌, subst, arith, true≢false, cond, ◌==◌, ◌||◌, not, ◌⊎◌, inl, inr, slice_get, slice_set, below_more}
-use mathlib.Core.Bool.{beq}
+use Rattle.std.proofs.Common.{◌≡◌, ◌≢◌, ℕ, ◌+◌, ◌<◌, ◌≤◌, Bool, true, false, List, ◌∷◌, length, Some, refl, ap, sym, ◌∙◌, subst, arith, true≢false, cond, ◌==◌, ◌||◌, ◌&&◌, not, leb, ◌⊎◌, inl, inr, Option, None, [], get_or, slice_get, slice_set, below_more}
 use Rattle.std.specs.Option.{option_map_or}
 use Rattle.std.proofs.lemmas.Bool.{eqb-true, eqb-false, eq-eqb}
-use Rattle.std.proofs.lemmas.Option.{slice_get_within}
+use Rattle.std.proofs.lemmas.Bool.Decides.{leb_tells}
+use Rattle.std.proofs.lemmas.Option.{slice_get_within, slice_get_cases}
+use Rattle.std.proofs.Math.ListN.{length-set}
 use Rattle.ec_core.specs.declared.act.Act.{Act}
 use Rattle.ec_core.specs.declared.act.Act.TheVariants.{Advance, Read, Await, Put, Get, Hand}
 use Rattle.ec_core.specs.declared.act.Entry.{Entry}
@@ -13,40 +14,87 @@ use Rattle.ec_core.proofs.shared.Places.{get_set}
 use Rattle.ec_heading.specs.declared.group.Group.{Group}
 use Rattle.ec_heading.specs.declared.group.Group.TheVariants as groups
 use Rattle.ec_walk.specs.declared.table.Span.{Span}
-use Rattle.ec_walk.specs.Walks.{names, is_wide, is_on, is_wide_at, CoversFirst, Covers, CoversAct, CoversAt, Hands, HandsTo, HandsAmong, AreWalked}
+use Rattle.ec_walk.specs.Walks.{names, is_wide, is_on, is_wide_at, is_on_at, is_asked_at, passes_at, CoversFirst, Covers, CoversAct, CoversAt, Hands, HandsWhere, HandsTo, HandsAt, HandsAmong, HandsOn, goes_to, IsHanded, AreHanded, AreWalked}
 
 -- THE TABLE
 
 -- one more group, which passes the test
-pub covers_on : (gs : List Group) (test : Group → Bool) (span new : Span) (n : ℕ) → CoversFirst gs test span n → new.first ≤ span.first → new.first ≤ n → new.end ≡ n + 1
-    → CoversFirst gs test new (n + 1)
-covers_on gs test span new n c first here end = λ i less g at on. (new_first i less g at on, omega arith)
+pub covers_on : (gs : List Group) (test : Group → Bool) (span new : Span) (n : ℕ) (g : Group)
+    → slice_get gs n ≡ Some g → test g ≡ true → CoversFirst gs test span n
+    → (span.end ≤ span.first → new.first ≡ n) → (span.first < span.end → new.first ≡ span.first)
+    → new.end ≡ n + 1 → CoversFirst gs test new (n + 1)
+covers_on gs test span new n g at on c alone more end = record {
+  among = below_more P n
+      (λ i less h got yes. (let was = c.among i less h got yes in let same = more (omega (arith, was.0, was.1)) in (omega (arith, was.0), omega arith)))
+      (λ h got yes. (low, omega arith));
+  within = omega arith;
+  lowest = λ some. lowest_by (leb_tells span.end span.first);
+  highest = λ i is. (let same : n ≡ i = omega arith in subst (λ k. passes_at gs test k ≡ true) same here);
+}
   where
     P : ℕ → Type 0
-    P i = (g : Group) → slice_get gs i ≡ Some g → test g ≡ true → new.first ≤ i
+    P i = (h : Group) → slice_get gs i ≡ Some h → test h ≡ true → (new.first ≤ i) × (i < new.end)
 
-    new_first : (i : ℕ) → i < n + 1 → P i
-    new_first = below_more P n (λ i less g at on. (let was : span.first ≤ i = (c i less g at on).0 in omega arith)) (λ g at on. here)
+    here : passes_at gs test n ≡ true
+    here = ap (λ o. option_map_or test o false) at ∙ on
+
+    low_by : ((leb span.end span.first ≡ true) × (span.end ≤ span.first))
+        ⊎ ((leb span.end span.first ≡ false) × (span.first < span.end)) → new.first ≤ n
+    low_by (inl p) = (let same = alone p.1 in omega arith)
+    low_by (inr p) = (let same = more p.1 in let least = c.within in let less = p.1 in omega arith)
+
+    low : new.first ≤ n
+    low = low_by (leb_tells span.end span.first)
+
+    lowest_by : ((leb span.end span.first ≡ true) × (span.end ≤ span.first))
+        ⊎ ((leb span.end span.first ≡ false) × (span.first < span.end))
+        → passes_at gs test new.first ≡ true
+    lowest_by (inl p) = ap (passes_at gs test) (alone p.1) ∙ here
+    lowest_by (inr p) = ap (passes_at gs test) (more p.1) ∙ c.lowest p.1
 
 -- one more group, which does not
-pub covers_off : (gs : List Group) (test : Group → Bool) (span : Span) (n : ℕ) (g : Group) → CoversFirst gs test span n → slice_get gs n ≡ Some g → test g ≡ false
+pub covers_off : (gs : List Group) (test : Group → Bool) (span : Span) (n : ℕ) (g : Group)
+    → CoversFirst gs test span n → slice_get gs n ≡ Some g → test g ≡ false
     → CoversFirst gs test span (n + 1)
-covers_off gs test span n g c is off =
-    below_more (λ i. (f : Group) → slice_get gs i ≡ Some f → test f ≡ true → (span.first ≤ i) × (i < span.end)) n c
-    (λ f at on.
-    (let same : f ≡ g = cc in
-    absurd (true≢false (sym on ∙ ap test same ∙ off))))
+covers_off gs test span n g c is off = record {
+  among = below_more (λ i. (f : Group) → slice_get gs i ≡ Some f → test f ≡ true → (span.first ≤ i) × (i < span.end)) n c.among
+      (λ f at on.
+      (let same : f ≡ g = cc in
+      absurd (true≢false (sym on ∙ ap test same ∙ off))));
+  within = (let was = c.within in omega arith);
+  lowest = c.lowest;
+  highest = c.highest;
+}
 
-pub covers_all : (gs : List Group) (test : Group → Bool) (span : Span) (n : ℕ) → CoversFirst gs test span n → length gs ≤ n → Covers gs test span
-covers_all gs test span n c all = λ i g at on. (let less : i < length gs = slice_get_within gs i g at in c i (omega arith) g at on)
+pub covers_all : (gs : List Group) (test : Group → Bool) (span : Span) (n : ℕ)
+    → CoversFirst gs test span n → length gs ≤ n → Covers gs test span
+covers_all gs test span n c all = record {
+  among = λ i g at on. (let less : i < length gs = slice_get_within gs i g at in c.among i (omega arith) g at on);
+  lowest = c.lowest;
+  highest = c.highest;
+}
 
 -- what a table has at a place, for an act that is on the same groups
-pub covers_at : (gs : List Group) (act read : Act) (spans : List Span) (place : ℕ) (span : Span) → CoversAt gs read spans place → slice_get spans place ≡ Some span
+pub covers_at : (gs : List Group) (act read : Act) (spans : List Span) (place : ℕ) (span : Span)
+    → CoversAt gs read spans place → slice_get spans place ≡ Some span
     → ((g : Group) → names g act ≡ names g read) → CoversAct gs act span
-covers_at gs act read spans place span c at same = λ i g is on. c span at i g is (sym (same g) ∙ on)
+covers_at gs act read spans place span c at same = record {
+  among = λ i g is on. was.among i g is (sym (same g) ∙ on);
+  lowest = λ some. over (slice_get gs span.first) (was.lowest some);
+  highest = λ i is. over (slice_get gs i) (was.highest i is);
+}
+  where
+    was : CoversAct gs read span
+    was = c span at
+
+    over : (o : Option Group) → option_map_or (λ g. names g read) o false ≡ true → option_map_or (λ g. names g act) o false ≡ true
+    over None on = on
+    over (Some g) on = same g ∙ on
 
 -- one more place of a table is filled
-pub covers_more : (gs : List Group) (acts : ℕ → Act) (spans : List Span) (n : ℕ) (span : Span) → n < length spans → ((e : ℕ) → e < n → CoversAt gs (acts e) spans e) → CoversAct gs (acts n) span
+pub covers_more : (gs : List Group) (acts : ℕ → Act) (spans : List Span) (n : ℕ) (span : Span)
+    → n < length spans → ((e : ℕ) → e < n → CoversAt gs (acts e) spans e)
+    → CoversAct gs (acts n) span
     → (e : ℕ) → e < n + 1 → CoversAt gs (acts e) (slice_set spans n span) e
 covers_more gs acts spans n span room before here =
     below_more (λ e. CoversAt gs (acts e) (slice_set spans n span) e) n
@@ -92,143 +140,298 @@ on_put y v (groups.Both s) = refl
 
 -- THE AUDITS
 
--- whether the group with a number is asked
-pub asked : (r wide at : Bool) → r ≡ at → not (beq r wide) ≡ false → at ≡ wide
-asked true true at is h = sym is
-asked false false at is h = sym is
-asked true false at is h = absurd (true≢false h)
-asked false true at is h = absurd (true≢false h)
+-- WHICH GROUPS ARE ASKED
 
-pub not_asked : (r wide at : Bool) → r ≡ at → not (beq r wide) ≡ true → at ≡ wide → ⊥
-not_asked true true at is h same = true≢false (sym h)
-not_asked false false at is h same = true≢false (sym h)
-not_asked true false at is h same = true≢false (is ∙ same)
-not_asked false true at is h same = true≢false (sym (is ∙ same))
+-- a group that an act names, and that is not wide
+pub asked_named : (gs : List Group) (op : Act) (i : ℕ) → passes_at gs (λ g. names g op) i ≡ true → is_wide_at gs i ≡ false → is_asked_at gs false op i ≡ true
+asked_named gs op i = go (slice_get gs i)
+  where
+    go : (o : Option Group) → option_map_or (λ g. names g op) o false ≡ true → option_map_or is_wide o false ≡ false → option_map_or (λ g. not (is_wide g) && names g op) o false ≡ true
+    go None on narrow = on
+    go (Some g) on narrow = ap (λ b. not b && names g op) narrow ∙ on
 
-module _ {A : Type 0} (stands : A → A → List Entry → Type 0) (gs : List Group) (wide : Bool) (place : ℕ) (op : Act) (x : Entry) where
+-- a wide group is asked as such alone
+pub asked_once : (gs : List Group) (op : Act) (i : ℕ) → is_wide_at gs i ≡ true
+    → is_asked_at gs false op i ≡ true → ⊥
+asked_once gs op i = go (slice_get gs i)
+  where
+    go : (o : Option Group) → option_map_or is_wide o false ≡ true
+        → option_map_or (λ g. not (is_wide g) && names g op) o false ≡ true → ⊥
+    go None w on = true≢false (sym w)
+    go (Some g) w on = true≢false (sym on ∙ ap (λ b. not b && names g op) w)
+
+-- a call is on each group that is asked
+pub asked_is_on : (gs : List Group) (op : Act) (i : ℕ) → is_asked_at gs false op i ≡ true
+    → is_on_at gs op i ≡ true
+asked_is_on gs op i = go (slice_get gs i)
+  where
+    by : (w n : Bool) → (not w && n) ≡ true → (w || n) ≡ true
+    by true n on = refl
+    by false n on = on
+
+    go : (o : Option Group) → option_map_or (λ g. not (is_wide g) && names g op) o false ≡ true → option_map_or (λ g. is_on g op) o false ≡ true
+    go None on = on
+    go (Some g) on = by (is_wide g) (names g op) on
+
+pub wide_is_on : (gs : List Group) (op : Act) (i : ℕ) → is_wide_at gs i ≡ true
+    → is_on_at gs op i ≡ true
+wide_is_on gs op i = go (slice_get gs i)
+  where
+    go : (o : Option Group) → option_map_or is_wide o false ≡ true
+        → option_map_or (λ g. is_on g op) o false ≡ true
+    go None on = on
+    go (Some g) on = ap (λ b. b || names g op) on
+
+-- a group that a call is on is among the wide ones, or among those that it names
+pub on_is_asked : (gs : List Group) (op : Act) (named wide : Span) (i : ℕ) → CoversAct gs op named
+    → Covers gs is_wide wide → is_on_at gs op i ≡ true
+    → ((named.first ≤ i) × (i < named.end) × (is_asked_at gs false op i ≡ true) → ⊥)
+    → ((wide.first ≤ i) × (i < wide.end) × (is_asked_at gs true op i ≡ true) → ⊥) → ⊥
+on_is_asked gs op named wide i covers wides on one other = by_group (slice_get_cases gs i).1
+  where
+    by_group : ((g : Group) × (i < length gs) × (slice_get gs i ≡ Some g) × (get_or gs i g ≡ g))
+        ⊎ ((length gs ≤ i) × (slice_get gs i ≡ None)) → ⊥
+    by_group (inr none) = true≢false (sym on ∙ ap (λ o. option_map_or (λ h. is_on h op) o false) none.1)
+    by_group (inl (g, less, here, same)) = by_width (is_wide g) refl
+      where
+        by_width : (b : Bool) → is_wide g ≡ b → ⊥
+        by_width true w = (let in_span = wides.among i g here w in other (in_span.0, in_span.1, ap (λ o. option_map_or is_wide o false) here ∙ w))
+        by_width false w =
+            (let named_here : names g op ≡ true = sym (ap (λ b. b || names g op) w) ∙ sym (ap (λ o. option_map_or (λ h. is_on h op) o false) here) ∙ on in
+            let in_span = covers.among i g here named_here in
+            one (in_span.0, in_span.1, asked_named gs op i (ap (λ o. option_map_or (λ h. names h op) o false) here ∙ named_here) (ap (λ o. option_map_or is_wide o false) here ∙ w)))
+
+-- WHO IS HANDED AN ENTRY
+
+module _ {A : Type 0} (stands : A → A → List Entry
+    → Type 0) (place : ℕ) (op : Act) (x : Entry) where
   -- one audit has taken the entry in
-  pub hands_one : (old : List A) (n : ℕ) (a b : A) → n < length old → slice_get old n ≡ Some a → is_wide_at gs n ≡ wide → Hands stands place op x a b
-      → HandsTo stands gs wide n place op x old (slice_set old n b)
-  hands_one old n a b room is on hands = λ i o at.
-      elim (n == i) as (λ t. (n == i) ≡ t → (p : A) × (slice_get (slice_set old n b) i ≡ Some p)
-      × ((Hands stands place op x o p × (i ≡ n) × (is_wide_at gs i ≡ wide)) ⊎ ((p ≡ o) × (i ≡ n → is_wide_at gs i ≡ wide → ⊥)))) [
-        | true ↦ λ e.
-            (let same : n ≡ i = eqb-true n i e in
-            let both : Some a ≡ Some o = sym is ∙ ap (slice_get old) same ∙ at in
-            let one : a ≡ o = cc in
-            (b, get_set old n i b room ∙ ap (λ t. cond t (Some b) (slice_get old i)) e, inl (subst (λ z. Hands stands place op x z b) one hands, sym same, ap (is_wide_at gs) (sym same) ∙ on)))
-        | false ↦ λ e.
-            (o, get_set old n i b room ∙ ap (λ t. cond t (Some b) (slice_get old i)) e ∙ at, inr (refl, λ same here. eqb-false n i e (sym same)))
-      ] refl
+  pub hands_one : (old : List A) (n : ℕ) (a b : A) → n < length old → slice_get old n ≡ Some a
+      → Hands stands place op x a b → HandsTo stands n place op x old (slice_set old n b)
+  hands_one old n a b room is hands = (
+    length-set old n b,
+    λ i o at.
+        elim (n == i) as (λ t. (n == i) ≡ t → (p : A) × (slice_get (slice_set old n b) i ≡ Some p) × (((i ≡ n) × Hands stands place op x o p) ⊎ ((i ≡ n → ⊥) × (p ≡ o)))) [
+          | true ↦ λ e.
+              (let same : n ≡ i = eqb-true n i e in
+              let both : Some a ≡ Some o = sym is ∙ ap (slice_get old) same ∙ at in
+              let one : a ≡ o = cc in
+              (b, get_set old n i b room ∙ ap (λ t. cond t (Some b) (slice_get old i)) e, inl (sym same, subst (λ z. Hands stands place op x z b) one hands)))
+          | false ↦ λ e. (o, get_set old n i b room ∙ ap (λ t. cond t (Some b) (slice_get old i)) e ∙ at, inr (λ same. eqb-false n i e (sym same), refl))
+        ] refl,
+  )
 
-  -- there is none with this number
-  pub hands_past : (old : List A) (n : ℕ) → length old ≤ n → HandsTo stands gs wide n place op x old old
-  hands_past old n past = λ i o at. (let less : i < length old = slice_get_within old i o at in (o, at, inr (refl, λ same here. absurd (omega arith))))
+  -- none is picked
+  pub hands_nobody : (IsPicked : ℕ → Type 0) (old : List A) → ((i : ℕ) → i < length old → IsPicked i
+      → ⊥) → HandsWhere stands IsPicked place op x old old
+  hands_nobody IsPicked old none = (refl, λ i a at. (a, at, inr (none i (slice_get_within old i a at), refl)))
 
-  -- or it is not asked
-  pub hands_other : (old : List A) (n : ℕ) → (is_wide_at gs n ≡ wide → ⊥) → HandsTo stands gs wide n place op x old old
-  hands_other old n other = λ i o at. (o, at, inr (refl, λ same here. other (ap (is_wide_at gs) (sym same) ∙ here)))
+  -- the same are picked
+  pub hands_same : (P Q : ℕ → Type 0) (old new : List A) → ((i : ℕ) → P i → Q i) → ((i : ℕ) → Q i
+      → P i) → HandsWhere stands P place op x old new → HandsWhere stands Q place op x old new
+  hands_same P Q old new there back h = (
+    h.0,
+    λ i a at.
+        (let k = h.1 i a at in (
+          k.0,
+          k.1,
+          elim k.2 [
+            | inl p ↦ inl (there i p.0, p.1)
+            | inr q ↦ inr (λ on. q.0 (back i on), q.1)
+          ],
+        )),
+  )
 
-  -- an audit of the groups from `first` on, before n, has taken the entry in, another is as before
-  abbrev pub HandedAt : ℕ → ℕ → List A → ℕ → A → Type 0
-  HandedAt first n new i a = (b : A) × (slice_get new i ≡ Some b)
-      × ((Hands stands place op x a b × (i < n) × (is_wide_at gs i ≡ wide)) ⊎ ((b ≡ a) × (first ≤ i → i < n → is_wide_at gs i ≡ wide → ⊥)))
-
-  abbrev pub HandsFirst : ℕ → ℕ → List A → List A → Type 0
-  HandsFirst first n old new = (i : ℕ) (a : A) → slice_get old i ≡ Some a → HandedAt first n new i a
-
-  pub hands_none : (first : ℕ) (old : List A) → HandsFirst first first old old
-  hands_none first old = λ i a at. (a, at, inr (refl, λ from before here. absurd (omega arith)))
-
-  pub hands_all : (first end n : ℕ) (old new : List A) → end ≤ n → HandsFirst first n old new → HandsAmong stands gs wide first end place op x old new
-  hands_all first end n old new last h = λ i a at.
-      (let k = h i a at in (
-        k.0,
-        k.1,
-        elim k.2 [
-          | inl p ↦ inl (p.0, p.2)
-          | inr q ↦ inr (q.0, λ from before here. q.1 from (omega arith) here)
-        ],
-      ))
-
-  -- there are none
-  pub hands_nowhere : (first end : ℕ) (old : List A) → end ≤ first → HandsAmong stands gs wide first end place op x old old
-  hands_nowhere first end old none = λ i a at. (a, at, inr (refl, λ from before here. absurd (omega arith)))
+  -- first some, then others
+  pub hands_then : (P Q R : ℕ → Type 0) (old mid new : List A) → ((i : ℕ) → P i → Q i → ⊥)
+      → ((i : ℕ) → P i → R i) → ((i : ℕ) → Q i → R i)
+      → ((i : ℕ) → R i → (P i → ⊥) → (Q i → ⊥) → ⊥) → HandsWhere stands P place op x old mid
+      → HandsWhere stands Q place op x mid new → HandsWhere stands R place op x old new
+  hands_then P Q R old mid new apart one other all first second = (second.0 ∙ first.0, λ i a at. (let k = first.1 i a at in go i a k.0 k.2 (second.1 i k.0 k.1)))
+    where
+      go : (i : ℕ) (a b : A) → ((P i × Hands stands place op x a b) ⊎ ((P i → ⊥) × (b ≡ a)))
+          → (c : A) × (slice_get new i ≡ Some c) × ((Q i × Hands stands place op x b c) ⊎ ((Q i
+          → ⊥) × (c ≡ b)))
+          → (c : A) × (slice_get new i ≡ Some c) × ((R i × Hands stands place op x a c) ⊎ ((R i
+          → ⊥) × (c ≡ a)))
+      go i a b (inl k) (c, got, inl s) = absurd (apart i k.0 s.0)
+      go i a b (inl k) (c, got, inr s) = (c, got, inl (one i k.0, subst (λ z. Hands stands place op x a z) (sym s.1) k.1))
+      go i a b (inr k) (c, got, inl s) = (c, got, inl (other i s.0, subst (λ z. Hands stands place op x z c) k.1 s.1))
+      go i a b (inr k) (c, got, inr s) = (c, got, inr (λ on. all i on k.0 s.0, s.1 ∙ k.1))
 
   -- one more number
-  pub hands_more : (first n : ℕ) (old now new : List A) → HandsFirst first n old now → HandsTo stands gs wide n place op x now new → HandsFirst first (n + 1) old new
-  hands_more first n old now new h one = λ i a at. (let k = h i a at in go i a k.0 k.2 (one i k.0 k.1))
+  pub hands_more : (gs : List Group) (wide : Bool) (first n : ℕ) (old now new : List A) → first ≤ n
+      → HandsAmong stands gs wide first n place op x old now
+      → HandsAt stands gs wide n place op x now new
+      → HandsAmong stands gs wide first (n + 1) place op x old new
+  hands_more gs wide first n old now new from =
+      hands_then (λ i. (first ≤ i) × (i < n) × (is_asked_at gs wide op i ≡ true)) (λ i. (i ≡ n) × (is_asked_at gs wide op i ≡ true))
+      (λ i. (first ≤ i) × (i < n + 1) × (is_asked_at gs wide op i ≡ true)) old now new
+      (λ i p q. (let less : i < n = p.1 in let here : i ≡ n = q.0 in omega arith))
+      (λ i p. (let less : i < n = p.1 in (p.0, omega arith, p.2)))
+      (λ i q. (let here : i ≡ n = q.0 in (omega arith, omega arith, q.1)))
+      (λ i r no_earlier not_here.
+      elim (i == n) as (λ t. (i == n) ≡ t → ⊥) [
+        | true ↦ λ e. not_here (eqb-true i n e, r.2)
+        | false ↦ λ e. (let other : i ≢ n = eqb-false i n e in let less : i < n + 1 = r.1 in no_earlier (r.0, omega arith, r.2))
+      ] refl)
+
+  -- up to the end, or none where that is before the first
+  pub hands_all : (gs : List Group) (wide : Bool) (first end n : ℕ) (old new : List A) → end ≤ n
+      → (end < n → n ≡ first) → HandsAmong stands gs wide first n place op x old new
+      → HandsAmong stands gs wide first end place op x old new
+  hands_all gs wide first end n old new all none =
+      hands_same (λ i. (first ≤ i) × (i < n) × (is_asked_at gs wide op i ≡ true)) (λ i. (first ≤ i) × (i < end) × (is_asked_at gs wide op i ≡ true)) old new
+      (λ i p. (p.0, before i p.0 p.1 (leb_tells n end), p.2)) (λ i q. (let less : i < end = q.1 in (q.0, omega arith, q.2)))
     where
-      go : (i : ℕ) (a b : A) → ((Hands stands place op x a b × (i < n) × (is_wide_at gs i ≡ wide)) ⊎ ((b ≡ a) × (first ≤ i → i < n → is_wide_at gs i ≡ wide → ⊥)))
-          → (c : A) × (slice_get new i ≡ Some c) × ((Hands stands place op x b c × (i ≡ n) × (is_wide_at gs i ≡ wide)) ⊎ ((c ≡ b) × (i ≡ n → is_wide_at gs i ≡ wide → ⊥))) → HandedAt first (n + 1) new i a
-      go i a b (inl k) (c, got, inl s) = (let less : i < n = k.1 in let at : i ≡ n = s.1 in absurd (omega arith))
-      go i a b (inl k) (c, got, inr s) = (let less : i < n = k.1 in (c, got, inl (subst (λ z. Hands stands place op x a z) (sym s.0) k.0, omega arith, k.2)))
-      go i a b (inr k) (c, got, inl s) = (let at : i ≡ n = s.1 in (c, got, inl (subst (λ z. Hands stands place op x z c) k.0 s.0, omega arith, s.2)))
-      go i a b (inr k) (c, got, inr s) = (
-        c,
-        got,
-        inr (
-          s.0 ∙ k.0,
-          λ from before here.
-              elim (i == n) as (λ t. (i == n) ≡ t → ⊥) [
-                | true ↦ λ e. s.1 (eqb-true i n e) here
-                | false ↦ λ e. (let other : i ≢ n = eqb-false i n e in k.1 from (omega arith) here)
-              ] refl,
-        ),
-      )
+      before : (i : ℕ) → first ≤ i → i < n → ((leb n end ≡ true) × (n ≤ end))
+          ⊎ ((leb n end ≡ false) × (end < n)) → i < end
+      before i from less (inl p) = (let up : n ≤ end = p.1 in omega arith)
+      before i from less (inr p) = (let same : n ≡ first = none p.1 in absurd (omega arith))
 
--- A GO THAT ENDS NO CALL
+  -- there are none
+  pub hands_nowhere : (gs : List Group) (wide : Bool) (first end : ℕ) (old : List A) → end ≤ first
+      → HandsAmong stands gs wide first end place op x old old
+  hands_nowhere gs wide first end old none =
+      hands_nobody (λ i. (first ≤ i) × (i < end) × (is_asked_at gs wide op i ≡ true)) old (λ i less p. (let from : first ≤ i = p.0 in let before : i < end = p.1 in omega arith))
 
--- each audit stands after it as before
-pub each_stays : {A : Type 0} (group : A → Group) (stands : A → A → List Entry → Type 0) (stays : (start now : A) (x : Entry) (past : List Entry) → goes_on x ≡ true → stands start now past → stands start now (x ∷ past))
-    (gs : List Group) (starts now : List A) (x : Entry) (past : List Entry) → goes_on x ≡ true → AreWalked group stands gs starts now past → AreWalked group stands gs starts now (x ∷ past)
+  -- the one that is named
+  pub hands_named : (gs : List Group) (named : Span) (old new : List A) → CoversAct gs op named
+      → named.end ≡ named.first + 1 → is_wide_at gs named.first ≡ false
+      → HandsTo stands named.first place op x old new
+      → HandsAmong stands gs false named.first named.end place op x old new
+  hands_named gs named old new covers one narrow =
+      hands_same (λ i. i ≡ named.first) (λ i. (named.first ≤ i) × (i < named.end) × (is_asked_at gs false op i ≡ true)) old new
+      (λ i same. (omega arith, omega arith, ap (is_asked_at gs false op) same ∙ asked_named gs op named.first (covers.lowest (omega arith)) narrow))
+      (λ i q. (let from : named.first ≤ i = q.0 in let before : i < named.end = q.1 in omega arith))
+
+  -- it is wide
+  pub hands_wide : (gs : List Group) (named : Span) (old : List A) → named.end ≡ named.first + 1
+      → is_wide_at gs named.first ≡ true
+      → HandsAmong stands gs false named.first named.end place op x old old
+  hands_wide gs named old one wide =
+      hands_nobody (λ i. (named.first ≤ i) × (i < named.end) × (is_asked_at gs false op i ≡ true)) old
+      (λ i less q.
+      (let from : named.first ≤ i = q.0 in
+      let before : i < named.end = q.1 in
+      let same : i ≡ named.first = omega arith in
+      asked_once gs op i (ap (is_wide_at gs) same ∙ wide) q.2))
+
+  -- those that are named, and then the wide ones
+  pub hands_both : (gs : List Group) (named wide : Span) (old mid new : List A)
+      → CoversAct gs op named → Covers gs is_wide wide
+      → HandsAmong stands gs false named.first named.end place op x old mid
+      → HandsAmong stands gs true wide.first wide.end place op x mid new
+      → HandsOn stands gs place op x old new
+  hands_both gs named wide old mid new covers wides =
+      hands_then (λ i. (named.first ≤ i) × (i < named.end) × (is_asked_at gs false op i ≡ true)) (λ i. (wide.first ≤ i) × (i < wide.end) × (is_asked_at gs true op i ≡ true))
+      (λ i. is_on_at gs op i ≡ true) old mid new (λ i p q. asked_once gs op i q.2 p.2) (λ i p. asked_is_on gs op i p.2) (λ i q. wide_is_on gs op i q.2)
+      (λ i on one other. on_is_asked gs op named wide i covers wides on one other)
+
+-- A WALK
+
+-- before the first entry
+pub handed_first : {A : Type 0} (stands : A → A → List Entry
+    → Type 0) (gs : List Group) (starts : List A) → AreHanded stands gs starts starts []
+handed_first stands gs starts = (refl, λ i start at. (start, at, refl))
+
+-- without groups an entry goes nowhere
+goes_nowhere : (gs : List Group) (i : ℕ) (x : Entry) (past : List Entry) → length gs ≡ 0
+    → goes_to gs i x past ≡ false
+goes_nowhere (g ∷ gs) i x past none = absurd (omega arith)
+goes_nowhere [] i x past none = by (goes_on x)
+  where
+    by : (b : Bool) → (not b && false) ≡ false
+    by true = refl
+    by false = refl
+
+-- so all audits stand as at first
+pub handed_nowhere : {A : Type 0} (stands : A → A → List Entry
+    → Type 0) (gs : List Group) (starts : List A) (past : List Entry) → length gs ≡ 0
+    → AreHanded stands gs starts starts past
+handed_nowhere {A} stands gs starts past none = (refl, λ i start at. (start, at, go i start past))
+  where
+    go : (i : ℕ) (start : A) (past : List Entry) → IsHanded stands (goes_to gs i) start start past
+    go i start [] = refl
+    go i start (x ∷ past) = (start, go i start past, inr (goes_nowhere gs i x past none, refl))
+
+-- an entry that goes to none
+pub handed_none : {A : Type 0} (stands : A → A → List Entry
+    → Type 0) (gs : List Group) (starts now : List A) (x : Entry) (past : List Entry) → ((i : ℕ)
+    → goes_to gs i x past ≡ false)
+    → AreHanded stands gs starts now past → AreHanded stands gs starts now (x ∷ past)
+handed_none stands gs starts now x past none h = (h.0, λ i start at. (let k = h.1 i start at in (k.0, k.1, (k.0, k.2, inr (none i, refl)))))
+
+-- each audit stands after a go that ends no call as before
+pub each_stays : {A : Type 0} (group : A → Group) (stands : A → A → List Entry
+    → Type 0) (stays : (start now : A) (x : Entry) (past : List Entry) → goes_on x ≡ true
+    → stands start now past → stands start now (x ∷ past))
+    (gs : List Group) (starts now : List A) (x : Entry) (past : List Entry) → goes_on x ≡ true
+    → AreWalked group stands gs starts now past
+    → AreWalked group stands gs starts now (x ∷ past)
 each_stays group stands stays gs starts now x past on each = λ i g here. (let k = each i g here in (k.0, k.1, k.2, k.3, k.4, stays k.0 k.1 x past on k.5))
 
--- BOTH HANDS
+-- such a go goes to none
+pub goes_on_to_none : (gs : List Group) (i : ℕ) (x : Entry) (past : List Entry) → goes_on x ≡ true
+    → goes_to gs i x past ≡ false
+goes_on_to_none gs i x past on = ap (λ b. not b && is_on_at gs (op_at x past) i) on
 
 module _ {A : Type 0} (group : A → Group) (stands : A → A → List Entry → Type 0)
-    (passes : (start now : A) (x : Entry) (past : List Entry) → is_on (group start) (op_at x past) ≡ false → stands start now past → stands start now (x ∷ past))
-    (gs : List Group) (place : ℕ) (op : Act) (x : Entry) (past : List Entry) (at : place ≡ length past) (is : op ≡ op_at x past)
-    (names_span wide_span : Span) (covers : CoversAct gs op names_span) (wide : Covers gs is_wide wide_span) where
-  -- a group that none of the two is for
-  off : (i : ℕ) (g : Group) → slice_get gs i ≡ Some g → (names_span.first ≤ i → i < names_span.end → is_wide_at gs i ≡ false → ⊥)
-      → (wide_span.first ≤ i → i < wide_span.end → is_wide_at gs i ≡ true → ⊥) → is_on g op ≡ false
-  off i g here one other = by_width (is_wide g) refl
-    where
-      at_here : is_wide_at gs i ≡ is_wide g
-      at_here = ap (λ o. option_map_or is_wide o false) here
-
-      by_width : (b : Bool) → is_wide g ≡ b → (b || names g op) ≡ false
-      by_width true w = (let in_span = wide i g here w in absurd (other in_span.0 in_span.1 (at_here ∙ w)))
-      by_width false w =
-          elim (names g op) as (λ b. names g op ≡ b → b ≡ false) [
-            | true ↦ λ on. (let in_span = covers i g here on in absurd (one in_span.0 in_span.1 (at_here ∙ w)))
-            | false ↦ λ e. refl
-          ] refl
-
+    (passes : (start now : A) (x : Entry) (past : List Entry)
+    → is_on (group start) (op_at x past) ≡ false → stands start now past
+    → stands start now (x ∷ past))
+    (gs : List Group) (place : ℕ) (op : Act) (x : Entry) (past : List Entry) (at : place ≡ length past) (is : op ≡ op_at x past) where
   -- each group's audit has taken the entry in, or is as before and the entry's call is not on the group
-  pub each_taken : (starts old mid new : List A) → HandsAmong stands gs false names_span.first names_span.end place op x old mid
-      → HandsAmong stands gs true wide_span.first wide_span.end place op x mid new → AreWalked group stands gs starts old past → AreWalked group stands gs starts new (x ∷ past)
-  each_taken starts old mid new one two each = λ i g here. (let was = each i g here in go i g here was.0 was.1 was.2 was.4 was.5 (one i was.1 was.3))
+  pub each_taken : (starts old new : List A) → HandsOn stands gs place op x old new
+      → AreWalked group stands gs starts old past → AreWalked group stands gs starts new (x ∷ past)
+  each_taken starts old new hands each = λ i g here. (let was = each i g here in go i g here was.0 was.1 was.2 was.4 was.5 (hands.1 i was.1 was.3))
     where
       Stands : ℕ → Group → Type 0
       Stands i g = (start : A) × (now : A) × (slice_get starts i ≡ Some start) × (slice_get new i ≡ Some now) × (group start ≡ g) × stands start now (x ∷ past)
 
-      left_out : (i : ℕ) (g : Group) (start now : A) → group start ≡ g → is_on g op ≡ false → stands start now past → stands start now (x ∷ past)
-      left_out i g start now of none was = passes start now x past (ap (λ (k : Group). is_on k (op_at x past)) of ∙ ap (is_on g) (sym is) ∙ none) was
+      at_group : (i : ℕ) (g : Group) (b : Bool) → slice_get gs i ≡ Some g → is_on_at gs op i ≡ b
+          → is_on g op ≡ b
+      at_group i g b here is = sym (ap (λ o. option_map_or (λ h. is_on h op) o false) here) ∙ is
 
-      go : (i : ℕ) (g : Group) → slice_get gs i ≡ Some g → (start now : A) → slice_get starts i ≡ Some start → group start ≡ g → stands start now past
-          → (b : A) × (slice_get mid i ≡ Some b)
-          × ((Hands stands place op x now b × (is_wide_at gs i ≡ false)) ⊎ ((b ≡ now) × (names_span.first ≤ i → i < names_span.end → is_wide_at gs i ≡ false → ⊥)))
-          → Stands i g
-      go i g here start now first of was (b, got, k) = then k (two i b got)
-        where
-          then : ((Hands stands place op x now b × (is_wide_at gs i ≡ false)) ⊎ ((b ≡ now) × (names_span.first ≤ i → i < names_span.end → is_wide_at gs i ≡ false → ⊥)))
-              → (c : A) × (slice_get new i ≡ Some c)
-              × ((Hands stands place op x b c × (is_wide_at gs i ≡ true)) ⊎ ((c ≡ b) × (wide_span.first ≤ i → i < wide_span.end → is_wide_at gs i ≡ true → ⊥)))
-              → Stands i g
-          then (inl p) (c, there, inl q) = absurd (true≢false (sym q.1 ∙ p.1))
-          then (inl p) (c, there, inr q) = (start, c, first, there, of, subst (λ z. stands start z (x ∷ past)) (sym q.0) (p.0 start past at is was))
-          then (inr p) (c, there, inl q) = (start, c, first, there, of, q.0 start past at is (subst (λ z. stands start z past) (sym p.0) was))
-          then (inr p) (c, there, inr q) =
-              (start, c, first, there, of, subst (λ z. stands start z (x ∷ past)) (sym (q.0 ∙ p.0)) (left_out i g start now of (off i g here p.1 q.1) was))
+      none : (i : ℕ) (b : Bool) → is_on_at gs op i ≡ b → (is_on_at gs op i ≡ true → ⊥)
+          → is_on_at gs op i ≡ false
+      none i true e off = absurd (off e)
+      none i false e off = e
+
+      go : (i : ℕ) (g : Group) → slice_get gs i ≡ Some g → (start now : A)
+          → slice_get starts i ≡ Some start → group start ≡ g → stands start now past
+          → (b : A) × (slice_get new i ≡ Some b) × (((is_on_at gs op i ≡ true) × Hands stands place op x now b) ⊎ ((is_on_at gs op i ≡ true → ⊥) × (b ≡ now))) → Stands i g
+      go i g here start now first of was (b, got, inl p) = (start, b, first, got, of, p.1 start past at is was)
+      go i g here start now first of was (b, got, inr q) = (
+        start,
+        b,
+        first,
+        got,
+        of,
+        subst (λ z. stands start z (x ∷ past)) (sym q.1)
+            (passes start now x past (ap (λ (k : Group). is_on k (op_at x past)) of ∙ ap (is_on g) (sym is) ∙ at_group i g false here (none i (is_on_at gs op i) refl q.0)) was),
+      )
+
+  -- each audit was handed the entry if it goes to its group
+  pub handed_taken : (starts old new : List A) → goes_on x ≡ false
+      → HandsOn stands gs place op x old new → AreHanded stands gs starts old past
+      → AreHanded stands gs starts new (x ∷ past)
+  handed_taken starts old new ends hands h = (hands.0 ∙ h.0, λ i start first. (let k = h.1 i start first in go i start k.0 k.2 (hands.1 i k.0 k.1)))
+    where
+      goes : (i : ℕ) → goes_to gs i x past ≡ is_on_at gs op i
+      goes i = ap (λ b. not b && is_on_at gs (op_at x past) i) ends ∙ ap (λ a. is_on_at gs a i) (sym is)
+
+      none : (i : ℕ) (b : Bool) → is_on_at gs op i ≡ b → (is_on_at gs op i ≡ true → ⊥)
+          → is_on_at gs op i ≡ false
+      none i true e off = absurd (off e)
+      none i false e off = e
+
+      own : (a b : A) → Hands stands place op x a b
+          → Hands stands (length past) (op_at x past) x a b
+      own a b h = subst (λ n. Hands stands n (op_at x past) x a b) at (subst (λ o. Hands stands place o x a b) is h)
+
+      go : (i : ℕ) (start now : A) → IsHanded stands (goes_to gs i) start now past
+          → (b : A) × (slice_get new i ≡ Some b) × (((is_on_at gs op i ≡ true) × Hands stands place op x now b) ⊎ ((is_on_at gs op i ≡ true → ⊥) × (b ≡ now)))
+          → (b : A) × (slice_get new i ≡ Some b) × IsHanded stands (goes_to gs i) start b (x ∷ past)
+      go i start now was (b, got, inl p) = (b, got, (now, was, inl (goes i ∙ p.0, own now b p.1)))
+      go i start now was (b, got, inr q) = (b, got, (now, was, inr (goes i ∙ none i (is_on_at gs op i) refl q.0, q.1)))

@@ -1,5 +1,5 @@
 //! Which groups an act may be on, found by the object that it names.
-ghost use Rattle.std.specs.Prelude.{◌≡◌, ℕ, ◌+◌, ◌<◌, ◌≤◌, ◌^◌, Bool, IsTrue, List, length, Some, slice_get};
+ghost use Rattle.std.specs.Prelude.{◌≡◌, ◌≢◌, ℕ, ◌+◌, ◌<◌, ◌≤◌, ◌^◌, Bool, false, IsTrue, List, length, Some, slice_get};
 ghost use Rattle.ec_core.specs.declared.act.Act.TheVariants.{Read, Ticket, Get};
 ghost use Rattle.ec_heading.specs.declared.group.Group.{Group};
 ghost use Rattle.ec_walk.specs.Walks.{names, is_wide, CoversFirst, Covers, CoversAct, CoversAt, IsTable};
@@ -19,7 +19,8 @@ impl Span {
     /// Whether there is no group among these.
     #[inline(always)]
     pub(crate) fn is_empty(&self) -> bool
-        ensures { IsTrue result → self.now.end ≤ self.now.first }
+        ensures yes { IsTrue result → self.now.end ≤ self.now.first }
+        ensures no { result ≡ false → self.now.first < self.now.end }
     {
         self.end <= self.first
     }
@@ -27,7 +28,8 @@ impl Span {
     /// Whether there is just one.
     #[inline(always)]
     pub(crate) fn is_one(&self) -> bool
-        ensures { IsTrue result → self.now.end ≡ self.now.first + 1 }
+        ensures yes { IsTrue result → self.now.end ≡ self.now.first + 1 }
+        ensures no { result ≡ false → self.now.end ≢ self.now.first + 1 }
     {
         self.first < self.end && self.end - self.first == 1
     }
@@ -51,7 +53,7 @@ pub(crate) struct Table {
 }
 
 /// Whether an act names an object of a group. `both` is asked as the common semaphore that it has.
-fn names(group: &Group, act: &Act) -> bool
+pub(crate) fn names(group: &Group, act: &Act) -> bool
     ensures { result ≡ names group.now act.now }
 {
     match group {
@@ -65,15 +67,11 @@ fn names(group: &Group, act: &Act) -> bool
 /// With the group of a number, which is behind all of these.
 fn reaching(span: Span, number: usize) -> Span
     requires { number + 1 < 2 ^ 64 }
-    ensures first { result.first ≤ span.first }
-    ensures here { result.first ≤ number }
+    ensures alone { span.end ≤ span.first → result.first ≡ number }
+    ensures more { span.first < span.end → result.first ≡ span.first }
     ensures end { result.end ≡ number + 1 }
 {
-    let first = if span.first < number {
-        span.first
-    } else {
-        number
-    };
+    let first = if span.is_empty() { number } else { span.first };
     Span {
         first,
         end: number + 1,

@@ -4,9 +4,9 @@ ghost use Rattle.ec_core.specs.declared.act.Entry.{Entry};
 ghost use Rattle.ec_core.specs.Calls.{under_way, goes_on};
 ghost use Rattle.ec_core.specs.Following.{opened};
 ghost use Rattle.ec_heading.specs.declared.group.Group.{Group};
-ghost use Rattle.ec_walk.specs.Walks.{is_on, is_wide, is_wide_at, Covers, HandsTo, HandsAmong, HandsBoth, AreWalked, IsTable};
+ghost use Rattle.ec_walk.specs.Walks.{is_on, is_wide, is_wide_at, is_asked_at, Covers, CoversAct, HandsTo, HandsAt, HandsAmong, HandsOn, AreWalked, AreHanded, IsTable};
 
-use crate::table::{Span, Table, is_wide};
+use crate::table::{Span, Table, is_wide, names};
 use ec_core::{Act, Audit, Entry, Reply, Run, walk};
 use ec_heading::Group;
 use std::marker::Model;
@@ -26,8 +26,8 @@ pub trait GroupAudit: Audit {
         → Self.stands start now past → Self.stands start now (entry ∷ past) };
 }
 
-/// The audits of groups, each of which is handed the entries whose calls are on its group: an audit
-/// for a walk. Each comes to what it would be if it had been handed all entries.
+/// The audits of groups, each of which is handed the entries whose calls are on its group, and no
+/// others: an audit for a walk. Each comes to what it would be if it had been handed all entries.
 #[derive(Drop)]
 pub struct Walked<'a, A> {
     groups: &'a [Group],
@@ -68,10 +68,35 @@ fn is_wide_at(groups: &[Group], among: Span, number: usize) -> bool
     }
 }
 
-/// Hands an entry to the audit with a number, if there is one and its group is wide, or not, as it
-/// is asked. Those that are wide are among these.
+/// Whether the group with a number, if there is one, is wide; or, as it is asked, another of which
+/// an act names an object. Those that are wide are among these.
+fn is_asked_at(groups: &[Group], among: Span, wide: bool, op: &Act, number: usize) -> bool
+    requires { Covers groups.now is_wide among }
+    ensures { result ≡ is_asked_at groups.now wide op.now number }
+{
+    if wide {
+        return is_wide_at(groups, among, number);
+    }
+    match groups.get(number) {
+        Some(group) => !is_wide(group) && names(group, op),
+        None => false,
+    }
+}
+
+/// Hands an entry to the audit with a number, if there is one.
 #[inline(always)]
-fn hand_to<A: Audit>(
+fn hand_to<A: Audit>(audits: &mut [A], number: usize, place: usize, op: &Act, entry: &Entry)
+    requires place { place + 1 < 2 ^ 64 }
+    ensures { HandsTo A.stands number place op.now entry.now audits.old audits.new }
+{
+    if number < audits.len() {
+        audits[number].take(place, op, entry);
+    }
+}
+
+/// Hands an entry to the audit of the group with a number, if it is wide; or, as it is asked, if it
+/// is another of which its call names an object. Those that are wide are among these.
+fn hand_at<A: Audit>(
     groups: &[Group],
     audits: &mut [A],
     among: Span,
@@ -83,19 +108,15 @@ fn hand_to<A: Audit>(
 )
     requires place { place + 1 < 2 ^ 64 }
     requires among { Covers groups.now is_wide among }
-    ensures { HandsTo A.stands groups.now wide number place op.now entry.now audits.old audits.new }
+    ensures { HandsAt A.stands groups.now wide number place op.now entry.now audits.old audits.new }
 {
-    if is_wide_at(groups, among, number) != wide {
-        return;
-    }
-    if number < audits.len() {
-        audits[number].take(place, op, entry);
+    if is_asked_at(groups, among, wide, op, number) {
+        hand_to(audits, number, place, op, entry);
     }
 }
 
-/// Hands an entry to the audits of those groups of a span that are wide, or not, as it is asked.
-/// Those that are wide are among these.
-#[inline(always)]
+/// Hands an entry to the audits of those groups of a span that are wide; or, as it is asked, of
+/// those others of which its call names an object. Those that are wide are among these.
 fn hand<A: Audit>(
     groups: &[Group],
     audits: &mut [A],
@@ -108,34 +129,65 @@ fn hand<A: Audit>(
 )
     requires place { place + 1 < 2 ^ 64 }
     requires among { Covers groups.now is_wide among }
-    ensures { HandsAmong A.stands groups.now wide span.first span.end place op.now entry.now audits.old audits.new }
+    ensures { HandsAmong A.stands groups.now wide span.first span.end place op.now entry.now
+        audits.old audits.new }
 {
     for number in span.first..span.end {
-        hand_to(groups, audits, among, wide, number, place, op, entry);
+        hand_at(groups, audits, among, wide, number, place, op, entry);
     }
 }
 
-/// Hands an entry to the audit of the one group of a span, if it is wide, or not, as it is asked. Those that are wide are among these.
+/// Hands an entry to the audit of the one group of which its call names an object, if that is not
+/// wide. Those that are wide are among these.
 #[inline(always)]
 fn hand_one<A: Audit>(
     groups: &[Group],
     audits: &mut [A],
+    named: Span,
     among: Span,
-    wide: bool,
-    span: Span,
     place: usize,
     op: &Act,
     entry: &Entry,
 )
     requires place { place + 1 < 2 ^ 64 }
     requires among { Covers groups.now is_wide among }
-    requires one { span.end ≡ span.first + 1 }
-    ensures { HandsAmong A.stands groups.now wide span.first span.end place op.now entry.now audits.old audits.new }
+    requires named { CoversAct groups.now op.now named }
+    requires one { named.end ≡ named.first + 1 }
+    ensures { HandsAmong A.stands groups.now false named.first named.end place op.now entry.now
+        audits.old audits.new }
 {
-    hand_to(groups, audits, among, wide, span.first, place, op, entry);
+    if is_wide_at(groups, among, named.first) {
+        return;
+    }
+    hand_to(audits, named.first, place, op, entry);
 }
 
-/// Hands an entry to the audits of the groups that its call names, and then to those of the wide ones.
+/// Hands an entry to the audits of the groups of which its call names an object, but not to those
+/// of the wide ones.
+fn hand_named<A: Audit>(
+    groups: &[Group],
+    audits: &mut [A],
+    named: Span,
+    wide: Span,
+    place: usize,
+    op: &Act,
+    entry: &Entry,
+)
+    requires place { place + 1 < 2 ^ 64 }
+    requires named { CoversAct groups.now op.now named }
+    requires wide { Covers groups.now is_wide wide }
+    ensures { HandsAmong A.stands groups.now false named.first named.end place op.now entry.now
+        audits.old audits.new }
+{
+    if named.is_one() {
+        hand_one(groups, audits, named, wide, place, op, entry);
+        return;
+    }
+    hand(groups, audits, wide, false, named, place, op, entry);
+}
+
+/// Hands an entry to the audits of the groups that its call is on: of those of which it names an
+/// object, and then of the wide ones.
 #[inline(never)]
 fn hand_each<A: Audit>(
     groups: &[Group],
@@ -147,10 +199,11 @@ fn hand_each<A: Audit>(
     entry: &Entry,
 )
     requires place { place + 1 < 2 ^ 64 }
+    requires named { CoversAct groups.now op.now named }
     requires wide { Covers groups.now is_wide wide }
-    ensures { HandsBoth A.stands groups.now named wide place op.now entry.now audits.old audits.new }
+    ensures { HandsOn A.stands groups.now place op.now entry.now audits.old audits.new }
 {
-    hand(groups, audits, wide, false, named, place, op, entry);
+    hand_named(groups, audits, named, wide, place, op, entry);
     hand(groups, audits, wide, true, wide, place, op, entry);
 }
 
@@ -166,11 +219,12 @@ fn hand_out<A: Audit>(
     entry: &Entry,
 )
     requires place { place + 1 < 2 ^ 64 }
+    requires named { CoversAct groups.now op.now named }
     requires wide { Covers groups.now is_wide wide }
-    ensures { HandsBoth A.stands groups.now named wide place op.now entry.now audits.old audits.new }
+    ensures { HandsOn A.stands groups.now place op.now entry.now audits.old audits.new }
 {
     if wide.is_empty() && named.is_one() {
-        hand_one(groups, audits, wide, false, named, place, op, entry);
+        hand_one(groups, audits, named, wide, place, op, entry);
         return;
     }
     hand_each(groups, audits, named, wide, place, op, entry);
@@ -224,9 +278,14 @@ impl<'a, A: GroupAudit> Audit for Walked<'a, A> {
 }
 
 /// The audits of groups after all entries of a run, in one walk over them, where there are groups.
+/// Each was handed the entries whose calls are on its group, and no others; they stand in the order
+/// in which they were given, and none is added or taken away.
 pub fn walk_groups<A: GroupAudit>(run: &Run, groups: &[Group], audits: Vec<A>) -> Vec<A>
     requires { AreWalked A.group A.stands groups.now audits.items audits.items [] }
-    ensures { AreWalked A.group A.stands groups.now audits.items result.items (reverse run.now.entries) }
+    ensures walked { AreWalked A.group A.stands groups.now audits.items result.items
+        (reverse run.now.entries) }
+    ensures handed { AreHanded A.stands groups.now audits.items result.items
+        (reverse run.now.entries) }
 {
     if groups.is_empty() {
         return audits;

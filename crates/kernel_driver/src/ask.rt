@@ -6,6 +6,7 @@ use ec_count::{CellId, EventId, SeqId, Target, WorkerId};
 use ec_database::DatabaseShape;
 use ec_heading::{Group, Heading};
 use ec_semaphore::SemaphoreShape;
+use std::alloc::Global;
 use std::io::Write;
 use test_support::{Fault, Line};
 
@@ -91,6 +92,15 @@ pub fn semaphore_of(heading: &Heading, word: &str) -> Result<SemaphoreShape, Fau
 /// Reads a worker.
 pub fn worker<W: Write>(ask: &mut Ask<'_, W>) -> Result<WorkerId, Fault> {
     worker_of(ask.about, ask.word()).ok_or(Fault::Line)
+}
+
+/// Reads workers.
+pub fn workers<W: Write>(alloc: Global, ask: &mut Ask<'_, W>) -> Result<Vec<WorkerId>, Fault> {
+    let mut list = Vec::new(alloc);
+    for word in &mut ask.words {
+        list.push(worker_of(ask.about, word).ok_or(Fault::Line)?)?;
+    }
+    Ok(list)
 }
 
 /// Reads an eventcount.

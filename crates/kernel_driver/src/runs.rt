@@ -1,8 +1,12 @@
 //! What a run is asked.
+ghost use Rattle.std.specs.Prelude.{All, IsTrue};
+ghost use Rattle.ec_core.specs.Silence.{IsSilent};
+
 use crate::ask::{Ask, worker};
 use crate::worlds::tell_world;
 use crate::writing::tell_entry;
 use ec_core::Run;
+use ec_count::WorkerId;
 use std::io::Write;
 use test_support::{Fault, tell};
 
@@ -14,6 +18,18 @@ pub fn is_same(run: &Run, other: &Run) -> bool {
         }
     }
     run.len() == other.len()
+}
+
+/// Whether each of these workers is silent.
+pub fn are_silent(run: &Run, workers: &[WorkerId]) -> bool
+    ensures { IsTrue result → All (λ w. IsSilent run.now.setup run.now.entries w) workers.now }
+{
+    for worker in workers {
+        if !run.is_silent(*worker) {
+            return false;
+        }
+    }
+    true
 }
 
 /// Writes all entries.

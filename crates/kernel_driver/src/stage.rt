@@ -1,11 +1,11 @@
 //! What steps are made of: a world, a run or a board, and what is kept beside it.
-use crate::ask::{Ask, act, worker, worker_of};
+use crate::ask::{Ask, act, worker_of, workers};
 use crate::boards::{answer_board, tell_board};
 use crate::groups::answer_group;
 use crate::heads::{answer_heading, tell_heading};
 use crate::orders::answer_order;
 use crate::programs::Programs;
-use crate::runs::{answer_look, is_same, tell_run};
+use crate::runs::{answer_look, are_silent, is_same, tell_run};
 use crate::works::Works;
 use crate::worlds::{answer_event, answer_state, answer_world, tell_world};
 use crate::writing::{tell_reply, tell_worker};
@@ -113,13 +113,13 @@ impl Parts {
         }
     }
 
-    /// Keeps the run without a silent worker.
-    fn strike_out<W: Write>(&mut self, ask: &mut Ask<'_, W>) -> Result<(), Fault> {
-        let (worker, run) = (worker(ask)?, self.stage.run()?);
-        if !run.is_silent(worker) {
+    /// Keeps the run without silent workers.
+    fn strike_out<W: Write>(&mut self, alloc: Global, ask: &mut Ask<'_, W>) -> Result<(), Fault> {
+        let (silent, run) = (workers(alloc, ask)?, self.stage.run()?);
+        if !are_silent(run, silent.as_slice()) {
             return tell("not silent", ask.out);
         }
-        self.rest = Some(without(run, &[worker])?);
+        self.rest = Some(without(run, silent.as_slice())?);
         Ok(())
     }
 
@@ -187,7 +187,7 @@ impl Parts {
                 Ok(())
             }
             "rest" => self.ask_rest(ask),
-            "without" => self.strike_out(ask),
+            "without" => self.strike_out(alloc, ask),
             "program" => self.programs.open(alloc, 0),
             "follows" => tell_worker(self.programs.first_off(self.stage.run()?), ask),
             _ => self.look_at(alloc, ask),

@@ -11,4 +11,4 @@ pub returns : goal.returns
 returns c =
     let asked = c.args.asked.now in
     walk_ends asked.setup.now asked.semaphores.now asked.window c.args.groups.now c.in_ok-list.list.items c.walk_groups.result.items (reverse c.args.run.now.entries)
-    c.in_ok-list.ensures c.walk_groups.ensures
+    c.in_ok-list.ensures c.walk_groups.ensures.walked

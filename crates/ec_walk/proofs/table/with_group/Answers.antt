@@ -4,7 +4,8 @@ use Rattle.ec_walk.proofs.table.with_group.Goals as goal
 
 pub returns-then-passes : goal.returns-then-passes
 returns-then-passes c = λ groups test group at is was.
-    covers_on groups test c.args.span c.reaching.result c.args.number was c.reaching.ensures.first c.reaching.ensures.here c.reaching.ensures.end
+    (let got = c.reaching.ensures in
+    covers_on groups test c.args.span c.reaching.result c.args.number group at (sym is ∙ c.if-passes.true) was got.alone got.more got.end)
 
 pub returns-else-passes : goal.returns-else-passes
 returns-else-passes c = λ groups test group at is was. covers_off groups test c.args.span c.args.number group was at (sym is ∙ c.if-passes.false)

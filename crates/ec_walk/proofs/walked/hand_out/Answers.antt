@@ -1,10 +1,11 @@
 use Rattle.std.proofs.Common.{true}
-use Rattle.ec_walk.proofs.WalkLemmas.{hands_nowhere}
+use Rattle.ec_walk.proofs.WalkLemmas.{hands_both, hands_nowhere}
 use Rattle.ec_walk.proofs.walked.hand_out.Goals as goal
 
 pub returns-then-is_one : goal.returns-then-is_one
-returns-then-is_one g c = (
-  c.hand_one.new.audits,
-  c.hand_one.ensures,
-  hands_nowhere g.A.Audit.stands c.args.groups.now true c.args.place c.args.op.now c.args.entry.now c.args.wide.first c.args.wide.end c.hand_one.new.audits (c.is_empty.ensures c.if-is_empty.true),
-)
+returns-then-is_one g c =
+    let stands = g.A.Audit.stands in
+    let gs = c.args.groups.now in
+    let new = c.hand_one.new.audits in
+    hands_both stands c.args.place c.args.op.now c.args.entry.now gs c.args.named c.args.wide c.args.audits.now new new c.requires.named c.requires.wide c.hand_one.ensures
+    (hands_nowhere stands c.args.place c.args.op.now c.args.entry.now gs true c.args.wide.first c.args.wide.end new (c.is_empty.ensures.yes c.if-is_empty.true))
