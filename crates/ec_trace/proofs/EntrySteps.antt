@@ -1,5 +1,5 @@
 -- What the line of an entry does to a history.
-use Rattle.std.proofs.Common.{◌≡◌, ◌≤◌, List, [], ◌∷◌, ◌++◌, ℕ, true, false, Option, Some, None, Result, Ok, Err, MatchResult, reverse, codes, arith, refl, ap, ◌∙◌}
+use Rattle.std.proofs.Common.{◌≡◌, ◌≤◌, List, [], ◌∷◌, ◌++◌, ℕ, true, false, cond, Option, Some, None, Result, Ok, Err, IsOk, MatchResult, reverse, codes, arith, refl, ap, sym, subst, ◌∙◌}
 use Rattle.std.specs.Prelude.{bytes_eq}
 use Rattle.std.proofs.lemmas.Bool.{cond-true, cond-false}
 use Rattle.std.proofs.lemmas.Bool.Decides.{nat_tests}
@@ -17,7 +17,8 @@ use Rattle.ec_trace.specs.Outcome.{outcome, fault_at, Tells}
 use Rattle.ec_trace.specs.Reading.{Reading, Reaches, HasLine, TakesEntry, Recounts}
 use Rattle.ec_trace.specs.Recounted.{Recounted}
 use Rattle.ec_trace.specs.Stages.{Running, Ended}
-use Rattle.ec_trace.specs.Step.{step, entry_step, entered, answered, same_reply, ran_on}
+use Rattle.ec_trace.specs.Step.{step, entry_step, entered, answered, same_reply, ran_on, IsAnswered}
+use Rattle.ec_trace.specs.declared.fault.LineFault.{LineFault}
 use Rattle.ec_trace.specs.declared.fault.StageFault.{StageFault}
 use Rattle.ec_trace.specs.declared.fault.StageFault.TheVariants as stage_faults
 use Rattle.ec_trace.specs.declared.fault.TraceFault.{TraceFault}
@@ -28,6 +29,12 @@ use Rattle.ec_trace.specs.declared.fault.LineFault.TheVariants.{Bad, Refused, Wr
 pub spells_none : (t : Recounted) (line : List ℕ) → entry_of t.heading.words line ≡ None → entry_step t line ≡ Err Bad
 unfolding entry_step
 spells_none t line e = ap (entered t) e
+
+-- an entry that is not refused is answered, with the right reply or not
+answered_is : (t : Recounted) (e : Entry) (answer : Result Reply Refusal) → IsOk answer → IsAnswered (answered t e answer)
+answered_is t e (Ok right) ok =
+    elim (same_reply right e.reply) as (λ b. IsAnswered {S = Recounted} (cond b (Ok (record { heading = t.heading; entries = t.entries ++ e ∷ [] })) (Err (WrongReply right)))) [ true ↦ tt | false ↦ tt ]
+answered_is t e (Err r) ok = cc
 
 module _ (t : Recounted) (line : List ℕ) (e : Entry) (spells : entry_of t.heading.words line ≡ Some e) where
   pub other_version : can_spell t.heading.version e.act ≡ false → entry_step t line ≡ Err Bad
@@ -47,6 +54,10 @@ module _ (t : Recounted) (line : List ℕ) (e : Entry) (spells : entry_of t.head
   pub entry_right : (right : Reply) → can_spell t.heading.version e.act ≡ true → answer_of t.heading.setup (reverse t.entries) e.worker e.act ≡ Ok right → same_reply right e.reply ≡ true
       → entry_step t line ≡ Ok (record { heading = t.heading; entries = t.entries ++ e ∷ [] })
   entry_right right may answer same = answers may ∙ ap (answered t e) answer ∙ cond-true _ _ _ same
+
+  pub entry_answered : can_spell t.heading.version e.act ≡ true → IsOk (answer_of t.heading.setup (reverse t.entries) e.worker e.act) → IsAnswered (entry_step t line)
+  entry_answered may ok =
+      subst (λ (r : Result Recounted LineFault). IsAnswered r) (sym (answers may)) (answered_is t e (answer_of t.heading.setup (reverse t.entries) e.worker e.act) ok)
 
 -- the same reply is the same
 pub is_same : (a b : Reply) → same_reply a b ≡ true → a ≡ b

@@ -14,7 +14,8 @@ pub mod EntrySteps
 pub mod SpelledLemmas
 pub mod KeyLemmas
 pub mod FrontLemmas
-pub mod EntryParts
+pub mod Entering
+mod EntryParts
 pub mod TraceText
 pub mod LedOutlines
 pub mod EntryLines

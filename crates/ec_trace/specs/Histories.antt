@@ -1,5 +1,5 @@
 -- Histories, as those stand for them who keep one or only watch it.
-use Rattle.std.specs.Prelude.{◌≡◌, ℕ, List, [], ◌∷◌, ◌++◌, Result, Ok, Err, reverse}
+use Rattle.std.specs.Prelude.{◌≡◌, ℕ, List, [], ◌∷◌, ◌++◌, Result, Ok, Err, IsOk, reverse}
 use Rattle.ec_core.specs.Acceptance.{answer_of}
 use Rattle.ec_core.specs.Recorded.{Recorded}
 use Rattle.ec_core.specs.declared.act.Act.{Act}
@@ -17,9 +17,9 @@ history_of h entries = record { setup = h.setup; entries = entries }
 abbrev pub with_entry : Recorded → ℕ → Act → Reply → Recorded
 with_entry h w a r = record { setup = h.setup; entries = h.entries ++ record { worker = w; act = a; reply = r } ∷ [] }
 
--- what was answered to a step after a history: the right reply, and what is then so of the history with this entry; or the refusal, or
--- that memory was refused, and what is then so of the history as it was
+-- what was returned for a step after a history: the right reply, and what is then so of the history with this entry; or the refusal, or
+-- out of memory, which is reported only of a step that is not refused, and what is then so of the history as it was
 abbrev pub Enters : (Recorded → Type 0) → Recorded → ℕ → Act → Result Reply StepFault → Type 0
 Enters after h w a (Ok r) = (answer_of h.setup (reverse h.entries) w a ≡ Ok r) × after (with_entry h w a r)
 Enters after h w a (Err (Refused refusal)) = (answer_of h.setup (reverse h.entries) w a ≡ Err refusal) × after h
-Enters after h w a (Err Memory) = after h
+Enters after h w a (Err Memory) = IsOk (answer_of h.setup (reverse h.entries) w a) × after h

@@ -1,5 +1,5 @@
 -- How far the reading of a text has come, and what that says of the text.
-use Rattle.std.specs.Prelude.{◌≡◌, ◌&&◌, bytes_eq, codes, nat_lt, ◌≢◌, ℕ, ◌+◌, ◌<◌, ◌≤◌, List, [], ◌++◌, length, Bool, true, false, Option, Some, Result, Ok, Err}
+use Rattle.std.specs.Prelude.{◌≡◌, ◌&&◌, bytes_eq, codes, nat_lt, ◌≢◌, ℕ, ◌+◌, ◌<◌, ◌≤◌, List, [], ◌++◌, length, Bool, true, false, Option, Some, Result, Ok, Err, IsOk}
 use Rattle.std.specs.List.{All}
 use Rattle.std.specs.Io.KnownBytes.{Consumes, Keeps, IsAtEnd}
 use Rattle.ec_core.specs.Recorded.{Recorded}
@@ -107,10 +107,10 @@ Comes xs left r s (Err f) = Tells TRACE_MAX xs left (Err f)
 abbrev pub is_run : Headed → List ℕ → Bool
 is_run h line = bytes_eq line (codes "run") && nat_lt 0 h.setup.workers
 
--- a line was taken into a heading, or why it was not
+-- a line was taken into a heading, or why it was not; out of memory is reported only of a line without fault
 abbrev pub Declares : Result (Unit {0}) TraceFault → Headed → Headed → Reading → Type 0
 Declares (Ok x) old new r = head_step old r.line ≡ Ok new
-Declares (Err Memory) old new r = Unit {0}
+Declares (Err Memory) old new r = IsOk (head_step old r.line)
 Declares (Err f) old new r = (f ≡ BadLine r.number) × (fault : HeadFault) × (head_step old r.line ≡ Err fault)
 
 -- up to the line `run` this was declared, and entries may come

@@ -88,7 +88,14 @@ unfoldable pub is_ended : Stage → Bool
 is_ended (Ended t) = true
 is_ended _ = false
 
--- why a call took no line is why the step refuses it, unless memory ran out
+-- a line whose step is made: it is neither bad nor refused. Whether its reply is the right one shows only then
+abbrev pub IsAnswered : {S : Type 0} → Result S LineFault → Type 0
+IsAnswered (Ok s) = Unit {0}
+IsAnswered (Err Bad) = ⊥
+IsAnswered (Err (Refused r)) = ⊥
+IsAnswered (Err (WrongReply r)) = Unit {0}
+
+-- why a call took no line is why the step refuses it; out of memory is reported only of a line whose step is made
 abbrev pub StepFails : {S : Type 0} → StageFault → Result S LineFault → Type 0
-StepFails faults.Memory stepped = Unit {0}
+StepFails faults.Memory stepped = IsAnswered stepped
 StepFails (faults.Line f) stepped = stepped ≡ Err f

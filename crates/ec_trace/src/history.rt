@@ -1,5 +1,7 @@
 //! Who is handed the steps of a trace.
 ghost use Rattle.std.specs.Prelude.{◌≡◌, List, [], reverse, length};
+ghost use Rattle.ec_core.specs.Acceptance.{answer_of};
+ghost use Rattle.ec_core.specs.Faults.{IsFaultOf};
 ghost use Rattle.ec_core.specs.Recorded.{Recorded};
 ghost use Rattle.ec_core.specs.Standing.{StandsFor};
 ghost use Rattle.ec_core.specs.declared.act.Entry.{Entry};
@@ -14,7 +16,7 @@ pub trait History {
     ghost stands: { Self → Self → Recorded → Type 0 };
 
     /// Makes a step, which is answered as the history answers it, and stands for the history with its entry then. After an error
-    /// it stands for the history as it was.
+    /// it stands for the history as it was. Returns `Memory` only for a step that is not refused.
     fn enter(&mut self, worker: WorkerId, act: Act) -> Result<Reply, StepFault>
         ensures { (start : Self) (h : Recorded) → stands start self.old h → Enters (stands start self.new) h worker act result };
 }
@@ -59,13 +61,24 @@ impl<A: Audit> Watched<A> {
     }
 }
 
+/// Why a step is not made after as many as can be counted.
+#[cold]
+fn uncounted(world: &World, worker: WorkerId, act: &Act) -> StepFault
+    ensures { (h : List Entry) → StandsFor world.now h → IsFaultOf result (answer_of world.now.setup (reverse h) worker act.now) }
+{
+    match world.answer(worker, act) {
+        Ok(_) => StepFault::Memory,
+        Err(refusal) => StepFault::Refused(refusal),
+    }
+}
+
 impl<A: Audit> History for Watched<A> {
     ghost stands = { λ start now h. StandsFor now.world h.entries × (now.world.setup ≡ h.setup) × (now.place ≡ length h.entries) × A.stands start.audit now.audit (reverse h.entries) };
 
     #[inline(always)]
     fn enter(&mut self, worker: WorkerId, act: Act) -> Result<Reply, StepFault> {
         let Some(next) = self.place.checked_add(1) else {
-            return Err(StepFault::Memory);
+            return Err(uncounted(&self.world, worker, &act));
         };
         let asked = act;
         let Step { op, reply } = match self.world.step_of_call(worker, asked) {

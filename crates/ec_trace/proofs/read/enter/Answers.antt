@@ -1,11 +1,11 @@
 use Rattle.std.proofs.Common.{◌≡◌, ◌++◌, ◌∷◌, [], true, false, Err, ap, sym, ◌∙◌, subst, rules}
-use Rattle.ec_core.specs.declared.run.StepFault.TheVariants.{Refused}
+use Rattle.ec_core.specs.declared.run.StepFault.TheVariants.{Refused, Memory}
 use Rattle.ec_heading.specs.Versions.{can_spell}
 use Rattle.ec_trace.specs.declared.fault.LineFault.TheVariants as line_faults
 use Rattle.ec_trace.specs.Histories.{Enters, history_of}
 use Rattle.ec_trace.specs.Recounted.{Recounted}
 use Rattle.ec_trace.specs.Step.{same_reply}
-use Rattle.ec_trace.proofs.EntrySteps.{other_version, entry_refused, reply_wrong, entry_right, is_same}
+use Rattle.ec_trace.proofs.EntrySteps.{other_version, entry_refused, reply_wrong, entry_right, entry_answered, is_same}
 use Rattle.ec_trace.proofs.read.enter.Goals as goal
 
 pub returns-then-not-can_spell : goal.returns-then-not-can_spell
@@ -39,3 +39,11 @@ returns-in-Err-Refused g c = λ line spells first entries stands.
     let entered : Enters (g.H.History.stands first c.enter.new.self) (history_of c.args.heading.now entries) c.args.entry.now.worker c.args.entry.now.act (Err (Refused c.in-Err-Refused.refusal)) =
     subst (λ f. Enters (g.H.History.stands first c.enter.new.self) (history_of c.args.heading.now entries) c.args.entry.now.worker c.args.entry.now.act (Err f)) c.in-Err-Refused.field-0-is (c.in-Err-Refused.ensures first (history_of c.args.heading.now entries) stands) in
     entry_refused t line _ spells c.in-Err-Refused.refusal may entered.0 ∙ ap (λ r. Err (line_faults.Refused r)) (sym c.in-Err-Refused.refusal-is)
+
+pub returns-in-Err-Memory : goal.returns-in-Err-Memory
+returns-in-Err-Memory g c = λ line spells first entries stands.
+    let t : Recounted = record { heading = c.args.heading.now; entries = entries } in
+    let may : can_spell c.args.heading.now.version c.args.entry.now.act ≡ true = sym c.if-not-can_spell.ensures in
+    let entered : Enters (g.H.History.stands first c.enter.new.self) (history_of c.args.heading.now entries) c.args.entry.now.worker c.args.entry.now.act (Err Memory) =
+    subst (λ f. Enters (g.H.History.stands first c.enter.new.self) (history_of c.args.heading.now entries) c.args.entry.now.worker c.args.entry.now.act (Err f)) c.in-Err-Memory.field-0-is (c.in-Err-Memory.ensures first (history_of c.args.heading.now entries) stands) in
+    entry_answered t line _ spells may entered.0
