@@ -35,3 +35,4 @@ pub mod OtherKinds
 pub mod KindsTold
 pub mod Endings
 pub mod Counting
+pub mod HeadFails

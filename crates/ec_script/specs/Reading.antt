@@ -1,5 +1,5 @@
 -- What the lines of a script build, line by line.
-use Rattle.std.specs.Prelude.{◌≡◌, ℕ, Bool, false, ◌&&◌, ◌==◌, not, nat_lt, List, [], ◌∷◌, ◌++◌, length, replicate, slice_set, Option, Some, None, option_map, Result, Ok, Err, if◌then◌else◌, bytes_eq, codes}
+use Rattle.std.specs.Prelude.{◌≡◌, ℕ, Bool, false, ◌&&◌, ◌==◌, not, nat_lt, List, [], ◌∷◌, ◌++◌, length, replicate, slice_set, Option, Some, None, option_map, Result, Ok, Err, IsOk, if◌then◌else◌, bytes_eq, codes}
 use Rattle.std.specs.Option.{option_map_or}
 use Rattle.ec_text.specs.Words.{words_of, number_of, is_number_form}
 use Rattle.ec_heading.specs.declared.version.Version.{Version}
@@ -9,7 +9,7 @@ use Rattle.ec_heading.specs.Outline.{opened}
 use Rattle.ec_heading.specs.Heading.{head_step, is_no_line}
 use Rattle.ec_heading.specs.Lists.{ids_in}
 use Rattle.ec_heading.specs.declared.heading.HeadFault.{HeadFault}
-use Rattle.ec_script.specs.Headers.{script_header, Bounded, bounded}
+use Rattle.ec_script.specs.Headers.{script_header, bounded}
 use Rattle.ec_script.specs.declared.fault.Kind.{Kind}
 use Rattle.ec_script.specs.declared.fault.Kind.TheVariants as kinds
 use Rattle.ec_script.specs.declared.fault.StageFault.{StageFault}
@@ -126,10 +126,10 @@ abbrev pub limit_or : Version → Option (List ℕ) → Result Stage Kind
 limit_or v None = Err kinds.BadLine
 limit_or v (Some n) = limited v (number_of n)
 
--- the limit that was answered, or the kind
-abbrev pub LimitIs : Result Bounded Kind → Result Stage Kind → Type 0
-LimitIs (Ok b) stepped = stepped ≡ Ok (Naming b)
-LimitIs (Err kind) stepped = stepped ≡ Err kind
+-- the limit that was returned, or the kind
+abbrev pub LimitIs : Version → Result ℕ Kind → Result Stage Kind → Type 0
+LimitIs v (Ok n) stepped = stepped ≡ Ok (Naming (bounded v n))
+LimitIs v (Err kind) stepped = stepped ≡ Err kind
 
 unfoldable pub limit_step : Version → List ℕ → Result Stage Kind
 limit_step v line = if nat_lt 8192 (length line) then Err kinds.BadLine else limit_or v (limit_digits (words_of line))
@@ -155,9 +155,9 @@ step (Limiting v) line = limit_step v line
 step (Naming b) line = named_on (head_step (opened b.version b.limit []) line)
 step (Reading s) line = read_on (script_step s line)
 
--- what a call answered and left is what the step gives, unless memory ran out
+-- what a call returned and left is what the step gives; out of memory is reported only where the line has no fault
 abbrev pub StepFails : {S : Type 0} → StageFault → Result S Kind → Type 0
-StepFails faults.Memory stepped = Unit {0}
+StepFails faults.Memory stepped = IsOk stepped
 StepFails (faults.Of kind) stepped = stepped ≡ Err kind
 
 abbrev pub Steps : {S : Type 0} → Result (Unit {0}) StageFault → Result S Kind → S → Type 0

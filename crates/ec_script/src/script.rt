@@ -257,6 +257,7 @@ impl Script {
     }
 
     /// Takes a declaration.
+    #[tactic(auto, using(crate::proofs::HeadFails::fails_on))]
     fn declare(&mut self, line: &[u8]) -> Result<(), StageFault>
         ensures { Steps result (headed_on self.old (head_step self.old.heading line.now)) self.new }
     {

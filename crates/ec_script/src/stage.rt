@@ -1,6 +1,6 @@
 //! What the lines of a script so far have built, from its first line on.
-ghost use Rattle.std.specs.Prelude.{◌≡◌, option_map};
-ghost use Rattle.ec_heading.specs.Versions.{version_of};
+ghost use Rattle.std.specs.Prelude.{◌≡◌, ◌≤◌, option_map, IfOk};
+ghost use Rattle.ec_heading.specs.Versions.{greatest_limit, version_of};
 ghost use Rattle.ec_script.specs.Headers.{script_header};
 ghost use Rattle.ec_script.specs.Reading.{Steps, limit_digits, limit_or, LimitIs, step};
 ghost use Rattle.ec_script.specs.Outcome.{plan_in, shown_plan};
@@ -10,9 +10,11 @@ use crate::bound::Bound;
 use crate::fault::{Kind, StageFault, stage_fault};
 use crate::plan::Plan;
 use crate::script::Script;
+use ec_count::Limit;
 use ec_heading::{LINE_MAX, Version};
 use ec_text::{cut_word, is_number_form, number};
 use std::alloc::Global;
+use std::mem;
 
 /// What the lines so far have built.
 #[derive(Drop)]
@@ -59,8 +61,9 @@ fn limit_digits(line: &[u8]) -> Option<&[u8]>
 }
 
 /// The limit that a line gives, one that the version may have.
-fn limit_of(version: Version, line: &[u8]) -> Result<Bound, Kind>
-    ensures { LimitIs result (limit_or version (limit_digits (words_of line.now))) }
+fn limit_of(version: Version, line: &[u8]) -> Result<Limit, Kind>
+    ensures value { LimitIs version result (limit_or version (limit_digits (words_of line.now))) }
+    ensures within { IfOk result (λ limit. limit ≤ greatest_limit version) }
 {
     let Some(digits) = limit_digits(line) else {
         return Err(Kind::BadLine);
@@ -68,10 +71,10 @@ fn limit_of(version: Version, line: &[u8]) -> Result<Bound, Kind>
     let Some(n) = number(digits) else {
         return Err(Kind::BadNumber);
     };
-    match Bound::new(version, n) {
-        Some(bound) => Ok(bound),
-        None => Err(Kind::BadNumber),
-    }
+    let Some(limit) = version.limit(n) else {
+        return Err(Kind::BadNumber);
+    };
+    Ok(limit)
 }
 
 impl Stage {
@@ -90,31 +93,30 @@ impl Stage {
 
     /// Takes the line of the limit.
     #[tactic(auto, unfolding(crate::specs::Reading::step, crate::specs::Reading::limit_step))]
-    fn limit(&mut self, version: Version, line: &[u8]) -> Result<(), StageFault>
+    fn limit(&mut self, alloc: Global, version: Version, line: &[u8]) -> Result<(), StageFault>
         requires { self.old ≡ Stage.Limiting version }
         ensures { Steps result (step self.old line.now) self.new }
     {
         if line.len() > LINE_MAX {
             return Err(StageFault::Of(Kind::BadLine));
         }
-        match limit_of(version, line) {
-            Ok(bound) => {
-                *self = Stage::Naming(bound);
-                Ok(())
-            }
-            Err(kind) => Err(StageFault::Of(kind)),
-        }
+        let limit = match limit_of(version, line) {
+            Ok(limit) => limit,
+            Err(kind) => return Err(StageFault::Of(kind)),
+        };
+        let Ok(bound) = Bound::new(alloc, version, limit) else {
+            return Err(StageFault::Memory);
+        };
+        *self = Stage::Naming(bound);
+        Ok(())
     }
 
     /// Takes the line of the workers.
-    #[tactic(auto, unfolding(crate::specs::Reading::step))]
+    #[tactic(auto, using(crate::proofs::HeadFails::fails_named), unfolding(crate::specs::Reading::step))]
     fn name(&mut self, alloc: Global, bound: Bound, line: &[u8]) -> Result<(), StageFault>
-        requires { self.old ≡ Stage.Naming bound }
-        ensures { Steps result (step self.old line.now) self.new }
+        ensures { Steps result (step (Stage.Naming bound) line.now) self.new }
     {
-        let Ok(mut heading) = bound.heading(alloc) else {
-            return Err(StageFault::Memory);
-        };
+        let mut heading = bound.into_heading();
         if let Err(fault) = heading.line(line) {
             return Err(stage_fault(fault));
         }
@@ -132,15 +134,15 @@ impl Stage {
     {
         match self {
             Stage::Reading(script) => script.line(line),
-            Stage::Naming(bound) => {
-                let bound = *bound;
-                self.name(alloc, bound, line)
-            }
             Stage::Opening => self.open(line),
             Stage::Limiting(version) => {
                 let version = *version;
-                self.limit(version, line)
+                self.limit(alloc, version, line)
             }
+            Stage::Naming(_) => match mem::replace(self, Stage::Opening) {
+                Stage::Naming(bound) => self.name(alloc, bound, line),
+                _ => Err(StageFault::Of(Kind::BadHeader)),
+            },
         }
     }
 }

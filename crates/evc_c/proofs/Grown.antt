@@ -1,5 +1,5 @@
 -- What a contract says of writers that held something at first, said of writers that held nothing.
-use Rattle.std.proofs.Common.{◌≡◌, inl, inr, ℕ, List, [], ◌++◌, Option, None, Some, codes, refl, sym, ap, ◌∙◌, take, append-nil, subst}
+use Rattle.std.proofs.Common.{◌≡◌, inl, inr, ℕ, Bool, length, List, [], ◌++◌, Option, None, Some, codes, refl, sym, ap, ◌∙◌, take, append-nil, subst}
 use Rattle.std.specs.Io.KnownBytes.{Appends, Keeps}
 use Rattle.ec_text.specs.Puts.{AppendsPrefix, Outgoing, Puts, at_first}
 use Rattle.evc_engine.specs.declared.status.Status.{Status}
@@ -13,7 +13,7 @@ use Rattle.calls_report.specs.declared.status.Status as calls
 use Rattle.calls_report.specs.declared.status.Status.TheVariants as ends
 use Rattle.calls_report.specs.Checks as calls_checks
 use Rattle.calls_report.specs.Checks.{ChecksText, IsTooLarge, IsNothingRead, texts_of}
-use Rattle.evc_c.specs.Answers.{ContractBy, Contract, AnswersBy, outlets, calls_outlets}
+use Rattle.evc_c.specs.Answers.{ContractBy, Contract, AnswersBy, IsCode, outlets, calls_outlets}
 use Rattle.evc_c.specs.Rooms.{room_holds, FillsBy}
 use Rattle.evc_c.specs.declared.room.Room.{Room}
 
@@ -221,18 +221,17 @@ no_memory_fills bytes r first last empty puts = record {
 }
 
 -- and what is then answered, of the caller's bytes
-pub answers : {S O : Type 0} (code_of : S → ℕ) (outlets : List ℕ → Outgoing → O) (Does : ContractBy S O) (bytes : List ℕ) (status : S) (code : ℕ)
+pub answers : {S O : Type 0} (code_of : S → ℕ) (outlets : List ℕ → Outgoing → O) (Does : ContractBy S O) (bytes : List ℕ) (status : S) (code given : ℕ) (is_cut : Bool) (many : ℕ)
     (r new : Room) (writer : ℕ) (first last : Outgoing) (start noted text notes : List ℕ) (m n room : ℕ)
     → FillsBy outlets Does bytes status r new first last → first ≡ at_first writer (Some start) → start ≡ [] → Some noted ≡ last.contents
-    → text ≡ new.bytes.now → m ≡ new.len → code ≡ code_of status → take n notes ≡ take room noted
+    → text ≡ new.bytes.now → m ≡ new.len → IsCode code given is_cut many room → given ≡ code_of status → is_cut ≡ last.failed → many ≡ length noted → take n notes ≡ take room noted
     → AnswersBy code_of outlets Does bytes code (take m text) (take n notes) room
-answers code_of outlets Does bytes status code r new writer first last start noted text notes m n room f at none holds is len is_code told =
+answers code_of outlets Does bytes status code given is_cut many r new writer first last start noted text notes m n room f at none holds is len is_code by cut long told =
     let e : first ≡ at_first writer (Some []) = at ∙ ap (λ (k : List ℕ). at_first writer (Some k)) none in
     let ends : Does bytes f.left status (outlets [] (at_first writer (Some []))) (outlets (take new.len new.bytes.now) last)
     = subst (λ (o : Outgoing). Does bytes f.left status (outlets [] o) (outlets (take new.len new.bytes.now) last)) e f.ends in
     record {
       status = status;
-      is = is_code;
       left = f.left;
       writer = writer;
       last = last;
@@ -240,4 +239,6 @@ answers code_of outlets Does bytes status code r new writer first last start not
       noted = noted;
       holds = sym holds;
       told = told;
+      is = subst (λ (k : ℕ). IsCode code (code_of status) last.failed k room) long
+          (subst (λ (b : Bool). IsCode code (code_of status) b many room) cut (subst (λ (k : ℕ). IsCode code k is_cut many room) by is_code));
     }

@@ -1,5 +1,5 @@
 -- What a call answered and wrote, for the bytes that it was given.
-use Rattle.std.specs.Prelude.{◌≡◌, ℕ, List, [], take, Option, Some}
+use Rattle.std.specs.Prelude.{◌≡◌, ◌≤◌, ◌⊎◌, ℕ, Bool, true, List, [], length, take, Option, Some}
 use Rattle.ec_text.specs.Puts.{Outgoing, at_first}
 use Rattle.evc_engine.specs.declared.status.Status as evc
 use Rattle.evc_engine.specs.Statuses as evc_statuses
@@ -13,12 +13,16 @@ use Rattle.calls_report.specs.Checks as calls_checks
 abbrev pub ContractBy : Type 0 → Type 0 → Type 1
 ContractBy S O = List ℕ → Option (List ℕ) → S → O → O → Type 0
 
+-- the code that is returned: that of the status, where all notes came to their writer, or as many bytes of them as the caller has room
+-- for; else 4, since there was no memory for the notes
+abbrev pub IsCode : ℕ → ℕ → Bool → ℕ → ℕ → Type 0
+IsCode code given is_cut many room = (code ≡ 4) ⊎ ((code ≡ given) × (is_cut ≡ true → room ≤ many))
+
 -- for these bytes the command ended with this status, where at first nothing was written and no note waited; this text was written, and
--- of its notes their writer holds these, or as much of them as there is room for
+-- of its notes their writer holds these: all of them, or as much of them as the caller has room for, or the code is 4
 pub record AnswersBy {S O : Type 0} (code_of : S → ℕ) (outlets : List ℕ → Outgoing → O) (Does : ContractBy S O) (bytes : List ℕ) (code : ℕ)
     (text notes : List ℕ) (room : ℕ) : Type 0 where
   pub status : S
-  pub is : code ≡ code_of status
   pub left : Option (List ℕ)
   pub writer : ℕ
   pub last : Outgoing
@@ -26,6 +30,7 @@ pub record AnswersBy {S O : Type 0} (code_of : S → ℕ) (outlets : List ℕ �
   pub noted : List ℕ
   pub holds : last.contents ≡ Some noted
   pub told : notes ≡ take room noted
+  pub is : IsCode code (code_of status) last.failed (length noted) room
 
 -- COMMANDS ON TRACES AND SCRIPTS
 

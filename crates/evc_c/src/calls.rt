@@ -4,17 +4,20 @@ ghost use Rattle.evc_engine.specs.Checks.{Checks};
 ghost use Rattle.evc_engine.specs.Audits.{Audits};
 ghost use Rattle.evc_engine.specs.Upgrades.{Upgrades};
 ghost use Rattle.evc_scripts.specs.Sims.{Sims};
-ghost use Rattle.evc_c.specs.Answers.{Answers, CallsAnswers};
+ghost use Rattle.evc_c.specs.Answers.{Answers, CallsAnswers, IsCode};
 ghost use Rattle.evc_c.specs.Rooms.{Fills, CallsFills};
+ghost use Rattle.evc_c.specs.Versions.{IsVersionOf};
 
 use crate::room::{NotesRoom, Room, put_at};
 use arrayvec::ArrayVec;
 use ec_text::Out;
 use evc_engine::{Status, audit, check, upgrade};
 use evc_scripts::sim;
+use evc_task::VERSION;
 use std::alloc::Global;
 
-/// The notes of a call on a trace or a script, of which there are less than a thousand bytes.
+/// The notes of a call on a trace or a script, of which there are less than a thousand bytes: so none is
+/// cut off.
 type Noted = ArrayVec<u8, 1024>;
 
 /// How many bytes were written of the text and of the notes.
@@ -34,6 +37,14 @@ fn hand_out(out: &Room<'_>, told: &[u8], notes: &mut [u8], written: &mut EvcWrit
 {
     written.text = out.len;
     written.notes = put_at(notes, 0, told);
+}
+
+/// Returns a status as the caller gets it: 4 where notes were cut off before the caller's room for them
+/// was full, since there was no memory for them.
+fn code_for(code: u8, is_cut: bool, noted: usize, room: usize) -> u8
+    ensures { IsCode result code is_cut noted room }
+{
+    if is_cut && noted < room { 4 } else { code }
 }
 
 /// `check`, of bytes and into a room.
@@ -73,8 +84,11 @@ pub extern "C" fn evc_check(
     let mut bytes = Noted::new();
     let mut told = Out::new(&mut bytes);
     let status = check_bytes(alloc, trace, &mut out, &mut told);
-    hand_out(&out, told.into_writer().as_slice(), notes, written);
-    status.code()
+    let is_cut = told.has_failed();
+    let noted = told.into_writer().as_slice();
+    let code = code_for(status.code(), is_cut, noted.len(), notes.len());
+    hand_out(&out, noted, notes, written);
+    code
 }
 
 /// `audit`, of bytes and into a room.
@@ -112,8 +126,11 @@ pub extern "C" fn evc_audit(
     let mut bytes = Noted::new();
     let mut told = Out::new(&mut bytes);
     let status = audit_bytes(alloc, trace, &mut out, &mut told);
-    hand_out(&out, told.into_writer().as_slice(), notes, written);
-    status.code()
+    let is_cut = told.has_failed();
+    let noted = told.into_writer().as_slice();
+    let code = code_for(status.code(), is_cut, noted.len(), notes.len());
+    hand_out(&out, noted, notes, written);
+    code
 }
 
 /// `upgrade`, of bytes and into a room.
@@ -151,8 +168,11 @@ pub extern "C" fn evc_upgrade(
     let mut bytes = Noted::new();
     let mut told = Out::new(&mut bytes);
     let status = upgrade_bytes(alloc, trace, &mut out, &mut told);
-    hand_out(&out, told.into_writer().as_slice(), notes, written);
-    status.code()
+    let is_cut = told.has_failed();
+    let noted = told.into_writer().as_slice();
+    let code = code_for(status.code(), is_cut, noted.len(), notes.len());
+    hand_out(&out, noted, notes, written);
+    code
 }
 
 /// `sim`, of bytes and into a room.
@@ -185,8 +205,11 @@ pub extern "C" fn evc_sim(
     let mut bytes = Noted::new();
     let mut told = Out::new(&mut bytes);
     let status = sim_bytes(alloc, script, &mut out, &mut told);
-    hand_out(&out, told.into_writer().as_slice(), notes, written);
-    status.code()
+    let is_cut = told.has_failed();
+    let noted = told.into_writer().as_slice();
+    let code = code_for(status.code(), is_cut, noted.len(), notes.len());
+    hand_out(&out, noted, notes, written);
+    code
 }
 
 /// `check` of histories of calls, of bytes and into a room.
@@ -230,8 +253,11 @@ fn answer_no_memory(calls: &[u8], text: &mut [u8], notes: &mut [u8], written: &m
     let mut bytes = Noted::new();
     let mut told = Out::new(&mut bytes);
     let status = say_no_memory(calls, &mut out, &mut told);
-    hand_out(&out, told.into_writer().as_slice(), notes, written);
-    status.code()
+    let is_cut = told.has_failed();
+    let noted = told.into_writer().as_slice();
+    let code = code_for(status.code(), is_cut, noted.len(), notes.len());
+    hand_out(&out, noted, notes, written);
+    code
 }
 
 /// Checks histories of calls: an order of the calls of each is the text. The notes have the remarks on them, and then the note on what
@@ -258,14 +284,19 @@ pub extern "C" fn evc_calls_check(
     let mut out = Room::new(text);
     let mut told = Out::new(&mut bytes);
     let status = calls_check_bytes(alloc, calls, &mut out, &mut told);
-    hand_out(&out, told.into_writer().as_slice(), notes, written);
-    status.code()
+    let is_cut = told.has_failed();
+    let noted = told.into_writer().as_slice();
+    let code = code_for(status.code(), is_cut, noted.len(), notes.len());
+    hand_out(&out, noted, notes, written);
+    code
 }
 
-/// The version: a thousand times its first number, and its second.
+/// Returns the version: a thousand times its first number, and its second. These are the numbers with
+/// which the answer of `evc --version` begins.
 #[unsafe(no_mangle)]
 pub extern "C" fn evc_version() -> u32
-    ensures { result ≡ 2 }
+    ensures value { result ≡ 2 }
+    ensures told { IsVersionOf VERSION.now result }
 {
     2
 }

@@ -1,3 +1,4 @@
+mod Columns
 mod Fronts
 mod Heights
 mod Whole

@@ -1,5 +1,5 @@
 -- What the program answered and wrote, for an input whose bytes are known and what was asked for.
-use Rattle.std.specs.Prelude.{◌≡◌, ◌⊎◌, ℕ, ◌+◌, ◌-◌, ◌==◌, ◌&&◌, min, max, Ok, Err, Bool, true, false, not, ◌||◌, nat_le, nat_lt, List, [], ◌++◌, length, Option, Some, None, String, string_bytes, codes, decimal, if◌then◌else◌}
+use Rattle.std.specs.Prelude.{◌≡◌, ◌⊎◌, ℕ, ◌+◌, ◌-◌, ◌<◌, ◌≤◌, ◌==◌, ◌&&◌, min, max, Ok, Err, Bool, true, false, not, ◌||◌, nat_le, nat_lt, List, [], ◌++◌, length, Option, Some, None, String, string_bytes, codes, decimal, if◌then◌else◌}
 use Rattle.std.specs.Global.{Global}
 use Rattle.std.specs.List.{flat_map, list_any}
 use Rattle.std.specs.Io.KnownBytes.{Appends, Keeps}
@@ -124,7 +124,7 @@ TellsUsage v t old new =
 abbrev pub Drawn : View → Recounted → Status → Outlets → Outlets → Type 0
 Drawn v t Done old new = (has_unknown v t.heading.words ≡ false) × (is_empty v.window (length t.entries) ≡ false) × (is_wide (window_of v.window t) ≡ false) × Appends old.out new.out (picture_for v t) × KeepsNotes old new
 Drawn v t Refused old new = (has_unknown v t.heading.words ≡ false) × (is_wide (window_of v.window t) ≡ true) × Keeps old.out new.out × Notes old new wide_note
-Drawn v t InputOutput old new = AppendsPrefix old.out new.out (picture_for v t) × Notes old new (codes "write fault\n")
+Drawn v t InputOutput old new = (has_unknown v t.heading.words ≡ false) × (is_empty v.window (length t.entries) ≡ false) × (is_wide (window_of v.window t) ≡ false) × AppendsPrefix old.out new.out (picture_for v t) × Notes old new (codes "write fault\n")
 Drawn v t Memory old new = Keeps old.out new.out × Notes old new (codes "no memory\n")
 Drawn v t Usage old new = Keeps old.out new.out × TellsUsage v t old new
 Drawn v t Stopped old new = ⊥
@@ -139,6 +139,10 @@ behind_at bound p = if nat_lt p bound then p + 1 else bound
 -- last of them
 abbrev pub window_before : Window → ℕ → Window
 window_before w p = record { from = max (behind_at w.from p) (behind_at w.to p - COLUMNS_MAX); to = behind_at w.to p }
+
+-- the entry at position p, or the place behind the last one, is drawn in a column
+abbrev pub HasColumn : Window → ℕ → Type 0
+HasColumn w p = (w.from ≤ p) × (p < w.to)
 
 -- the frame of a view on such a history
 abbrev pub story_frame : View → Recounted → Noted → Framed

@@ -1,5 +1,5 @@
 //! A trace in; a picture of it out.
-ghost use Rattle.std.specs.Prelude.{◌≡◌, ◌+◌, Some, codes, false, IfOk, IfSome, length};
+ghost use Rattle.std.specs.Prelude.{◌≡◌, ◌+◌, ◌<◌, ◌≤◌, Some, codes, false, IfOk, IfSome, length};
 ghost use Rattle.ec_text.specs.Puts.{Puts, IsWrittenOut};
 ghost use Rattle.evc_engine.specs.declared.status.Status.TheVariants.{Memory};
 ghost use Rattle.evc_engine.specs.Checks.{RefusedFor};
@@ -7,7 +7,7 @@ ghost use Rattle.ec_frame.specs.Notes.{noted};
 ghost use Rattle.evc_draw.specs.Faults.{right_of, position_in};
 ghost use Rattle.ec_draw.specs.Pictures.{kept, shapes};
 ghost use Rattle.ec_frame.specs.Frames.{drawn_targets, framed};
-ghost use Rattle.evc_draw.specs.Draws.{CutOffFault, Drawn, Draws, behind_at, DrawsCutOff, DrawsText, Refuses, TellsFault, frame_for, has_unknown, is_empty, is_wide, note_on, story, story_frame, story_of, story_picture, window_before, window_of, window_on};
+ghost use Rattle.evc_draw.specs.Draws.{CutOffFault, Drawn, Draws, HasColumn, behind_at, DrawsCutOff, DrawsText, Refuses, TellsFault, frame_for, has_unknown, is_empty, is_wide, note_on, story, story_frame, story_of, story_picture, window_before, window_of, window_on};
 
 use crate::document::write_document;
 use crate::empty::{is_empty, say_empty};
@@ -130,9 +130,12 @@ fn behind_at(bound: usize, position: usize) -> usize
     }
 }
 
-/// The window on a history up to a faulty line at a position.
+/// The window on a history up to a faulty line at a position. The line has a column where the range
+/// that was asked for has its position, also where it has no entry.
 fn window_before(window: Window, position: usize) -> Window
-    ensures { result ≡ window_before window position }
+    ensures value { result ≡ window_before window position }
+    ensures column { window.from ≤ position → position < window.to → HasColumn result position }
+    ensures narrow { is_wide result ≡ false }
 {
     let from = behind_at(window.from, position);
     let to = behind_at(window.to, position);

@@ -1,8 +1,8 @@
 //! The texts of `evc --help` and `evc -h`, of the help on each command, and of `evc --version`.
 
-// What stands behind `evc ` in the answer to `evc --version`: the number, which bin/package reads
-// here, and the line of the toolchain that everything is proved and built with.
-pub(crate) const VERSION: &str = "0.2
+/// What stands after `evc ` in the answer to `evc --version`: the number, which bin/package reads
+/// here, and the line of the toolchain that everything is proved and built with.
+pub const VERSION: &str = "0.2
 proved and built with rattle-kit-13";
 
 pub(crate) const ABOUT: &str =

@@ -7,4 +7,5 @@ mod line;
 
 pub use choice::Task;
 pub use clap::Error;
+pub use help::VERSION;
 pub use line::{plain_lines, status_of, task, turns_lines};
