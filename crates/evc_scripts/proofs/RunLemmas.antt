@@ -7,8 +7,7 @@ use Rattle.ec_core.specs.Acceptance.{IsAccepted}
 use Rattle.ec_machine.specs.declared.outcome.Outcome.{Outcome}
 use Rattle.ec_heading.specs.Outlined.{HasOutline}
 use Rattle.ec_heading.specs.Spelling.{trace_text}
-use Rattle.ec_runner.specs.RunReports.{IsReportOf, NamesDeclared}
-use Rattle.ec_runner.specs.RunFaults.{IsRunFault}
+use Rattle.ec_runner.specs.RunReports.{IsReportOf}
 use Rattle.ec_runner.specs.declared.report.Report.{Report}
 use Rattle.ec_runner.specs.declared.run_fault.RunFault.{RunFault}
 use Rattle.ec_runner.specs.declared.run_fault.RunFault.TheVariants.{Mismatch, Spawn}
@@ -70,17 +69,13 @@ told_ends p turns Refused old new t = absurd (three_ways Refused _ _ t.2.ended (
 told_ends p turns Usage old new t = absurd (three_ways Usage _ _ t.2.ended (inr (inl refl)))
 told_ends p turns InputOutput old new t = absurd (three_ways InputOutput _ _ t.2.ended (inr (inr refl)))
 
-pub fault_ends : (plan : Plan) (turns : ℕ) (fault : RunFault) (s : Status) (old new : Outlets) → IsRunFault plan.heading.setup plan.programs.items turns fault
-    → NamesDeclared plan.heading.setup fault → s ≡ run_fault_status fault → Says old new (run_fault_note plan.heading fault) → RunEnds (shown_plan plan) turns s old new
-fault_ends plan turns (Mismatch w) s old new right named is said =
-    subst (λ (k : Status). RunEnds (shown_plan plan) turns k old new) (sym is)
-    (inr (record { fault = Mismatch w; programs = plan.programs.items; lines = refl; right = right; named = named; ended = refl; says = said }))
-fault_ends plan turns Spawn s old new right named is said =
-    subst (λ (k : Status). RunEnds (shown_plan plan) turns k old new) (sym is)
-    (inr (record { fault = Spawn; programs = plan.programs.items; lines = refl; right = right; named = named; ended = refl; says = said }))
-fault_ends plan turns faults.Memory s old new right named is said =
-    subst (λ (k : Status). RunEnds (shown_plan plan) turns k old new) (sym is)
-    (inr (record { fault = faults.Memory; programs = plan.programs.items; lines = refl; right = right; named = named; ended = refl; says = said }))
+pub fault_ends : (p : Planned) (turns : ℕ) (fault : RunFault) (s : Status) (old new : Outlets) → s ≡ run_fault_status fault → Says old new (run_fault_note p.heading fault) → RunEnds p turns s old new
+fault_ends p turns (Mismatch w) s old new is said =
+    subst (λ (k : Status). RunEnds p turns k old new) (sym is) (inr (record { fault = Mismatch w; ended = refl; says = said }))
+fault_ends p turns Spawn s old new is said =
+    subst (λ (k : Status). RunEnds p turns k old new) (sym is) (inr (record { fault = Spawn; ended = refl; says = said }))
+fault_ends p turns faults.Memory s old new is said =
+    subst (λ (k : Status). RunEnds p turns k old new) (sym is) (inr (record { fault = faults.Memory; ended = refl; says = said }))
 
 -- THE COMMAND
 
