@@ -4,9 +4,7 @@ use Rattle.ec_heading.specs.Headed.{Headed}
 use Rattle.ec_heading.specs.Heading.{FailsAs}
 use Rattle.ec_heading.specs.declared.heading.HeadFault.{HeadFault}
 use Rattle.ec_heading.specs.declared.heading.HeadFault.TheVariants as heads
-use Rattle.ec_script.specs.declared.fault.Kind.{Kind}
 use Rattle.ec_script.specs.declared.fault.StageFault.{StageFault}
-use Rattle.ec_script.specs.declared.stage.Stage.{Stage}
 use Rattle.ec_script.specs.Faults.{stage_fault}
 use Rattle.ec_script.specs.Reading.{StepFails, headed_on, named_on}
 use Rattle.ec_script.specs.Scripted.{Scripted}

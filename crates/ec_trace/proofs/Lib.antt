@@ -15,7 +15,7 @@ pub mod SpelledLemmas
 pub mod KeyLemmas
 pub mod FrontLemmas
 pub mod Entering
-mod EntryParts
+pub mod EntryParts
 pub mod TraceText
 pub mod LedOutlines
 pub mod EntryLines

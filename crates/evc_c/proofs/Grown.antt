@@ -1,7 +1,7 @@
 -- What a contract says of writers that held something at first, said of writers that held nothing.
 use Rattle.std.proofs.Common.{◌≡◌, inl, inr, ℕ, Bool, length, List, [], ◌++◌, Option, None, Some, codes, refl, sym, ap, ◌∙◌, take, append-nil, subst}
 use Rattle.std.specs.Io.KnownBytes.{Appends, Keeps}
-use Rattle.ec_text.specs.Puts.{AppendsPrefix, Outgoing, Puts, at_first}
+use Rattle.ec_text.specs.Puts.{AppendsPrefix, Outgoing, Puts, at_first, IsWrittenOut}
 use Rattle.evc_engine.specs.declared.status.Status.{Status}
 use Rattle.evc_engine.specs.declared.status.Status.TheVariants.{Done, Refused, Usage, InputOutput, Memory, Stopped}
 use Rattle.evc_engine.specs.Checks.{Checks, text_for}
@@ -200,24 +200,26 @@ grown r new w none e =
 
 pub fills : {S O : Type 0} (outlets : List ℕ → Outgoing → O) (Does : ContractBy S O) → GrowsBy outlets Does
     → (bytes : List ℕ) (left : Option (List ℕ)) (status : S) (first last : Outgoing) (r new : Room)
-    → r.len ≡ 0 → Does bytes left status (outlets (room_holds r) first) (outlets (room_holds new) last)
+    → r.len ≡ 0 → Does bytes left status (outlets (room_holds r) first) (outlets (room_holds new) last) → (IsWrittenOut first → IsWrittenOut last)
     → FillsBy outlets Does bytes status r new first last
-fills outlets Does grows bytes left status first last r new empty p =
+fills outlets Does grows bytes left status first last r new empty p written =
     let done = grows bytes left status first last (room_holds r) (room_holds new) p in
     let out = grown r new done.0 empty done.1 in
     record {
       same = out.0;
       left = left;
       ends = subst (λ (w : List ℕ). Does bytes left status (outlets [] first) (outlets w last)) (sym out.1) done.2;
+      written = written;
     }
 
 -- where there was no memory before anything was read
 pub no_memory_fills : (bytes : List ℕ) (r : Room) (first last : Outgoing) → r.len ≡ 0 → Puts first last (codes "no memory\n")
-    → FillsBy calls_outlets calls_checks.Checks bytes ends.Memory r r first last
-no_memory_fills bytes r first last empty puts = record {
+    → IsWrittenOut last → FillsBy calls_outlets calls_checks.Checks bytes ends.Memory r r first last
+no_memory_fills bytes r first last empty puts written = record {
   same = refl;
   left = None;
   ends = inr (inr (ap (λ (n : ℕ). take n r.bytes.now) empty, puts));
+  written = λ _. written;
 }
 
 -- and what is then answered, of the caller's bytes
@@ -236,6 +238,7 @@ answers code_of outlets Does bytes status code given is_cut many r new writer fi
       writer = writer;
       last = last;
       ends = subst (λ (w : List ℕ). Does bytes f.left status (outlets [] (at_first writer (Some []))) (outlets w last)) (sym (ap (λ (k : ℕ). take k text) len ∙ ap (take new.len) is)) ends;
+      written = subst (λ (o : Outgoing). IsWrittenOut o → IsWrittenOut last) e f.written (λ _. refl);
       noted = noted;
       holds = sym holds;
       told = told;

@@ -1,6 +1,6 @@
 -- What a call answered and wrote, for the bytes that it was given.
-use Rattle.std.specs.Prelude.{◌≡◌, ◌≤◌, ◌⊎◌, ℕ, Bool, true, List, [], length, take, Option, Some}
-use Rattle.ec_text.specs.Puts.{Outgoing, at_first}
+use Rattle.std.specs.Prelude.{◌≡◌, ◌≤◌, ◌<◌, ◌⊎◌, ℕ, Bool, true, List, [], length, take, Option, Some}
+use Rattle.ec_text.specs.Puts.{Outgoing, at_first, IsWrittenOut}
 use Rattle.evc_engine.specs.declared.status.Status as evc
 use Rattle.evc_engine.specs.Statuses as evc_statuses
 use Rattle.evc_engine.specs.Checks as evc_checks
@@ -13,10 +13,11 @@ use Rattle.calls_report.specs.Checks as calls_checks
 abbrev pub ContractBy : Type 0 → Type 0 → Type 1
 ContractBy S O = List ℕ → Option (List ℕ) → S → O → O → Type 0
 
--- the code that is returned: that of the status, where all notes came to their writer, or as many bytes of them as the caller has room
--- for; else 4, since there was no memory for the notes
+-- the code that is returned: 4 where notes were cut off before the caller's room for them was full, since there was no memory for them;
+-- else that of the status. Where notes were cut off then, as many bytes of them came as the caller has room for
 abbrev pub IsCode : ℕ → ℕ → Bool → ℕ → ℕ → Type 0
-IsCode code given is_cut many room = (code ≡ 4) ⊎ ((code ≡ given) × (is_cut ≡ true → room ≤ many))
+IsCode code given is_cut many room =
+    ((code ≡ 4) × (is_cut ≡ true) × (many < room)) ⊎ ((code ≡ given) × (is_cut ≡ true → room ≤ many))
 
 -- for these bytes the command ended with this status, where at first nothing was written and no note waited; this text was written, and
 -- of its notes their writer holds these: all of them, or as much of them as the caller has room for, or the code is 4
@@ -27,6 +28,7 @@ pub record AnswersBy {S O : Type 0} (code_of : S → ℕ) (outlets : List ℕ �
   pub writer : ℕ
   pub last : Outgoing
   pub ends : Does bytes left status (outlets [] (at_first writer (Some []))) (outlets text last)
+  pub written : IsWrittenOut last
   pub noted : List ℕ
   pub holds : last.contents ≡ Some noted
   pub told : notes ≡ take room noted

@@ -16,9 +16,12 @@ use evc_scripts::sim;
 use evc_task::VERSION;
 use std::alloc::Global;
 
-/// The notes of a call on a trace or a script, of which there are less than a thousand bytes: so none is
-/// cut off.
-type Noted = ArrayVec<u8, 1024>;
+/// The bytes of notes for which a call on a trace or a script has room. The notes of such a call have less
+/// than a thousand bytes.
+const NOTES_MAX: usize = 1024;
+
+/// The notes of a call on a trace or a script.
+type Noted = ArrayVec<u8, NOTES_MAX>;
 
 /// How many bytes were written of the text and of the notes.
 #[repr(C)]

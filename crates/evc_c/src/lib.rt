@@ -3,8 +3,10 @@
 #![tactic(auto)]
 
 mod calls;
+mod laws;
 mod room;
 
 pub use calls::{
     EvcWritten, evc_audit, evc_calls_check, evc_check, evc_sim, evc_upgrade, evc_version,
 };
+pub use laws::notes_have_room_for_1024_bytes;

@@ -68,7 +68,7 @@ pub(crate) struct NotesRoom {
 impl NotesRoom {
     /// Takes memory for so many bytes.
     pub(crate) fn new(alloc: Global, room: usize) -> Result<NotesRoom, AllocError>
-        ensures { IfOk result (λ r. r.bytes.items ≡ []) }
+        ensures { IfOk result (λ r. (r.bytes.items ≡ []) × (r.room ≡ room)) }
     {
         let bytes = Vec::with_capacity(alloc, room)?;
         Ok(NotesRoom { bytes, room })
@@ -88,6 +88,7 @@ impl Write for NotesRoom {
     fn write(&mut self, buf: &[u8]) -> io::Result<usize>
         ensures bound { WritesAtMost result buf.now }
         ensures bytes { WriteAppends (Some self.old.bytes.items) (Some self.new.bytes.items) result buf.now }
+        ensures taken { IfOk result (λ n. n ≡ min (length buf.now) (self.old.room - length self.old.bytes.items)) }
     {
         let taken = buf.len().min(self.room.saturating_sub(self.bytes.len()));
         self.bytes.extend_from_slice(&buf[..taken])?;

@@ -132,6 +132,7 @@ fn behind_at(bound: usize, position: usize) -> usize
 
 /// The window on a history up to a faulty line at a position. The line has a column where the range
 /// that was asked for has its position, also where it has no entry.
+#[tactic(auto, using(crate::proofs::Columns::has_column, crate::proofs::Columns::is_narrow))]
 fn window_before(window: Window, position: usize) -> Window
     ensures value { result ≡ window_before window position }
     ensures column { window.from ≤ position → position < window.to → HasColumn result position }

@@ -7,4 +7,4 @@ use Rattle.evc_c.proofs.calls.calls_check_bytes.Goals as goal
 pub returns-clause-fills : goal.returns-clause-fills
 returns-clause-fills c =
     fills calls_outlets Checks calls_check_grows c.args.calls.now (Some c.check.new.reader.now) c.check.result c.args.notes.now c.check.new.notes c.args.out.now
-    c.check.new.out c.requires c.check.ensures.ends
+    c.check.new.out c.requires c.check.ensures.ends c.check.ensures.written
