@@ -20,6 +20,7 @@ use Rattle.ec_runner.specs.declared.told.Asked.{Asked}
 use Rattle.ec_runner.specs.RunReports.{HasEnded, IsTold, IsReportOf, NamesDeclared}
 use Rattle.ec_runner.specs.Fits.{IsBorneOut, Fits, AllFit, IsMisfit, IsOf, IsVerdict}
 use Rattle.ec_runner.specs.Promised.{AreToldOf, IsWant}
+use Rattle.ec_runner.specs.RunFaults.{IsRunFault}
 use Rattle.ec_runner.specs.Works.{IsAsked, EndsSo, IsToldOf}
 use Rattle.ec_runner.proofs.Promising.{told_at, told_many}
 
@@ -130,3 +131,23 @@ pub answer_names : (t : Tables) (programs : List (List Command)) (turns : ℕ) (
     → MatchResult ran (λ r. IsVerdict result t r.0 r.1.items) (λ fault. result ≡ Err fault) → IfErr result (NamesDeclared t)
 answer_names t programs turns (Ok r) result many told v = verdict_names t r.0 r.1.items result (told_many programs turns r.1.items told ∙ many) v
 answer_names t programs turns (Err fault) result many told is = subst (λ (x : Result Report RunFault). IfErr x (NamesDeclared t)) (sym is) (want_names t fault told)
+
+-- a mismatch is of what the threads returned, and the threads themselves return none
+verdict_fault : (t : Tables) (programs : List (List Command)) (turns : ℕ) (run : Recorded) (tolds : List Told) (r : Result Report RunFault)
+    → AreToldOf programs turns tolds → IsVerdict r t run tolds → IfErr r (IsRunFault t programs turns)
+verdict_fault t programs turns run tolds (Ok r) told v = tt
+verdict_fault t programs turns run tolds (Err (faults.Mismatch w)) told v = record { run = run; tolds = tolds; told = told; found = v }
+verdict_fault t programs turns run tolds (Err faults.Spawn) told v = tt
+verdict_fault t programs turns run tolds (Err faults.Memory) told v = tt
+
+want_fault : (t : Tables) (programs : List (List Command)) (turns : ℕ) (fault : RunFault) → IsWant fault → IsRunFault t programs turns fault
+want_fault t programs turns faults.Spawn is = tt
+want_fault t programs turns faults.Memory is = tt
+want_fault t programs turns (faults.Mismatch w) is = absurd is
+
+pub answer_fault : (t : Tables) (programs : List (List Command)) (turns : ℕ) (ran : Result (Recorded × Vec Told) RunFault) (result : Result Report RunFault)
+    → MatchResult ran (λ r. AreToldOf programs turns r.1.items) IsWant
+    → MatchResult ran (λ r. IsVerdict result t r.0 r.1.items) (λ fault. result ≡ Err fault) → IfErr result (IsRunFault t programs turns)
+answer_fault t programs turns (Ok r) result told v = verdict_fault t programs turns r.0 r.1.items result told v
+answer_fault t programs turns (Err fault) result told is =
+    subst (λ (x : Result Report RunFault). IfErr x (IsRunFault t programs turns)) (sym is) (want_fault t programs turns fault told)

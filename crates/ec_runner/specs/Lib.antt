@@ -8,6 +8,7 @@ pub mod BoardFaults
 pub mod RunReports
 pub mod Walks
 pub mod Fits
+pub mod RunFaults
 pub mod Schedules
 pub mod Reported
 pub mod Machines

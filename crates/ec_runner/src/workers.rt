@@ -3,6 +3,7 @@ ghost use Rattle.std.specs.Prelude.{◌≡◌, ℕ, ◌≤◌, map, length, Err,
 ghost use Rattle.ec_runner.specs.Fits.{AllFit, IsVerdict};
 ghost use Rattle.ec_runner.specs.Promised.{IsJoined, IsOneMore, AreJoined, AreToldOf, IsWant};
 ghost use Rattle.ec_runner.specs.RunReports.{IsReportOf, NamesDeclared};
+ghost use Rattle.ec_runner.specs.RunFaults.{IsRunFault};
 
 use crate::board::Board;
 use crate::duty::Duty;
@@ -188,6 +189,7 @@ fn run_on<R: Threads + Wait + Sync, G: Gate + Sync>(
     requires { length programs.now ≡ setup.now.workers }
     ensures report { IfOk result (IsReportOf setup.now programs.now turns) }
     ensures named { IfErr result (NamesDeclared setup.now) }
+    ensures fault { IfErr result (IsRunFault setup.now programs.now turns) }
 {
     setup.known();
     let ended = ran(rt, alloc, setup, programs, gate, turns);
@@ -211,6 +213,7 @@ pub fn run_workers<R: Threads + Wait + Sync, G: Gate + Sync>(
     requires { length plan.now.programs.items ≡ plan.now.heading.setup.workers }
     ensures report { IfOk result (IsReportOf plan.now.heading.setup plan.now.programs.items turns) }
     ensures named { IfErr result (NamesDeclared plan.now.heading.setup) }
+    ensures fault { IfErr result (IsRunFault plan.now.heading.setup plan.now.programs.items turns) }
 {
     run_on(
         rt,

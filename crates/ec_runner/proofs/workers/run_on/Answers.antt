@@ -1,5 +1,5 @@
 use Rattle.std.proofs.Common.{arith}
-use Rattle.ec_runner.proofs.Telling.{answer_few, answer_each, answer_report, answer_names}
+use Rattle.ec_runner.proofs.Telling.{answer_few, answer_each, answer_report, answer_names, answer_fault}
 use Rattle.ec_runner.proofs.workers.run_on.Goals as goal
 
 pub answered-requires-clause-few : goal.answered-requires-clause-few
@@ -14,3 +14,7 @@ returns-clause-report g c = answer_report c.args.setup.now c.args.programs.now c
 pub returns-clause-named : goal.returns-clause-named
 returns-clause-named g c =
     answer_names c.args.setup.now c.args.programs.now c.args.turns c.ran-ended.result c.answered.result c.requires c.ran-ended.ensures c.answered.ensures
+
+pub returns-clause-fault : goal.returns-clause-fault
+returns-clause-fault g c =
+    answer_fault c.args.setup.now c.args.programs.now c.args.turns c.ran-ended.result c.answered.result c.ran-ended.ensures c.answered.ensures
