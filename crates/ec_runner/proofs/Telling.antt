@@ -58,7 +58,7 @@ ended (outcomes.Refused r) (Some k) run w cs turns log entries e a b = (
   },
 )
 ended outcomes.ValueTooLarge asked run w cs turns log entries e a b = e
-ended outcomes.Stopped asked run w cs turns log entries e a b = (e, b)
+ended outcomes.Stopped asked run w cs turns log entries e a b = (e, b.1)
 ended outcomes.OutOfTurns asked run w cs turns log entries e a b = e
 ended outcomes.Memory asked run w cs turns log entries e a b = (e, tt)
 

@@ -1,5 +1,5 @@
 -- A worker at its program.
-use Rattle.std.proofs.Common.{◌≡◌, ℕ, ◌+◌, true, false, List, [], ◌∷◌, ◌++◌, length, reverse, Option, refl, ap, sym, ◌∙◌, subst, arith}
+use Rattle.std.proofs.Common.{◌≡◌, ◌≢◌, ℕ, ◌+◌, true, false, List, [], ◌∷◌, ◌++◌, length, reverse, Option, refl, ap, sym, ◌∙◌, subst, arith}
 use Rattle.ec_core.specs.declared.act.Entry.{Entry}
 use Rattle.ec_core.proofs.shared.Stepping.{past_after}
 use Rattle.ec_machine.specs.declared.command.Command.{Command}
@@ -56,6 +56,10 @@ takes outcomes.Memory o r h = cc
 
 pub unset : (o : Outcome) → is_running o ≡ true → is_set o ≡ false
 unset o h = ap is_set (is_it o h)
+
+-- a program that is running did not end for want of memory
+pub has_memory : (o : Outcome) → is_running o ≡ true → o ≢ outcomes.Memory
+has_memory o r e = (let no : is_running o ≡ false = ap is_running e in cc)
 
 -- a step ends a program that is running
 pub stops : (cs : List Command) (m n : Machine) (log : List Entry) (o : Outcome) → IsStop o → Works cs m log → is_running (kept_outcome m) ≡ true

@@ -29,10 +29,15 @@ abbrev pub WasRefusedSo : Recorded → ℕ → Refusal → Option Asked → Type
 WasRefusedSo run w r None = ⊥
 WasRefusedSo run w r (Some a) = IsRefusedSo run w r a
 
--- the run bears out why the program of w was cut off
+-- it tells of the end of the run: nobody made a step any more
+abbrev pub IsAtEnd : Option Asked → Recorded → Type 0
+IsAtEnd None run = ⊥
+IsAtEnd (Some a) run = a.moment ≡ length run.entries
+
+-- the run bears out why the program of w was cut off. Who is stopped is so where the board is stuck, so at the end of the run
 abbrev pub IsBorneOut : Outcome → Recorded → ℕ → Option Asked → Type 0
 IsBorneOut (outcomes.Refused r) run w asked = WasRefusedSo run w r asked
-IsBorneOut outcomes.Stopped run w asked = IsCaught run w
+IsBorneOut outcomes.Stopped run w asked = IsAtEnd asked run × IsCaught run w
 IsBorneOut _ run w asked = Unit {0}
 
 -- it tells of a moment of the run
@@ -43,7 +48,7 @@ IsWithin (Some a) run = a.moment ≤ length run.entries
 -- the run bears out why the program of w was cut off, but for what it was refused at its moment
 abbrev pub MayBeBorneOut : Outcome → Recorded → ℕ → Option Asked → Type 0
 MayBeBorneOut (outcomes.Refused r) run w asked = IsWithin asked run
-MayBeBorneOut outcomes.Stopped run w asked = IsCaught run w
+MayBeBorneOut outcomes.Stopped run w asked = IsAtEnd asked run × IsCaught run w
 MayBeBorneOut _ run w asked = Unit {0}
 
 -- what w was refused is right, if it tells of moment k

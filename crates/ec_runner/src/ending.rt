@@ -1,7 +1,7 @@
 //! How workers ended, held against the run.
 ghost use Rattle.std.specs.Prelude.{◌≡◌, ◌↔◌, ◌<◌, ◌≤◌, ℕ, length, Some, slice_get, IsTrue, MatchOption};
 ghost use Rattle.ec_runner.specs.declared.told.Told.{Told};
-ghost use Rattle.ec_runner.specs.Fits.{IsBorneOut, IsUnborne, IsWithin, MayBeBorneOut, asked_at, moment_of};
+ghost use Rattle.ec_runner.specs.Fits.{IsAtEnd, IsBorneOut, IsUnborne, IsWithin, MayBeBorneOut, asked_at, moment_of};
 
 use crate::caught::is_caught;
 use crate::refused::first_wrong;
@@ -20,13 +20,23 @@ fn is_within(run: &Run, asked: Option<Asked>) -> bool
     }
 }
 
+/// Whether a worker tells of the end of the run.
+fn is_at_end(run: &Run, asked: Option<Asked>) -> bool
+    ensures { IsTrue result ↔ IsAtEnd asked run.now }
+{
+    match asked {
+        Some(asked) => asked.moment == run.len(),
+        None => false,
+    }
+}
+
 /// Whether the run bears out how a worker ended, but for what it was refused at its moment.
 fn may_be_borne_out(run: &Run, worker: WorkerId, told: &Told) -> bool
     ensures { IsTrue result ↔ MayBeBorneOut told.now.outcome run.now worker told.now.asked }
 {
     match told.outcome {
         Outcome::Refused(_) => is_within(run, told.asked),
-        Outcome::Stopped => is_caught(run, worker),
+        Outcome::Stopped => is_at_end(run, told.asked) && is_caught(run, worker),
         _ => true,
     }
 }

@@ -1,8 +1,9 @@
 //! A thread for each worker.
-ghost use Rattle.std.specs.Prelude.{◌≡◌, ℕ, ◌+◌, ◌<◌, ◌≤◌, true, false, List, [], length, Some, vec_len, vec_capacity};
+ghost use Rattle.std.specs.Prelude.{◌≡◌, ◌≢◌, ℕ, ◌+◌, ◌<◌, ◌≤◌, nat_lt, true, false, List, [], length, Some, vec_len, vec_capacity};
 ghost use Rattle.ec_core.specs.declared.act.Entry.{Entry};
 ghost use Rattle.ec_core.specs.Procedures.{IsReply};
 ghost use Rattle.ec_machine.specs.declared.command.Command.{Command};
+ghost use Rattle.ec_machine.specs.declared.outcome.Outcome.TheVariants.{Memory};
 ghost use Rattle.ec_machine.specs.Outcomes.{is_running, is_set};
 ghost use Rattle.ec_machine.specs.Standing.{act_of, kept_outcome};
 ghost use Rattle.ec_runner.specs.declared.told.Asked.{Asked};
@@ -145,8 +146,8 @@ fn take(machine: &mut Machine<'_>, log: &mut Vec<Entry>, worker: WorkerId, act: 
     machine.take(reply);
 }
 
-/// The step that the program asks for, for whose entry the log has room. It answers what was asked
-/// for, where there was no reply.
+/// The step that the program asks for, for whose entry the log has room. Returns what was asked for,
+/// where there was no reply. The worker may wait exactly where it has a turn left after this one.
 fn make_step<R: Wait, G>(
     rt: &R,
     shared: Shared<'_, G>,
@@ -156,6 +157,7 @@ fn make_step<R: Wait, G>(
     log: &mut Vec<Entry>,
 ) -> Option<Asked>
     requires room { vec_len log.old < vec_capacity log.old }
+    requires last { may_park ≡ nat_lt (length log.old.items + 1) shared.turns }
     requires running { is_running (kept_outcome machine.old) ≡ true }
     ensures works { (cs : List Command) → Works cs machine.old log.old.items → Works cs machine.new log.new.items }
     ensures had { HasHad (length log.old.items + 1) machine.new log.new.items }
@@ -175,7 +177,7 @@ fn make_step<R: Wait, G>(
 }
 
 /// One turn of a worker: the log grows, then comes the step that the program asks for. After the last
-/// turn the worker doesn't wait.
+/// turn the worker doesn't wait. `steps` counts the steps that it has asked for.
 fn take_turn<R: Wait, G: Gate>(
     rt: &R,
     shared: Shared<'_, G>,
@@ -185,8 +187,10 @@ fn take_turn<R: Wait, G: Gate>(
     log: &mut Vec<Entry>,
 ) -> Option<Asked>
     requires turns { steps.old < shared.turns }
+    requires made { steps.old ≡ length log.old.items }
     requires running { is_running (kept_outcome machine.old) ≡ true }
     ensures steps { steps.new ≤ steps.old + 1 }
+    ensures counted { kept_outcome machine.new ≢ Memory → steps.new ≡ steps.old + 1 }
     ensures works { (cs : List Command) → Works cs machine.old log.old.items → Works cs machine.new log.new.items }
     ensures had { HasHad (length log.old.items + 1) machine.new log.new.items }
     ensures asked { (cs : List Command) → Works cs machine.old log.old.items → IsAsked (kept_outcome machine.new) cs log.new.items result }

@@ -1,4 +1,5 @@
-use Rattle.std.proofs.Common.{◌≡◌, ◌≤◌}
+use Rattle.std.proofs.Common.{◌≡◌, ◌≤◌, true, length}
+use Rattle.ec_machine.specs.Outcomes.{is_running}
 use Rattle.ec_machine.specs.Standing.{kept_outcome}
 use Rattle.ec_runner.specs.Works.{Works, HasHad, IsAsked}
 use Rattle.ec_runner.proofs.threads.work_through.Given as goal
@@ -6,6 +7,7 @@ use Rattle.ec_runner.proofs.threads.work_through.Given as goal
 abbrev pub invariant-loop : goal.invariant-loop
 invariant-loop g l = record {
   steps : l.steps ≤ l.counter;
+  made : is_running (kept_outcome l.machine) ≡ true → l.steps ≡ length l.log.items;
   end : l.end ≡ l.shared.turns;
   works : Works l.program l.machine l.log.items;
   had : HasHad l.counter l.machine l.log.items;
