@@ -60,7 +60,7 @@ place_played t programs turns machines w new n played.Made within each has = rec
   each = machines_after programs turns has.turn machines w n within has.worker each has.machine;
 }
 place_played t programs turns machines w new n played.Ended within each ended = ended
-place_played t programs turns machines w new n played.Memory within each none = tt
+place_played t programs turns machines w new n played.Memory within each due = due
 
 -- one place more of a schedule has been played
 pub place_more : (t : Tables) (programs : List (List Command)) (schedule : List ℕ) (k w : ℕ) (run new : Recorded) (machines others : List Machine)

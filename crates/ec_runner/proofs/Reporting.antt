@@ -1,5 +1,5 @@
 -- What is told of a schedule that was played.
-use Rattle.std.proofs.Common.{◌≡◌, ℕ, List, [], ◌∷◌, length, map, reverse, get_or, Some, Vec, Global, refl, sym, ◌∙◌, ap, subst, arith}
+use Rattle.std.proofs.Common.{◌≡◌, ℕ, List, [], ◌∷◌, length, map, reverse, get_or, Some, Err, Vec, Global, refl, sym, ◌∙◌, ap, subst, arith}
 use Rattle.std.specs.Prelude.{slice_get}
 use Rattle.std.specs.Option.{option_map}
 use Rattle.std.proofs.lemmas.Option.{slice_get-get_or, slice_get-map}
@@ -12,8 +12,10 @@ use Rattle.ec_machine.specs.declared.machine.Machine.{Machine}
 use Rattle.ec_machine.specs.declared.outcome.Outcome.{Outcome}
 use Rattle.ec_machine.specs.Standing.{kept_outcome}
 use Rattle.ec_runner.specs.declared.report.Report.{Report}
-use Rattle.ec_runner.specs.Machines.{AreMachines, IsPlayed}
-use Rattle.ec_runner.specs.Reported.{AreLogs, AreOutcomes, IsReport}
+use Rattle.ec_runner.specs.declared.report.SimFault.{SimFault}
+use Rattle.ec_runner.specs.declared.report.SimFault.TheVariants.{Ended, Memory}
+use Rattle.ec_runner.specs.Machines.{AreMachines, IsPlayed, PlaysAll}
+use Rattle.ec_runner.specs.Reported.{AreLogs, AreOutcomes, IsReport, IsSimFault}
 use Rattle.ec_runner.specs.Schedules.{Turn, outcome_after}
 
 -- at first nothing has been played
@@ -24,6 +26,12 @@ nothing_played programs run machines none each = record {
   made = record { setup = refl; entries = ap reverse none };
   each = each;
 }
+
+-- why it was not played to its end
+pub not_played : (t : Tables) (programs : List (List Command)) (schedule : List ℕ) (run : Recorded) (machines : List Machine) (fault : SimFault)
+    → PlaysAll (Err fault) t programs schedule run machines → IsSimFault t programs schedule fault
+not_played t programs schedule run machines (Ended place w) h = h
+not_played t programs schedule run machines Memory h = tt
 
 outcomes_are : (programs : List (List Command)) (n : ℕ) (turns : List Turn) (machines : List Machine) (outcomes : List Outcome) → length machines ≡ n → AreMachines programs turns machines
     → outcomes ≡ map kept_outcome machines → AreOutcomes programs n turns outcomes

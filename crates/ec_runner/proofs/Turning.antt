@@ -1,5 +1,5 @@
 -- One more turn.
-use Rattle.std.proofs.Common.{◌≡◌, ℕ, Bool, true, false, ◌==◌, List, [], ◌∷◌, ◌++◌, reverse, Option, Some, None, Ok, Err, cond, refl, sym, ◌∙◌, ap, subst, eq-eqb}
+use Rattle.std.proofs.Common.{◌≡◌, ℕ, Bool, true, false, ◌==◌, List, [], ◌∷◌, ◌++◌, reverse, Option, Some, None, Result, Ok, Err, IsOk, cond, refl, sym, ◌∙◌, ap, subst, eq-eqb}
 use Rattle.std.proofs.lemmas.List.{reverse-append}
 use Rattle.ec_count.specs.Tables.{Tables}
 use Rattle.ec_core.specs.declared.act.Act.{Act}
@@ -17,7 +17,7 @@ use Rattle.ec_machine.specs.Outcomes.{is_running, is_set, refused}
 use Rattle.ec_machine.specs.Runs.{next_act, outcome_of}
 use Rattle.ec_machine.specs.Standing.{StandsFor, kept_outcome, is_refused}
 use Rattle.ec_machine.specs.Steps.{own}
-use Rattle.ec_runner.specs.Machines.{IsMachineOf, IsRunOf, HasTurn}
+use Rattle.ec_runner.specs.Machines.{IsMachineOf, IsRunOf, HasTurn, MayTakeTurn}
 use Rattle.ec_runner.specs.Schedules.{Turn, entries_of, refusal_told, ended_by, outcome_after}
 
 running_is : (o : Outcome) → is_running o ≡ true → o ≡ outcomes.Running
@@ -100,3 +100,15 @@ turn_refused t programs turns w old new m n act r of machine running due answer 
             ∙ ap (λ o. ended_by o (outcome_of (program_at programs w) (own w (entries_of turns)))) (sym (told_now w r (refusal_told w turns)));
       };
     }
+
+-- a turn for whose step there was no memory
+pub turn_short : (t : Tables) (programs : List (List Command)) (turns : List Turn) (w : ℕ) (old : Recorded) (m : Machine) (act : Act)
+    → IsRunOf t turns old → IsMachineOf programs turns w m → is_running (kept_outcome m) ≡ true
+    → next_act (program_at programs w) (own w (entries_of turns)) ≡ Some act
+    → IsOk (answer_of old.setup (reverse old.entries) w act) → MayTakeTurn t programs turns w
+turn_short t programs turns w old m act of machine running due ok = record {
+  act = act;
+  running = sym machine.outcome ∙ running_is (kept_outcome m) running;
+  due = due;
+  answered = subst (λ (r : Result Reply Refusal). IsOk r) (sym (answer_then t turns w old act of)) ok;
+}

@@ -1,18 +1,21 @@
 -- How the run and the machines stand while a schedule is played.
-use Rattle.std.specs.Prelude.{◌≡◌, ◌≢◌, ℕ, List, ◌∷◌, reverse, slice_get, Some, Result, Ok, Err}
+use Rattle.std.specs.Prelude.{◌≡◌, ◌≢◌, ℕ, List, ◌∷◌, reverse, take, slice_get, Some, Result, Ok, Err, IsOk}
 use Rattle.ec_count.specs.Tables.{Tables}
+use Rattle.ec_core.specs.declared.act.Act.{Act}
 use Rattle.ec_core.specs.Recorded.{Recorded}
+use Rattle.ec_core.specs.Acceptance.{answer_of}
 use Rattle.ec_machine.specs.declared.command.Command.{Command}
 use Rattle.ec_machine.specs.declared.machine.Machine.{Machine}
 use Rattle.ec_machine.specs.declared.outcome.Outcome.TheVariants.{Running}
 use Rattle.ec_machine.specs.Follows.{program_at}
+use Rattle.ec_machine.specs.Runs.{next_act}
 use Rattle.ec_machine.specs.Standing.{StandsFor, kept_outcome}
 use Rattle.ec_machine.specs.Steps.{own}
 use Rattle.ec_runner.specs.declared.playing.Played.{Played}
 use Rattle.ec_runner.specs.declared.playing.Played.TheVariants as played
 use Rattle.ec_runner.specs.declared.report.SimFault.{SimFault}
-use Rattle.ec_runner.specs.Reported.{IsSimFault}
-use Rattle.ec_runner.specs.Schedules.{Turn, IsTurn, Plays, entries_of, outcome_after}
+use Rattle.ec_runner.specs.declared.report.SimFault.TheVariants.{Ended, Memory}
+use Rattle.ec_runner.specs.Schedules.{Turn, IsTurn, HasEnded, Plays, entries_of, outcome_after}
 
 -- the machine is that of w after these turns
 pub record IsMachineOf (programs : List (List Command)) (turns : List Turn) (w : ℕ) (m : Machine) : Type 0 where
@@ -36,11 +39,18 @@ pub record HasTurn (t : Tables) (programs : List (List Command)) (turns : List T
   pub made : IsRunOf t (turn ∷ turns) run
   pub machine : IsMachineOf programs (turn ∷ turns) w m
 
--- what became of the turn of w after these turns
+-- after these turns w is due a turn whose step is not refused
+pub record MayTakeTurn (t : Tables) (programs : List (List Command)) (turns : List Turn) (w : ℕ) : Type 0 where
+  pub act : Act
+  pub running : outcome_after programs w turns ≡ Running
+  pub due : next_act (program_at programs w) (own w (entries_of turns)) ≡ Some act
+  pub answered : IsOk (answer_of t (entries_of turns) w act)
+
+-- what became of the turn of w after these turns; out of memory is reported only of a turn whose step is not refused
 abbrev pub Takes : Played → Tables → List (List Command) → List Turn → ℕ → Recorded → Machine → Type 0
 Takes played.Made t programs turns w run m = HasTurn t programs turns w run m
 Takes played.Ended t programs turns w run m = outcome_after programs w turns ≢ Running
-Takes played.Memory t programs turns w run m = Unit {0}
+Takes played.Memory t programs turns w run m = MayTakeTurn t programs turns w
 
 -- the schedule was played by these turns, the newest first, and the run and the machines are those after them
 pub record IsPlayed (t : Tables) (programs : List (List Command)) (schedule : List ℕ) (turns : List Turn) (run : Recorded) (machines : List Machine) : Type 0 where
@@ -60,9 +70,19 @@ pub record HasPlayed (t : Tables) (programs : List (List Command)) (turns : List
 abbrev pub PlaysOne : Played → Tables → List (List Command) → List Turn → ℕ → Recorded → List Machine → Type 0
 PlaysOne played.Made t programs turns w run machines = HasPlayed t programs turns w run machines
 PlaysOne played.Ended t programs turns w run machines = outcome_after programs w turns ≢ Running
-PlaysOne played.Memory t programs turns w run machines = Unit {0}
+PlaysOne played.Memory t programs turns w run machines = MayTakeTurn t programs turns w
+
+-- at a place of the schedule there was no memory for a step that is not refused
+pub record LacksMemory (t : Tables) (programs : List (List Command)) (schedule : List ℕ) : Type 0 where
+  pub place : ℕ
+  pub w : ℕ
+  pub turns : List Turn
+  pub plays : Plays t programs (take place schedule) turns
+  pub named : slice_get schedule place ≡ Some w
+  pub due : MayTakeTurn t programs turns w
 
 -- what became of a schedule
 abbrev pub PlaysAll : Result Unit SimFault → Tables → List (List Command) → List ℕ → Recorded → List Machine → Type 0
 PlaysAll (Ok done) t programs schedule run machines = (turns : List Turn) × IsPlayed t programs schedule turns run machines
-PlaysAll (Err fault) t programs schedule run machines = IsSimFault t programs schedule fault
+PlaysAll (Err (Ended place w)) t programs schedule run machines = HasEnded t programs schedule place w
+PlaysAll (Err Memory) t programs schedule run machines = LacksMemory t programs schedule

@@ -18,6 +18,18 @@ returns-in-Ended c = λ t programs played.
       ended = c.in-Ended.ensures t programs so_far.0 so_far.1.made so_far.1.each;
     }
 
+pub returns-in-Memory : goal.returns-in-Memory
+returns-in-Memory c = λ t programs played.
+    let so_far = c.loop-place.invariant t programs played in
+    record {
+      place = c.loop-place.place;
+      w = c.index-schedule-place.result;
+      turns = so_far.0;
+      plays = so_far.1.plays;
+      named = slice_get-get_or _ _ c.index-schedule-place.result c.loop-place-test.true ∙ ap (λ w. Some w) (sym c.index-schedule-place.is);
+      due = c.in-Memory.ensures t programs so_far.0 so_far.1.made so_far.1.each;
+    }
+
 pub loop-place-preserved : goal.loop-place-preserved
 loop-place-preserved c = λ t programs played.
     place_more t programs c.args.schedule.now c.loop-place.place c.index-schedule-place.result _ _ _ _ c.loop-place-test.true c.index-schedule-place.is

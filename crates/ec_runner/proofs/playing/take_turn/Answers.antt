@@ -1,5 +1,5 @@
 use Rattle.std.proofs.Common.{sym}
-use Rattle.ec_runner.proofs.Turning.{not_set, turn_made, turn_refused}
+use Rattle.ec_runner.proofs.Turning.{not_set, turn_made, turn_refused, turn_short}
 use Rattle.ec_runner.proofs.playing.take_turn.Goals as goal
 
 pub returns-in-Ok : goal.returns-in-Ok
@@ -17,3 +17,10 @@ returns-in-Err-Refused c = λ t programs turns of machine.
     (sym (c.in-Some.ensures.due _ _ machine.stands (not_set _ (sym c.in-Some.ensures.some))))
     (rw c.in-Err-Refused.field-0-is at c.in-Err-Refused.ensures.answer) c.in-Err-Refused.ensures.err
     (c.refuse.ensures.stands _ _ machine.stands) c.refuse.ensures.outcome
+
+pub returns-in-Err-Memory : goal.returns-in-Err-Memory
+returns-in-Err-Memory c = λ t programs turns of machine.
+    turn_short t programs turns c.args.worker c.args.run.now c.args.machine.now c.in-Some.act of machine
+    (sym c.in-Some.ensures.some)
+    (sym (c.in-Some.ensures.due _ _ machine.stands (not_set _ (sym c.in-Some.ensures.some))))
+    (rw c.in-Err-Memory.field-0-is at c.in-Err-Memory.ensures.answer)

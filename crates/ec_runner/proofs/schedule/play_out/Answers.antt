@@ -1,10 +1,11 @@
 use Rattle.std.proofs.Common.{◌∙◌}
-use Rattle.ec_runner.proofs.Reporting.{nothing_played, all_played}
+use Rattle.ec_runner.proofs.Reporting.{nothing_played, not_played, all_played}
 use Rattle.ec_runner.proofs.schedule.play_out.Goals as goal
 
 pub returns-in-Err : goal.returns-in-Err
 returns-in-Err c = λ programs each.
-    c.in-Err.ensures c.args.run.setup programs (nothing_played programs c.args.run c.args.machines.now c.requires.empty each)
+    not_played c.args.run.setup programs c.args.schedule.now c.play_places.new.run c.play_places.new.machines c.in-Err.fault
+    (c.in-Err.ensures c.args.run.setup programs (nothing_played programs c.args.run c.args.machines.now c.requires.empty each))
 
 pub returns-in-Ok : goal.returns-in-Ok
 returns-in-Ok c = λ programs each.
