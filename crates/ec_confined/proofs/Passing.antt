@@ -141,16 +141,16 @@ told_passes turns bytes text p status old new says (trace, note, ran, appends, n
     followed_passes text
     (subst IsFollowedTrace same (ran_follows bytes p turns status trace note says ran (subst (λ l. length l ≤ TRACE_MAX) (sym same) short)))
 
-not_nothing : (text : List ℕ) (p : Planned) (status : Status) (old new : Outlets) → HasNoReport p status old new → HasWritten old new text → text ≢ [] → ⊥
-not_nothing text p status old new none w some = some (nothing_is old new text w none.says.0)
+not_nothing : (text : List ℕ) (p : Planned) (turns : ℕ) (status : Status) (old new : Outlets) → HasNoReport p turns status old new → HasWritten old new text → text ≢ [] → ⊥
+not_nothing text p turns status old new none w some = some (nothing_is old new text w none.says.0)
 
 pub ran_pass : RanTracesPass
 ran_pass turns bytes text left Done old new (p, says, told, read) w whole short = told_passes turns bytes text p Done old new says told w short
 ran_pass turns bytes text left Memory old new (inl (p, says, inl told, read)) w whole short = told_passes turns bytes text p Memory old new says told w short
-ran_pass turns bytes text left Memory old new (inl (p, says, inr none, read)) w whole short = absurd (not_nothing text p Memory old new none w whole)
+ran_pass turns bytes text left Memory old new (inl (p, says, inr none, read)) w whole short = absurd (not_nothing text p turns Memory old new none w whole)
 ran_pass turns bytes text left Memory old new (inr says) w whole short = absurd (whole (nothing_is old new text w says.0))
 ran_pass turns bytes text left Stopped old new (p, says, inl told, read) w whole short = told_passes turns bytes text p Stopped old new says told w short
-ran_pass turns bytes text left Stopped old new (p, says, inr none, read) w whole short = absurd (not_nothing text p Stopped old new none w whole)
+ran_pass turns bytes text left Stopped old new (p, says, inr none, read) w whole short = absurd (not_nothing text p turns Stopped old new none w whole)
 ran_pass turns bytes text left Refused old new runs w whole short = absurd whole
 ran_pass turns bytes text left Usage old new runs w whole short = absurd whole
 ran_pass turns bytes text left InputOutput old new runs w whole short = absurd whole

@@ -1,5 +1,5 @@
 -- What `run` has written, by what its parts have.
-use Rattle.std.proofs.Common.{◌≡◌, ◌≤◌, ◌⊎◌, inl, inr, ℕ, Bool, true, false, cond, List, length, map, reverse, Option, Some, None, IfSome, Ok, Err, refl, sym, ap, subst, ◌∙◌, arith}
+use Rattle.std.proofs.Common.{◌≡◌, ◌<◌, ◌≤◌, ◌⊎◌, inl, inr, ℕ, Bool, true, false, cond, List, length, map, reverse, Option, Some, None, IfSome, Ok, Err, refl, sym, ap, subst, ◌∙◌, arith}
 use Rattle.std.specs.Io.KnownBytes.{Appends, Keeps}
 use Rattle.std.specs.List.{list_any}
 use Rattle.ec_count.specs.Tables.{Tables}
@@ -7,7 +7,8 @@ use Rattle.ec_core.specs.Acceptance.{IsAccepted}
 use Rattle.ec_machine.specs.declared.outcome.Outcome.{Outcome}
 use Rattle.ec_heading.specs.Outlined.{HasOutline}
 use Rattle.ec_heading.specs.Spelling.{trace_text}
-use Rattle.ec_runner.specs.RunReports.{IsReportOf}
+use Rattle.ec_runner.specs.RunReports.{IsReportOf, NamesDeclared}
+use Rattle.ec_runner.specs.RunFaults.{IsRunFault}
 use Rattle.ec_runner.specs.declared.report.Report.{Report}
 use Rattle.ec_runner.specs.declared.run_fault.RunFault.{RunFault}
 use Rattle.ec_runner.specs.declared.run_fault.RunFault.TheVariants.{Mismatch, Spawn}
@@ -24,7 +25,7 @@ use Rattle.evc_engine.specs.declared.status.Status.TheVariants.{Done, Refused, U
 use Rattle.evc_engine.specs.Checks.{Outlets, Notes}
 use Rattle.ec_text.specs.Inputs.{looked_at, IsReadUp}
 use Rattle.evc_scripts.specs.OutcomeNotes.{outcomes_note}
-use Rattle.evc_scripts.specs.Runs.{HaveRun, IsTold, HasNoReport, Says, RunEnds, TextRuns, Runs, status_for, is_memory, is_cut_short, run_fault_status, run_fault_note}
+use Rattle.evc_scripts.specs.Runs.{HaveRun, IsTold, HasNoReport, NamesWorker, Says, RunEnds, TextRuns, Runs, status_for, is_memory, is_cut_short, run_fault_status, run_fault_note}
 use Rattle.evc_scripts.proofs.PlainActs.{report_spelled}
 use Rattle.evc_scripts.proofs.SimEnds.{says, refused_at}
 
@@ -69,13 +70,22 @@ told_ends p turns Refused old new t = absurd (three_ways Refused _ _ t.2.ended (
 told_ends p turns Usage old new t = absurd (three_ways Usage _ _ t.2.ended (inr (inl refl)))
 told_ends p turns InputOutput old new t = absurd (three_ways InputOutput _ _ t.2.ended (inr (inr refl)))
 
-pub fault_ends : (p : Planned) (turns : ℕ) (fault : RunFault) (s : Status) (old new : Outlets) → s ≡ run_fault_status fault → Says old new (run_fault_note p.heading fault) → RunEnds p turns s old new
-fault_ends p turns (Mismatch w) s old new is said =
-    subst (λ (k : Status). RunEnds p turns k old new) (sym is) (inr (record { fault = Mismatch w; ended = refl; says = said }))
-fault_ends p turns Spawn s old new is said =
-    subst (λ (k : Status). RunEnds p turns k old new) (sym is) (inr (record { fault = Spawn; ended = refl; says = said }))
-fault_ends p turns faults.Memory s old new is said =
-    subst (λ (k : Status). RunEnds p turns k old new) (sym is) (inr (record { fault = faults.Memory; ended = refl; says = said }))
+pub names_worker : (t : Tables) (fault : RunFault) → 0 < t.workers → NamesDeclared t fault → NamesWorker t fault
+names_worker t (Mismatch w) some named = named some
+names_worker t Spawn some named = tt
+names_worker t faults.Memory some named = tt
+
+pub fault_ends : (plan : Plan) (turns : ℕ) (fault : RunFault) (s : Status) (old new : Outlets) → IsRunFault plan.heading.setup plan.programs.items turns fault
+    → NamesWorker plan.heading.setup fault → s ≡ run_fault_status fault → Says old new (run_fault_note plan.heading fault) → RunEnds (shown_plan plan) turns s old new
+fault_ends plan turns (Mismatch w) s old new right named is said =
+    subst (λ (k : Status). RunEnds (shown_plan plan) turns k old new) (sym is)
+    (inr (record { fault = Mismatch w; programs = plan.programs.items; lines = refl; right = right; named = named; ended = refl; says = said }))
+fault_ends plan turns Spawn s old new right named is said =
+    subst (λ (k : Status). RunEnds (shown_plan plan) turns k old new) (sym is)
+    (inr (record { fault = Spawn; programs = plan.programs.items; lines = refl; right = right; named = named; ended = refl; says = said }))
+fault_ends plan turns faults.Memory s old new right named is said =
+    subst (λ (k : Status). RunEnds (shown_plan plan) turns k old new) (sym is)
+    (inr (record { fault = faults.Memory; programs = plan.programs.items; lines = refl; right = right; named = named; ended = refl; says = said }))
 
 -- THE COMMAND
 

@@ -1,7 +1,8 @@
 -- What `run` answered and wrote, for an input whose bytes are known.
-use Rattle.std.specs.Prelude.{◌≡◌, ◌⊎◌, ℕ, Bool, true, false, ◌||◌, List, reverse, Ok, Err, Option, codes, if◌then◌else◌, ◌++◌}
+use Rattle.std.specs.Prelude.{◌≡◌, ◌⊎◌, ℕ, ◌<◌, Bool, true, false, ◌||◌, List, reverse, Ok, Err, Option, codes, if◌then◌else◌, ◌++◌}
 use Rattle.std.specs.List.{list_any}
 use Rattle.std.specs.Io.KnownBytes.{Appends, Keeps}
+use Rattle.ec_count.specs.Tables.{Tables}
 use Rattle.ec_core.specs.Acceptance.{IsAccepted}
 use Rattle.ec_text.specs.Puts.{AppendsPrefix}
 use Rattle.ec_machine.specs.declared.command.Command.{Command}
@@ -17,6 +18,7 @@ use Rattle.ec_runner.specs.declared.run_fault.RunFault.TheVariants.{Mismatch, Sp
 use Rattle.ec_runner.specs.declared.run_fault.RunFault.TheVariants as faults
 use Rattle.ec_heading.specs.Headed.{Headed}
 use Rattle.ec_runner.specs.RunReports.{IsReportOf}
+use Rattle.ec_runner.specs.RunFaults.{IsRunFault}
 use Rattle.evc_engine.specs.declared.status.Status.{Status}
 use Rattle.evc_engine.specs.declared.status.Status.TheVariants.{Done, Refused, Usage, InputOutput, Memory, Stopped}
 use Rattle.evc_engine.specs.AuditTexts.{worker_word}
@@ -76,20 +78,31 @@ run_fault_note h faults.Memory = codes "no memory\n"
 abbrev pub Says : Outlets → Outlets → List ℕ → Type 0
 Says old new note = Keeps old.out new.out × Notes old new note
 
--- there is no report, for a reason of this status
-pub record HasNoReport (p : Planned) (status : Status) (old new : Outlets) : Type 0 where
+-- a mismatch names a declared worker
+abbrev pub NamesWorker : Tables → RunFault → Type 0
+NamesWorker t (Mismatch w) = w < t.workers
+NamesWorker t Spawn = Unit {0}
+NamesWorker t faults.Memory = Unit {0}
+
+-- there is no report, for a reason of this status: a mismatch is of workers that ran by the programs of the plan and ended, and
+-- names a declared one
+pub record HasNoReport (p : Planned) (turns : ℕ) (status : Status) (old new : Outlets) : Type 0 where
   pub fault : RunFault
+  pub programs : List (List Command)
+  pub lines : AreProgramsOf p programs
+  pub right : IsRunFault p.heading.setup programs turns fault
+  pub named : NamesWorker p.heading.setup fault
   pub ended : status ≡ run_fault_status fault
   pub says : Says old new (run_fault_note p.heading fault)
 
 -- how the command ended for a plan
 abbrev pub RunEnds : Planned → ℕ → Status → Outlets → Outlets → Type 0
 RunEnds p turns Done old new = IsTold p turns Done old new
-RunEnds p turns Memory old new = IsTold p turns Memory old new ⊎ HasNoReport p Memory old new
-RunEnds p turns Stopped old new = IsTold p turns Stopped old new ⊎ HasNoReport p Stopped old new
+RunEnds p turns Memory old new = IsTold p turns Memory old new ⊎ HasNoReport p turns Memory old new
+RunEnds p turns Stopped old new = IsTold p turns Stopped old new ⊎ HasNoReport p turns Stopped old new
 RunEnds p turns InputOutput old new =
     ((status : Status) × (trace note : List ℕ) × HaveRun p turns status trace note × AppendsPrefix old.out new.out trace × Notes old new (codes "write fault\n"))
-    ⊎ HasNoReport p InputOutput old new
+    ⊎ HasNoReport p turns InputOutput old new
 RunEnds p turns Refused old new = ⊥
 RunEnds p turns Usage old new = ⊥
 
