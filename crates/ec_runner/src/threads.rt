@@ -3,8 +3,8 @@ ghost use Rattle.std.specs.Prelude.{◌≡◌, ◌≢◌, ℕ, ◌+◌, ◌<◌,
 ghost use Rattle.ec_core.specs.declared.act.Entry.{Entry};
 ghost use Rattle.ec_core.specs.Procedures.{IsReply};
 ghost use Rattle.ec_machine.specs.declared.command.Command.{Command};
-ghost use Rattle.ec_machine.specs.declared.outcome.Outcome.TheVariants.{Memory};
-ghost use Rattle.ec_machine.specs.Outcomes.{is_running, is_set};
+ghost use Rattle.ec_machine.specs.declared.outcome.Outcome.TheVariants.{Memory, OutOfTurns};
+ghost use Rattle.ec_machine.specs.Outcomes.{is_running, is_set, refused};
 ghost use Rattle.ec_machine.specs.Standing.{act_of, kept_outcome};
 ghost use Rattle.ec_runner.specs.declared.told.Asked.{Asked};
 ghost use Rattle.ec_runner.specs.Holds.{FitsAct, is_sleep};
@@ -211,9 +211,10 @@ fn take_turn<R: Wait, G: Gate>(
     make_step(rt, shared, worker, machine, log)
 }
 
-/// What a worker tells once it has no more turns.
+/// What a worker tells at its end: a program that is still running is out of turns.
 fn told(log: Vec<Entry>, mut machine: Machine<'_>, asked: Option<Asked>) -> Told
-    ensures { (cs : List Command) (turns : ℕ) → Works cs machine.entry log.items → HasHad turns machine.entry log.items
+    ensures outcome { result.outcome ≡ refused (kept_outcome machine.entry) OutOfTurns }
+    ensures tells { (cs : List Command) (turns : ℕ) → Works cs machine.entry log.items → HasHad turns machine.entry log.items
         → IsAsked (kept_outcome machine.entry) cs log.items asked → IsToldOf cs turns result }
 {
     machine.refuse(Outcome::OutOfTurns);
