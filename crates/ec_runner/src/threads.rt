@@ -1,5 +1,5 @@
 //! A thread for each worker.
-ghost use Rattle.std.specs.Prelude.{◌≡◌, ◌≢◌, ℕ, ◌+◌, ◌<◌, ◌≤◌, nat_lt, true, false, List, [], length, Some, vec_len, vec_capacity};
+ghost use Rattle.std.specs.Prelude.{◌≡◌, ◌≢◌, ℕ, ◌+◌, ◌<◌, ◌≤◌, nat_lt, true, false, List, [], ◌∷◌, ◌++◌, length, Some, vec_len, vec_capacity};
 ghost use Rattle.ec_core.specs.declared.act.Entry.{Entry};
 ghost use Rattle.ec_core.specs.Procedures.{IsReply};
 ghost use Rattle.ec_machine.specs.declared.command.Command.{Command};
@@ -7,7 +7,7 @@ ghost use Rattle.ec_machine.specs.declared.outcome.Outcome.TheVariants.{Memory, 
 ghost use Rattle.ec_machine.specs.Outcomes.{is_running, is_set, refused};
 ghost use Rattle.ec_machine.specs.Standing.{act_of, kept_outcome};
 ghost use Rattle.ec_runner.specs.declared.told.Asked.{Asked};
-ghost use Rattle.ec_runner.specs.Holds.{FitsAct, is_sleep};
+ghost use Rattle.ec_runner.specs.Holds.{FitsAct, IsTaken, is_sleep};
 ghost use Rattle.ec_runner.specs.Promised.{IsFor, AreFor};
 ghost use Rattle.ec_runner.specs.Works.{IsStop, Works, HasHad, IsAsked, IsToldOf};
 
@@ -92,7 +92,7 @@ fn hold_locked<R: Wait, G>(
     log: &[Entry],
 ) -> Next
     ensures kind { FitsAct result act }
-    ensures last { is_sleep result ≡ true → length log.now + 1 < shared.turns }
+    ensures last { is_sleep result ≡ true → length log.now + 1 < shared.entry.turns }
 {
     let sleeps = shared.sleeps;
     let may_park = has_turn_after_next(log, shared.turns);
@@ -145,6 +145,7 @@ fn take(machine: &mut Machine<'_>, log: &mut Vec<Entry>, worker: WorkerId, act: 
     requires kind { IsReply act.now reply }
     ensures works { (cs : List Command) → Works cs machine.old log.old.items → Works cs machine.new log.new.items }
     ensures unset { is_set (kept_outcome machine.new) ≡ false }
+    ensures entry { log.new.items ≡ log.old.items ++ record { worker = worker; act = act.now; reply = reply } ∷ [] }
     ensures len { vec_len log.new ≡ vec_len log.old + 1 }
 {
     log.push_reserved(Entry {
@@ -153,6 +154,36 @@ fn take(machine: &mut Machine<'_>, log: &mut Vec<Entry>, worker: WorkerId, act: 
         reply,
     });
     machine.take(reply);
+}
+
+/// Takes what comes next: the reply, or the end of the program. Returns what was asked for, where there
+/// was no reply.
+fn take_next(
+    machine: &mut Machine<'_>,
+    log: &mut Vec<Entry>,
+    worker: WorkerId,
+    act: &Act,
+    next: &Next,
+) -> Option<Asked>
+    requires room { vec_len log.old < vec_capacity log.old }
+    requires due { act_of machine.old ≡ Some act.now }
+    requires running { is_running (kept_outcome machine.old) ≡ true }
+    requires kind { FitsAct next.now act.now }
+    ensures taken { IsTaken next.now worker act.now log.old.items log.new.items (kept_outcome machine.new) result }
+    ensures works { (cs : List Command) → Works cs machine.old log.old.items → Works cs machine.new log.new.items }
+    ensures had { HasHad (length log.old.items + 1) machine.new log.new.items }
+    ensures asked { (cs : List Command) → Works cs machine.old log.old.items → IsAsked (kept_outcome machine.new) cs log.new.items result }
+{
+    match *next {
+        Next::GoOn(reply) | Next::Sleep(reply) => {
+            take(machine, log, worker, act, reply);
+            None
+        }
+        Next::Leave(outcome, moment) => {
+            stop(machine, outcome);
+            Some(Asked { act: *act, moment })
+        }
+    }
 }
 
 /// The step that the program asks for, for whose entry the log has room. Returns what was asked for,
@@ -171,16 +202,8 @@ fn make_step<R: Wait, G>(
     ensures asked { (cs : List Command) → Works cs machine.old log.old.items → IsAsked (kept_outcome machine.new) cs log.new.items result }
 {
     let act = machine.next()?;
-    match hold_locked(rt, shared, worker, act, log.as_slice()) {
-        Next::GoOn(reply) | Next::Sleep(reply) => {
-            take(machine, log, worker, &act, reply);
-            None
-        }
-        Next::Leave(outcome, moment) => {
-            stop(machine, outcome);
-            Some(Asked { act, moment })
-        }
-    }
+    let next = hold_locked(rt, shared, worker, act, log.as_slice());
+    take_next(machine, log, worker, &act, &next)
 }
 
 /// One turn of a worker: the log grows, then comes the step that the program asks for. `steps` counts
