@@ -70,8 +70,8 @@ told_ends p turns Refused old new t = absurd (three_ways Refused _ _ t.2.ended (
 told_ends p turns Usage old new t = absurd (three_ways Usage _ _ t.2.ended (inr (inl refl)))
 told_ends p turns InputOutput old new t = absurd (three_ways InputOutput _ _ t.2.ended (inr (inr refl)))
 
-pub names_worker : (t : Tables) (fault : RunFault) → 0 < t.workers → NamesDeclared t fault → NamesWorker t fault
-names_worker t (Mismatch w) some named = named some
+pub names_worker : (t : Tables) (fault : RunFault) → 1 ≤ t.workers → NamesDeclared t fault → NamesWorker t fault
+names_worker t (Mismatch w) some named = (let one : 0 < t.workers = omega (arith, some) in named one)
 names_worker t Spawn some named = tt
 names_worker t faults.Memory some named = tt
 
