@@ -1,5 +1,5 @@
 -- What is told of a schedule that was played.
-use Rattle.std.proofs.Common.{◌≡◌, ℕ, List, [], ◌∷◌, length, map, reverse, get_or, Some, Err, Vec, Global, refl, sym, ◌∙◌, ap, subst, arith}
+use Rattle.std.proofs.Common.{◌≡◌, ℕ, List, [], ◌∷◌, length, map, reverse, get_or, Some, Result, Ok, Err, MatchResult, inl, inr, Vec, Global, refl, sym, ◌∙◌, ap, subst, arith}
 use Rattle.std.specs.Prelude.{slice_get}
 use Rattle.std.specs.Option.{option_map}
 use Rattle.std.proofs.lemmas.Option.{slice_get-get_or, slice_get-map}
@@ -14,7 +14,7 @@ use Rattle.ec_machine.specs.Standing.{kept_outcome}
 use Rattle.ec_runner.specs.declared.report.Report.{Report}
 use Rattle.ec_runner.specs.declared.report.SimFault.{SimFault}
 use Rattle.ec_runner.specs.declared.report.SimFault.TheVariants.{Ended, Memory}
-use Rattle.ec_runner.specs.Machines.{AreMachines, IsPlayed, PlaysAll}
+use Rattle.ec_runner.specs.Machines.{AreMachines, IsPlayed, IsPlayFault, PlaysAll}
 use Rattle.ec_runner.specs.Reported.{AreLogs, AreOutcomes, IsReport, IsSimFault}
 use Rattle.ec_runner.specs.Schedules.{Turn, outcome_after}
 
@@ -29,9 +29,20 @@ nothing_played programs run machines none each = record {
 
 -- why it was not played to its end
 pub not_played : (t : Tables) (programs : List (List Command)) (schedule : List ℕ) (run : Recorded) (machines : List Machine) (fault : SimFault)
-    → PlaysAll (Err fault) t programs schedule run machines → IsSimFault t programs schedule fault
+    → PlaysAll (Err fault) t programs schedule run machines → IsPlayFault t programs schedule fault
 not_played t programs schedule run machines (Ended place w) h = h
-not_played t programs schedule run machines Memory h = tt
+not_played t programs schedule run machines Memory h = inl h
+
+-- it was, and there is no report
+pub not_reported : (t : Tables) (programs : List (List Command)) (schedule : List ℕ) (run : Recorded) (machines : List Machine)
+    → (turns : List Turn) × IsPlayed t programs schedule turns run machines → IsPlayFault t programs schedule Memory
+not_reported t programs schedule run machines so_far = inr (so_far.0, so_far.1.plays)
+
+pub play_answers : (t : Tables) (programs : List (List Command)) (schedule : List ℕ) (r : Result Report SimFault)
+    → MatchResult r (IsReport t programs schedule) (IsPlayFault t programs schedule) → MatchResult r (IsReport t programs schedule) (IsSimFault t programs schedule)
+play_answers t programs schedule (Ok r) h = h
+play_answers t programs schedule (Err (Ended place w)) h = h
+play_answers t programs schedule (Err Memory) h = tt
 
 outcomes_are : (programs : List (List Command)) (n : ℕ) (turns : List Turn) (machines : List Machine) (outcomes : List Outcome) → length machines ≡ n → AreMachines programs turns machines
     → outcomes ≡ map kept_outcome machines → AreOutcomes programs n turns outcomes

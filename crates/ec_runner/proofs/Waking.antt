@@ -157,17 +157,37 @@ not_asleep : (x y : Bool) → x ≡ false → (x && y) ≡ false
 not_asleep true y h = cc
 not_asleep false y h = refl
 
+stays_up : (seats : List Seat) (w : ℕ) → is_waiting (seat_of (slice_set seats w Running) w) ≡ false
+stays_up [] w = refl
+stays_up (s ∷ seats) zero = refl
+stays_up (s ∷ seats) (suc w) = stays_up seats w
+
+-- who made a step runs
+runs_after : (act : Act) (past : List Entry) (seats : List Seat) (w : ℕ) → is_waiting (seat_of (woken act past (slice_set seats w Running)) w) ≡ false
+runs_after (acts.Advance e) past seats w = runs_on e (total e past) seats w
+runs_after (acts.Read e) past seats w = stays_up seats w
+runs_after (acts.Await e v) past seats w = stays_up seats w
+runs_after acts.Go past seats w = stays_up seats w
+runs_after (acts.Ticket q) past seats w = stays_up seats w
+runs_after (acts.Put x v) past seats w = stays_up seats w
+runs_after (acts.Get x) past seats w = stays_up seats w
+runs_after (acts.Hand e c) past seats w = stays_up seats w
+
+unparked : (b d : Boarded) (w : ℕ) (act : Act) (reply : Reply) → d ≡ after_entry b (record { worker = w; act = act; reply = reply }) → is_asleep d w ≡ false
+unparked b d w act reply after =
+    let x : Entry = record { worker = w; act = act; reply = reply } in
+    not_asleep (is_waiting (seat_of d.seats w)) (not d.stuck)
+    (ap (λ (c : Boarded). is_waiting (seat_of c.seats w)) after ∙ runs_after act (reverse (b.run.entries ++ x ∷ [])) b.seats w)
+
 awake : (b d : Boarded) (w e : ℕ) (may_park : Bool) (reply : Reply) → IsMade reply b w (acts.Advance e) may_park d → is_asleep d w ≡ false
 awake b d w e may_park reply made =
     let x : Entry = record { worker = w; act = acts.Advance e; reply = reply } in
-    let entries : List Entry = b.run.entries ++ x ∷ [] in
     let after : d ≡ after_entry b x =
     made.board ∙ (elim may_park as (λ (t : Bool). cond (t && is_pending reply) (parked (after_entry b x) w) (after_entry b x) ≡ after_entry b x) [
       | true ↦ ap (λ (r : Reply). cond (is_pending r) (parked (after_entry b x) w) (after_entry b x)) made.kind
       | false ↦ refl
     ]) in
-    not_asleep (is_waiting (seat_of d.seats w)) (not d.stuck)
-    (ap (λ (c : Boarded). is_waiting (seat_of c.seats w)) after ∙ runs_on e (total e (reverse entries)) b.seats w)
+    unparked b d w (acts.Advance e) reply after
 
 -- who made an advance doesn't go to sleep
 pub advancer_awake : (n : Next) (b d : Boarded) (w : ℕ) (act : Act) (may_park : Bool) → is_awaited act b.seats ≡ true → IsNext n b w act may_park d → is_sleep n ≡ false
@@ -192,3 +212,10 @@ pub asleep_free : (n : Next) (b d : Boarded) (w : ℕ) (act : Act) (may_park : B
 asleep_free (next.GoOn reply) b d w act may_park h s = cc
 asleep_free (next.Leave outcome moment) b d w act may_park h s = cc
 asleep_free (next.Sleep reply) b d w act may_park h s = free_below (is_waiting (seat_of d.seats w)) d.stuck h.1
+
+-- who may not wait doesn't go to sleep
+pub may_sleep : (n : Next) (b d : Boarded) (w : ℕ) (act : Act) (may_park : Bool) → IsNext n b w act may_park d → is_sleep n ≡ true → may_park ≡ true
+may_sleep (next.GoOn reply) b d w act may_park h s = cc
+may_sleep (next.Leave outcome moment) b d w act may_park h s = cc
+may_sleep (next.Sleep reply) b d w act true h s = refl
+may_sleep (next.Sleep reply) b d w act false h s = (let no = unparked b d w act reply h.0.board in let yes = h.1 in cc)

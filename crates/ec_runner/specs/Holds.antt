@@ -1,8 +1,9 @@
 -- One hold of a board by a worker.
-use Rattle.std.specs.Prelude.{◌≡◌, ℕ, ◌<◌, Bool, true, false, ◌==◌, ◌&&◌, not, List, length, Option, Some, None, Ok, Err, IsOk, if◌then◌else◌, slice_get}
+use Rattle.std.specs.Prelude.{◌≡◌, ℕ, ◌<◌, Bool, true, false, ◌==◌, ◌&&◌, not, List, [], ◌∷◌, ◌++◌, length, Option, Some, None, Ok, Err, IsOk, if◌then◌else◌, slice_get}
 use Rattle.std.specs.List.{list_any}
 use Rattle.ec_core.specs.declared.act.Act.{Act}
 use Rattle.ec_core.specs.declared.act.Act.TheVariants.{Advance}
+use Rattle.ec_core.specs.declared.act.Entry.{Entry}
 use Rattle.ec_core.specs.declared.act.Reply.{Reply}
 use Rattle.ec_core.specs.Calls.{is_pending}
 use Rattle.ec_core.specs.Procedures.{IsReply}
@@ -11,6 +12,7 @@ use Rattle.ec_machine.specs.declared.outcome.Outcome.TheVariants as outcomes
 use Rattle.ec_runner.specs.declared.seat.Seat.{Seat}
 use Rattle.ec_runner.specs.declared.seat.Seat.TheVariants.{Waiting}
 use Rattle.ec_runner.specs.declared.wait.Wait.{Wait}
+use Rattle.ec_runner.specs.declared.told.Asked.{Asked}
 use Rattle.ec_runner.specs.declared.holding.Next.{Next}
 use Rattle.ec_runner.specs.declared.holding.Next.TheVariants as next
 use Rattle.ec_runner.specs.Seated.{is_waiting, seat_of}
@@ -82,3 +84,10 @@ abbrev pub is_sleep : Next → Bool
 is_sleep (next.GoOn reply) = false
 is_sleep (next.Sleep reply) = true
 is_sleep (next.Leave outcome moment) = false
+
+-- what w makes of what comes next, by its log and how its program stands: the reply is in the log; or the program has ended so, and
+-- w keeps what it asked for, and when
+abbrev pub IsTaken : Next → ℕ → Act → List Entry → List Entry → Outcome → Option Asked → Type 0
+IsTaken (next.GoOn reply) w act old new o asked = (new ≡ old ++ record { worker = w; act = act; reply = reply } ∷ []) × (asked ≡ None)
+IsTaken (next.Sleep reply) w act old new o asked = (new ≡ old ++ record { worker = w; act = act; reply = reply } ∷ []) × (asked ≡ None)
+IsTaken (next.Leave outcome moment) w act old new o asked = (new ≡ old) × (o ≡ outcome) × (asked ≡ Some (record { act = act; moment = moment }))

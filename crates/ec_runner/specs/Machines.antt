@@ -1,5 +1,5 @@
 -- How the run and the machines stand while a schedule is played.
-use Rattle.std.specs.Prelude.{◌≡◌, ◌≢◌, ℕ, List, ◌∷◌, reverse, take, slice_get, Some, Result, Ok, Err, IsOk}
+use Rattle.std.specs.Prelude.{◌≡◌, ◌≢◌, ◌⊎◌, ℕ, List, ◌∷◌, reverse, take, slice_get, Some, Result, Ok, Err, IsOk}
 use Rattle.ec_count.specs.Tables.{Tables}
 use Rattle.ec_core.specs.declared.act.Act.{Act}
 use Rattle.ec_core.specs.Recorded.{Recorded}
@@ -86,3 +86,9 @@ abbrev pub PlaysAll : Result Unit SimFault → Tables → List (List Command) �
 PlaysAll (Ok done) t programs schedule run machines = (turns : List Turn) × IsPlayed t programs schedule turns run machines
 PlaysAll (Err (Ended place w)) t programs schedule run machines = HasEnded t programs schedule place w
 PlaysAll (Err Memory) t programs schedule run machines = LacksMemory t programs schedule
+
+-- why machines gave no report of a schedule: it names one that has ended, or there was no memory for a step that is not refused or,
+-- once all places were played, for the report
+abbrev pub IsPlayFault : Tables → List (List Command) → List ℕ → SimFault → Type 0
+IsPlayFault t programs schedule (Ended place w) = HasEnded t programs schedule place w
+IsPlayFault t programs schedule Memory = LacksMemory t programs schedule ⊎ ((turns : List Turn) × Plays t programs schedule turns)

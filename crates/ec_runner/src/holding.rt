@@ -149,8 +149,9 @@ fn advance(board: &mut Board, worker: WorkerId, act: Act, may_park: bool) -> Hel
 /// One hold of the board: a step and, after an await that fell short, where the worker may wait, the
 /// wait. Only an advance of what somebody waits for, and a wait by which the board comes to be stuck,
 /// can wake others, and only then is it looked who sleeps. Where the worker goes to sleep nobody is
-/// woken.
+/// woken; and it does so only where it may.
 pub(crate) fn hold(board: &mut Board, worker: WorkerId, act: Act, may_park: bool) -> Held
+    ensures last { is_sleep result.next ≡ true → may_park ≡ true }
     ensures none { is_sleep result.next ≡ true → result.woken ≡ None }
     ensures next { IsNext result.next board.old worker act may_park board.new }
     ensures kind { FitsAct result.next act }

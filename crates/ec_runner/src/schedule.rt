@@ -6,7 +6,7 @@ ghost use Rattle.ec_core.specs.declared.act.Entry.{Entry};
 ghost use Rattle.ec_machine.specs.declared.command.Command.{Command};
 ghost use Rattle.ec_machine.specs.declared.machine.Machine.{Machine};
 ghost use Rattle.ec_machine.specs.Standing.{kept_outcome};
-ghost use Rattle.ec_runner.specs.Machines.{AreMachines};
+ghost use Rattle.ec_runner.specs.Machines.{AreMachines, IsPlayFault};
 ghost use Rattle.ec_runner.specs.Reported.{AreLogs, IsReport, IsSimFault};
 
 use crate::logs::logs_of;
@@ -67,7 +67,7 @@ fn play_out(
     requires machines { length machines.old ≡ run.setup.workers }
     requires schedule { All (λ w. w < run.setup.workers) schedule.now }
     ensures { (programs : List (List Command)) → AreMachines programs [] machines.old
-        → MatchResult result (IsReport run.setup programs schedule.now) (IsSimFault run.setup programs schedule.now) }
+        → MatchResult result (IsReport run.setup programs schedule.now) (IsPlayFault run.setup programs schedule.now) }
 {
     if let Err(fault) = play_places(&mut run, machines, schedule) {
         return Err(fault);

@@ -1,13 +1,13 @@
 //! A thread for each worker.
-ghost use Rattle.std.specs.Prelude.{◌≡◌, ◌≢◌, ℕ, ◌+◌, ◌<◌, ◌≤◌, nat_lt, true, false, List, [], length, Some, vec_len, vec_capacity};
+ghost use Rattle.std.specs.Prelude.{◌≡◌, ◌≢◌, ℕ, ◌+◌, ◌<◌, ◌≤◌, nat_lt, true, false, List, [], ◌∷◌, ◌++◌, length, Some, vec_len, vec_capacity};
 ghost use Rattle.ec_core.specs.declared.act.Entry.{Entry};
 ghost use Rattle.ec_core.specs.Procedures.{IsReply};
 ghost use Rattle.ec_machine.specs.declared.command.Command.{Command};
-ghost use Rattle.ec_machine.specs.declared.outcome.Outcome.TheVariants.{Memory};
-ghost use Rattle.ec_machine.specs.Outcomes.{is_running, is_set};
+ghost use Rattle.ec_machine.specs.declared.outcome.Outcome.TheVariants.{Memory, OutOfTurns};
+ghost use Rattle.ec_machine.specs.Outcomes.{is_running, is_set, refused};
 ghost use Rattle.ec_machine.specs.Standing.{act_of, kept_outcome};
 ghost use Rattle.ec_runner.specs.declared.told.Asked.{Asked};
-ghost use Rattle.ec_runner.specs.Holds.{FitsAct};
+ghost use Rattle.ec_runner.specs.Holds.{FitsAct, IsTaken, is_sleep};
 ghost use Rattle.ec_runner.specs.Promised.{IsFor, AreFor};
 ghost use Rattle.ec_runner.specs.Works.{IsStop, Works, HasHad, IsAsked, IsToldOf};
 
@@ -75,18 +75,27 @@ fn wake_some(sleeps: &[Condvar], woken: &Option<[bool; 16]>) {
     }
 }
 
-/// One hold of the lock and, where the worker is to wait, the sleep. The others are woken once the
-/// lock is free; a worker that goes to sleep wakes nobody.
+/// Whether a worker whose steps are in its log has a turn left after the next one.
+fn has_turn_after_next(log: &[Entry], turns: u64) -> bool
+    ensures { result ≡ nat_lt (length log.now + 1) turns }
+{
+    (log.len() as u64) < turns.saturating_sub(1)
+}
+
+/// One hold of the lock and, where the worker is to wait, the sleep: in its last turn a worker doesn't
+/// wait. The others are woken once the lock is free; a worker that goes to sleep wakes nobody.
 fn hold_locked<R: Wait, G>(
     rt: &R,
     shared: Shared<'_, G>,
     worker: WorkerId,
     act: Act,
-    may_park: bool,
+    log: &[Entry],
 ) -> Next
-    ensures { FitsAct result act }
+    ensures kind { FitsAct result act }
+    ensures last { is_sleep result ≡ true → length log.now + 1 < shared.entry.turns }
 {
     let sleeps = shared.sleeps;
+    let may_park = has_turn_after_next(log, shared.turns);
     let mut guard = locked(rt, shared.board);
     let held = hold(&mut *guard, worker, act, may_park);
     match held.next {
@@ -136,6 +145,7 @@ fn take(machine: &mut Machine<'_>, log: &mut Vec<Entry>, worker: WorkerId, act: 
     requires kind { IsReply act.now reply }
     ensures works { (cs : List Command) → Works cs machine.old log.old.items → Works cs machine.new log.new.items }
     ensures unset { is_set (kept_outcome machine.new) ≡ false }
+    ensures entry { log.new.items ≡ log.old.items ++ record { worker = worker; act = act.now; reply = reply } ∷ [] }
     ensures len { vec_len log.new ≡ vec_len log.old + 1 }
 {
     log.push_reserved(Entry {
@@ -146,38 +156,58 @@ fn take(machine: &mut Machine<'_>, log: &mut Vec<Entry>, worker: WorkerId, act: 
     machine.take(reply);
 }
 
+/// Takes what comes next: the reply, or the end of the program. Returns what was asked for, where there
+/// was no reply.
+fn take_next(
+    machine: &mut Machine<'_>,
+    log: &mut Vec<Entry>,
+    worker: WorkerId,
+    act: &Act,
+    next: &Next,
+) -> Option<Asked>
+    requires room { vec_len log.old < vec_capacity log.old }
+    requires due { act_of machine.old ≡ Some act.now }
+    requires running { is_running (kept_outcome machine.old) ≡ true }
+    requires kind { FitsAct next.now act.now }
+    ensures taken { IsTaken next.now worker act.now log.old.items log.new.items (kept_outcome machine.new) result }
+    ensures works { (cs : List Command) → Works cs machine.old log.old.items → Works cs machine.new log.new.items }
+    ensures had { HasHad (length log.old.items + 1) machine.new log.new.items }
+    ensures asked { (cs : List Command) → Works cs machine.old log.old.items → IsAsked (kept_outcome machine.new) cs log.new.items result }
+{
+    match *next {
+        Next::GoOn(reply) | Next::Sleep(reply) => {
+            take(machine, log, worker, act, reply);
+            None
+        }
+        Next::Leave(outcome, moment) => {
+            stop(machine, outcome);
+            Some(Asked { act: *act, moment })
+        }
+    }
+}
+
 /// The step that the program asks for, for whose entry the log has room. Returns what was asked for,
-/// where there was no reply. The worker may wait exactly where it has a turn left after this one.
+/// where there was no reply.
 fn make_step<R: Wait, G>(
     rt: &R,
     shared: Shared<'_, G>,
     worker: WorkerId,
-    may_park: bool,
     machine: &mut Machine<'_>,
     log: &mut Vec<Entry>,
 ) -> Option<Asked>
     requires room { vec_len log.old < vec_capacity log.old }
-    requires last { may_park ≡ nat_lt (length log.old.items + 1) shared.turns }
     requires running { is_running (kept_outcome machine.old) ≡ true }
     ensures works { (cs : List Command) → Works cs machine.old log.old.items → Works cs machine.new log.new.items }
     ensures had { HasHad (length log.old.items + 1) machine.new log.new.items }
     ensures asked { (cs : List Command) → Works cs machine.old log.old.items → IsAsked (kept_outcome machine.new) cs log.new.items result }
 {
     let act = machine.next()?;
-    match hold_locked(rt, shared, worker, act, may_park) {
-        Next::GoOn(reply) | Next::Sleep(reply) => {
-            take(machine, log, worker, &act, reply);
-            None
-        }
-        Next::Leave(outcome, moment) => {
-            stop(machine, outcome);
-            Some(Asked { act, moment })
-        }
-    }
+    let next = hold_locked(rt, shared, worker, act, log.as_slice());
+    take_next(machine, log, worker, &act, &next)
 }
 
-/// One turn of a worker: the log grows, then comes the step that the program asks for. After the last
-/// turn the worker doesn't wait. `steps` counts the steps that it has asked for.
+/// One turn of a worker: the log grows, then comes the step that the program asks for. `steps` counts
+/// the steps that it has asked for.
 fn take_turn<R: Wait, G: Gate>(
     rt: &R,
     shared: Shared<'_, G>,
@@ -201,12 +231,13 @@ fn take_turn<R: Wait, G: Gate>(
     }
     shared.gate.before(worker, *steps);
     *steps += 1;
-    make_step(rt, shared, worker, *steps < shared.turns, machine, log)
+    make_step(rt, shared, worker, machine, log)
 }
 
-/// What a worker tells once it has no more turns.
+/// What a worker tells at its end: a program that is still running is out of turns.
 fn told(log: Vec<Entry>, mut machine: Machine<'_>, asked: Option<Asked>) -> Told
-    ensures { (cs : List Command) (turns : ℕ) → Works cs machine.entry log.items → HasHad turns machine.entry log.items
+    ensures outcome { result.outcome ≡ refused (kept_outcome machine.entry) OutOfTurns }
+    ensures tells { (cs : List Command) (turns : ℕ) → Works cs machine.entry log.items → HasHad turns machine.entry log.items
         → IsAsked (kept_outcome machine.entry) cs log.items asked → IsToldOf cs turns result }
 {
     machine.refuse(Outcome::OutOfTurns);

@@ -1,5 +1,5 @@
 -- What `run` has written, by what its parts have.
-use Rattle.std.proofs.Common.{◌≡◌, ◌≤◌, ◌⊎◌, inl, inr, ℕ, Bool, true, false, cond, List, length, map, reverse, Option, Some, None, IfSome, Ok, Err, refl, sym, ap, subst, ◌∙◌, arith}
+use Rattle.std.proofs.Common.{◌≡◌, ◌<◌, ◌≤◌, ◌⊎◌, inl, inr, ℕ, Bool, true, false, cond, List, length, map, reverse, Option, Some, None, IfSome, Ok, Err, refl, sym, ap, subst, ◌∙◌, arith}
 use Rattle.std.specs.Io.KnownBytes.{Appends, Keeps}
 use Rattle.std.specs.List.{list_any}
 use Rattle.ec_count.specs.Tables.{Tables}
@@ -25,7 +25,7 @@ use Rattle.evc_engine.specs.declared.status.Status.TheVariants.{Done, Refused, U
 use Rattle.evc_engine.specs.Checks.{Outlets, Notes}
 use Rattle.ec_text.specs.Inputs.{looked_at, IsReadUp}
 use Rattle.evc_scripts.specs.OutcomeNotes.{outcomes_note}
-use Rattle.evc_scripts.specs.Runs.{HaveRun, IsTold, HasNoReport, Says, RunEnds, TextRuns, Runs, status_for, is_memory, is_cut_short, run_fault_status, run_fault_note}
+use Rattle.evc_scripts.specs.Runs.{HaveRun, IsTold, HasNoReport, NamesWorker, Says, RunEnds, TextRuns, Runs, status_for, is_memory, is_cut_short, run_fault_status, run_fault_note}
 use Rattle.evc_scripts.proofs.PlainActs.{report_spelled}
 use Rattle.evc_scripts.proofs.SimEnds.{says, refused_at}
 
@@ -70,8 +70,13 @@ told_ends p turns Refused old new t = absurd (three_ways Refused _ _ t.2.ended (
 told_ends p turns Usage old new t = absurd (three_ways Usage _ _ t.2.ended (inr (inl refl)))
 told_ends p turns InputOutput old new t = absurd (three_ways InputOutput _ _ t.2.ended (inr (inr refl)))
 
+pub names_worker : (t : Tables) (fault : RunFault) → 1 ≤ t.workers → NamesDeclared t fault → NamesWorker t fault
+names_worker t (Mismatch w) some named = (let one : 0 < t.workers = omega (arith, some) in named one)
+names_worker t Spawn some named = tt
+names_worker t faults.Memory some named = tt
+
 pub fault_ends : (plan : Plan) (turns : ℕ) (fault : RunFault) (s : Status) (old new : Outlets) → IsRunFault plan.heading.setup plan.programs.items turns fault
-    → NamesDeclared plan.heading.setup fault → s ≡ run_fault_status fault → Says old new (run_fault_note plan.heading fault) → RunEnds (shown_plan plan) turns s old new
+    → NamesWorker plan.heading.setup fault → s ≡ run_fault_status fault → Says old new (run_fault_note plan.heading fault) → RunEnds (shown_plan plan) turns s old new
 fault_ends plan turns (Mismatch w) s old new right named is said =
     subst (λ (k : Status). RunEnds (shown_plan plan) turns k old new) (sym is)
     (inr (record { fault = Mismatch w; programs = plan.programs.items; lines = refl; right = right; named = named; ended = refl; says = said }))

@@ -1,7 +1,8 @@
 -- What `run` answered and wrote, for an input whose bytes are known.
-use Rattle.std.specs.Prelude.{◌≡◌, ◌⊎◌, ℕ, Bool, true, false, ◌||◌, List, reverse, Ok, Err, Option, codes, if◌then◌else◌, ◌++◌}
+use Rattle.std.specs.Prelude.{◌≡◌, ◌⊎◌, ℕ, ◌<◌, Bool, true, false, ◌||◌, List, reverse, Ok, Err, Option, codes, if◌then◌else◌, ◌++◌}
 use Rattle.std.specs.List.{list_any}
 use Rattle.std.specs.Io.KnownBytes.{Appends, Keeps}
+use Rattle.ec_count.specs.Tables.{Tables}
 use Rattle.ec_core.specs.Acceptance.{IsAccepted}
 use Rattle.ec_text.specs.Puts.{AppendsPrefix}
 use Rattle.ec_machine.specs.declared.command.Command.{Command}
@@ -16,7 +17,7 @@ use Rattle.ec_runner.specs.declared.run_fault.RunFault.{RunFault}
 use Rattle.ec_runner.specs.declared.run_fault.RunFault.TheVariants.{Mismatch, Spawn}
 use Rattle.ec_runner.specs.declared.run_fault.RunFault.TheVariants as faults
 use Rattle.ec_heading.specs.Headed.{Headed}
-use Rattle.ec_runner.specs.RunReports.{IsReportOf, NamesDeclared}
+use Rattle.ec_runner.specs.RunReports.{IsReportOf}
 use Rattle.ec_runner.specs.RunFaults.{IsRunFault}
 use Rattle.evc_engine.specs.declared.status.Status.{Status}
 use Rattle.evc_engine.specs.declared.status.Status.TheVariants.{Done, Refused, Usage, InputOutput, Memory, Stopped}
@@ -77,6 +78,12 @@ run_fault_note h faults.Memory = codes "no memory\n"
 abbrev pub Says : Outlets → Outlets → List ℕ → Type 0
 Says old new note = Keeps old.out new.out × Notes old new note
 
+-- a mismatch names a declared worker
+abbrev pub NamesWorker : Tables → RunFault → Type 0
+NamesWorker t (Mismatch w) = w < t.workers
+NamesWorker t Spawn = Unit {0}
+NamesWorker t faults.Memory = Unit {0}
+
 -- there is no report, for a reason of this status: a mismatch is of workers that ran by the programs of the plan and ended, and
 -- names a declared one
 pub record HasNoReport (p : Planned) (turns : ℕ) (status : Status) (old new : Outlets) : Type 0 where
@@ -84,7 +91,7 @@ pub record HasNoReport (p : Planned) (turns : ℕ) (status : Status) (old new : 
   pub programs : List (List Command)
   pub lines : AreProgramsOf p programs
   pub right : IsRunFault p.heading.setup programs turns fault
-  pub named : NamesDeclared p.heading.setup fault
+  pub named : NamesWorker p.heading.setup fault
   pub ended : status ≡ run_fault_status fault
   pub says : Says old new (run_fault_note p.heading fault)
 

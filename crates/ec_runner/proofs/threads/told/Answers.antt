@@ -5,8 +5,11 @@ use Rattle.ec_runner.specs.Works.{IsAsked}
 use Rattle.ec_runner.proofs.Working.{ends_so, asked_still}
 use Rattle.ec_runner.proofs.threads.told.Goals as goal
 
-pub returns : goal.returns
-returns c = λ cs turns works had asked.
+pub returns-clause-outcome : goal.returns-clause-outcome
+returns-clause-outcome c = c.outcome.ensures.value ∙ c.refuse.ensures.outcome
+
+pub returns-clause-tells : goal.returns-clause-tells
+returns-clause-tells c = λ cs turns works had asked.
     (let is = c.outcome.ensures.value ∙ c.refuse.ensures.outcome in
     record {
       follows = works.stands.run;
