@@ -1,0 +1,1 @@
+"""What bin/theorem and bin/contracts read: definitions, sources, and where the names in them lead."""
