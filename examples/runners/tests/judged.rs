@@ -77,5 +77,5 @@ impl evc_stress::Eventcount for Mine {
 
 #[test]
 fn rounds() {
-    evc_stress::Stress::default().run::<Mine>().unwrap();
+    evc_stress::Stress { rounds: 100, ..Default::default() }.run::<Mine>().unwrap();
 }
