@@ -3,8 +3,9 @@
 #     .\" TABLE PAGE [COLUMNS] | HEAD | HEAD ..
 #
 # of the man page names a table by its page and its first line. Each row becomes a paragraph: the first column, and
-# indented the second; of a further column a line begins with its head. COLUMNS, as 2,4, takes only these, in that order.
-# A row without a first column goes on with the paragraph before it. A table that is not there ends it with status 1.
+# indented the second; of a further column a line begins with its head. COLUMNS, as 2,4, takes only these, in that
+# order. A row without a first column goes on with the paragraph before it. A table that is not there ends this with
+# status 1.
 
 function fail(what) {
     print FILENAME ": " what > "/dev/stderr"
