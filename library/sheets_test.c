@@ -1,11 +1,12 @@
 /* A test of one's own code: record what it does, check the record in memory, and fail with the checker's note.
  *
- *     sheets_test [BUG]
+ *     cc -std=c11 sheets_test.c $(pkg-config --cflags --libs evc) -o sheets_test
+ *     ./sheets_test [BUG]
  *
  * Two threads count sheets, each by a counter of its own, and then the number of sheets is read. With a word BUG one of
  * them records a sheet that it doesn't count. */
-#include "../recorder/evc_record.h"
 #include "evc.h"
+#include "evc_record.h"
 #include <stdatomic.h>
 
 static evc_record record;
