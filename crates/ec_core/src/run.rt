@@ -36,8 +36,8 @@ pub enum StepFault {
 }
 
 /// A world and the history that it stands for: each entry was answered at its own moment as the
-/// definition of an accepted history says. The entries are kept in segments, so that recording a
-/// step never moves what stands there.
+/// definition of an accepted history says. The entries are kept in segments: so a step that is
+/// recorded moves none of them, but for the numbers of the last segment where these need more room.
 #[derive(Drop)]
 pub struct Run {
     world: World,
