@@ -4,7 +4,6 @@ use Rattle.ec_text.specs.Puts.{Outgoing, at_first, IsWrittenOut}
 use Rattle.evc_engine.specs.declared.status.Status as evc
 use Rattle.evc_engine.specs.Statuses as evc_statuses
 use Rattle.evc_engine.specs.Checks as evc_checks
-use Rattle.calls_report.specs.declared.status.Status as calls
 use Rattle.calls_report.specs.Statuses as calls_statuses
 use Rattle.calls_report.specs.Checks as calls_checks
 
