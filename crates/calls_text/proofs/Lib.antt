@@ -26,3 +26,6 @@ mod TakenOpening
 mod EventParts
 mod KeepingRules
 pub mod Example
+mod FollowingLines
+mod LongLines
+pub mod ReachedLines
