@@ -36,6 +36,18 @@ fn check_command<'a>(alloc: Global) -> Result<Command<'a>, AllocError>
         .arg(file)
 }
 
+/// Returns the command that judges histories while they come.
+fn watch_command<'a>(alloc: Global) -> Result<Command<'a>, AllocError>
+    ensures app { IfOk result (λ c. app_of c ≡ command_app (codes "watch")) }
+    ensures local { IfOk result (λ c. (fields_of c).has_globals ≡ false) }
+{
+    let file = file_argument(alloc, help::FILE);
+    Command::new(alloc, "watch")
+        .about(help::WATCH_ABOUT)
+        .long_about(help::WATCH_LONG_ABOUT)
+        .arg(file)
+}
+
 /// Returns the command that writes the calls of a trace.
 fn of_command<'a>(alloc: Global) -> Result<Command<'a>, AllocError>
     ensures app { IfOk result (λ c. app_of c ≡ command_app (codes "of")) }
@@ -77,10 +89,12 @@ fn program<'a>(alloc: Global) -> Result<Command<'a>, AllocError>
     ensures { IfOk result (λ c. app_of c ≡ program_app) }
 {
     let check = check_command(alloc)?;
+    let watch = watch_command(alloc)?;
     let of = of_command(alloc)?;
     let trace = trace_command(alloc)?;
     bare_command(alloc)
         .subcommand(check)?
+        .subcommand(watch)?
         .subcommand(of)?
         .subcommand(trace)
 }
@@ -99,6 +113,7 @@ fn action_named(name: &str) -> Action
     ensures { result ≡ action_of name.now }
 {
     match name {
+        "watch" => Action::Watch,
         "of" => Action::Of,
         "trace" => Action::Trace,
         _ => Action::Check,

@@ -1,0 +1,3 @@
+mod Histories
+mod LineLemmas
+mod PieceLemmas

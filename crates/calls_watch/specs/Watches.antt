@@ -1,0 +1,130 @@
+-- What `watch` answered and wrote, for an input whose bytes are known.
+use Rattle.std.specs.Prelude.{◌≡◌, ◌<◌, ◌⊎◌, ℕ, ◌-◌, List, [], ◌∷◌, length, reverse, Option, Some, None}
+use Rattle.std.specs.Prelude.{Ok, true, false, codes}
+use Rattle.std.specs.List.{list_all}
+use Rattle.std.specs.Io.KnownBytes.{Appends}
+use Rattle.ec_text.specs.Puts.{Outgoing, Puts, AppendsPrefix}
+use Rattle.calls_core.specs.declared.history.Kind.{Kind}
+use Rattle.calls_core.specs.declared.history.Event.{Event}
+use Rattle.calls_counts.specs.declared.monitor.Refusal.TheVariants as counts
+use Rattle.calls_monitor.specs.declared.monitor.Refused.{Refused as Report}
+use Rattle.calls_monitor.specs.declared.object.Refusal.{Refusal}
+use Rattle.calls_monitor.specs.declared.object.Refusal.TheVariants as refusals
+use Rattle.calls_monitor.specs.Monitors.{IsFine, IsRefused}
+use Rattle.calls_text.specs.Recordings.{Recorded, AreKinds, IsRecording}
+use Rattle.calls_text.specs.Reading.{Opening, Running}
+use Rattle.calls_text.specs.Outcomes.{OneRead, goes, parts_of}
+use Rattle.calls_text.specs.Following.{IsReached}
+use Rattle.calls_report.specs.declared.certificate.Certificate.{Certificate}
+use Rattle.calls_report.specs.declared.certificate.Certificate.TheVariants as shows
+use Rattle.calls_report.specs.declared.status.Status.{Status}
+use Rattle.calls_report.specs.declared.status.Status.TheVariants.{Done, Refused, Usage}
+use Rattle.calls_report.specs.declared.status.Status.TheVariants.{InputOutput, Memory, NotDecided}
+use Rattle.calls_report.specs.Certificates.{start_at}
+use Rattle.calls_report.specs.Notes.{scene_at, refusal_note}
+use Rattle.calls_report.specs.Checks.{Outlets, IsUnread}
+use Rattle.calls_watch.specs.Loads.{summary_of}
+use Rattle.calls_watch.specs.kept.Kinds.{is_watched}
+
+-- HISTORIES IN TURN
+
+-- these are the objects of the history, none of them a cell or a database, and the calls of each
+-- have a linearization
+pub record IsGood (r : Recorded) : Type 0 where
+  pub kinds : List Kind
+  pub recording : IsRecording r kinds
+  pub watched : list_all is_watched kinds ≡ true
+  pub fine : IsFine kinds (reverse r.events)
+
+-- from line n on, where the parts are these, the text has these histories, each linearizable, and
+-- then come these parts, from line m on
+abbrev pub AreGood : ℕ → List (List ℕ) → List OneRead → ℕ → List (List ℕ) → Type 0
+AreGood n ps [] m qs = (n ≡ m) × (ps ≡ qs)
+AreGood n ps (r ∷ rs) m qs =
+    (goes n Opening ps ≡ Ok r) × IsGood r.recorded × AreGood r.number r.rest rs m qs
+
+-- WHAT STOPS IT
+
+-- what the calls of an object show, by what is kept of them
+abbrev pub shown_by : Recorded → ℕ → Refusal → Certificate
+shown_by r k (refusals.Count (counts.Below c)) = shows.Below c
+shown_by r k (refusals.Count (counts.Few c low invoked)) = shows.Few c invoked (start_at r k)
+shown_by r k (refusals.Count (counts.Many c high made)) = shows.Sure c made (start_at r k)
+shown_by r k (refusals.Ticket t) = shows.Unordered t.call
+shown_by r k (refusals.Units f) = shows.NoUnit f.index
+
+-- the number of the line of the event at position 0, if m is that of the line after the event at a
+-- position
+abbrev pub line_of_first : ℕ → ℕ → ℕ
+line_of_first m at = m - 1 - at
+
+abbrev pub refused_note : ℕ → Recorded → Event → Report → List ℕ
+refused_note m r x report =
+    refusal_note (scene_at r report.object (line_of_first m x.at) x.at)
+    (shown_by r report.object report.refusal)
+
+-- from line n on the lines lead to a history whose last event is at fault: the events before it
+-- have a linearization, and with it there is none; and this is the report on it. Line m is the next
+pub record IsStopped (n : ℕ) (ps : List (List ℕ)) (m : ℕ) (r : Recorded) (x : Event)
+    (report : Report) : Type 0 where
+  pub left : List (List ℕ)
+  pub reached : IsReached n ps (Running r) m left
+  pub kinds : List Kind
+  pub recording : IsRecording r kinds
+  pub past : List Event
+  pub last : reverse r.events ≡ x ∷ past
+  pub before : IsFine kinds past
+  pub refused : IsRefused kinds past x report
+
+abbrev pub SaysStopped : ℕ → List (List ℕ) → Outgoing → Outgoing → Type 0
+SaysStopped n ps old new =
+    (m : ℕ) × (r : Recorded) × (x : Event) × (report : Report) × IsStopped n ps m r x report
+    × Puts old new (refused_note m r x report)
+
+-- from line n on the lines lead to a history of a cell or a database, before its events
+pub record IsNotWatched (n : ℕ) (ps : List (List ℕ)) : Type 0 where
+  pub recorded : Recorded
+  pub number : ℕ
+  pub left : List (List ℕ)
+  pub reached : IsReached n ps (Running recorded) number left
+  pub kinds : List Kind
+  pub are : AreKinds recorded.heading recorded.from kinds
+  pub none : recorded.events ≡ []
+  pub some : list_all is_watched kinds ≡ false
+
+-- ALL OF IT
+
+-- after these histories, at the parts from line m on
+abbrev pub Ends : Status → List OneRead → ℕ → List (List ℕ) → Outlets → Outlets → Type 0
+Ends Done reads m qs old new =
+    (0 < length reads) × (qs ≡ [] ∷ []) × Appends old.out new.out (summary_of reads)
+    × (new.notes ≡ old.notes)
+Ends Refused reads m qs old new =
+    (new.out ≡ old.out) × (((note : List ℕ) × IsUnread m qs note × Puts old.notes new.notes note)
+    ⊎ SaysStopped m qs old.notes new.notes)
+Ends NotDecided reads m qs old new =
+    (new.out ≡ old.out) × IsNotWatched m qs
+    × Puts old.notes new.notes (codes "cells and databases are not watched: evc-calls check decides them\n")
+Ends Memory reads m qs old new =
+    (new.out ≡ old.out) × Puts old.notes new.notes (codes "no memory\n")
+Ends InputOutput reads m qs old new =
+    (0 < length reads) × (qs ≡ [] ∷ []) × AppendsPrefix old.out new.out (summary_of reads)
+    × Puts old.notes new.notes (codes "write fault\n")
+Ends Usage reads m qs old new = ⊥
+
+-- the text was watched so: its first histories are linearizable, and then this came
+pub record IsWatchedTo (status : Status) (text : List ℕ) (old new : Outlets) : Type 0 where
+  pub reads : List OneRead
+  pub number : ℕ
+  pub rest : List (List ℕ)
+  pub good : AreGood 1 (parts_of text) reads number rest
+  pub ends : Ends status reads number rest old new
+
+-- a read failed
+abbrev pub IsCutShort : Status → Outlets → Outlets → Type 0
+IsCutShort InputOutput old new =
+    (new.out ≡ old.out) × Puts old.notes new.notes (codes "read fault\n")
+IsCutShort _ old new = ⊥
+
+abbrev pub Watches : List ℕ → Status → Outlets → Outlets → Type 0
+Watches bytes status old new = IsWatchedTo status bytes old new ⊎ IsCutShort status old new

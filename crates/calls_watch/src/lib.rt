@@ -1,0 +1,14 @@
+//! Histories of calls, judged while their lines come.
+#![tactic(auto)]
+
+mod feeder;
+mod load;
+mod shown;
+mod stop;
+mod watcher;
+mod watching;
+
+pub use load::Load;
+pub use stop::Stop;
+pub use watcher::Watcher;
+pub use watching::watch;
