@@ -85,7 +85,7 @@ phrased_grown r (Some (Calls w v o ws)) q is =
 phrased_grown r (Some (Returns w a ws)) q is =
     returned_grown r (worker_in r.heading.words w) a ws q is
 
-event_grown : (r : Recorded) (line : List ℕ) (q : Recorded) → event_step r line ≡ Ok q → IsGrown r q
+pub event_grown : (r : Recorded) (line : List ℕ) (q : Recorded) → event_step r line ≡ Ok q → IsGrown r q
 unfolding event_step
 event_grown r line q is =
     elim (is_no_line line) as (λ b. cond b (Err kinds.BadLine) (phrased r (phrase_in (words_of line)))

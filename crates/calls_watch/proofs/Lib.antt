@@ -2,3 +2,5 @@ mod Histories
 mod Uncalled
 mod LineLemmas
 mod PieceLemmas
+mod SameKinds
+pub mod Agreeing
