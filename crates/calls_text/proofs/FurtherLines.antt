@@ -1,7 +1,6 @@
 -- A history whose events come: what it is in the end.
 use Rattle.std.proofs.Common.{◌≡◌, ℕ, ◌+◌, true, false, cond, List, [], ◌∷◌, ◌++◌, Result, Ok, Err}
 use Rattle.std.proofs.Common.{refl, ap, sym, ◌∙◌, append_assoc, append-nil, bytes_eq, codes}
-use Rattle.ec_heading.specs.Headed.{Headed}
 use Rattle.calls_core.specs.declared.history.Event.{Event}
 use Rattle.calls_text.specs.declared.fault.Kind.{Kind}
 use Rattle.calls_text.specs.declared.fault.Kind.TheVariants as kinds
