@@ -36,7 +36,7 @@ use Rattle.calls_watch.specs.Watches.{IsGood, AreGood, IsUpTo, IsStopped, IsUnwa
 use Rattle.calls_watch.specs.Watches.{invokes_cells, AreWatched}
 use Rattle.calls_watch.specs.kept.Watching.{IsMonitoring, IsMonitored, IsWatching, StopsAt, Stops, GoesOn}
 use Rattle.calls_watch.specs.kept.Watching.{IsOver, EndsAs, IsOpened, IsLoadAfter, Begins, LoadGrows}
-use Rattle.calls_watch.specs.kept.Watching.{IsEventJudged, IsBegunAgain, GoesOnBy}
+use Rattle.calls_watch.specs.kept.Watching.{IsEventJudged, IsBegunAgain, GoesOnBy, MayEnd, GoesOnAt}
 use Rattle.calls_watch.proofs.Histories.{good_more, calls_more, others_more}
 use Rattle.calls_watch.proofs.Uncalled.{all_linearizable, none_linearizable}
 
@@ -439,12 +439,6 @@ none_read ps [] n qs good none past =
     omega arith
 none_read ps (r ∷ reads) n qs good none past = omega (arith, none)
 
--- no history has ended, the next has begun, or it has
-abbrev pub GoesOnAt : List ℕ → Watcher → Type 0
-GoesOnAt rest old =
-    (rest ≡ [] → ⊥) ⊎ ((old.load.histories ≡ 0)
-    ⊎ ((events : List Event) → built events old.follower ≡ Opening → ⊥))
-
 cut_no_end : (ps : List (List ℕ)) (rest : List ℕ) (old : Watcher) (w : IsWatching ps (rest ∷ []) old)
     → GoesOnAt rest old → IsNoEnd w.start w.begun
 cut_no_end ps rest old w (inl some) =
@@ -475,22 +469,21 @@ cut_stops ps rest old new w fault goes_on tells = record {
 }
 
 pub over_all : (ps : List (List ℕ)) (rest : List ℕ) (old : Watcher) → IsWatching ps (rest ∷ []) old
-    → rest ≡ [] → 0 < old.load.histories
-    → ((events : List Event) → built events old.follower ≡ Opening) → IsOver ps old
-over_all ps rest old w empty some opening =
+    → MayEnd rest old → IsOver ps old
+over_all ps rest old w may =
     let at : IsReached w.start w.begun Opening old.number (rest ∷ []) =
-    subst (λ (s : Stage). IsReached w.start w.begun s old.number (rest ∷ [])) (opening w.events)
+    subst (λ (s : Stage). IsReached w.start w.begun s old.number (rest ∷ [])) (may.opening w.events)
     w.reached in
     let same = reached_opening w.start w.begun old.number (rest ∷ []) at in
     let none : w.events ≡ [] =
-    opening_none w.events old.follower.stage (opening w.events) w.seen in
+    opening_none w.events old.follower.stage (may.opening w.events) w.seen in
     record {
       reads = w.reads;
       number = w.start;
       rest = w.begun;
       good = w.good;
-      some = let e : old.load.histories ≡ length w.reads = w.load.histories in omega arith;
-      none = same.1 ∙ ap (λ (r : List ℕ). r ∷ []) empty;
+      some = let e : old.load.histories ≡ length w.reads = w.load.histories in omega (arith, may.some);
+      none = same.1 ∙ ap (λ (r : List ℕ). r ∷ []) may.none;
       load = none_loaded w.reads w.events old.load old.load none refl w.load;
     }
 

@@ -109,19 +109,19 @@ module _ (h : Headed) (from : List (ℕ × ℕ)) (ks ls : List Kind) (one : AreK
   among_cells : (k : ℕ) → first_cell h ≤ k → AreAlike (slice_get ks k) (slice_get ls k)
   among_cells k le = elim (cases_lt k (semaphores h)) [
     | inl lt ↦
-        let i : ℕ = k - first_cell h in
-        let near : i < length h.setup.cells = omega (arith, lt, le) in
-        at_place (first_cell h) i k Cell (omega (arith, le)) (one.cells i near) (other.cells i near)
+        let near : k - first_cell h < length h.setup.cells = omega (arith, lt, le) in
+        at_place (first_cell h) (k - first_cell h) k Cell (omega (arith, le))
+        (one.cells (k - first_cell h) near) (other.cells (k - first_cell h) near)
     | inr ge ↦ among_units k ge
   ]
 
   among_sequencers : (k : ℕ) → first_sequencer h ≤ k → AreAlike (slice_get ks k) (slice_get ls k)
   among_sequencers k le = elim (cases_lt k (first_cell h)) [
     | inl lt ↦
-        let i : ℕ = k - first_sequencer h in
-        let near : i < length h.setup.takers = omega (arith, lt, le) in
-        at_place (first_sequencer h) i k Sequencer (omega (arith, le)) (one.sequencers i near)
-        (other.sequencers i near)
+        let near : k - first_sequencer h < length h.setup.takers = omega (arith, lt, le) in
+        at_place (first_sequencer h) (k - first_sequencer h) k Sequencer (omega (arith, le))
+        (one.sequencers (k - first_sequencer h) near)
+        (other.sequencers (k - first_sequencer h) near)
     | inr ge ↦ among_cells k ge
   ]
 

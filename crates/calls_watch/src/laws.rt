@@ -3,13 +3,11 @@ ghost use Rattle.calls_watch.specs.Laws.{WatchAgreesWithCheck, BothRefuseOneEven
 
 /// States that of one text `watch` and `check` find that each history is linearizable, or that one is
 /// not, both or neither, where neither runs out of memory and all calls are watched.
-#[tactic(auto, using(crate::proofs::Agreeing::watch_agrees_with_check))]
 pub fn watch_agrees_with_check()
     ensures { WatchAgreesWithCheck }
 {}
 
 /// States that where `watch` and `check` both refuse an event of a text, it is the same one.
-#[tactic(auto, using(crate::proofs::Agreeing::both_refuse_one_event))]
 pub fn both_refuse_one_event()
     ensures { BothRefuseOneEvent }
 {}

@@ -1,5 +1,5 @@
 -- What is kept of a text while its lines come.
-use Rattle.std.specs.Prelude.{◌≡◌, ◌≢◌, ◌<◌, ℕ, ◌+◌, List, [], ◌∷◌, ◌++◌, length, reverse, Option, Some, None}
+use Rattle.std.specs.Prelude.{◌≡◌, ◌≢◌, ◌<◌, ◌⊎◌, ℕ, ◌+◌, List, [], ◌∷◌, ◌++◌, length, reverse, Option, Some, None}
 use Rattle.std.specs.Prelude.{Result, Ok, Err, true, false, ⊤}
 use Rattle.std.specs.List.{All}
 use Rattle.calls_core.specs.declared.history.Kind.{Kind}
@@ -80,6 +80,18 @@ pub record Stops (stop : Stop) (ps : List (List ℕ)) (w : Watcher) : Type 0 whe
 abbrev pub GoesOn : Result (Unit {0}) Stop → List (List ℕ) → List (List ℕ) → Watcher → Type 0
 GoesOn (Ok u) ps qs w = IsWatching ps qs w
 GoesOn (Err stop) ps qs w = Stops stop ps w
+
+-- no byte is left, a history has ended, and the next has not begun
+pub record MayEnd (rest : List ℕ) (w : Watcher) : Type 0 where
+  pub none : rest ≡ []
+  pub some : 0 < w.load.histories
+  pub opening : (events : List Event) → built events w.follower ≡ Opening
+
+-- bytes are left, or no history has ended, or the next has begun
+abbrev pub GoesOnAt : List ℕ → Watcher → Type 0
+GoesOnAt rest w =
+    (rest ≡ [] → ⊥) ⊎ ((w.load.histories ≡ 0)
+    ⊎ ((events : List Event) → built events w.follower ≡ Opening → ⊥))
 
 -- the text has ended after a history
 pub record IsOver (ps : List (List ℕ)) (w : Watcher) : Type 0 where
