@@ -76,6 +76,16 @@ scene_of n r object at = record {
   at = at;
 }
 
+-- the same, where n is the number of the line of the event at position 0
+abbrev pub scene_at : Recorded → ℕ → ℕ → ℕ → Scene
+scene_at r object n at = record {
+  heading = r.heading;
+  lists = r.lists;
+  object = object;
+  first = n;
+  at = at;
+}
+
 -- the note of a certificate
 abbrev pub refusal_note : Scene → Certificate → List ℕ
 refusal_note s shown =

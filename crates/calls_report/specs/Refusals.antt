@@ -104,6 +104,14 @@ had_text s d = but_line s d.last ++ codes " had " ++ count_text d
 abbrev pub since_text : Scene → Call → Call → ℕ → List ℕ
 since_text s c d n = count_text c ++ had_text s d ++ between_text s c n
 
+-- so many advances had surely taken effect
+abbrev pub surely_text : Scene → ℕ → ℕ → List ℕ
+surely_text s n start =
+    advances_text s n ++ codes " had surely taken effect" ++ start_text start
+
+abbrev pub raised_text : Scene → Call → ℕ → ℕ → List ℕ
+raised_text s c n start = count_text c ++ when_text s c ++ surely_text s n start
+
 -- SEQUENCERS
 
 abbrev pub number_text : Call → List ℕ
@@ -139,6 +147,12 @@ drawn_text s c n =
     earlier_text s c.last ++ number_text c ++ tickets_text s n
     ++ (codes " can have drawn 0 to " ++ decimal (number c))
 
+-- no order of the tickets gives the number
+abbrev pub unordered_text : Scene → Call → List ℕ
+unordered_text s c =
+    number_text c ++ codes ", which no order of the tickets of "
+    ++ sequencer_word s.heading (s.object - first_sequencer s.heading) ++ codes " gives"
+
 -- SEMAPHORES
 
 -- what stands after the digits of an ordinal number
@@ -161,6 +175,10 @@ abbrev pub unit_text : Scene → ℕ → ℕ → ℕ → ℕ → List ℕ
 unit_text s place taken units added =
     nth_text taken ++ (codes " p of " ++ group_word s.heading place) ++ units_text units added
     ++ codes " v called"
+
+-- a unit was taken, and none was left
+abbrev pub no_unit_text : Scene → ℕ → List ℕ
+no_unit_text s place = codes "no unit of " ++ group_word s.heading place ++ codes " was left"
 
 -- CELLS AND DATABASES
 
@@ -260,6 +278,9 @@ certificate_text s (shows.Below c) = below_text c
 certificate_text s (shows.Few c n start) = few_text s c n start
 certificate_text s (shows.Many c n start) = many_text s c n start
 certificate_text s (shows.Since c d n) = since_text s c d n
+certificate_text s (shows.Sure c n start) = raised_text s c n start
+certificate_text s (shows.Unordered c) = unordered_text s c
+certificate_text s (shows.NoUnit place) = no_unit_text s place
 certificate_text s (shows.Twice a b) = twice_text s a b
 certificate_text s (shows.Turned a b) = turned_text s a b
 certificate_text s (shows.Drawn c n) = drawn_text s c n

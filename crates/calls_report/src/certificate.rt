@@ -27,6 +27,9 @@ pub enum Certificate<'a> {
     /// A call says that the count was less than an earlier one says, together with so many advances
     /// between the two.
     Since(Call, Call, usize),
+    /// A call says that the count was less than so many advances make that had surely taken effect
+    /// when it was called, from this count at the beginning.
+    Sure(Call, usize, u64),
     /// Two tickets returned one number.
     Twice(Call, Call),
     /// The first ticket returned its number before the second was called, which returned a smaller
@@ -34,6 +37,8 @@ pub enum Certificate<'a> {
     Turned(Call, Call),
     /// Only so many tickets can have drawn the numbers up to that of this one.
     Drawn(Call, usize),
+    /// No order of the tickets gives what this one returned.
+    Unordered(Call),
     /// So many units of the semaphore at this place were taken, of so many at first and so many
     /// added.
     Units {
@@ -42,6 +47,8 @@ pub enum Certificate<'a> {
         units: u64,
         added: usize,
     },
+    /// A call took a unit of the semaphore at this place, and none was left.
+    NoUnit(usize),
     /// No put of what a get returned had been called.
     Nowhere(Call),
     /// The first call, of another value, was completed before the second was called, a get of 0.
@@ -66,7 +73,7 @@ fn advances_between(
 }
 
 /// Returns the count of an eventcount at the beginning.
-pub(crate) fn start_at(recording: &Recording, object: usize) -> u64
+pub fn start_at(recording: &Recording, object: usize) -> u64
     ensures { result ≡ start_at recording.now object }
 {
     match EventId::new(object) {

@@ -15,5 +15,7 @@ mod sure;
 mod totals;
 mod words;
 
+pub use certificate::{Certificate, start_at};
 pub use checking::{TEXT_MAX, check, linearize, note_unread};
+pub use notes::{say_certificate, say_fault};
 pub use status::Status;

@@ -3,14 +3,15 @@ ghost use Rattle.std.specs.Prelude.{◌≡◌, ◌++◌, codes, OnOk, OnErr};
 ghost use Rattle.ec_text.specs.Puts.{Puts, IsWrittenOut};
 ghost use Rattle.calls_report.specs.Refusals.{line_of};
 ghost use Rattle.calls_report.specs.Notes.{cause_text, kind_text, line_words, kind_words};
-ghost use Rattle.calls_report.specs.Notes.{fault_note, first_line, scene_of, refusal_note};
+ghost use Rattle.calls_report.specs.Notes.{fault_note, first_line, scene_of, scene_at};
+ghost use Rattle.calls_report.specs.Notes.{refusal_note};
 ghost use Rattle.calls_report.specs.Notes.{SaysRefusal, repeated_words, repeated_text};
 ghost use Rattle.calls_report.specs.Notes.{overlap_text, undecided_text, undecided_note};
 
 use crate::certificate::{Certificate, certify};
 use crate::refusal::Site;
 use crate::words::Speaker;
-use calls_text::{Cause, Kind, Read, TextFault};
+use calls_text::{Cause, Kind, Read, Recording, TextFault};
 use calls_verdict::{Refusal, Undecided};
 use ec_text::Out;
 use std::alloc::{AllocError, Global};
@@ -99,7 +100,7 @@ fn put_fault<W: Write>(out: &mut Out<'_, W>, fault: TextFault)
 }
 
 /// Says why a text is no history.
-pub(crate) fn say_fault<N: Write>(notes: &mut Out<'_, N>, fault: TextFault)
+pub fn say_fault<N: Write>(notes: &mut Out<'_, N>, fault: TextFault)
     ensures puts { Puts notes.old notes.new (fault_note fault) }
     ensures written { IsWrittenOut notes.new }
 {
@@ -162,6 +163,36 @@ pub(crate) fn say_refusal<N: Write>(
     put_refusal(notes, &site, shown);
     notes.flush();
     Ok(())
+}
+
+/// Returns where a certificate stands, by the number of the line of the event at position 0.
+fn site_at(recording: &Recording, object: usize, first: u64, at: usize) -> Site<'_>
+    ensures { result ≡ scene_at recording.now object first at }
+{
+    Site {
+        speaker: Speaker::new(recording.heading(), recording.lists()),
+        object,
+        first,
+        at,
+    }
+}
+
+/// Says why the calls of an object have no linearization from the event at a position on, by the
+/// number of the line of the event at position 0.
+pub fn say_certificate<N: Write>(
+    notes: &mut Out<'_, N>,
+    recording: &Recording,
+    object: usize,
+    first: u64,
+    at: usize,
+    shown: Certificate<'_>,
+)
+    ensures puts { Puts notes.old notes.new
+        (refusal_note (scene_at recording.now object first at) shown.entry) }
+    ensures written { IsWrittenOut notes.new }
+{
+    put_refusal(notes, &site_at(recording, object, first, at), shown);
+    notes.flush();
 }
 
 /// Puts that something was put more than once.

@@ -17,6 +17,8 @@ ghost use Rattle.calls_report.specs.Refusals.{stale_text, line_text, two_text, v
 ghost use Rattle.calls_report.specs.Refusals.{four_lines, alternate_text, response_lines, by_text};
 ghost use Rattle.calls_report.specs.Refusals.{called_words, alternate_words, ends_second};
 ghost use Rattle.calls_report.specs.Refusals.{none_left, none_left_text, certificate_text};
+ghost use Rattle.calls_report.specs.Refusals.{surely_text, raised_text, unordered_text};
+ghost use Rattle.calls_report.specs.Refusals.{no_unit_text};
 
 use crate::certificate::{Certificate, number_of};
 use crate::words::Speaker;
@@ -351,6 +353,43 @@ impl<'a> Site<'a> {
         self.put_between(out, call, n);
     }
 
+    /// Puts how many advances had surely taken effect.
+    fn put_surely<W: Write>(&self, out: &mut Out<'_, W>, n: usize, start: u64)
+        ensures { Puts out.old out.new (surely_text self.now n start) }
+    {
+        self.put_advances(out, n);
+        out.put(b" had surely taken effect");
+        put_start(out, start);
+    }
+
+    /// Puts that too many advances had surely taken effect.
+    fn put_raised<W: Write>(&self, out: &mut Out<'_, W>, call: &Call, n: usize, start: u64)
+        ensures { Puts out.old out.new (raised_text self.now call.now n start) }
+    {
+        put_count(out, call);
+        self.put_when(out, call);
+        self.put_surely(out, n, start);
+    }
+
+    /// Puts that no order of the tickets gives a number.
+    fn put_unordered<W: Write>(&self, out: &mut Out<'_, W>, call: &Call)
+        ensures { Puts out.old out.new (unordered_text self.now call.now) }
+    {
+        put_number(out, call);
+        out.put(b", which no order of the tickets of ");
+        self.speaker.put_sequencer_of(out, self.object);
+        out.put(b" gives");
+    }
+
+    /// Puts that no unit of a semaphore was left.
+    fn put_no_unit<W: Write>(&self, out: &mut Out<'_, W>, place: usize)
+        ensures { Puts out.old out.new (no_unit_text self.now place) }
+    {
+        out.put(b"no unit of ");
+        self.speaker.put_group(out, place);
+        out.put(b" was left");
+    }
+
     /// Puts that two tickets returned one number.
     fn put_twice<W: Write>(&self, out: &mut Out<'_, W>, one: &Call, other: &Call)
         ensures { Puts out.old out.new (twice_text self.now one.now other.now) }
@@ -639,6 +678,9 @@ impl<'a> Site<'a> {
             Certificate::Few(call, n, start) => self.put_few(out, &call, n, start),
             Certificate::Many(call, n, start) => self.put_many(out, &call, n, start),
             Certificate::Since(call, earlier, n) => self.put_since(out, &call, &earlier, n),
+            Certificate::Sure(call, n, start) => self.put_raised(out, &call, n, start),
+            Certificate::Unordered(call) => self.put_unordered(out, &call),
+            Certificate::NoUnit(place) => self.put_no_unit(out, place),
             Certificate::Twice(one, other) => self.put_twice(out, &one, &other),
             Certificate::Turned(one, other) => self.put_turned(out, &one, &other),
             Certificate::Drawn(call, n) => self.put_drawn(out, &call, n),

@@ -26,3 +26,7 @@ mod TakenOpening
 mod EventParts
 mod KeepingRules
 pub mod Example
+mod FollowingLines
+mod LongLines
+pub mod ReachedLines
+pub mod FurtherLines

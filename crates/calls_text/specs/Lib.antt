@@ -8,6 +8,7 @@ pub mod Tallies
 pub mod Recordings
 pub mod Reading
 pub mod Outcomes
+pub mod Following
 pub mod Spelling
 pub mod Grammar
 pub mod Rules

@@ -23,7 +23,7 @@ pub struct Read<'a> {
 }
 
 /// Returns why a line was not taken, with its number.
-fn fault_at(line: u64, text: &[u8], fault: LineFault) -> TextFault
+pub(crate) fn fault_at(line: u64, text: &[u8], fault: LineFault) -> TextFault
     ensures { result ≡ fault_at line text.now fault }
 {
     match fault {

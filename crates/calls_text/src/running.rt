@@ -371,6 +371,13 @@ impl Running {
         }
     }
 
+    /// Returns how many calls are pending.
+    pub(crate) fn pending_len(&self) -> usize
+        ensures { result ≡ length self.now.pending.items }
+    {
+        self.pending.as_slice().len()
+    }
+
     /// Returns the pending call of a worker.
     fn pending_call(&self, worker: WorkerId) -> Option<PendingCall>
         ensures { result ≡ pending_by self.now worker }

@@ -73,7 +73,7 @@ impl Stage {
     ///
     /// A stage is large, and most lines leave it where it is.
     #[tactic(auto, unfolding(crate::specs::Reading::step))]
-    fn follow(&mut self, alloc: Global, line: &[u8]) -> Result<Option<Event>, LineFault>
+    pub(crate) fn follow(&mut self, alloc: Global, line: &[u8]) -> Result<Option<Event>, LineFault>
         ensures follows { (events : List Event) → IsFollowing events self.old
             → Follows result (step (seen_with events self.old) line.now) events self.new }
         ensures kept { OnOk result (kept_events self.new ≡ kept_events self.old) }

@@ -4,6 +4,7 @@
 use calls_extract::extract_calls;
 use calls_replay::replay_calls;
 use calls_report::{Status, check};
+use calls_watch::watch;
 use ec_text::Out;
 use evc_calls_task::{Action, Error, Task, status_of, task};
 use std::alloc::AllocError;
@@ -21,6 +22,7 @@ fn run<R: Read, N: Write>(
     let alloc = rt.alloc();
     match action {
         Action::Check => check(alloc, reader, &mut rt.stdout(), notes).code(),
+        Action::Watch => watch(alloc, reader, &mut rt.stdout(), notes).code(),
         Action::Of => extract_calls(alloc, reader, &mut rt.stdout(), notes).code(),
         Action::Trace => replay_calls(alloc, reader, &mut rt.stdout(), notes).code(),
     }

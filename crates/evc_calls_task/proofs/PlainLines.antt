@@ -7,9 +7,11 @@ pub plain_lines_are_read : ReadsPlainLines
 unfolding clap_on_literals
 plain_lines_are_read = record {
   check = λ program. record { right = refl; action_is = refl; file_is = refl };
+  watch = λ program. record { right = refl; action_is = refl; file_is = refl };
   of = λ program. record { right = refl; action_is = refl; file_is = refl };
   trace = λ program. record { right = refl; action_is = refl; file_is = refl };
   check_file = λ program. record { right = refl; action_is = refl; file_is = refl };
+  watch_file = λ program. record { right = refl; action_is = refl; file_is = refl };
   of_file = λ program. record { right = refl; action_is = refl; file_is = refl };
   trace_file = λ program. record { right = refl; action_is = refl; file_is = refl };
   help = λ program. refl;

@@ -9,7 +9,7 @@ use Rattle.clap.specs.declared.builder.action.ArgAction.TheVariants.{Set}
 use Rattle.clap.specs.declared.error.kind.ErrorKind.{ErrorKind}
 use Rattle.clap.specs.declared.error.kind.ErrorKind.TheVariants as kinds
 use Rattle.evc_calls_task.specs.declared.choice.Action.{Action}
-use Rattle.evc_calls_task.specs.declared.choice.Action.TheVariants.{Check, Of, Trace}
+use Rattle.evc_calls_task.specs.declared.choice.Action.TheVariants.{Check, Watch, Of, Trace}
 
 -- the words as texts
 abbrev pub texts_of : List (String Global) → List Text
@@ -30,20 +30,26 @@ bare_app =
     let new : App = new_app (codes "evc-calls") in
     record new { top = record new.top { subcommand_required = true; has_version = true } }
 
+-- the same with the commands that judge histories
+abbrev pub judging_app : App
+judging_app =
+    with_subcommand
+    (with_subcommand bare_app (command_app (codes "check")).top)
+    (command_app (codes "watch")).top
+
 -- `evc-calls` as clap knows it
 abbrev pub program_app : App
 program_app =
     with_subcommand
-    (with_subcommand
-    (with_subcommand bare_app (command_app (codes "check")).top)
-    (command_app (codes "of")).top)
+    (with_subcommand judging_app (command_app (codes "of")).top)
     (command_app (codes "trace")).top
 
--- the action of a command; there are three commands
+-- the action of a command; there are four commands
 abbrev pub action_of : Text → Action
 action_of name =
-    if bytes_eq name (codes "of") then Of
-    else (if bytes_eq name (codes "trace") then Trace else Check)
+    if bytes_eq name (codes "watch") then Watch
+    else (if bytes_eq name (codes "of") then Of
+    else (if bytes_eq name (codes "trace") then Trace else Check))
 
 -- the action that the words ask for: that of the command that clap finds in them
 abbrev pub action_in : List Text → Action
@@ -78,10 +84,13 @@ pub record AskFor (words : List Text) (action : Action) (file : Option Text) : T
 -- unknown word and a second file are wrong
 pub record ReadsPlainLines : Type 0 where
   pub check : (program : Text) → AskFor (program ∷ codes "check" ∷ []) Check None
+  pub watch : (program : Text) → AskFor (program ∷ codes "watch" ∷ []) Watch None
   pub of : (program : Text) → AskFor (program ∷ codes "of" ∷ []) Of None
   pub trace : (program : Text) → AskFor (program ∷ codes "trace" ∷ []) Trace None
   pub check_file : (program : Text)
       → AskFor (program ∷ codes "check" ∷ codes "a.calls" ∷ []) Check (Some (codes "a.calls"))
+  pub watch_file : (program : Text)
+      → AskFor (program ∷ codes "watch" ∷ codes "a.calls" ∷ []) Watch (Some (codes "a.calls"))
   pub of_file : (program : Text)
       → AskFor (program ∷ codes "of" ∷ codes "a.evc" ∷ []) Of (Some (codes "a.evc"))
   pub trace_file : (program : Text)

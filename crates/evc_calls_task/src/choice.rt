@@ -5,6 +5,8 @@
 pub enum Action {
     /// `check`: read histories of calls, and write a linearization of each.
     Check,
+    /// `watch`: read histories of calls, and judge each event when its line comes.
+    Watch,
     /// `of`: read a trace of steps, and write its calls as a history.
     Of,
     /// `trace`: read a history of calls, and write a trace with its calls.

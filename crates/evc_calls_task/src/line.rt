@@ -4,6 +4,7 @@ ghost use Rattle.clap.specs.Words.{FailsBy, app_of, first_of, found_of, kind_of,
 ghost use Rattle.clap.specs.Words.{rows_of, rule_of, subcommand_of, subcommand_rows_of};
 ghost use Rattle.clap.specs.declared.builder.command.Command.TheViews.{out-Command as fields_of};
 ghost use Rattle.evc_calls_task.specs.CommandLine.{file_rule, command_app, bare_app, program_app};
+ghost use Rattle.evc_calls_task.specs.CommandLine.{judging_app};
 ghost use Rattle.evc_calls_task.specs.CommandLine.{texts_of, action_of, action_in, file_in};
 ghost use Rattle.evc_calls_task.specs.CommandLine.{faults_in, status_by, ReadsPlainLines};
 
@@ -33,6 +34,18 @@ fn check_command<'a>(alloc: Global) -> Result<Command<'a>, AllocError>
     Command::new(alloc, "check")
         .about(help::CHECK_ABOUT)
         .long_about(help::CHECK_LONG_ABOUT)
+        .arg(file)
+}
+
+/// Returns the command that judges histories while they come.
+fn watch_command<'a>(alloc: Global) -> Result<Command<'a>, AllocError>
+    ensures app { IfOk result (λ c. app_of c ≡ command_app (codes "watch")) }
+    ensures local { IfOk result (λ c. (fields_of c).has_globals ≡ false) }
+{
+    let file = file_argument(alloc, help::FILE);
+    Command::new(alloc, "watch")
+        .about(help::WATCH_ABOUT)
+        .long_about(help::WATCH_LONG_ABOUT)
         .arg(file)
 }
 
@@ -72,17 +85,22 @@ fn bare_command<'a>(alloc: Global) -> Command<'a>
         .subcommand_required(true)
 }
 
+/// Returns the program with the commands that judge histories.
+fn judging_program<'a>(alloc: Global) -> Result<Command<'a>, AllocError>
+    ensures { IfOk result (λ c. app_of c ≡ judging_app) }
+{
+    let check = check_command(alloc)?;
+    let watch = watch_command(alloc)?;
+    bare_command(alloc).subcommand(check)?.subcommand(watch)
+}
+
 /// Returns the program with its commands.
 fn program<'a>(alloc: Global) -> Result<Command<'a>, AllocError>
     ensures { IfOk result (λ c. app_of c ≡ program_app) }
 {
-    let check = check_command(alloc)?;
     let of = of_command(alloc)?;
     let trace = trace_command(alloc)?;
-    bare_command(alloc)
-        .subcommand(check)?
-        .subcommand(of)?
-        .subcommand(trace)
+    judging_program(alloc)?.subcommand(of)?.subcommand(trace)
 }
 
 /// Returns what clap finds in the words.
@@ -99,6 +117,7 @@ fn action_named(name: &str) -> Action
     ensures { result ≡ action_of name.now }
 {
     match name {
+        "watch" => Action::Watch,
         "of" => Action::Of,
         "trace" => Action::Trace,
         _ => Action::Check,

@@ -1,0 +1,135 @@
+//! A history of calls that is read line by line, and whose events are handed out.
+ghost use Rattle.std.specs.Prelude.{◌≡◌, ◌↔◌, [], List, IsTrue, length, reverse, false};
+ghost use Rattle.calls_core.specs.declared.history.Event.{Event};
+ghost use Rattle.calls_core.specs.Histories.{pending_calls};
+ghost use Rattle.calls_text.specs.Outcomes.{TellsFault, ended};
+ghost use Rattle.calls_text.specs.Recordings.{Recorded};
+ghost use Rattle.calls_text.specs.Reading.{is_ended};
+ghost use Rattle.calls_text.specs.Reading as reading;
+ghost use Rattle.calls_text.specs.Following.{built, HasSeen, Passes, followed_in, Records, IsLong, long_kind};
+
+use crate::fault::{Cause, Kind, LineFault, TextFault};
+use crate::reading::fault_at;
+use crate::recording::Recording;
+use crate::stage::Stage;
+use calls_core::Event;
+use std::alloc::Global;
+
+/// What a line of a history is.
+#[derive(Clone, Copy, Debug, PartialEq, Eq)]
+pub enum Followed {
+    /// A line before the events.
+    Heading,
+    /// The line `run`: events may follow.
+    Run,
+    /// An event.
+    Event(Event),
+    /// The line `end`.
+    End,
+}
+
+/// A history whose lines come one by one. Its events are handed out, and not kept.
+#[derive(Drop)]
+pub struct Follower {
+    pub(crate) stage: Stage,
+}
+
+/// Returns what a line was that led to this stage and was no event.
+fn what_led_to(stage: &Stage) -> Followed
+    ensures { result ≡ followed_in stage.now }
+{
+    match stage {
+        Stage::Running(_) => Followed::Run,
+        Stage::Ended(_) => Followed::End,
+        Stage::Opening | Stage::Limiting | Stage::Declaring(_) => Followed::Heading,
+    }
+}
+
+/// Returns the least kind of fault of a line of more than 8192 bytes.
+fn long_kind(stage: &Stage) -> Kind
+    ensures { result ≡ long_kind stage.now }
+{
+    match stage {
+        Stage::Opening => Kind::BadHeader,
+        _ => Kind::BadLine,
+    }
+}
+
+impl Follower {
+    /// Returns a history of which no line came yet.
+    pub fn new() -> Follower
+        ensures opening { built [] result ≡ reading.Opening }
+        ensures seen { HasSeen [] result }
+    {
+        Follower {
+            stage: Stage::Opening,
+        }
+    }
+
+    /// Takes the line of this number, given without its LF. After a fault the history has no use.
+    pub fn line(&mut self, alloc: Global, number: u64, line: &[u8]) -> Result<Followed, TextFault>
+        ensures { (events : List Event) → HasSeen events self.old
+            → Passes result number line.now events self.old self.new }
+    {
+        match self.stage.follow(alloc, line) {
+            Ok(Some(event)) => Ok(Followed::Event(event)),
+            Ok(None) => Ok(what_led_to(&self.stage)),
+            Err(fault) => Err(fault_at(number, line, fault)),
+        }
+    }
+
+    /// Returns why the line of this number is rejected, if it has more than 8192 bytes.
+    pub fn long_line(&self, number: u64) -> TextFault
+        ensures { (events : List Event) → IsLong result number events self.now }
+    {
+        TextFault::At {
+            line: number,
+            kind: long_kind(&self.stage),
+            cause: Cause::Long,
+        }
+    }
+
+    /// Returns what a text comes to that ends here, with these bytes after its last LF.
+    pub fn cut_off(&mut self, alloc: Global, number: u64, rest: &[u8]) -> TextFault
+        ensures { (events : List Event) → HasSeen events self.old
+            → is_ended (built events self.old) ≡ false
+            → TellsFault (ended number (built events self.old) rest.now) result }
+    {
+        if rest.is_empty() {
+            return fault_at(number, rest, LineFault::Of(Kind::Unfinished));
+        }
+        match self.stage.follow(alloc, rest) {
+            Err(fault) => fault_at(number, rest, fault),
+            Ok(_) => fault_at(number, rest, LineFault::Of(Kind::Unfinished)),
+        }
+    }
+
+    /// Returns whether no line came yet.
+    pub fn is_opening(&self) -> bool
+        ensures { (events : List Event) → IsTrue result ↔ (built events self.now ≡ reading.Opening) }
+    {
+        matches!(self.stage, Stage::Opening)
+    }
+
+    /// Returns what is declared, while events may come. It has no events.
+    pub fn recording(&self) -> Option<&Recording>
+        ensures { (events : List Event) → Records result events self.now }
+    {
+        match &self.stage {
+            Stage::Running(running) => Some(&running.recording),
+            _ => None,
+        }
+    }
+
+    /// Returns how many calls are pending, while events may come.
+    pub fn pending(&self) -> usize
+        ensures { (events : List Event) (r : Recorded) → HasSeen events self.now
+            → built events self.now ≡ reading.Running r
+            → result ≡ length (pending_calls (reverse events)) }
+    {
+        match &self.stage {
+            Stage::Running(running) => running.pending_len(),
+            _ => 0,
+        }
+    }
+}

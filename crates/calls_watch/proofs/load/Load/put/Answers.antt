@@ -1,0 +1,10 @@
+use Rattle.ec_text.proofs.shared.PutLemmas.{puts_then}
+use Rattle.calls_watch.proofs.load.Load.put.Goals as goal
+
+pub returns : goal.returns
+returns g c =
+    puts_then _ _ _ _ _
+    (puts_then _ _ _ _ _
+    (puts_then _ _ _ _ _ c.put_number.ensures.puts c.put.ensures.puts)
+    c.put_number-2.ensures.puts)
+    c.put_rest.ensures

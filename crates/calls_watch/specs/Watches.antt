@@ -1,0 +1,166 @@
+-- What `watch` answered and wrote, for an input whose bytes are known.
+use Rattle.std.specs.Prelude.{◌≡◌, ◌<◌, ◌⊎◌, ℕ, ◌-◌, List, [], ◌∷◌, length, reverse, Option, Some, None}
+use Rattle.std.specs.Prelude.{Ok, Bool, true, false, codes, ◌++◌}
+use Rattle.std.specs.Io.KnownBytes.{Appends}
+use Rattle.ec_text.specs.Puts.{Outgoing, Puts, AppendsPrefix}
+use Rattle.calls_core.specs.declared.history.Kind.{Kind}
+use Rattle.calls_core.specs.declared.history.Op.{Op}
+use Rattle.calls_core.specs.declared.history.Op.TheVariants.{Put, Get}
+use Rattle.calls_core.specs.declared.history.Action.{Action}
+use Rattle.calls_core.specs.declared.history.Action.TheVariants.{Invoke, Respond}
+use Rattle.calls_core.specs.declared.history.Event.{Event}
+use Rattle.calls_core.specs.Completions.{IsLinearizable}
+use Rattle.calls_counts.specs.declared.monitor.Refusal.TheVariants as counts
+use Rattle.calls_monitor.specs.declared.monitor.Refused.{Refused as Report}
+use Rattle.calls_monitor.specs.declared.object.Refusal.{Refusal}
+use Rattle.calls_monitor.specs.declared.object.Refusal.TheVariants as refusals
+use Rattle.calls_monitor.specs.Monitors.{IsRefused}
+use Rattle.calls_text.specs.Recordings.{Recorded, IsRecording}
+use Rattle.calls_text.specs.Reading.{Opening, Running}
+use Rattle.calls_text.specs.Outcomes.{OneRead, goes, parts_of}
+use Rattle.calls_text.specs.Following.{IsReached}
+use Rattle.calls_report.specs.declared.certificate.Certificate.{Certificate}
+use Rattle.calls_report.specs.declared.certificate.Certificate.TheVariants as shows
+use Rattle.calls_report.specs.declared.status.Status.{Status}
+use Rattle.calls_report.specs.declared.status.Status.TheVariants.{Done, Refused, Usage}
+use Rattle.calls_report.specs.declared.status.Status.TheVariants.{InputOutput, Memory, NotDecided}
+use Rattle.calls_report.specs.Certificates.{start_at}
+use Rattle.calls_report.specs.Notes.{line_words, scene_at, refusal_note}
+use Rattle.calls_report.specs.Checks.{Outlets, SaysUnread}
+use Rattle.calls_watch.specs.Loads.{summary_of}
+
+-- CALLS OF CELLS
+
+-- whether a call is one of a cell or a database
+abbrev pub is_of_cells : Op → Bool
+is_of_cells (Put v) = true
+is_of_cells Get = true
+is_of_cells _ = false
+
+-- whether an event invokes such a call
+abbrev pub invokes_cells : Action → Bool
+invokes_cells (Invoke k op) = is_of_cells op
+invokes_cells (Respond r) = false
+
+-- none of the events does
+abbrev pub AreWatched : List Event → Type 0
+AreWatched [] = Unit {0}
+AreWatched (x ∷ past) = (invokes_cells x.action ≡ false) × AreWatched past
+
+-- HISTORIES IN TURN
+
+-- these are the objects of the history, no cell and no database is called, and it has a
+-- linearization
+pub record IsGood (r : Recorded) : Type 0 where
+  pub kinds : List Kind
+  pub recording : IsRecording r kinds
+  pub watched : AreWatched (reverse r.events)
+  pub linearizable : IsLinearizable kinds (reverse r.events)
+
+-- from line n on, where the parts are these, the text has these histories, each linearizable, and
+-- then come these parts, from line m on
+abbrev pub AreGood : ℕ → List (List ℕ) → List OneRead → ℕ → List (List ℕ) → Type 0
+AreGood n ps [] m qs = (n ≡ m) × (ps ≡ qs)
+AreGood n ps (r ∷ rs) m qs =
+    (goes n Opening ps ≡ Ok r) × IsGood r.recorded × AreGood r.number r.rest rs m qs
+
+-- WHAT STOPS IT
+
+-- what the calls of an object show, by what is kept of them
+abbrev pub shown_by : Recorded → ℕ → Refusal → Certificate
+shown_by r k (refusals.Count (counts.Below c)) = shows.Below c
+shown_by r k (refusals.Count (counts.Few c low invoked)) = shows.Few c invoked (start_at r k)
+shown_by r k (refusals.Count (counts.Many c high made)) = shows.Sure c made (start_at r k)
+shown_by r k (refusals.Ticket t) = shows.Unordered t.call
+shown_by r k (refusals.Units f) = shows.NoUnit f.index
+
+-- the number of the line of the event at position 0, if m is that of the line after the event at a
+-- position
+abbrev pub line_of_first : ℕ → ℕ → ℕ
+line_of_first m at = m - 1 - at
+
+abbrev pub refused_note : ℕ → Recorded → Event → Report → List ℕ
+refused_note m r x report =
+    refusal_note (scene_at r report.object (line_of_first m x.at) x.at)
+    (shown_by r report.object report.refusal)
+
+-- from line n on the lines lead to a history whose last event is x, and whose events before it have
+-- a linearization. Line m is the next
+pub record IsUpTo (n : ℕ) (ps : List (List ℕ)) (m : ℕ) (r : Recorded) (kinds : List Kind)
+    (past : List Event) (x : Event) : Type 0 where
+  pub next : List ℕ
+  pub left : List (List ℕ)
+  pub reached : IsReached n ps (Running r) m (next ∷ left)
+  pub recording : IsRecording r kinds
+  pub last : reverse r.events ≡ x ∷ past
+  pub watched : AreWatched past
+  pub before : IsLinearizable kinds past
+
+-- with the event x there is none, and this is the report on it
+pub record IsStopped (n : ℕ) (ps : List (List ℕ)) (m : ℕ) (r : Recorded) (x : Event)
+    (report : Report) : Type 0 where
+  pub kinds : List Kind
+  pub past : List Event
+  pub up_to : IsUpTo n ps m r kinds past x
+  pub watched : invokes_cells x.action ≡ false
+  pub refused : IsRefused kinds past x report
+
+abbrev pub SaysStopped : ℕ → List (List ℕ) → Outgoing → Outgoing → Type 0
+SaysStopped n ps old new =
+    (m : ℕ) × (r : Recorded) × (x : Event) × (report : Report) × IsStopped n ps m r x report
+    × Puts old new (refused_note m r x report)
+
+-- the event invokes a call of a cell or a database
+pub record IsUnwatched (n : ℕ) (ps : List (List ℕ)) (m : ℕ) : Type 0 where
+  pub recorded : Recorded
+  pub event : Event
+  pub kinds : List Kind
+  pub past : List Event
+  pub up_to : IsUpTo n ps m recorded kinds past event
+  pub cells : invokes_cells event.action ≡ true
+
+-- the note on it, if line m is the next
+abbrev pub unwatched_note : ℕ → List ℕ
+unwatched_note m =
+    line_words (m - 1)
+    ++ codes "cells and databases are not watched: evc-calls check decides them\n"
+
+abbrev pub SaysUnwatched : ℕ → List (List ℕ) → Outgoing → Outgoing → Type 0
+SaysUnwatched n ps old new =
+    (m : ℕ) × IsUnwatched n ps m × Puts old new (unwatched_note m)
+
+-- ALL OF IT
+
+-- after these histories, at the parts from line m on
+abbrev pub Ends : Status → List OneRead → ℕ → List (List ℕ) → Outlets → Outlets → Type 0
+Ends Done reads m qs old new =
+    (0 < length reads) × (qs ≡ [] ∷ []) × Appends old.out new.out (summary_of reads)
+    × (new.notes ≡ old.notes)
+Ends Refused reads m qs old new =
+    (new.out ≡ old.out) × (SaysUnread m qs old.notes new.notes
+    ⊎ SaysStopped m qs old.notes new.notes)
+Ends NotDecided reads m qs old new =
+    (new.out ≡ old.out) × SaysUnwatched m qs old.notes new.notes
+Ends Memory reads m qs old new =
+    (new.out ≡ old.out) × Puts old.notes new.notes (codes "no memory\n")
+Ends InputOutput reads m qs old new =
+    (0 < length reads) × (qs ≡ [] ∷ []) × AppendsPrefix old.out new.out (summary_of reads)
+    × Puts old.notes new.notes (codes "write fault\n")
+Ends Usage reads m qs old new = ⊥
+
+-- the text was watched so: its first histories are linearizable, and then this came
+pub record IsWatchedTo (status : Status) (text : List ℕ) (old new : Outlets) : Type 0 where
+  pub reads : List OneRead
+  pub number : ℕ
+  pub rest : List (List ℕ)
+  pub good : AreGood 1 (parts_of text) reads number rest
+  pub ends : Ends status reads number rest old new
+
+-- a read failed
+abbrev pub IsCutShort : Status → Outlets → Outlets → Type 0
+IsCutShort InputOutput old new =
+    (new.out ≡ old.out) × Puts old.notes new.notes (codes "read fault\n")
+IsCutShort _ old new = ⊥
+
+abbrev pub Watches : List ℕ → Status → Outlets → Outlets → Type 0
+Watches bytes status old new = IsWatchedTo status bytes old new ⊎ IsCutShort status old new

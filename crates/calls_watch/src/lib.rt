@@ -1,0 +1,15 @@
+//! Histories of calls, judged while their lines come.
+#![tactic(auto)]
+
+mod feeder;
+mod laws;
+mod load;
+mod shown;
+mod stop;
+mod watcher;
+mod watching;
+
+pub use laws::{both_refuse_one_event, watch_agrees_with_check};
+pub use stop::Stop;
+pub use watcher::Watcher;
+pub use watching::watch;

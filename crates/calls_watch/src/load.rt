@@ -1,0 +1,135 @@
+//! How many calls were watched, and how far they overlap.
+ghost use Rattle.std.specs.Prelude.{◌≡◌, ◌+◌, ◌*◌, ◌%◌, ◌≤◌, ◌++◌, codes, OnOk, IfErr};
+ghost use Rattle.ec_text.specs.Puts.{Puts};
+ghost use Rattle.calls_watch.specs.declared.stop.Stop.TheVariants.{Memory};
+ghost use Rattle.calls_watch.specs.Loads.{invoked, others_at, digit_text, overlap_text, load_text};
+
+use crate::stop::Stop;
+use calls_core::Action;
+use ec_text::Out;
+use std::io::Write;
+
+/// The most calls that are counted.
+const CALLS_MAX: u64 = 1_000_000_000_000_000_000;
+
+/// Histories that were watched to their ends, and the calls so far.
+#[derive(Clone, Copy, Debug, PartialEq, Eq)]
+pub struct Load {
+    /// How many histories have ended.
+    pub histories: u64,
+    /// How many calls were invoked.
+    pub calls: u64,
+    /// The number of other calls that are pending after an invocation, added up over all
+    /// invocations.
+    pub others: u64,
+}
+
+/// Returns how many calls an event invokes.
+fn invoked(action: Action) -> u64
+    ensures { result ≡ invoked action }
+{
+    match action {
+        Action::Invoke(_, _) => 1,
+        Action::Respond(_) => 0,
+    }
+}
+
+/// Returns how many other calls are pending after an event, if it is an invocation.
+fn others_at(action: Action, pending: usize) -> u64
+    ensures { result ≡ others_at action pending }
+{
+    match action {
+        Action::Invoke(_, _) => (pending as u64).saturating_sub(1),
+        Action::Respond(_) => 0,
+    }
+}
+
+/// Puts a digit of a fraction, and returns what is left of it. The rest is less than the whole.
+fn put_digit<W: Write>(out: &mut Out<'_, W>, rest: u64, whole: u64) -> u64
+    requires some { 1 ≤ whole }
+    requires less { rest + 1 ≤ whole }
+    requires small { whole ≤ CALLS_MAX }
+    ensures puts { Puts out.old out.new (digit_text rest whole) }
+    ensures rest { result ≡ rest * 10 % whole }
+    ensures less { result + 1 ≤ whole }
+{
+    out.put_number(rest * 10 / whole);
+    rest * 10 % whole
+}
+
+/// Puts how many others are pending on average, with two decimals, cut off.
+fn put_overlap<W: Write>(out: &mut Out<'_, W>, calls: u64, others: u64)
+    ensures { Puts out.old out.new (overlap_text calls others) }
+{
+    if calls == 0 || calls > CALLS_MAX {
+        out.put(b"0.00");
+        return;
+    }
+    out.put_number(others / calls);
+    out.put(b".");
+    let rest = put_digit(out, others % calls, calls);
+    put_digit(out, rest, calls);
+}
+
+impl Load {
+    /// Returns nothing.
+    pub(crate) fn none() -> Load
+        ensures histories { result.histories ≡ 0 }
+        ensures calls { result.calls ≡ 0 }
+        ensures others { result.others ≡ 0 }
+    {
+        Load {
+            histories: 0,
+            calls: 0,
+            others: 0,
+        }
+    }
+
+    /// Adds an event, after which so many calls are pending.
+    pub(crate) fn add_event(&mut self, action: Action, pending: usize) -> Result<(), Stop>
+        ensures calls { OnOk result (self.new.calls ≡ self.old.calls + invoked action) }
+        ensures others { OnOk result (self.new.others ≡ self.old.others + others_at action pending) }
+        ensures histories { self.new.histories ≡ self.old.histories }
+        ensures err { IfErr result (λ stop. stop ≡ Memory) }
+    {
+        let calls = self.calls.checked_add(invoked(action)).ok_or(Stop::Memory)?;
+        let others = self
+            .others
+            .checked_add(others_at(action, pending))
+            .ok_or(Stop::Memory)?;
+        self.calls = calls;
+        self.others = others;
+        Ok(())
+    }
+
+    /// Adds a history.
+    pub(crate) fn add_history(&mut self) -> Result<(), Stop>
+        ensures histories { OnOk result (self.new.histories ≡ self.old.histories + 1) }
+        ensures calls { self.new.calls ≡ self.old.calls }
+        ensures others { self.new.others ≡ self.old.others }
+        ensures err { IfErr result (λ stop. stop ≡ Memory) }
+    {
+        self.histories = self.histories.checked_add(1).ok_or(Stop::Memory)?;
+        Ok(())
+    }
+
+    /// Puts it as a line.
+    pub(crate) fn put<W: Write>(&self, out: &mut Out<'_, W>)
+        ensures { Puts out.old out.new (load_text self.now.histories self.now.calls self.now.others) }
+    {
+        out.put_number(self.histories);
+        out.put(b" histories, ");
+        out.put_number(self.calls);
+        self.put_rest(out);
+    }
+
+    /// Puts what stands after the number of calls.
+    fn put_rest<W: Write>(&self, out: &mut Out<'_, W>)
+        ensures { Puts out.old out.new (codes " calls, overlap "
+            ++ overlap_text self.now.calls self.now.others ++ codes "\n") }
+    {
+        out.put(b" calls, overlap ");
+        put_overlap(out, self.calls, self.others);
+        out.put(b"\n");
+    }
+}

@@ -1,0 +1,171 @@
+//! Histories of a text, judged line by line.
+ghost use Rattle.std.specs.Prelude.{◌≡◌, ◌<◌, ◌∷◌, [], List, ℕ, Some, length, true, false};
+ghost use Rattle.calls_core.specs.declared.history.Event.{Event};
+ghost use Rattle.calls_core.specs.Histories.{pending_calls};
+ghost use Rattle.calls_monitor.specs.declared.monitor.Monitor.{Monitor};
+ghost use Rattle.calls_text.specs.Outcomes.{parts_of};
+ghost use Rattle.calls_text.specs.Reading.{Running};
+ghost use Rattle.calls_text.specs.Recordings.{Recorded};
+ghost use Rattle.calls_text.specs.Following.{built, HasSeen};
+ghost use Rattle.calls_watch.specs.Watches.{invokes_cells};
+ghost use Rattle.calls_watch.specs.kept.Watching.{IsWatching, GoesOn, EndsAs, Stops, Opens, IsJudged};
+ghost use Rattle.calls_watch.specs.kept.Watching.{Begins, IsEventJudged, IsBegunAgain, GoesOnBy};
+ghost use Rattle.calls_watch.specs.kept.Watching.{MayEnd, GoesOnAt};
+
+use crate::load::Load;
+use crate::stop::Stop;
+use calls_core::{Action, Event, Op};
+use calls_monitor::{Monitor, Rejection};
+use calls_text::{Followed, Follower, Recording};
+use std::alloc::Global;
+
+/// What is kept of a text: its histories so far are linearizable, and so is the beginning of the
+/// next one. Nothing of it grows with the text.
+#[derive(Drop)]
+pub struct Watcher {
+    pub(crate) follower: Follower,
+    pub(crate) monitor: Option<Monitor>,
+    pub(crate) number: u64,
+    pub(crate) load: Load,
+}
+
+/// Returns whether an event invokes a call of a cell or a database.
+fn invokes_cells(action: Action) -> bool
+    ensures { result ≡ invokes_cells action }
+{
+    matches!(action, Action::Invoke(_, Op::Put(_) | Op::Get))
+}
+
+/// Opens a monitor of what is declared.
+fn open_monitor(alloc: Global, recording: &Recording) -> Result<Monitor, Stop>
+    ensures { Opens recording.now result }
+{
+    match Monitor::open(alloc, recording.kinds()) {
+        Ok(monitor) => Ok(monitor),
+        Err(_) => Err(Stop::Memory),
+    }
+}
+
+/// Judges an event by the monitor.
+fn judge(monitor: &mut Option<Monitor>, event: Event) -> Result<(), Stop>
+    ensures { (m : Monitor) → monitor.old ≡ Some m → IsJudged m event monitor.new result }
+{
+    let Some(watching) = monitor else {
+        return Err(Stop::Memory);
+    };
+    match watching.event(event) {
+        Ok(()) => Ok(()),
+        Err(Rejection::Refused(refused)) => Err(Stop::Refused(event, refused)),
+        // (a history has at most 16 workers, and there is room for 64 pending calls)
+        Err(Rejection::Full) => Err(Stop::Memory),
+    }
+}
+
+impl Watcher {
+    /// Returns what is kept of a text before its first line.
+    pub fn new() -> Watcher
+        ensures { (ps : List (List ℕ)) → IsWatching ps ps result }
+    {
+        Watcher {
+            follower: Follower::new(),
+            monitor: None,
+            number: 1,
+            load: Load::none(),
+        }
+    }
+
+    /// Opens the monitor of a history.
+    fn begin(&mut self, alloc: Global) -> Result<(), Stop>
+        ensures { (r : Recorded) → built [] self.old.follower ≡ Running r
+            → Begins r self.old self.new result }
+    {
+        let Some(recording) = self.follower.recording() else {
+            return Err(Stop::Memory);
+        };
+        self.monitor = Some(open_monitor(alloc, recording)?);
+        Ok(())
+    }
+
+    /// Judges an event, and counts it.
+    fn event(&mut self, event: Event) -> Result<(), Stop>
+        ensures { (m : Monitor) → self.old.monitor ≡ Some m
+            → IsEventJudged m event self.old self.new result }
+    {
+        if invokes_cells(event.action) {
+            return Err(Stop::NotWatched);
+        }
+        judge(&mut self.monitor, event)?;
+        self.load.add_event(event.action, self.follower.pending())
+    }
+
+    /// Begins the next history.
+    fn end_history(&mut self) -> Result<(), Stop>
+        ensures { IsBegunAgain self.old self.new result }
+    {
+        self.load.add_history()?;
+        self.follower = Follower::new();
+        self.monitor = None;
+        Ok(())
+    }
+
+    /// Goes on by what the line was.
+    fn go_on(&mut self, alloc: Global, followed: Followed) -> Result<(), Stop>
+        ensures { GoesOnBy followed self.old self.new result }
+    {
+        match followed {
+            Followed::Heading => Ok(()),
+            Followed::Run => self.begin(alloc),
+            Followed::Event(event) => self.event(event),
+            Followed::End => self.end_history(),
+        }
+    }
+
+    /// Takes the next line, given without its LF. After a stop it has no use.
+    pub fn line(&mut self, alloc: Global, line: &[u8]) -> Result<(), Stop>
+        ensures { (ps qs : List (List ℕ)) (q : List ℕ)
+            → IsWatching ps (line.now ∷ q ∷ qs) self.old → GoesOn result ps (q ∷ qs) self.new }
+    {
+        let followed = match self.follower.line(alloc, self.number, line) {
+            Ok(followed) => followed,
+            Err(fault) => return Err(Stop::Unread(fault)),
+        };
+        let Some(next) = self.number.checked_add(1) else {
+            return Err(Stop::Memory);
+        };
+        self.number = next;
+        self.go_on(alloc, followed)
+    }
+
+    /// Returns why the next line stops it, if that has more than 8192 bytes.
+    pub fn long_line(&self) -> Stop
+        ensures { (ps qs : List (List ℕ)) (line : List ℕ)
+            → IsWatching ps (line ∷ qs) self.now → 8192 < length line → Stops result ps self.now }
+    {
+        Stop::Unread(self.follower.long_line(self.number))
+    }
+
+    /// Returns whether the text may end here, with these bytes after its last LF.
+    fn may_end(&self, rest: &[u8]) -> bool
+        ensures over { result ≡ true → MayEnd rest.now self.now }
+        ensures going { result ≡ false → GoesOnAt rest.now self.now }
+    {
+        if !rest.is_empty() {
+            return false;
+        }
+        if self.load.histories == 0 {
+            return false;
+        }
+        self.follower.is_opening()
+    }
+
+    /// Ends the text, which has these bytes after its last LF.
+    pub fn end(&mut self, alloc: Global, rest: &[u8]) -> Result<(), Stop>
+        ensures { (ps : List (List ℕ)) → IsWatching ps (rest.now ∷ []) self.old
+            → EndsAs result ps self.new }
+    {
+        if self.may_end(rest) {
+            return Ok(());
+        }
+        Err(Stop::Unread(self.follower.cut_off(alloc, self.number, rest)))
+    }
+}

@@ -1,0 +1,217 @@
+//! `watch`: histories of calls in, each judged while it comes.
+ghost use Rattle.std.specs.Prelude.{◌≡◌, ◌≤◌, ◌++◌, List, ℕ, Option, IfSome, length, take};
+ghost use Rattle.ec_text.specs.Puts.{Puts, IsWrittenOut};
+ghost use Rattle.calls_core.specs.declared.history.Event.{Event};
+ghost use Rattle.calls_text.specs.Reading.{Running};
+ghost use Rattle.calls_text.specs.Recordings.{Recorded};
+ghost use Rattle.calls_text.specs.Following.{built};
+ghost use Rattle.calls_report.specs.Notes.{fault_note};
+ghost use Rattle.calls_report.specs.declared.status.Status.TheVariants.{NotDecided};
+ghost use Rattle.calls_watch.specs.Loads.{load_text};
+ghost use Rattle.calls_watch.specs.Watches.{Watches, line_of_first, refused_note, unwatched_note};
+ghost use Rattle.calls_watch.specs.kept.Watching.{FedFrom, IsFed, Feeds, Stops};
+ghost use Rattle.calls_watch.specs.kept.Endings.{ReadsOn, ReadsAll, WritesLoad, SaysRefused};
+ghost use Rattle.calls_watch.specs.kept.Endings.{SaysStop, fault_status};
+
+use crate::feeder::Feeder;
+use crate::load::Load;
+use crate::shown::shown_by;
+use crate::stop::Stop;
+use crate::watcher::Watcher;
+use arrayvec::ArrayVec;
+use calls_core::Event;
+use calls_monitor::Refused;
+use calls_report::{Status, say_certificate, say_fault};
+use calls_text::TextFault;
+use ec_text::{Out, read_piece};
+use std::alloc::Global;
+use std::io::{Read, Write};
+
+/// Why a text is not read to its end.
+#[derive(Clone, Copy, Debug, PartialEq, Eq)]
+pub(crate) enum Cut {
+    /// A read failed.
+    Read,
+    /// It is not watched further.
+    Stop(Stop),
+}
+
+/// Takes the first bytes of the table.
+fn feed_front(
+    alloc: Global,
+    table: &ArrayVec<u8, 8192>,
+    n: usize,
+    feeder: &mut Feeder,
+) -> Result<(), Stop>
+    requires { n ≤ length table.now.items }
+    ensures { (ps : List (List ℕ)) (rest : List ℕ)
+        → IsFed ps (take n table.now.items ++ rest) feeder.old → Feeds result ps rest feeder.new }
+{
+    let bytes = table.as_slice();
+    feeder.feed(alloc, &bytes[..n])
+}
+
+/// Reads a piece and takes it. Returns whether the text may go on.
+fn read_on<R: Read>(
+    alloc: Global,
+    reader: &mut R,
+    table: &mut ArrayVec<u8, 8192>,
+    feeder: &mut Feeder,
+) -> Result<bool, Cut>
+    requires { length table.old.items ≡ 8192 }
+    ensures len { length table.new.items ≡ 8192 }
+    ensures reads { (old : Option (List ℕ)) → FedFrom old (R.remaining reader.old) feeder.old
+        → ReadsOn old result (R.remaining reader.new) feeder.new }
+{
+    let Ok(n) = read_piece(reader, table) else {
+        return Err(Cut::Read);
+    };
+    if n == 0 {
+        return match feeder.end(alloc) {
+            Ok(()) => Ok(false),
+            Err(stop) => Err(Cut::Stop(stop)),
+        };
+    }
+    match feed_front(alloc, table, n, feeder) {
+        Ok(()) => Ok(true),
+        Err(stop) => Err(Cut::Stop(stop)),
+    }
+}
+
+/// Reads a text to its end, piece by piece.
+fn read_all<R: Read>(alloc: Global, reader: &mut R, feeder: &mut Feeder) -> Result<(), Cut>
+    ensures { (old : Option (List ℕ)) → FedFrom old (R.remaining reader.old) feeder.old
+        → ReadsAll old result feeder.new }
+{
+    let mut table: ArrayVec<u8, 8192> = ArrayVec::from([0u8; 8192]);
+    'pieces: for _piece in 0..u64::MAX {
+        match read_on(alloc, reader, &mut table, feeder) {
+            Ok(true) => {}
+            Ok(false) => return Ok(()),
+            Err(cut) => return Err(cut),
+        }
+    }
+    // (so many pieces would take centuries)
+    Err(Cut::Stop(Stop::Memory))
+}
+
+/// Writes how many calls came.
+fn write_load<W: Write, N: Write>(load: Load, out: &mut W, notes: &mut Out<'_, N>) -> Status
+    ensures writes { WritesLoad result (load_text load.histories load.calls load.others)
+        (record { out = W.contents out.old; notes = notes.old })
+        (record { out = W.contents out.new; notes = notes.new }) }
+    ensures written { IsWrittenOut notes.old → IsWrittenOut notes.new }
+{
+    let mut text = Out::new(out);
+    load.put(&mut text);
+    let done = text.finish();
+    text.into_writer();
+    match done {
+        Ok(()) => Status::Done,
+        Err(_) => {
+            notes.say(b"write fault\n");
+            Status::InputOutput
+        }
+    }
+}
+
+/// Returns the number of the line of the event at position 0, by that of the line after another.
+fn line_of_first(number: u64, at: usize) -> u64
+    ensures { result ≡ line_of_first number at }
+{
+    number.saturating_sub(1).saturating_sub(at as u64)
+}
+
+/// Says that a history has no linearization from an event on.
+fn say_refused<N: Write>(
+    watcher: &Watcher,
+    event: Event,
+    refused: Refused,
+    notes: &mut Out<'_, N>,
+) -> Status
+    ensures says { (events : List Event) (r : Recorded)
+        → built events watcher.now.follower ≡ Running r
+        → SaysRefused result (refused_note watcher.now.number r event refused) notes.old notes.new }
+    ensures written { IsWrittenOut notes.new }
+{
+    let Some(recording) = watcher.follower.recording() else {
+        notes.flush();
+        return Status::Memory;
+    };
+    let Refused { object, refusal } = refused;
+    let shown = shown_by(recording, object, refusal);
+    let first = line_of_first(watcher.number, event.at);
+    say_certificate(notes, recording, object, first, event.at, shown);
+    Status::Refused
+}
+
+/// Says why a line is at fault.
+fn say_unread<N: Write>(fault: TextFault, notes: &mut Out<'_, N>) -> Status
+    ensures status { result ≡ fault_status fault }
+    ensures puts { Puts notes.old notes.new (fault_note fault) }
+    ensures written { IsWrittenOut notes.new }
+{
+    say_fault(notes, fault);
+    match fault {
+        TextFault::At { .. } => Status::Refused,
+        TextFault::Memory => Status::Memory,
+    }
+}
+
+/// Says that a call is not watched, by the number of the line after it.
+fn say_unwatched<N: Write>(number: u64, notes: &mut Out<'_, N>) -> Status
+    ensures status { result ≡ NotDecided }
+    ensures puts { Puts notes.old notes.new (unwatched_note number) }
+    ensures written { IsWrittenOut notes.new }
+{
+    notes.put(b"line ");
+    notes.put_number(number.saturating_sub(1));
+    notes.put(b": ");
+    notes.say(b"cells and databases are not watched: evc-calls check decides them\n");
+    Status::NotDecided
+}
+
+/// Says why a text is not watched further.
+fn say_stop<N: Write>(watcher: &Watcher, stop: Stop, notes: &mut Out<'_, N>) -> Status
+    ensures says { (ps : List (List ℕ)) → Stops stop ps watcher.now
+        → SaysStop ps result notes.old notes.new }
+    ensures written { IsWrittenOut notes.new }
+{
+    match stop {
+        Stop::Unread(fault) => say_unread(fault, notes),
+        Stop::Refused(event, refused) => say_refused(watcher, event, refused, notes),
+        Stop::NotWatched => say_unwatched(watcher.number, notes),
+        Stop::Memory => {
+            notes.say(b"no memory\n");
+            Status::Memory
+        }
+    }
+}
+
+/// Reads histories of calls and judges each event when its line comes, up to the first history that
+/// has no linearization; then a note says why. At the end it writes how many histories and calls
+/// there were, and how many other calls are pending on average when one is invoked.
+///
+/// What is kept does not grow with the text. Calls of cells and databases are not watched: the first
+/// one ends it. A read that fails is not tried again.
+pub fn watch<R: Read, W: Write, N: Write>(
+    alloc: Global,
+    reader: &mut R,
+    out: &mut W,
+    notes: &mut Out<'_, N>,
+) -> Status
+    ensures ends { IfSome (R.remaining reader.old) (λ bytes. Watches bytes result
+        (record { out = W.contents out.old; notes = notes.old })
+        (record { out = W.contents out.new; notes = notes.new })) }
+    ensures written { IsWrittenOut notes.old → IsWrittenOut notes.new }
+{
+    let mut feeder = Feeder::new();
+    match read_all(alloc, reader, &mut feeder) {
+        Ok(()) => write_load(feeder.watcher.load, out, notes),
+        Err(Cut::Read) => {
+            notes.say(b"read fault\n");
+            Status::InputOutput
+        }
+        Err(Cut::Stop(stop)) => say_stop(&feeder.watcher, stop, notes),
+    }
+}
