@@ -1,0 +1,86 @@
+-- The state is lent for the call, and lies there again after it.
+use Rattle.std.proofs.Common.{◌≡◌, ℕ, List, [], ◌∷◌, refl, length, w8}
+use Rattle.std.proofs.raw_atomic.Walks.{proved}
+use base.Fraction.{full_share}
+use base.Logic.{id⊢, sep}
+use base.Fml.{ftrue, flft, flent}
+use mir.Syntax.{named}
+use mir.Val.{Val, vptr}
+use prog.Wp.{WpFn}
+use contract.Monad.{fact}
+use contract.Running.{tables}
+use types.Logic.{sem}
+use types.Kit.{‵, raw, ◌⊛◌, some, later, prop, ◌$◌, ◌∵◌, !, qed, done, move, keep, drop, use1, use2, use3, split, join, fsplit, feq_i, feq_l, pick, await, regoal, suffices, frame, group, show}
+use types.Tokens.{lft_new, lft_end}
+use types.SemTy.{Body}
+use types.Run.{enter, addr, no_more, and_then, stop, returns, of_opd}
+use types.ByLocal.{alloc_all, pass_all, free_all, look_at, get, through, sets, lands_as}
+use denote.Builtin.{u8}
+use denote.Exit.{yes}
+use denote.Laws.{Is, shows}
+use denote.Plain.{uint_Lawful}
+use denote.Memory.{part_at, mem}
+use denote.RawPtr.{Ptr, ptr_val, RawPtr, block_ptr, lies_at, in_a_block, rawptr_vals, rawptr_Tells}
+use denote.Ref.{MutRef, mut_vals}
+use denote.Slice.{ShrSlice, shr_slice_vals, shr_slice_Tells, shr_slice_Lawful, slice_val}
+use denote.Lend.{lends_ref, ref_back}
+use denote.Signature.{plain, shr_slice_of}
+use denote.Steps.{nothing, heard, peeks}
+use denote.Triple.Call.{calls_at}
+use denote.Triple.Clauses.{lasts}
+use denote.Triple.Entry.{on_entry}
+use denote.Triple.Spec.{triple_of}
+use denote.Triple.Walked.{says, Stays, walk_of, stay_dropped, Goes-dropped, ends_at}
+use denote.Triple.Table.{framed}
+use Rattle.mon_scratch.specs.contracts.form1.mon_scratch_line as f
+use Rattle.mon_scratch.proofs.form1.mon_scratch_line.Statement.{statement}
+use Rattle.mon_scratch.proofs.form1.mon_scratch_line.Code as code
+use Rattle.mon_scratch.specs.contracts.tally.Tally.line as g
+use Rattle.mon_scratch.proofs.tally.Tally.line.Met.{met}
+use Rattle.mon_scratch.specs.contracts.tally.Tally.{the_row as R}
+use Rattle.mon_scratch.specs.declared.tally.Tally.{Tally}
+use Rattle.mon_scratch.specs.Stands.{Takes}
+
+abbrev stayed : Stays f.ended.signature.params f.ended.kept
+stayed = (stay_dropped _ yes, (stay_dropped _ yes, tt))
+
+pub mon_scratch_line_spec : {M : Type 1} → statement M
+mon_scratch_line_spec 𝓤 𝓛 𝓜 𝓡 wired =
+    let c = f.clauses 𝓛 𝓜.mem 𝓡.returns in let W = walk_of 𝓛 f.ended stayed c in let 𝓣 = tables 𝓤 𝓛.H 𝓜 𝓡 𝓡.env in
+    proved 𝓛 f.ended stayed c 𝓜 𝓡 (Goes-dropped 𝓛 1 (plain (λ _. RawPtr)) yes (λ κs x w. refl), (Goes-dropped 𝓛 1 (shr_slice_of (0 ∷ []) tt (plain (λ _. u8))) yes (λ κs x w. refl), tt))
+    f.Key.name code.function (code.unfolded 𝓤 𝓛.H 𝓜 𝓡 wired)
+    (λ κs. (rawptr_vals, (shr_slice_vals, tt))) (λ κs. (rawptr_Tells, (shr_slice_Tells (named 0) κs.0 u8, tt))) (λ κs qs bounds a old are.
+    let y : Ptr → W.Ghost = λ p. ((κs, qs, bounds, (p, a.1), (rawptr_vals p, (shr_slice_vals a.1.0, tt))), old) in
+    let Line = ‵ ((ShrSlice (named 0) κs.0 u8).own_val a.1.0 (shr_slice_vals a.1.0)) in
+    qed 𝓛 (((‵ (flft κs.0 qs.0) ⊛ ‵ ftrue) ⊛ ‵ (RawPtr.own_val a.0 (rawptr_vals a.0)) ⊛ Line ⊛ ‵ ftrue) ∷ ‵ (lies_at R full_share a.0 old) ∷ []) ∵
+    split ! $ split ! $ move ! (2 ∷ []) $ split ! $ drop ! $ split ! $ keep ! (4 ∷ 2 ∷ 0 ∷ []) $
+    in_a_block ! a.0 (λ p. lies_at R full_share p old) (id⊢ 𝓤 _) (λ b o e.
+    regoal ! (λ p. prop (WpFn 𝓤 𝓛.H 𝓣.C 𝓣.Λ code.function (ptr_val p ∷ slice_val a.1.0.ref_ptr (length a.1.0.now) ∷ []) (W.post (y p)))) e refl $
+    let Ref = λ (κ' : List ℕ) (δ : ℕ). (MutRef (named 0) κ' R).own_val (record { ref_ptr = (b, o); ghost_name = δ; now = old }) (vptr b o ∷ []) in
+    enter ! _ _ _ _ _ $ alloc_all ! (λ l. pass_all ! refl ((tt, tt), (((shr_slice_Lawful 𝓛 (named 0) κs.0 u8).typed a.1.0 _ are.1.0).0, tt)) $
+    -- [the state; the token of the line's lifetime; the line; the locals]
+    sets ! (of_opd ! (get ! refl)) refl (tt, tt) $
+    sets ! (addr ! (through ! refl (stop !))) refl (tt, tt) $
+    lft_new ! tt (λ α. move ! (1 ∷ []) $
+    use1 𝓛 (later (some (λ (δ : ℕ). ‵ (Ref (α ∷ []) δ) ⊛ ‵ (flent (α ∷ []) (Body (mem R) b o δ))))) (lends_ref 𝓛 R (named 0) (α ∷ []) old b o) $ await ! tt $ pick ! (λ δ. split ! $
+    -- [the loan; what the lender keeps; the token of α; that of the line's; the line]
+    let G = triple_of 𝓛 g.signature (g.spec 𝓛 𝓜.mem 𝓡.returns) in
+    let z : G.Ghost = (((α ∷ [], κs), (full_share, qs), (tt), (record { ref_ptr = (b, o); ghost_name = δ; now = old }, a.1), (vptr b o ∷ [], (shr_slice_vals a.1.0, tt))), tt) in
+    nothing ! $ move ! (5 ∷ 0 ∷ []) $ join ! $ move ! (1 ∷ 0 ∷ []) $ join ! $
+    nothing ! $ move ! (4 ∷ 0 ∷ []) $ join ! $ move ! (3 ∷ 0 ∷ []) $ join ! $ join ! $
+    nothing ! $ move ! (1 ∷ 0 ∷ []) $ use2 𝓛 (raw (G.pre z)) (id⊢ 𝓤 _) $
+    calls_at ! (framed 𝓤 𝓛.H 𝓜 (tables 𝓤 𝓛.H 𝓜 𝓡 𝓡.env)) G (met 𝓤 𝓛 𝓜 𝓡 (code.calls-mon_scratch::tally::Tally::line 𝓡.env wired)) z
+    (and_then ! (get ! refl) (and_then ! (get ! refl) (no_more !))) (λ v.
+    use1 𝓛 (later (some (λ (r : ℕ). ((‵ (flft (α ∷ []) full_share) ⊛ (‵ (flft κs.0 qs.0) ⊛ ‵ ftrue)) ⊛ ‵ (u8.own_val r (v ∷ []))) ⊛
+    some (λ (ws : Tally × (Unit {0} × Unit {0})). ‵ (lasts g.ended z.0.0 z.0.3 ws) ⊛ raw (fact 𝓤 (Takes a.1.0.now r old ws.0)))))) (id⊢ 𝓤 _) $
+    await ! tt $ pick ! (λ r. split ! $ split ! $ split ! $ lft_end ! tt $ move ! (3 ∷ []) $ pick ! (λ ws. split ! $
+    move ! (1 ∷ []) $ heard ! _ (λ takes. fsplit ! $ fsplit ! $
+    -- [the last value; its borrow; nothing; α is over; the token of the line; the result; what the lender keeps]
+    move ! (3 ∷ 6 ∷ 0 ∷ []) $ use3 𝓛 (later (‵ (part_at R full_share ws.0 b o))) (ref_back 𝓛 R (α ∷ []) δ ws.0 b o) $ await ! tt $
+    move ! (4 ∷ []) $ peeks ! u8 (Is u8) (shows 𝓛 u8) r (v ∷ []) (λ is. lands_as ! refl refl ((uint_Lawful 𝓛 w8).typed r _ is).0 $
+    returns ! (look_at ! 0 refl) $ free_all ! refl $
+    suffices ! _ (ends_at 𝓛 f.ended stayed c (y (block_ptr b o)) v r (tt, (tt, tt)) (tt, (tt, tt))) $
+    -- [the result; the state; its borrow; nothing; the token of the line]
+    nothing ! $ nothing ! $ join ! $ nothing ! $ join ! $ join ! $ move ! (4 ∷ 0 ∷ []) $ join ! $ frame ! $ keep ! (0 ∷ []) $
+    show ! (λ (new : Tally). sep 𝓤 (sem 𝓛 (lies_at R full_share (block_ptr b o) new)) (fact 𝓤 (Takes a.1.0.now r old new))) ws.0 $
+    says ! takes $ done !))))))))))
