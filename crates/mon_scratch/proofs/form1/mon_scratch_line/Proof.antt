@@ -1,16 +1,16 @@
 -- The state is lent for the call, and lies there again after it.
-use Rattle.std.proofs.Common.{◌≡◌, ℕ, List, [], ◌∷◌, refl, length, w8}
+use Rattle.std.proofs.Common.{ℕ, List, [], ◌∷◌, refl, length, w8}
 use Rattle.std.proofs.raw_atomic.Walks.{proved}
 use base.Fraction.{full_share}
 use base.Logic.{id⊢, sep}
 use base.Fml.{ftrue, flft, flent}
 use mir.Syntax.{named}
-use mir.Val.{Val, vptr}
+use mir.Val.{vptr}
 use prog.Wp.{WpFn}
 use contract.Monad.{fact}
 use contract.Running.{tables}
 use types.Logic.{sem}
-use types.Kit.{‵, raw, ◌⊛◌, some, later, prop, ◌$◌, ◌∵◌, !, qed, done, move, keep, drop, use1, use2, use3, split, join, fsplit, feq_i, feq_l, pick, await, regoal, suffices, frame, group, show}
+use types.Kit.{‵, raw, ◌⊛◌, some, later, prop, ◌$◌, ◌∵◌, !, qed, done, move, keep, drop, use1, use2, use3, split, join, fsplit, pick, await, regoal, suffices, frame, show}
 use types.Tokens.{lft_new, lft_end}
 use types.SemTy.{Body}
 use types.Run.{enter, addr, no_more, and_then, stop, returns, of_opd}
@@ -21,14 +21,13 @@ use denote.Laws.{Is, shows}
 use denote.Plain.{uint_Lawful}
 use denote.Memory.{part_at, mem}
 use denote.RawPtr.{Ptr, ptr_val, RawPtr, block_ptr, lies_at, in_a_block, rawptr_vals, rawptr_Tells}
-use denote.Ref.{MutRef, mut_vals}
+use denote.Ref.{MutRef}
 use denote.Slice.{ShrSlice, shr_slice_vals, shr_slice_Tells, shr_slice_Lawful, slice_val}
 use denote.Lend.{lends_ref, ref_back}
 use denote.Signature.{plain, shr_slice_of}
 use denote.Steps.{nothing, heard, peeks}
 use denote.Triple.Call.{calls_at}
 use denote.Triple.Clauses.{lasts}
-use denote.Triple.Entry.{on_entry}
 use denote.Triple.Spec.{triple_of}
 use denote.Triple.Walked.{says, Stays, walk_of, stay_dropped, Goes-dropped, ends_at}
 use denote.Triple.Table.{framed}
