@@ -1,8 +1,9 @@
 -- How histories are judged in turn.
 use Rattle.std.proofs.Common.{◌≡◌, ◌<◌, ◌≤◌, inl, inr, ℕ, ◌+◌, List, [], ◌∷◌, ◌++◌, Result, Ok, Err}
-use Rattle.std.proofs.Common.{Bool, true, false, if◌then◌else◌, refl, ap, sym, ◌∙◌, subst, arith}
+use Rattle.std.proofs.Common.{Bool, true, false, cond, eqb, if◌then◌else◌, refl, ap, sym, ◌∙◌, subst, arith}
 use Rattle.std.proofs.Common.{codes}
 use Rattle.std.proofs.Common.{append-nil, length}
+use Rattle.std.specs.List.{onto_first}
 use Rattle.std.proofs.lemmas.List.Concat.{flat_map-append}
 use Rattle.ec_text.specs.Puts.{Outgoing, Puts}
 use Rattle.ec_text.proofs.shared.PutLemmas.{puts_then}
@@ -23,7 +24,7 @@ use Rattle.calls_report.specs.Notes.{fault_note}
 use Rattle.calls_report.specs.Orders.{order_lines}
 use Rattle.calls_report.specs.Remarks.{remarks_text}
 use Rattle.calls_report.specs.Checks.{Judged, HasOrder, AreJudged, texts_of, remarks_on}
-use Rattle.calls_report.specs.Checks.{history_text}
+use Rattle.calls_report.specs.Checks.{history_text, IsNoEnd}
 use Rattle.calls_report.specs.kept.Judging.{PutsOrder, StopsBy, status_by, EndsBy, fault_status}
 use Rattle.calls_report.specs.kept.Judging.{Judges, IsJudgedSoFar}
 
@@ -115,6 +116,48 @@ pub goes_past : (n : ℕ) (ps : List (List ℕ)) (o : OneRead) → goes n Openin
 unfolding is_ended
 goes_past n ps o is = goes_on false ps n Opening o refl is
 
+-- THE END OF A TEXT
+
+no_parts : (b : ℕ) (ps : List (List ℕ)) → onto_first b ps ≡ [] → ⊥
+no_parts b [] none = cc
+no_parts b (p ∷ ps) none = cc
+
+some_parts : (bytes : List ℕ) → parts_of bytes ≡ [] → ⊥
+some_parts [] none = cc
+some_parts (b ∷ bytes) none =
+    let P : Bool → Type 0 =
+    λ t. cond t ([] ∷ parts_of bytes) (onto_first b (parts_of bytes)) ≡ [] → ⊥ in
+    let w : P (eqb b 10) = elim (eqb b 10) as P [
+      | true ↦ λ e. (let never : ⊥ = cc in never)
+      | false ↦ λ e. no_parts b (parts_of bytes) e
+    ] in
+    w none
+
+long_parts : (b : ℕ) (ps : List (List ℕ)) → onto_first b ps ≡ [] ∷ [] → ⊥
+long_parts b [] one = cc
+long_parts b (p ∷ ps) one = cc
+
+tail_none : (p : List ℕ) (ps : List (List ℕ)) → p ∷ ps ≡ [] ∷ [] → ps ≡ []
+tail_none p ps one = cc
+
+more_parts : (b : ℕ) (bytes : List ℕ) → parts_of (b ∷ bytes) ≡ [] ∷ [] → ⊥
+more_parts b bytes one =
+    let P : Bool → Type 0 =
+    λ t. cond t ([] ∷ parts_of bytes) (onto_first b (parts_of bytes)) ≡ [] ∷ [] → ⊥ in
+    let w : P (eqb b 10) = elim (eqb b 10) as P [
+      | true ↦ λ e. some_parts bytes (tail_none [] (parts_of bytes) e)
+      | false ↦ λ e. long_parts b (parts_of bytes) e
+    ] in
+    w one
+
+by_bytes : (rest : List ℕ) → 0 < length rest → parts_of rest ≡ [] ∷ [] → ⊥
+by_bytes [] some none = omega arith
+by_bytes (b ∷ bytes) some none = more_parts b bytes none
+
+-- where bytes are left after a history
+pub no_end : (n : ℕ) (rest : List ℕ) → (1 < n → 0 < length rest) → IsNoEnd n (parts_of rest)
+no_end n rest left = λ past none. by_bytes rest (left past) none
+
 -- ONE HISTORY MORE
 
 judged_more : (n : ℕ) (ps : List (List ℕ)) (js : List Judged) (m : ℕ) (qs : List (List ℕ))
@@ -177,9 +220,10 @@ same_put a b c bs same put = subst (λ k. Puts a k bs) (sym same) put
 
 pub judges_unread : (text : List ℕ) (n : ℕ) (rest : List ℕ) (old new before among after : Outgoing)
     (fault : TextFault) → IsJudgedSoFar text n rest old new before among
-    → TellsFault (goes n Opening (parts_of rest)) fault → Puts among after (fault_note fault)
+    → IsNoEnd n (parts_of rest) → TellsFault (goes n Opening (parts_of rest)) fault
+    → Puts among after (fault_note fault)
     → Judges (fault_status fault) text old new before after
-judges_unread text n rest old new before among after (faults.At m kind cause) so tells says = (
+judges_unread text n rest old new before among after (faults.At m kind cause) so goes_on tells says = (
   so.judged,
   record {
     number = n;
@@ -190,12 +234,13 @@ judges_unread text n rest old new before among after (faults.At m kind cause) so
     ends = inl (
       fault_note (faults.At m kind cause),
       (m, kind, tells.0, tells.1, ap (λ c. fault_note (faults.At m kind c)) tells.2),
+      goes_on,
       says,
     );
   },
   so.texts,
 )
-judges_unread text n rest old new before among after faults.Memory so tells says = (
+judges_unread text n rest old new before among after faults.Memory so goes_on tells says = (
   so.judged,
   record {
     number = n;

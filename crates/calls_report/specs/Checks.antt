@@ -84,6 +84,15 @@ IsUnread m qs note =
     (n : ℕ) × (kind : kinds.Kind) × (line : List ℕ) × (goes m Opening qs ≡ fault_in n kind line)
     × (note ≡ fault_note (At n kind (cause_of kind line)))
 
+-- this is not the end of a text after a history
+abbrev pub IsNoEnd : ℕ → List (List ℕ) → Type 0
+IsNoEnd m qs = 1 < m → qs ≡ [] ∷ [] → ⊥
+
+-- the lines from line m on are neither a history nor the end of the text, and a note says why
+abbrev pub SaysUnread : ℕ → List (List ℕ) → Outgoing → Outgoing → Type 0
+SaysUnread m qs old new =
+    (note : List ℕ) × IsUnread m qs note × IsNoEnd m qs × Puts old new note
+
 -- the history from line m on has no linearization, and a note says why
 abbrev pub SaysRefused : ℕ → List (List ℕ) → Outgoing → Outgoing → Type 0
 SaysRefused m qs old new =
@@ -101,8 +110,7 @@ SaysOpen m qs old new =
 -- linearization, and a note says why; or a history is not decided; or memory ran out
 abbrev pub Ends : Status → ℕ → List (List ℕ) → Outgoing → Outgoing → Type 0
 Ends Done m qs old new = (1 < m) × (qs ≡ [] ∷ []) × (new ≡ old)
-Ends Refused m qs old new =
-    ((note : List ℕ) × IsUnread m qs note × Puts old new note) ⊎ SaysRefused m qs old new
+Ends Refused m qs old new = SaysUnread m qs old new ⊎ SaysRefused m qs old new
 Ends NotDecided m qs old new = SaysOpen m qs old new
 Ends Memory m qs old new = Puts old new (codes "no memory\n")
 Ends Usage m qs old new = ⊥

@@ -1,3 +1,4 @@
 mod Histories
+mod Uncalled
 mod LineLemmas
 mod PieceLemmas

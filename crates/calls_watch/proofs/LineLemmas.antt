@@ -2,18 +2,17 @@
 use Rattle.std.proofs.Common.{◌≡◌, ◌<◌, ◌≤◌, ℕ, ◌+◌, Bool, true, false, List, [], ◌∷◌, ◌++◌, length}
 use Rattle.std.proofs.Common.{reverse, Option, Some, None, Result, Ok, Err, refl, ap, sym, ◌∙◌, subst, arith}
 use Rattle.std.proofs.Common.{length-append}
-use Rattle.std.specs.List.{list_all}
 use Rattle.std.proofs.lemmas.List.{reverse-append}
 use Rattle.ec_heading.specs.Headed.{Headed}
 use Rattle.calls_core.specs.declared.history.Kind.{Kind}
 use Rattle.calls_core.specs.declared.history.Event.{Event}
 use Rattle.calls_core.specs.Histories.{IsHistory, clock, pending_calls}
+use Rattle.calls_core.specs.Completions.{IsLinearizable}
 use Rattle.calls_monitor.specs.declared.monitor.Monitor.{Monitor}
 use Rattle.calls_monitor.specs.declared.monitor.Refused.{Refused as Report}
 use Rattle.calls_monitor.specs.declared.monitor.Rejection.TheVariants as rejections
-use Rattle.calls_monitor.specs.Monitors.{Judges, IsFine}
+use Rattle.calls_monitor.specs.Monitors.{Judges}
 use Rattle.calls_monitor.specs.kept.Watching as monitors
-use Rattle.calls_monitor.proofs.Judging.{fine}
 use Rattle.calls_text.specs.declared.fault.TextFault.{TextFault}
 use Rattle.calls_text.specs.declared.fault.TextFault.TheVariants as faults
 use Rattle.calls_text.specs.declared.following.Followed.{Followed}
@@ -31,12 +30,13 @@ use Rattle.calls_watch.specs.declared.stop.Stop.{Stop}
 use Rattle.calls_watch.specs.declared.stop.Stop.TheVariants as stops
 use Rattle.calls_watch.specs.declared.watcher.Watcher.{Watcher}
 use Rattle.calls_watch.specs.Loads.{IsLoad, calls_of, others_of, calls_in, others_in, others_at}
-use Rattle.calls_watch.specs.Watches.{IsGood, AreGood, IsStopped, IsNotWatched}
-use Rattle.calls_watch.specs.kept.Kinds.{is_watched}
+use Rattle.calls_watch.specs.Watches.{IsGood, AreGood, IsUpTo, IsStopped, IsUnwatched, invokes_cells}
+use Rattle.calls_watch.specs.kept.Watching.{AreWatched}
 use Rattle.calls_watch.specs.kept.Watching.{IsMonitoring, IsMonitored, IsWatching, StopsAt, Stops, GoesOn}
 use Rattle.calls_watch.specs.kept.Watching.{IsOver, EndsAs, IsOpened, IsLoadAfter, Begins, LoadGrows}
 use Rattle.calls_watch.specs.kept.Watching.{IsEventJudged, IsBegunAgain, GoesOnBy}
 use Rattle.calls_watch.proofs.Histories.{good_more, calls_more, others_more}
+use Rattle.calls_watch.proofs.Uncalled.{all_linearizable, none_linearizable}
 
 -- MONITORS
 
@@ -145,22 +145,14 @@ module _ (ps qs : List (List ℕ)) (q line : List ℕ) (old mid new : Watcher)
       (subst (IsMonitored (Running h.begun) []) (sym b.1) (record {
         kinds = o.kinds;
         are = o.are;
-        watched = o.watched;
+        watched = tt;
+        linearizable = none_linearizable o.kinds;
         history = tt;
         positions = refl;
         watches = o.watches;
       }))
       (none_loaded w.reads w.events old.load new.load h.none (b.5 ∙ load) w.load)
-  run_goes h (Err stops.NotWatched) b = stopped stops.NotWatched (record {
-    recorded = h.begun;
-    number = old.number + 1;
-    left = q ∷ qs;
-    reached = steps_on (Running h.begun) h.steps;
-    kinds = b.0;
-    are = b.1;
-    none = h.none_recorded;
-    some = b.2;
-  })
+  run_goes h (Err stops.NotWatched) b = absurd b
   run_goes h (Err stops.Memory) b = stopped stops.Memory tt
   run_goes h (Err (stops.Unread fault)) b = absurd b
   run_goes h (Err (stops.Refused x report)) b = absurd b
@@ -220,6 +212,23 @@ module _ (ps qs : List (List ℕ)) (q line : List ℕ) (old mid new : Watcher)
           others = omega (arith, after.others, before.others, pending);
         })
 
+    up_to_now : new.number ≡ mid.number
+        → IsUpTo w.start w.begun new.number e.after has.monitoring.kinds past x
+    up_to_now count = record {
+      left = q ∷ qs;
+      reached = subst (λ (k : ℕ). IsReached w.start w.begun (Running e.after) k (q ∷ qs))
+          (sym (count ∙ number)) reached_now;
+      recording = record {
+        objects = are_now;
+        history = subst (λ (es : List Event). IsHistory has.monitoring.kinds (reverse es))
+            (sym e.events_are) history_more;
+        positions = subst (λ (es : List Event). clock (reverse es) ≡ length es)
+            (sym e.events_are) positions_more;
+      };
+      last = ap reverse e.events_are ∙ now_past;
+      before = has.monitoring.linearizable;
+    }
+
     event_stops : (report : Report) (n : Monitor)
         → Judges has.monitor n x (Err (rejections.Refused report)) → new.follower ≡ mid.follower
         → new.number ≡ mid.number → Stops (stops.Refused x report) ps new
@@ -228,29 +237,31 @@ module _ (ps qs : List (List ℕ)) (q line : List ℕ) (old mid new : Watcher)
       w.events ++ x ∷ [],
       ap (λ (f : Follower). built (w.events ++ x ∷ []) f) same ∙ e.is,
       record {
-        left = q ∷ qs;
-        reached = subst (λ (k : ℕ). IsReached w.start w.begun (Running e.after) k (q ∷ qs))
-            (sym (count ∙ number)) reached_now;
         kinds = has.monitoring.kinds;
-        recording = record {
-          objects = are_now;
-          history = subst (λ (es : List Event). IsHistory has.monitoring.kinds (reverse es))
-              (sym e.events_are) history_more;
-          positions = subst (λ (es : List Event). clock (reverse es) ≡ length es)
-              (sym e.events_are) positions_more;
-        };
         past = past;
-        last = ap reverse e.events_are ∙ now_past;
-        before = fine has.monitoring.kinds past has.monitor has.monitoring.history
-            has.monitoring.watches;
+        up_to = up_to_now count;
         refused = judges has.monitoring.kinds past history_now has.monitoring.watches;
       },
     )
 
+    cells_stop : invokes_cells x.action ≡ true → new.number ≡ mid.number
+        → Stops stops.NotWatched ps new
+    cells_stop cells count = stopped stops.NotWatched (record {
+      recorded = e.after;
+      event = x;
+      kinds = has.monitoring.kinds;
+      past = past;
+      up_to = up_to_now count;
+      cells = cells;
+    })
+
     event_taken : (n : Monitor) → new.monitor ≡ Some n → Judges has.monitor n x (Ok tt)
         → LoadGrows mid x new → new.follower ≡ mid.follower → new.number ≡ mid.number
-        → IsWatching ps (q ∷ qs) new
-    event_taken n is judges grows same count =
+        → invokes_cells x.action ≡ false → IsWatching ps (q ∷ qs) new
+    event_taken n is judges grows same count plain =
+        let verdict = judges has.monitoring.kinds past history_now has.monitoring.watches in
+        let watched : AreWatched (x ∷ past) = (plain, has.monitoring.watched) in
+        let fine = all_linearizable has.monitoring.kinds (x ∷ past) history_now watched verdict.0 in
         built_state ps (q ∷ qs) new w.reads w.start w.begun (w.events ++ x ∷ []) (Running e.after)
         (old.number + 1) w.good (ap (λ (f : Follower). built (w.events ++ x ∷ []) f) same ∙ e.is)
         (count ∙ number) reached_now (running_open e.after)
@@ -258,23 +269,23 @@ module _ (ps qs : List (List ℕ)) (q line : List ℕ) (old mid new : Watcher)
         (subst (IsMonitored (Running e.after) (w.events ++ x ∷ [])) (sym is) (record {
           kinds = has.monitoring.kinds;
           are = are_now;
-          watched = has.monitoring.watched;
+          watched = subst AreWatched (sym now_past) watched;
+          linearizable = subst (IsLinearizable has.monitoring.kinds) (sym now_past) fine;
           history = history_more;
           positions = positions_more;
           watches = subst (λ (p : List Event). monitors.Watches has.monitoring.kinds p n)
-              (sym now_past)
-              (judges has.monitoring.kinds past history_now has.monitoring.watches).1;
+              (sym now_past) verdict.1;
         }))
         (loaded same grows)
 
     event_goes : (result : Result (Unit {0}) Stop) → IsEventJudged has.monitor x mid new result
         → GoesOn result ps (q ∷ qs) new
-    event_goes (Ok u) j = event_taken j.0 j.1 j.2 j.3 j.4 j.5
+    event_goes (Ok u) j = event_taken j.0 j.1 j.2 j.3 j.4 j.5 j.6
     event_goes (Err (stops.Refused y report)) j =
         subst (λ (z : Event). Stops (stops.Refused z report) ps new) (sym j.0)
         (event_stops report j.1.0 j.1.1 j.2 j.3)
     event_goes (Err stops.Memory) j = stopped stops.Memory tt
-    event_goes (Err stops.NotWatched) j = absurd j
+    event_goes (Err stops.NotWatched) j = cells_stop j.0 j.2
     event_goes (Err (stops.Unread fault)) j = absurd j
 
   -- THE LINE END
@@ -299,9 +310,8 @@ module _ (ps qs : List (List ℕ)) (q line : List ℕ) (old mid new : Watcher)
             positions = subst (λ (es : List Event). clock (reverse es) ≡ length es)
                 (sym e.events_are) m.positions;
           };
-          watched = m.watched;
-          fine = subst (λ (es : List Event). IsFine m.kinds (reverse es)) (sym e.events_are)
-              (fine m.kinds (reverse w.events) monitor_last.monitor m.history m.watches);
+          linearizable = subst (λ (es : List Event). IsLinearizable m.kinds (reverse es))
+              (sym e.events_are) m.linearizable;
         }
 
     good_now : AreGood 1 ps (w.reads ++ read ∷ []) (old.number + 1) (q ∷ qs)

@@ -1,17 +1,21 @@
 -- What `watch` answered and wrote, for an input whose bytes are known.
 use Rattle.std.specs.Prelude.{◌≡◌, ◌<◌, ◌⊎◌, ℕ, ◌-◌, List, [], ◌∷◌, length, reverse, Option, Some, None}
-use Rattle.std.specs.Prelude.{Ok, true, false, codes}
-use Rattle.std.specs.List.{list_all}
+use Rattle.std.specs.Prelude.{Ok, Bool, true, false, codes, ◌++◌}
 use Rattle.std.specs.Io.KnownBytes.{Appends}
 use Rattle.ec_text.specs.Puts.{Outgoing, Puts, AppendsPrefix}
 use Rattle.calls_core.specs.declared.history.Kind.{Kind}
+use Rattle.calls_core.specs.declared.history.Op.{Op}
+use Rattle.calls_core.specs.declared.history.Op.TheVariants.{Put, Get}
+use Rattle.calls_core.specs.declared.history.Action.{Action}
+use Rattle.calls_core.specs.declared.history.Action.TheVariants.{Invoke, Respond}
 use Rattle.calls_core.specs.declared.history.Event.{Event}
+use Rattle.calls_core.specs.Completions.{IsLinearizable}
 use Rattle.calls_counts.specs.declared.monitor.Refusal.TheVariants as counts
 use Rattle.calls_monitor.specs.declared.monitor.Refused.{Refused as Report}
 use Rattle.calls_monitor.specs.declared.object.Refusal.{Refusal}
 use Rattle.calls_monitor.specs.declared.object.Refusal.TheVariants as refusals
-use Rattle.calls_monitor.specs.Monitors.{IsFine, IsRefused}
-use Rattle.calls_text.specs.Recordings.{Recorded, AreKinds, IsRecording}
+use Rattle.calls_monitor.specs.Monitors.{IsRefused}
+use Rattle.calls_text.specs.Recordings.{Recorded, IsRecording}
 use Rattle.calls_text.specs.Reading.{Opening, Running}
 use Rattle.calls_text.specs.Outcomes.{OneRead, goes, parts_of}
 use Rattle.calls_text.specs.Following.{IsReached}
@@ -21,20 +25,17 @@ use Rattle.calls_report.specs.declared.status.Status.{Status}
 use Rattle.calls_report.specs.declared.status.Status.TheVariants.{Done, Refused, Usage}
 use Rattle.calls_report.specs.declared.status.Status.TheVariants.{InputOutput, Memory, NotDecided}
 use Rattle.calls_report.specs.Certificates.{start_at}
-use Rattle.calls_report.specs.Notes.{scene_at, refusal_note}
+use Rattle.calls_report.specs.Notes.{line_words, scene_at, refusal_note}
 use Rattle.calls_report.specs.Checks.{Outlets, IsUnread}
 use Rattle.calls_watch.specs.Loads.{summary_of}
-use Rattle.calls_watch.specs.kept.Kinds.{is_watched}
 
 -- HISTORIES IN TURN
 
--- these are the objects of the history, none of them a cell or a database, and the calls of each
--- have a linearization
+-- these are the objects of the history, and it has a linearization
 pub record IsGood (r : Recorded) : Type 0 where
   pub kinds : List Kind
   pub recording : IsRecording r kinds
-  pub watched : list_all is_watched kinds ≡ true
-  pub fine : IsFine kinds (reverse r.events)
+  pub linearizable : IsLinearizable kinds (reverse r.events)
 
 -- from line n on, where the parts are these, the text has these histories, each linearizable, and
 -- then come these parts, from line m on
@@ -63,17 +64,22 @@ refused_note m r x report =
     refusal_note (scene_at r report.object (line_of_first m x.at) x.at)
     (shown_by r report.object report.refusal)
 
--- from line n on the lines lead to a history whose last event is at fault: the events before it
--- have a linearization, and with it there is none; and this is the report on it. Line m is the next
-pub record IsStopped (n : ℕ) (ps : List (List ℕ)) (m : ℕ) (r : Recorded) (x : Event)
-    (report : Report) : Type 0 where
+-- from line n on the lines lead to a history whose last event is x, and whose events before it have
+-- a linearization. Line m is the next
+pub record IsUpTo (n : ℕ) (ps : List (List ℕ)) (m : ℕ) (r : Recorded) (kinds : List Kind)
+    (past : List Event) (x : Event) : Type 0 where
   pub left : List (List ℕ)
   pub reached : IsReached n ps (Running r) m left
-  pub kinds : List Kind
   pub recording : IsRecording r kinds
-  pub past : List Event
   pub last : reverse r.events ≡ x ∷ past
-  pub before : IsFine kinds past
+  pub before : IsLinearizable kinds past
+
+-- with the event x there is none, and this is the report on it
+pub record IsStopped (n : ℕ) (ps : List (List ℕ)) (m : ℕ) (r : Recorded) (x : Event)
+    (report : Report) : Type 0 where
+  pub kinds : List Kind
+  pub past : List Event
+  pub up_to : IsUpTo n ps m r kinds past x
   pub refused : IsRefused kinds past x report
 
 abbrev pub SaysStopped : ℕ → List (List ℕ) → Outgoing → Outgoing → Type 0
@@ -81,16 +87,35 @@ SaysStopped n ps old new =
     (m : ℕ) × (r : Recorded) × (x : Event) × (report : Report) × IsStopped n ps m r x report
     × Puts old new (refused_note m r x report)
 
--- from line n on the lines lead to a history of a cell or a database, before its events
-pub record IsNotWatched (n : ℕ) (ps : List (List ℕ)) : Type 0 where
+-- whether a call is one of a cell or a database
+abbrev pub is_of_cells : Op → Bool
+is_of_cells (Put v) = true
+is_of_cells Get = true
+is_of_cells _ = false
+
+-- whether an event invokes such a call
+abbrev pub invokes_cells : Action → Bool
+invokes_cells (Invoke k op) = is_of_cells op
+invokes_cells (Respond r) = false
+
+-- the event invokes a call of a cell or a database
+pub record IsUnwatched (n : ℕ) (ps : List (List ℕ)) (m : ℕ) : Type 0 where
   pub recorded : Recorded
-  pub number : ℕ
-  pub left : List (List ℕ)
-  pub reached : IsReached n ps (Running recorded) number left
+  pub event : Event
   pub kinds : List Kind
-  pub are : AreKinds recorded.heading recorded.from kinds
-  pub none : recorded.events ≡ []
-  pub some : list_all is_watched kinds ≡ false
+  pub past : List Event
+  pub up_to : IsUpTo n ps m recorded kinds past event
+  pub cells : invokes_cells event.action ≡ true
+
+-- the note on it, if line m is the next
+abbrev pub unwatched_note : ℕ → List ℕ
+unwatched_note m =
+    line_words (m - 1)
+    ++ codes "cells and databases are not watched: evc-calls check decides them\n"
+
+abbrev pub SaysUnwatched : ℕ → List (List ℕ) → Outgoing → Outgoing → Type 0
+SaysUnwatched n ps old new =
+    (m : ℕ) × IsUnwatched n ps m × Puts old new (unwatched_note m)
 
 -- ALL OF IT
 
@@ -103,8 +128,7 @@ Ends Refused reads m qs old new =
     (new.out ≡ old.out) × (((note : List ℕ) × IsUnread m qs note × Puts old.notes new.notes note)
     ⊎ SaysStopped m qs old.notes new.notes)
 Ends NotDecided reads m qs old new =
-    (new.out ≡ old.out) × IsNotWatched m qs
-    × Puts old.notes new.notes (codes "cells and databases are not watched: evc-calls check decides them\n")
+    (new.out ≡ old.out) × SaysUnwatched m qs old.notes new.notes
 Ends Memory reads m qs old new =
     (new.out ≡ old.out) × Puts old.notes new.notes (codes "no memory\n")
 Ends InputOutput reads m qs old new =

@@ -10,7 +10,7 @@ pub enum Stop {
     Unread(TextFault),
     /// With this event the history has no linearization.
     Refused(Event, Refused),
-    /// A cell or a database is declared.
+    /// A cell or a database is called.
     NotWatched,
     /// An allocation failed.
     Memory,

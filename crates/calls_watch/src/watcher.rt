@@ -1,6 +1,5 @@
 //! Histories of a text, judged line by line.
 ghost use Rattle.std.specs.Prelude.{◌≡◌, ◌<◌, ◌∷◌, [], List, ℕ, Some, length, reverse, IfErr};
-ghost use Rattle.std.specs.List.{list_all};
 ghost use Rattle.calls_core.specs.declared.history.Event.{Event};
 ghost use Rattle.calls_core.specs.Histories.{pending_calls};
 ghost use Rattle.calls_monitor.specs.declared.monitor.Monitor.{Monitor};
@@ -8,13 +7,13 @@ ghost use Rattle.calls_text.specs.Outcomes.{parts_of};
 ghost use Rattle.calls_text.specs.Reading.{Running};
 ghost use Rattle.calls_text.specs.Recordings.{Recorded};
 ghost use Rattle.calls_text.specs.Following.{built, HasSeen};
-ghost use Rattle.calls_watch.specs.kept.Kinds.{is_watched};
+ghost use Rattle.calls_watch.specs.Watches.{invokes_cells};
 ghost use Rattle.calls_watch.specs.kept.Watching.{IsWatching, GoesOn, EndsAs, Stops, Opens, IsJudged};
 ghost use Rattle.calls_watch.specs.kept.Watching.{Begins, IsEventJudged, IsBegunAgain, GoesOnBy};
 
 use crate::load::Load;
 use crate::stop::Stop;
-use calls_core::{Event, Kind};
+use calls_core::{Action, Event, Op};
 use calls_monitor::{Monitor, Rejection};
 use calls_text::{Followed, Follower, Recording};
 use std::alloc::Global;
@@ -29,34 +28,18 @@ pub struct Watcher {
     pub(crate) load: Load,
 }
 
-/// Returns whether the calls of an object are watched.
-fn is_watched(kind: &Kind) -> bool
-    ensures { result ≡ is_watched kind.now }
+/// Returns whether an event invokes a call of a cell or a database.
+fn invokes_cells(action: Action) -> bool
+    ensures { result ≡ invokes_cells action }
 {
-    match kind {
-        Kind::Eventcount(_) | Kind::Sequencer | Kind::Semaphores(_) => true,
-        Kind::Cell => false,
-        // (of another group the number of cells is 0)
-        Kind::Database(cells) => *cells == 0,
-    }
-}
-
-/// Returns whether those of each object are.
-fn are_watched(kinds: &[Kind]) -> bool
-    ensures { result ≡ list_all is_watched kinds.now }
-{
-    kinds.iter().all(|kind| is_watched(kind))
+    matches!(action, Action::Invoke(_, Op::Put(_) | Op::Get))
 }
 
 /// Opens a monitor of what is declared.
 fn open_monitor(alloc: Global, recording: &Recording) -> Result<Monitor, Stop>
     ensures { Opens recording.now result }
 {
-    let kinds = recording.kinds();
-    if !are_watched(kinds) {
-        return Err(Stop::NotWatched);
-    }
-    match Monitor::open(alloc, kinds) {
+    match Monitor::open(alloc, recording.kinds()) {
         Ok(monitor) => Ok(monitor),
         Err(_) => Err(Stop::Memory),
     }
@@ -114,6 +97,9 @@ impl Watcher {
         ensures { (m : Monitor) → self.old.monitor ≡ Some m
             → IsEventJudged m event self.old self.new result }
     {
+        if invokes_cells(event.action) {
+            return Err(Stop::NotWatched);
+        }
         judge(&mut self.monitor, event)?;
         self.load.add_event(event.action, self.follower.pending())
     }

@@ -6,8 +6,9 @@ ghost use Rattle.calls_text.specs.Reading.{Running};
 ghost use Rattle.calls_text.specs.Recordings.{Recorded};
 ghost use Rattle.calls_text.specs.Following.{built};
 ghost use Rattle.calls_report.specs.Notes.{fault_note};
+ghost use Rattle.calls_report.specs.declared.status.Status.TheVariants.{NotDecided};
 ghost use Rattle.calls_watch.specs.Loads.{load_text};
-ghost use Rattle.calls_watch.specs.Watches.{Watches, line_of_first, refused_note};
+ghost use Rattle.calls_watch.specs.Watches.{Watches, line_of_first, refused_note, unwatched_note};
 ghost use Rattle.calls_watch.specs.kept.Watching.{FedFrom, Stops};
 ghost use Rattle.calls_watch.specs.kept.Endings.{ReadsOn, ReadsAll, WritesLoad, SaysRefused};
 ghost use Rattle.calls_watch.specs.kept.Endings.{SaysStop, fault_status};
@@ -143,6 +144,18 @@ fn say_unread<N: Write>(fault: TextFault, notes: &mut Out<'_, N>) -> Status
     }
 }
 
+/// Says that a call is not watched, by the number of the line after it.
+fn say_unwatched<N: Write>(number: u64, notes: &mut Out<'_, N>) -> Status
+    ensures status { result ≡ NotDecided }
+    ensures puts { Puts notes.old notes.new (unwatched_note number) }
+    ensures written { IsWrittenOut notes.new }
+{
+    notes.put(b"line ");
+    notes.put_number(number.saturating_sub(1));
+    notes.say(b": cells and databases are not watched: evc-calls check decides them\n");
+    Status::NotDecided
+}
+
 /// Says why a text is not watched further.
 fn say_stop<N: Write>(watcher: &Watcher, stop: Stop, notes: &mut Out<'_, N>) -> Status
     ensures says { (ps : List (List ℕ)) → Stops stop ps watcher.now
@@ -152,10 +165,7 @@ fn say_stop<N: Write>(watcher: &Watcher, stop: Stop, notes: &mut Out<'_, N>) -> 
     match stop {
         Stop::Unread(fault) => say_unread(fault, notes),
         Stop::Refused(event, refused) => say_refused(watcher, event, refused, notes),
-        Stop::NotWatched => {
-            notes.say(b"cells and databases are not watched: evc-calls check decides them\n");
-            Status::NotDecided
-        }
+        Stop::NotWatched => say_unwatched(watcher.number, notes),
         Stop::Memory => {
             notes.say(b"no memory\n");
             Status::Memory
@@ -167,8 +177,8 @@ fn say_stop<N: Write>(watcher: &Watcher, stop: Stop, notes: &mut Out<'_, N>) -> 
 /// has no linearization; then a note says why. At the end it writes how many histories and calls
 /// there were, and how many other calls are pending on average when one is invoked.
 ///
-/// What is kept does not grow with the text. A history that declares cells or databases is not
-/// watched. A read that fails is not tried again.
+/// What is kept does not grow with the text. Calls of cells and databases are not watched: the first
+/// one ends it. A read that fails is not tried again.
 pub fn watch<R: Read, W: Write, N: Write>(
     alloc: Global,
     reader: &mut R,

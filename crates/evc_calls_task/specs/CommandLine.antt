@@ -30,15 +30,18 @@ bare_app =
     let new : App = new_app (codes "evc-calls") in
     record new { top = record new.top { subcommand_required = true; has_version = true } }
 
+-- the same with the commands that judge histories
+abbrev pub judging_app : App
+judging_app =
+    with_subcommand
+    (with_subcommand bare_app (command_app (codes "check")).top)
+    (command_app (codes "watch")).top
+
 -- `evc-calls` as clap knows it
 abbrev pub program_app : App
 program_app =
     with_subcommand
-    (with_subcommand
-    (with_subcommand
-    (with_subcommand bare_app (command_app (codes "check")).top)
-    (command_app (codes "watch")).top)
-    (command_app (codes "of")).top)
+    (with_subcommand judging_app (command_app (codes "of")).top)
     (command_app (codes "trace")).top
 
 -- the action of a command; there are four commands

@@ -38,7 +38,7 @@ pub(crate) const AFTER_HELP: &str = "Exit status:
      says why
   3  a read or a write failed
   4  out of memory
-  5  a history is not decided: a note says which cell, and why; or it is not watched";
+  5  a history is not decided: a note says which cell, and why; or it is not watched further";
 
 pub(crate) const CHECK_ABOUT: &str =
     "Writes a linearization of each history, or a note that says why there is none";
@@ -94,9 +94,9 @@ average when one is called, to two decimals, cut off:
     2 histories, 1200 calls, overlap 1.37
 
 Calls that rarely overlap test little. The bound on the length of a text does not hold here. No
-order is written, and no remark. A history that declares a cell or a database is not watched: it ends
-at its line `run`, with status 5. For the certificate of a refusal with all its lines, record the
-text and run `evc-calls check` on it.";
+order is written, and no remark. Calls of cells and databases are not watched: the first one ends
+the command with status 5. For a note with all the lines that show the fault, record the text and
+run `evc-calls check` on it.";
 
 pub(crate) const FILE: &str =
     "The file with the histories; without it they are read from standard input";

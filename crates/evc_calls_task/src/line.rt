@@ -4,6 +4,7 @@ ghost use Rattle.clap.specs.Words.{FailsBy, app_of, first_of, found_of, kind_of,
 ghost use Rattle.clap.specs.Words.{rows_of, rule_of, subcommand_of, subcommand_rows_of};
 ghost use Rattle.clap.specs.declared.builder.command.Command.TheViews.{out-Command as fields_of};
 ghost use Rattle.evc_calls_task.specs.CommandLine.{file_rule, command_app, bare_app, program_app};
+ghost use Rattle.evc_calls_task.specs.CommandLine.{judging_app};
 ghost use Rattle.evc_calls_task.specs.CommandLine.{texts_of, action_of, action_in, file_in};
 ghost use Rattle.evc_calls_task.specs.CommandLine.{faults_in, status_by, ReadsPlainLines};
 
@@ -84,19 +85,22 @@ fn bare_command<'a>(alloc: Global) -> Command<'a>
         .subcommand_required(true)
 }
 
+/// Returns the program with the commands that judge histories.
+fn judging_program<'a>(alloc: Global) -> Result<Command<'a>, AllocError>
+    ensures { IfOk result (λ c. app_of c ≡ judging_app) }
+{
+    let check = check_command(alloc)?;
+    let watch = watch_command(alloc)?;
+    bare_command(alloc).subcommand(check)?.subcommand(watch)
+}
+
 /// Returns the program with its commands.
 fn program<'a>(alloc: Global) -> Result<Command<'a>, AllocError>
     ensures { IfOk result (λ c. app_of c ≡ program_app) }
 {
-    let check = check_command(alloc)?;
-    let watch = watch_command(alloc)?;
     let of = of_command(alloc)?;
     let trace = trace_command(alloc)?;
-    bare_command(alloc)
-        .subcommand(check)?
-        .subcommand(watch)?
-        .subcommand(of)?
-        .subcommand(trace)
+    judging_program(alloc)?.subcommand(of)?.subcommand(trace)
 }
 
 /// Returns what clap finds in the words.

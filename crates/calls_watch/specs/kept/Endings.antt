@@ -12,7 +12,7 @@ use Rattle.calls_report.specs.Checks.{Outlets, IsUnread}
 use Rattle.calls_watch.specs.declared.feeder.Feeder.{Feeder}
 use Rattle.calls_watch.specs.declared.watching.Cut.{Cut}
 use Rattle.calls_watch.specs.declared.watching.Cut.TheVariants as cuts
-use Rattle.calls_watch.specs.Watches.{AreGood, IsNotWatched, SaysStopped}
+use Rattle.calls_watch.specs.Watches.{AreGood, SaysUnwatched, SaysStopped}
 use Rattle.calls_watch.specs.kept.Watching.{FedFrom, IsOver, Stops}
 
 -- READING
@@ -49,9 +49,7 @@ SaysRefused _ note old new = ⊥
 abbrev pub SaysAt : Status → ℕ → List (List ℕ) → Outgoing → Outgoing → Type 0
 SaysAt Refused n ps old new =
     ((note : List ℕ) × IsUnread n ps note × Puts old new note) ⊎ SaysStopped n ps old new
-SaysAt NotDecided n ps old new =
-    IsNotWatched n ps
-    × Puts old new (codes "cells and databases are not watched: evc-calls check decides them\n")
+SaysAt NotDecided n ps old new = SaysUnwatched n ps old new
 SaysAt Memory n ps old new = Puts old new (codes "no memory\n")
 SaysAt _ n ps old new = ⊥
 

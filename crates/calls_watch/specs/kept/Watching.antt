@@ -1,10 +1,11 @@
 -- What is kept of a text while its lines come.
 use Rattle.std.specs.Prelude.{◌≡◌, ◌≢◌, ◌<◌, ℕ, ◌+◌, List, [], ◌∷◌, ◌++◌, length, reverse, Option, Some, None}
 use Rattle.std.specs.Prelude.{Result, Ok, Err, true, false, ⊤}
-use Rattle.std.specs.List.{list_all, All}
+use Rattle.std.specs.List.{All}
 use Rattle.calls_core.specs.declared.history.Kind.{Kind}
 use Rattle.calls_core.specs.declared.history.Event.{Event}
 use Rattle.calls_core.specs.Histories.{IsHistory, clock, pending_calls}
+use Rattle.calls_core.specs.Completions.{IsLinearizable}
 use Rattle.calls_monitor.specs.declared.monitor.Monitor.{Monitor}
 use Rattle.calls_monitor.specs.declared.monitor.Refused.{Refused as Report}
 use Rattle.calls_monitor.specs.declared.monitor.Rejection.TheVariants as rejections
@@ -22,16 +23,21 @@ use Rattle.calls_watch.specs.declared.stop.Stop.{Stop}
 use Rattle.calls_watch.specs.declared.stop.Stop.TheVariants as stops
 use Rattle.calls_watch.specs.declared.watcher.Watcher.{Watcher}
 use Rattle.calls_watch.specs.Loads.{IsLoad, invoked, others_at}
-use Rattle.calls_watch.specs.Watches.{AreGood, IsStopped, IsNotWatched}
-use Rattle.calls_watch.specs.kept.Kinds.{is_watched}
+use Rattle.calls_watch.specs.Watches.{AreGood, IsStopped, IsUnwatched, invokes_cells}
 
 -- ONE HISTORY
+
+-- no event invokes a call of a cell or a database
+abbrev pub AreWatched : List Event → Type 0
+AreWatched [] = Unit {0}
+AreWatched (x ∷ past) = (invokes_cells x.action ≡ false) × AreWatched past
 
 -- the monitor represents these events, which are a history of the objects that are declared
 pub record IsMonitoring (r : Recorded) (events : List Event) (m : Monitor) : Type 0 where
   pub kinds : List Kind
   pub are : AreKinds r.heading r.from kinds
-  pub watched : list_all is_watched kinds ≡ true
+  pub watched : AreWatched (reverse events)
+  pub linearizable : IsLinearizable kinds (reverse events)
   pub history : IsHistory kinds (reverse events)
   pub positions : clock (reverse events) ≡ length events
   pub watches : monitors.Watches kinds (reverse events) m
@@ -64,7 +70,7 @@ StopsAt (stops.Unread fault) n ps w = TellsFault (goes n Opening ps) fault
 StopsAt (stops.Refused x report) n ps w =
     (r : Recorded) × (events : List Event) × (built events w.follower ≡ Running r)
     × IsStopped n ps w.number r x report
-StopsAt stops.NotWatched n ps w = IsNotWatched n ps
+StopsAt stops.NotWatched n ps w = IsUnwatched n ps w.number
 StopsAt stops.Memory n ps w = Unit {0}
 
 pub record Stops (stop : Stop) (ps : List (List ℕ)) (w : Watcher) : Type 0 where
@@ -98,13 +104,10 @@ EndsAs (Err stop) ps w = Stops stop ps w
 pub record IsOpened (r : Recorded) (m : Monitor) : Type 0 where
   pub kinds : List Kind
   pub are : AreKinds r.heading r.from kinds
-  pub watched : list_all is_watched kinds ≡ true
   pub watches : monitors.Watches kinds [] m
 
 abbrev pub Opens : Recorded → Result Monitor Stop → Type 0
 Opens r (Ok m) = IsOpened r m
-Opens r (Err stops.NotWatched) =
-    (ks : List Kind) × AreKinds r.heading r.from ks × (list_all is_watched ks ≡ false)
 Opens r (Err stops.Memory) = Unit {0}
 Opens r (Err _) = ⊥
 
@@ -127,8 +130,6 @@ abbrev pub Begins : Recorded → Watcher → Watcher → Result (Unit {0}) Stop 
 Begins r old new (Ok u) =
     (m : Monitor) × (new.monitor ≡ Some m) × IsOpened r m × (new.follower ≡ old.follower)
     × (new.number ≡ old.number) × (new.load ≡ old.load)
-Begins r old new (Err stops.NotWatched) =
-    (ks : List Kind) × AreKinds r.heading r.from ks × (list_all is_watched ks ≡ false)
 Begins r old new (Err stops.Memory) = Unit {0}
 Begins r old new (Err _) = ⊥
 
@@ -143,10 +144,12 @@ LoadGrows old x new =
 abbrev pub IsEventJudged : Monitor → Event → Watcher → Watcher → Result (Unit {0}) Stop → Type 0
 IsEventJudged m x old new (Ok u) =
     (n : Monitor) × (new.monitor ≡ Some n) × Judges m n x (Ok u) × LoadGrows old x new
-    × (new.follower ≡ old.follower) × (new.number ≡ old.number)
+    × (new.follower ≡ old.follower) × (new.number ≡ old.number) × (invokes_cells x.action ≡ false)
 IsEventJudged m x old new (Err (stops.Refused y report)) =
     (y ≡ x) × ((n : Monitor) × Judges m n x (Err (rejections.Refused report)))
     × (new.follower ≡ old.follower) × (new.number ≡ old.number)
+IsEventJudged m x old new (Err stops.NotWatched) =
+    (invokes_cells x.action ≡ true) × (new.follower ≡ old.follower) × (new.number ≡ old.number)
 IsEventJudged m x old new (Err stops.Memory) = Unit {0}
 IsEventJudged m x old new (Err _) = ⊥
 

@@ -4,7 +4,7 @@ use Rattle.calls_text.specs.Outcomes.{OneRead, parts_of}
 use Rattle.calls_report.specs.declared.status.Status.{Status}
 use Rattle.calls_report.specs.kept.Judging.{Judges, IsJudgedSoFar}
 use Rattle.calls_report.proofs.JudgingLemmas.{judges_unread, judges_stopped, judges_all}
-use Rattle.calls_report.proofs.JudgingLemmas.{so_far_more, goes_past, nothing}
+use Rattle.calls_report.proofs.JudgingLemmas.{so_far_more, goes_past, nothing, no_end}
 use Rattle.calls_report.proofs.checking.judge_all.Goals as goal
 
 pub returns-in-Err-clause-judges : goal.returns-in-Err-clause-judges
@@ -13,7 +13,9 @@ returns-in-Err-clause-judges g c =
     c.note_unread.new.notes) (sym c.note_unread.ensures.status)
     (judges_unread c.args.text.now c.loop-read.number c.loop-read.rest.now c.args.out.now
     c.loop-read.out c.args.notes.now c.loop-read.notes c.note_unread.new.notes c.in-Err.fault
-    c.loop-read.invariant.judged c.in-Err.ensures.tells c.note_unread.ensures.puts)
+    c.loop-read.invariant.judged
+    (no_end c.loop-read.number c.loop-read.rest.now c.loop-read.invariant.left)
+    c.in-Err.ensures.tells c.note_unread.ensures.puts)
 
 pub returns-in-Err-judge-clause-judges : goal.returns-in-Err-judge-clause-judges
 returns-in-Err-judge-clause-judges g c =
@@ -70,4 +72,5 @@ loop-read-preserved g c =
       written = λ written. c.judge.ensures.written (c.loop-read.invariant.written written);
       room = omega (arith, c.in-Ok.ensures.numbers, c.loop-read.invariant.room);
       first = omega (arith, more, c.loop-read.invariant.first);
+      left = λ past. search rules;
     }

@@ -1,4 +1,4 @@
-use Rattle.std.proofs.Common.{◌≤◌, ◌+◌, length}
+use Rattle.std.proofs.Common.{◌<◌, ◌≤◌, ◌+◌, length}
 use Rattle.ec_text.specs.Puts.{IsWrittenOut}
 use Rattle.calls_report.specs.kept.Judging.{IsJudgedSoFar}
 use Rattle.calls_report.proofs.checking.judge_all.Given as goal
@@ -10,6 +10,7 @@ invariant-loop-read g l = record {
   written : IsWrittenOut l.initial.notes → IsWrittenOut l.notes;
   room : l.number + length l.rest ≤ 1 + length l.text;
   first : 1 ≤ l.number;
+  left : 1 < l.number → 0 < length l.rest;
 }
 
 abbrev pub decreases-loop-read : goal.decreases-loop-read
