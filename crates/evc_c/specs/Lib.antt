@@ -1,2 +1,4 @@
 pub mod Answers
+pub mod Monitors
+pub mod Places
 pub mod Rooms

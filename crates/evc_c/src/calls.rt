@@ -7,7 +7,7 @@ ghost use Rattle.evc_scripts.specs.Sims.{Sims};
 ghost use Rattle.evc_c.specs.Answers.{Answers, CallsAnswers};
 ghost use Rattle.evc_c.specs.Rooms.{Fills, CallsFills};
 
-use crate::room::{NotesRoom, Room, put_at};
+use crate::room::{NotesRoom, Room, put_front};
 use arrayvec::ArrayVec;
 use ec_text::Out;
 use evc_engine::{Status, audit, check, upgrade};
@@ -33,7 +33,7 @@ fn hand_out(out: &Room<'_>, told: &[u8], notes: &mut [u8], written: &mut EvcWrit
     ensures rest { drop written.new.notes notes.new ≡ drop written.new.notes notes.old }
 {
     written.text = out.len;
-    written.notes = put_at(notes, 0, told);
+    written.notes = put_front(notes, told);
 }
 
 /// `check`, of bytes and into a room.

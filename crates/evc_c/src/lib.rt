@@ -3,6 +3,8 @@
 #![tactic(auto)]
 
 mod calls;
+mod monitor;
+mod monitor_calls;
 mod room;
 
 pub use calls::{
