@@ -11,4 +11,4 @@ mod watching;
 pub use load::Load;
 pub use stop::Stop;
 pub use watcher::Watcher;
-pub use watching::watch;
+pub use watching::{say_stop, watch};

@@ -37,12 +37,15 @@ stop_status (stops.Refused x report) = Refused
 stop_status stops.NotWatched = NotDecided
 stop_status stops.Memory = Memory
 
+abbrev pub status_at : Stage → Status
+status_at Open = Done
+status_at (Stopped stop) = stop_status stop
+status_at Ended = Usage
+status_at Closed = Usage
+
 -- a monitor that is not open stays as it was: one that was stopped answers as it did, and one that has ended or was closed has no use
-abbrev pub StaysAt : Stage → Status → Monitor → Monitor → Type 0
-StaysAt Open status old new = ⊥
-StaysAt (Stopped stop) status old new = (status ≡ stop_status stop) × (new ≡ old)
-StaysAt Ended status old new = (status ≡ Usage) × (new ≡ old)
-StaysAt Closed status old new = (status ≡ Usage) × (new ≡ old)
+abbrev pub Stays : Status → Monitor → Monitor → Type 0
+Stays status old new = (status ≡ status_at old.stage) × (new ≡ old)
 
 -- LINES
 
@@ -59,7 +62,7 @@ GoesOnWith line status old new =
 
 abbrev pub TakesLineAt : Stage → List ℕ → Status → Monitor → Monitor → Type 0
 TakesLineAt Open line status old new = GoesOnWith line status old new
-TakesLineAt stage line status old new = StaysAt stage status old new
+TakesLineAt stage line status old new = Stays status old new
 
 abbrev pub TakesLine : List ℕ → ℕ → Monitor → Monitor → Type 0
 TakesLine line code old new = (status : Status) × (code ≡ status_code status) × TakesLineAt old.stage line status old new
@@ -79,7 +82,7 @@ EndsWith status old new =
 
 abbrev pub EndsTextAt : Stage → Status → Monitor → Monitor → Type 0
 EndsTextAt Open status old new = EndsWith status old new
-EndsTextAt stage status old new = StaysAt stage status old new
+EndsTextAt stage status old new = Stays status old new
 
 abbrev pub EndsText : ℕ → Monitor → Monitor → Type 0
 EndsText code old new = (status : Status) × (code ≡ status_code status) × EndsTextAt old.stage status old new

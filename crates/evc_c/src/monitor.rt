@@ -1,7 +1,7 @@
 //! Histories of calls that are judged line by line: what is kept between the calls.
 ghost use Rattle.std.specs.Prelude.{◌≡◌};
 ghost use Rattle.evc_c.specs.declared.monitor.Stage.TheVariants.{Open, Stopped};
-ghost use Rattle.evc_c.specs.Monitors.{stop_status, IsOpen, GoesOnWith, TakesLine, EndsWith, EndsText};
+ghost use Rattle.evc_c.specs.Monitors.{stop_status, status_at, IsOpen, GoesOnWith, TakesLine, EndsWith, EndsText};
 ghost use Rattle.evc_c.specs.Monitors.{TellsNote, TellsLoad, IsClosed};
 
 use crate::room::put_front;
@@ -56,6 +56,17 @@ fn stop_status(stop: Stop) -> Status
     }
 }
 
+/// Returns the status of a call on a monitor that stays as it is.
+fn status_at(stage: Stage) -> Status
+    ensures { result ≡ status_at stage }
+{
+    match stage {
+        Stage::Open => Status::Done,
+        Stage::Stopped(stop) => stop_status(stop),
+        Stage::Ended | Stage::Closed => Status::Usage,
+    }
+}
+
 impl Monitor {
     /// Returns a monitor to which no line came yet.
     pub(crate) fn new(alloc: Global) -> Monitor
@@ -97,8 +108,7 @@ impl Monitor {
     {
         let status = match self.stage {
             Stage::Open => self.take(line),
-            Stage::Stopped(stop) => stop_status(stop),
-            Stage::Ended | Stage::Closed => Status::Usage,
+            idle => status_at(idle),
         };
         status.code()
     }
@@ -123,8 +133,7 @@ impl Monitor {
     {
         let status = match self.stage {
             Stage::Open => self.finish(),
-            Stage::Stopped(stop) => stop_status(stop),
-            Stage::Ended | Stage::Closed => Status::Usage,
+            idle => status_at(idle),
         };
         status.code()
     }

@@ -1,11 +1,11 @@
 //! The calls on a monitor in memory of the caller.
 //!
 //! A caller promises that a pointer is of a place which `evc_monitor_open` was called on, and that no other call has it.
-ghost use Rattle.std.specs.Prelude.{◌≡◌};
+ghost use Rattle.std.specs.Prelude.{◌≡◌, ◌≤◌};
 ghost use Rattle.std.specs.Borrow.{sem};
 ghost use Rattle.evc_c.specs.declared.monitor.Monitor.{Monitor};
 ghost use Rattle.evc_c.specs.Monitors.{IsOpen, TakesLine, EndsText, TellsNote, TellsLoad, IsClosed};
-ghost use Rattle.evc_c.specs.Places.{monitor_size, room_for_monitor, monitor_at};
+ghost use Rattle.evc_c.specs.Places.{monitor_size, room_told, room_for_monitor, monitor_at};
 
 use crate::monitor::{EvcLoad, Monitor};
 use std::alloc::Global;
@@ -14,7 +14,8 @@ use std::mem::size_of;
 /// Returns how many bytes a monitor takes.
 #[unsafe(no_mangle)]
 pub extern "C" fn evc_monitor_size() -> usize
-    ensures { result ≡ monitor_size }
+    ensures size { result ≡ monitor_size }
+    ensures fits { result ≤ room_told }
 {
     size_of::<Monitor>()
 }
