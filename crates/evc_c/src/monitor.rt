@@ -67,16 +67,23 @@ fn status_at(stage: Stage) -> Status
     }
 }
 
+/// Returns a value that may go from thread to thread.
+fn for_any_thread<T: Send>(value: T) -> T
+    ensures { result ≡ value }
+{
+    value
+}
+
 impl Monitor {
     /// Returns a monitor to which no line came yet.
     pub(crate) fn new(alloc: Global) -> Monitor
         ensures { IsOpen result }
     {
-        Monitor {
+        for_any_thread(Monitor {
             alloc,
             watcher: Watcher::new(),
             stage: Stage::Open,
-        }
+        })
     }
 
     /// Stops the text.
