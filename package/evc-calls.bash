@@ -2,7 +2,7 @@
 _evc_calls() {
     COMPREPLY=()
     if [ "$COMP_CWORD" -eq 1 ]; then
-        COMPREPLY=($(compgen -W 'check of trace help --help --version' -- "${COMP_WORDS[COMP_CWORD]}"))
+        COMPREPLY=($(compgen -W 'check watch of trace help --help --version' -- "${COMP_WORDS[COMP_CWORD]}"))
     else
         compopt -o default
     fi

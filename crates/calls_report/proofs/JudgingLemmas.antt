@@ -151,7 +151,7 @@ more_parts b bytes one =
     w one
 
 by_bytes : (rest : List ℕ) → 0 < length rest → parts_of rest ≡ [] ∷ [] → ⊥
-by_bytes [] some none = omega arith
+by_bytes [] some none = omega (arith, some)
 by_bytes (b ∷ bytes) some none = more_parts b bytes none
 
 -- where bytes are left after a history

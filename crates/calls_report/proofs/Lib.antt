@@ -2,6 +2,6 @@ pub mod Loops
 mod SureLemmas
 mod SumLemmas
 mod TotalLemmas
-mod JudgingLemmas
+pub mod JudgingLemmas
 pub mod JudgingChecks
 mod StopLemmas

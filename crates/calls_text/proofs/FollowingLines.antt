@@ -1,5 +1,5 @@
 -- A line that is followed, by what it builds.
-use Rattle.std.proofs.Common.{◌≡◌, ◌⊎◌, inl, inr, ℕ, ◌+◌, true, false, cond, List, [], ◌∷◌, ◌++◌}
+use Rattle.std.proofs.Common.{◌≡◌, ◌⊎◌, inl, inr, ℕ, true, false, cond, List, [], ◌∷◌, ◌++◌}
 use Rattle.std.proofs.Common.{length, Option, Some, None, Result, Ok, Err, refl, ap, sym, ◌∙◌, subst, arith}
 use Rattle.std.proofs.Common.{length-append, bytes_eq, codes}
 use Rattle.ec_text.specs.Words.{words_of}
@@ -85,7 +85,7 @@ phrased_grown r (Some (Calls w v o ws)) q is =
 phrased_grown r (Some (Returns w a ws)) q is =
     returned_grown r (worker_in r.heading.words w) a ws q is
 
-event_grown : (r : Recorded) (line : List ℕ) (q : Recorded) → event_step r line ≡ Ok q → IsGrown r q
+pub event_grown : (r : Recorded) (line : List ℕ) (q : Recorded) → event_step r line ≡ Ok q → IsGrown r q
 unfolding event_step
 event_grown r line q is =
     elim (is_no_line line) as (λ b. cond b (Err kinds.BadLine) (phrased r (phrase_in (words_of line)))

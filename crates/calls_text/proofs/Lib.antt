@@ -29,3 +29,4 @@ pub mod Example
 mod FollowingLines
 mod LongLines
 pub mod ReachedLines
+pub mod FurtherLines

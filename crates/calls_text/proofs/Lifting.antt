@@ -13,7 +13,6 @@ use Rattle.ec_count.specs.Members.{AreTwoLists, place_of}
 use Rattle.ec_count.specs.declared.setup.Rights.{Rights}
 use Rattle.ec_text.specs.Words.{words_of}
 use Rattle.ec_heading.specs.Heading.{is_no_line}
-use Rattle.ec_heading.specs.Headed.{Headed}
 use Rattle.ec_heading.specs.Lists.{worker_in}
 use Rattle.calls_core.specs.declared.history.Event.{Event}
 use Rattle.calls_core.specs.declared.history.PendingCall.{PendingCall}

@@ -1,5 +1,5 @@
 //! A history of calls that is read line by line, and whose events are handed out.
-ghost use Rattle.std.specs.Prelude.{◌≡◌, [], List, IsTrue, length, reverse, false};
+ghost use Rattle.std.specs.Prelude.{◌≡◌, ◌↔◌, [], List, IsTrue, length, reverse, false};
 ghost use Rattle.calls_core.specs.declared.history.Event.{Event};
 ghost use Rattle.calls_core.specs.Histories.{pending_calls};
 ghost use Rattle.calls_text.specs.Outcomes.{TellsFault, ended};
@@ -106,7 +106,7 @@ impl Follower {
 
     /// Returns whether no line came yet.
     pub fn is_opening(&self) -> bool
-        ensures { IsTrue result → (events : List Event) → built events self.now ≡ reading.Opening }
+        ensures { (events : List Event) → IsTrue result ↔ (built events self.now ≡ reading.Opening) }
     {
         matches!(self.stage, Stage::Opening)
     }

@@ -1,5 +1,5 @@
 -- What a line leaves of what is kept of a text.
-use Rattle.std.proofs.Common.{◌≡◌, ◌<◌, ◌≤◌, ℕ, ◌+◌, Bool, true, false, List, [], ◌∷◌, ◌++◌, length}
+use Rattle.std.proofs.Common.{◌≡◌, ◌<◌, ◌≤◌, ◌⊎◌, inl, inr, ℕ, ◌+◌, Bool, true, false, List, [], ◌∷◌, ◌++◌, length}
 use Rattle.std.proofs.Common.{reverse, Option, Some, None, Result, Ok, Err, refl, ap, sym, ◌∙◌, subst, arith}
 use Rattle.std.proofs.Common.{length-append}
 use Rattle.std.proofs.lemmas.List.{reverse-append}
@@ -25,16 +25,18 @@ use Rattle.calls_text.specs.Following.{built, HasSeen, IsReached, IsHeading, IsR
 use Rattle.calls_text.specs.Following.{PassesIn, IsFaulty}
 use Rattle.calls_text.proofs.ReachedLines.{reached_none, reached_more, reached_end, reached_cut}
 use Rattle.calls_text.proofs.ReachedLines.{reached_fault, reached_opening, opening_none}
+use Rattle.calls_text.specs.kept.Leading.{Leads}
+use Rattle.calls_report.specs.Checks.{IsNoEnd}
 use Rattle.calls_watch.specs.declared.load.Load.{Load}
 use Rattle.calls_watch.specs.declared.stop.Stop.{Stop}
 use Rattle.calls_watch.specs.declared.stop.Stop.TheVariants as stops
 use Rattle.calls_watch.specs.declared.watcher.Watcher.{Watcher}
 use Rattle.calls_watch.specs.Loads.{IsLoad, calls_of, others_of, calls_in, others_in, others_at}
-use Rattle.calls_watch.specs.Watches.{IsGood, AreGood, IsUpTo, IsStopped, IsUnwatched, invokes_cells}
-use Rattle.calls_watch.specs.kept.Watching.{AreWatched}
+use Rattle.calls_watch.specs.Watches.{IsGood, AreGood, IsUpTo, IsStopped, IsUnwatched}
+use Rattle.calls_watch.specs.Watches.{invokes_cells, AreWatched}
 use Rattle.calls_watch.specs.kept.Watching.{IsMonitoring, IsMonitored, IsWatching, StopsAt, Stops, GoesOn}
 use Rattle.calls_watch.specs.kept.Watching.{IsOver, EndsAs, IsOpened, IsLoadAfter, Begins, LoadGrows}
-use Rattle.calls_watch.specs.kept.Watching.{IsEventJudged, IsBegunAgain, GoesOnBy}
+use Rattle.calls_watch.specs.kept.Watching.{IsEventJudged, IsBegunAgain, GoesOnBy, MayEnd, GoesOnAt}
 use Rattle.calls_watch.proofs.Histories.{good_more, calls_more, others_more}
 use Rattle.calls_watch.proofs.Uncalled.{all_linearizable, none_linearizable}
 
@@ -215,7 +217,8 @@ module _ (ps qs : List (List ℕ)) (q line : List ℕ) (old mid new : Watcher)
     up_to_now : new.number ≡ mid.number
         → IsUpTo w.start w.begun new.number e.after has.monitoring.kinds past x
     up_to_now count = record {
-      left = q ∷ qs;
+      next = q;
+      left = qs;
       reached = subst (λ (k : ℕ). IsReached w.start w.begun (Running e.after) k (q ∷ qs))
           (sym (count ∙ number)) reached_now;
       recording = record {
@@ -226,13 +229,15 @@ module _ (ps qs : List (List ℕ)) (q line : List ℕ) (old mid new : Watcher)
             (sym e.events_are) positions_more;
       };
       last = ap reverse e.events_are ∙ now_past;
+      watched = has.monitoring.watched;
       before = has.monitoring.linearizable;
     }
 
     event_stops : (report : Report) (n : Monitor)
         → Judges has.monitor n x (Err (rejections.Refused report)) → new.follower ≡ mid.follower
-        → new.number ≡ mid.number → Stops (stops.Refused x report) ps new
-    event_stops report n judges same count = stopped (stops.Refused x report) (
+        → new.number ≡ mid.number → invokes_cells x.action ≡ false
+        → Stops (stops.Refused x report) ps new
+    event_stops report n judges same count plain = stopped (stops.Refused x report) (
       e.after,
       w.events ++ x ∷ [],
       ap (λ (f : Follower). built (w.events ++ x ∷ []) f) same ∙ e.is,
@@ -240,6 +245,7 @@ module _ (ps qs : List (List ℕ)) (q line : List ℕ) (old mid new : Watcher)
         kinds = has.monitoring.kinds;
         past = past;
         up_to = up_to_now count;
+        watched = plain;
         refused = judges has.monitoring.kinds past history_now has.monitoring.watches;
       },
     )
@@ -283,7 +289,7 @@ module _ (ps qs : List (List ℕ)) (q line : List ℕ) (old mid new : Watcher)
     event_goes (Ok u) j = event_taken j.0 j.1 j.2 j.3 j.4 j.5 j.6
     event_goes (Err (stops.Refused y report)) j =
         subst (λ (z : Event). Stops (stops.Refused z report) ps new) (sym j.0)
-        (event_stops report j.1.0 j.1.1 j.2 j.3)
+        (event_stops report j.1.0 j.1.1 j.2 j.3 j.4)
     event_goes (Err stops.Memory) j = stopped stops.Memory tt
     event_goes (Err stops.NotWatched) j = cells_stop j.0 j.2
     event_goes (Err (stops.Unread fault)) j = absurd j
@@ -310,6 +316,7 @@ module _ (ps qs : List (List ℕ)) (q line : List ℕ) (old mid new : Watcher)
             positions = subst (λ (es : List Event). clock (reverse es) ≡ length es)
                 (sym e.events_are) m.positions;
           };
+          watched = subst (λ (es : List Event). AreWatched (reverse es)) (sym e.events_are) m.watched;
           linearizable = subst (λ (es : List Event). IsLinearizable m.kinds (reverse es))
               (sym e.events_are) m.linearizable;
         }
@@ -364,6 +371,24 @@ module _ (ps qs : List (List ℕ)) (q line : List ℕ) (old mid new : Watcher)
 
 -- A LINE AT FAULT
 
+-- where the parts are one empty part, that is all that is left
+pub one_part : (n : ℕ) (ps : List (List ℕ)) (s : Stage) (m : ℕ) (line : List ℕ) (qs : List (List ℕ))
+    → IsReached n ps s m (line ∷ qs) → ps ≡ [] ∷ [] → (Opening ≡ s) × (line ≡ []) × (qs ≡ [])
+one_part n ps s m line qs at one = by_lines s line qs at.lines at.leads (sym at.are ∙ one)
+  where
+    by_lines : (s : Stage) (line : List ℕ) (qs lines : List (List ℕ)) → Leads Opening lines s
+        → lines ++ line ∷ qs ≡ [] ∷ [] → (Opening ≡ s) × (line ≡ []) × (qs ≡ [])
+    by_lines s line qs [] leads is = (leads, cc, cc)
+    by_lines s line qs (l ∷ lines) leads is =
+        absurd (omega (arith, length-append (l ∷ lines) (line ∷ qs), ap length is))
+
+-- so a line that is not empty, or has an LF, is not the end
+no_end : (n : ℕ) (ps : List (List ℕ)) (s : Stage) (m : ℕ) (line : List ℕ) (qs : List (List ℕ))
+    → IsReached n ps s m (line ∷ qs) → (line ≡ [] → qs ≡ [] → ⊥) → IsNoEnd n ps
+no_end n ps s m line qs at some = λ past one.
+    (let is : (Opening ≡ s) × (line ≡ []) × (qs ≡ []) = one_part n ps s m line qs at one in
+    some is.1 is.2)
+
 pub fault_stops : (ps qs : List (List ℕ)) (line : List ℕ) (old new : Watcher)
     (w : IsWatching ps (line ∷ qs) old) (fault : TextFault) → (line ≡ [] → qs ≡ [] → ⊥)
     → IsFaulty fault old.number line (built w.events old.follower)
@@ -374,11 +399,14 @@ fault_stops ps qs line old new w (faults.At m kind cause) some faulty = record {
   begun = w.begun;
   good = w.good;
   stops = (
-    line,
-    subst (λ (k : ℕ). goes w.start Opening w.begun ≡ fault_in k kind line) (sym faulty.0)
-        (reached_fault w.start w.begun (built w.events old.follower) old.number line qs kind w.reached
-        some w.going faulty.1),
-    faulty.2,
+    (
+      line,
+      subst (λ (k : ℕ). goes w.start Opening w.begun ≡ fault_in k kind line) (sym faulty.0)
+          (reached_fault w.start w.begun (built w.events old.follower) old.number line qs kind
+          w.reached some w.going faulty.1),
+      faulty.2,
+    ),
+    no_end w.start w.begun (built w.events old.follower) old.number line qs w.reached some,
   );
 }
 fault_stops ps qs line old new w faults.Memory some faulty = record {
@@ -386,7 +414,10 @@ fault_stops ps qs line old new w faults.Memory some faulty = record {
   start = w.start;
   begun = w.begun;
   good = w.good;
-  stops = tt;
+  stops = (
+    tt,
+    no_end w.start w.begun (built w.events old.follower) old.number line qs w.reached some,
+  );
 }
 
 pub memory_stops : (ps qs : List (List ℕ)) (old new : Watcher) → IsWatching ps qs old
@@ -401,37 +432,58 @@ memory_stops ps qs old new w = record {
 
 -- THE END
 
+none_read : (ps : List (List ℕ)) (reads : List OneRead) (n : ℕ) (qs : List (List ℕ))
+    → AreGood 1 ps reads n qs → length reads ≡ 0 → 1 < n → ⊥
+none_read ps [] n qs good none past =
+    let first : 1 ≡ n = good.0 in
+    omega arith
+none_read ps (r ∷ reads) n qs good none past = omega (arith, none)
+
+cut_no_end : (ps : List (List ℕ)) (rest : List ℕ) (old : Watcher) (w : IsWatching ps (rest ∷ []) old)
+    → GoesOnAt rest old → IsNoEnd w.start w.begun
+cut_no_end ps rest old w (inl some) =
+    no_end w.start w.begun (built w.events old.follower) old.number rest [] w.reached
+    (λ none more. some none)
+cut_no_end ps rest old w (inr (inl none)) = λ past one.
+    (let histories : old.load.histories ≡ length w.reads = w.load.histories in
+    none_read ps w.reads w.start w.begun w.good (omega arith) past)
+cut_no_end ps rest old w (inr (inr opened)) = λ past one.
+    (let is = one_part w.start w.begun (built w.events old.follower) old.number rest [] w.reached one in
+    opened w.events (sym is.0))
+
 pub cut_stops : (ps : List (List ℕ)) (rest : List ℕ) (old new : Watcher)
-    (w : IsWatching ps (rest ∷ []) old) (fault : TextFault)
+    (w : IsWatching ps (rest ∷ []) old) (fault : TextFault) → GoesOnAt rest old
     → TellsFault (ended old.number (built w.events old.follower) rest) fault
     → Stops (stops.Unread fault) ps new
-cut_stops ps rest old new w fault tells = record {
+cut_stops ps rest old new w fault goes_on tells = record {
   reads = w.reads;
   start = w.start;
   begun = w.begun;
   good = w.good;
-  stops = subst (λ o. TellsFault o fault)
-      (sym (reached_cut w.start w.begun (built w.events old.follower) old.number rest w.reached
-      w.going)) tells;
+  stops = (
+    subst (λ o. TellsFault o fault)
+        (sym (reached_cut w.start w.begun (built w.events old.follower) old.number rest w.reached
+        w.going)) tells,
+    cut_no_end ps rest old w goes_on,
+  );
 }
 
 pub over_all : (ps : List (List ℕ)) (rest : List ℕ) (old : Watcher) → IsWatching ps (rest ∷ []) old
-    → rest ≡ [] → 0 < old.load.histories
-    → ((events : List Event) → built events old.follower ≡ Opening) → IsOver ps old
-over_all ps rest old w empty some opening =
+    → MayEnd rest old → IsOver ps old
+over_all ps rest old w may =
     let at : IsReached w.start w.begun Opening old.number (rest ∷ []) =
-    subst (λ (s : Stage). IsReached w.start w.begun s old.number (rest ∷ [])) (opening w.events)
+    subst (λ (s : Stage). IsReached w.start w.begun s old.number (rest ∷ [])) (may.opening w.events)
     w.reached in
     let same = reached_opening w.start w.begun old.number (rest ∷ []) at in
     let none : w.events ≡ [] =
-    opening_none w.events old.follower.stage (opening w.events) w.seen in
+    opening_none w.events old.follower.stage (may.opening w.events) w.seen in
     record {
       reads = w.reads;
       number = w.start;
       rest = w.begun;
       good = w.good;
-      some = let e : old.load.histories ≡ length w.reads = w.load.histories in omega arith;
-      none = same.1 ∙ ap (λ (r : List ℕ). r ∷ []) empty;
+      some = let e : old.load.histories ≡ length w.reads = w.load.histories in omega (arith, may.some);
+      none = same.1 ∙ ap (λ (r : List ℕ). r ∷ []) may.none;
       load = none_loaded w.reads w.events old.load old.load none refl w.load;
     }
 

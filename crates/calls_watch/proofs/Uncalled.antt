@@ -17,8 +17,7 @@ use Rattle.calls_local.proofs.Parts.{a_part_is_a_history}
 use Rattle.calls_local.proofs.Wholes.{linearizable_by_orders}
 use Rattle.calls_cells.proofs.Trying.{nothing_ordered}
 use Rattle.calls_monitor.specs.Monitors.{IsWatched, IsFine}
-use Rattle.calls_watch.specs.Watches.{invokes_cells}
-use Rattle.calls_watch.specs.kept.Watching.{AreWatched}
+use Rattle.calls_watch.specs.Watches.{invokes_cells, AreWatched}
 
 -- the part on an object invokes none either
 pub part_watched : (k : ℕ) (past : List Event) → AreWatched past → AreWatched (part k past)

@@ -26,15 +26,35 @@ use Rattle.calls_report.specs.declared.status.Status.TheVariants.{Done, Refused,
 use Rattle.calls_report.specs.declared.status.Status.TheVariants.{InputOutput, Memory, NotDecided}
 use Rattle.calls_report.specs.Certificates.{start_at}
 use Rattle.calls_report.specs.Notes.{line_words, scene_at, refusal_note}
-use Rattle.calls_report.specs.Checks.{Outlets, IsUnread}
+use Rattle.calls_report.specs.Checks.{Outlets, SaysUnread}
 use Rattle.calls_watch.specs.Loads.{summary_of}
+
+-- CALLS OF CELLS
+
+-- whether a call is one of a cell or a database
+abbrev pub is_of_cells : Op → Bool
+is_of_cells (Put v) = true
+is_of_cells Get = true
+is_of_cells _ = false
+
+-- whether an event invokes such a call
+abbrev pub invokes_cells : Action → Bool
+invokes_cells (Invoke k op) = is_of_cells op
+invokes_cells (Respond r) = false
+
+-- none of the events does
+abbrev pub AreWatched : List Event → Type 0
+AreWatched [] = Unit {0}
+AreWatched (x ∷ past) = (invokes_cells x.action ≡ false) × AreWatched past
 
 -- HISTORIES IN TURN
 
--- these are the objects of the history, and it has a linearization
+-- these are the objects of the history, no cell and no database is called, and it has a
+-- linearization
 pub record IsGood (r : Recorded) : Type 0 where
   pub kinds : List Kind
   pub recording : IsRecording r kinds
+  pub watched : AreWatched (reverse r.events)
   pub linearizable : IsLinearizable kinds (reverse r.events)
 
 -- from line n on, where the parts are these, the text has these histories, each linearizable, and
@@ -68,10 +88,12 @@ refused_note m r x report =
 -- a linearization. Line m is the next
 pub record IsUpTo (n : ℕ) (ps : List (List ℕ)) (m : ℕ) (r : Recorded) (kinds : List Kind)
     (past : List Event) (x : Event) : Type 0 where
+  pub next : List ℕ
   pub left : List (List ℕ)
-  pub reached : IsReached n ps (Running r) m left
+  pub reached : IsReached n ps (Running r) m (next ∷ left)
   pub recording : IsRecording r kinds
   pub last : reverse r.events ≡ x ∷ past
+  pub watched : AreWatched past
   pub before : IsLinearizable kinds past
 
 -- with the event x there is none, and this is the report on it
@@ -80,23 +102,13 @@ pub record IsStopped (n : ℕ) (ps : List (List ℕ)) (m : ℕ) (r : Recorded) (
   pub kinds : List Kind
   pub past : List Event
   pub up_to : IsUpTo n ps m r kinds past x
+  pub watched : invokes_cells x.action ≡ false
   pub refused : IsRefused kinds past x report
 
 abbrev pub SaysStopped : ℕ → List (List ℕ) → Outgoing → Outgoing → Type 0
 SaysStopped n ps old new =
     (m : ℕ) × (r : Recorded) × (x : Event) × (report : Report) × IsStopped n ps m r x report
     × Puts old new (refused_note m r x report)
-
--- whether a call is one of a cell or a database
-abbrev pub is_of_cells : Op → Bool
-is_of_cells (Put v) = true
-is_of_cells Get = true
-is_of_cells _ = false
-
--- whether an event invokes such a call
-abbrev pub invokes_cells : Action → Bool
-invokes_cells (Invoke k op) = is_of_cells op
-invokes_cells (Respond r) = false
 
 -- the event invokes a call of a cell or a database
 pub record IsUnwatched (n : ℕ) (ps : List (List ℕ)) (m : ℕ) : Type 0 where
@@ -125,7 +137,7 @@ Ends Done reads m qs old new =
     (0 < length reads) × (qs ≡ [] ∷ []) × Appends old.out new.out (summary_of reads)
     × (new.notes ≡ old.notes)
 Ends Refused reads m qs old new =
-    (new.out ≡ old.out) × (((note : List ℕ) × IsUnread m qs note × Puts old.notes new.notes note)
+    (new.out ≡ old.out) × (SaysUnread m qs old.notes new.notes
     ⊎ SaysStopped m qs old.notes new.notes)
 Ends NotDecided reads m qs old new =
     (new.out ≡ old.out) × SaysUnwatched m qs old.notes new.notes

@@ -56,7 +56,7 @@ impl Feeder {
             → Feeds result ps rest self.new }
     {
         let mut left = piece;
-        while let Some((line, behind)) = cut_line(left) {
+        'lines: while let Some((line, behind)) = cut_line(left) {
             self.watcher.line(alloc, line)?;
             left = behind;
         }

@@ -2,12 +2,14 @@
 #![tactic(auto)]
 
 mod feeder;
+mod laws;
 mod load;
 mod shown;
 mod stop;
 mod watcher;
 mod watching;
 
+pub use laws::{both_refuse_one_event, watch_agrees_with_check};
 pub use load::Load;
 pub use stop::Stop;
 pub use watcher::Watcher;

@@ -1,5 +1,5 @@
 //! Histories of a text, judged line by line.
-ghost use Rattle.std.specs.Prelude.{◌≡◌, ◌<◌, ◌∷◌, [], List, ℕ, Some, length, reverse, IfErr};
+ghost use Rattle.std.specs.Prelude.{◌≡◌, ◌<◌, ◌∷◌, [], List, ℕ, Some, length, true, false};
 ghost use Rattle.calls_core.specs.declared.history.Event.{Event};
 ghost use Rattle.calls_core.specs.Histories.{pending_calls};
 ghost use Rattle.calls_monitor.specs.declared.monitor.Monitor.{Monitor};
@@ -10,6 +10,7 @@ ghost use Rattle.calls_text.specs.Following.{built, HasSeen};
 ghost use Rattle.calls_watch.specs.Watches.{invokes_cells};
 ghost use Rattle.calls_watch.specs.kept.Watching.{IsWatching, GoesOn, EndsAs, Stops, Opens, IsJudged};
 ghost use Rattle.calls_watch.specs.kept.Watching.{Begins, IsEventJudged, IsBegunAgain, GoesOnBy};
+ghost use Rattle.calls_watch.specs.kept.Watching.{MayEnd, GoesOnAt};
 
 use crate::load::Load;
 use crate::stop::Stop;
@@ -150,12 +151,26 @@ impl Watcher {
         Stop::Unread(self.follower.long_line(self.number))
     }
 
+    /// Returns whether the text may end here, with these bytes after its last LF.
+    fn may_end(&self, rest: &[u8]) -> bool
+        ensures over { result ≡ true → MayEnd rest.now self.now }
+        ensures going { result ≡ false → GoesOnAt rest.now self.now }
+    {
+        if !rest.is_empty() {
+            return false;
+        }
+        if self.load.histories == 0 {
+            return false;
+        }
+        self.follower.is_opening()
+    }
+
     /// Ends the text, which has these bytes after its last LF.
     pub fn end(&mut self, alloc: Global, rest: &[u8]) -> Result<(), Stop>
         ensures { (ps : List (List ℕ)) → IsWatching ps (rest.now ∷ []) self.old
             → EndsAs result ps self.new }
     {
-        if rest.is_empty() && self.load.histories > 0 && self.follower.is_opening() {
+        if self.may_end(rest) {
             return Ok(());
         }
         Err(Stop::Unread(self.follower.cut_off(alloc, self.number, rest)))

@@ -70,7 +70,7 @@ fn read_all<R: Read>(alloc: Global, reader: &mut R, feeder: &mut Feeder) -> Resu
         → ReadsAll old result feeder.new }
 {
     let mut table: ArrayVec<u8, 8192> = ArrayVec::from([0u8; 8192]);
-    for _piece in 0..u64::MAX {
+    'pieces: for _piece in 0..u64::MAX {
         match read_on(alloc, reader, &mut table, feeder) {
             Ok(true) => {}
             Ok(false) => return Ok(()),
@@ -192,7 +192,7 @@ pub fn watch<R: Read, W: Write, N: Write>(
 {
     let mut feeder = Feeder::new();
     match read_all(alloc, reader, &mut feeder) {
-        Ok(()) => write_load(feeder.watcher.load(), out, notes),
+        Ok(()) => write_load(feeder.watcher.load, out, notes),
         Err(Cut::Read) => {
             notes.say(b"read fault\n");
             Status::InputOutput

@@ -4,7 +4,6 @@ use Rattle.ec_count.specs.Tables.{IsDeclared}
 use Rattle.calls_core.specs.declared.history.Kind as sorts
 use Rattle.calls_core.specs.declared.history.Event.{Event}
 use Rattle.calls_core.specs.declared.history.Action.{Action}
-use Rattle.calls_core.specs.declared.history.PendingCall.{PendingCall}
 use Rattle.calls_core.specs.Histories.{pending_calls, IsNext}
 use Rattle.calls_text.specs.Recordings.{Recorded, AreKinds}
 use Rattle.calls_text.specs.Tallies.{IsCounted}

@@ -8,7 +8,7 @@ use Rattle.calls_text.specs.Outcomes.{OneRead, parts_of}
 use Rattle.calls_report.specs.declared.status.Status.{Status}
 use Rattle.calls_report.specs.declared.status.Status.TheVariants.{Done, Refused, Usage}
 use Rattle.calls_report.specs.declared.status.Status.TheVariants.{InputOutput, Memory, NotDecided}
-use Rattle.calls_report.specs.Checks.{Outlets, IsUnread}
+use Rattle.calls_report.specs.Checks.{Outlets, SaysUnread}
 use Rattle.calls_watch.specs.declared.feeder.Feeder.{Feeder}
 use Rattle.calls_watch.specs.declared.watching.Cut.{Cut}
 use Rattle.calls_watch.specs.declared.watching.Cut.TheVariants as cuts
@@ -47,8 +47,7 @@ SaysRefused Refused note old new = Puts old new note
 SaysRefused _ note old new = ⊥
 
 abbrev pub SaysAt : Status → ℕ → List (List ℕ) → Outgoing → Outgoing → Type 0
-SaysAt Refused n ps old new =
-    ((note : List ℕ) × IsUnread n ps note × Puts old new note) ⊎ SaysStopped n ps old new
+SaysAt Refused n ps old new = SaysUnread n ps old new ⊎ SaysStopped n ps old new
 SaysAt NotDecided n ps old new = SaysUnwatched n ps old new
 SaysAt Memory n ps old new = Puts old new (codes "no memory\n")
 SaysAt _ n ps old new = ⊥

@@ -1,5 +1,5 @@
 -- What is kept of a text while its lines come.
-use Rattle.std.specs.Prelude.{◌≡◌, ◌≢◌, ◌<◌, ℕ, ◌+◌, List, [], ◌∷◌, ◌++◌, length, reverse, Option, Some, None}
+use Rattle.std.specs.Prelude.{◌≡◌, ◌≢◌, ◌<◌, ◌⊎◌, ℕ, ◌+◌, List, [], ◌∷◌, ◌++◌, length, reverse, Option, Some, None}
 use Rattle.std.specs.Prelude.{Result, Ok, Err, true, false, ⊤}
 use Rattle.std.specs.List.{All}
 use Rattle.calls_core.specs.declared.history.Kind.{Kind}
@@ -17,20 +17,17 @@ use Rattle.calls_text.specs.Recordings.{Recorded, AreKinds, IsRecording}
 use Rattle.calls_text.specs.Reading.{Stage, Opening, Running, is_ended}
 use Rattle.calls_text.specs.Outcomes.{OneRead, goes, parts_of, TellsFault}
 use Rattle.calls_text.specs.Following.{built, HasSeen, IsReached}
+use Rattle.calls_report.specs.Checks.{IsNoEnd}
 use Rattle.calls_watch.specs.declared.feeder.Feeder.{Feeder}
 use Rattle.calls_watch.specs.declared.load.Load.{Load}
 use Rattle.calls_watch.specs.declared.stop.Stop.{Stop}
 use Rattle.calls_watch.specs.declared.stop.Stop.TheVariants as stops
 use Rattle.calls_watch.specs.declared.watcher.Watcher.{Watcher}
 use Rattle.calls_watch.specs.Loads.{IsLoad, invoked, others_at}
-use Rattle.calls_watch.specs.Watches.{AreGood, IsStopped, IsUnwatched, invokes_cells}
+use Rattle.calls_watch.specs.Watches.{AreGood, IsStopped, IsUnwatched, AreWatched}
+use Rattle.calls_watch.specs.Watches.{invokes_cells}
 
 -- ONE HISTORY
-
--- no event invokes a call of a cell or a database
-abbrev pub AreWatched : List Event → Type 0
-AreWatched [] = Unit {0}
-AreWatched (x ∷ past) = (invokes_cells x.action ≡ false) × AreWatched past
 
 -- the monitor represents these events, which are a history of the objects that are declared
 pub record IsMonitoring (r : Recorded) (events : List Event) (m : Monitor) : Type 0 where
@@ -66,7 +63,7 @@ pub record IsWatching (ps qs : List (List ℕ)) (w : Watcher) : Type 0 where
 
 -- why the text is not watched further, from line n on, where the parts are these
 abbrev pub StopsAt : Stop → ℕ → List (List ℕ) → Watcher → Type 0
-StopsAt (stops.Unread fault) n ps w = TellsFault (goes n Opening ps) fault
+StopsAt (stops.Unread fault) n ps w = TellsFault (goes n Opening ps) fault × IsNoEnd n ps
 StopsAt (stops.Refused x report) n ps w =
     (r : Recorded) × (events : List Event) × (built events w.follower ≡ Running r)
     × IsStopped n ps w.number r x report
@@ -83,6 +80,18 @@ pub record Stops (stop : Stop) (ps : List (List ℕ)) (w : Watcher) : Type 0 whe
 abbrev pub GoesOn : Result (Unit {0}) Stop → List (List ℕ) → List (List ℕ) → Watcher → Type 0
 GoesOn (Ok u) ps qs w = IsWatching ps qs w
 GoesOn (Err stop) ps qs w = Stops stop ps w
+
+-- no byte is left, a history has ended, and the next has not begun
+pub record MayEnd (rest : List ℕ) (w : Watcher) : Type 0 where
+  pub none : rest ≡ []
+  pub some : 0 < w.load.histories
+  pub opening : (events : List Event) → built events w.follower ≡ Opening
+
+-- bytes are left, or no history has ended, or the next has begun
+abbrev pub GoesOnAt : List ℕ → Watcher → Type 0
+GoesOnAt rest w =
+    (rest ≡ [] → ⊥) ⊎ ((w.load.histories ≡ 0)
+    ⊎ ((events : List Event) → built events w.follower ≡ Opening → ⊥))
 
 -- the text has ended after a history
 pub record IsOver (ps : List (List ℕ)) (w : Watcher) : Type 0 where
@@ -147,7 +156,7 @@ IsEventJudged m x old new (Ok u) =
     × (new.follower ≡ old.follower) × (new.number ≡ old.number) × (invokes_cells x.action ≡ false)
 IsEventJudged m x old new (Err (stops.Refused y report)) =
     (y ≡ x) × ((n : Monitor) × Judges m n x (Err (rejections.Refused report)))
-    × (new.follower ≡ old.follower) × (new.number ≡ old.number)
+    × (new.follower ≡ old.follower) × (new.number ≡ old.number) × (invokes_cells x.action ≡ false)
 IsEventJudged m x old new (Err stops.NotWatched) =
     (invokes_cells x.action ≡ true) × (new.follower ≡ old.follower) × (new.number ≡ old.number)
 IsEventJudged m x old new (Err stops.Memory) = Unit {0}

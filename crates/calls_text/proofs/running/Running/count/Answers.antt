@@ -1,4 +1,4 @@
-use Rattle.std.proofs.Common.{sym, subst}
+use Rattle.std.proofs.Common.{subst}
 use Rattle.ec_count.specs.Tables.{IsDeclared}
 use Rattle.ec_heading.specs.Headed.{Headed}
 use Rattle.calls_text.proofs.Coming.{may_add}
