@@ -13,8 +13,9 @@ pub use types.Logic.{sem}
 pub use types.Kit.{‵, raw, ◌⊛◌, some, later, prop, ◌$◌, ◌∵◌, !, qed, done, move, keep, drop, use1, use2, use3, split, join, fsplit, feq_i, feq_l, pick, await, regoal, suffices, frame, show}
 pub use types.Tokens.{lft_new, lft_end}
 pub use types.SemTy.{Body}
-pub use types.Run.{enter, addr, no_more, and_then, stop, returns, of_opd, unit_lit, init, assigns}
-pub use types.ByLocal.{alloc_all, pass_all, free_all, look_at, get, through, sets, lands_as}
+pub use types.Part.{whole, sub, agg}
+pub use types.Run.{enter, addr, from, fld, hop, no_more, and_then, stop, returns, of_opd, unit_lit, init, assigns}
+pub use types.ByLocal.{alloc_all, pass_all, free_all, look_at, look_in_at, get, get_in, through, sets, lands_as}
 pub use denote.Builtin.{u8, usize, unit}
 pub use denote.Exit.{yes}
 pub use denote.Laws.{Is, shows}

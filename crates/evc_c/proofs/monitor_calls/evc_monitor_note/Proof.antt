@@ -1,5 +1,5 @@
 -- The monitor is lent for the call, and lies there again after it.
-use Rattle.evc_c.proofs.MonitorSteps.{ℕ, List, [], ◌∷◌, refl, length, w64, proved, full_share, id⊢, sep, ftrue, flft, flent, named, vptr, WpFn, fact, tables, sem, ‵, raw, ◌⊛◌, some, later, prop, ◌$◌, ◌∵◌, !, qed, done, move, keep, drop, use1, use2, use3, split, join, fsplit, feq_l, pick, await, regoal, suffices, frame, show, lft_new, lft_end, Body, enter, addr, no_more, and_then, stop, returns, of_opd, alloc_all, pass_all, free_all, look_at, get, through, sets, lands_as, u8, usize, yes, Is, shows, uint_Lawful, part_at, mem, Ptr, ptr_val, RawPtr, block_ptr, lies_at, in_a_block, rawptr_vals, rawptr_Tells, MutRef, MutSlice, mut_slice_vals, mut_slice_Tells, mut_slice_Lawful, slice_val, lends_ref, ref_back, plain, nothing, heard, peeks, calls_at, lasts, triple_of, framed, says, Stays, walk_of, stay_dropped, Goes-dropped, gave_slice, Goes-gave_slice, ends_at, R, Monitor}
+use Rattle.evc_c.proofs.MonitorSteps.{ℕ, List, [], ◌∷◌, refl, length, w64, proved, full_share, id⊢, sep, ftrue, flft, flent, named, vptr, WpFn, fact, tables, sem, ‵, raw, ◌⊛◌, some, later, prop, ◌$◌, ◌∵◌, !, qed, done, move, keep, drop, use1, use2, use3, split, join, fsplit, feq_l, pick, await, regoal, suffices, frame, show, lft_new, lft_end, Body, enter, addr, from, fld, hop, no_more, and_then, stop, returns, of_opd, whole, sub, agg, alloc_all, pass_all, free_all, look_at, look_in_at, get, get_in, through, sets, lands_as, u8, usize, yes, Is, shows, uint_Lawful, part_at, mem, Ptr, ptr_val, RawPtr, block_ptr, lies_at, in_a_block, rawptr_vals, rawptr_Tells, MutRef, MutSlice, mut_slice_vals, mut_slice_Tells, mut_slice_Lawful, slice_val, lends_ref, ref_back, plain, nothing, heard, peeks, calls_at, lasts, triple_of, framed, says, Stays, walk_of, stay_dropped, Goes-dropped, gave_slice, Goes-gave_slice, ends_at, R, Monitor}
 use Rattle.evc_c.specs.contracts.monitor_calls.evc_monitor_note as f
 use Rattle.evc_c.proofs.monitor_calls.evc_monitor_note.Statement.{statement}
 use Rattle.evc_c.proofs.monitor_calls.evc_monitor_note.Code as code
@@ -27,6 +27,9 @@ evc_monitor_note_spec 𝓤 𝓛 𝓜 𝓡 wired =
     -- [the monitor; the token of what else is passed; that; the locals]
     sets ! (of_opd ! (get ! refl)) refl (tt, tt) $
     sets ! (addr ! (through ! refl (stop !))) refl (tt, tt) $
+    let typed = ((mut_slice_Lawful 𝓛 (named 0) κs.0 u8).typed a.1.0 _ are.1.0).0 in
+    sets ! (addr ! (from ! (fld ! refl (hop ! (look_in_at ! 2 (sub ! 0 refl (whole !))) (stop !))))) refl (tt, tt) $
+    sets ! (agg ! (and_then ! (get ! refl) (and_then ! (get_in ! (fld ! refl (stop !)) (sub ! 1 refl (whole !))) (no_more !)))) refl typed $
     lft_new ! tt (λ α. move ! (1 ∷ []) $
     use1 𝓛 (later (some (λ (δ : ℕ). ‵ (Ref (α ∷ []) δ) ⊛ ‵ (flent (α ∷ []) (Body (mem R) b o δ))))) (lends_ref 𝓛 R (named 0) (α ∷ []) old b o) $ await ! tt $ pick ! (λ δ. split ! $
     let G = triple_of 𝓛 g.signature (g.spec 𝓛 𝓜.mem 𝓡.returns) in
