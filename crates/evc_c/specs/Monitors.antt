@@ -1,9 +1,11 @@
--- Histories of calls that are judged line by line: what a monitor represents, and what a call on it does.
-use Rattle.std.specs.Prelude.{◌≡◌, ◌≤◌, ℕ, List, [], ◌∷◌, ◌++◌, length, take, drop, Option, Some}
+-- Histories of calls that are judged line by line: what a monitor represents, and what a call on it
+-- does.
+use Rattle.std.specs.Prelude.{◌≡◌, ◌≤◌, ℕ, List, [], ◌∷◌, ◌++◌, length, take, drop, Some}
 use Rattle.ec_text.specs.Puts.{Outgoing, at_first, IsWrittenOut}
 use Rattle.calls_text.specs.declared.fault.TextFault.TheVariants as faults
 use Rattle.calls_report.specs.declared.status.Status.{Status}
-use Rattle.calls_report.specs.declared.status.Status.TheVariants.{Done, Refused, Usage, Memory, NotDecided}
+use Rattle.calls_report.specs.declared.status.Status.TheVariants.{Done, Refused, Usage, Memory}
+use Rattle.calls_report.specs.declared.status.Status.TheVariants.{NotDecided}
 use Rattle.calls_report.specs.Statuses.{status_code}
 use Rattle.calls_watch.specs.declared.stop.Stop.{Stop}
 use Rattle.calls_watch.specs.declared.stop.Stop.TheVariants as stops
@@ -17,7 +19,8 @@ use Rattle.evc_c.specs.declared.monitor.Stage.TheVariants.{Open, Stopped, Ended,
 
 -- WHAT IT REPRESENTS
 
--- these lines came, and the text may go on: of each text that begins with them they are what was judged
+-- these lines came, and the text may go on: of each text that begins with them they are what was
+-- judged
 abbrev pub HasTaken : List (List ℕ) → Watcher → Type 0
 HasTaken lines w = (q : List ℕ) (qs : List (List ℕ)) → IsWatching (lines ++ q ∷ qs) (q ∷ qs) w
 
@@ -43,7 +46,8 @@ status_at (Stopped stop) = stop_status stop
 status_at Ended = Usage
 status_at Closed = Usage
 
--- a monitor that is not open stays as it was: one that was stopped answers as it did, and one that has ended or was closed has no use
+-- a monitor that is not open stays as it was: one that was stopped answers as it did, and one that
+-- has ended or was closed has no use
 abbrev pub Stays : Status → Monitor → Monitor → Type 0
 Stays status old new = (status ≡ status_at old.stage) × (new ≡ old)
 
@@ -58,14 +62,16 @@ GoesOnAt Closed status lines w = ⊥
 
 abbrev pub GoesOnWith : List ℕ → Status → Monitor → Monitor → Type 0
 GoesOnWith line status old new =
-    (lines : List (List ℕ)) → HasTaken lines old.watcher → GoesOnAt new.stage status (lines ++ line ∷ []) new.watcher
+    (lines : List (List ℕ)) → HasTaken lines old.watcher
+    → GoesOnAt new.stage status (lines ++ line ∷ []) new.watcher
 
 abbrev pub TakesLineAt : Stage → List ℕ → Status → Monitor → Monitor → Type 0
 TakesLineAt Open line status old new = GoesOnWith line status old new
 TakesLineAt stage line status old new = Stays status old new
 
 abbrev pub TakesLine : List ℕ → ℕ → Monitor → Monitor → Type 0
-TakesLine line code old new = (status : Status) × (code ≡ status_code status) × TakesLineAt old.stage line status old new
+TakesLine line code old new = (status : Status) × (code ≡ status_code status)
+    × TakesLineAt old.stage line status old new
 
 -- THE END
 
@@ -85,7 +91,8 @@ EndsTextAt Open status old new = EndsWith status old new
 EndsTextAt stage status old new = Stays status old new
 
 abbrev pub EndsText : ℕ → Monitor → Monitor → Type 0
-EndsText code old new = (status : Status) × (code ≡ status_code status) × EndsTextAt old.stage status old new
+EndsText code old new = (status : Status) × (code ≡ status_code status)
+    × EndsTextAt old.stage status old new
 
 -- NOTES
 
@@ -110,14 +117,17 @@ IsNoteOf m = IsNoteAt m.stage m.watcher
 -- so many bytes of a room are the note, and the others are as before; the monitor stays
 abbrev pub TellsNote : Monitor → Monitor → ℕ → List ℕ → List ℕ → Type 0
 TellsNote old new n before after =
-    (new ≡ old) × IsNoteOf old (length before) (take n after) × (n ≤ length after) × (drop n after ≡ drop n before)
+    (new ≡ old) × IsNoteOf old (length before) (take n after) × (n ≤ length after) ×
+    (drop n after ≡ drop n before)
 
 -- THE LOAD
 
--- how many histories have ended, how many calls were invoked, and the others that were pending then; the monitor stays
+-- how many histories have ended, how many calls were invoked, and the others that were pending
+-- then; the monitor stays
 abbrev pub TellsLoad : Monitor → Monitor → EvcLoad → Type 0
 TellsLoad old new l =
-    (new ≡ old) × (l.histories ≡ old.watcher.load.histories) × (l.calls ≡ old.watcher.load.calls) × (l.others ≡ old.watcher.load.others)
+    (new ≡ old) × (l.histories ≡ old.watcher.load.histories) × (l.calls ≡ old.watcher.load.calls)
+    × (l.others ≡ old.watcher.load.others)
 
 abbrev pub IsClosed : Monitor → Type 0
 IsClosed m = m.stage ≡ Closed

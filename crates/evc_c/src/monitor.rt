@@ -1,7 +1,8 @@
 //! Histories of calls that are judged line by line: what is kept between the calls.
 ghost use Rattle.std.specs.Prelude.{◌≡◌};
 ghost use Rattle.evc_c.specs.declared.monitor.Stage.TheVariants.{Open, Stopped};
-ghost use Rattle.evc_c.specs.Monitors.{stop_status, status_at, IsOpen, GoesOnWith, TakesLine, EndsWith, EndsText};
+ghost use Rattle.evc_c.specs.Monitors.{stop_status, status_at, IsOpen, GoesOnWith, TakesLine};
+ghost use Rattle.evc_c.specs.Monitors.{EndsWith, EndsText};
 ghost use Rattle.evc_c.specs.Monitors.{TellsNote, TellsLoad, IsClosed};
 
 use crate::room::put_front;
