@@ -72,6 +72,17 @@ end_read (Some bytes) (Some rest) (Some left) buf f g result fed takes over ends
     by_result bytes result g (ends (parts_of bytes)
     (subst (λ (r : List ℕ). IsFed (parts_of bytes) r f) none fed))
 
+-- a piece of no bytes
+pub end_of : (o now new : Option (List ℕ)) (buf : List ℕ) (n : ℕ) (f g : Feeder)
+    (result : Result (Unit {0}) Stop) → FedFrom o now f → n ≡ 0 → length buf ≡ 8192
+    → Consumes now new (take n buf) → (n ≡ 0 → 0 < length buf → IsAtEnd new)
+    → ((ps : List (List ℕ)) → IsFed ps [] f → EndsAs result ps g.watcher)
+    → ReadsAll o (ends_as result) g
+end_of o now new buf n f g result fed none len takes over ends =
+    let some : 0 < length buf = omega (arith, len) in
+    end_read o now new buf f g result fed
+    (subst (λ (k : ℕ). Consumes now new (take k buf)) none takes) (over none some) ends
+
 -- WRITING
 
 summary : (reads : List OneRead) (l : Load) → IsLoad reads [] l

@@ -20,6 +20,8 @@ use Rattle.calls_text.specs.declared.following.Followed.TheVariants as lines
 use Rattle.calls_text.specs.declared.following.Follower.{Follower}
 use Rattle.calls_text.specs.Recordings.{Recorded, AreKinds, IsRecording}
 use Rattle.calls_text.specs.Reading.{Stage, Opening, Limiting, Declaring, Running, Ended, step, is_ended}
+use Rattle.calls_text.specs.Reading.{with_events}
+use Rattle.std.specs.Prelude.{OnOk, IfErr}
 use Rattle.calls_text.specs.Outcomes.{OneRead, goes, ended, fault_in, TellsFault}
 use Rattle.calls_text.specs.Following.{built, HasSeen, IsReached, IsHeading, IsRun, IsEvent, IsEnd}
 use Rattle.calls_text.specs.Following.{PassesIn, IsFaulty}
@@ -32,11 +34,12 @@ use Rattle.calls_watch.specs.declared.stop.Stop.{Stop}
 use Rattle.calls_watch.specs.declared.stop.Stop.TheVariants as stops
 use Rattle.calls_watch.specs.declared.watcher.Watcher.{Watcher}
 use Rattle.calls_watch.specs.Loads.{IsLoad, calls_of, others_of, calls_in, others_in, others_at}
+use Rattle.calls_watch.specs.Loads.{invoked}
 use Rattle.calls_watch.specs.Watches.{IsGood, AreGood, IsUpTo, IsStopped, IsUnwatched}
 use Rattle.calls_watch.specs.Watches.{invokes_cells, AreWatched}
 use Rattle.calls_watch.specs.kept.Watching.{IsMonitoring, IsMonitored, IsWatching, StopsAt, Stops, GoesOn}
 use Rattle.calls_watch.specs.kept.Watching.{IsOver, EndsAs, IsOpened, IsLoadAfter, Begins, LoadGrows}
-use Rattle.calls_watch.specs.kept.Watching.{IsEventJudged, IsBegunAgain, GoesOnBy, MayEnd, GoesOnAt}
+use Rattle.calls_watch.specs.kept.Watching.{IsJudged, IsEventJudged, IsBegunAgain, GoesOnBy, MayEnd, GoesOnAt}
 use Rattle.calls_watch.proofs.Histories.{good_more, calls_more, others_more}
 use Rattle.calls_watch.proofs.Uncalled.{all_linearizable, none_linearizable}
 
@@ -498,3 +501,49 @@ begins ps w is seen number none histories calls others =
       calls = omega (arith, calls);
       others = omega (arith, others);
     })
+
+-- OPENING A MONITOR
+
+running_same : (q r : Recorded) → Running q ≡ Running r → q ≡ r
+running_same q r is = cc
+
+-- what is declared does not depend on the events
+pub opened_same : (q r : Recorded) (m : Monitor) → Running (with_events q []) ≡ Running r
+    → IsOpened q m → IsOpened r m
+opened_same q r m same o =
+    subst (λ (t : Recorded). IsOpened t m) (running_same (with_events q []) r same)
+    (record { kinds = o.kinds; are = o.are; watches = o.watches })
+
+-- AN EVENT THAT WAS JUDGED
+
+pub event_done : (m : Monitor) (x : Event) (old new : Watcher) (n : ℕ)
+    (result : Result (Unit {0}) Stop) → IsJudged m x new.monitor (Ok tt)
+    → invokes_cells x.action ≡ false → new.follower ≡ old.follower → new.number ≡ old.number
+    → ((events : List Event) (r : Recorded) → HasSeen events old.follower
+    → built events old.follower ≡ Running r → n ≡ length (pending_calls (reverse events)))
+    → OnOk result (new.load.calls ≡ old.load.calls + invoked x.action)
+    → OnOk result (new.load.others ≡ old.load.others + others_at x.action n)
+    → new.load.histories ≡ old.load.histories → IfErr result (λ stop. stop ≡ stops.Memory)
+    → IsEventJudged m x old new result
+event_done m x old new n (Ok u) j plain same count pending calls others histories memory = (
+  j.0,
+  j.1,
+  j.2,
+  λ events r seen at. record {
+    histories = histories;
+    calls = calls;
+    others = others
+        ∙ ap (λ (k : ℕ). old.load.others + others_at x.action k) (pending events r seen at);
+  },
+  same,
+  count,
+  plain,
+)
+event_done m x old new n (Err stops.Memory) j plain same count pending calls others histories memory =
+    tt
+event_done m x old new n (Err stops.NotWatched) j plain same count pending calls others histories
+    memory = absurd (let never : ⊥ = cc in never)
+event_done m x old new n (Err (stops.Unread f)) j plain same count pending calls others histories
+    memory = absurd (let never : ⊥ = cc in never)
+event_done m x old new n (Err (stops.Refused y report)) j plain same count pending calls others
+    histories memory = absurd (let never : ⊥ = cc in never)

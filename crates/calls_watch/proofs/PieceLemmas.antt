@@ -98,6 +98,22 @@ gather_fed ps bytes rest old new (Err stop) fed none g =
     let long : 8192 < length (begun ++ f.first) = omega (arith, g.0, length-append begun f.first) in
     g.2 ps f.others (begun ++ f.first) at long
 
+-- a line of a piece, and what the text has after it
+pub joined : (line behind left rest : List ℕ) → left ≡ line ++ 10 ∷ behind
+    → left ++ rest ≡ line ++ 10 ∷ (behind ++ rest)
+joined line behind left rest is =
+    ap (λ (xs : List ℕ). xs ++ rest) is ∙ append_assoc line (10 ∷ behind) rest
+
+pub line_in : (ps : List (List ℕ)) (line behind left rest : List ℕ) (old new : Watcher)
+    (result : Result (Unit {0}) Stop) → left ≡ line ++ 10 ∷ behind → All (λ b. b ≢ 10) line
+    → IsWatching ps (parts_of (left ++ rest)) old
+    → ((qs : List (List ℕ)) (q : List ℕ) → IsWatching ps (line ∷ q ∷ qs) old
+    → GoesOn result ps (q ∷ qs) new) → GoesOn result ps (parts_of (behind ++ rest)) new
+line_in ps line behind left rest old new result is none w goes =
+    line_fed ps line (behind ++ rest) old new result none
+    (subst (λ (xs : List ℕ). IsWatching ps (parts_of xs) old) (joined line behind left rest is) w)
+    goes
+
 -- a line whose beginning was gathered
 pub line_done : (ps : List (List ℕ)) (rest : List ℕ) (mid new : Feeder)
     (result : Result (Unit {0}) Stop) → GoesOn result ps (parts_of rest) mid.watcher

@@ -185,9 +185,11 @@ next_alike ks ls all (Respond r) (Some o) next = next
 pub history_alike : (ks ls : List Kind) → AllAlike ks ls → (past : List Event) → IsHistory ks past
     → IsHistory ls past
 history_alike ks ls all [] h = tt
-history_alike ks ls all (x ∷ past) h =
-    (h.0, next_alike ks ls all x.action (pending_of x.worker (pending_calls past)) h.1,
-    history_alike ks ls all past h.2)
+history_alike ks ls all (x ∷ past) h = (
+  h.0,
+  next_alike ks ls all x.action (pending_of x.worker (pending_calls past)) h.1,
+  history_alike ks ls all past h.2,
+)
 
 same_start : (ks ls : List Kind) → AllAlike ks ls → start ks ≡ start ls
 same_start ks ls all =

@@ -33,7 +33,7 @@ part_watched k (x ∷ past) w =
 abbrev pub BeginsWithNone : Kind → Type 0
 BeginsWithNone kind = (a : Action) → IsNextOf kind a None → invokes_cells a ≡ false → ⊥
 
-cell_begins : BeginsWithNone Cell
+pub cell_begins : BeginsWithNone Cell
 cell_begins (Invoke k Advance) next none = next
 cell_begins (Invoke k Read) next none = next
 cell_begins (Invoke k (Await v)) next none = next
@@ -45,7 +45,7 @@ cell_begins (Invoke k (Put v)) next none = cc
 cell_begins (Invoke k Get) next none = cc
 cell_begins (Respond r) next none = next
 
-database_begins : (n : ℕ) → BeginsWithNone (Database n)
+pub database_begins : (n : ℕ) → BeginsWithNone (Database n)
 database_begins n (Invoke k Advance) next none = next
 database_begins n (Invoke k Read) next none = next
 database_begins n (Invoke k (Await v)) next none = next
@@ -57,7 +57,7 @@ database_begins n (Invoke k (Put v)) next none = cc
 database_begins n (Invoke k Get) next none = cc
 database_begins n (Respond r) next none = next
 
-uncalled : (kind : Kind) → BeginsWithNone kind → (past : List Event) → IsHistoryOf kind past
+pub uncalled : (kind : Kind) → BeginsWithNone kind → (past : List Event) → IsHistoryOf kind past
     → AreWatched past → past ≡ []
 uncalled kind begins [] h w = refl
 uncalled kind begins (x ∷ past) h w =

@@ -1,5 +1,5 @@
 //! The lines of a text that comes in pieces.
-ghost use Rattle.std.specs.Prelude.{◌≡◌, ◌≢◌, ◌∷◌, ◌++◌, [], All, List, ℕ};
+ghost use Rattle.std.specs.Prelude.{◌≡◌, ◌≢◌, ◌∷◌, ◌++◌, [], All, List, ℕ, OnOk};
 ghost use Rattle.calls_text.specs.Outcomes.{parts_of};
 ghost use Rattle.calls_watch.specs.kept.Watching.{IsFed, Feeds, EndsAs, GathersTo};
 
@@ -37,16 +37,28 @@ impl Feeder {
         Ok(())
     }
 
+    /// Takes the line that was gathered, whose LF comes next.
+    fn take_line(&mut self, alloc: Global) -> Result<(), Stop>
+        ensures feeds { (ps : List (List ℕ)) (rest : List ℕ) → IsFed ps (10 ∷ rest) self.old
+            → Feeds result ps rest self.new }
+        ensures none { self.new.part.items ≡ [] }
+    {
+        let taken = self.watcher.line(alloc, self.part.as_slice());
+        self.part.clear();
+        taken
+    }
+
     /// Takes the line whose beginning was gathered, and whose end are these bytes.
     fn end_line(&mut self, alloc: Global, bytes: &[u8]) -> Result<(), Stop>
-        ensures { (ps : List (List ℕ)) (rest : List ℕ)
+        ensures feeds { (ps : List (List ℕ)) (rest : List ℕ)
             → IsFed ps (bytes.now ++ 10 ∷ rest) self.old → All (λ b. b ≢ 10) bytes.now
             → Feeds result ps rest self.new }
+        ensures none { OnOk result (self.new.part.items ≡ []) }
     {
-        self.gather(bytes)?;
-        self.watcher.line(alloc, self.part.as_slice())?;
-        self.part.clear();
-        Ok(())
+        match self.gather(bytes) {
+            Ok(()) => self.take_line(alloc),
+            Err(stop) => Err(stop),
+        }
     }
 
     /// Takes the lines of a piece, and gathers what stands after its last LF.
@@ -57,7 +69,9 @@ impl Feeder {
     {
         let mut left = piece;
         'lines: while let Some((line, behind)) = cut_line(left) {
-            self.watcher.line(alloc, line)?;
+            if let Err(stop) = self.watcher.line(alloc, line) {
+                return Err(stop);
+            }
             left = behind;
         }
         self.gather(left)
@@ -73,10 +87,10 @@ impl Feeder {
         }
         match cut_line(piece) {
             None => self.gather(piece),
-            Some((line, behind)) => {
-                self.end_line(alloc, line)?;
-                self.lines(alloc, behind)
-            }
+            Some((line, behind)) => match self.end_line(alloc, line) {
+                Ok(()) => self.lines(alloc, behind),
+                Err(stop) => Err(stop),
+            },
         }
     }
 

@@ -152,7 +152,8 @@ fn say_unwatched<N: Write>(number: u64, notes: &mut Out<'_, N>) -> Status
 {
     notes.put(b"line ");
     notes.put_number(number.saturating_sub(1));
-    notes.say(b": cells and databases are not watched: evc-calls check decides them\n");
+    notes.put(b": ");
+    notes.say(b"cells and databases are not watched: evc-calls check decides them\n");
     Status::NotDecided
 }
 

@@ -1,0 +1,8 @@
+use Rattle.ec_text.proofs.shared.PutLemmas.{puts_then}
+use Rattle.calls_watch.proofs.load.Load.put.Goals as goal
+
+pub returns : goal.returns
+returns g c =
+    puts_then _ _ _ _ _ c.put_number.ensures.puts
+    (puts_then _ _ _ _ _ c.put.ensures.puts
+    (puts_then _ _ _ _ _ c.put_number-2.ensures.puts c.put_rest.ensures))
