@@ -1,10 +1,11 @@
-/* evc.h: `evc check`, `audit`, `upgrade` and `sim`, and `evc-calls check`, as calls, for bytes in memory. C11 and C++.
+/* evc.h: `evc check`, `audit`, `upgrade` and `sim`, and `evc-calls check`, as calls, for bytes in memory, and monitors that
+ * judge histories of calls line by line. C11 and C++.
  *
  *     cc -std=c11 my_test.c libevc.a
  *
  * Each call reads a text that you give, writes its answer into memory that you give, and returns a status. It keeps
  * nothing: two threads may call at once, each with memory of its own. It takes memory by malloc and lets go of all of
- * it. docs/PROMISES.md says what is proved of a call, and what is only tested.
+ * it. (Monitors, at the end, keep what they need.) docs/PROMISES.md says what is proved of a call, and what is only tested.
  *
  *     uint8_t *text = malloc(EVC_ROOM(length)), notes[EVC_NOTES_ROOM];
  *     struct evc_written written;
@@ -23,7 +24,7 @@
 extern "C" {
 #endif
 
-/* How a call has ended, by the numbers of the exit statuses of the programs `evc` and `evc-calls`; 2 does not occur. */
+/* How a call has ended, by the numbers of the exit statuses of the programs `evc` and `evc-calls`. */
 enum evc_status {
     /* The whole text was written. */
     EVC_STATUS_DONE = 0,
@@ -31,12 +32,14 @@ enum evc_status {
      * Of evc_calls_check: the input is no history of calls, or one is not linearizable; then the texts of those before it
      * were written. The notes say what is wrong, and in which line; of the other calls no text was written. */
     EVC_STATUS_REFUSED = 1,
+    /* Of the calls on a monitor alone: its text has ended, or it was closed. Nothing was done. */
+    EVC_STATUS_USAGE = 2,
     /* The text had too little room. What was written is a front of it, and the notes end in `write fault`. */
     EVC_STATUS_NO_ROOM = 3,
     /* malloc gave nothing. No text was written; of evc_calls_check those of some first histories may have been. */
     EVC_STATUS_NO_MEMORY = 4,
-    /* Of evc_calls_check alone: a history is not decided. The notes say which cell, and why; the texts of the histories
-     * before it were written. */
+    /* Of evc_calls_check: a history is not decided. The notes say which cell, and why; the texts of the histories
+     * before it were written. Of a monitor: a cell or a database is called. */
     EVC_STATUS_NOT_DECIDED = 5
 };
 
@@ -81,6 +84,57 @@ uint8_t evc_sim(const uint8_t *script, size_t script_length, uint8_t *text, size
  * status 0 nothing else. Those on all histories that were accepted stand first, and then what ended the check. */
 uint8_t evc_calls_check(const uint8_t *calls, size_t calls_length, uint8_t *text, size_t text_room, uint8_t *notes,
                         size_t notes_room, struct evc_written *written);
+
+/* MONITORS. A monitor judges histories of calls line by line, as `evc-calls watch` does, in memory that does not grow with
+ * them. It lies in memory of yours:
+ *
+ *     struct evc_monitor monitor;
+ *     uint8_t note[EVC_NOTES_ROOM];
+ *     evc_monitor_open(&monitor);
+ *     while (next_line(&line, &length) && evc_monitor_line(&monitor, line, length) == EVC_STATUS_DONE)
+ *         ;
+ *     if (evc_monitor_end(&monitor) != EVC_STATUS_DONE)
+ *         fprintf(stderr, "%.*s", (int)evc_monitor_note(&monitor, note, sizeof note), (const char *)note);
+ *     evc_monitor_close(&monitor);
+ *
+ * A status that is not EVC_STATUS_DONE stays: later lines and the end return it again, and nothing is judged any more. By
+ * malloc a monitor takes memory for what a history declares and for its pending calls, anew for each history; the close
+ * frees all of it. Open a place only once before its close, don't move a monitor, and call of one only a single call at a
+ * time. Any thread may. */
+#define EVC_MONITOR_WORDS 2048
+struct evc_monitor {
+    uint64_t kept[EVC_MONITOR_WORDS];
+};
+
+/* Opens a monitor, to which no line came yet. It takes no memory. */
+void evc_monitor_open(struct evc_monitor *monitor);
+
+/* Judges the next line of the text, which is given without its line feed. */
+uint8_t evc_monitor_line(struct evc_monitor *monitor, const uint8_t *line, size_t length);
+
+/* Ends the text. EVC_STATUS_DONE: it was one of histories, and each is linearizable. */
+uint8_t evc_monitor_end(struct evc_monitor *monitor);
+
+/* Writes why a monitor goes no further, as far as there is room (EVC_NOTES_ROOM), and returns how many bytes that are. It
+ * writes none for as long as the status is EVC_STATUS_DONE. */
+size_t evc_monitor_note(struct evc_monitor *monitor, uint8_t *note, size_t room);
+
+/* How many histories have ended, how many calls were invoked, and how many others were pending then, added up over all
+ * of them: divided by the calls it is how far they overlap. */
+struct evc_load {
+    uint64_t histories;
+    uint64_t calls;
+    uint64_t others;
+};
+
+/* Says what came so far. */
+void evc_monitor_load(struct evc_monitor *monitor, struct evc_load *load);
+
+/* Frees what a monitor has taken. */
+void evc_monitor_close(struct evc_monitor *monitor);
+
+/* How many bytes a monitor takes: at most sizeof(struct evc_monitor). */
+size_t evc_monitor_size(void);
 
 /* The version: 1000 for each first number and 1 for each second, so 2 for version 0.2. */
 uint32_t evc_version(void);

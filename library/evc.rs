@@ -1,9 +1,10 @@
-//! `evc check`, `audit`, `upgrade` and `sim`, and `evc-calls check`, as calls, for bytes in memory: safe Rust over libevc.a.
+//! `evc check`, `audit`, `upgrade` and `sim`, and `evc-calls check`, as calls, for bytes in memory, and monitors that judge
+//! histories of calls line by line: safe Rust over libevc.a.
 //!
 //!     rustc --edition 2021 --test my_test.rs -L FOLDER_OF_LIBEVC -l static=evc
 //!
 //! Plain Rust, this one module, no dependency. What is proved of the calls below it stands in docs/PROMISES.md; of this
-//! module nothing is. A call keeps nothing, so any threads may call at once.
+//! module nothing is. A call keeps nothing, so any threads may call at once; a `Monitor` keeps what it needs.
 #![allow(dead_code)]
 
 use std::fmt;
@@ -77,6 +78,100 @@ pub fn sim(script: &[u8]) -> Result<Simulated, Fault> {
     answer(evc_sim, script, room, NOTES_ROOM).map(|(trace, outcomes)| Simulated { trace, outcomes })
 }
 
+/// What came to a monitor.
+#[derive(Clone, Copy, Debug, PartialEq, Eq)]
+#[repr(C)]
+pub struct Load {
+    /// How many histories have ended.
+    pub histories: u64,
+    /// How many calls were invoked.
+    pub calls: u64,
+    /// How many others were pending then, added up over all calls.
+    pub others: u64,
+}
+
+/// Judges histories of calls line by line, as `evc-calls watch` does, in memory that does not grow with them.
+///
+///     let mut monitor = evc::Monitor::new()?;
+///     for line in lines {
+///         monitor.line(line)?;
+///     }
+///     let load = monitor.end()?;
+///
+/// A fault stays: each later call returns it again.
+pub struct Monitor {
+    // (zeros, in which the monitor lies)
+    place: Box<Place>,
+    ended: bool,
+}
+
+const MONITOR_WORDS: usize = 2048;
+
+#[repr(C, align(16))]
+struct Place([u64; MONITOR_WORDS]);
+
+impl Monitor {
+    /// A monitor to which no line came yet.
+    pub fn new() -> Result<Monitor, Fault> {
+        // SAFETY: it takes nothing and touches nothing.
+        if unsafe { evc_monitor_size() } > std::mem::size_of::<Place>() {
+            return Err(Fault::NoMemory);
+        }
+        let mut place = Box::new(Place([0; MONITOR_WORDS]));
+        // SAFETY: there is room for a monitor, and nothing else has the place.
+        unsafe { evc_monitor_open(&mut *place) };
+        Ok(Monitor { place, ended: false })
+    }
+
+    /// Judges the next line, given without its line feed.
+    pub fn line(&mut self, line: &[u8]) -> Result<(), Fault> {
+        assert!(!self.ended, "a line after the end");
+        // SAFETY: the monitor is open, and the pointer is that of a slice, with its length.
+        let status = unsafe { evc_monitor_line(&mut *self.place, line.as_ptr(), line.len()) };
+        self.answer(status)
+    }
+
+    /// Ends the text: it was one of histories, and each is linearizable.
+    pub fn end(&mut self) -> Result<Load, Fault> {
+        assert!(!self.ended, "an end after the end");
+        // SAFETY: the monitor is open.
+        let status = unsafe { evc_monitor_end(&mut *self.place) };
+        self.answer(status)?;
+        self.ended = true;
+        Ok(self.load())
+    }
+
+    /// What came so far.
+    pub fn load(&mut self) -> Load {
+        let mut load = Load { histories: 0, calls: 0, others: 0 };
+        // SAFETY: the monitor is open, or has ended.
+        unsafe { evc_monitor_load(&mut *self.place, &mut load) };
+        load
+    }
+
+    fn answer(&mut self, status: u8) -> Result<(), Fault> {
+        if status == 0 {
+            return Ok(());
+        }
+        let mut note = vec![0; NOTES_ROOM];
+        // SAFETY: the monitor is open, and the pointer is that of a slice, with its length.
+        let noted = unsafe { evc_monitor_note(&mut *self.place, note.as_mut_ptr(), note.len()) };
+        note.truncate(noted);
+        match status {
+            1 => Err(Fault::Refused(string(note))),
+            5 => Err(Fault::NotDecided(string(note))),
+            _ => Err(Fault::NoMemory),
+        }
+    }
+}
+
+impl Drop for Monitor {
+    fn drop(&mut self) {
+        // SAFETY: it was opened, and is not used any more.
+        unsafe { evc_monitor_close(&mut *self.place) };
+    }
+}
+
 /// The version: 1000 for each first number and 1 for each second.
 pub fn version() -> u32 {
     // SAFETY: it takes nothing and touches nothing.
@@ -99,6 +194,13 @@ extern "C" {
     fn evc_upgrade(trace: *const u8, length: usize, text: *mut u8, room: usize, notes: *mut u8, notes_room: usize, written: *mut Written) -> u8;
     fn evc_sim(script: *const u8, length: usize, text: *mut u8, room: usize, notes: *mut u8, notes_room: usize, written: *mut Written) -> u8;
     fn evc_calls_check(calls: *const u8, length: usize, text: *mut u8, room: usize, notes: *mut u8, notes_room: usize, written: *mut Written) -> u8;
+    fn evc_monitor_open(monitor: *mut Place);
+    fn evc_monitor_line(monitor: *mut Place, line: *const u8, length: usize) -> u8;
+    fn evc_monitor_end(monitor: *mut Place) -> u8;
+    fn evc_monitor_note(monitor: *mut Place, note: *mut u8, room: usize) -> usize;
+    fn evc_monitor_load(monitor: *mut Place, load: *mut Load);
+    fn evc_monitor_close(monitor: *mut Place);
+    fn evc_monitor_size() -> usize;
     fn evc_version() -> u32;
 }
 

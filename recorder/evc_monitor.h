@@ -4,7 +4,7 @@
  * the history to a judge, line by line.
  *
  *     evc_calls c;                                        declared as usual, without a file
- *     evc_monitor_program judge;                          `evc-calls check`, or a judge of yours
+ *     evc_monitor_program judge;                          `evc-calls check`, the library, or yours
  *     evc_monitor_thread m;
  *     evc_monitor_start(&m, &c, evc_monitor_by_program, evc_monitor_program_start(&judge));
  *     ..                                                  the threads record their calls
@@ -22,7 +22,14 @@
  *
  * THE JUDGE is a function. It is given a line with its LF, and returns 0 to go on; anything else
  * ends the judging, and is what evc_monitor_stop returns, and evc_monitor_status at once. Your
- * calls go on, unrecorded. */
+ * calls go on, unrecorded. Where evc.h of the library is included first, its monitor judges each
+ * line as it comes, in this process and in constant memory:
+ *
+ *     evc_monitor_library judge;
+ *     evc_monitor_start(&m, &c, evc_monitor_by_library, evc_monitor_library_open(&judge));
+ *     ..
+ *     int status = evc_monitor_stop(&m);                  1: judge.note says why
+ *     evc_monitor_library_close(&judge); */
 #ifndef EVC_MONITOR_H
 #define EVC_MONITOR_H
 
@@ -290,5 +297,38 @@ static inline int evc_monitor_by_program(void *state, const char *line, size_t l
     p->total += length;
     return 0;
 }
+
+#ifdef EVC_H
+/* A judge: the library's monitor. It refuses a line when it comes, and takes histories of any
+ * length, but no calls of cells and databases. */
+typedef struct evc_monitor_library {
+    struct evc_monitor monitor;
+    char note[EVC_NOTES_ROOM + 1]; /* why it goes no further */
+} evc_monitor_library;
+
+/* Opens the library's monitor. Returns what evc_monitor_by_library takes. */
+static inline evc_monitor_library *evc_monitor_library_open(evc_monitor_library *l) {
+    l->note[0] = 0;
+    evc_monitor_open(&l->monitor);
+    return l;
+}
+
+/* Hands a line to it. */
+static inline int evc_monitor_by_library(void *state, const char *line, size_t length) {
+    evc_monitor_library *l = (evc_monitor_library *)state;
+    int status = evc_monitor_line(&l->monitor, (const uint8_t *)line, length - 1);
+    if (status == EVC_STATUS_DONE && length == 4 && memcmp(line, "end\n", 4) == 0)
+        status = evc_monitor_end(&l->monitor);
+    if (status == EVC_STATUS_DONE)
+        return 0;
+    l->note[evc_monitor_note(&l->monitor, (uint8_t *)l->note, EVC_NOTES_ROOM)] = 0;
+    return status == EVC_STATUS_REFUSED ? 1 : EVC_MONITOR_NO_VERDICT;
+}
+
+/* Frees what it has taken, after the stop. */
+static inline void evc_monitor_library_close(evc_monitor_library *l) {
+    evc_monitor_close(&l->monitor);
+}
+#endif
 
 #endif

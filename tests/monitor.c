@@ -7,8 +7,12 @@
  * lost), twice (so are tickets drawn twice); or misused, or pending (a call is under way at the
  * stop). The judge is `evc-calls`; or with the word file, which comes after the kind as in
  * right-file, the lines are written into OUT; or with the word stop, it takes no more than 1000
- * lines. It says the status, and the notes. Last it says whether its memory grew by more than 8 MB
+ * lines; or with the word library, where evc.h is included before all else, it is the library's
+ * monitor, and no call is of the database. It says the status, and the notes. Last it says whether its memory grew by more than 8 MB
  * after the first tenth. */
+#ifdef EVC_H
+#define HAS_LIBRARY
+#endif
 #include "../recorder/evc_monitor.h"
 /* (no names of these clash) */
 #include "../library/evc.h"
@@ -44,7 +48,7 @@ static uint64_t add(uint64_t *number, int has_bug, uint64_t chance) {
 
 static void call(evc_caller *w, uint64_t chance) {
     static const uint64_t values[7] = {1, 2, 3, 4, 5, 6, 7};
-    if (chance % 8 == 0 && w->number == 0) {
+    if (chance % 8 == 0 && w->number == 0 && !is_kind("library")) {
         evc_call_write(w, D, values);
         evc_return_done(w);
     } else if (chance % 8 < 3) {
@@ -87,6 +91,9 @@ static void *run(void *given) {
 
 int main(int words, char **word) {
     static evc_monitor_program program;
+#ifdef HAS_LIBRARY
+    static evc_monitor_library library;
+#endif
     evc_caller *w[4];
     pthread_t thread[4];
     char name[8], note[4096];
@@ -103,12 +110,19 @@ int main(int words, char **word) {
     D = evc_calls_database(&calls, "D", 7, "w0");
     if (is_kind("file"))
         out = fopen(word[4], "wb");
-    evc_monitor_start(&monitor, &calls,
-                      is_kind("file")   ? into_file
-                      : is_kind("stop") ? until_stop
-                                        : evc_monitor_by_program,
-                      is_kind("file") || is_kind("stop") ? NULL
-                                                         : evc_monitor_program_start(&program));
+#ifdef HAS_LIBRARY
+    if (is_kind("library"))
+        evc_monitor_start(&monitor, &calls, evc_monitor_by_library,
+                          evc_monitor_library_open(&library));
+    else
+#endif
+        evc_monitor_start(&monitor, &calls,
+                          is_kind("file")   ? into_file
+                          : is_kind("stop") ? until_stop
+                                            : evc_monitor_by_program,
+                          is_kind("file") || is_kind("stop")
+                              ? NULL
+                              : evc_monitor_program_start(&program));
     for (int i = 0; i < 4; i++)
         pthread_create(&thread[i], NULL, run, w[i]);
     for (int i = 0; i < 4; i++)
@@ -116,7 +130,12 @@ int main(int words, char **word) {
     long grown = memory() - memory_before;
     int status = evc_monitor_stop(&monitor);
     evc_monitor_pending(&monitor, note, sizeof note);
-    printf("%d\n%s%s%s%s", status, program.note, monitor.note, *monitor.note ? "\n" : "", note);
+    const char *says = program.note;
+#ifdef HAS_LIBRARY
+    if (is_kind("library"))
+        says = library.note, evc_monitor_library_close(&library);
+#endif
+    printf("%d\n%s%s%s%s", status, says, monitor.note, *monitor.note ? "\n" : "", note);
     printf("%s\n", grown < 8000 ? "constant" : "grown");
     fprintf(stderr, "%llu events\n", (unsigned long long)monitor.events);
     if (out)

@@ -10,6 +10,7 @@ mod watcher;
 mod watching;
 
 pub use laws::{both_refuse_one_event, watch_agrees_with_check};
+pub use load::Load;
 pub use stop::Stop;
 pub use watcher::Watcher;
-pub use watching::watch;
+pub use watching::{say_stop, watch};

@@ -74,6 +74,13 @@ impl Watcher {
         }
     }
 
+    /// Returns how many calls came, and how far they overlap.
+    pub fn load(&self) -> Load
+        ensures { result ≡ self.now.load }
+    {
+        self.load
+    }
+
     /// Opens the monitor of a history.
     fn begin(&mut self, alloc: Global) -> Result<(), Stop>
         ensures { (r : Recorded) → built [] self.old.follower ≡ Running r

@@ -172,7 +172,7 @@ fn say_unwatched<N: Write>(number: u64, notes: &mut Out<'_, N>) -> Status
 }
 
 /// Says why a text is not watched further.
-fn say_stop<N: Write>(watcher: &Watcher, stop: Stop, notes: &mut Out<'_, N>) -> Status
+pub fn say_stop<N: Write>(watcher: &Watcher, stop: Stop, notes: &mut Out<'_, N>) -> Status
     ensures says { (ps : List (List ℕ)) → Stops stop ps watcher.now
         → SaysStop ps result notes.old notes.new }
     ensures written { IsWrittenOut notes.new }

@@ -1,3 +1,5 @@
 pub mod Answers
+pub mod Monitors
+pub mod Places
 pub mod Rooms
 pub mod Versions

@@ -8,7 +8,7 @@ ghost use Rattle.evc_c.specs.Answers.{Answers, CallsAnswers, IsCode};
 ghost use Rattle.evc_c.specs.Rooms.{Fills, CallsFills};
 ghost use Rattle.evc_c.specs.Versions.{IsVersionOf};
 
-use crate::room::{NotesRoom, Room, put_at};
+use crate::room::{NotesRoom, Room, put_front};
 use arrayvec::ArrayVec;
 use ec_text::Out;
 use evc_engine::{Status, audit, check, upgrade};
@@ -39,7 +39,7 @@ fn hand_out(out: &Room<'_>, told: &[u8], notes: &mut [u8], written: &mut EvcWrit
     ensures rest { drop written.new.notes notes.new ≡ drop written.new.notes notes.old }
 {
     written.text = out.len;
-    written.notes = put_at(notes, 0, told);
+    written.notes = put_front(notes, told);
 }
 
 /// Returns a status as the caller gets it: 4 where notes were cut off before the caller's room for them

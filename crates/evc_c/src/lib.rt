@@ -4,6 +4,8 @@
 
 mod calls;
 mod laws;
+mod monitor;
+mod monitor_calls;
 mod room;
 
 pub use calls::{

@@ -39,6 +39,16 @@ pub(crate) fn put_at(room: &mut [u8], at: usize, bytes: &[u8]) -> usize
     n
 }
 
+/// Puts as much of bytes as there is room for, and tells how much.
+pub(crate) fn put_front(room: &mut [u8], bytes: &[u8]) -> usize
+    ensures within { result ≤ length room.new }
+    ensures len { length room.new ≡ length room.old }
+    ensures front { take result room.new ≡ take (length room.old) bytes.now }
+    ensures rest { drop result room.new ≡ drop result room.old }
+{
+    put_at(room, 0, bytes)
+}
+
 impl Write for Room<'_> {
     ghost contents = { λ r. Some (r.bytes.ghost_name ∷ take r.len r.bytes.now) };
 

@@ -1,0 +1,77 @@
+-- The monitor is lent for the call, and lies there again after it.
+use Rattle.evc_c.proofs.MonitorSteps.{ℕ, List, [], ◌∷◌, refl, w8, proved, full_share, id⊢, sep}
+use Rattle.evc_c.proofs.MonitorSteps.{ftrue, flft, flent, named, vptr, WpFn, fact, tables, sem, ‵}
+use Rattle.evc_c.proofs.MonitorSteps.{raw, ◌⊛◌, some, later, prop, ◌$◌, ◌∵◌, !, qed, done, move}
+use Rattle.evc_c.proofs.MonitorSteps.{keep, use1, use2, use3, split, join, fsplit, pick, await}
+use Rattle.evc_c.proofs.MonitorSteps.{regoal, suffices, frame, show, lft_new, lft_end, Body, enter}
+use Rattle.evc_c.proofs.MonitorSteps.{addr, no_more, and_then, stop, returns, of_opd, alloc_all}
+use Rattle.evc_c.proofs.MonitorSteps.{pass_all, free_all, look_at, get, through, sets, lands_as, u8}
+use Rattle.evc_c.proofs.MonitorSteps.{yes, Is, shows, uint_Lawful, part_at, mem, Ptr, ptr_val}
+use Rattle.evc_c.proofs.MonitorSteps.{RawPtr, block_ptr, lies_at, in_a_block, rawptr_vals}
+use Rattle.evc_c.proofs.MonitorSteps.{rawptr_Tells, MutRef, lends_ref, ref_back, plain, nothing}
+use Rattle.evc_c.proofs.MonitorSteps.{heard, peeks, calls_at, lasts, triple_of, framed, says, Stays}
+use Rattle.evc_c.proofs.MonitorSteps.{walk_of, stay_dropped, Goes-dropped, ends_at, R, Monitor}
+use Rattle.evc_c.specs.contracts.monitor_calls.evc_monitor_end as f
+use Rattle.evc_c.proofs.monitor_calls.evc_monitor_end.Statement.{statement}
+use Rattle.evc_c.proofs.monitor_calls.evc_monitor_end.Code as code
+use Rattle.evc_c.specs.contracts.monitor.Monitor.end as g
+use Rattle.evc_c.proofs.monitor.Monitor.end.Met.{met}
+use Rattle.evc_c.specs.Monitors.{EndsText}
+
+abbrev stayed : Stays f.ended.signature.params f.ended.kept
+stayed = (stay_dropped _ yes, tt)
+
+pub evc_monitor_end_spec : {M : Type 1} → statement M
+evc_monitor_end_spec 𝓤 𝓛 𝓜 𝓡 wired =
+    let c = f.clauses 𝓛 𝓜.mem 𝓡.returns in let W = walk_of 𝓛 f.ended stayed c in let 𝓣
+    = tables 𝓤 𝓛.H 𝓜 𝓡 𝓡.env in
+    proved 𝓛 f.ended stayed c 𝓜 𝓡 (Goes-dropped 𝓛 0 (plain (λ _. RawPtr)) yes (λ κs x w. refl), tt)
+    f.Key.name code.function (code.unfolded 𝓤 𝓛.H 𝓜 𝓡 wired)
+    (λ κs. (rawptr_vals, tt)) (λ κs. (rawptr_Tells, tt)) (λ κs qs bounds a old are.
+    let y : Ptr → W.Ghost = λ p. ((κs, qs, bounds, (p, a.1), (rawptr_vals p, tt)), old) in
+    qed 𝓛 ((‵ ftrue ⊛ ‵ (RawPtr.own_val a.0 (rawptr_vals a.0)) ⊛ ‵ ftrue) ∷ ‵
+    (lies_at R full_share a.0 old) ∷ []) ∵
+    move ! (1 ∷ []) $ keep ! (0 ∷ []) $
+    in_a_block ! a.0 (λ p. lies_at R full_share p old) (id⊢ 𝓤 _) (λ b o e.
+    regoal ! (λ p. prop (WpFn 𝓤 𝓛.H 𝓣.C 𝓣.Λ code.function (ptr_val p ∷ []) (W.post (y p)))) e refl $
+    let Ref = λ (κ' : List ℕ) (δ : ℕ). (MutRef (named 0) κ' R).own_val (record { ref_ptr =
+    (b, o); ghost_name = δ; now = old }) (vptr b o ∷ []) in
+    enter ! _ _ _ _ _ $ alloc_all ! (λ l. pass_all ! refl ((tt, tt), tt) $
+    -- [the monitor; the locals]
+    sets ! (of_opd ! (get ! refl)) refl (tt, tt) $
+    sets ! (addr ! (through ! refl (stop !))) refl (tt, tt) $
+    lft_new ! tt (λ α. move ! (1 ∷ []) $
+    use1 𝓛 (later (some (λ (δ : ℕ). ‵ (Ref (α ∷ []) δ) ⊛ ‵ (flent (α ∷ []) (Body
+    (mem R) b o δ))))) (lends_ref 𝓛 R (named 0) (α ∷ []) old b o) $ await ! tt $
+    pick ! (λ δ. split ! $
+    let G = triple_of 𝓛 g.signature (g.spec 𝓛 𝓜.mem 𝓡.returns) in
+    -- [the loan; what the lender keeps; the token of α]
+    let z : G.Ghost = (((α ∷ [], tt), (full_share, tt), tt, (record { ref_ptr = (b, o); ghost_name
+    = δ; now = old }, tt), (vptr b o ∷ [], tt)), tt) in
+    nothing ! $ move ! (1 ∷ 0 ∷ []) $ join ! $ nothing ! $ move ! (3 ∷ 0 ∷ []) $ join ! $ join ! $
+    nothing ! $ move ! (1 ∷ 0 ∷ []) $ use2 𝓛 (raw (G.pre z)) (id⊢ 𝓤 _) $
+    calls_at ! (framed 𝓤 𝓛.H 𝓜 (tables 𝓤 𝓛.H 𝓜 𝓡 𝓡.env)) G (met 𝓤 𝓛 𝓜 𝓡
+    (code.calls-evc_c::monitor::Monitor::end 𝓡.env wired)) z
+    (and_then ! (get ! refl) (no_more !)) (λ v.
+    use1 𝓛 (later (some (λ (r : ℕ). ((‵ (flft (α ∷ []) full_share) ⊛ ‵ ftrue) ⊛ ‵ (u8.own_val r (v
+    ∷ []))) ⊛
+    some (λ (ws : Monitor × Unit {0}). ‵ (lasts g.ended z.0.0 z.0.3 ws) ⊛ raw (fact 𝓤
+    (EndsText r old ws.0)))))) (id⊢ 𝓤 _) $
+    await ! tt $ pick ! (λ r. split ! $ split ! $ split ! $ lft_end ! tt $ move ! (3 ∷ []) $
+    pick ! (λ ws. split ! $
+    move ! (1 ∷ []) $ heard ! _ (λ done_so. fsplit ! $ fsplit ! $
+    -- [the last value; its borrow; the others' last values; α is over; the other token; the result;
+    -- what the lender keeps]
+    move ! (3 ∷ 6 ∷ 0 ∷ []) $
+    use3 𝓛 (later (‵ (part_at R full_share ws.0 b o))) (ref_back 𝓛 R (α ∷ []) δ ws.0 b o) $
+    await ! tt $
+    -- [the monitor; its borrow; the others' last values; the other token; the result]
+    move ! (4 ∷ []) $ peeks ! u8 (Is u8) (shows 𝓛 u8) r (v ∷ []) (λ is. lands_as ! refl refl
+    ((uint_Lawful 𝓛 w8).typed r _ is).0 $
+    returns ! (look_at ! 0 refl) $ free_all ! refl $
+    suffices ! _ (ends_at 𝓛 f.ended stayed c (y (block_ptr b o)) v r (tt, tt) (tt, tt)) $
+    -- [the result; the monitor; its borrow; the others' last values; the other token]
+    nothing ! $ nothing ! $ join ! $ join ! $ nothing ! $ join ! $ frame ! $ keep ! (0 ∷ []) $
+    show ! (λ (new : Monitor). sep 𝓤 (sem 𝓛 (lies_at R full_share (block_ptr b o) new)) (fact 𝓤
+    (EndsText r old new))) ws.0 $
+    says ! done_so $ done !))))))))))

@@ -1,0 +1,97 @@
+-- The monitor is lent for the call, and lies there again after it.
+use Rattle.evc_c.proofs.MonitorSteps.{ℕ, List, [], ◌∷◌, refl, length, w64, proved, full_share, id⊢}
+use Rattle.evc_c.proofs.MonitorSteps.{sep, ftrue, flft, flent, named, vptr, WpFn, fact, tables, sem}
+use Rattle.evc_c.proofs.MonitorSteps.{‵, raw, ◌⊛◌, some, later, prop, ◌$◌, ◌∵◌, !, qed, done, move}
+use Rattle.evc_c.proofs.MonitorSteps.{keep, drop, use1, use2, use3, split, join, fsplit, feq_l}
+use Rattle.evc_c.proofs.MonitorSteps.{pick, await, regoal, suffices, frame, show, lft_new, lft_end}
+use Rattle.evc_c.proofs.MonitorSteps.{Body, enter, addr, from, fld, hop, no_more, and_then, stop}
+use Rattle.evc_c.proofs.MonitorSteps.{returns, of_opd, whole, sub, agg, alloc_all, pass_all}
+use Rattle.evc_c.proofs.MonitorSteps.{free_all, look_at, look_in_at, get, get_in, through, sets}
+use Rattle.evc_c.proofs.MonitorSteps.{lands_as, u8, usize, yes, Is, shows, uint_Lawful, part_at}
+use Rattle.evc_c.proofs.MonitorSteps.{mem, Ptr, ptr_val, RawPtr, block_ptr, lies_at, in_a_block}
+use Rattle.evc_c.proofs.MonitorSteps.{rawptr_vals, rawptr_Tells, MutRef, MutSlice, mut_slice_vals}
+use Rattle.evc_c.proofs.MonitorSteps.{mut_slice_Tells, mut_slice_Lawful, slice_val, lends_ref}
+use Rattle.evc_c.proofs.MonitorSteps.{ref_back, plain, nothing, heard, peeks, calls_at, lasts}
+use Rattle.evc_c.proofs.MonitorSteps.{triple_of, framed, says, Stays, walk_of, stay_dropped}
+use Rattle.evc_c.proofs.MonitorSteps.{Goes-dropped, gave_slice, Goes-gave_slice, ends_at, R}
+use Rattle.evc_c.proofs.MonitorSteps.{Monitor}
+use Rattle.evc_c.specs.contracts.monitor_calls.evc_monitor_note as f
+use Rattle.evc_c.proofs.monitor_calls.evc_monitor_note.Statement.{statement}
+use Rattle.evc_c.proofs.monitor_calls.evc_monitor_note.Code as code
+use Rattle.evc_c.specs.contracts.monitor.Monitor.note as g
+use Rattle.evc_c.proofs.monitor.Monitor.note.Met.{met}
+use Rattle.evc_c.specs.Monitors.{TellsNote}
+
+abbrev stayed : Stays f.ended.signature.params f.ended.kept
+stayed = (stay_dropped _ yes, (gave_slice (0 ∷ []) tt (plain (λ _. u8)), tt))
+
+pub evc_monitor_note_spec : {M : Type 1} → statement M
+evc_monitor_note_spec 𝓤 𝓛 𝓜 𝓡 wired =
+    let c = f.clauses 𝓛 𝓜.mem 𝓡.returns in let W = walk_of 𝓛 f.ended stayed c in let 𝓣
+    = tables 𝓤 𝓛.H 𝓜 𝓡 𝓡.env in
+    proved 𝓛 f.ended stayed c 𝓜 𝓡 (Goes-dropped 𝓛 1 (plain (λ _. RawPtr)) yes (λ κs x w. refl),
+    (Goes-gave_slice 𝓛 1 0 tt (plain (λ _. u8)), tt))
+    f.Key.name code.function (code.unfolded 𝓤 𝓛.H 𝓜 𝓡 wired)
+    (λ κs. (rawptr_vals, (mut_slice_vals, tt))) (λ κs. (rawptr_Tells, (mut_slice_Tells
+    (named 0) κs.0 u8, tt))) (λ κs qs bounds a old are.
+    let y : Ptr → W.Ghost = λ p. ((κs, qs, bounds, (p, a.1), (rawptr_vals p,
+    (mut_slice_vals a.1.0, tt))), old) in
+    let Passed = ‵ ((MutSlice (named 0) κs.0 u8).own_val a.1.0 (mut_slice_vals a.1.0)) in
+    qed 𝓛 (((‵ (flft κs.0 qs.0) ⊛ ‵ ftrue) ⊛ ‵ (RawPtr.own_val a.0 (rawptr_vals a.0)) ⊛ Passed ⊛
+    ‵ ftrue) ∷ ‵ (lies_at R full_share a.0 old) ∷ []) ∵
+    split ! $ split ! $ move ! (2 ∷ []) $ split ! $ drop ! $ split ! $ keep ! (4 ∷ 2 ∷ 0 ∷ []) $
+    in_a_block ! a.0 (λ p. lies_at R full_share p old) (id⊢ 𝓤 _) (λ b o e.
+    regoal ! (λ p. prop (WpFn 𝓤 𝓛.H 𝓣.C 𝓣.Λ code.function (ptr_val p ∷ slice_val a.1.0.ref_ptr
+    (length a.1.0.now) ∷ []) (W.post (y p)))) e refl $
+    let Ref = λ (κ' : List ℕ) (δ : ℕ). (MutRef (named 0) κ' R).own_val (record { ref_ptr =
+    (b, o); ghost_name = δ; now = old }) (vptr b o ∷ []) in
+    enter ! _ _ _ _ _ $ alloc_all ! (λ l. pass_all ! refl ((tt, tt), (((mut_slice_Lawful 𝓛
+    (named 0) κs.0 u8).typed a.1.0 _ are.1.0).0, tt)) $
+    -- [the monitor; the token of what else is passed; that; the locals]
+    sets ! (of_opd ! (get ! refl)) refl (tt, tt) $
+    sets ! (addr ! (through ! refl (stop !))) refl (tt, tt) $
+    let typed = ((mut_slice_Lawful 𝓛 (named 0) κs.0 u8).typed a.1.0 _ are.1.0).0 in
+    sets ! (addr ! (from ! (fld ! refl (hop ! (look_in_at ! 2 (sub ! 0 refl (whole !)))
+    (stop !))))) refl (tt, tt) $
+    sets ! (agg ! (and_then ! (get ! refl) (and_then ! (get_in ! (fld ! refl (stop !))
+    (sub ! 1 refl (whole !))) (no_more !)))) refl typed $
+    lft_new ! tt (λ α. move ! (1 ∷ []) $
+    use1 𝓛 (later (some (λ (δ : ℕ). ‵ (Ref (α ∷ []) δ) ⊛ ‵ (flent (α ∷ []) (Body
+    (mem R) b o δ))))) (lends_ref 𝓛 R (named 0) (α ∷ []) old b o) $ await ! tt $
+    pick ! (λ δ. split ! $
+    let G = triple_of 𝓛 g.signature (g.spec 𝓛 𝓜.mem 𝓡.returns) in
+    -- [the loan; what the lender keeps; the token of α; that of what else is passed; that]
+    let z : G.Ghost = (((α ∷ [], κs), (full_share, qs), tt, (record { ref_ptr = (b, o); ghost_name
+    = δ; now = old }, a.1), (vptr b o ∷ [], (mut_slice_vals a.1.0, tt))), tt) in
+    nothing ! $ move ! (5 ∷ 0 ∷ []) $ join ! $ move ! (1 ∷ 0 ∷ []) $ join ! $
+    nothing ! $ move ! (4 ∷ 0 ∷ []) $ join ! $ move ! (3 ∷ 0 ∷ []) $ join ! $ join ! $
+    nothing ! $ move ! (1 ∷ 0 ∷ []) $ use2 𝓛 (raw (G.pre z)) (id⊢ 𝓤 _) $
+    calls_at ! (framed 𝓤 𝓛.H 𝓜 (tables 𝓤 𝓛.H 𝓜 𝓡 𝓡.env)) G (met 𝓤 𝓛 𝓜 𝓡
+    (code.calls-evc_c::monitor::Monitor::note 𝓡.env wired)) z
+    (and_then ! (get ! refl) (and_then ! (get ! refl) (no_more !))) (λ v.
+    use1 𝓛 (later (some (λ (r : ℕ). ((‵ (flft (α ∷ []) full_share) ⊛ (‵ (flft κs.0 qs.0) ⊛
+    ‵ ftrue)) ⊛ ‵ (usize.own_val r (v ∷ []))) ⊛
+    some (λ (ws : Monitor × (List ℕ × Unit {0})). ‵ (lasts g.ended z.0.0 z.0.3 ws) ⊛ raw (fact 𝓤
+    (TellsNote old ws.0 r a.1.0.now ws.1.0)))))) (id⊢ 𝓤 _) $
+    await ! tt $ pick ! (λ r. split ! $ split ! $ split ! $ lft_end ! tt $ move ! (3 ∷ []) $
+    pick ! (λ ws. split ! $
+    move ! (1 ∷ []) $ heard ! _ (λ done_so. fsplit ! $ fsplit ! $
+    -- [the last value; its borrow; the others' last values; α is over; the other token; the result;
+    -- what the lender keeps]
+    move ! (3 ∷ 6 ∷ 0 ∷ []) $
+    use3 𝓛 (later (‵ (part_at R full_share ws.0 b o))) (ref_back 𝓛 R (α ∷ []) δ ws.0 b o) $
+    await ! tt $
+    -- [the monitor; its borrow; the others' last values; the other token; the result]
+    move ! (4 ∷ []) $ peeks ! usize (Is usize) (shows 𝓛 usize) r (v ∷ [])
+    (λ is. lands_as ! refl refl ((uint_Lawful 𝓛 w64).typed r _ is).0 $
+    returns ! (look_at ! 0 refl) $ free_all ! refl $
+    move ! (3 ∷ []) $ fsplit ! $ fsplit ! $ fsplit ! $ move ! (1 ∷ []) $ feq_l ! (λ same.
+    suffices ! _ (ends_at 𝓛 f.ended stayed c (y (block_ptr b o)) v r (tt, (ws.1.0, tt)) (tt,
+    (same, tt))) $
+    -- [the result; the monitor; its borrow; the others' last values; the other token]
+    -- [the note's last value; its borrow; nothing; the result; the monitor; its borrow; the token]
+    join ! $ join ! $ nothing ! $ join ! $ move ! (1 ∷ []) $ move ! (1 ∷ 0 ∷ []) $ join ! $
+    move ! (3 ∷ 0 ∷ []) $ join ! $ frame ! $ keep ! (0 ∷ []) $
+    show ! (λ (new : Monitor). sep 𝓤 (sem 𝓛 (lies_at R full_share (block_ptr b o) new)) (fact 𝓤
+    (TellsNote old new r a.1.0.now ws.1.0))) ws.0 $
+    says ! done_so $ done !)))))))))))

@@ -1,0 +1,133 @@
+-- Histories of calls that are judged line by line: what a monitor represents, and what a call on it
+-- does.
+use Rattle.std.specs.Prelude.{◌≡◌, ◌≤◌, ℕ, List, [], ◌∷◌, ◌++◌, length, take, drop, Some}
+use Rattle.ec_text.specs.Puts.{Outgoing, at_first, IsWrittenOut}
+use Rattle.calls_text.specs.declared.fault.TextFault.TheVariants as faults
+use Rattle.calls_report.specs.declared.status.Status.{Status}
+use Rattle.calls_report.specs.declared.status.Status.TheVariants.{Done, Refused, Usage, Memory}
+use Rattle.calls_report.specs.declared.status.Status.TheVariants.{NotDecided}
+use Rattle.calls_report.specs.Statuses.{status_code}
+use Rattle.calls_watch.specs.declared.stop.Stop.{Stop}
+use Rattle.calls_watch.specs.declared.stop.Stop.TheVariants as stops
+use Rattle.calls_watch.specs.declared.watcher.Watcher.{Watcher}
+use Rattle.calls_watch.specs.kept.Watching.{IsWatching, Stops, IsOver}
+use Rattle.calls_watch.specs.kept.Endings.{SaysStop}
+use Rattle.evc_c.specs.declared.monitor.EvcLoad.{EvcLoad}
+use Rattle.evc_c.specs.declared.monitor.Monitor.{Monitor}
+use Rattle.evc_c.specs.declared.monitor.Stage.{Stage}
+use Rattle.evc_c.specs.declared.monitor.Stage.TheVariants.{Open, Stopped, Ended, Closed}
+
+-- WHAT IT REPRESENTS
+
+-- these lines came, and the text may go on: of each text that begins with them they are what was
+-- judged
+abbrev pub HasTaken : List (List ℕ) → Watcher → Type 0
+HasTaken lines w = (q : List ℕ) (qs : List (List ℕ)) → IsWatching (lines ++ q ∷ qs) (q ∷ qs) w
+
+-- with the last of these lines each text that begins with them is stopped
+abbrev pub IsStoppedWith : Stop → List (List ℕ) → Watcher → Type 0
+IsStoppedWith stop lines w = (q : List ℕ) (qs : List (List ℕ)) → Stops stop (lines ++ q ∷ qs) w
+
+abbrev pub IsOpen : Monitor → Type 0
+IsOpen m = (m.stage ≡ Open) × HasTaken [] m.watcher
+
+-- STATUSES
+
+abbrev pub stop_status : Stop → Status
+stop_status (stops.Unread (faults.At n kind cause)) = Refused
+stop_status (stops.Unread faults.Memory) = Memory
+stop_status (stops.Refused x report) = Refused
+stop_status stops.NotWatched = NotDecided
+stop_status stops.Memory = Memory
+
+abbrev pub status_at : Stage → Status
+status_at Open = Done
+status_at (Stopped stop) = stop_status stop
+status_at Ended = Usage
+status_at Closed = Usage
+
+-- a monitor that is not open stays as it was: one that was stopped answers as it did, and one that
+-- has ended or was closed has no use
+abbrev pub Stays : Status → Monitor → Monitor → Type 0
+Stays status old new = (status ≡ status_at old.stage) × (new ≡ old)
+
+-- LINES
+
+-- where these lines have come
+abbrev pub GoesOnAt : Stage → Status → List (List ℕ) → Watcher → Type 0
+GoesOnAt Open status lines w = (status ≡ Done) × HasTaken lines w
+GoesOnAt (Stopped stop) status lines w = (status ≡ stop_status stop) × IsStoppedWith stop lines w
+GoesOnAt Ended status lines w = ⊥
+GoesOnAt Closed status lines w = ⊥
+
+abbrev pub GoesOnWith : List ℕ → Status → Monitor → Monitor → Type 0
+GoesOnWith line status old new =
+    (lines : List (List ℕ)) → HasTaken lines old.watcher
+    → GoesOnAt new.stage status (lines ++ line ∷ []) new.watcher
+
+abbrev pub TakesLineAt : Stage → List ℕ → Status → Monitor → Monitor → Type 0
+TakesLineAt Open line status old new = GoesOnWith line status old new
+TakesLineAt stage line status old new = Stays status old new
+
+abbrev pub TakesLine : List ℕ → ℕ → Monitor → Monitor → Type 0
+TakesLine line code old new = (status : Status) × (code ≡ status_code status)
+    × TakesLineAt old.stage line status old new
+
+-- THE END
+
+-- the text has ended with the last of these lines
+abbrev pub EndsAt : Stage → Status → List (List ℕ) → Watcher → Type 0
+EndsAt Ended status lines w = (status ≡ Done) × IsOver (lines ++ [] ∷ []) w
+EndsAt (Stopped stop) status lines w = (status ≡ stop_status stop) × Stops stop (lines ++ [] ∷ []) w
+EndsAt Open status lines w = ⊥
+EndsAt Closed status lines w = ⊥
+
+abbrev pub EndsWith : Status → Monitor → Monitor → Type 0
+EndsWith status old new =
+    (lines : List (List ℕ)) → HasTaken lines old.watcher → EndsAt new.stage status lines new.watcher
+
+abbrev pub EndsTextAt : Stage → Status → Monitor → Monitor → Type 0
+EndsTextAt Open status old new = EndsWith status old new
+EndsTextAt stage status old new = Stays status old new
+
+abbrev pub EndsText : ℕ → Monitor → Monitor → Type 0
+EndsText code old new = (status : Status) × (code ≡ status_code status)
+    × EndsTextAt old.stage status old new
+
+-- NOTES
+
+-- of the note that is written of a text with these parts this is as much as there is room for
+pub record IsSaid (ps : List (List ℕ)) (room : ℕ) (note : List ℕ) : Type 0 where
+  pub status : Status
+  pub writer : ℕ
+  pub last : Outgoing
+  pub says : SaysStop ps status (at_first writer (Some [])) last
+  pub written : IsWrittenOut last
+  pub noted : List ℕ
+  pub holds : last.contents ≡ Some noted
+  pub told : note ≡ take room noted
+
+abbrev pub IsNoteAt : Stage → Watcher → ℕ → List ℕ → Type 0
+IsNoteAt (Stopped stop) w room note = (ps : List (List ℕ)) → Stops stop ps w → IsSaid ps room note
+IsNoteAt _ w room note = note ≡ []
+
+abbrev pub IsNoteOf : Monitor → ℕ → List ℕ → Type 0
+IsNoteOf m = IsNoteAt m.stage m.watcher
+
+-- so many bytes of a room are the note, and the others are as before; the monitor stays
+abbrev pub TellsNote : Monitor → Monitor → ℕ → List ℕ → List ℕ → Type 0
+TellsNote old new n before after =
+    (new ≡ old) × IsNoteOf old (length before) (take n after) × (n ≤ length after) ×
+    (drop n after ≡ drop n before)
+
+-- THE LOAD
+
+-- how many histories have ended, how many calls were invoked, and the others that were pending
+-- then; the monitor stays
+abbrev pub TellsLoad : Monitor → Monitor → EvcLoad → Type 0
+TellsLoad old new l =
+    (new ≡ old) × (l.histories ≡ old.watcher.load.histories) × (l.calls ≡ old.watcher.load.calls)
+    × (l.others ≡ old.watcher.load.others)
+
+abbrev pub IsClosed : Monitor → Type 0
+IsClosed m = m.stage ≡ Closed

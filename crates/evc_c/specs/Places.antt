@@ -1,0 +1,25 @@
+-- Monitors in memory of the caller.
+use Rattle.std.specs.Prelude.{ℕ, ◌*◌}
+use Rattle.std.specs.Borrow.{full_share}
+use Rattle.std.specs.Ptr.{Ptr, lies_at, room_at}
+use base.Fml.{Fml}
+use denote.Memory.{lone}
+use prog.Memory.{size}
+use Rattle.evc_c.specs.contracts.monitor.Monitor.{the_row}
+use Rattle.evc_c.specs.declared.monitor.Monitor.{Monitor}
+
+-- so many bytes a monitor takes
+abbrev pub monitor_size : ℕ
+monitor_size = size (lone the_row.mir)
+
+-- so many bytes the header tells: 2048 words of 8 bytes
+abbrev pub room_told : ℕ
+room_told = 2048 * 8
+
+-- here is room for a monitor
+abbrev pub room_for_monitor : Ptr → Fml
+room_for_monitor at = room_at the_row at
+
+-- here this monitor lies, with all that it owns
+abbrev pub monitor_at : Ptr → Monitor → Fml
+monitor_at at m = lies_at the_row full_share at m

@@ -1,0 +1,183 @@
+//! Histories of calls that are judged line by line: what is kept between the calls.
+ghost use Rattle.std.specs.Prelude.{◌≡◌};
+ghost use Rattle.evc_c.specs.declared.monitor.Stage.TheVariants.{Open, Stopped};
+ghost use Rattle.evc_c.specs.Monitors.{stop_status, status_at, IsOpen, GoesOnWith, TakesLine};
+ghost use Rattle.evc_c.specs.Monitors.{EndsWith, EndsText};
+ghost use Rattle.evc_c.specs.Monitors.{TellsNote, TellsLoad, IsClosed};
+
+use crate::room::put_front;
+use arrayvec::ArrayVec;
+use calls_report::Status;
+use calls_text::TextFault;
+use calls_watch::{Stop, Watcher, say_stop};
+use ec_text::Out;
+use std::alloc::Global;
+
+/// The note on what stopped a monitor.
+type Noted = ArrayVec<u8, 1024>;
+
+/// How many histories have ended, how many calls were invoked, and how many others were pending
+/// then, added up.
+#[repr(C)]
+pub struct EvcLoad {
+    pub histories: u64,
+    pub calls: u64,
+    pub others: u64,
+}
+
+/// Where a monitor stands.
+#[derive(Clone, Copy, Debug, PartialEq, Eq)]
+pub(crate) enum Stage {
+    /// The text may go on.
+    Open,
+    /// For this the text is not judged further.
+    Stopped(Stop),
+    /// The text has ended.
+    Ended,
+    /// Nothing is kept.
+    Closed,
+}
+
+/// What is kept of histories of calls whose lines come one by one.
+#[derive(Drop)]
+pub(crate) struct Monitor {
+    alloc: Global,
+    watcher: Watcher,
+    stage: Stage,
+}
+
+/// Returns the status of a call that is stopped so.
+fn stop_status(stop: Stop) -> Status
+    ensures { result ≡ stop_status stop }
+{
+    match stop {
+        Stop::Unread(TextFault::At { .. }) | Stop::Refused(_, _) => Status::Refused,
+        Stop::NotWatched => Status::NotDecided,
+        Stop::Unread(TextFault::Memory) | Stop::Memory => Status::Memory,
+    }
+}
+
+/// Returns the status of a call on a monitor that stays as it is.
+fn status_at(stage: Stage) -> Status
+    ensures { result ≡ status_at stage }
+{
+    match stage {
+        Stage::Open => Status::Done,
+        Stage::Stopped(stop) => stop_status(stop),
+        Stage::Ended | Stage::Closed => Status::Usage,
+    }
+}
+
+/// Returns a value that may go from thread to thread.
+fn for_any_thread<T: Send>(value: T) -> T
+    ensures { result ≡ value }
+{
+    value
+}
+
+impl Monitor {
+    /// Returns a monitor to which no line came yet.
+    pub(crate) fn new(alloc: Global) -> Monitor
+        ensures { IsOpen result }
+    {
+        for_any_thread(Monitor {
+            alloc,
+            watcher: Watcher::new(),
+            stage: Stage::Open,
+        })
+    }
+
+    /// Stops the text.
+    fn stop(&mut self, stop: Stop) -> Status
+        ensures status { result ≡ stop_status stop }
+        ensures stage { self.new.stage ≡ Stopped stop }
+        ensures watcher { self.new.watcher ≡ self.old.watcher }
+    {
+        self.stage = Stage::Stopped(stop);
+        stop_status(stop)
+    }
+
+    /// Takes a line while the text may go on.
+    #[tactic(auto, using(crate::proofs::Taken::goes_on, crate::proofs::Taken::is_stopped))]
+    fn take(&mut self, line: &[u8]) -> Status
+        requires { self.old.stage ≡ Open }
+        ensures { GoesOnWith line.now result self.old self.new }
+    {
+        match self.watcher.line(self.alloc, line) {
+            Ok(()) => Status::Done,
+            Err(stop) => self.stop(stop),
+        }
+    }
+
+    /// Takes the next line, given without its LF. Once the text is not judged further, the status
+    /// stays.
+    pub(crate) fn line(&mut self, line: &[u8]) -> u8
+        ensures { TakesLine line.now result self.old self.new }
+    {
+        let status = match self.stage {
+            Stage::Open => self.take(line),
+            idle => status_at(idle),
+        };
+        status.code()
+    }
+
+    /// Ends the text while it may go on.
+    fn finish(&mut self) -> Status
+        requires { self.old.stage ≡ Open }
+        ensures { EndsWith result self.old self.new }
+    {
+        match self.watcher.end(self.alloc, &[]) {
+            Ok(()) => {
+                self.stage = Stage::Ended;
+                Status::Done
+            }
+            Err(stop) => self.stop(stop),
+        }
+    }
+
+    /// Ends the text, of which each line has come.
+    pub(crate) fn end(&mut self) -> u8
+        ensures { EndsText result self.old self.new }
+    {
+        let status = match self.stage {
+            Stage::Open => self.finish(),
+            idle => status_at(idle),
+        };
+        status.code()
+    }
+
+    /// Puts the note on what stopped it, as much of it as there is room for, and returns how much.
+    #[tactic(auto, using(crate::proofs::Taken::said))]
+    pub(crate) fn note(&mut self, room: &mut [u8]) -> usize
+        ensures { TellsNote self.old self.new result room.old room.new }
+    {
+        let Stage::Stopped(stop) = self.stage else {
+            return 0;
+        };
+        let mut bytes = Noted::new();
+        let mut told = Out::new(&mut bytes);
+        say_stop(&self.watcher, stop, &mut told);
+        put_front(room, told.into_writer().as_slice())
+    }
+
+    /// Tells how many calls came, and how far they overlap.
+    pub(crate) fn load(&mut self, load: &mut EvcLoad)
+        ensures { TellsLoad self.old self.new load.new }
+    {
+        let found = self.watcher.load();
+        load.histories = found.histories;
+        load.calls = found.calls;
+        load.others = found.others;
+    }
+
+    /// Lets go of what is kept.
+    pub(crate) fn close(&mut self)
+        ensures { IsClosed self.new }
+    {
+        *self = Monitor {
+            alloc: self.alloc,
+            watcher: Watcher::new(),
+            stage: Stage::Closed,
+        };
+    }
+}
