@@ -34,8 +34,12 @@ evc_monitor_end_spec 𝓤 𝓛 𝓜 𝓡 wired =
     move ! (1 ∷ []) $ keep ! (0 ∷ []) $
     in_a_block ! a.0 (λ p. lies_at R full_share p old) (id⊢ 𝓤 _) (λ b o e.
     regoal ! (λ p. prop (WpFn 𝓤 𝓛.H 𝓣.C 𝓣.Λ code.function (ptr_val p ∷ []) (W.post (y p)))) e refl $
-    let Ref = λ (κ' : List ℕ) (δ : ℕ). (MutRef (named 0) κ' R).own_val (record { ref_ptr =
-    (b, o); ghost_name = δ; now = old }) (vptr b o ∷ []) in
+    let Ref = λ (κ' : List ℕ) (δ : ℕ). (MutRef (named 0) κ' R).own_val (record {
+      ref_ptr =
+          (b, o);
+      ghost_name = δ;
+      now = old;
+    }) (vptr b o ∷ []) in
     enter ! _ _ _ _ _ $ alloc_all ! (λ l. pass_all ! refl ((tt, tt), tt) $
     -- [the monitor; the locals]
     sets ! (of_opd ! (get ! refl)) refl (tt, tt) $
@@ -46,8 +50,24 @@ evc_monitor_end_spec 𝓤 𝓛 𝓜 𝓡 wired =
     pick ! (λ δ. split ! $
     let G = triple_of 𝓛 g.signature (g.spec 𝓛 𝓜.mem 𝓡.returns) in
     -- [the loan; what the lender keeps; the token of α]
-    let z : G.Ghost = (((α ∷ [], tt), (full_share, tt), tt, (record { ref_ptr = (b, o); ghost_name
-    = δ; now = old }, tt), (vptr b o ∷ [], tt)), tt) in
+    let z : G.Ghost = (
+      (
+        (α ∷ [], tt),
+        (full_share, tt),
+        tt,
+        (
+          record {
+            ref_ptr = (b, o);
+            ghost_name
+                = δ;
+            now = old;
+          },
+          tt,
+        ),
+        (vptr b o ∷ [], tt),
+      ),
+      tt,
+    ) in
     nothing ! $ move ! (1 ∷ 0 ∷ []) $ join ! $ nothing ! $ move ! (3 ∷ 0 ∷ []) $ join ! $ join ! $
     nothing ! $ move ! (1 ∷ 0 ∷ []) $ use2 𝓛 (raw (G.pre z)) (id⊢ 𝓤 _) $
     calls_at ! (framed 𝓤 𝓛.H 𝓜 (tables 𝓤 𝓛.H 𝓜 𝓡 𝓡.env)) G (met 𝓤 𝓛 𝓜 𝓡

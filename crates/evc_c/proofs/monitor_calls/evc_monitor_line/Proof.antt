@@ -27,13 +27,32 @@ pub evc_monitor_line_spec : {M : Type 1} → statement M
 evc_monitor_line_spec 𝓤 𝓛 𝓜 𝓡 wired =
     let c = f.clauses 𝓛 𝓜.mem 𝓡.returns in let W = walk_of 𝓛 f.ended stayed c in let 𝓣
     = tables 𝓤 𝓛.H 𝓜 𝓡 𝓡.env in
-    proved 𝓛 f.ended stayed c 𝓜 𝓡 (Goes-dropped 𝓛 1 (plain (λ _. RawPtr)) yes (λ κs x w. refl),
-    (Goes-dropped 𝓛 1 (shr_slice_of (0 ∷ []) tt (plain (λ _. u8))) yes (λ κs x w. refl), tt))
+    proved 𝓛 f.ended stayed c 𝓜 𝓡 (
+      Goes-dropped 𝓛 1 (plain (λ _. RawPtr)) yes (λ κs x w. refl),
+      (Goes-dropped 𝓛 1 (shr_slice_of (0 ∷ []) tt (plain (λ _. u8))) yes (λ κs x w. refl), tt),
+    )
     f.Key.name code.function (code.unfolded 𝓤 𝓛.H 𝓜 𝓡 wired)
-    (λ κs. (rawptr_vals, (shr_slice_vals, tt))) (λ κs. (rawptr_Tells, (shr_slice_Tells
-    (named 0) κs.0 u8, tt))) (λ κs qs bounds a old are.
-    let y : Ptr → W.Ghost = λ p. ((κs, qs, bounds, (p, a.1), (rawptr_vals p,
-    (shr_slice_vals a.1.0, tt))), old) in
+    (λ κs. (rawptr_vals, (shr_slice_vals, tt))) (λ κs. (
+      rawptr_Tells,
+      (
+        shr_slice_Tells
+            (named 0) κs.0 u8,
+        tt,
+      ),
+    )) (λ κs qs bounds a old are.
+    let y : Ptr → W.Ghost = λ p. (
+      (
+        κs,
+        qs,
+        bounds,
+        (p, a.1),
+        (
+          rawptr_vals p,
+          (shr_slice_vals a.1.0, tt),
+        ),
+      ),
+      old,
+    ) in
     let Passed = ‵ ((ShrSlice (named 0) κs.0 u8).own_val a.1.0 (shr_slice_vals a.1.0)) in
     qed 𝓛 (((‵ (flft κs.0 qs.0) ⊛ ‵ ftrue) ⊛ ‵ (RawPtr.own_val a.0 (rawptr_vals a.0)) ⊛ Passed ⊛
     ‵ ftrue) ∷ ‵ (lies_at R full_share a.0 old) ∷ []) ∵
@@ -41,10 +60,20 @@ evc_monitor_line_spec 𝓤 𝓛 𝓜 𝓡 wired =
     in_a_block ! a.0 (λ p. lies_at R full_share p old) (id⊢ 𝓤 _) (λ b o e.
     regoal ! (λ p. prop (WpFn 𝓤 𝓛.H 𝓣.C 𝓣.Λ code.function (ptr_val p ∷ slice_val a.1.0.ref_ptr
     (length a.1.0.now) ∷ []) (W.post (y p)))) e refl $
-    let Ref = λ (κ' : List ℕ) (δ : ℕ). (MutRef (named 0) κ' R).own_val (record { ref_ptr =
-    (b, o); ghost_name = δ; now = old }) (vptr b o ∷ []) in
-    enter ! _ _ _ _ _ $ alloc_all ! (λ l. pass_all ! refl ((tt, tt), (((shr_slice_Lawful 𝓛
-    (named 0) κs.0 u8).typed a.1.0 _ are.1.0).0, tt)) $
+    let Ref = λ (κ' : List ℕ) (δ : ℕ). (MutRef (named 0) κ' R).own_val (record {
+      ref_ptr =
+          (b, o);
+      ghost_name = δ;
+      now = old;
+    }) (vptr b o ∷ []) in
+    enter ! _ _ _ _ _ $ alloc_all ! (λ l. pass_all ! refl (
+      (tt, tt),
+      (
+        ((shr_slice_Lawful 𝓛
+            (named 0) κs.0 u8).typed a.1.0 _ are.1.0).0,
+        tt,
+      ),
+    ) $
     -- [the monitor; the token of what else is passed; that; the locals]
     sets ! (of_opd ! (get ! refl)) refl (tt, tt) $
     sets ! (addr ! (through ! refl (stop !))) refl (tt, tt) $
@@ -54,8 +83,24 @@ evc_monitor_line_spec 𝓤 𝓛 𝓜 𝓡 wired =
     pick ! (λ δ. split ! $
     let G = triple_of 𝓛 g.signature (g.spec 𝓛 𝓜.mem 𝓡.returns) in
     -- [the loan; what the lender keeps; the token of α; that of what else is passed; that]
-    let z : G.Ghost = (((α ∷ [], κs), (full_share, qs), tt, (record { ref_ptr = (b, o); ghost_name
-    = δ; now = old }, a.1), (vptr b o ∷ [], (shr_slice_vals a.1.0, tt))), tt) in
+    let z : G.Ghost = (
+      (
+        (α ∷ [], κs),
+        (full_share, qs),
+        tt,
+        (
+          record {
+            ref_ptr = (b, o);
+            ghost_name
+                = δ;
+            now = old;
+          },
+          a.1,
+        ),
+        (vptr b o ∷ [], (shr_slice_vals a.1.0, tt)),
+      ),
+      tt,
+    ) in
     nothing ! $ move ! (5 ∷ 0 ∷ []) $ join ! $ move ! (1 ∷ 0 ∷ []) $ join ! $
     nothing ! $ move ! (4 ∷ 0 ∷ []) $ join ! $ move ! (3 ∷ 0 ∷ []) $ join ! $ join ! $
     nothing ! $ move ! (1 ∷ 0 ∷ []) $ use2 𝓛 (raw (G.pre z)) (id⊢ 𝓤 _) $
@@ -78,8 +123,10 @@ evc_monitor_line_spec 𝓤 𝓛 𝓜 𝓡 wired =
     move ! (4 ∷ []) $ peeks ! u8 (Is u8) (shows 𝓛 u8) r (v ∷ []) (λ is. lands_as ! refl refl
     ((uint_Lawful 𝓛 w8).typed r _ is).0 $
     returns ! (look_at ! 0 refl) $ free_all ! refl $
-    suffices ! _ (ends_at 𝓛 f.ended stayed c (y (block_ptr b o)) v r (tt, (tt, tt)) (tt,
-    (tt, tt))) $
+    suffices ! _ (ends_at 𝓛 f.ended stayed c (y (block_ptr b o)) v r (tt, (tt, tt)) (
+      tt,
+      (tt, tt),
+    )) $
     -- [the result; the monitor; its borrow; the others' last values; the other token]
     nothing ! $ nothing ! $ join ! $ nothing ! $ join ! $ join ! $ move ! (4 ∷ 0 ∷ []) $ join ! $
     frame ! $ keep ! (0 ∷ []) $

@@ -28,13 +28,26 @@ pub evc_monitor_load_spec : {M : Type 1} → statement M
 evc_monitor_load_spec 𝓤 𝓛 𝓜 𝓡 wired =
     let c = f.clauses 𝓛 𝓜.mem 𝓡.returns in let W = walk_of 𝓛 f.ended stayed c in let 𝓣
     = tables 𝓤 𝓛.H 𝓜 𝓡 𝓡.env in
-    proved 𝓛 f.ended stayed c 𝓜 𝓡 (Goes-dropped 𝓛 1 (plain (λ _. RawPtr)) yes (λ κs x w. refl),
-    (Goes-gave_ref 𝓛 1 0 tt (plain (λ _. L)), tt))
+    proved 𝓛 f.ended stayed c 𝓜 𝓡 (
+      Goes-dropped 𝓛 1 (plain (λ _. RawPtr)) yes (λ κs x w. refl),
+      (Goes-gave_ref 𝓛 1 0 tt (plain (λ _. L)), tt),
+    )
     f.Key.name code.function (code.unfolded 𝓤 𝓛.H 𝓜 𝓡 wired)
     (λ κs. (rawptr_vals, (mut_vals, tt))) (λ κs. (rawptr_Tells, (mut_Tells (named 0) κs.0 L, tt)))
     (λ κs qs bounds a old are.
-    let y : Ptr → W.Ghost = λ p. ((κs, qs, bounds, (p, a.1), (rawptr_vals p,
-    (mut_vals a.1.0, tt))), old) in
+    let y : Ptr → W.Ghost = λ p. (
+      (
+        κs,
+        qs,
+        bounds,
+        (p, a.1),
+        (
+          rawptr_vals p,
+          (mut_vals a.1.0, tt),
+        ),
+      ),
+      old,
+    ) in
     let Passed = ‵ ((MutRef (named 0) κs.0 L).own_val a.1.0 (mut_vals a.1.0)) in
     qed 𝓛 (((‵ (flft κs.0 qs.0) ⊛ ‵ ftrue) ⊛ ‵ (RawPtr.own_val a.0 (rawptr_vals a.0)) ⊛ Passed ⊛
     ‵ ftrue) ∷ ‵ (lies_at R full_share a.0 old) ∷ []) ∵
@@ -42,8 +55,12 @@ evc_monitor_load_spec 𝓤 𝓛 𝓜 𝓡 wired =
     in_a_block ! a.0 (λ p. lies_at R full_share p old) (id⊢ 𝓤 _) (λ b o e.
     regoal ! (λ p. prop (WpFn 𝓤 𝓛.H 𝓣.C 𝓣.Λ code.function (ptr_val p
     ∷ vptr a.1.0.ref_ptr.0 a.1.0.ref_ptr.1 ∷ []) (W.post (y p)))) e refl $
-    let Ref = λ (κ' : List ℕ) (δ : ℕ). (MutRef (named 0) κ' R).own_val (record { ref_ptr =
-    (b, o); ghost_name = δ; now = old }) (vptr b o ∷ []) in
+    let Ref = λ (κ' : List ℕ) (δ : ℕ). (MutRef (named 0) κ' R).own_val (record {
+      ref_ptr =
+          (b, o);
+      ghost_name = δ;
+      now = old;
+    }) (vptr b o ∷ []) in
     enter ! _ _ _ _ _ $ alloc_all ! (λ l. pass_all ! refl ((tt, tt), ((tt, tt), tt)) $
     -- [the monitor; the token of what else is passed; that; the locals]
     sets ! (of_opd ! (get ! refl)) refl (tt, tt) $
@@ -55,8 +72,24 @@ evc_monitor_load_spec 𝓤 𝓛 𝓜 𝓡 wired =
     pick ! (λ δ. split ! $
     let G = triple_of 𝓛 g.signature (g.spec 𝓛 𝓜.mem 𝓡.returns) in
     -- [the loan; what the lender keeps; the token of α; that of what else is passed; that]
-    let z : G.Ghost = (((α ∷ [], κs), (full_share, qs), tt, (record { ref_ptr = (b, o); ghost_name
-    = δ; now = old }, a.1), (vptr b o ∷ [], (mut_vals a.1.0, tt))), tt) in
+    let z : G.Ghost = (
+      (
+        (α ∷ [], κs),
+        (full_share, qs),
+        tt,
+        (
+          record {
+            ref_ptr = (b, o);
+            ghost_name
+                = δ;
+            now = old;
+          },
+          a.1,
+        ),
+        (vptr b o ∷ [], (mut_vals a.1.0, tt)),
+      ),
+      tt,
+    ) in
     nothing ! $ move ! (5 ∷ 0 ∷ []) $ join ! $ move ! (1 ∷ 0 ∷ []) $ join ! $
     nothing ! $ move ! (4 ∷ 0 ∷ []) $ join ! $ move ! (3 ∷ 0 ∷ []) $ join ! $ join ! $
     nothing ! $ move ! (1 ∷ 0 ∷ []) $ use2 𝓛 (raw (G.pre z)) (id⊢ 𝓤 _) $
@@ -81,8 +114,10 @@ evc_monitor_load_spec 𝓤 𝓛 𝓜 𝓡 wired =
     returns ! (look_at ! 0 refl) $ free_all ! refl $
     feq_i ! _ (vunit ∷ []) _ refl $
     move ! (3 ∷ []) $
-    suffices ! _ (ends_at 𝓛 f.ended stayed c (y (block_ptr b o)) vunit tt (tt, (ws.1.0, tt)) (tt,
-    (tt, tt))) $
+    suffices ! _ (ends_at 𝓛 f.ended stayed c (y (block_ptr b o)) vunit tt (tt, (ws.1.0, tt)) (
+      tt,
+      (tt, tt),
+    )) $
     -- [the result; the monitor; its borrow; the others' last values; the other token]
     -- [the load's last value; the result; the monitor; its borrow; the token]
     nothing ! $ join ! $ join ! $ move ! (3 ∷ 0 ∷ []) $ join ! $ frame ! $ keep ! (0 ∷ []) $

@@ -29,13 +29,32 @@ pub evc_monitor_note_spec : {M : Type 1} → statement M
 evc_monitor_note_spec 𝓤 𝓛 𝓜 𝓡 wired =
     let c = f.clauses 𝓛 𝓜.mem 𝓡.returns in let W = walk_of 𝓛 f.ended stayed c in let 𝓣
     = tables 𝓤 𝓛.H 𝓜 𝓡 𝓡.env in
-    proved 𝓛 f.ended stayed c 𝓜 𝓡 (Goes-dropped 𝓛 1 (plain (λ _. RawPtr)) yes (λ κs x w. refl),
-    (Goes-gave_slice 𝓛 1 0 tt (plain (λ _. u8)), tt))
+    proved 𝓛 f.ended stayed c 𝓜 𝓡 (
+      Goes-dropped 𝓛 1 (plain (λ _. RawPtr)) yes (λ κs x w. refl),
+      (Goes-gave_slice 𝓛 1 0 tt (plain (λ _. u8)), tt),
+    )
     f.Key.name code.function (code.unfolded 𝓤 𝓛.H 𝓜 𝓡 wired)
-    (λ κs. (rawptr_vals, (mut_slice_vals, tt))) (λ κs. (rawptr_Tells, (mut_slice_Tells
-    (named 0) κs.0 u8, tt))) (λ κs qs bounds a old are.
-    let y : Ptr → W.Ghost = λ p. ((κs, qs, bounds, (p, a.1), (rawptr_vals p,
-    (mut_slice_vals a.1.0, tt))), old) in
+    (λ κs. (rawptr_vals, (mut_slice_vals, tt))) (λ κs. (
+      rawptr_Tells,
+      (
+        mut_slice_Tells
+            (named 0) κs.0 u8,
+        tt,
+      ),
+    )) (λ κs qs bounds a old are.
+    let y : Ptr → W.Ghost = λ p. (
+      (
+        κs,
+        qs,
+        bounds,
+        (p, a.1),
+        (
+          rawptr_vals p,
+          (mut_slice_vals a.1.0, tt),
+        ),
+      ),
+      old,
+    ) in
     let Passed = ‵ ((MutSlice (named 0) κs.0 u8).own_val a.1.0 (mut_slice_vals a.1.0)) in
     qed 𝓛 (((‵ (flft κs.0 qs.0) ⊛ ‵ ftrue) ⊛ ‵ (RawPtr.own_val a.0 (rawptr_vals a.0)) ⊛ Passed ⊛
     ‵ ftrue) ∷ ‵ (lies_at R full_share a.0 old) ∷ []) ∵
@@ -43,10 +62,20 @@ evc_monitor_note_spec 𝓤 𝓛 𝓜 𝓡 wired =
     in_a_block ! a.0 (λ p. lies_at R full_share p old) (id⊢ 𝓤 _) (λ b o e.
     regoal ! (λ p. prop (WpFn 𝓤 𝓛.H 𝓣.C 𝓣.Λ code.function (ptr_val p ∷ slice_val a.1.0.ref_ptr
     (length a.1.0.now) ∷ []) (W.post (y p)))) e refl $
-    let Ref = λ (κ' : List ℕ) (δ : ℕ). (MutRef (named 0) κ' R).own_val (record { ref_ptr =
-    (b, o); ghost_name = δ; now = old }) (vptr b o ∷ []) in
-    enter ! _ _ _ _ _ $ alloc_all ! (λ l. pass_all ! refl ((tt, tt), (((mut_slice_Lawful 𝓛
-    (named 0) κs.0 u8).typed a.1.0 _ are.1.0).0, tt)) $
+    let Ref = λ (κ' : List ℕ) (δ : ℕ). (MutRef (named 0) κ' R).own_val (record {
+      ref_ptr =
+          (b, o);
+      ghost_name = δ;
+      now = old;
+    }) (vptr b o ∷ []) in
+    enter ! _ _ _ _ _ $ alloc_all ! (λ l. pass_all ! refl (
+      (tt, tt),
+      (
+        ((mut_slice_Lawful 𝓛
+            (named 0) κs.0 u8).typed a.1.0 _ are.1.0).0,
+        tt,
+      ),
+    ) $
     -- [the monitor; the token of what else is passed; that; the locals]
     sets ! (of_opd ! (get ! refl)) refl (tt, tt) $
     sets ! (addr ! (through ! refl (stop !))) refl (tt, tt) $
@@ -61,8 +90,24 @@ evc_monitor_note_spec 𝓤 𝓛 𝓜 𝓡 wired =
     pick ! (λ δ. split ! $
     let G = triple_of 𝓛 g.signature (g.spec 𝓛 𝓜.mem 𝓡.returns) in
     -- [the loan; what the lender keeps; the token of α; that of what else is passed; that]
-    let z : G.Ghost = (((α ∷ [], κs), (full_share, qs), tt, (record { ref_ptr = (b, o); ghost_name
-    = δ; now = old }, a.1), (vptr b o ∷ [], (mut_slice_vals a.1.0, tt))), tt) in
+    let z : G.Ghost = (
+      (
+        (α ∷ [], κs),
+        (full_share, qs),
+        tt,
+        (
+          record {
+            ref_ptr = (b, o);
+            ghost_name
+                = δ;
+            now = old;
+          },
+          a.1,
+        ),
+        (vptr b o ∷ [], (mut_slice_vals a.1.0, tt)),
+      ),
+      tt,
+    ) in
     nothing ! $ move ! (5 ∷ 0 ∷ []) $ join ! $ move ! (1 ∷ 0 ∷ []) $ join ! $
     nothing ! $ move ! (4 ∷ 0 ∷ []) $ join ! $ move ! (3 ∷ 0 ∷ []) $ join ! $ join ! $
     nothing ! $ move ! (1 ∷ 0 ∷ []) $ use2 𝓛 (raw (G.pre z)) (id⊢ 𝓤 _) $
@@ -86,8 +131,10 @@ evc_monitor_note_spec 𝓤 𝓛 𝓜 𝓡 wired =
     (λ is. lands_as ! refl refl ((uint_Lawful 𝓛 w64).typed r _ is).0 $
     returns ! (look_at ! 0 refl) $ free_all ! refl $
     move ! (3 ∷ []) $ fsplit ! $ fsplit ! $ fsplit ! $ move ! (1 ∷ []) $ feq_l ! (λ same.
-    suffices ! _ (ends_at 𝓛 f.ended stayed c (y (block_ptr b o)) v r (tt, (ws.1.0, tt)) (tt,
-    (same, tt))) $
+    suffices ! _ (ends_at 𝓛 f.ended stayed c (y (block_ptr b o)) v r (tt, (ws.1.0, tt)) (
+      tt,
+      (same, tt),
+    )) $
     -- [the result; the monitor; its borrow; the others' last values; the other token]
     -- [the note's last value; its borrow; nothing; the result; the monitor; its borrow; the token]
     join ! $ join ! $ nothing ! $ join ! $ move ! (1 ∷ []) $ move ! (1 ∷ 0 ∷ []) $ join ! $

@@ -26,14 +26,27 @@ pub evc_monitor_open_spec : {M : Type 1} → statement M
 evc_monitor_open_spec 𝓤 𝓛 𝓜 𝓡 wired =
     let c = f.clauses 𝓛 𝓜.mem 𝓡.returns in let W = walk_of 𝓛 f.ended stayed c in let 𝓣
     = tables 𝓤 𝓛.H 𝓜 𝓡 𝓡.env in
-    proved 𝓛 f.ended stayed c 𝓜 𝓡 (Goes-dropped 𝓛 0 (plain (λ _. Heap)) yes (λ κs x w. refl),
-    (Goes-dropped 𝓛 0 (plain (λ _. RawPtr)) yes (λ κs x w. refl), tt))
+    proved 𝓛 f.ended stayed c 𝓜 𝓡 (
+      Goes-dropped 𝓛 0 (plain (λ _. Heap)) yes (λ κs x w. refl),
+      (Goes-dropped 𝓛 0 (plain (λ _. RawPtr)) yes (λ κs x w. refl), tt),
+    )
     f.Key.name code.function (code.unfolded 𝓤 𝓛.H 𝓜 𝓡 wired)
     (λ κs. ((λ d. heap_laws.lowers.lowered d ∷ []), (rawptr_vals, tt))) (λ κs.
     (heap_laws.lowers.val_is, (rawptr_Tells, tt))) (λ κs qs bounds a _ are.
     let heap = heap_laws.lowers.lowered a.0 in
-    let y : Ptr → W.Ghost = λ p. ((κs, qs, bounds, (a.0, (p, tt)), (heap ∷ [],
-    (rawptr_vals p, tt))), tt) in
+    let y : Ptr → W.Ghost = λ p. (
+      (
+        κs,
+        qs,
+        bounds,
+        (a.0, (p, tt)),
+        (
+          heap ∷ [],
+          (rawptr_vals p, tt),
+        ),
+      ),
+      tt,
+    ) in
     qed 𝓛 ((‵ ftrue ⊛ ‵ (Heap.own_val a.0 (heap ∷ [])) ⊛ ‵ (RawPtr.own_val a.1.0
     (rawptr_vals a.1.0)) ⊛ ‵ ftrue) ∷ ‵ (room_at R a.1.0) ∷ []) ∵
     split ! $ drop ! $ split ! $ keep ! (2 ∷ 0 ∷ []) $
@@ -64,8 +77,10 @@ evc_monitor_open_spec 𝓤 𝓛 𝓜 𝓡 wired =
     sets ! (of_opd ! (unit_lit !)) refl (tt, tt) $
     returns ! (look_at ! 0 refl) $ free_all ! refl $ move ! (1 ∷ 0 ∷ []) $
     use2 𝓛 (‵ (part_at R full_share r b o)) (part_in 𝓛 R refl full_share r b o v) $
-    suffices ! _ (ends_at 𝓛 f.ended stayed c (y (block_ptr b o)) vunit tt (tt, (tt, tt)) (tt,
-    (tt, tt))) $
+    suffices ! _ (ends_at 𝓛 f.ended stayed c (y (block_ptr b o)) vunit tt (tt, (tt, tt)) (
+      tt,
+      (tt, tt),
+    )) $
     feq_i ! _ (vunit ∷ []) _ refl $ nothing ! $ nothing ! $ join ! $ nothing ! $ join ! $
     join ! $ nothing ! $ join ! $ frame ! $
     show ! (λ (new : Monitor). sep 𝓤 (sem 𝓛 (lies_at R full_share (block_ptr b o) new)) (fact 𝓤

@@ -8,8 +8,8 @@ returns c =
     (length c.args.room.now)) c.as_slice.ensures.value in (
       refl,
       said c.args.self.now c.in-Stopped.stop c.say_stop.result _
-      (length c.args.room.now) c.new-told.result c.say_stop.new.notes c.new-bytes.result.items
-      c.into_writer.result.now.items _
+          (length c.args.room.now) c.new-told.result c.say_stop.new.notes c.new-bytes.result.items
+          c.into_writer.result.now.items _
           c.in-Stopped.is c.say_stop.ensures.says c.say_stop.ensures.written
           c.new-told.ensures.value c.new-bytes.ensures c.into_writer.ensures.contents told,
       c.put_front.ensures.within,
