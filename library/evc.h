@@ -101,7 +101,7 @@ uint8_t evc_calls_check(const uint8_t *calls, size_t calls_length, uint8_t *text
  * malloc a monitor takes memory for what a history declares and for its pending calls, anew for each history; the close
  * frees all of it. Open a place only once before its close, don't move a monitor, and call of one only a single call at a
  * time. Any thread may. */
-#define EVC_MONITOR_WORDS 2048
+#define EVC_MONITOR_WORDS 1024
 struct evc_monitor {
     uint64_t kept[EVC_MONITOR_WORDS];
 };

@@ -105,7 +105,7 @@ pub struct Monitor {
     ended: bool,
 }
 
-const MONITOR_WORDS: usize = 2048;
+const MONITOR_WORDS: usize = 1024;
 
 #[repr(C, align(16))]
 struct Place([u64; MONITOR_WORDS]);

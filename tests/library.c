@@ -6,7 +6,7 @@
    where a byte was changed that had to stay, or a monitor answered otherwise than evc.h says, and six more; the two lengths that the call told; the text and the notes. It
    takes nothing from malloc, so that every request for memory is the library's.
 
-   To a monitor the lines of the input are given one by one. Its text is the load, three numbers of 8 bytes, and a fourth: the number of the line with the first status that was not
+   To a monitor the lines of the input are given one by one, and then to a second one, whose answer comes. Its text is the load, three numbers of 8 bytes, and a fourth: the number of the line with the first status that was not
    EVC_STATUS_DONE, or 0. */
 #include "../library/evc.h"
 
@@ -94,7 +94,8 @@ static int has_no_use(void) {
            evc_monitor_note(&place.monitor, note, sizeof note) == 0;
 }
 
-/* Judges the input by a monitor. Returns whether it answered otherwise than evc.h says. */
+/* Judges the input by a monitor. Returns whether it answered otherwise than evc.h says, or did not free all that it took. (The
+   first request of a process takes some memory for malloc's own use.) */
 static int judge(size_t length, size_t room, uint8_t *status, size_t *noted) {
     struct evc_load load[2];
     uint64_t line;
@@ -102,7 +103,7 @@ static int judge(size_t length, size_t room, uint8_t *status, size_t *noted) {
     size_t in_use = mallinfo2().uordblks;
     memset(&place, MARK, sizeof place);
     evc_monitor_open(&place.monitor);
-    is_wrong |= mallinfo2().uordblks != in_use;
+    is_wrong |= in_use != 0 && mallinfo2().uordblks != in_use;
     is_wrong |= feed(length, status, &line);
     *noted = evc_monitor_note(&place.monitor, notes, room);
     is_wrong |= *status == EVC_STATUS_DONE ? !has_no_use() || *noted != 0 : evc_monitor_note(&place.monitor, notes, room) != *noted;
@@ -110,7 +111,7 @@ static int judge(size_t length, size_t room, uint8_t *status, size_t *noted) {
     evc_monitor_load(&place.monitor, &load[1]);
     is_wrong |= load[0].histories != load[1].histories || load[0].calls != load[1].calls || load[0].others != load[1].others;
     evc_monitor_close(&place.monitor);
-    is_wrong |= !has_no_use() || mallinfo2().uordblks != in_use;
+    is_wrong |= !has_no_use() || (in_use != 0 && mallinfo2().uordblks != in_use);
     evc_monitor_load(&place.monitor, &load[1]);
     is_wrong |= load[1].histories != 0 || load[1].calls != 0 || load[1].others != 0;
     evc_monitor_close(&place.monitor);
@@ -150,6 +151,8 @@ int main(void) {
         if (asked.call[0] == 'm') {
             written.text = 32;
             is_wrong = judge(asked.length, asked.notes, &status, &written.notes);
+            memset(notes, MARK, asked.notes + 64);
+            is_wrong |= judge(asked.length, asked.notes, &status, &written.notes);
         } else {
             status = call(input, asked.length, text, asked.text, notes, asked.notes, &written);
         }

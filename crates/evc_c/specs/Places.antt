@@ -12,9 +12,9 @@ use Rattle.evc_c.specs.declared.monitor.Monitor.{Monitor}
 abbrev pub monitor_size : ℕ
 monitor_size = size (lone the_row.mir)
 
--- so many bytes the header tells: 2048 words of 8 bytes
+-- so many bytes the header tells: 1024 words of 8 bytes
 abbrev pub room_told : ℕ
-room_told = 2048 * 8
+room_told = 1024 * 8
 
 -- here is room for a monitor
 abbrev pub room_for_monitor : Ptr → Fml
