@@ -127,13 +127,13 @@ over bytes w Usage old new o writes = absurd writes
 over bytes w Memory old new o writes = absurd writes
 over bytes w NotDecided old new o writes = absurd writes
 
-pub over_known : (o : Option (List ℕ)) (f : Feeder) (status : Status) (old new : Outlets)
-    → ReadsAll o (Ok tt) f
+pub over_known : (o : Option (List ℕ)) (u : Unit {0}) (f : Feeder) (status : Status)
+    (old new : Outlets) → ReadsAll o (Ok u) f
     → WritesLoad status (load_text f.watcher.load.histories f.watcher.load.calls
     f.watcher.load.others) old new
     → IfSome o (λ bytes. Watches bytes status old new)
-over_known None f status old new reads writes = tt
-over_known (Some bytes) f status old new reads writes =
+over_known None u f status old new reads writes = tt
+over_known (Some bytes) u f status old new reads writes =
     over bytes f.watcher status old new reads writes
 
 stopped : (bytes : List ℕ) (status : Status) (old new : Outlets) → new.out ≡ old.out

@@ -1,5 +1,5 @@
 //! `watch`: histories of calls in, each judged while it comes.
-ghost use Rattle.std.specs.Prelude.{◌≡◌, List, ℕ, Option, IfSome, length};
+ghost use Rattle.std.specs.Prelude.{◌≡◌, ◌≤◌, ◌++◌, List, ℕ, Option, IfSome, length, take};
 ghost use Rattle.ec_text.specs.Puts.{Puts, IsWrittenOut};
 ghost use Rattle.calls_core.specs.declared.history.Event.{Event};
 ghost use Rattle.calls_text.specs.Reading.{Running};
@@ -9,7 +9,7 @@ ghost use Rattle.calls_report.specs.Notes.{fault_note};
 ghost use Rattle.calls_report.specs.declared.status.Status.TheVariants.{NotDecided};
 ghost use Rattle.calls_watch.specs.Loads.{load_text};
 ghost use Rattle.calls_watch.specs.Watches.{Watches, line_of_first, refused_note, unwatched_note};
-ghost use Rattle.calls_watch.specs.kept.Watching.{FedFrom, Stops};
+ghost use Rattle.calls_watch.specs.kept.Watching.{FedFrom, IsFed, Feeds, Stops};
 ghost use Rattle.calls_watch.specs.kept.Endings.{ReadsOn, ReadsAll, WritesLoad, SaysRefused};
 ghost use Rattle.calls_watch.specs.kept.Endings.{SaysStop, fault_status};
 
@@ -36,6 +36,21 @@ pub(crate) enum Cut {
     Stop(Stop),
 }
 
+/// Takes the first bytes of the table.
+fn feed_front(
+    alloc: Global,
+    table: &ArrayVec<u8, 8192>,
+    n: usize,
+    feeder: &mut Feeder,
+) -> Result<(), Stop>
+    requires { n ≤ length table.now.items }
+    ensures { (ps : List (List ℕ)) (rest : List ℕ)
+        → IsFed ps (take n table.now.items ++ rest) feeder.old → Feeds result ps rest feeder.new }
+{
+    let bytes = table.as_slice();
+    feeder.feed(alloc, &bytes[..n])
+}
+
 /// Reads a piece and takes it. Returns whether the text may go on.
 fn read_on<R: Read>(
     alloc: Global,
@@ -57,8 +72,7 @@ fn read_on<R: Read>(
             Err(stop) => Err(Cut::Stop(stop)),
         };
     }
-    let bytes = table.as_slice();
-    match feeder.feed(alloc, &bytes[..n]) {
+    match feed_front(alloc, table, n, feeder) {
         Ok(()) => Ok(true),
         Err(stop) => Err(Cut::Stop(stop)),
     }

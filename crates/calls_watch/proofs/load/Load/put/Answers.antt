@@ -3,6 +3,8 @@ use Rattle.calls_watch.proofs.load.Load.put.Goals as goal
 
 pub returns : goal.returns
 returns g c =
-    puts_then _ _ _ _ _ c.put_number.ensures.puts
-    (puts_then _ _ _ _ _ c.put.ensures.puts
-    (puts_then _ _ _ _ _ c.put_number-2.ensures.puts c.put_rest.ensures))
+    puts_then _ _ _ _ _
+    (puts_then _ _ _ _ _
+    (puts_then _ _ _ _ _ c.put_number.ensures.puts c.put.ensures.puts)
+    c.put_number-2.ensures.puts)
+    c.put_rest.ensures
