@@ -1,6 +1,6 @@
 -- `watch` and `check` on one text.
 use Rattle.std.proofs.Common.{◌≡◌, ◌⊎◌, inl, inr, ℕ, ◌+◌, ◌<◌, ◌≤◌, true, false, List, [], ◌∷◌, ◌++◌, length}
-use Rattle.std.proofs.Common.{reverse, slice_get, Option, Some, Ok, Err, refl, ap, sym, ◌∙◌, subst, arith}
+use Rattle.std.proofs.Common.{reverse, Ok, ap, sym, ◌∙◌, subst, arith}
 use Rattle.std.proofs.lemmas.List.{reverse-append}
 use Rattle.ec_text.specs.Puts.{Outgoing}
 use Rattle.ec_heading.specs.Headed.{Headed}
@@ -30,9 +30,8 @@ use Rattle.calls_verdict.proofs.OneFault.{the_first_fault_is_one}
 use Rattle.calls_verdict.proofs.Untils.{until_all, until_out}
 use Rattle.calls_monitor.specs.declared.monitor.Refused.{Refused as Report}
 use Rattle.calls_text.specs.Recordings.{Recorded, AreKinds, IsRecording}
-use Rattle.calls_text.specs.Reading.{Stage, Opening, Running, step}
+use Rattle.calls_text.specs.Reading.{Opening, Running}
 use Rattle.calls_text.specs.Outcomes.{OneRead, Parsed, goes, fault_in, parts_of}
-use Rattle.calls_text.specs.Following.{IsReached}
 use Rattle.calls_text.proofs.ReachedLines.{reached_goes}
 use Rattle.calls_text.proofs.FurtherLines.{GoesFurther, goes_further}
 use Rattle.calls_report.specs.declared.status.Status.{Status}
@@ -48,7 +47,7 @@ use Rattle.calls_watch.specs.Laws.{Agree, WatchAgreesWithCheck, BothRefuseOneEve
 use Rattle.calls_report.proofs.JudgingLemmas.{goes_past}
 use Rattle.calls_watch.proofs.LineLemmas.{one_part}
 use Rattle.calls_watch.proofs.SameKinds.{all_alike, linearizable_alike, AllAlike}
-use Rattle.calls_watch.proofs.Uncalled.{part_watched, uncalled, BeginsWithNone, cell_begins}
+use Rattle.calls_watch.proofs.Uncalled.{part_watched, uncalled, cell_begins}
 use Rattle.calls_watch.proofs.Uncalled.{database_begins}
 
 -- WHERE BOTH HAVE COME TO

@@ -1,6 +1,6 @@
 -- How a text ends, and what is written then.
-use Rattle.std.proofs.Common.{◌≡◌, ◌≢◌, ◌<◌, ℕ, ◌+◌, List, [], ◌∷◌, ◌++◌, length, take, Option, Some, None}
-use Rattle.std.proofs.Common.{Result, Ok, Err, Bool, true, false, inl, inr, IfSome, refl, ap, sym, ◌∙◌, subst, arith, codes}
+use Rattle.std.proofs.Common.{◌≡◌, ◌<◌, ℕ, List, [], ◌++◌, length, take, Option, Some, None}
+use Rattle.std.proofs.Common.{Result, Ok, Err, inl, inr, IfSome, ap, ◌∙◌, subst, arith, codes}
 use Rattle.std.specs.Io.KnownBytes.{Appends, Consumes, IsAtEnd}
 use Rattle.ec_text.specs.Puts.{Outgoing, Puts, AppendsPrefix}
 use Rattle.calls_core.specs.declared.history.Event.{Event}
@@ -26,7 +26,7 @@ use Rattle.calls_watch.specs.declared.watching.Cut.TheVariants as cuts
 use Rattle.calls_watch.specs.Loads.{IsLoad, load_text, summary_of, calls_in, others_in}
 use Rattle.calls_watch.specs.Watches.{Watches, refused_note, unwatched_note}
 use Rattle.calls_watch.specs.kept.Watching.{IsFed, EndsAs, FedFrom, Stops, IsOver}
-use Rattle.calls_watch.specs.kept.Endings.{ReadsAll, ReadsOn, WritesLoad, SaysStop, SaysRefused}
+use Rattle.calls_watch.specs.kept.Endings.{ReadsAll, WritesLoad, SaysStop, SaysRefused}
 use Rattle.calls_watch.specs.kept.Endings.{fault_status}
 use Rattle.calls_watch.proofs.PieceLemmas.{FedBy}
 

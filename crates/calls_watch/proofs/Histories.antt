@@ -1,7 +1,7 @@
 -- Histories in turn, and how they load.
-use Rattle.std.proofs.Common.{◌≡◌, ℕ, zero, suc, ◌+◌, ◌&&◌, Bool, true, false, List, [], ◌∷◌, ◌++◌, length}
-use Rattle.std.proofs.Common.{slice_get, Option, Some, None, Ok, refl, ap, sym, ◌∙◌, subst, arith, cond}
-use Rattle.std.proofs.Common.{reverse, length-append, add_assoc}
+use Rattle.std.proofs.Common.{◌≡◌, ℕ, ◌+◌, List, [], ◌∷◌, ◌++◌}
+use Rattle.std.proofs.Common.{Ok, refl, ap, ◌∙◌, arith}
+use Rattle.std.proofs.Common.{reverse}
 use Rattle.calls_text.specs.Outcomes.{OneRead, goes}
 use Rattle.calls_text.specs.Reading.{Opening}
 use Rattle.calls_watch.specs.Loads.{calls_of, others_of, calls_in, others_in}

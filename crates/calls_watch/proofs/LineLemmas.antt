@@ -1,10 +1,9 @@
 -- What a line leaves of what is kept of a text.
-use Rattle.std.proofs.Common.{◌≡◌, ◌<◌, ◌≤◌, ◌⊎◌, inl, inr, ℕ, ◌+◌, Bool, true, false, List, [], ◌∷◌, ◌++◌, length}
+use Rattle.std.proofs.Common.{◌≡◌, ◌<◌, ◌≤◌, inl, inr, ℕ, ◌+◌, true, false, List, [], ◌∷◌, ◌++◌, length}
 use Rattle.std.proofs.Common.{reverse, Option, Some, None, Result, Ok, Err, refl, ap, sym, ◌∙◌, subst, arith}
 use Rattle.std.proofs.Common.{length-append}
 use Rattle.std.proofs.lemmas.List.{reverse-append}
 use Rattle.ec_heading.specs.Headed.{Headed}
-use Rattle.calls_core.specs.declared.history.Kind.{Kind}
 use Rattle.calls_core.specs.declared.history.Event.{Event}
 use Rattle.calls_core.specs.Histories.{IsHistory, clock, pending_calls}
 use Rattle.calls_core.specs.Completions.{IsLinearizable}
@@ -18,7 +17,7 @@ use Rattle.calls_text.specs.declared.fault.TextFault.TheVariants as faults
 use Rattle.calls_text.specs.declared.following.Followed.{Followed}
 use Rattle.calls_text.specs.declared.following.Followed.TheVariants as lines
 use Rattle.calls_text.specs.declared.following.Follower.{Follower}
-use Rattle.calls_text.specs.Recordings.{Recorded, AreKinds, IsRecording}
+use Rattle.calls_text.specs.Recordings.{Recorded, AreKinds}
 use Rattle.calls_text.specs.Reading.{Stage, Opening, Limiting, Declaring, Running, Ended, step, is_ended}
 use Rattle.calls_text.specs.Reading.{with_events}
 use Rattle.std.specs.Prelude.{OnOk, IfErr}
@@ -33,12 +32,12 @@ use Rattle.calls_watch.specs.declared.load.Load.{Load}
 use Rattle.calls_watch.specs.declared.stop.Stop.{Stop}
 use Rattle.calls_watch.specs.declared.stop.Stop.TheVariants as stops
 use Rattle.calls_watch.specs.declared.watcher.Watcher.{Watcher}
-use Rattle.calls_watch.specs.Loads.{IsLoad, calls_of, others_of, calls_in, others_in, others_at}
+use Rattle.calls_watch.specs.Loads.{IsLoad, calls_of, others_of, others_at}
 use Rattle.calls_watch.specs.Loads.{invoked}
-use Rattle.calls_watch.specs.Watches.{IsGood, AreGood, IsUpTo, IsStopped, IsUnwatched}
+use Rattle.calls_watch.specs.Watches.{IsGood, AreGood, IsUpTo}
 use Rattle.calls_watch.specs.Watches.{invokes_cells, AreWatched}
 use Rattle.calls_watch.specs.kept.Watching.{IsMonitoring, IsMonitored, IsWatching, StopsAt, Stops, GoesOn}
-use Rattle.calls_watch.specs.kept.Watching.{IsOver, EndsAs, IsOpened, IsLoadAfter, Begins, LoadGrows}
+use Rattle.calls_watch.specs.kept.Watching.{IsOver, IsOpened, IsLoadAfter, Begins, LoadGrows}
 use Rattle.calls_watch.specs.kept.Watching.{IsJudged, IsEventJudged, IsBegunAgain, GoesOnBy, MayEnd, GoesOnAt}
 use Rattle.calls_watch.proofs.Histories.{good_more, calls_more, others_more}
 use Rattle.calls_watch.proofs.Uncalled.{all_linearizable, none_linearizable}

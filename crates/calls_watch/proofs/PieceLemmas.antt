@@ -1,16 +1,16 @@
 -- Lines that come in pieces.
-use Rattle.std.proofs.Common.{◌≡◌, ◌≢◌, ◌<◌, ◌≤◌, ℕ, ◌+◌, Bool, true, false, cond, eqb, List, [], ◌∷◌, ◌++◌, length}
+use Rattle.std.proofs.Common.{◌≡◌, ◌≢◌, ◌<◌, ℕ, Bool, true, false, cond, eqb, List, [], ◌∷◌, ◌++◌, length}
 use Rattle.std.proofs.Common.{Option, Some, None, Result, Ok, Err, refl, ap, sym, ◌∙◌, subst, arith}
-use Rattle.std.proofs.Common.{append_assoc, append-nil, length-append, ne_eqb, take}
+use Rattle.std.proofs.Common.{append_assoc, append-nil, length-append, ne_eqb}
 use Rattle.std.specs.List.{All, onto_first}
-use Rattle.std.specs.Io.KnownBytes.{Consumes, IsAtEnd}
+use Rattle.std.specs.Io.KnownBytes.{Consumes}
 use Rattle.std.proofs.lemmas.List.Splits.{slice_split_at, slice_split_none, slice_split-cons_no}
 use Rattle.std.proofs.lemmas.List.Elements.{All-weaker, All-append, All-nil, All-head, All-tail}
 use Rattle.calls_text.specs.Outcomes.{parts_of}
 use Rattle.calls_watch.specs.declared.feeder.Feeder.{Feeder}
 use Rattle.calls_watch.specs.declared.stop.Stop.{Stop}
 use Rattle.calls_watch.specs.declared.watcher.Watcher.{Watcher}
-use Rattle.calls_watch.specs.kept.Watching.{IsWatching, Stops, GoesOn, IsOver, EndsAs, IsFed, Feeds}
+use Rattle.calls_watch.specs.kept.Watching.{IsWatching, Stops, GoesOn, IsFed, Feeds}
 use Rattle.calls_watch.specs.kept.Watching.{GathersTo, FedFrom}
 
 no_lf : (bytes : List ℕ) → All (λ b. b ≢ 10) bytes → All (λ b. eqb b 10 ≡ false) bytes

@@ -1,6 +1,6 @@
 -- The objects of one heading are the same, whichever list they are in: a list of units may be held in
 -- two ways.
-use Rattle.std.proofs.Common.{◌≡◌, ℕ, zero, suc, ◌+◌, ◌-◌, ◌<◌, ◌≤◌, ◌⊎◌, inl, inr, List, [], ◌∷◌, ◌++◌, length}
+use Rattle.std.proofs.Common.{◌≡◌, ℕ, zero, suc, ◌+◌, ◌-◌, ◌<◌, ◌≤◌, inl, inr, List, [], ◌∷◌, ◌++◌, length}
 use Rattle.std.proofs.Common.{slice_get, slice_index, Option, Some, None, refl, ap, sym, ◌∙◌, subst, arith}
 use Rattle.std.proofs.lemmas.Bool.{cases_lt}
 use Rattle.std.specs.Global.{Vec}
@@ -16,12 +16,11 @@ use Rattle.calls_core.specs.declared.history.Action.{Action}
 use Rattle.calls_core.specs.declared.history.Action.TheVariants.{Invoke, Respond}
 use Rattle.calls_core.specs.declared.history.Event.{Event}
 use Rattle.calls_core.specs.declared.history.PendingCall.{PendingCall}
-use Rattle.calls_core.specs.declared.history.Call.{Call}
 use Rattle.calls_core.specs.Histories.{pending_of, pending_calls, Takes, IsNext, IsHistory}
 use Rattle.calls_core.specs.Linearizations.{initial, start, IsRun}
-use Rattle.calls_core.specs.Completions.{IsLinearizable, IsLegal, IsLinearization}
+use Rattle.calls_core.specs.Completions.{IsLinearizable}
 use Rattle.calls_text.specs.Recordings.{AreKinds, first_sequencer, first_cell, semaphores, first_group}
-use Rattle.calls_text.specs.Recordings.{start_of, cells_of, initial_of}
+use Rattle.calls_text.specs.Recordings.{start_of, cells_of}
 
 -- WHAT OBJECTS ARE
 

@@ -8,7 +8,7 @@ use Rattle.calls_text.specs.Recordings.{Recorded}
 use Rattle.calls_text.specs.Reading.{Opening}
 use Rattle.calls_text.specs.Outcomes.{OneRead, goes, parts_of}
 use Rattle.calls_report.specs.declared.status.Status.{Status}
-use Rattle.calls_report.specs.declared.status.Status.TheVariants.{Done, Refused, Usage}
+use Rattle.calls_report.specs.declared.status.Status.TheVariants.{Done, Refused}
 use Rattle.calls_report.specs.declared.status.Status.TheVariants.{InputOutput, Memory, NotDecided}
 use Rattle.calls_report.specs.Checks.{Outlets, Judged, AreJudged, IsJudged, IsRefused}
 use Rattle.calls_watch.specs.Watches.{AreGood, IsStopped, IsWatchedTo}

@@ -1,5 +1,5 @@
 -- What `watch` answered and wrote, for an input whose bytes are known.
-use Rattle.std.specs.Prelude.{◌≡◌, ◌<◌, ◌⊎◌, ℕ, ◌-◌, List, [], ◌∷◌, length, reverse, Option, Some, None}
+use Rattle.std.specs.Prelude.{◌≡◌, ◌<◌, ◌⊎◌, ℕ, ◌-◌, List, [], ◌∷◌, length, reverse}
 use Rattle.std.specs.Prelude.{Ok, Bool, true, false, codes, ◌++◌}
 use Rattle.std.specs.Io.KnownBytes.{Appends}
 use Rattle.ec_text.specs.Puts.{Outgoing, Puts, AppendsPrefix}

@@ -6,7 +6,7 @@ use Rattle.calls_text.specs.declared.fault.TextFault.{TextFault}
 use Rattle.calls_text.specs.declared.fault.TextFault.TheVariants as faults
 use Rattle.calls_text.specs.Outcomes.{OneRead, parts_of}
 use Rattle.calls_report.specs.declared.status.Status.{Status}
-use Rattle.calls_report.specs.declared.status.Status.TheVariants.{Done, Refused, Usage}
+use Rattle.calls_report.specs.declared.status.Status.TheVariants.{Done, Refused}
 use Rattle.calls_report.specs.declared.status.Status.TheVariants.{InputOutput, Memory, NotDecided}
 use Rattle.calls_report.specs.Checks.{Outlets, SaysUnread}
 use Rattle.calls_watch.specs.declared.feeder.Feeder.{Feeder}

@@ -7,13 +7,12 @@ use Rattle.calls_core.specs.declared.history.Event.{Event}
 use Rattle.calls_core.specs.Histories.{IsHistory, clock, pending_calls}
 use Rattle.calls_core.specs.Completions.{IsLinearizable}
 use Rattle.calls_monitor.specs.declared.monitor.Monitor.{Monitor}
-use Rattle.calls_monitor.specs.declared.monitor.Refused.{Refused as Report}
 use Rattle.calls_monitor.specs.declared.monitor.Rejection.TheVariants as rejections
 use Rattle.calls_monitor.specs.Monitors.{Judges}
 use Rattle.calls_monitor.specs.kept.Watching as monitors
 use Rattle.calls_text.specs.declared.following.Followed.{Followed}
 use Rattle.calls_text.specs.declared.following.Followed.TheVariants as lines
-use Rattle.calls_text.specs.Recordings.{Recorded, AreKinds, IsRecording}
+use Rattle.calls_text.specs.Recordings.{Recorded, AreKinds}
 use Rattle.calls_text.specs.Reading.{Stage, Opening, Running, is_ended}
 use Rattle.calls_text.specs.Outcomes.{OneRead, goes, parts_of, TellsFault}
 use Rattle.calls_text.specs.Following.{built, HasSeen, IsReached}

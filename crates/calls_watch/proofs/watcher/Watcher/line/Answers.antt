@@ -1,6 +1,6 @@
 use Rattle.std.proofs.Common.{◌≡◌, ◌+◌, ◌∷◌, refl, rules}
 use Rattle.calls_watch.specs.declared.watcher.Watcher.{Watcher}
-use Rattle.calls_watch.proofs.LineLemmas.{line_goes, fault_stops, memory_stops}
+use Rattle.calls_watch.proofs.LineLemmas.{line_goes, fault_stops}
 use Rattle.calls_watch.proofs.watcher.Watcher.line.Goals as goal
 
 pub returns-in-Err : goal.returns-in-Err
