@@ -1,5 +1,5 @@
 //! The advances of one eventcount.
-ghost use Rattle.std.specs.Prelude.{◌≡◌, ◌<◌, max, [], OnOk, OnErr};
+ghost use Rattle.std.specs.Prelude.{◌≡◌, ◌<◌, ◌++◌, ◌∷◌, max, [], OnOk, OnErr};
 ghost use Rattle.ec_order.specs.Raised.{moment_since, IsBegun, IsLeft, IsRaisedOnce};
 
 use ec_numbers::NumberList;
@@ -46,7 +46,7 @@ impl Raised {
             self.before = self.before.saturating_add(1);
             return Ok(());
         }
-        self.moments.push(moment as u64)
+        keep(&mut self.moments, moment)
     }
 
     /// One more read or await is under way.
@@ -79,4 +79,13 @@ impl Raised {
         let place = (number - before - 1) as usize;
         round.max(self.moments.get(place).unwrap_or(0) as usize)
     }
+}
+
+/// Adds a moment to those that are kept. (It is a function of its own, so that what an entry passes
+/// through stays small.)
+#[inline(never)]
+fn keep(moments: &mut NumberList, moment: usize) -> Result<(), AllocError>
+    ensures { OnOk result (moments.new.list ≡ moments.old.list ++ moment ∷ []) }
+{
+    moments.push(moment as u64)
 }

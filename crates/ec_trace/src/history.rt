@@ -61,12 +61,15 @@ impl<A: Audit> Watched<A> {
     }
 }
 
-/// Why a step is not made after as many as can be counted.
+/// Returns why a step is not made after as many as can be counted. (It is a function of its own, so
+/// that `enter` stays small enough to be put into its callers.)
 #[cold]
-fn uncounted(world: &World, worker: WorkerId, act: &Act) -> StepFault
-    ensures { (h : List Entry) → StandsFor world.now h → IsFaultOf result (answer_of world.now.setup (reverse h) worker act.now) }
+#[inline(never)]
+fn uncounted(world: &World, worker: WorkerId, act: Act) -> StepFault
+    ensures { (h : List Entry) → StandsFor world.now h
+        → IsFaultOf result (answer_of world.now.setup (reverse h) worker act) }
 {
-    match world.answer(worker, act) {
+    match world.answer(worker, &act) {
         Ok(_) => StepFault::Memory,
         Err(refusal) => StepFault::Refused(refusal),
     }
@@ -78,7 +81,7 @@ impl<A: Audit> History for Watched<A> {
     #[inline(always)]
     fn enter(&mut self, worker: WorkerId, act: Act) -> Result<Reply, StepFault> {
         let Some(next) = self.place.checked_add(1) else {
-            return Err(uncounted(&self.world, worker, &act));
+            return Err(uncounted(&self.world, worker, act));
         };
         let asked = act;
         let Step { op, reply } = match self.world.step_of_call(worker, asked) {
