@@ -3,6 +3,7 @@
  *     apt-get install libeigen3-dev
  *     c++ -std=c++20 -O2 -pthread -I../../recorder -I/usr/include/eigen3 eigen.cpp -o eigen
  *
+ * In Eigen 3.4.0 a waiter that comes later may take the signal of an earlier one (eigen_stolen.cpp).
  * Bugs of its user: `one` wakes one, which may be one that waits for more; `no_look` doesn't look
  * at the counter again between Prewait and CommitWait. */
 #include "real.h"
@@ -51,7 +52,7 @@ static uint64_t await_it(void *, uint64_t threshold) {
 }
 
 static const real_object objects[] = {
-    {"eigen", RIGHT, ALL, 0, advance, read_it, await_it, NULL, NULL},
+    {"eigen", MAYBE, ALL, 0, advance, read_it, await_it, NULL, NULL},
     {"eigen_one", BUG, ONE, 0, advance, read_it, await_it, NULL, NULL},
     {"eigen_no_look", MAYBE, NO_LOOK, 0, advance, read_it, await_it, NULL, NULL},
     {NULL, RIGHT, 0, 0, NULL, NULL, NULL, NULL, NULL}};
