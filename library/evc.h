@@ -4,15 +4,15 @@
  *     cc -std=c11 my_test.c libevc.a
  *
  * Each call reads a text that you give, writes its answer into memory that you give, and returns a status. It keeps
- * nothing: two threads may call at once, each with memory of its own. It takes memory by malloc and lets go of all of
- * it. (Monitors, at the end, keep what they need.) docs/PROMISES.md says what is proved of a call, and what is only tested.
+ * nothing: two threads may call at once, each with memory of its own. It allocates by malloc and frees all of it.
+ * (Monitors, at the end, keep what they need.) docs/LIBRARY.md says what is proved of a call, and what is only tested.
  *
  *     uint8_t *text = malloc(EVC_ROOM(length)), notes[EVC_NOTES_ROOM];
  *     struct evc_written written;
  *     if (evc_check(trace, length, text, EVC_ROOM(length), notes, sizeof notes, &written) != EVC_STATUS_DONE)
  *         fprintf(stderr, "%.*s", (int)written.notes, (const char *)notes);
  *
- * No pointer may be NULL, also where the length beside it is 0. The memory of the text, that of the notes and
+ * No pointer may be NULL, even if its length is 0. The memory of the text, that of the notes and
  * `written` may not overlap each other or the input. */
 #ifndef EVC_H
 #define EVC_H
@@ -34,7 +34,7 @@ enum evc_status {
     EVC_STATUS_REFUSED = 1,
     /* Of the calls on a monitor alone: its text has ended, or it was closed. Nothing was done. */
     EVC_STATUS_USAGE = 2,
-    /* The text had too little room. What was written is a front of it, and the notes end in `write fault`. */
+    /* The text had too little room. A prefix of it was written, and the notes end in `write fault`. */
     EVC_STATUS_NO_ROOM = 3,
     /* malloc gave nothing. No text was written; of evc_calls_check those of some first histories may have been. */
     EVC_STATUS_NO_MEMORY = 4,
@@ -43,7 +43,7 @@ enum evc_status {
     EVC_STATUS_NOT_DECIDED = 5
 };
 
-/* How many bytes a call wrote of the text and of the notes, from the front of each. */
+/* How many bytes a call wrote of the text and of the notes. */
 struct evc_written {
     size_t text;
     size_t notes;
@@ -59,7 +59,7 @@ struct evc_written {
 #define EVC_NOTES_ROOM 1024
 
 /* Room enough for the text and for the notes of evc_calls_check, for so many bytes with so many histories. Notes of one
- * history without pending awaits mostly fit EVC_NOTES_ROOM. */
+ * history without pending awaits usually fit EVC_NOTES_ROOM. */
 #define EVC_CALLS_ROOM(calls_length, histories) (2 * (calls_length) + 16384 * (histories))
 #define EVC_CALLS_NOTES_ROOM(calls_length, histories) ((calls_length) + 4096 * (histories))
 
@@ -79,8 +79,8 @@ uint8_t evc_upgrade(const uint8_t *trace, size_t trace_length, uint8_t *text, si
 uint8_t evc_sim(const uint8_t *script, size_t script_length, uint8_t *text, size_t text_room, uint8_t *notes,
                 size_t notes_room, struct evc_written *written);
 
-/* Whether each history of calls is linearizable, and an order of the calls of each (docs/FORMATS.md, "Histories of
- * calls"). The notes have a remark on each await that is pending although the count had surely reached its threshold; with
+/* Whether each history of calls is linearizable, and an order of the calls of each (docs/REFERENCE.md, "Histories
+ * of calls"). The notes have a remark on each await that is pending although the count had surely reached its threshold; with
  * status 0 nothing else. Those on all histories that were accepted stand first, and then what ended the check. */
 uint8_t evc_calls_check(const uint8_t *calls, size_t calls_length, uint8_t *text, size_t text_room, uint8_t *notes,
                         size_t notes_room, struct evc_written *written);
@@ -98,7 +98,7 @@ uint8_t evc_calls_check(const uint8_t *calls, size_t calls_length, uint8_t *text
  *     evc_monitor_close(&monitor);
  *
  * A status that is not EVC_STATUS_DONE stays: later lines and the end return it again, and nothing is judged any more. By
- * malloc a monitor takes memory for what a history declares and for its pending calls, anew for each history; the close
+ * malloc a monitor takes memory for what a history declares and for its pending calls, again for each history; the close
  * frees all of it. Open a place only once before its close, don't move a monitor, and call of one only a single call at a
  * time. Any thread may. */
 #define EVC_MONITOR_WORDS 1024

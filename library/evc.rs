@@ -3,7 +3,7 @@
 //!
 //!     rustc --edition 2021 --test my_test.rs -L FOLDER_OF_LIBEVC -l static=evc
 //!
-//! Plain Rust, this one module, no dependency. What is proved of the calls below it stands in docs/PROMISES.md; of this
+//! Plain Rust, this one module, no dependency. docs/LIBRARY.md says what is proved of the calls below it; of this
 //! module nothing is. A call keeps nothing, so any threads may call at once; a `Monitor` keeps what it needs.
 #![allow(dead_code)]
 

@@ -222,7 +222,7 @@ static inline int evc_worker(evc_record *r, const char *name) {
     return worker;
 }
 
-/* Declares objects, by a line of docs/FORMATS.md, as "sequencer T take a b". Returns what is wrong
+/* Declares objects, by a line of docs/REFERENCE.md, as "sequencer T take a b". Returns what is wrong
  * with it; the workers and numbers in it are not looked at. */
 static inline enum evc_fault evc_declare(evc_record *r, const char *declaration) {
     char line[EVC_LINE_MAX + 2];

@@ -26,7 +26,7 @@ pub const TRACE_MAX: usize = 67_108_864;
 const LINE_MAX: usize = 8192;
 const END: &[u8] = b"end\n";
 
-/// What a step was told.
+/// What a step returned.
 #[derive(Clone, Copy, Debug, PartialEq, Eq)]
 pub enum Reply {
     /// The step was an advance, a put or a hand.
@@ -160,7 +160,7 @@ pub struct Record {
 
 impl Record {
     /// Begins a record: the limit of each component and each sequencer, from 1 to 281474976710655
-    /// (the trace has version 2); the workers; and the objects, each a line of docs/FORMATS.md, as
+    /// (the trace has version 2); the workers; and the objects, each a line of docs/REFERENCE.md, as
     /// "sequencer T take a b".
     pub fn new(limit: u64, workers: &[&str], objects: &[&str]) -> Self {
         let mut text = Text { bytes: Vec::new(), fault: None };

@@ -128,7 +128,7 @@ static inline void evc_spin_(uint64_t turns) {
         EVC_BARRIER_();
 }
 
-/* Pauses: mostly not at all, now and then for a moment, until others ran, or asleep. */
+/* Pauses: usually not at all, now and then for a moment, until others ran, or asleep. */
 static inline void evc_chance_pause(evc_chance *chance) {
     uint64_t kind = evc_chance_below(chance, 64);
     if (kind < 16)

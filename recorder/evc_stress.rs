@@ -82,7 +82,7 @@ impl Chance {
         (self.0 >> 11) % bound
     }
 
-    /// Pauses: mostly not at all, now and then for a moment, until others ran, or asleep.
+    /// Pauses: usually not at all, now and then for a moment, until others ran, or asleep.
     pub fn pause(&mut self) {
         match self.below(64) {
             0..=15 => (0..self.below(100)).for_each(|_| std::hint::spin_loop()),

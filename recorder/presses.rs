@@ -50,7 +50,7 @@ impl Shop {
         });
     }
 
-    /// One step of the watcher's read: a component, and what is told.
+    /// One step of the watcher's read: a component, and the reply.
     fn watch(&self, act: &str, component: usize, sum: &mut u64, is_last: bool) {
         self.record.step("watcher", act, || {
             *sum += self.sheets[component].load(SeqCst);
