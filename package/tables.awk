@@ -14,6 +14,14 @@
 #
 # How to include a header, and the prototypes of its functions, without those whose names end in an underscore.
 #
+#     .\" COMMENT HEADER WORD
+#
+# The comment of a header that begins with the word. Lines that are indented by four spaces are code.
+#
+#     .\" STRUCT HEADER NAME
+#
+# The type of this name in a header, up to the fields that are its own.
+#
 #     .\" COMMANDS FILE
 #
 # The commands of a program, with the summaries that its help has: the texts NAME_ABOUT of that source.
@@ -90,9 +98,7 @@ function block(page, word,    text, is_in, lines) {
     while ((getline text < page) > 0) {
         if (is_in && text == "```") break
         if (is_in) {
-            gsub(/\\/, "\\e", text)
-            gsub(/-/, "\\-", text)
-            line(text)
+            code(text)
             lines++
         }
         if (text == "```" word) is_in = 1
@@ -137,6 +143,58 @@ function calls(header,    text, whole, number, name) {
     if (!number) fail(header " has no functions")
 }
 
+# Writes a line of code, which stands between .nf and .fi.
+function code(text) {
+    gsub(/\\/, "\\e", text)
+    gsub(/-/, "\\-", text)
+    line(text)
+}
+
+# Writes a line of a comment: code if it is indented, an empty one as the end of a paragraph.
+function said(text,    is_code) {
+    is_code = text ~ /^    / || text == "" && in_code
+    if (is_code != in_code) print is_code ? ".PP\n.nf" : ".fi"
+    in_code = is_code
+    if (is_code) code(substr(text, 5))
+    else if (text == "") print ".PP"
+    else {
+        gsub(/\\/, "\\e", text)
+        line(text)
+    }
+}
+
+function comment(header, word,    text, is_in, is_last) {
+    in_code = 0
+    while (!is_last && (getline text < header) > 0) {
+        if (!is_in && index(text, "/* " word) != 1) continue
+        is_in = 1
+        is_last = sub(/ *\*\/$/, "", text)
+        sub(/^[ \/]\*+ ?/, "", text)
+        if (!is_last || text != "") said(text)
+    }
+    if (in_code) print ".fi"
+    close(header)
+    if (!is_in) fail(header " has no comment " word)
+}
+
+function struct(header, name,    text, is_in, lines) {
+    print ".nf"
+    while ((getline text < header) > 0) {
+        if (text == "typedef struct " name " {") is_in = 1
+        if (is_in && text ~ /\/\* Its own\. \*\//) {
+            print "};"
+            break
+        }
+        if (is_in) {
+            code(text)
+            lines++
+        }
+    }
+    close(header)
+    print ".fi"
+    if (!lines) fail(header " has no type " name)
+}
+
 function commands(file,    text, name, number) {
     while ((getline text < file) > 0) {
         if (text ~ /const [A-Z]+_ABOUT: &str =/ && text !~ /LONG_ABOUT/) {
@@ -164,6 +222,8 @@ function commands(file,    text, name, number) {
 }
 /^\.\\" BLOCK / { block($3, $4); next }
 /^\.\\" CALLS / { calls($3); next }
+/^\.\\" COMMENT / { comment($3, $4); next }
+/^\.\\" STRUCT / { struct($3, $4); next }
 /^\.\\" COMMANDS / { commands($3); next }
 { print }
 END { exit failed }
