@@ -10,6 +10,10 @@
 #
 # The first block of a page that begins with three grave accents and the word.
 #
+#     .\" FILE PATH
+#
+# A whole file, as an example.
+#
 #     .\" CALLS HEADER
 #
 # How to include a header, and the prototypes of its functions, without those whose names end in an underscore.
@@ -106,6 +110,17 @@ function block(page, word,    text, is_in, lines) {
     close(page)
     print ".fi"
     if (!lines) fail(page " has no block " word)
+}
+
+function whole_file(path,    text, lines) {
+    print ".nf"
+    while ((getline text < path) > 0) {
+        code(text)
+        lines++
+    }
+    close(path)
+    print ".fi"
+    if (!lines) fail("there is no file " path)
 }
 
 # Writes a prototype in lines of at most 76 columns, broken after commas.
@@ -221,6 +236,7 @@ function commands(file,    text, name, number) {
     next
 }
 /^\.\\" BLOCK / { block($3, $4); next }
+/^\.\\" FILE / { whole_file($3); next }
 /^\.\\" CALLS / { calls($3); next }
 /^\.\\" COMMENT / { comment($3, $4); next }
 /^\.\\" STRUCT / { struct($3, $4); next }

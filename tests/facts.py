@@ -144,7 +144,7 @@ def faults_of_refusals():
 
 def faults_of_kinds():
     """Compares the kinds of errors of scripts and histories, and the causes that notes have."""
-    page = section("REFERENCE.md", "### Rejected scripts and histories")
+    page = section("REFERENCE.md", "### Kinds of errors")
     said = {cells[0]: cells[1] for cells in rows(page) if re.match(r"\d", cells[0])}
     kinds = [arms(f"{it}/src/fault.rt", "Kind", r"(\d+),") for it in ("ec_script", "calls_text")]
     right = {f"{number} {name}" for it in kinds for name, number in it.items()}
