@@ -187,7 +187,8 @@ def faults_of_summaries():
             for file in (f"_{program}", f"{program}.fish"):
                 if text not in read("package", file):
                     yield f"package/{file}: {name} has another summary than its help, {text}"
-            if not re.search(rf"\b{name}\b", read("package", f"{program}.bash")):
+            words = re.search(r"-W '([^']*)'", read("package", f"{program}.bash"))
+            if not words or name not in words[1].split():
                 yield f"package/{program}.bash: {name} is missing"
 
 

@@ -190,10 +190,10 @@ def faults_of_sizes():
     sizes = {it: len(read(it).encode()) for it in pages()}
     for name, bound in SIZES.items():
         size = sum(number for page, number in sizes.items() if page == name or name[-1] == "/" and page.startswith(name))
-        if size > bound * 1000:
+        if size > bound * 1024:
             yield f"{name} has {size} bytes, and at most {bound} KB are meant for it"
     whole = sum(sizes.values())
-    if whole > ALL * 1000:
+    if whole > ALL * 1024:
         yield f"the pages have {whole} bytes, and at most {ALL} KB are meant for them"
 
 
