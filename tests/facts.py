@@ -47,13 +47,20 @@ LIMITS = {
     "bytes of a trace, and of histories but for `watch`": [("ec_trace/src/read.rt", r"TRACE_MAX: usize = ([\d_]+)")],
     "entries of a picture": [("ec_draw/src/window.rt", r"COLUMNS_MAX: usize = ([\d_]+)")],
 }
-# The bounds of the format that the recorder of calls repeats.
+# The bounds of the formats that the recorders repeat, in each language, by their names there.
+WORKERS = ("ec_count/src/worker_id.rt", r"if n < (\d+)")
+CELLS = ("ec_count/src/cell_id.rt", r"if n < (\d+)")
+LIMIT = ("ec_heading/src/version.rt", r"Version::Two => ([\d_]+)")
+NUMBER_MAX = ("ec_core/src/act.rt", r"VALUE_MAX: u64 = ([\d_]+)")
+TEXT_MAX = ("calls_report/src/checking.rt", r"TEXT_MAX: usize = ([\d_]+)")
+LINE_MAX = ("ec_heading/src/heading.rt", r"LINE_MAX: usize = ([\d_]+)")
+TRACE_MAX = ("ec_trace/src/read.rt", r"TRACE_MAX: usize = ([\d_]+)")
+OF_CALLS = {"WORKERS": WORKERS, "CELLS": CELLS, "LIMIT": LIMIT, "NUMBER_MAX": NUMBER_MAX, "TEXT_MAX": TEXT_MAX}
 RECORDED = {
-    "WORKERS": ("ec_count/src/worker_id.rt", r"if n < (\d+)"),
-    "CELLS": ("ec_count/src/cell_id.rt", r"if n < (\d+)"),
-    "LIMIT": ("ec_heading/src/version.rt", r"Version::Two => ([\d_]+)"),
-    "NUMBER_MAX": ("ec_core/src/act.rt", r"VALUE_MAX: u64 = ([\d_]+)"),
-    "TEXT_MAX": ("calls_report/src/checking.rt", r"TEXT_MAX: usize = ([\d_]+)"),
+    "evc_calls.h": {f"EVC_CALLS_{name}": source for name, source in OF_CALLS.items()},
+    "evc_calls.rs": OF_CALLS,
+    "evc_record.h": {"EVC_TRACE_MAX": TRACE_MAX, "EVC_LINE_MAX": LINE_MAX},
+    "evc_record.rs": {"TRACE_MAX": TRACE_MAX, "LINE_MAX": LINE_MAX},
 }
 # The statuses of the library, and of the programs.
 STATUSES = {
@@ -123,11 +130,13 @@ def faults_of_limits():
             yield f"docs/REFERENCE.md, Limits: {name} is {written}, and {right} in the sources"
 
 
-def faults_of_recorder():
-    header = read("recorder", "evc_calls.h")
-    for name, source in RECORDED.items():
-        if not re.search(rf"^#define EVC_CALLS_{name} {numbers_of(*source)}u?$", header, re.M):
-            yield f"recorder/evc_calls.h: EVC_CALLS_{name} is not {numbers_of(*source)}"
+def faults_of_recorders():
+    for file, names in RECORDED.items():
+        text = read("recorder", file)
+        for name, source in names.items():
+            found = re.search(rf"^(?:#define|(?:pub )?const) {name}\b[^=\n]*?(?:= )?(\d[\d_]*)u?;?$", text, re.M)
+            if not found or int(found[1].replace("_", "")) != numbers_of(*source):
+                yield f"recorder/{file}: {name} is not {numbers_of(*source)}"
 
 
 def faults_of_reserved():
@@ -192,6 +201,18 @@ def faults_of_summaries():
                 yield f"package/{program}.bash: {name} is missing"
 
 
+def faults_of_options():
+    """Looks for the options of evc-draw, by its help, in REFERENCE and in its completions."""
+    options = re.findall(r"^  (?:-\w, )?--([a-z]+)", read("crates/evc_draw/src/help.rt"), re.M)
+    page = section("REFERENCE.md", "## Pictures")
+    for name in options:
+        if f"`--{name}" not in page and name not in ("help", "version"):
+            yield f"docs/REFERENCE.md, Pictures: --{name} is missing"
+        for file in ("_evc-draw", "evc-draw.fish", "evc-draw.bash"):
+            if not re.search(rf"(--|-l ){name}\b", read("package", file)):
+                yield f"package/{file}: --{name} is missing"
+
+
 def faults_of_map():
     """Compares the map of the crates with crates.txt and the crates' pages."""
     page = os.path.join(TOP, "docs", "DESIGN.md")
@@ -209,13 +230,14 @@ def faults_of_manuals():
 
 CHECKS = [
     faults_of_limits,
-    faults_of_recorder,
+    faults_of_recorders,
     faults_of_reserved,
     faults_of_refusals,
     faults_of_kinds,
     faults_of_statuses,
     faults_of_outcomes,
     faults_of_summaries,
+    faults_of_options,
     faults_of_map,
     faults_of_manuals,
 ]
