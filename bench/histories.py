@@ -1,4 +1,4 @@
-"""Makes histories of calls (docs/FORMATS.md, evc-calls 1), for bench/run.
+"""Makes histories of calls (docs/REFERENCE.md, evc-calls 1), for bench/run.
 
 Eight workers make calls on right objects. Each call takes effect as it is invoked or as it returns, by chance, so each
 history is linearizable. The same kind and size give the same text each time.

@@ -1,4 +1,4 @@
-# Completes the words of evc-draw in bash: files only behind < and >, as it reads standard input.
+# Completes the words of evc-draw in bash: files only after < and >, as it reads standard input.
 _evc_draw() {
     COMPREPLY=()
     case ${COMP_WORDS[COMP_CWORD - 1]} in
