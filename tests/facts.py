@@ -188,6 +188,35 @@ def faults_of_outcomes():
             yield f"docs/REFERENCE.md, Scripts: the outcome {text} is missing"
 
 
+def note_pattern(note):
+    """Returns a pattern for a note of a page, in which numbers, lines and names are any."""
+    found = []
+    lines = r"\blines? (?:[KLN]|\d+)(?: \d+| and \d+)*"
+    for it in re.split(rf"(\.\.|{lines}|\d+th|\d+(?:\.\d+)?|X\[0\]|\b[ESTb]\b|advances?|tickets?)", note):
+        if it == "..":
+            found.append(".*")
+        elif it.startswith("line"):
+            found.append(r"lines? \d+(?: \d+| and \d+)*")
+        elif re.fullmatch(r"\d+th", it):
+            found.append(r"\d+(?:st|nd|rd|th)")
+        elif re.fullmatch(r"[\d.]+", it):
+            found.append(r"[\d.]+")
+        elif re.fullmatch(r"X\[0\]|[ESTb]", it):
+            found.append(r"\S+")
+        else:
+            found.append(re.escape(it) if not re.fullmatch("(advance|ticket)s?", it) else f"{it.rstrip('s')}s?")
+    return "".join(found)
+
+
+def faults_of_notes():
+    """Looks for notes on histories that no golden test has."""
+    tests = "".join(read("tests", f"evc-calls{it}.rows") for it in ("", "-watch", "-steps")).replace("\\\n", "")
+    for line in section("REFERENCE.md", "## Orders").split("\n"):
+        for note in re.findall(r"`([^`]+ [^`]+)`", line) if line.startswith(("| ", "- ")) and "Note" not in line else ():
+            if not re.search(note_pattern(note), tests):
+                yield f"docs/REFERENCE.md, Orders: no golden test has the note {note}"
+
+
 def faults_of_summaries():
     """Compares the summaries of commands in completions with those of the help."""
     for program, crate in COMPLETED.items():
@@ -236,6 +265,7 @@ CHECKS = [
     faults_of_kinds,
     faults_of_statuses,
     faults_of_outcomes,
+    faults_of_notes,
     faults_of_summaries,
     faults_of_options,
     faults_of_map,
