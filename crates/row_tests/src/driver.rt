@@ -1,0 +1,62 @@
+//! How lines are answered.
+use crate::fault::Fault;
+use crate::output::Output;
+use std::alloc::Global;
+
+/// What lines are about.
+pub trait Driver {
+    /// Makes the call of a line, and writes what it returns. After `Fault::Memory` all is as it
+    /// was before, and nothing was written.
+    fn answer(&mut self, alloc: Global, line: &str, out: &mut Output) -> Result<(), Fault>;
+
+    /// Writes all that can be asked, which takes no memory.
+    fn write_all(&self, out: &mut Output) -> Result<(), Fault>;
+}
+
+/// Sums up all that can be asked, or nothing where it is not watched.
+fn sum_of<D: Driver>(driver: &D, watched: bool) -> Result<u64, Fault> {
+    let mut out = Output::Sum(0);
+    if watched {
+        driver.write_all(&mut out)?;
+    }
+    match out {
+        Output::Sum(sum) => Ok(sum),
+        Output::Text(_) => Ok(0),
+    }
+}
+
+/// Answers a line, and once more where an allocation failed.
+fn answer_line<D: Driver>(
+    alloc: Global,
+    driver: &mut D,
+    watched: bool,
+    line: &str,
+    out: &mut Output,
+) -> Result<(), Fault> {
+    let before = sum_of(driver, watched)?;
+    match driver.answer(alloc, line, out) {
+        Err(Fault::Memory) => {
+            if before == sum_of(driver, watched)? {
+                writeln!(out, "no memory")?;
+            } else {
+                writeln!(out, "no memory, and something was changed")?;
+            }
+            driver.answer(alloc, line, out)
+        }
+        other => other,
+    }
+}
+
+/// Answers the lines of a text.
+pub fn answer_lines<D: Driver>(
+    alloc: Global,
+    driver: &mut D,
+    watched: bool,
+    text: &str,
+    out: &mut Output,
+) -> Result<(), Fault> {
+    for line in text.lines() {
+        answer_line(alloc, driver, watched, line, out)?;
+    }
+    Ok(())
+}

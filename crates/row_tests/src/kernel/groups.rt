@@ -1,0 +1,100 @@
+//! The audits of buffers, databases and semaphores.
+use crate::fault::Fault;
+use crate::kernel::ask::{Ask, buffer, database, semaphore, semaphore_of};
+use crate::kernel::writing::{put_sequencer, put_worker};
+use ec_buffer::{Delivery, deliveries};
+use ec_core::{AuditFault, Run};
+use ec_database::{Accepted, versions};
+use ec_semaphore::{Balance, Pair, SemaphoreShape, balance, pairs};
+use std::alloc::Global;
+
+/// Writes whose entry is the first that breaks the lists.
+fn tell_break(fault: AuditFault, ask: &mut Ask<'_>) -> Result<(), Fault> {
+    match fault {
+        AuditFault::Memory => Err(Fault::Memory),
+        AuditFault::NotFollowed { worker, entry } => {
+            write!(ask.out, "not followed: worker ")?;
+            put_worker(worker, ask)?;
+            writeln!(ask.out, " entry {entry}")
+        }
+    }
+}
+
+/// Writes deliveries: number, producer, consumer and item.
+fn tell_deliveries(found: &[Delivery], ask: &mut Ask<'_>) -> Result<(), Fault> {
+    for delivery in found {
+        write!(ask.out, "{} ", delivery.number)?;
+        put_worker(delivery.producer, ask)?;
+        write!(ask.out, " ")?;
+        put_worker(delivery.consumer, ask)?;
+        writeln!(ask.out, " {}", delivery.item)?;
+    }
+    Ok(())
+}
+
+/// Writes accepting tries: version, reader and values.
+fn tell_versions(found: &[Accepted], ask: &mut Ask<'_>) -> Result<(), Fault> {
+    for accepted in found {
+        write!(ask.out, "{} ", accepted.version)?;
+        put_worker(accepted.worker, ask)?;
+        for value in accepted.values.as_slice() {
+            write!(ask.out, " {value}")?;
+        }
+        writeln!(ask.out)?;
+    }
+    Ok(())
+}
+
+/// Writes a balance: initial value, downs and ups.
+fn tell_balance(found: &Balance, ask: &mut Ask<'_>) -> Result<(), Fault> {
+    writeln!(ask.out, "{} {} {}", found.initial, found.downs, found.ups)
+}
+
+/// Writes pairs of tickets: worker, and each sequencer with its ticket.
+fn tell_pairs(found: &[Pair], ask: &mut Ask<'_>) -> Result<(), Fault> {
+    for pair in found {
+        put_worker(pair.worker, ask)?;
+        write!(ask.out, " ")?;
+        put_sequencer(pair.first, ask)?;
+        write!(ask.out, " {} ", pair.first_ticket)?;
+        put_sequencer(pair.second, ask)?;
+        writeln!(ask.out, " {}", pair.second_ticket)?;
+    }
+    Ok(())
+}
+
+/// Reads semaphores.
+fn semaphores_of(alloc: Global, ask: &mut Ask<'_>) -> Result<Vec<SemaphoreShape>, Fault> {
+    let mut shapes = Vec::new(alloc);
+    for word in &mut ask.words {
+        shapes.push(semaphore_of(ask.about, word)?)?;
+    }
+    Ok(shapes)
+}
+
+/// Answers what is asked of a group, if the line asks that. The common one of `pairs` is `both`.
+pub fn answer_group(alloc: Global, run: &Run, ask: &mut Ask<'_>) -> Result<(), Fault> {
+    match ask.verb {
+        "deliveries" => match deliveries(alloc, run, &buffer(ask)?) {
+            Ok(found) => tell_deliveries(found.as_slice(), ask),
+            Err(fault) => tell_break(fault, ask),
+        },
+        "versions" => match versions(alloc, run, &database(ask)?) {
+            Ok(found) => tell_versions(found.as_slice(), ask),
+            Err(fault) => tell_break(fault, ask),
+        },
+        "balance" => match balance(run, &semaphore(ask)?) {
+            Ok(found) => tell_balance(&found, ask),
+            Err(fault) => tell_break(fault, ask),
+        },
+        "pairs" => {
+            let common = semaphore_of(ask.about, "both")?;
+            let shapes = semaphores_of(alloc, ask)?;
+            match pairs(alloc, run, &common, shapes.as_slice()) {
+                Ok(found) => tell_pairs(found.as_slice(), ask),
+                Err(fault) => tell_break(fault, ask),
+            }
+        }
+        _ => Err(Fault::Line),
+    }
+}

@@ -1,0 +1,163 @@
+//! The completed calls of a run, their order by points, and verdicts on orders.
+use crate::fault::Fault;
+use crate::kernel::ask::{Ask, act, reply, worker};
+use crate::kernel::writing::{pending, put_entry, tell_entry};
+use crate::line::tell;
+use ec_core::{Calls, Entry, Run, walk};
+use ec_order::{Call, Placed, Timeline, calls, in_order, order, verify};
+use std::alloc::Global;
+
+/// Returns a call as one entry.
+fn entry_of(call: &Call) -> Entry {
+    Entry {
+        worker: call.worker,
+        act: call.op,
+        reply: call.reply,
+    }
+}
+
+/// Whether a timeline of the entries of a run gives these calls.
+fn is_timed(alloc: Global, run: &Run, placed: &[Placed]) -> Result<bool, Fault> {
+    let mut timeline = Timeline::open(alloc, run.setup())?;
+    walk(run, &mut timeline);
+    let mut dated = timeline.calls()?;
+    for right in placed {
+        match dated.next() {
+            Some(found) if found.point == right.point && found.entry == entry_of(&right.call) => {}
+            _ => return Err(Fault::Line),
+        }
+    }
+    Ok(dated.next().is_none())
+}
+
+/// Whether these calls come in order, one after another.
+fn comes_in_order(alloc: Global, run: &Run, placed: &[Placed]) -> Result<bool, Fault> {
+    let mut calls = in_order(alloc, run)?;
+    for right in placed {
+        if calls.next() != Some(*right) {
+            return Ok(false);
+        }
+    }
+    Ok(calls.next().is_none())
+}
+
+/// Writes a call at its point.
+fn tell_placed(placed: &Placed, ask: &mut Ask<'_>) -> Result<(), Fault> {
+    write!(ask.out, "{} ", placed.point)?;
+    tell_entry(Some(entry_of(&placed.call)), ask)
+}
+
+/// Writes a call with the places of its first step, of its last round, and of its last step.
+fn tell_call(call: &Call, ask: &mut Ask<'_>) -> Result<(), Fault> {
+    put_entry(&entry_of(call), ask)?;
+    writeln!(ask.out, " at {} {} {}", call.first, call.round, call.last)
+}
+
+/// Returns the part of a list that is asked for: the one at a place, or all of it. Where it is asked
+/// how many there are, that is written, and the part is empty.
+fn part_of<'a, T>(list: &'a [T], ask: &mut Ask<'_>) -> Result<&'a [T], Fault> {
+    match ask.word() {
+        "" => Ok(list),
+        "size" => {
+            tell(list.len(), ask.out)?;
+            Ok(&[])
+        }
+        word => {
+            let place: usize = word.parse().ok().ok_or(Fault::Line)?;
+            list.get(place..)
+                .and_then(|rest| rest.get(..1))
+                .ok_or(Fault::Line)
+        }
+    }
+}
+
+/// Writes the order of a run, which three calls give.
+fn answer_the_order(alloc: Global, run: &Run, ask: &mut Ask<'_>) -> Result<(), Fault> {
+    let placed = order(alloc, run)?;
+    let placed = placed.as_slice();
+    if !comes_in_order(alloc, run, placed)? || !is_timed(alloc, run, placed)? {
+        tell(
+            "another order, one call after another or by the timeline",
+            ask.out,
+        )?;
+    }
+    for one in part_of(placed, ask)? {
+        tell_placed(one, ask)?;
+    }
+    Ok(())
+}
+
+/// Writes the completed calls of a run.
+fn answer_calls(alloc: Global, run: &Run, ask: &mut Ask<'_>) -> Result<(), Fault> {
+    let found = calls(alloc, run)?;
+    for call in part_of(found.as_slice(), ask)? {
+        tell_call(call, ask)?;
+    }
+    Ok(())
+}
+
+/// Writes the call that the entry at a place is part of, up to that entry.
+fn answer_so_far(run: &Run, ask: &mut Ask<'_>) -> Result<(), Fault> {
+    let last = ask.size()?;
+    let mut calls = Calls::new();
+    for (place, entry) in run.entries().enumerate() {
+        let call = calls.take(run.setup(), place, &entry);
+        if place == last {
+            let call = call.ok_or(Fault::Line)?;
+            put_entry(&pending(entry.worker, call.op), ask)?;
+            writeln!(ask.out, " at {} {}", call.first, call.round)?;
+            return Ok(());
+        }
+    }
+    Err(Fault::Line)
+}
+
+/// Reads a call at its point: `POINT FIRST ROUND LAST W ACT = REPLY`.
+fn placed_of(ask: &mut Ask<'_>) -> Result<Placed, Fault> {
+    let (point, first, round, last) = (ask.size()?, ask.size()?, ask.size()?, ask.size()?);
+    let (worker, op) = (worker(ask)?, act(ask)?);
+    if ask.word() != "=" {
+        return Err(Fault::Line);
+    }
+    let call = Call {
+        worker,
+        op,
+        reply: reply(ask)?,
+        first,
+        round,
+        last,
+    };
+    Ok(Placed { call, point })
+}
+
+/// Writes the verdict on calls, and has none then.
+fn judge(
+    alloc: Global,
+    run: &Run,
+    judged: &mut Vec<Placed>,
+    ask: &mut Ask<'_>,
+) -> Result<(), Fault> {
+    let verdict = verify(alloc, run, judged.as_slice())?;
+    judged.clear();
+    writeln!(ask.out, "{verdict:?}")
+}
+
+/// Answers what is asked of the calls of a run. `placed` adds a call to those that `judge` judges.
+pub fn answer_order(
+    alloc: Global,
+    run: &Run,
+    judged: &mut Vec<Placed>,
+    ask: &mut Ask<'_>,
+) -> Result<(), Fault> {
+    match ask.verb {
+        "order" => answer_the_order(alloc, run, ask),
+        "calls" => answer_calls(alloc, run, ask),
+        "so-far" => answer_so_far(run, ask),
+        "verify" => judge(alloc, run, &mut order(alloc, run)?, ask),
+        "judge" => judge(alloc, run, judged, ask),
+        _ => {
+            judged.push(placed_of(ask)?)?;
+            Ok(())
+        }
+    }
+}

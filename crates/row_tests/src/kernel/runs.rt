@@ -1,0 +1,63 @@
+//! What a run is asked.
+ghost use Rattle.std.specs.Prelude.{All, IsTrue};
+ghost use Rattle.ec_core.specs.Silence.{IsSilent};
+
+use crate::fault::Fault;
+use crate::kernel::ask::{Ask, worker};
+use crate::kernel::worlds::tell_world;
+use crate::kernel::writing::tell_entry;
+use crate::line::tell;
+use ec_core::Run;
+use ec_count::WorkerId;
+
+/// Whether two runs have the same entries, also by their places.
+pub fn is_same(run: &Run, other: &Run) -> bool {
+    for (place, entry) in run.entries().enumerate() {
+        if other.entry(place) != Some(entry) {
+            return false;
+        }
+    }
+    run.len() == other.len()
+}
+
+/// Whether each of these workers is silent.
+pub fn are_silent(run: &Run, workers: &[WorkerId]) -> bool
+    ensures { IsTrue result → All (λ w. IsSilent run.now.setup run.now.entries w) workers.now }
+{
+    for worker in workers {
+        if !run.is_silent(*worker) {
+            return false;
+        }
+    }
+    true
+}
+
+/// Writes all entries.
+fn tell_entries(run: &Run, ask: &mut Ask<'_>) -> Result<(), Fault> {
+    for entry in run.entries() {
+        tell_entry(Some(entry), ask)?;
+    }
+    Ok(())
+}
+
+/// Answers what is asked of a run, if the line asks that.
+pub fn answer_look(run: &Run, ask: &mut Ask<'_>) -> Result<(), Fault> {
+    match ask.verb {
+        "length" => tell(run.len(), ask.out),
+        "count" => tell(run.entries().count(), ask.out),
+        "entries" => tell_entries(run, ask),
+        "entry" => tell_entry(run.entry(ask.size()?), ask),
+        "silent" => tell(run.is_silent(worker(ask)?), ask.out),
+        _ => Err(Fault::Line),
+    }
+}
+
+/// Writes what a run is asked: how long it is, its last entry, what stands behind that, and its
+/// world.
+pub fn tell_run(run: &Run, ask: &mut Ask<'_>) -> Result<(), Fault> {
+    let many = run.len();
+    tell(many, ask.out)?;
+    tell_entry(run.entry(many.saturating_sub(1)), ask)?;
+    tell_entry(run.entry(many), ask)?;
+    tell_world(run.world(), ask)
+}

@@ -1,0 +1,70 @@
+//! Lines: their words, and where they are answered.
+use crate::fault::Fault;
+use crate::output::Output;
+use std::fmt::Display;
+use std::str::SplitWhitespace;
+
+/// The words of a line that are left.
+pub type Words<'a> = SplitWhitespace<'a>;
+
+/// Takes the next word, or the empty one where there is none.
+pub fn word<'a>(words: &mut Words<'a>) -> &'a str {
+    words.next().unwrap_or("")
+}
+
+/// Reads the next word as a number.
+pub fn number(words: &mut Words<'_>) -> Result<u64, Fault> {
+    word(words).parse().ok().ok_or(Fault::Line)
+}
+
+/// A line: what it is about, its first word, the words behind it that are left, and where its answer
+/// is written.
+#[derive(Drop)]
+pub struct Line<'a, C> {
+    pub about: C,
+    pub verb: &'a str,
+    pub words: Words<'a>,
+    pub out: &'a mut Output,
+}
+
+impl<'a, C: Drop> Line<'a, C> {
+    /// Takes the first word of a line.
+    pub fn new(about: C, line: &'a str, out: &'a mut Output) -> Self {
+        let mut words = line.split_whitespace();
+        let verb = word(&mut words);
+        Line {
+            about,
+            verb,
+            words,
+            out,
+        }
+    }
+
+    /// Takes the next word, or the empty one.
+    pub fn word(&mut self) -> &'a str {
+        word(&mut self.words)
+    }
+
+    /// Reads a number.
+    pub fn number(&mut self) -> Result<u64, Fault> {
+        number(&mut self.words)
+    }
+
+    /// Reads a size.
+    pub fn size(&mut self) -> Result<usize, Fault> {
+        self.word().parse().ok().ok_or(Fault::Line)
+    }
+}
+
+/// Writes a line.
+pub fn tell<T: Display + Drop>(text: T, out: &mut Output) -> Result<(), Fault> {
+    writeln!(out, "{text}")
+}
+
+/// Writes a line of what was found, or `-`.
+pub fn tell_if<T: Display + Drop>(found: Option<T>, out: &mut Output) -> Result<(), Fault> {
+    match found {
+        Some(found) => tell(found, out),
+        None => tell("-", out),
+    }
+}

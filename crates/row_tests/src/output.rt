@@ -1,0 +1,53 @@
+//! Where answers are written.
+use crate::fault::Fault;
+use std::alloc::{AllocFailed, Global};
+use std::fmt::Display;
+use std::io;
+use std::io::{BufWriter, Stdout, Write};
+
+/// Standard output, or a sum of the bytes, in their order.
+#[derive(Drop)]
+pub enum Output {
+    Text(BufWriter<Stdout>),
+    Sum(u64),
+}
+
+impl Write for Output {
+    fn write(&mut self, buf: &[u8]) -> io::Result<usize> {
+        match self {
+            Output::Text(out) => out.write(buf),
+            Output::Sum(sum) => {
+                for byte in buf {
+                    let mixed = *sum ^ *byte as u64;
+                    *sum = mixed.wrapping_mul(1_099_511_628_211).rotate_left(7);
+                }
+                Ok(buf.len())
+            }
+        }
+    }
+
+    fn flush(&mut self) -> io::Result<()> {
+        match self {
+            Output::Text(out) => out.flush(),
+            Output::Sum(_) => Ok(()),
+        }
+    }
+}
+
+impl Output {
+    /// Writes a text. The macros of formatted texts call it.
+    pub fn write_fmt<T: Display + Drop>(&mut self, text: T) -> Result<(), Fault> {
+        match Write::write_fmt(self, text) {
+            Ok(()) => Ok(()),
+            Err(error) => Err(Fault::from(error)),
+        }
+    }
+
+    /// Writes bytes.
+    pub fn put(&mut self, bytes: &[u8]) -> Result<(), Fault> {
+        match self.write_all(bytes) {
+            Ok(()) => Ok(()),
+            Err(error) => Err(Fault::from(error)),
+        }
+    }
+}

@@ -1,0 +1,121 @@
+//! Declarations, names, words, lists of numbers and texts. Workers and objects are numbers here, so
+//! that a list of workers can name any.
+mod line;
+mod naming;
+mod numbers;
+mod setups;
+mod shapes;
+mod texts;
+mod values;
+
+use crate::driver::Driver;
+use crate::fault::Fault;
+use crate::line::tell;
+use crate::output::Output;
+use crate::setup::line::Line;
+use crate::setup::naming::{Naming, cut};
+use crate::setup::numbers::Numbers;
+use crate::setup::setups::{answer_setup, declare, declares};
+use crate::setup::shapes::Shapes;
+use crate::setup::texts::Texts;
+use crate::setup::values::Values;
+use ec_count::{Limit, Setup};
+use std::alloc::Global;
+
+/// Declarations, with a copy that was kept, the last groups, and names, words, values,
+/// numbers and texts.
+#[derive(Drop)]
+pub struct Table {
+    setup: Setup,
+    kept: Setup,
+    shapes: Shapes,
+    naming: Naming,
+    values: Values,
+    numbers: Numbers,
+    texts: Texts,
+}
+
+impl Table {
+    /// Begins with no declarations under a limit.
+    fn begin(&mut self, line: &mut Line<'_>) -> Result<(), Fault> {
+        let Some(limit) = Limit::new(line.number()?) else {
+            return tell("-", line.out);
+        };
+        self.setup = Setup::new(limit);
+        tell(self.setup.limit().get(), line.out)
+    }
+
+    /// Answers a line with a text in brackets.
+    fn answer_brackets(&mut self, text: &str, out: &mut Output) -> Result<(), Fault> {
+        let (verb, text, behind) = cut(text).ok_or(Fault::Line)?;
+        let line = &mut Line {
+            about: (),
+            verb,
+            words: behind.split_whitespace(),
+            out,
+        };
+        if self.naming.take(text, line)? {
+            return Ok(());
+        }
+        self.texts.take(text, line)
+    }
+
+    /// Answers a line without one.
+    fn answer_line(&mut self, line: &mut Line<'_>) -> Result<(), Fault> {
+        let is_answered = declare(&mut self.setup, line)?
+            || self.shapes.declare(&mut self.setup, line)?
+            || self.answer_declarations(line)?
+            || self.values.answer(line)?
+            || self.numbers.answer(line)?
+            || self.texts.answer(line)?
+            || self.naming.answer(line)?;
+        if is_answered {
+            return Ok(());
+        }
+        answer_setup(&self.setup, line)
+    }
+
+    /// Answers a line about declarations or groups, if it is one.
+    fn answer_declarations(&mut self, line: &mut Line<'_>) -> Result<bool, Fault> {
+        match line.verb {
+            "limit" => self.begin(line)?,
+            "keep" => self.kept = self.setup.copy(),
+            "is-kept" => tell(self.setup == self.kept, line.out)?,
+            "declares" => tell(declares(&self.setup, line)?, line.out)?,
+            "fits" => tell(self.shapes.fits(&self.setup, line.word())?, line.out)?,
+            "group" => self.shapes.write(line.word(), line.out)?,
+            _ => return Ok(false),
+        }
+        Ok(true)
+    }
+}
+
+impl Driver for Table {
+    fn answer(&mut self, _alloc: Global, text: &str, out: &mut Output) -> Result<(), Fault> {
+        if text.contains('<') {
+            return self.answer_brackets(text, out);
+        }
+        self.answer_line(&mut Line::new((), text, out))
+    }
+
+    fn write_all(&self, out: &mut Output) -> Result<(), Fault> {
+        self.naming.tell(out)?;
+        self.numbers.tell(out)
+    }
+}
+
+impl Table {
+    /// Has nothing yet.
+    pub fn new(alloc: Global) -> Result<Self, Fault> {
+        let (naming, limit) = (Naming::new(alloc)?, Limit::new(10).unwrap());
+        Ok(Table {
+            setup: Setup::new(limit),
+            kept: Setup::new(limit),
+            shapes: Shapes::default(),
+            naming,
+            values: Values::default(),
+            numbers: Numbers::new(alloc),
+            texts: Texts::new(alloc),
+        })
+    }
+}

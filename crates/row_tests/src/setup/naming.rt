@@ -1,0 +1,127 @@
+//! Names and words, and what they stand for. A name or a word stands in angle brackets.
+use crate::fault::Fault;
+use crate::line::{tell, tell_if};
+use crate::output::Output;
+use crate::setup::line::{Line, cell, event, worker};
+use crate::writing::{write_found, write_name, write_word};
+use ec_count::{NameFault, Names, Target, Vocabulary, WORD_MAX};
+use std::alloc::Global;
+
+/// Names, and words.
+#[derive(Drop)]
+pub struct Naming {
+    names: Names,
+    words: Vocabulary,
+}
+
+/// As many bytes as the longest word that is looked for.
+static LONG: [u8; 300] = [b'x'; 300];
+
+/// So many bytes of the longest word.
+fn long(many: usize) -> Result<&'static [u8], Fault> {
+    LONG.as_slice().get(..many).ok_or(Fault::Line)
+}
+
+/// Reads what a name or a word stands for.
+fn target(line: &mut Line<'_>) -> Result<Target, Fault> {
+    match line.word() {
+        "worker" => Ok(Target::Worker(worker(line)?)),
+        "eventcount" => Ok(Target::Event(event(line)?)),
+        "cells" => Ok(Target::Cells(cell(line)?, line.size()?)),
+        "group" => Ok(Target::Group(line.size()?)),
+        _ => Err(Fault::Line),
+    }
+}
+
+/// Cuts a line into what stands before its angle brackets, in them, and behind them.
+pub fn cut(line: &str) -> Option<(&str, &str, &str)> {
+    let (before, rest) = line.split_once('<')?;
+    let (text, behind) = rest.rsplit_once('>')?;
+    Some((before, text, behind))
+}
+
+/// Adds a word that is not there yet.
+fn add_word(words: &mut Vocabulary, word: &[u8], target: Target) -> Result<(), Fault> {
+    if word.len() > WORD_MAX || words.find(word).is_some() {
+        return Err(Fault::Line);
+    }
+    words.add(word, target)?;
+    Ok(())
+}
+
+impl Naming {
+    /// Has no name and no word.
+    pub fn new(alloc: Global) -> Result<Self, Fault> {
+        Ok(Naming {
+            names: Names::new(alloc)?,
+            words: Vocabulary::new(alloc)?,
+        })
+    }
+
+    /// Adds a name, or writes why not.
+    fn add_name(&mut self, name: &str, line: &mut Line<'_>) -> Result<(), Fault> {
+        match self.names.add(name, target(line)?) {
+            Ok(()) => Ok(()),
+            Err(NameFault::Memory) => Err(Fault::Memory),
+            Err(fault) => tell(fault, line.out),
+        }
+    }
+
+    /// Answers a line with a name or a word in brackets, if it is one.
+    pub fn take(&mut self, text: &str, line: &mut Line<'_>) -> Result<bool, Fault> {
+        match line.verb {
+            "name " => self.add_name(text, line)?,
+            "find " => write_found(self.names.find(text), line.out)?,
+            "word " => add_word(&mut self.words, text.as_bytes(), target(line)?)?,
+            "look-up " => write_found(self.words.find(text.as_bytes()), line.out)?,
+            _ => return Ok(false),
+        }
+        Ok(true)
+    }
+
+    /// Answers a line with a place or a length.
+    fn answer_place(&mut self, line: &mut Line<'_>) -> Result<(), Fault> {
+        let n = line.size()?;
+        match line.verb {
+            "name-at" => write_name(&self.names, n, line.out),
+            "word-at" => write_word(&self.words, n, line.out),
+            "long-word" => add_word(&mut self.words, long(n)?, Target::Group(n)),
+            "look-up-long" => write_found(self.words.find(long(n)?), line.out),
+            _ => {
+                self.words.truncate(n);
+                Ok(())
+            }
+        }
+    }
+
+    /// Answers another line about names or words, if it is one.
+    pub fn answer(&mut self, line: &mut Line<'_>) -> Result<bool, Fault> {
+        match line.verb {
+            "named" => tell_if(self.names.name_of(target(line)?), line.out)?,
+            "names" => tell(self.names.len(), line.out)?,
+            "words" => tell(self.words.len(), line.out)?,
+            "name-at" | "word-at" | "long-word" | "look-up-long" | "truncate" => {
+                self.answer_place(line)?;
+            }
+            _ => return Ok(false),
+        }
+        Ok(true)
+    }
+
+    /// Writes the names and the words, and whether each is found.
+    pub fn tell(&self, out: &mut Output) -> Result<(), Fault> {
+        for place in 0..self.names.len() {
+            write_name(&self.names, place, out)?;
+            if let Some((name, target)) = self.names.at(place) {
+                tell(self.names.find(name) == Some(target), out)?;
+            }
+        }
+        for place in 0..self.words.len() {
+            write_word(&self.words, place, out)?;
+            if let Some((word, target)) = self.words.at(place) {
+                tell(self.words.find(word) == Some(target), out)?;
+            }
+        }
+        Ok(())
+    }
+}

@@ -1,0 +1,45 @@
+//! Runs scripts, each worker on a thread that a gate holds up, for rows of `tests/rows`.
+//!
+//! The lines are a script, a line `gate`, and lines `hold ..` and `run ..`, as `gate.rt` and
+//! `running.rt` have them.
+mod gate;
+mod running;
+
+use crate::fault::Fault;
+use crate::line::word;
+use crate::output::Output;
+use crate::workers::gate::rule_of;
+use crate::workers::running::run;
+use ec_script::{ScriptFault, parse};
+use std::alloc::Global;
+use std::sync::Wait;
+use std::thread::Threads;
+
+/// Answers a script and the lines behind it, or writes what is wrong with the script.
+pub fn answer_script<R: Threads + Wait + Sync>(
+    rt: &R,
+    alloc: Global,
+    text: &str,
+    out: &mut Output,
+) -> Result<(), Fault> {
+    let (script, lines) = text.split_once("gate\n").ok_or(Fault::Line)?;
+    let plan = match parse(alloc, script.as_bytes()) {
+        Ok(plan) => plan,
+        Err(ScriptFault::Memory) => return Err(Fault::Memory),
+        Err(ScriptFault::At { line, kind }) => {
+            let fault = ScriptFault::At { line, kind };
+            writeln!(out, "{fault}, {} {}", kind.number(), kind.name())?;
+            return Ok(());
+        }
+    };
+    let mut rules = Vec::new(alloc);
+    for line in lines.lines() {
+        let mut words = line.split_whitespace();
+        match word(&mut words) {
+            "hold" => rules.push(rule_of(&plan.heading, &mut words)?)?,
+            "run" => run(rt, alloc, &plan, rules.as_slice(), &mut words, out)?,
+            _ => return Err(Fault::Line),
+        }
+    }
+    Ok(())
+}
