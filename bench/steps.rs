@@ -1,4 +1,4 @@
-//! The loop of `crates/bench_steps` in plain Rust, over the same tables and with the same checks, as a yardstick:
+//! The loop of `crates/bench_steps` in plain Rust, over the same tables and with the same checks, as a baseline:
 //! `steps world N` and `steps run N` print what `bench_steps` prints. Compiled by `rustc -O`.
 
 mod world;

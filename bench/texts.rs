@@ -1,4 +1,4 @@
-//! A yardstick for `evc check`, `evc audit` and `evc upgrade`: the same texts, notes and statuses in plain Rust, by one pass
+//! A baseline for `evc check`, `evc audit` and `evc upgrade`: the same texts, notes and statuses in plain Rust, by one pass
 //! over the trace. It is written for speed, and from the formats alone (docs/REFERENCE.md), so that it is a second opinion too.
 //!
 //! A trace goes past once. Words are found in small tables by their bytes, eight at a time, and each entry is judged by a world

@@ -1,5 +1,5 @@
 //! What `evc run` does with workers that advance one eventcount or pass a turn round, in plain Rust under std's Mutex, with a
-//! Condvar of std's for each worker, as a yardstick.
+//! Condvar of std's for each worker, as a baseline.
 //!
 //! `threads KIND WORKERS TIMES` gives each of so many workers a program that does so often what its kind says (`Kind`), and runs
 //! each on a thread of its own. In one hold of the lock a worker makes the step that its program asks for, with all checks of a

@@ -374,7 +374,7 @@ def all_groups_kernel():
     return kernel
 
 
-# Traces for the yardstick in plain Rust (texts.rs): each with much of one sort of line, and one with all sorts.
+# Traces for the baseline in plain Rust (texts.rs): each with much of one sort of line, and one with all sorts.
 
 
 def sixteen():

@@ -1,7 +1,7 @@
 //! A kernel's steps in plain Rust, over the same tables and with the same checks as those of `World` and `Run` in
-//! `crates/ec_core`, for the yardsticks beside it.
+//! `crates/ec_core`, for the baselines beside it.
 
-#![allow(dead_code)] // each yardstick uses a part
+#![allow(dead_code)] // each baseline uses a part
 
 pub const VALUE_MAX: u64 = 999_999_999_999_999_999;
 pub const LIMIT: u64 = 4_294_967_295;
