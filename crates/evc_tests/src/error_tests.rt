@@ -27,16 +27,13 @@ fn errors_that_no_row_shows(rt: HostRuntime) -> Result<(), Fail> {
     let full = "the step is refused: the count is at its limit";
     let line = "line 8: refused: the count is at its limit";
     let ended = "place 3 of the schedule names a worker that has ended";
+    let lists = "entry 10 breaks the call lists of its worker";
     let broken = AuditFault::NotFollowed { worker, entry };
     says(alloc, &StepFault::Refused(Refusal::Busy), busy)?;
     says(alloc, &BoardFault::Refused(Refusal::AtLimit), full)?;
     says(alloc, &TraceFault::Refused(8, Refusal::AtLimit), line)?;
     says(alloc, &SimFault::Ended { place, worker }, ended)?;
-    says(
-        alloc,
-        &broken,
-        "entry 10 breaks the call lists of its worker",
-    )?;
+    says(alloc, &broken, lists)?;
     says(alloc, &OrderFault::Memory, "memory was refused")?;
     says(alloc, &WriteFault, "a write failed")
 }

@@ -1,6 +1,4 @@
-//! Tests of what no row of tests/rows can make: the examples that pages show, the note of a mismatch,
-//! what is put after a failed write, the texts of errors, small types, command lines of millions of
-//! words, and commands called on bytes in memory.
+//! Tests of what no row of tests/rows can say, among them the examples that pages show.
 #![tactic(auto)]
 
 #[cfg(test)]

@@ -1,6 +1,5 @@
 //! Where answers are written.
 use crate::fault::Fault;
-use std::alloc::{AllocFailed, Global};
 use std::fmt::Display;
 use std::io;
 use std::io::{BufWriter, Stdout, Write};
@@ -37,17 +36,11 @@ impl Write for Output {
 impl Output {
     /// Writes a text. The macros of formatted texts call it.
     pub fn write_fmt<T: Display + Drop>(&mut self, text: T) -> Result<(), Fault> {
-        match Write::write_fmt(self, text) {
-            Ok(()) => Ok(()),
-            Err(error) => Err(Fault::from(error)),
-        }
+        Ok(Write::write_fmt(self, text)?)
     }
 
     /// Writes bytes.
     pub fn put(&mut self, bytes: &[u8]) -> Result<(), Fault> {
-        match self.write_all(bytes) {
-            Ok(()) => Ok(()),
-            Err(error) => Err(Fault::from(error)),
-        }
+        Ok(self.write_all(bytes)?)
     }
 }

@@ -1,11 +1,12 @@
 //! The audits of buffers, databases and semaphores.
 use crate::fault::Fault;
 use crate::kernel::ask::{Ask, buffer, database, semaphore, semaphore_of};
-use crate::kernel::writing::{put_sequencer, put_worker};
+use crate::kernel::writing::{put_object, put_worker};
 use ec_buffer::{Delivery, deliveries};
 use ec_core::{AuditFault, Run};
+use ec_count::Target;
 use ec_database::{Accepted, versions};
-use ec_semaphore::{Balance, Pair, SemaphoreShape, balance, pairs};
+use ec_semaphore::{Pair, SemaphoreShape, balance, pairs};
 use std::alloc::Global;
 
 /// Writes whose entry is the first that breaks the lists.
@@ -45,19 +46,14 @@ fn tell_versions(found: &[Accepted], ask: &mut Ask<'_>) -> Result<(), Fault> {
     Ok(())
 }
 
-/// Writes a balance: initial value, downs and ups.
-fn tell_balance(found: &Balance, ask: &mut Ask<'_>) -> Result<(), Fault> {
-    writeln!(ask.out, "{} {} {}", found.initial, found.downs, found.ups)
-}
-
 /// Writes pairs of tickets: worker, and each sequencer with its ticket.
 fn tell_pairs(found: &[Pair], ask: &mut Ask<'_>) -> Result<(), Fault> {
     for pair in found {
         put_worker(pair.worker, ask)?;
         write!(ask.out, " ")?;
-        put_sequencer(pair.first, ask)?;
+        put_object(Target::Sequencer(pair.first), ask)?;
         write!(ask.out, " {} ", pair.first_ticket)?;
-        put_sequencer(pair.second, ask)?;
+        put_object(Target::Sequencer(pair.second), ask)?;
         writeln!(ask.out, " {}", pair.second_ticket)?;
     }
     Ok(())
@@ -84,7 +80,8 @@ pub fn answer_group(alloc: Global, run: &Run, ask: &mut Ask<'_>) -> Result<(), F
             Err(fault) => tell_break(fault, ask),
         },
         "balance" => match balance(run, &semaphore(ask)?) {
-            Ok(found) => tell_balance(&found, ask),
+            // initial value, downs and ups
+            Ok(it) => writeln!(ask.out, "{} {} {}", it.initial, it.downs, it.ups),
             Err(fault) => tell_break(fault, ask),
         },
         "pairs" => {

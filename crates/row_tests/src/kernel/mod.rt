@@ -1,6 +1,5 @@
-//! The kernel that is driven: a heading, and then a world, a run or a board on what it declares.
-//!
-//! Each line is a line of a heading, a step of a worker, or another call.
+//! A heading, and then a world, a run or a board on what it declares. Each line is a line of a
+//! heading, a step of a worker, or another call.
 mod ask;
 mod boards;
 mod groups;

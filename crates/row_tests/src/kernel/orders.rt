@@ -53,8 +53,7 @@ fn tell_call(call: &Call, ask: &mut Ask<'_>) -> Result<(), Fault> {
     writeln!(ask.out, " at {} {} {}", call.first, call.round, call.last)
 }
 
-/// Returns the part of a list that is asked for: the one at a place, or all of it. Where it is asked
-/// how many there are, that is written, and the part is empty.
+/// Returns what is asked for of a list: one, or all. If its size is asked, writes that alone.
 fn part_of<'a, T>(list: &'a [T], ask: &mut Ask<'_>) -> Result<&'a [T], Fault> {
     match ask.word() {
         "" => Ok(list),
@@ -76,10 +75,7 @@ fn answer_the_order(alloc: Global, run: &Run, ask: &mut Ask<'_>) -> Result<(), F
     let placed = order(alloc, run)?;
     let placed = placed.as_slice();
     if !comes_in_order(alloc, run, placed)? || !is_timed(alloc, run, placed)? {
-        tell(
-            "another order, one call after another or by the timeline",
-            ask.out,
-        )?;
+        tell("another order, call by call or by the timeline", ask.out)?;
     }
     for one in part_of(placed, ask)? {
         tell_placed(one, ask)?;
@@ -130,19 +126,25 @@ fn placed_of(ask: &mut Ask<'_>) -> Result<Placed, Fault> {
     Ok(Placed { call, point })
 }
 
-/// Writes the verdict on calls, and has none then.
-fn judge(
-    alloc: Global,
-    run: &Run,
-    judged: &mut Vec<Placed>,
-    ask: &mut Ask<'_>,
-) -> Result<(), Fault> {
-    let verdict = verify(alloc, run, judged.as_slice())?;
-    judged.clear();
+/// Writes the verdict on calls.
+fn judge(alloc: Global, run: &Run, placed: &[Placed], ask: &mut Ask<'_>) -> Result<(), Fault> {
+    let verdict = verify(alloc, run, placed)?;
     writeln!(ask.out, "{verdict:?}")
 }
 
-/// Answers what is asked of the calls of a run. `placed` adds a call to those that `judge` judges.
+/// Writes the verdict on the order that a run gives.
+fn judge_own(alloc: Global, run: &Run, ask: &mut Ask<'_>) -> Result<(), Fault> {
+    let placed = order(alloc, run)?;
+    judge(alloc, run, placed.as_slice(), ask)
+}
+
+/// Adds a call to those that `judge` judges.
+fn add(judged: &mut Vec<Placed>, ask: &mut Ask<'_>) -> Result<(), Fault> {
+    judged.push(placed_of(ask)?)?;
+    Ok(())
+}
+
+/// Answers what is asked of the calls of a run. After `judge` none are there to be judged.
 pub fn answer_order(
     alloc: Global,
     run: &Run,
@@ -153,11 +155,12 @@ pub fn answer_order(
         "order" => answer_the_order(alloc, run, ask),
         "calls" => answer_calls(alloc, run, ask),
         "so-far" => answer_so_far(run, ask),
-        "verify" => judge(alloc, run, &mut order(alloc, run)?, ask),
-        "judge" => judge(alloc, run, judged, ask),
-        _ => {
-            judged.push(placed_of(ask)?)?;
+        "verify" => judge_own(alloc, run, ask),
+        "judge" => {
+            judge(alloc, run, judged.as_slice(), ask)?;
+            judged.clear();
             Ok(())
         }
+        _ => add(judged, ask),
     }
 }

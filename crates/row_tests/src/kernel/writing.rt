@@ -3,10 +3,10 @@ use crate::fault::Fault;
 use crate::kernel::ask::Ask;
 use crate::line::tell;
 use ec_core::{Act, Entry, Reply};
-use ec_count::{SeqId, Target, WorkerId};
+use ec_count::{Target, WorkerId};
 
 /// Writes the word of a worker or an object.
-fn put_object(object: Target, ask: &mut Ask<'_>) -> Result<(), Fault> {
+pub fn put_object(object: Target, ask: &mut Ask<'_>) -> Result<(), Fault> {
     let words = ask.about.words();
     for place in 0..words.len() {
         if let Some((word, found)) = words.at(place) {
@@ -22,11 +22,6 @@ fn put_object(object: Target, ask: &mut Ask<'_>) -> Result<(), Fault> {
 /// Writes a worker.
 pub fn put_worker(worker: WorkerId, ask: &mut Ask<'_>) -> Result<(), Fault> {
     put_object(Target::Worker(worker), ask)
-}
-
-/// Writes a sequencer.
-pub fn put_sequencer(line: SeqId, ask: &mut Ask<'_>) -> Result<(), Fault> {
-    put_object(Target::Sequencer(line), ask)
 }
 
 /// Writes an entry.

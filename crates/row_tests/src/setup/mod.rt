@@ -22,8 +22,7 @@ use crate::setup::values::Values;
 use ec_count::{Limit, Setup};
 use std::alloc::Global;
 
-/// Declarations, with a copy that was kept, the last groups, and names, words, values,
-/// numbers and texts.
+/// Declarations, a copy of them, the last groups, names, words, values, numbers and texts.
 #[derive(Drop)]
 pub struct Table {
     setup: Setup,
