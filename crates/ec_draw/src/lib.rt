@@ -4,6 +4,7 @@
 
 mod arrow;
 mod balance;
+mod chosen;
 mod curve;
 mod dot;
 mod finding;
@@ -15,6 +16,7 @@ mod shade;
 mod window;
 
 pub use arrow::Arrow;
+pub use chosen::{Chosen, Names};
 pub use curve::{Counted, Curve, Plotted, curve_of, curves};
 pub use dot::{Dot, dots};
 pub use finding::{Findings, findings_of};
