@@ -3,10 +3,10 @@ use Rattle.std.proofs.Common.{◌≡◌, ℕ, zero, suc, ◌+◌, ◌<◌, true,
 use Rattle.std.specs.List.{filter}
 use Rattle.ec_count.specs.declared.target.Target.{Target}
 use Rattle.ec_heading.specs.Spelling.{Named}
-use Rattle.ec_draw.specs.declared.chosen.Names.{Names}
+use Rattle.ec_draw.specs.declared.chosen.Choice.{Choice}
 use Rattle.ec_draw.specs.Chosen.{is_drawn, chosen_targets}
 
-drawn_more : (v : Names) (ws : Named) (n : ℕ) (e : List ℕ × Target) → slice_get ws n ≡ Some e → chosen_targets v (take (suc n) ws) ≡ chosen_targets v (take n ws) ++ chosen_targets v (e ∷ [])
+drawn_more : (v : Choice) (ws : Named) (n : ℕ) (e : List ℕ × Target) → slice_get ws n ≡ Some e → chosen_targets v (take (suc n) ws) ≡ chosen_targets v (take n ws) ++ chosen_targets v (e ∷ [])
 drawn_more v [] n e at = cc
 drawn_more v (x ∷ ws) zero e at = (let same : x ≡ e = cc in ap (λ y. chosen_targets v (y ∷ [])) same)
 drawn_more v (x ∷ ws) (suc n) e at =
@@ -18,11 +18,11 @@ drawn_more v (x ∷ ws) (suc n) e at =
     ]
 
 -- those of one word more
-pub drawn_next : (v : Names) (ws : Named) (n : ℕ) (e : List ℕ × Target) → slice_get ws n ≡ Some e → chosen_targets v (take (n + 1) ws) ≡ chosen_targets v (take n ws) ++ chosen_targets v (e ∷ [])
+pub drawn_next : (v : Choice) (ws : Named) (n : ℕ) (e : List ℕ × Target) → slice_get ws n ≡ Some e → chosen_targets v (take (n + 1) ws) ≡ chosen_targets v (take n ws) ++ chosen_targets v (e ∷ [])
 drawn_next v ws n e at = ap (λ m. chosen_targets v (take m ws)) (add-one n) ∙ drawn_more v ws n e at
 
 -- and of no word
-pub none_drawn : (v : Names) (ws : Named) → [] ≡ chosen_targets v (take 0 ws)
+pub none_drawn : (v : Choice) (ws : Named) → [] ≡ chosen_targets v (take 0 ws)
 none_drawn v [] = refl
 none_drawn v (w ∷ ws) = refl
 

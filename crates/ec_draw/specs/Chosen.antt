@@ -12,13 +12,10 @@ use Rattle.ec_draw.specs.declared.curve.Plotted.{Plotted}
 use Rattle.ec_draw.specs.declared.curve.Plotted.TheVariants as plotted
 use Rattle.ec_draw.specs.declared.curve.Counted.TheVariants as counted
 use Rattle.ec_draw.specs.declared.arrow.Arrow.{Arrow}
-use Rattle.ec_draw.specs.declared.chosen.Names.{Names}
+use Rattle.ec_draw.specs.declared.chosen.Choice.{Choice}
 use Rattle.ec_draw.specs.Shades.{Shaded}
 
 -- CHOSEN NAMES
-
-abbrev pub texts_of : List (Bor (List ℕ)) → List (List ℕ)
-texts_of = map (λ name. name.now)
 
 -- nothing follows the name, or what an object of the group is called
 abbrev pub ends_name : Option ℕ → Bool
@@ -30,23 +27,23 @@ abbrev pub stands_for : List ℕ → List ℕ → Bool
 stands_for word name = starts_with (λ a b. a == b) word name && ends_name (slice_get word (length name))
 
 -- whether a word is chosen: some name stands for it; where there is no name all are
-abbrev pub is_chosen : List (List ℕ) → List ℕ → Bool
-is_chosen names word = (length names == 0) || list_any (stands_for word) names
+abbrev pub is_chosen : List (Bor (List ℕ)) → List ℕ → Bool
+is_chosen names word = (length names == 0) || list_any (λ name. stands_for word name.now) names
 
 -- the names that speak of a target
-abbrev pub names_for : Names → Target → List (List ℕ)
-names_for n (Worker w) = texts_of n.workers.now
-names_for n (Event e) = texts_of n.objects.now
-names_for n (Sequencer q) = texts_of n.objects.now
-names_for n (Cells x k) = texts_of n.objects.now
-names_for n (Group g) = texts_of n.objects.now
+abbrev pub names_for : Choice → Target → List (Bor (List ℕ))
+names_for n (Worker w) = n.workers.now
+names_for n (Event e) = n.objects.now
+names_for n (Sequencer q) = n.objects.now
+names_for n (Cells x k) = n.objects.now
+names_for n (Group g) = n.objects.now
 
 -- whether what a word stands for is drawn
-abbrev pub is_drawn : Names → List ℕ × Target → Bool
+abbrev pub is_drawn : Choice → List ℕ × Target → Bool
 is_drawn n e = is_chosen (names_for n e.1) e.0
 
 -- what is drawn of all that the words of a heading stand for
-abbrev pub chosen_targets : Names → Named → List Target
+abbrev pub chosen_targets : Choice → Named → List Target
 chosen_targets n words = map (λ (e : List ℕ × Target). e.1) (filter (is_drawn n) words)
 
 -- WHAT IS DRAWN WHERE THESE ARE CHOSEN

@@ -1,8 +1,8 @@
 //! Which workers and objects are drawn.
-ghost use Rattle.std.specs.Prelude.{◌≡◌, ◌≤◌, ◌++◌, ◌∷◌, [], IfOk, OnOk, map};
+ghost use Rattle.std.specs.Prelude.{◌≡◌, ◌≤◌, ◌++◌, ◌∷◌, [], IfOk, OnOk};
 ghost use Rattle.std.specs.List.{list_any};
 ghost use Rattle.ec_heading.specs.Spelling.{cell_in};
-ghost use Rattle.ec_draw.specs.Chosen.{chosen_targets, draws, draws_arrow, draws_cell, draws_curve, draws_event, draws_object, draws_sequencer, draws_shade, draws_worker, is_chosen, is_drawn, is_named, stands_for, texts_of};
+ghost use Rattle.ec_draw.specs.Chosen.{chosen_targets, draws, draws_arrow, draws_cell, draws_curve, draws_event, draws_object, draws_sequencer, draws_shade, draws_worker, is_chosen, is_drawn, stands_for};
 ghost use Rattle.ec_draw.specs.Shades.{seen};
 
 use crate::{Arrow, Counted, Plotted, Shade};
@@ -13,7 +13,7 @@ use std::marker::Model;
 
 /// Names of workers and of objects that are to be drawn. Where there is none all are.
 #[derive(Clone, Copy, Debug)]
-pub struct Names<'a> {
+pub struct Choice<'a> {
     pub workers: &'a [&'a str],
     pub objects: &'a [&'a str],
 }
@@ -46,21 +46,35 @@ fn stands_for(word: &[u8], name: &[u8]) -> bool
     }
 }
 
+/// Whether a name stands for a word.
+fn is_named(word: &[u8], name: &str) -> bool
+    ensures { result ≡ stands_for word.now name.now }
+{
+    stands_for(word, name.as_bytes())
+}
+
+/// Whether some name stands for a word.
+fn any_named(names: &[&str], word: &[u8]) -> bool
+    ensures { result ≡ list_any (λ name. stands_for word.now name.now) names.now }
+{
+    names.iter().any(|name| is_named(word, name))
+}
+
 /// Whether a word is chosen by names; where there are none all are.
 fn is_chosen(names: &[&str], word: &[u8]) -> bool
-    ensures { result ≡ is_chosen (texts_of names.now) word.now }
+    ensures { result ≡ is_chosen names.now word.now }
 {
-    names.is_empty() || names.iter().any(|name| stands_for(word, name.as_bytes()))
+    names.is_empty() || any_named(names, word)
 }
 
 /// Whether what a word stands for is drawn.
-fn is_drawn(names: &Names<'_>, word: &[u8], target: &Target) -> bool
-    ensures { result ≡ is_drawn names.now (word.now, target.now) }
+fn is_drawn(choice: &Choice<'_>, word: &[u8], target: &Target) -> bool
+    ensures { result ≡ is_drawn choice.now (word.now, target.now) }
 {
     match *target {
-        Target::Worker(_) => is_chosen(names.workers, word),
+        Target::Worker(_) => is_chosen(choice.workers, word),
         Target::Event(_) | Target::Sequencer(_) | Target::Cells(_, _) | Target::Group(_) => {
-            is_chosen(names.objects, word)
+            is_chosen(choice.objects, word)
         }
     }
 }
@@ -68,13 +82,13 @@ fn is_drawn(names: &Names<'_>, word: &[u8], target: &Target) -> bool
 /// Adds what a word stands for, if that is drawn.
 fn add_drawn(
     targets: &mut Vec<Target>,
-    names: &Names<'_>,
+    choice: &Choice<'_>,
     word: &[u8],
     target: &Target,
 ) -> Result<(), AllocError>
-    ensures { OnOk result (targets.new.items ≡ targets.old.items ++ chosen_targets names.now ((word.now, target.now) ∷ [])) }
+    ensures { OnOk result (targets.new.items ≡ targets.old.items ++ chosen_targets choice.now ((word.now, target.now) ∷ [])) }
 {
-    if is_drawn(names, word, target) {
+    if is_drawn(choice, word, target) {
         targets.extend_from_slice(&[*target])?;
     }
     Ok(())
@@ -92,17 +106,13 @@ fn cell_in(cell: usize, target: &Target) -> bool
 
 impl Chosen {
     /// Returns what is drawn of all that the words of a heading stand for.
-    pub fn new(
-        alloc: Global,
-        names: &Names<'_>,
-        words: &Vocabulary,
-    ) -> Result<Chosen, AllocError>
-        ensures { IfOk result (λ c. c ≡ chosen_targets names.now words.now) }
+    pub fn new(alloc: Global, choice: &Choice<'_>, words: &Vocabulary) -> Result<Chosen, AllocError>
+        ensures { IfOk result (λ c. c ≡ chosen_targets choice.now words.now) }
     {
         let mut targets = Vec::new(alloc);
         for place in 0..words.len() {
             if let Some((word, target)) = words.at(place) {
-                add_drawn(&mut targets, names, word, &target)?;
+                add_drawn(&mut targets, choice, word, &target)?;
             }
         }
         Ok(Chosen { targets })

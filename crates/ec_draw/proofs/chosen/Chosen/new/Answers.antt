@@ -7,7 +7,7 @@ use Rattle.ec_draw.proofs.chosen.Chosen.new.Goals.{in-Some+in_ok-add_drawn, in_d
 
 pub loop-place-preserved : goal.loop-place-preserved
 loop-place-preserved c =
-    let v = c.args.names.now in
+    let v = c.args.choice.now in
     let ws = c.args.words.now in
     let n = c.loop-place.place in
     elim c.match-at.branch [

@@ -4,4 +4,4 @@ use Rattle.ec_draw.proofs.chosen.Chosen.new.Given as goal
 
 -- what is drawn of the words so far
 abbrev pub invariant-loop-place : goal.invariant-loop-place
-invariant-loop-place l = l.targets.items ≡ chosen_targets l.names (take l.place l.words)
+invariant-loop-place l = l.targets.items ≡ chosen_targets l.choice (take l.place l.words)
