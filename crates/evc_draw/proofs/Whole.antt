@@ -41,9 +41,9 @@ wrote_all old new bytes is = (bytes, is)
 pub wrote_prefix : (old new : Option (List ℕ)) (bytes : List ℕ) → AppendsPrefix old new bytes → WrotePrefix old new
 wrote_prefix old new bytes is = (bytes, is)
 
-pub cut_told : (v : View) (t : Recounted) (old new : Outlets) → (is_wide (window_on v.range (length t.entries)) ≡ true → Puts old.notes new.notes (cut_note (length t.entries)))
+pub cut_told : (v : View) (t : Recounted) (old new : Outlets) → (is_wide (window_on v.range (length t.entries)) ≡ true → Puts old.notes new.notes cut_note)
     → (is_wide (window_on v.range (length t.entries)) ≡ true → IsWrittenOut new.notes) → (is_wide (window_on v.range (length t.entries)) ≡ false → new.notes ≡ old.notes) → TellsCut v t old new
 cut_told v t old new puts out keeps = elim (is_wide (window_on v.range (length t.entries))) as (λ b. is_wide (window_on v.range (length t.entries)) ≡ b → TellsCut v t old new) [
-      | true ↦ λ e. inr (e, puts e, out e)
-      | false ↦ λ e. inl (e, keeps e)
-    ] refl
+  | true ↦ λ e. inr (e, (puts e, out e))
+  | false ↦ λ e. inl (e, keeps e)
+] refl

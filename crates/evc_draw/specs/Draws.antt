@@ -50,7 +50,7 @@ IsDrawable v t = (has_unknown v.choice t.heading.words ≡ false) × (is_empty v
 abbrev pub TellsCut : View → Recounted → Outlets → Outlets → Type 0
 TellsCut v t old new =
     ((is_wide (window_on v.range (length t.entries)) ≡ false) × KeepsNotes old new)
-    ⊎ ((is_wide (window_on v.range (length t.entries)) ≡ true) × Notes old new (cut_note (length t.entries)))
+    ⊎ ((is_wide (window_on v.range (length t.entries)) ≡ true) × Notes old new cut_note)
 
 -- how the writing of the picture of a trace ended
 abbrev pub Drawn : View → Recounted → Status → Outlets → Outlets → Type 0

@@ -21,8 +21,9 @@ last_of w = record { from = max w.from (w.to - COLUMNS_MAX); to = w.to }
 abbrev pub window_for : Range → ℕ → Window
 window_for r n = last_of (window_on r n)
 
-unfoldable pub cut_note : ℕ → List ℕ
-cut_note n = codes "the last 400 of these entries are drawn: the trace has " ++ decimal n ++ codes "; choose others by --from N --to M\n"
+-- the note on a range that has more
+abbrev pub cut_note : List ℕ
+cut_note = codes "more than 400 entries: only the last 400 are drawn\n"
 
 -- RANGES WITHOUT ENTRIES
 

@@ -17,7 +17,7 @@ use crate::svg::put_svg;
 use crate::text::put_text;
 use crate::unknown::{has_unknown, say_unknown};
 use crate::view::View;
-use crate::window::{is_empty, is_wide, put_cut_note, say_empty, window_for};
+use crate::window::{is_empty, is_wide, say_empty, window_for};
 use ec_draw::{Chosen, Picture, picture_of};
 use ec_text::{Input, Out, read_up_to, write_out};
 use ec_trace::{TRACE_MAX, TraceFault, Traced};
@@ -97,14 +97,13 @@ fn write_fault<N: Write>(notes: &mut Out<'_, N>) -> Status
 
 /// Says that only the last entries of a range are drawn, if it has more than a picture has.
 fn say_cut<N: Write>(range: Range, entries: usize, notes: &mut Out<'_, N>)
-    ensures wide { is_wide (window_on range entries) ≡ true → Puts notes.old notes.new (cut_note entries) }
+    ensures wide { is_wide (window_on range entries) ≡ true → Puts notes.old notes.new cut_note }
     ensures out { is_wide (window_on range entries) ≡ true → IsWrittenOut notes.new }
     ensures narrow { is_wide (window_on range entries) ≡ false → notes.new ≡ notes.old }
     ensures written { IsWrittenOut notes.old → IsWrittenOut notes.new }
 {
     if is_wide(range, entries) {
-        put_cut_note(notes, entries);
-        notes.flush();
+        notes.say(b"more than 400 entries: only the last 400 are drawn\n");
     }
 }
 

@@ -25,7 +25,10 @@ pub(crate) fn put_line(
     to: Place,
 ) -> Result<(), AllocError> {
     let (x1, y1, x2, y2) = (from.x, from.y, to.x, to.y);
-    write!(out, "<line class='{class}' x1='{x1}' y1='{y1}' x2='{x2}' y2='{y2}'/>\n")
+    write!(
+        out,
+        "<line class='{class}' x1='{x1}' y1='{y1}' x2='{x2}' y2='{y2}'/>\n"
+    )
 }
 
 pub(crate) fn put_rect(
@@ -35,7 +38,10 @@ pub(crate) fn put_rect(
     height: u64,
 ) -> Result<(), AllocError> {
     let Place { x, y } = at;
-    write!(out, "<rect rx='6' x='{x}' y='{y}' width='{width}' height='{height}'/>\n")
+    write!(
+        out,
+        "<rect rx='6' x='{x}' y='{y}' width='{width}' height='{height}'/>\n"
+    )
 }
 
 /// Puts the beginning of a text. The class may have a second word, which makes the text small.
@@ -45,7 +51,11 @@ pub(crate) fn put_text_start(
     small: &str,
     at: Place,
 ) -> Result<(), AllocError> {
-    write!(out, "<text class='{class}{small}' x='{}' y='{}'>", at.x, at.y)
+    write!(
+        out,
+        "<text class='{class}{small}' x='{}' y='{}'>",
+        at.x, at.y
+    )
 }
 
 pub(crate) fn put_text_end(out: &mut String) -> Result<(), AllocError> {

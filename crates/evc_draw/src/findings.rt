@@ -62,5 +62,8 @@ pub(crate) fn put_arrow(
     let start = facing(produced, consumed);
     let along = lane(consumed, produced, arrow.delivery.number);
     let end = facing(consumed, produced);
-    write!(out, "<path class='arrow' d='M {from} {start} V {along} H {to} V {end}'/>\n</g>\n")
+    write!(
+        out,
+        "<path class='arrow' d='M {from} {start} V {along} H {to} V {end}'/>\n</g>\n"
+    )
 }

@@ -71,14 +71,12 @@ impl<'a> Names<'a> {
 
     /// Returns the block of a cell, and which of the block's cells it is.
     pub(crate) fn cell(&self, cell: CellId) -> CellName<'a> {
-        for place in 0..self.words.len() {
-            if let Some((word, Target::Cells(first, n))) = self.words.at(place) {
-                if first.get() <= cell.get() && cell.get() - first.get() < n {
-                    let place = cell.get() - first.get();
-                    return CellName {
-                        block: Name(word),
-                        place,
-                    };
+        let cell = cell.get();
+        for number in 0..self.words.len() {
+            if let Some((word, target)) = self.words.at(number) {
+                if let Some(place) = place_in(cell, &target) {
+                    let block = Name(word);
+                    return CellName { block, place };
                 }
             }
         }
@@ -86,6 +84,21 @@ impl<'a> Names<'a> {
             block: Name(b""),
             place: 0,
         }
+    }
+}
+
+/// Returns which cell of a target a cell is, if it is one of them.
+fn place_in(cell: usize, target: &Target) -> Option<usize> {
+    match *target {
+        Target::Cells(first, n) => {
+            let first = first.get();
+            if first <= cell && cell - first < n {
+                Some(cell - first)
+            } else {
+                None
+            }
+        }
+        Target::Worker(_) | Target::Event(_) | Target::Sequencer(_) | Target::Group(_) => None,
     }
 }
 

@@ -49,7 +49,9 @@ fn round_of(note: &Note<'_>, dots: &[Dot]) -> Option<Round> {
     }
     let worker = last.worker;
     let own = dots.iter().rev();
-    let first = own.filter(|dot| dot.worker == worker && dot.component == Some(0)).next();
+    let first = own
+        .filter(|dot| dot.worker == worker && dot.component == Some(0))
+        .next();
     Some(Round {
         worker,
         event: event.get(),
@@ -117,11 +119,7 @@ fn add_reads(
 }
 
 /// Returns what is said of a faulty line.
-fn lines_of(
-    alloc: Global,
-    sheet: &Sheet<'_>,
-    note: &Note<'_>,
-) -> Result<Vec<String>, AllocError> {
+fn lines_of(alloc: Global, sheet: &Sheet<'_>, note: &Note<'_>) -> Result<Vec<String>, AllocError> {
     let mut lines = Vec::new(alloc);
     let words = Plain(&note.line[..note.line.len().min(100)]);
     lines.push(format!(in alloc; "line {}: {words}", note.number)?)?;
@@ -217,7 +215,15 @@ fn put_column(out: &mut String, sheet: &Sheet<'_>, note: &Note<'_>) -> Result<()
         return Ok(());
     }
     let x = sheet.centre(note.position);
-    put_line(out, "wrong", Place { x, y: 34 }, Place { x, y: sheet.below() })?;
+    put_line(
+        out,
+        "wrong",
+        Place { x, y: 34 },
+        Place {
+            x,
+            y: sheet.below(),
+        },
+    )?;
     match (note.fault, sheet.picture.dots.last()) {
         (TraceFault::WrongReply(_, _), Some(dot)) => put_wrong_reply(out, sheet, note, dot),
         _ => Ok(()),
@@ -225,11 +231,7 @@ fn put_column(out: &mut String, sheet: &Sheet<'_>, note: &Note<'_>) -> Result<()
 }
 
 /// Puts what is said of a faulty line below the picture.
-pub(crate) fn put_note(
-    out: &mut String,
-    sheet: &Sheet<'_>,
-    told: &Told,
-) -> Result<(), AllocError> {
+pub(crate) fn put_note(out: &mut String, sheet: &Sheet<'_>, told: &Told) -> Result<(), AllocError> {
     if let Some(note) = &sheet.note {
         put_column(out, sheet, note)?;
     }

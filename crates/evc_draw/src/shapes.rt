@@ -33,12 +33,7 @@ fn letters(names: &Names<'_>, act: &Act) -> usize {
 }
 
 /// Puts the object of an act.
-fn put_object(
-    out: &mut String,
-    names: &Names<'_>,
-    at: Place,
-    act: &Act,
-) -> Result<(), AllocError> {
+fn put_object(out: &mut String, names: &Names<'_>, at: Place, act: &Act) -> Result<(), AllocError> {
     let name = match *act {
         Act::Advance(event) | Act::Read(event) | Act::Await(event, _) | Act::Hand(event, _) => {
             names.event(event)
@@ -57,16 +52,16 @@ fn put_object(
 }
 
 /// Puts the two lines above a bar: what was asked for, and of which object.
-fn put_label(
-    out: &mut String,
-    names: &Names<'_>,
-    at: Place,
-    act: &Act,
-) -> Result<(), AllocError>
+fn put_label(out: &mut String, names: &Names<'_>, at: Place, act: &Act) -> Result<(), AllocError>
     requires { at.y ≤ 2000 }
 {
     let Place { x, y } = at;
-    put_text_start(out, "act", squeeze(letters(names, act)), Place { x, y: y + 14 })?;
+    put_text_start(
+        out,
+        "act",
+        squeeze(letters(names, act)),
+        Place { x, y: y + 14 },
+    )?;
     put_act_words(out, names, act)?;
     put_text_end(out)?;
     put_object(out, names, Place { x, y: y + 26 }, act)
@@ -131,7 +126,12 @@ pub(crate) fn put_open_bar(
     out.push_str("</title>\n")?;
     let y = sheet.row(begun.worker);
     let x = sheet.bar_from(begun.first);
-    put_rect(out, Place { x, y: y + 32 }, sheet.width().saturating_sub(x), 22)?;
+    put_rect(
+        out,
+        Place { x, y: y + 32 },
+        sheet.width().saturating_sub(x),
+        22,
+    )?;
     let x = sheet.edge(begun.first) + 3;
     put_label(out, sheet.names, Place { x, y }, &begun.op)?;
     out.push_str("</g>\n")
@@ -212,5 +212,8 @@ pub(crate) fn put_mark(
     };
     let y = sheet.row(placed.call.worker) + 43;
     put_tie(out, sheet, Place { x, y }, &placed.call)?;
-    write!(out, "<path class='mark' d='M {x} {y} m 0 -6 l 6 6 l -6 6 l -6 -6 z'/>\n")
+    write!(
+        out,
+        "<path class='mark' d='M {x} {y} m 0 -6 l 6 6 l -6 6 l -6 -6 z'/>\n"
+    )
 }

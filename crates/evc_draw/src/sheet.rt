@@ -66,7 +66,8 @@ impl<'a> Sheet<'a> {
 
     /// Returns where the rows end.
     pub(crate) fn below(&self) -> u64
-        ensures { result ≤ 1276 }
+        ensures low { 60 ≤ result }
+        ensures high { result ≤ 1276 }
     {
         60 + ROW * self.chosen.workers_before(self.workers) as u64
     }
@@ -76,7 +77,10 @@ impl<'a> Sheet<'a> {
         ensures { result ≤ 96 }
     {
         let drawn = self.picture.curves.iter().take(number);
-        drawn.filter(|curve| self.chosen.draws_curve(&curve.object)).count().min(96) as u64
+        drawn
+            .filter(|curve| self.chosen.draws_curve(&curve.object))
+            .count()
+            .min(96) as u64
     }
 
     /// Returns the height of the least number of the curve with a number.
@@ -99,7 +103,11 @@ impl<'a> Sheet<'a> {
         ensures { result ≤ 33739 }
     {
         let left = self.edge(first);
-        if first < self.picture.window.from { left } else { left + 3 }
+        if first < self.picture.window.from {
+            left
+        } else {
+            left + 3
+        }
     }
 
     /// Returns where the bar of a call ends, by its last entry.

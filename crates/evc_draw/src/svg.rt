@@ -3,8 +3,8 @@
 use crate::elements::{Place, put_line, put_number, put_row_name};
 use crate::findings::{put_arrow, put_shade};
 use crate::note::{Told, put_note};
-use crate::sheet::{LEFT, Scale, Sheet, greatest, least};
 use crate::shapes::{put_bar, put_dot, put_mark, put_open_bar};
+use crate::sheet::{LEFT, Scale, Sheet, greatest, least};
 use crate::style::{OPENING, STYLE};
 use ec_count::WorkerId;
 use ec_draw::{Curve, Dot, Plotted};
@@ -47,11 +47,7 @@ fn put_column(out: &mut String, sheet: &Sheet<'_>, dot: &Dot) -> Result<(), Allo
 }
 
 /// Puts the line of a curve: at each moment's number up to the entry that comes then.
-fn put_path(
-    out: &mut String,
-    scale: &Scale,
-    curve: &Curve,
-) -> Result<(), AllocError> {
+fn put_path(out: &mut String, scale: &Scale, curve: &Curve) -> Result<(), AllocError> {
     let class = match curve.object {
         Plotted::Count(_) => "curve",
         Plotted::Balance(_) => "balance",
@@ -76,7 +72,11 @@ fn put_curve(
     let y = sheet.base(number);
     let from = Place { x: LEFT, y };
     put_line(out, "zero", from, from.at(sheet.width()))?;
-    put_row_name(out, Place { x: 124, y: y - 20 }, sheet.names.curve(&curve.object))?;
+    put_row_name(
+        out,
+        Place { x: 124, y: y - 20 },
+        sheet.names.curve(&curve.object),
+    )?;
     put_number(out, "count", Place { x: 124, y }, least(curve))?;
     if least(curve) != greatest(curve) {
         put_number(out, "count", Place { x: 124, y: y - 44 }, greatest(curve))?;

@@ -69,8 +69,7 @@ fn any_lacks_object(words: &Vocabulary, names: &[&str]) -> bool
 pub(crate) fn has_unknown(words: &Vocabulary, choice: &Choice<'_>) -> bool
     ensures { result ≡ has_unknown choice.now words.now }
 {
-    any_lacks_worker(words, choice.workers)
-        || any_lacks_object(words, choice.objects)
+    any_lacks_worker(words, choice.workers) || any_lacks_object(words, choice.objects)
 }
 
 /// Puts the note on a name.

@@ -1,7 +1,7 @@
 //! Which entries are drawn.
 ghost use Rattle.std.specs.Prelude.{◌≡◌, ◌<◌, ◌≤◌, false};
 ghost use Rattle.ec_text.specs.Puts.{Puts, IsWrittenOut};
-ghost use Rattle.evc_draw.specs.Windows.{cut_note, empty_note, is_empty, is_whole, is_wide, last_of, last_words, range_words, window_for, window_on};
+ghost use Rattle.evc_draw.specs.Windows.{empty_note, is_empty, is_whole, is_wide, last_of, last_words, range_words, window_for, window_on};
 
 use ec_draw::{COLUMNS_MAX, Window};
 use ec_text::Out;
@@ -38,16 +38,6 @@ pub(crate) fn window_for(range: Range, columns: usize) -> Window
         from: window.from.max(window.to.saturating_sub(COLUMNS_MAX)),
         to: window.to,
     }
-}
-
-/// Puts how many entries are drawn, of how many.
-#[tactic(auto, unfolding(crate::specs::Windows::cut_note))]
-pub(crate) fn put_cut_note<N: Write>(notes: &mut Out<'_, N>, entries: usize)
-    ensures { Puts notes.old notes.new (cut_note entries) }
-{
-    notes.put(b"the last 400 of these entries are drawn: the trace has ");
-    notes.put_number(entries as u64);
-    notes.put(b"; choose others by --from N --to M\n");
 }
 
 /// Returns whether no range is asked for.

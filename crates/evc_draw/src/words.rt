@@ -17,7 +17,12 @@ fn put_call(
 ) -> Result<(), AllocError> {
     let asked = Asked { names, act };
     let returned = Returned(reply);
-    write!(out, "{} {}{asked} = {returned}", names.worker(worker), kind(&act))
+    write!(
+        out,
+        "{} {}{asked} = {returned}",
+        names.worker(worker),
+        kind(&act)
+    )
 }
 
 /// Puts a completed call, with its entries and its point.
@@ -61,9 +66,15 @@ pub(crate) fn put_delivery_words(
 ) -> Result<(), AllocError> {
     let delivery = &arrow.delivery;
     put_finding(out, names, "delivery", arrow.count, delivery.number)?;
-    let (producer, consumer) = (names.worker(delivery.producer), names.worker(delivery.consumer));
+    let (producer, consumer) = (
+        names.worker(delivery.producer),
+        names.worker(delivery.consumer),
+    );
     let (item, put, got) = (delivery.item, arrow.put, arrow.got);
-    write!(out, " {producer} {consumer} {item}, put at entry {put}, got at entry {got}")
+    write!(
+        out,
+        " {producer} {consumer} {item}, put at entry {put}, got at entry {got}"
+    )
 }
 
 /// Puts an accepting try, with the values that it got and its entries.
