@@ -232,7 +232,7 @@ def faults_of_summaries():
 
 def faults_of_options():
     """Looks for the options of evc-draw, by its help, in REFERENCE and in its completions."""
-    options = re.findall(r"^  (?:-\w, )?--([a-z]+)", read("crates/evc_draw/src/help.rt"), re.M)
+    options = re.findall(r'"([a-z]+)", help::', read("crates/evc_draw_task/src/line.rt"))
     page = section("REFERENCE.md", "## Pictures")
     for name in options:
         if f"`--{name}" not in page and name not in ("help", "version"):
