@@ -108,8 +108,8 @@ fn answer_so_far(run: &Run, ask: &mut Ask<'_>) -> Result<(), Fault> {
     Err(Fault::Line)
 }
 
-/// Reads a call at its point: `POINT FIRST ROUND LAST W ACT = REPLY`.
-fn placed_of(ask: &mut Ask<'_>) -> Result<Placed, Fault> {
+/// Adds a call to those that `judge` judges: `POINT FIRST ROUND LAST W ACT = REPLY`.
+fn add(judged: &mut Vec<Placed>, ask: &mut Ask<'_>) -> Result<(), Fault> {
     let (point, first, round, last) = (ask.size()?, ask.size()?, ask.size()?, ask.size()?);
     let (worker, op) = (worker(ask)?, act(ask)?);
     if ask.word() != "=" {
@@ -123,7 +123,8 @@ fn placed_of(ask: &mut Ask<'_>) -> Result<Placed, Fault> {
         round,
         last,
     };
-    Ok(Placed { call, point })
+    judged.push(Placed { call, point })?;
+    Ok(())
 }
 
 /// Writes the verdict on calls.
@@ -136,12 +137,6 @@ fn judge(alloc: Global, run: &Run, placed: &[Placed], ask: &mut Ask<'_>) -> Resu
 fn judge_own(alloc: Global, run: &Run, ask: &mut Ask<'_>) -> Result<(), Fault> {
     let placed = order(alloc, run)?;
     judge(alloc, run, placed.as_slice(), ask)
-}
-
-/// Adds a call to those that `judge` judges.
-fn add(judged: &mut Vec<Placed>, ask: &mut Ask<'_>) -> Result<(), Fault> {
-    judged.push(placed_of(ask)?)?;
-    Ok(())
 }
 
 /// Answers what is asked of the calls of a run. After `judge` none are there to be judged.
