@@ -23,13 +23,13 @@ fn id_of(sort: &str, n: usize) -> Option<usize> {
 impl Values {
     /// Writes the value of the count, and whether that is the limit.
     fn tell(&self, line: &mut Line<'_>) -> Result<(), Fault> {
-        let count = &self.count.ok_or(Fault::Line)?;
+        let count = self.count.as_ref().ok_or(Fault::Line)?;
         writeln!(line.out, "{}, full: {}", count.value(), count.is_full())
     }
 
     /// Advances the count.
     fn advance(&mut self, line: &mut Line<'_>) -> Result<(), Fault> {
-        let count = &mut self.count.ok_or(Fault::Line)?;
+        let count = self.count.as_mut().ok_or(Fault::Line)?;
         if let Err(fault) = count.advance() {
             write!(line.out, "{fault}: ")?;
         }
