@@ -100,7 +100,7 @@ fn lane_y(calls: &[Call], call: &Call, top: u64) -> u64 {
     top.saturating_add(lane.saturating_mul(BLOCK))
 }
 
-/// Puts a tie from the end of a call to the beginning of another, which it precedes.
+/// Puts a tie from the end of a call to the beginning of another, if it precedes that one.
 fn put_before<W: Write>(
     out: &mut Out<'_, W>,
     picture: &Picture<'_>,
@@ -109,6 +109,9 @@ fn put_before<W: Write>(
     other: &Call,
     top: u64,
 ) {
+    if one.last >= other.first {
+        return;
+    }
     let half = BLOCK / 2 - 2;
     let from = Place {
         x: picture.grid.x(one.last),
@@ -121,15 +124,27 @@ fn put_before<W: Write>(
     put_line(out, b"stair", from, to);
 }
 
-/// Puts which calls of a certificate precede which.
-fn put_ties<W: Write>(out: &mut Out<'_, W>, picture: &Picture<'_>, calls: &[Call], top: u64) {
-    match calls {
-        [a, b] => put_before(out, picture, calls, a, b, top),
-        [a, b, c, d] => {
+/// Puts which calls precede which: two calls, two pairs of a cell whose values alternate, or gets of
+/// which each follows the next one.
+fn put_ties<W: Write>(
+    out: &mut Out<'_, W>,
+    picture: &Picture<'_>,
+    evidence: &Evidence<'_>,
+    top: u64,
+) {
+    let calls = evidence.faulty.as_slice();
+    if let [a, b, c, d] = calls {
+        if evidence.is_distinct() {
             put_before(out, picture, calls, a, b, top);
             put_before(out, picture, calls, c, d, top);
+            return;
         }
-        _ => {}
+    }
+    for (i, call) in calls.iter().enumerate() {
+        if let Some(other) = calls.get(i.saturating_add(1)) {
+            put_before(out, picture, calls, call, other, top);
+            put_before(out, picture, calls, other, call, top);
+        }
     }
 }
 
@@ -142,7 +157,7 @@ pub(crate) fn put_lanes<W: Write>(
 ) {
     let object = evidence.refusal.object;
     let calls = evidence.faulty.as_slice();
-    put_ties(out, picture, calls, top);
+    put_ties(out, picture, evidence, top);
     for call in calls {
         let x = picture.grid.x(call.first);
         let width = picture.grid.x(call.last).saturating_sub(x);

@@ -7,7 +7,7 @@ use crate::scale::{Range, Scale};
 use crate::sink::{
     Place, end_path, end_text, go_across, go_along, put_line, start_path, start_text,
 };
-use calls_core::Call;
+use calls_core::{Call, Op, Reply};
 use calls_shapes::{Counted, Portion, Stair};
 use ec_text::Out;
 use std::io::Write;
@@ -45,8 +45,17 @@ pub(crate) fn evidence_range(
     let mut range = stairs_range(picture, range, evidence.stairs.as_slice());
     for call in &evidence.faulty {
         range = said_by(call.op, call.reply).map_or(range, |n| range.with(n));
+        range = missed(call).map_or(range, |n| range.with(n));
     }
     range
+}
+
+/// Returns the threshold of an await that returned a number below it.
+fn missed(call: &Call) -> Option<usize> {
+    match (call.op, call.reply) {
+        (Op::Await(threshold), Reply::Number(n)) if n < threshold => Some(threshold),
+        _ => None,
+    }
 }
 
 /// Returns the range with the numbers of stairs.
@@ -143,6 +152,15 @@ fn put_said<W: Write>(out: &mut Out<'_, W>, picture: &Picture<'_>, scale: &Scale
     put_level(
         out, picture, scale, b"said", call.first, call.last, call.op, call.reply,
     );
+}
+
+/// Puts what a call said in words.
+fn put_said_words<W: Write>(
+    out: &mut Out<'_, W>,
+    picture: &Picture<'_>,
+    scale: &Scale,
+    call: &Call,
+) {
     let Some(n) = said_by(call.op, call.reply) else {
         return;
     };
@@ -159,21 +177,29 @@ fn put_said<W: Write>(out: &mut Out<'_, W>, picture: &Picture<'_>, scale: &Scale
 /// Returns the words before what a call said.
 fn said_words(call: &Call) -> &'static [u8] {
     match (call.op, call.reply) {
-        (calls_core::Op::Await(_), calls_core::Reply::Done) => b"reached ",
-        (calls_core::Op::Await(_), calls_core::Reply::Timeout) => b"at most ",
+        (Op::Await(_), Reply::Done) => b"reached ",
+        (Op::Await(_), Reply::Timeout) => b"at most ",
         _ => b"returned ",
     }
 }
 
-/// Puts what the calls said that are named.
+/// Puts what the calls said that are named, a number that several said once.
 fn put_all_said<W: Write>(
     out: &mut Out<'_, W>,
     picture: &Picture<'_>,
     scale: &Scale,
     calls: &[Call],
 ) {
-    for call in calls {
+    for (i, call) in calls.iter().enumerate() {
         put_said(out, picture, scale, call);
+        let before = calls.get(..i).unwrap_or(&[]);
+        let said = said_by(call.op, call.reply);
+        if before
+            .iter()
+            .all(|other| said_by(other.op, other.reply) != said)
+        {
+            put_said_words(out, picture, scale, call);
+        }
     }
 }
 
@@ -219,6 +245,33 @@ fn put_turn<W: Write>(out: &mut Out<'_, W>, picture: &Picture<'_>, scale: &Scale
     }
 }
 
+/// Puts the threshold below which an await returned a number.
+fn put_missed<W: Write>(
+    out: &mut Out<'_, W>,
+    picture: &Picture<'_>,
+    scale: &Scale,
+    calls: &[Call],
+) {
+    let Some(call) = calls.first() else {
+        return;
+    };
+    let Some(threshold) = missed(call) else {
+        return;
+    };
+    let y = scale.y(threshold);
+    let from = picture.grid.x(call.first);
+    let to = picture.grid.x(call.last);
+    put_line(out, b"waits", Place { x: from, y }, Place { x: to, y });
+    let at = Place {
+        x: to.saturating_add(4),
+        y: y.saturating_add(3),
+    };
+    start_text(out, b"why", at);
+    out.put(b"awaited ");
+    out.put_number(threshold as u64);
+    end_text(out);
+}
+
 /// Puts what shows that a history is refused.
 pub(crate) fn put_evidence<W: Write>(
     out: &mut Out<'_, W>,
@@ -230,7 +283,10 @@ pub(crate) fn put_evidence<W: Write>(
     put_stairs(out, picture, scale, evidence.stairs.as_slice());
     put_all_said(out, picture, scale, evidence.faulty.as_slice());
     match subject {
-        Subject::Count(_) => put_tie(out, picture, scale, evidence),
+        Subject::Count(_) => {
+            put_tie(out, picture, scale, evidence);
+            put_missed(out, picture, scale, evidence.faulty.as_slice());
+        }
         Subject::Numbers(_) => put_turn(out, picture, scale, evidence.faulty.as_slice()),
         Subject::Units(_, _) | Subject::Values(_) => {}
     }

@@ -45,20 +45,28 @@ fn worker_chosen(heading: &Heading, name: &[u8]) -> Option<Chosen> {
     }
 }
 
-/// Returns what a name of an object chooses.
-fn object_chosen(heading: &Heading, name: &[u8]) -> Option<Chosen> {
-    match heading.names().find_bytes(name) {
-        Some(Target::Event(event)) => Some(Chosen::Objects(event.get(), 1)),
-        Some(Target::Sequencer(sequencer)) => {
+/// Returns what is chosen by the name of this.
+fn target_chosen(heading: &Heading, target: Target) -> Option<Chosen> {
+    match target {
+        Target::Worker(_) => None,
+        Target::Event(event) => Some(Chosen::Objects(event.get(), 1)),
+        Target::Sequencer(sequencer) => {
             let index = first_sequencer(heading).saturating_add(sequencer.get());
             Some(Chosen::Objects(index, 1))
         }
-        Some(Target::Cells(first, count)) => {
+        Target::Cells(first, count) => {
             let index = first_cell(heading).saturating_add(first.get());
             Some(Chosen::Objects(index, count))
         }
-        Some(Target::Group(place)) => group_chosen(heading, place),
-        _ => cell_chosen(heading, name),
+        Target::Group(place) => group_chosen(heading, place),
+    }
+}
+
+/// Returns what a name of an object chooses.
+fn object_chosen(heading: &Heading, name: &[u8]) -> Option<Chosen> {
+    match heading.names().find_bytes(name) {
+        Some(target) => target_chosen(heading, target),
+        None => cell_chosen(heading, name),
     }
 }
 

@@ -1,5 +1,5 @@
 //! A text of histories of calls in, a picture of one of them out.
-ghost use Rattle.std.specs.Prelude.{◌≡◌, ◌⊎◌, ◌<◌, ◌≤◌, length, codes, nat_eq, IsTrue, IsSome, IsNone};
+ghost use Rattle.std.specs.Prelude.{◌≡◌, ◌⊎◌, ◌<◌, ◌≤◌, length, codes, nat_eq, false, IsTrue, IsSome};
 ghost use Rattle.std.specs.List.{starts_with};
 ghost use Rattle.ec_text.specs.Puts.{IsWrittenOut};
 ghost use Rattle.calls_draw.specs.Draws.{Draws, Chooses, SaysAsCheck, EndsOn, WritesOne};
@@ -45,7 +45,7 @@ fn note_on(alloc: Global, text: &[u8]) -> Result<Vec<u8>, AllocError> {
 }
 
 /// Says a name of the sort of this word that is not declared.
-fn say_unknown<N: Write>(sort: &[u8], name: &str, notes: &mut Out<'_, N>) -> Status
+fn say_unknown<N: Write>(sort: &[u8], name: &str, notes: &mut Out<'_, N>)
     ensures { IsWrittenOut notes.new }
 {
     notes.put(b"no ");
@@ -53,7 +53,6 @@ fn say_unknown<N: Write>(sort: &[u8], name: &str, notes: &mut Out<'_, N>) -> Sta
     notes.put(b" ");
     notes.put(name.as_bytes());
     notes.say(b" is declared\n");
-    Status::Usage
 }
 
 /// Returns whether no event is chosen, although a range is.
@@ -67,7 +66,7 @@ fn is_empty(view: &CallsView<'_>, count: usize) -> bool
 }
 
 /// Says that no event is chosen.
-fn say_empty<N: Write>(view: &CallsView<'_>, count: usize, notes: &mut Out<'_, N>) -> Status
+fn say_empty<N: Write>(view: &CallsView<'_>, count: usize, notes: &mut Out<'_, N>)
     ensures { IsWrittenOut notes.new }
 {
     notes.put(b"no event from ");
@@ -82,31 +81,33 @@ fn say_empty<N: Write>(view: &CallsView<'_>, count: usize, notes: &mut Out<'_, N
     notes.put(b": the history has ");
     notes.put_number(count as u64);
     notes.say(b" events\n");
-    Status::Usage
 }
 
-/// Says what is wrong with what was chosen, and returns the status of that.
+/// Says what is wrong with what was chosen, and returns whether something is.
 fn say_wrong_choice<N: Write>(
     view: &CallsView<'_>,
     found: &Found<'_>,
     notes: &mut Out<'_, N>,
-) -> Option<Status>
-    ensures chosen { IsSome result → Chooses view.now }
-    ensures quiet { IsNone result → notes.new ≡ notes.old }
-    ensures written { IsSome result → IsWrittenOut notes.new }
+) -> bool
+    ensures chosen { IsTrue result → Chooses view.now }
+    ensures quiet { result ≡ false → notes.new ≡ notes.old }
+    ensures written { IsWrittenOut notes.old → IsWrittenOut notes.new }
 {
     let heading = found.read.recording.heading();
     if let Some(name) = unknown_worker(heading, view.workers) {
-        return Some(say_unknown(b"worker", name, notes));
+        say_unknown(b"worker", name, notes);
+        return true;
     }
     if let Some(name) = unknown_object(heading, view.objects) {
-        return Some(say_unknown(b"object", name, notes));
+        say_unknown(b"object", name, notes);
+        return true;
     }
     let count = found.events().len();
     if is_empty(view, count) {
-        return Some(say_empty(view, count, notes));
+        say_empty(view, count, notes);
+        return true;
     }
-    None
+    false
 }
 
 /// Puts a picture.
@@ -179,8 +180,8 @@ fn draw_found<W: Write, N: Write>(
         (record { out = W.contents out.new; notes = notes.new }) }
     ensures written { IsWrittenOut notes.old → IsWrittenOut notes.new }
 {
-    if let Some(status) = say_wrong_choice(view, found, notes) {
-        return status;
+    if say_wrong_choice(view, found, notes) {
+        return Status::Usage;
     }
     match drawn(alloc, view, text, found) {
         Ok(picture) => write_picture(alloc, text, &picture, out, notes),

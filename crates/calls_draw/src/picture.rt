@@ -7,7 +7,7 @@ use crate::view::{CallsView, Window, window_of};
 use calls_core::{Action, Call, Event, Kind, Op, PendingCall, Placed, Reply};
 use calls_shapes::{Bars, Course, Stair, bars_of, courses_of, faulty_calls, stair_of};
 use calls_text::Lists;
-use calls_verdict::{Refusal, Verdict};
+use calls_verdict::{Fault, Refusal, Verdict};
 use ec_heading::Heading;
 use std::alloc::{AllocError, Global};
 
@@ -140,10 +140,32 @@ impl<'a> Evidence<'a> {
         if self.faulty.iter().any(|call| call.first == bar.first) {
             return Some(Outline::Hot);
         }
-        if self.stairs.iter().any(|stair| counts(&stair.course, bar)) {
+        let is_counted = self.stairs.iter().any(|stair| counts(&stair.course, bar));
+        if is_counted || self.may_have_drawn(bar) {
             return Some(Outline::Warm);
         }
         None
+    }
+
+    /// Returns whether a ticket can have drawn a number up to that of a ticket for which too few did.
+    fn may_have_drawn(&self, bar: &Bar) -> bool {
+        let Fault::Ticket(calls_tickets::Fault::Drawn(call)) = &self.refusal.fault else {
+            return false;
+        };
+        let is_low = match (bar.end, call.reply) {
+            (Some((_, Reply::Number(n))), Reply::Number(most)) => n <= most,
+            (None, _) => true,
+            _ => false,
+        };
+        is_low && bar.object == self.refusal.object
+    }
+
+    /// Returns whether it is of a cell whose gets each have one put.
+    pub(crate) fn is_distinct(&self) -> bool {
+        matches!(
+            self.refusal.fault,
+            Fault::Value(calls_cells::Fault::Distinct(_))
+        )
     }
 
     /// Returns the least position of what it names.

@@ -15,6 +15,19 @@ use std::io::Write;
 /// Half the height of a bar.
 const HALF: u64 = 11;
 
+/// Puts what stands above the columns, and of how many events, if not all are shown.
+pub(crate) fn put_column_names<W: Write>(out: &mut Out<'_, W>, picture: &Picture<'_>) {
+    let x = LEFT - 14;
+    start_text(out, b"scale", Place { x, y: 20 });
+    out.put(b"event");
+    if picture.window().len() < picture.events.len() {
+        out.put(b" of ");
+        out.put_number(picture.events.len() as u64);
+    }
+    end_text(out);
+    put_text(out, b"scale", Place { x, y: 32 }, b"line");
+}
+
 /// Puts the columns of the events.
 pub(crate) fn put_columns<W: Write>(out: &mut Out<'_, W>, picture: &Picture<'_>, rows: usize) {
     let window = picture.window();

@@ -39,8 +39,8 @@ text { font-family: 'DejaVu Sans Mono', monospace; font-size: 10px; fill: #1f293
 .block { fill: #7b8794; fill-opacity: 0.16; stroke: #7b8794; }
 .given { fill: none; stroke: #009e73; stroke-width: 2.5; stroke-dasharray: 8 3; }
 .wrong { fill: #c1121f; fill-opacity: 0.12; }
-.hot { fill: none; stroke: #c1121f; stroke-width: 3; rx: 6px; }
-.warm { fill: none; stroke: #1f2933; stroke-width: 2.5; rx: 6px; }
+.hot { fill: none; stroke: #c1121f; stroke-width: 4; rx: 6px; }
+.warm { fill: none; stroke: #1f2933; stroke-width: 2; rx: 6px; }
 .stair { fill: none; stroke: #c1121f; stroke-width: 3; }
 .said { stroke: #c1121f; stroke-width: 4; }
 .tie { stroke: #c1121f; stroke-dasharray: 2 3; stroke-width: 1.5; }

@@ -7,7 +7,7 @@ use crate::curves::{
 use crate::grid::below;
 use crate::panels::{Panel, Subject, panels_of};
 use crate::picture::{Evidence, Picture};
-use crate::rows::{put_columns, put_faulty_column, put_marks, put_rows};
+use crate::rows::{put_column_names, put_columns, put_faulty_column, put_marks, put_rows};
 use crate::scale::{Range, Scale};
 use crate::sink::{Place, put_attribute, put_text};
 use crate::style::{OPENING, STYLE};
@@ -18,7 +18,7 @@ use std::io::Write;
 /// The room between two panels.
 const GAP: u64 = 34;
 
-/// The room for words beside a certificate.
+/// The room for words that go on beside the columns.
 const MARGIN: u64 = 70;
 
 /// How high a line of a note is.
@@ -133,11 +133,20 @@ fn put_levels_of_tickets<W: Write>(
     }
 }
 
+/// Returns where the name of a panel stands: beside it, or above it if its numbers are long.
+fn name_y(picture: &Picture<'_>, panel: &Panel, top: u64) -> u64 {
+    let is_long = !matches!(panel.subject, Subject::Values(_))
+        && whole_range(picture, panel).high > 9999;
+    if is_long {
+        return top.saturating_sub(12);
+    }
+    let middle = panel_height(picture, panel) / 2;
+    top.saturating_add(middle).saturating_add(4)
+}
+
 /// Puts a panel.
 fn put_panel<W: Write>(out: &mut Out<'_, W>, picture: &Picture<'_>, panel: &Panel, top: u64) {
-    let middle = panel_height(picture, panel) / 2;
-    let y = top.saturating_add(middle).saturating_add(4);
-    put_panel_name(out, picture, panel.subject, y);
+    put_panel_name(out, picture, panel.subject, name_y(picture, panel, top));
     match (panel.subject, evidence_in(picture, panel)) {
         (Subject::Values(_), Some(evidence)) => put_lanes(out, picture, evidence, top),
         (Subject::Values(_), None) => {
@@ -191,15 +200,11 @@ pub(crate) fn put_svg<W: Write>(
     let rows = picture.rows_before(picture.workers());
     let end = panels_end(picture, rows, panels.as_slice());
     let (lines, longest) = measured(picture.note.as_slice());
-    let beside = if picture.evidence.is_some() {
-        MARGIN
-    } else {
-        0
-    };
-    let right = picture.grid.right().saturating_add(beside);
+    let right = picture.grid.right().saturating_add(MARGIN);
     let width = longest.saturating_mul(8).max(right);
     let height = end.saturating_add(lines.saturating_mul(NOTE));
-    put_header(out, width.saturating_add(48), height);
+    put_header(out, width.saturating_add(24), height);
+    put_column_names(out, picture);
     put_columns(out, picture, rows);
     put_rows(alloc, out, picture)?;
     put_marks(out, picture);
