@@ -200,12 +200,7 @@ pub(crate) fn put_svg<W: Write>(
     let rows = picture.rows_before(picture.workers());
     let end = panels_end(picture, rows, panels.as_slice());
     let (lines, longest) = measured(picture.note.as_slice());
-    let beside = if picture.evidence.is_some() {
-        MARGIN
-    } else {
-        0
-    };
-    let right = picture.grid.right().saturating_add(beside);
+    let right = picture.grid.right().saturating_add(MARGIN);
     let width = longest.saturating_mul(8).max(right);
     let height = end.saturating_add(lines.saturating_mul(NOTE));
     put_header(out, width.saturating_add(24), height);

@@ -1,7 +1,8 @@
 -- What the program answered and wrote, for an input whose bytes are known and what was asked for. That the bytes of a picture are those
 -- of its shapes is tested; that the shapes are those of the history is a `requires` where they are handed to the writer.
-use Rattle.std.specs.Prelude.{◌≡◌, ◌⊎◌, ℕ, ◌+◌, Ok, Err, true, false, List, length, Option, Some, None, codes}
+use Rattle.std.specs.Prelude.{◌≡◌, ◌⊎◌, ℕ, ◌+◌, Ok, Err, Bool, true, false, nat_eq, List, length, Option, Some, None, codes}
 use Rattle.std.specs.Io.KnownBytes.{Appends, Keeps}
+use Rattle.std.specs.List.{starts_with}
 use Rattle.ec_text.specs.Puts.{AppendsPrefix}
 use Rattle.ec_text.specs.Inputs.{looked_at, IsCutOff}
 use Rattle.ec_trace.specs.Recounted.{Recounted}
@@ -23,6 +24,10 @@ use Rattle.evc_draw.specs.Windows.{cut_note, empty_note, is_empty, is_wide, wind
 -- the shapes of a trace, of which so many columns are drawn
 abbrev pub shapes_for : View → Recounted → ℕ → Shapes
 shapes_for v t n = shapes t.heading.setup t.heading.groups (window_for v.range n) t.entries
+
+-- whether a text is one of histories of calls, by its first line
+abbrev pub is_calls : List ℕ → Bool
+is_calls text = starts_with nat_eq text (codes "evc-calls 1\n")
 
 -- how many columns there are: one for each entry; and up to a faulty line one for it, whether it has an entry or not
 abbrev pub columns_for : Recounted → Option Note → ℕ

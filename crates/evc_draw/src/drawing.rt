@@ -1,13 +1,16 @@
 //! A trace in; a picture of it out.
 ghost use Rattle.std.specs.Prelude.{◌≡◌, Some, codes, false, true, IfSome, length};
+ghost use Rattle.ec_text.specs.Inputs.{looked_at};
 ghost use Rattle.ec_text.specs.Puts.{Puts, IsWrittenOut};
+ghost use Rattle.ec_trace.specs.declared.read.TheConstants.{TRACE_MAX};
 ghost use Rattle.evc_engine.specs.declared.status.Status.TheVariants.{InputOutput, Memory};
 ghost use Rattle.ec_draw.specs.Chosen.{chosen_targets};
 ghost use Rattle.ec_draw.specs.Pictures.{kept};
-ghost use Rattle.evc_draw.specs.Draws.{CutOffFault, Drawn, Draws, DrawsCutOff, DrawsText, IsDrawable, TellsFault, columns_for, shapes_for, story};
+ghost use Rattle.evc_draw.specs.Draws.{CutOffFault, Drawn, Draws, DrawsCutOff, DrawsText, IsDrawable, TellsFault, columns_for, is_calls, shapes_for, story};
 ghost use Rattle.evc_draw.specs.Faults.{position_in, right_of};
 ghost use Rattle.evc_draw.specs.Windows.{cut_note, is_wide, window_on};
 
+use crate::calls::draw_histories;
 use crate::fault::{fault_line, history, line_at, position_in, read_text, right_of};
 use crate::html::put_html;
 use crate::names::Names;
@@ -18,6 +21,7 @@ use crate::text::put_text;
 use crate::unknown::{has_unknown, say_unknown};
 use crate::view::View;
 use crate::window::{is_empty, is_wide, say_empty, window_for};
+use calls_draw::is_calls;
 use ec_draw::{Chosen, Picture, picture_of};
 use ec_text::{Input, Out, read_up_to, write_out};
 use ec_trace::{TRACE_MAX, TraceFault, Traced};
@@ -265,6 +269,25 @@ fn draw_whole<W: Write, N: Write>(
     }
 }
 
+/// Draws a text that was read to its end: as histories of calls, or as a trace.
+fn draw_text<W: Write, N: Write>(
+    alloc: Global,
+    view: &View<'_>,
+    text: &[u8],
+    out: &mut W,
+    notes: &mut Out<'_, N>,
+) -> Status
+    ensures ends { is_calls text.now ≡ false → DrawsText view.now text.now result
+        (record { out = W.contents out.old; notes = notes.old })
+        (record { out = W.contents out.new; notes = notes.new }) }
+    ensures written { IsWrittenOut notes.old → IsWrittenOut notes.new }
+{
+    if is_calls(text) {
+        return draw_histories(alloc, view, text, out, notes);
+    }
+    draw_whole(alloc, view, text, out, notes)
+}
+
 /// The first fault of a text behind which a read failed, if it has one.
 #[tactic(auto, using(crate::proofs::Whole::no_fault_read, crate::proofs::Whole::no_fault_unfinished))]
 fn cut_off_fault(alloc: Global, text: &[u8]) -> Option<TraceFault>
@@ -301,7 +324,8 @@ fn draw_cut_off<W: Write, N: Write>(
     }
 }
 
-/// Reads a trace, and writes a picture of it, or of what came before its first fault; notes say what is wrong.
+/// Reads a trace, and writes a picture of it, or of what came before its first fault; notes say what is wrong. A text of histories of
+/// calls is drawn as such.
 ///
 /// Nothing is written to `out` before the input was read to its end.
 pub(crate) fn draw<R: Read, W: Write, N: Write>(
@@ -311,13 +335,13 @@ pub(crate) fn draw<R: Read, W: Write, N: Write>(
     out: &mut W,
     notes: &mut Out<'_, N>,
 ) -> Status
-    ensures ends { IfSome (R.remaining reader.old) (λ bytes. Draws view.now bytes (R.remaining reader.new) result
+    ensures ends { IfSome (R.remaining reader.old) (λ bytes. is_calls (looked_at TRACE_MAX bytes) ≡ false → Draws view.now bytes (R.remaining reader.new) result
         (record { out = W.contents out.old; notes = notes.old })
         (record { out = W.contents out.new; notes = notes.new })) }
     ensures written { IsWrittenOut notes.old → IsWrittenOut notes.new }
 {
     match read_up_to(alloc, reader, TRACE_MAX) {
-        Ok(Input::Whole(text)) => draw_whole(alloc, view, text.as_slice(), out, notes),
+        Ok(Input::Whole(text)) => draw_text(alloc, view, text.as_slice(), out, notes),
         Ok(Input::CutOff(text)) => draw_cut_off(alloc, view, text.as_slice(), out, notes),
         Err(AllocError) => want(notes),
     }

@@ -5,7 +5,7 @@ use crate::svg::put_svg;
 use std::alloc::{AllocError, Global};
 
 /// The page before the picture.
-const BEGINNING: &str = "<!DOCTYPE html>
+pub(crate) const BEGINNING: &str = "<!DOCTYPE html>
 <html lang='en'>
 <meta charset='utf-8'>
 <meta name='viewport' content='width=device-width'>
@@ -26,7 +26,7 @@ svg { display: block; }
 
 /// The page after it: a zoom goes in steps, keeps in place what is in the middle of the window, and
 /// makes an entry no narrower than 28 pixels.
-const END: &str = "<script>
+pub(crate) const END: &str = "<script>
 const picture = document.querySelector('svg');
 const width = picture.width.baseVal.value, height = picture.height.baseVal.value;
 let scale = 1;

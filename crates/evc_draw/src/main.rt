@@ -1,6 +1,7 @@
-//! `evc-draw`: draws a trace.
+//! `evc-draw`: draws a trace, or a history of calls.
 #![tactic(auto)]
 
+mod calls;
 mod drawing;
 mod elements;
 mod fault;
