@@ -1,0 +1,5 @@
+pub mod Places
+pub mod TextLines
+pub mod Causes
+pub mod Advice
+pub mod Findings
