@@ -1,5 +1,5 @@
 -- What is found wrong with a text, and how it is told.
-use Rattle.std.specs.Prelude.{ℕ, ◌+◌, ◌-◌, Bool, ◌&&◌, nat_le, nat_lt, List, [], ◌∷◌, ◌++◌, take, drop, length, min, Option, Some, None, replicate, bytes_eq, ◌==◌, codes, decimal, if◌then◌else◌}
+use Rattle.std.specs.Prelude.{ℕ, ◌+◌, ◌-◌, ◌&&◌, nat_le, nat_lt, List, [], ◌∷◌, ◌++◌, take, drop, length, min, Option, Some, None, replicate, bytes_eq, ◌==◌, codes, decimal, if◌then◌else◌}
 use Rattle.std.specs.List.{flat_map}
 use Rattle.ec_explain.specs.declared.cause.Cause.{Cause}
 use Rattle.ec_explain.specs.declared.cause.Cause.TheVariants as causes
@@ -66,8 +66,11 @@ abbrev pub shown_from : ℕ → ℕ
 shown_from place = if nat_lt place 80 then 0 else place - 60
 
 -- the bytes of the line that are shown, 100 at most
+abbrev pub shown_behind : ℕ → List ℕ → List ℕ
+shown_behind place line = drop (min (shown_from place) (length line)) line
+
 abbrev pub shown_bytes : ℕ → List ℕ → List ℕ
-shown_bytes place line = take 100 (drop (shown_from place) line)
+shown_bytes place line = take (min (length (shown_behind place line)) 100) (shown_behind place line)
 
 -- the spaces before the mark
 abbrev pub spaces : ℕ → List ℕ

@@ -1,5 +1,5 @@
 -- The words of a line by their places, and where they begin.
-use Rattle.std.specs.Prelude.{ℕ, ◌+◌, ◌==◌, ◌||◌, zero, suc, Bool, not, List, [], ◌∷◌, length, min, unwrap_or, slice_get, is_some, codes, bytes_eq, if◌then◌else◌}
+use Rattle.std.specs.Prelude.{ℕ, ◌+◌, ◌-◌, ◌==◌, ◌||◌, Bool, List, [], ◌∷◌, length, min, unwrap_or, slice_get, is_some, codes, bytes_eq, if◌then◌else◌}
 use Rattle.std.specs.List.{list_any}
 use Rattle.ec_count.specs.Reserved.{is_name}
 use Rattle.ec_text.specs.Words.{words_of, number_of}
@@ -16,10 +16,9 @@ behind_first [] = []
 behind_first (w ∷ ws) = ws
 
 -- how many bytes come before the word at a place, each word before it with the space behind it
-unfoldable pub bytes_before : ℕ → List (List ℕ) → ℕ
-bytes_before zero ws = 0
-bytes_before (suc k) [] = 0
-bytes_before (suc k) (w ∷ ws) = length w + 1 + bytes_before k ws
+abbrev pub bytes_before : ℕ → List (List ℕ) → ℕ
+bytes_before k [] = 0
+bytes_before k (w ∷ ws) = if k == 0 then 0 else length w + 1 + bytes_before (k - 1) ws
 
 -- where the word at a place begins; behind the last byte where there are not so many
 abbrev pub start_of : ℕ → List ℕ → ℕ
@@ -39,14 +38,14 @@ abbrev pub is_listed : Named → List ℕ → Bool
 is_listed names w = (is_some (worker_in names w) || is_some (number_of w)) || is_among list_openers w
 
 -- how many words stand before the first that is no name, that may not be listed, and that is empty
-unfoldable pub names_before : List (List ℕ) → ℕ
+abbrev pub names_before : List (List ℕ) → ℕ
 names_before [] = 0
 names_before (w ∷ ws) = if is_name w then 1 + names_before ws else 0
 
-unfoldable pub listed_before : Named → List (List ℕ) → ℕ
+abbrev pub listed_before : Named → List (List ℕ) → ℕ
 listed_before names [] = 0
 listed_before names (w ∷ ws) = if is_listed names w then 1 + listed_before names ws else 0
 
-unfoldable pub full_before : List (List ℕ) → ℕ
+abbrev pub full_before : List (List ℕ) → ℕ
 full_before [] = 0
 full_before (w ∷ ws) = if length w == 0 then 0 else 1 + full_before ws

@@ -1,5 +1,5 @@
 //! What is wrong with a line in the place of an entry.
-ghost use Rattle.std.specs.Prelude.{◌≡◌};
+ghost use Rattle.std.specs.Prelude.{◌≡◌, ◌≤◌, IfSome};
 ghost use Rattle.ec_explain.specs.Causes.{act_words, equals_place, has_object, lacks_value, is_reply, act_cause, reply_cause, entry_cause, is_hand};
 
 use crate::cause::Cause;
@@ -19,7 +19,8 @@ static REPLIES: [&str; 2] = ["done", "pending"];
 
 /// Returns how many words an act has that begins with this one.
 fn act_words(verb: &[u8]) -> Option<usize>
-    ensures { result ≡ act_words verb.now }
+    ensures value { result ≡ act_words verb.now }
+    ensures few { IfSome result (λ n. n ≤ 3) }
 {
     if is_same(verb, b"go".as_slice()) {
         return Some(1);
@@ -35,7 +36,8 @@ fn act_words(verb: &[u8]) -> Option<usize>
 
 /// Returns where the sign of equality stands after such an act.
 pub(crate) fn equals_place(line: &[u8]) -> usize
-    ensures { result ≡ equals_place line.now }
+    ensures value { result ≡ equals_place line.now }
+    ensures few { result ≤ 4 }
 {
     match act_words(word_at(1, line)) {
         None => 2,

@@ -1,23 +1,14 @@
 //! What is wrong with a line of a heading.
 ghost use Rattle.std.specs.Prelude.{◌≡◌, is_some};
+ghost use Rattle.std.specs.List.{list_all};
+ghost use Rattle.ec_count.specs.Reserved.{is_name_byte};
 ghost use Rattle.ec_heading.specs.Sorts.{sort_of};
 ghost use Rattle.ec_explain.specs.Causes.{is_header, is_script, first_cause, limit_cause, has_name_form, name_cause, head_cause, bad_name_place, workers_cause, declaration_cause};
 
 use crate::cause::Cause;
-use crate::words::{is_among, is_same, names_before, word_at};
+use crate::words::{is_same, names_before, word_at};
 use ec_heading::{HeadFault, Heading, count_words};
 use ec_text::{cut_word, is_number_form};
-
-/// The words that begin declarations.
-static SORT_WORDS: [&str; 7] = [
-    "eventcount",
-    "sequencer",
-    "cells",
-    "buffer",
-    "database",
-    "semaphore",
-    "both",
-];
 
 /// Returns whether a line begins as the first line of some version does.
 fn is_header(line: &[u8]) -> bool
@@ -71,6 +62,14 @@ pub(crate) fn limit_cause(line: &[u8]) -> Cause
     Cause::LimitLarge
 }
 
+/// Returns whether each byte may stand in a name after the first.
+fn has_name_bytes(rest: &[u8]) -> bool
+    ensures { result ≡ list_all is_name_byte rest.now }
+{
+    rest.iter()
+        .all(|byte| byte.is_ascii_alphanumeric() || *byte == b'_')
+}
+
 /// Returns whether a word is a letter, followed by letters, digits and underscores.
 fn has_name_form(word: &[u8]) -> bool
     ensures { result ≡ has_name_form word.now }
@@ -78,10 +77,7 @@ fn has_name_form(word: &[u8]) -> bool
     let [first, rest @ ..] = word else {
         return false;
     };
-    first.is_ascii_alphabetic()
-        && rest
-            .iter()
-            .all(|byte| byte.is_ascii_alphanumeric() || *byte == b'_')
+    first.is_ascii_alphabetic() && has_name_bytes(rest)
 }
 
 /// Returns what is wrong with a word that is no name.
@@ -141,7 +137,13 @@ pub(crate) fn workers_cause(fault: HeadFault, line: &[u8]) -> Cause
 fn is_sort(word: &[u8]) -> bool
     ensures { result ≡ is_some (sort_of word.now) }
 {
-    is_among(&SORT_WORDS, word)
+    is_same(word, b"eventcount".as_slice())
+        || is_same(word, b"sequencer".as_slice())
+        || is_same(word, b"cells".as_slice())
+        || is_same(word, b"buffer".as_slice())
+        || is_same(word, b"database".as_slice())
+        || is_same(word, b"semaphore".as_slice())
+        || is_same(word, b"both".as_slice())
 }
 
 /// Returns what is wrong with a line in the place of a declaration.

@@ -2,6 +2,7 @@
 use ec_heading::{HeadFault, Heading};
 
 /// Where a rejected line of a trace stands.
+#[derive(Drop)]
 pub enum Site<'a> {
     /// It is the first line.
     First,

@@ -46,10 +46,10 @@ fn bytes_before(place: usize, line: &[u8]) -> usize
     ensures value { result ≡ bytes_before place (words_of line.now) }
     ensures few { result ≤ length line.now + 1 }
 {
+    let (word, rest) = cut_word(line);
     if place == 0 {
         return 0;
     }
-    let (word, rest) = cut_word(line);
     match rest {
         None => word.len() + 1,
         Some(rest) => word.len() + 1 + bytes_before(place - 1, rest),

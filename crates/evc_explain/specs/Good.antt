@@ -1,0 +1,27 @@
+-- What is said of a good trace.
+use Rattle.std.specs.Prelude.{ℕ, Bool, true, false, List, ◌++◌, length, count_by, codes, decimal}
+use Rattle.ec_core.specs.declared.act.Act.{Act}
+use Rattle.ec_core.specs.declared.act.Act.TheVariants.{Go}
+use Rattle.ec_core.specs.declared.act.Entry.{Entry}
+use Rattle.ec_trace.specs.Recounted.{Recounted}
+
+-- each act but a go begins a call
+abbrev pub is_begun_by : Act → Bool
+is_begun_by Go = false
+is_begun_by act = true
+
+abbrev pub begins_call : Entry → Bool
+begins_call e = is_begun_by e.act
+
+-- how many calls a history has, those under way at its end among them
+abbrev pub calls_of : List Entry → ℕ
+calls_of entries = count_by begins_call entries
+
+unfoldable pub workers_words : Recounted → List ℕ
+workers_words t = decimal t.heading.setup.workers ++ codes " workers.\n"
+
+-- how many entries, calls and workers it has
+unfoldable pub good_text : Recounted → List ℕ
+good_text t =
+    codes "The trace is good: " ++ decimal (length t.entries) ++ codes " entries, " ++ decimal (calls_of t.entries)
+    ++ codes " calls, " ++ workers_words t
