@@ -20,8 +20,12 @@ calls_of entries = count_by begins_call entries
 unfoldable pub workers_words : Recounted → List ℕ
 workers_words t = decimal t.heading.setup.workers ++ codes " workers.\n"
 
+unfoldable pub entries_words : Recounted → List ℕ
+entries_words t = codes "The trace is good: " ++ decimal (length t.entries) ++ codes " entries, "
+
+unfoldable pub calls_words : Recounted → List ℕ
+calls_words t = decimal (calls_of t.entries) ++ codes " calls, "
+
 -- how many entries, calls and workers it has
 unfoldable pub good_text : Recounted → List ℕ
-good_text t =
-    codes "The trace is good: " ++ decimal (length t.entries) ++ codes " entries, " ++ decimal (calls_of t.entries)
-    ++ codes " calls, " ++ workers_words t
+good_text t = entries_words t ++ calls_words t ++ workers_words t

@@ -1,9 +1,9 @@
 //! Where the faulty line of a trace stands, and what is wrong with it there.
 ghost use Rattle.std.specs.Prelude.{◌≡◌, ◌++◌, Err, IfOk, IfSome, codes};
 ghost use Rattle.ec_heading.specs.Heading.{head_step};
-ghost use Rattle.evc_explain.specs.Seeking.{Finds, FindsBad, Opens, up_to};
+ghost use Rattle.ec_explain.specs.TextLines.{line_at};
+ghost use Rattle.evc_explain.specs.Seeking.{Finds, FindsBad, Opens, follows_end, up_to};
 
-use ec_count::Limit;
 use ec_explain::{
     Finding, Site, before_line, found_at, line_at, refused_at, too_large, unfinished,
     wrong_reply_at,
@@ -57,7 +57,7 @@ fn in_workers(alloc: Global, text: &[u8]) -> Result<Finding, AllocError>
     ensures { IfOk result (FindsBad text.now 3) }
 {
     let line = line_at(3, text);
-    let Some(limit) = Limit::new(1) else {
+    let Some(limit) = Version::One.limit(1) else {
         return Ok(found_at(&Site::Unknown, 3, line));
     };
     let mut heading = Heading::new(alloc, Version::One, limit)?;
@@ -65,6 +65,19 @@ fn in_workers(alloc: Global, text: &[u8]) -> Result<Finding, AllocError>
         Some(fault) => Ok(found_at(&Site::Workers(fault), 3, line)),
         None => Ok(found_at(&Site::Unknown, 3, line)),
     }
+}
+
+/// Returns what is wrong with a line after this heading, with this as its least fault.
+fn declared_at(heading: &Heading, fault: HeadFault, text: &[u8], number: u64) -> Finding
+    requires opens { Opens (up_to number text.now) heading.now }
+    requires fails { head_step heading.now (line_at number text.now) ≡ Err fault }
+    ensures { FindsBad text.now number result }
+{
+    found_at(
+        &Site::Declaration(heading, fault),
+        number,
+        line_at(number, text),
+    )
 }
 
 /// Returns what is wrong with a line after the line of the workers.
@@ -77,7 +90,7 @@ fn in_declarations(alloc: Global, text: &[u8], number: u64) -> Result<Finding, A
         return Ok(found_at(&Site::Unknown, number, line));
     };
     match fault_of(&mut heading, line)? {
-        Some(fault) => Ok(found_at(&Site::Declaration(&heading, fault), number, line)),
+        Some(fault) => Ok(declared_at(&heading, fault, text, number)),
         None => Ok(found_at(&Site::Unknown, number, line)),
     }
 }
@@ -98,13 +111,20 @@ fn in_heading(alloc: Global, text: &[u8], number: u64) -> Result<Finding, AllocE
     in_declarations(alloc, text, number)
 }
 
+/// Returns whether a line stands after `end`.
+fn follows_end(number: u64, text: &[u8]) -> bool
+    ensures { result ≡ follows_end number text.now }
+{
+    line_at(number.saturating_sub(1), text) == b"end".as_slice()
+}
+
 /// Returns what is wrong with a line after `run`.
 fn in_run(heading: &Heading, text: &[u8], number: u64) -> Finding
     requires { Opens text.now heading.now }
     ensures { FindsBad text.now number result }
 {
     let line = line_at(number, text);
-    if line_at(number.saturating_sub(1), text) == b"end".as_slice() {
+    if follows_end(number, text) {
         return found_at(&Site::Behind, number, line);
     }
     found_at(&Site::Entry(heading), number, line)
