@@ -61,15 +61,8 @@ line_cause line = first_that (
 abbrev pub is_header : List ℕ → Bool
 is_header line = begins_with (codes "evc-trace") line || begins_with (codes "evc-script") line || begins_with (codes "evc-calls") line
 
-abbrev pub is_script : List ℕ → Bool
-is_script line = bytes_eq line (codes "evc-script 1") || bytes_eq line (codes "evc-script 2")
-
 abbrev pub first_cause : List ℕ → Cause
-first_cause line = unwrap_or (first_that (
-    (is_script line, causes.Script)
-    ∷ (bytes_eq line (codes "evc-calls 1"), causes.Calls)
-    ∷ (is_header line, causes.OtherVersion)
-    ∷ [])) causes.NoHeader
+first_cause line = if is_header line then causes.OtherVersion else causes.NoHeader
 
 -- THE LIMIT
 
@@ -109,6 +102,10 @@ head_cause heads.Memory w = causes.Other
 -- the place of the first word that is no name, behind the word `workers`
 abbrev pub bad_name_place : List ℕ → ℕ
 bad_name_place line = 1 + names_before (behind_first (words_of line))
+
+-- the place of the new name in a line of a heading that has one, or of the first word that should be one
+abbrev pub new_name_place : List ℕ → ℕ
+new_name_place line = if bytes_eq (word_at 0 line) (codes "workers") then bad_name_place line else 1
 
 abbrev pub workers_cause : HeadFault → List ℕ → Cause
 workers_cause fault line = unwrap_or (first_that (
@@ -186,6 +183,9 @@ site_cause (sites.Workers fault) line = workers_cause fault line
 site_cause (sites.Declaration h fault) line = declaration_cause h.now fault line
 site_cause (sites.Entry h) line = entry_cause h.now line
 site_cause sites.Behind line = causes.AfterEnd
+site_cause (sites.Heading fault) line = head_cause fault (word_at (new_name_place line) line)
+site_cause sites.Script line = causes.ScriptForm
+site_cause sites.Calls line = causes.CallsForm
 site_cause sites.Unknown line = causes.Other
 
 -- what is wrong with a line where it stands
@@ -196,6 +196,7 @@ cause_at site line = unwrap_or (line_cause line) (site_cause site line)
 
 abbrev pub name_place : Site → List ℕ → ℕ
 name_place (sites.Workers fault) line = bad_name_place line
+name_place (sites.Heading fault) line = new_name_place line
 name_place _ line = 1
 
 -- the place of the first word behind the name that may not be listed

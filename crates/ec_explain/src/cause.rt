@@ -23,10 +23,6 @@ pub enum Cause {
     SpaceAfter,
     /// It has two spaces in a row.
     TwoSpaces,
-    /// It is the first line of a script.
-    Script,
-    /// It is the first line of a history of calls.
-    Calls,
     /// It is the first line of no version.
     OtherVersion,
     /// It is the first line of no text.
@@ -107,6 +103,36 @@ pub enum Cause {
     NoEnd,
     /// The text is too large.
     TooLarge,
+    /// No line of a script has this form.
+    ScriptForm,
+    /// No line of a history of calls has this form.
+    CallsForm,
+    /// A word names nothing that is declared.
+    UnknownWord,
+    /// A number is out of its range.
+    OutOfRange,
+    /// A bound of the text is passed.
+    Full,
+    /// The object belongs to a group.
+    Hidden,
+    /// A semaphore is named twice.
+    TwoUses,
+    /// The worker lacks the right.
+    NoRole,
+    /// The line is badly nested.
+    BadNesting,
+    /// The text stops too early.
+    StopsEarly,
+    /// The from lines stand in another order.
+    BadOrder,
+    /// The worker calls while its call is pending.
+    CallPending,
+    /// The worker returns without a call.
+    NoPendingCall,
+    /// The reply does not suit the call.
+    Unsuited,
+    /// The limit is passed.
+    CallLimit,
     /// None of these.
     Other,
 }
@@ -126,8 +152,6 @@ impl Cause {
             Cause::SpaceBefore => b"The line begins with a space.",
             Cause::SpaceAfter => b"The line ends with a space.",
             Cause::TwoSpaces => b"The line has two spaces in a row.",
-            Cause::Script => b"This is a script, and no trace.",
-            Cause::Calls => b"This is a history of calls, and no trace.",
             Cause::OtherVersion => b"There is no such version.",
             Cause::NoHeader => b"The first line does not say what the text is.",
             Cause::NoLimit => b"The second line gives the limit, and this one does not.",
@@ -139,7 +163,7 @@ impl Cause {
             Cause::LongName => b"The name is too long.",
             Cause::ReservedName => b"The name is a word that the texts use themselves.",
             Cause::BadName => b"The word is no name.",
-            Cause::NameTaken => b"A name was used before, or a list names a worker twice.",
+            Cause::NameTaken => b"A name was used before.",
             Cause::UnknownName => b"The word is not the name of a worker.",
             Cause::BadNumber => b"The number is out of its range.",
             Cause::TooMany => b"There are too many.",
@@ -172,6 +196,22 @@ impl Cause {
             Cause::NoLastLf => b"The last line has no LF at its end.",
             Cause::NoEnd => b"The text stops before the line end.",
             Cause::TooLarge => b"The text has more than 67108864 bytes.",
+            Cause::ScriptForm => b"No line of this form may stand here in a script.",
+            Cause::CallsForm => b"No line of this form may stand here in a history of calls.",
+            Cause::UnknownWord =>
+                b"A word names nothing that is declared, or something of another sort.",
+            Cause::OutOfRange => b"A number is out of its range.",
+            Cause::Full => b"A bound is passed.",
+            Cause::Hidden => b"The object belongs to a group, and may not be named by itself.",
+            Cause::TwoUses => b"The line names one semaphore twice.",
+            Cause::NoRole => b"The worker may not do this.",
+            Cause::BadNesting => b"The line may not stand at this place of a block.",
+            Cause::StopsEarly => b"The text stops too early.",
+            Cause::BadOrder => b"The from lines are not in the order of the declarations.",
+            Cause::CallPending => b"The worker calls, and its last call has not returned.",
+            Cause::NoPendingCall => b"The worker returns, and has no pending call.",
+            Cause::Unsuited => b"The reply does not suit the call.",
+            Cause::CallLimit => b"The limit is passed.",
             Cause::Other => b"No line of this form may stand here.",
         }
     }
@@ -190,8 +230,6 @@ impl Cause {
             Cause::SpaceBefore => b"Remove the space: lines are not indented.",
             Cause::SpaceAfter => b"Remove the space.",
             Cause::TwoSpaces => b"Separate words by one space.",
-            Cause::Script => b"Run it by evc sim or evc run: they write its trace.",
-            Cause::Calls => b"Judge it by evc-calls check.",
             Cause::OtherVersion =>
                 b"The versions are evc-trace 1, evc-trace 2, evc-script 1, evc-script 2 and evc-calls 1.",
             Cause::NoHeader =>
@@ -207,7 +245,8 @@ impl Cause {
             Cause::LongName => b"A name has at most 16 letters, digits and underscores.",
             Cause::ReservedName => b"Choose another name.",
             Cause::BadName => b"A name is a letter, followed by letters, digits and underscores.",
-            Cause::NameTaken => b"Use each name once, and each worker once in a list.",
+            Cause::NameTaken =>
+                b"Use each name once, name each worker once in a list, and give a worker one block.",
             Cause::UnknownName => b"Name the worker in the line of the workers, or mend the word.",
             Cause::BadNumber =>
                 b"Cells, buffers and databases have 1 to 256 cells; a semaphore begins with 0 to 1000000.",
@@ -251,6 +290,31 @@ impl Cause {
             Cause::NoEnd =>
                 b"Write the line end as the last one: it shows that the record is whole.",
             Cause::TooLarge => b"Record a shorter run.",
+            Cause::ScriptForm =>
+                b"Declarations come first, then blocks, each from worker a to end, then the lines schedule a b.",
+            Cause::CallsForm =>
+                b"After run come lines as: a calls read E, and: a returns 1; the line end is the last one.",
+            Cause::UnknownWord => b"Declare it or mend the word; a cell is written as: X[0]",
+            Cause::OutOfRange =>
+                b"A value is at most 999999999999999999; a snapshot has 1 to 1000 tries, a repeat 1 to 1000000; write has a value for each cell.",
+            Cause::Full =>
+                b"A text has at most 16 workers, 32 eventcounts, 32 sequencers and 256 cells; a script 4096 commands a worker, 65536 turns and 1048576 bytes.",
+            Cause::Hidden =>
+                b"Use the calls of the group: produce, consume, write, snapshot, p, v and pboth.",
+            Cause::TwoUses => b"A pboth is of two semaphores that differ.",
+            Cause::NoRole =>
+                b"Name the worker in the list of the declaration that gives the right.",
+            Cause::BadNesting =>
+                b"Close a block by end before worker or schedule; a repeat has a command, and at most four stand in one another.",
+            Cause::StopsEarly =>
+                b"A script needs its line of workers and an end for each block and each repeat; a history of calls the line end.",
+            Cause::BadOrder => b"Write them in that order, one for each eventcount at most.",
+            Cause::CallPending =>
+                b"Record the line returns of that call before it; each worker is one thread.",
+            Cause::NoPendingCall => b"Record the line calls of the call before it.",
+            Cause::Unsuited =>
+                b"advance, put, v, p, pboth and write return done, read, ticket and get a number, snapshot a number for each cell.",
+            Cause::CallLimit => b"Raise the limit in the second line of the history.",
             Cause::Other => b"Look into FORMATS.md, or into the manual page evc-formats.",
         }
     }

@@ -3,7 +3,8 @@ ghost use Rattle.std.specs.Prelude.{◌≡◌, is_some};
 ghost use Rattle.std.specs.List.{list_all};
 ghost use Rattle.ec_count.specs.Reserved.{is_name_byte};
 ghost use Rattle.ec_heading.specs.Sorts.{sort_of};
-ghost use Rattle.ec_explain.specs.Causes.{is_header, is_script, first_cause, limit_cause, has_name_form, name_cause, head_cause, bad_name_place, workers_cause, declaration_cause};
+ghost use Rattle.ec_explain.specs.Places.{word_at};
+ghost use Rattle.ec_explain.specs.Causes.{is_header, first_cause, limit_cause, has_name_form, name_cause, head_cause, bad_name_place, new_name_place, workers_cause, declaration_cause};
 
 use crate::cause::Cause;
 use crate::words::{is_same, names_before, word_at};
@@ -19,23 +20,10 @@ fn is_header(line: &[u8]) -> bool
         || line.starts_with(b"evc-calls".as_slice())
 }
 
-/// Returns whether a line is the first line of a script.
-fn is_script(line: &[u8]) -> bool
-    ensures { result ≡ is_script line.now }
-{
-    is_same(line, b"evc-script 1".as_slice()) || is_same(line, b"evc-script 2".as_slice())
-}
-
 /// Returns what is wrong with a first line.
 pub(crate) fn first_cause(line: &[u8]) -> Cause
     ensures { result ≡ first_cause line.now }
 {
-    if is_script(line) {
-        return Cause::Script;
-    }
-    if is_same(line, b"evc-calls 1".as_slice()) {
-        return Cause::Calls;
-    }
     if is_header(line) {
         return Cause::OtherVersion;
     }
@@ -118,6 +106,24 @@ pub(crate) fn bad_name_place(line: &[u8]) -> usize
         (_, None) => 1,
         (_, Some(list)) => 1 + names_before(list),
     }
+}
+
+/// Returns the place of the new name in a line of a heading, or of the first word that should be one.
+pub(crate) fn new_name_place(line: &[u8]) -> usize
+    ensures { result ≡ new_name_place line.now }
+{
+    if is_same(word_at(0, line), b"workers".as_slice()) {
+        bad_name_place(line)
+    } else {
+        1
+    }
+}
+
+/// Returns what is wrong with a line of a heading that has this as its least fault.
+pub(crate) fn named_cause(fault: HeadFault, line: &[u8]) -> Cause
+    ensures { result ≡ head_cause fault (word_at (new_name_place line.now) line.now) }
+{
+    head_cause(fault, word_at(new_name_place(line), line))
 }
 
 /// Returns what is wrong with a line in the place of the workers.

@@ -4,7 +4,10 @@ ghost use Rattle.ec_explain.specs.Causes.{site_cause, cause_at, name_place, firs
 
 use crate::cause::Cause;
 use crate::entry::{entry_cause, equals_place};
-use crate::head::{bad_name_place, declaration_cause, first_cause, limit_cause, workers_cause};
+use crate::head::{
+    bad_name_place, declaration_cause, first_cause, limit_cause, named_cause, new_name_place,
+    workers_cause,
+};
 use crate::line::line_cause;
 use crate::lines::place_of;
 use crate::site::Site;
@@ -23,6 +26,9 @@ fn site_cause(site: &Site<'_>, line: &[u8]) -> Cause
         Site::Declaration(heading, fault) => declaration_cause(heading, *fault, line),
         Site::Entry(heading) => entry_cause(heading, line),
         Site::Behind => Cause::AfterEnd,
+        Site::Heading(fault) => named_cause(*fault, line),
+        Site::Script => Cause::ScriptForm,
+        Site::Calls => Cause::CallsForm,
         Site::Unknown => Cause::Other,
     }
 }
@@ -44,6 +50,7 @@ fn name_place(site: &Site<'_>, line: &[u8]) -> usize
 {
     match site {
         Site::Workers(_) => bad_name_place(line),
+        Site::Heading(_) => new_name_place(line),
         _ => 1,
     }
 }

@@ -1,7 +1,7 @@
 //! Where a line stands.
 use ec_heading::{HeadFault, Heading};
 
-/// Where a rejected line of a trace stands.
+/// Where a rejected line stands.
 #[derive(Drop)]
 pub enum Site<'a> {
     /// It is the first line.
@@ -16,6 +16,12 @@ pub enum Site<'a> {
     Entry(&'a Heading),
     /// It stands after `end`.
     Behind,
+    /// It stands in a heading, with this as its least fault.
+    Heading(HeadFault),
+    /// It stands in a script, and has no form of its place.
+    Script,
+    /// It stands in a history of calls, and has no form of its place.
+    Calls,
     /// It is not known where it stands.
     Unknown,
 }

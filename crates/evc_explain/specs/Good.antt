@@ -1,8 +1,9 @@
--- What is said of a good trace.
+-- What is said of a good text.
 use Rattle.std.specs.Prelude.{ℕ, Bool, true, false, List, ◌++◌, length, count_by, codes, decimal}
 use Rattle.ec_core.specs.declared.act.Act.{Act}
 use Rattle.ec_core.specs.declared.act.Act.TheVariants.{Go}
 use Rattle.ec_core.specs.declared.act.Entry.{Entry}
+use Rattle.ec_script.specs.Scripted.{Planned}
 use Rattle.ec_trace.specs.Recounted.{Recounted}
 
 -- each act but a go begins a call
@@ -29,3 +30,16 @@ calls_words t = decimal (calls_of t.entries) ++ codes " calls, "
 -- how many entries, calls and workers it has
 unfoldable pub good_text : Recounted → List ℕ
 good_text t = entries_words t ++ calls_words t ++ workers_words t
+
+unfoldable pub script_workers : Planned → List ℕ
+script_workers p = codes "The script is good: " ++ decimal p.heading.setup.workers ++ codes " workers, "
+
+unfoldable pub script_turns : Planned → List ℕ
+script_turns p = decimal (length p.schedule) ++ codes " turns in its schedule.\n"
+
+-- how many workers a script has, and how many turns its schedule
+unfoldable pub good_script : Planned → List ℕ
+good_script p = script_workers p ++ script_turns p
+
+abbrev pub good_calls : List ℕ
+good_calls = codes "The text is well formed. Whether the calls are linearizable says evc-calls check.\n"

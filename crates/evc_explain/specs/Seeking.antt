@@ -46,8 +46,8 @@ pub record FindsBad (text : List ℕ) (n : ℕ) (f : Finding) : Type 0 where
 -- what is found of a text that has this fault as a trace
 abbrev pub Finds : List ℕ → TraceFault → Finding → Type 0
 Finds text (faults.BadLine n) f = FindsBad text n f
-Finds text (faults.Refused n refusal) f = f ≡ refused_at n refusal (line_at n text)
-Finds text (faults.WrongReply n right) f = f ≡ wrong_reply_at n (line_at n text)
+Finds text (faults.Refused n refusal) f = f ≡ refused_at n refusal text
+Finds text (faults.WrongReply n right) f = f ≡ wrong_reply_at n right text
 Finds text faults.Unfinished f = f ≡ unfinished text
 Finds text faults.TooLarge f = f ≡ of_whole causes.TooLarge
 Finds text faults.Read f = Unit {0}

@@ -4,12 +4,18 @@ ghost use Rattle.ec_text.specs.Puts.{Puts, IsWrittenOut};
 ghost use Rattle.ec_explain.specs.Findings.{finding_text};
 ghost use Rattle.evc_engine.specs.Checks.{ReadsAs, RefusedFor};
 ghost use Rattle.evc_engine.specs.declared.status.Status.TheVariants.{Done, InputOutput, Memory, Refused};
-ghost use Rattle.evc_explain.specs.Explains.{Explains, ExplainsText, RefusedOr, TellsFault, Writes};
-ghost use Rattle.evc_explain.specs.Good.{good_text};
+ghost use Rattle.evc_explain.specs.Explains.{Explains, ExplainsCalls, ExplainsScript, ExplainsText, ExplainsTrace, RefusedOr, TellsFault, Writes};
+ghost use Rattle.evc_explain.specs.Good.{good_calls, good_script, good_text};
+ghost use Rattle.ec_script.specs.Outcome.{shown_plan};
 
-use crate::good::put_good;
+use crate::form::{Form, form_of};
+use crate::good::{put_good, put_good_calls, put_good_script};
+use crate::histories::calls_fault;
 use crate::seeking::finding_of;
-use ec_explain::{Finding, put_finding};
+use ec_explain::{
+    Cause, Finding, calls_finding, of_whole, put_finding, script_finding,
+};
+use ec_script::{Plan, ScriptFault, parse};
 use ec_text::{Input, Out, read_up_to};
 use ec_trace::{TRACE_MAX, TraceFault, Traced, read_trace};
 use evc_engine::Status;
@@ -44,6 +50,50 @@ fn write_finding<W: Write, N: Write>(
     lines.into_writer();
     match done {
         Ok(()) => Status::Refused,
+        Err(_) => {
+            notes.say(b"write fault\n");
+            Status::InputOutput
+        }
+    }
+}
+
+/// Writes that a script is good.
+fn write_good_script<W: Write, N: Write>(
+    plan: &Plan,
+    out: &mut W,
+    notes: &mut Out<'_, N>,
+) -> Status
+    ensures ends { Writes (good_script (shown_plan plan.now)) Done result
+        (record { out = W.contents out.old; notes = notes.old })
+        (record { out = W.contents out.new; notes = notes.new }) }
+    ensures written { IsWrittenOut notes.old → IsWrittenOut notes.new }
+{
+    let mut lines = Out::new(out);
+    put_good_script(&mut lines, plan);
+    let done = lines.finish();
+    lines.into_writer();
+    match done {
+        Ok(()) => Status::Done,
+        Err(_) => {
+            notes.say(b"write fault\n");
+            Status::InputOutput
+        }
+    }
+}
+
+/// Writes that histories of calls are well formed.
+fn write_good_calls<W: Write, N: Write>(out: &mut W, notes: &mut Out<'_, N>) -> Status
+    ensures ends { Writes good_calls Done result
+        (record { out = W.contents out.old; notes = notes.old })
+        (record { out = W.contents out.new; notes = notes.new }) }
+    ensures written { IsWrittenOut notes.old → IsWrittenOut notes.new }
+{
+    let mut lines = Out::new(out);
+    put_good_calls(&mut lines);
+    let done = lines.finish();
+    lines.into_writer();
+    match done {
+        Ok(()) => Status::Done,
         Err(_) => {
             notes.say(b"write fault\n");
             Status::InputOutput
@@ -99,7 +149,71 @@ fn explain_fault<W: Write, N: Write>(
     }
 }
 
-/// Explains a text that was read to its end.
+/// Explains a trace.
+fn explain_trace<W: Write, N: Write>(
+    alloc: Global,
+    text: &[u8],
+    out: &mut W,
+    notes: &mut Out<'_, N>,
+) -> Status
+    ensures ends { ExplainsTrace text.now result
+        (record { out = W.contents out.old; notes = notes.old })
+        (record { out = W.contents out.new; notes = notes.new }) }
+    ensures written { IsWrittenOut notes.old → IsWrittenOut notes.new }
+{
+    match read_text(alloc, text) {
+        Ok(traced) => write_good(&traced, out, notes),
+        Err(TraceFault::Memory | TraceFault::Read) => want(notes),
+        Err(fault) => explain_fault(alloc, text, &fault, out, notes),
+    }
+}
+
+/// Explains a script.
+fn explain_script<W: Write, N: Write>(
+    alloc: Global,
+    text: &[u8],
+    out: &mut W,
+    notes: &mut Out<'_, N>,
+) -> Status
+    ensures ends { ExplainsScript text.now result
+        (record { out = W.contents out.old; notes = notes.old })
+        (record { out = W.contents out.new; notes = notes.new }) }
+    ensures written { IsWrittenOut notes.old → IsWrittenOut notes.new }
+{
+    match parse(alloc, text) {
+        Ok(plan) => write_good_script(&plan, out, notes),
+        Err(ScriptFault::Memory) => want(notes),
+        Err(ScriptFault::At { line, kind }) => {
+            write_finding(&script_finding(kind, line, text), text, out, notes)
+        }
+    }
+}
+
+/// Explains histories of calls.
+fn explain_calls<W: Write, N: Write>(
+    alloc: Global,
+    text: &[u8],
+    out: &mut W,
+    notes: &mut Out<'_, N>,
+) -> Status
+    ensures ends { ExplainsCalls text.now result
+        (record { out = W.contents out.old; notes = notes.old })
+        (record { out = W.contents out.new; notes = notes.new }) }
+    ensures written { IsWrittenOut notes.old → IsWrittenOut notes.new }
+{
+    if text.len() > TRACE_MAX {
+        return write_finding(&of_whole(Cause::TooLarge), text, out, notes);
+    }
+    match calls_fault(alloc, text) {
+        Ok(None) => write_good_calls(out, notes),
+        Ok(Some((line, kind))) => {
+            write_finding(&calls_finding(kind, line, text), text, out, notes)
+        }
+        Err(AllocError) => want(notes),
+    }
+}
+
+/// Explains a text that was read to its end, by how its first line begins.
 fn explain_text<W: Write, N: Write>(
     alloc: Global,
     text: &[u8],
@@ -111,10 +225,10 @@ fn explain_text<W: Write, N: Write>(
         (record { out = W.contents out.new; notes = notes.new }) }
     ensures written { IsWrittenOut notes.old → IsWrittenOut notes.new }
 {
-    match read_text(alloc, text) {
-        Ok(traced) => write_good(&traced, out, notes),
-        Err(TraceFault::Memory | TraceFault::Read) => want(notes),
-        Err(fault) => explain_fault(alloc, text, &fault, out, notes),
+    match form_of(text) {
+        Form::Trace => explain_trace(alloc, text, out, notes),
+        Form::Script => explain_script(alloc, text, out, notes),
+        Form::Calls => explain_calls(alloc, text, out, notes),
     }
 }
 

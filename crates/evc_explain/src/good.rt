@@ -1,9 +1,11 @@
 //! What is said of a good text.
 ghost use Rattle.std.specs.Prelude.{◌≡◌, ◌++◌, decimal, length};
 ghost use Rattle.ec_text.specs.Puts.{Puts};
-ghost use Rattle.evc_explain.specs.Good.{begins_call, calls_of, calls_words, entries_words, good_text, workers_words};
+ghost use Rattle.evc_explain.specs.Good.{begins_call, calls_of, calls_words, entries_words, good_calls, good_script, good_text, script_turns, script_workers, workers_words};
+ghost use Rattle.ec_script.specs.Outcome.{shown_plan};
 
 use ec_core::{Act, Entry, Run};
+use ec_script::Plan;
 use ec_text::Out;
 use ec_trace::Traced;
 use std::io::Write;
@@ -76,4 +78,38 @@ fn put_workers<W: Write>(out: &mut Out<'_, W>, traced: &Traced)
 {
     out.put_number(traced.heading().setup().workers() as u64);
     out.put(b" workers.\n");
+}
+
+/// Puts that a script is good, and how many workers it has.
+#[tactic(auto, unfolding(crate::specs::Good::script_workers))]
+fn put_script_workers<W: Write>(out: &mut Out<'_, W>, plan: &Plan)
+    ensures { Puts out.old out.new (script_workers (shown_plan plan.now)) }
+{
+    let workers = plan.heading.setup().workers();
+    put_count(out, b"The script is good: ", workers, b" workers, ");
+}
+
+/// Puts how many turns the schedule of a script has.
+#[tactic(auto, unfolding(crate::specs::Good::script_turns))]
+fn put_script_turns<W: Write>(out: &mut Out<'_, W>, plan: &Plan)
+    ensures { Puts out.old out.new (script_turns (shown_plan plan.now)) }
+{
+    out.put_number(plan.schedule.len() as u64);
+    out.put(b" turns in its schedule.\n");
+}
+
+/// Puts that a script is good, and how many workers and turns it has.
+#[tactic(auto, unfolding(crate::specs::Good::good_script))]
+pub(crate) fn put_good_script<W: Write>(out: &mut Out<'_, W>, plan: &Plan)
+    ensures { Puts out.old out.new (good_script (shown_plan plan.now)) }
+{
+    put_script_workers(out, plan);
+    put_script_turns(out, plan);
+}
+
+/// Puts that histories of calls are well formed.
+pub(crate) fn put_good_calls<W: Write>(out: &mut Out<'_, W>)
+    ensures { Puts out.old out.new good_calls }
+{
+    out.put(b"The text is well formed. Whether the calls are linearizable says evc-calls check.\n");
 }

@@ -2,7 +2,9 @@
 #![tactic(auto)]
 
 mod explaining;
+mod form;
 mod good;
+mod histories;
 mod seeking;
 
 use crate::explaining::explain;

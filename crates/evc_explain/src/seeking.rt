@@ -5,7 +5,7 @@ ghost use Rattle.ec_explain.specs.TextLines.{line_at};
 ghost use Rattle.evc_explain.specs.Seeking.{Finds, FindsBad, Opens, follows_end, up_to};
 
 use ec_explain::{
-    Finding, Site, before_line, found_at, line_at, refused_at, too_large, unfinished,
+    Cause, Finding, Site, before_line, found_at, line_at, of_whole, refused_at, unfinished,
     wrong_reply_at,
 };
 use ec_heading::{HeadFault, Heading, Version};
@@ -73,11 +73,7 @@ fn declared_at(heading: &Heading, fault: HeadFault, text: &[u8], number: u64) ->
     requires fails { head_step heading.now (line_at number text.now) ≡ Err fault }
     ensures { FindsBad text.now number result }
 {
-    found_at(
-        &Site::Declaration(heading, fault),
-        number,
-        line_at(number, text),
-    )
+    found_at(&Site::Declaration(heading, fault), number, line_at(number, text))
 }
 
 /// Returns what is wrong with a line after the line of the workers.
@@ -151,10 +147,10 @@ pub(crate) fn finding_of(
     match *fault {
         TraceFault::BadLine(number) => bad_line(alloc, text, number),
         TraceFault::Refused(number, refusal) => {
-            Ok(refused_at(number, refusal, line_at(number, text)))
+            Ok(refused_at(number, refusal, text))
         }
-        TraceFault::WrongReply(number, _) => Ok(wrong_reply_at(number, line_at(number, text))),
+        TraceFault::WrongReply(number, right) => Ok(wrong_reply_at(number, right, text)),
         TraceFault::Unfinished => Ok(unfinished(text)),
-        TraceFault::TooLarge | TraceFault::Read | TraceFault::Memory => Ok(too_large()),
+        TraceFault::TooLarge | TraceFault::Read | TraceFault::Memory => Ok(of_whole(Cause::TooLarge)),
     }
 }

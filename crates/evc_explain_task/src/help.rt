@@ -5,12 +5,14 @@
 pub(crate) const VERSION: &str = "0.2
 proved and built with rattle-kit-13";
 
-pub(crate) const ABOUT: &str = "Says what is wrong with a trace, and how to mend it";
+pub(crate) const ABOUT: &str =
+    "Says what is wrong with a trace, a script or a history of calls, and how to mend it";
 
-pub(crate) const LONG_ABOUT: &str = "Says what is wrong with a trace, and how to mend it.
+pub(crate) const LONG_ABOUT: &str =
+    "Says what is wrong with a trace, a script or a history of calls, and how to mend it.
 
-For a text that evc check rejects it writes the line as it stands, a mark under the place, what is
-wrong there, and how to mend it:
+For a text that evc check, evc sim or evc-calls check rejects for one of its lines it writes the
+line as it stands, a mark under the place, what is wrong there, and how to mend it:
 
     line 6:
         a advnce E = done
@@ -18,7 +20,8 @@ wrong there, and how to mend it:
     The second word is no act.
     The acts are advance, read, await, go, ticket, put, get and hand.
 
-For a good text it says so, with the number of its entries, calls and workers.";
+It shows another line that says why, if there is one, and for a wrong reply the right one. For a
+good text it says so. Whether a well-formed history of calls is linearizable says evc-calls check.";
 
 pub(crate) const AFTER_HELP: &str = "Example:
   evc-explain my.trace
