@@ -35,6 +35,9 @@ Stands text n (sites.Workers fault) = (n ≡ 3) × (head_step (opened One 1 []) 
 Stands text n (sites.Declaration h fault) = Opens (up_to n text) h.now × (head_step h.now (line_at n text) ≡ Err fault)
 Stands text n (sites.Entry h) = Opens text h.now × (follows_end n text ≡ false)
 Stands text n sites.Behind = follows_end n text ≡ true
+Stands text n (sites.Heading fault) = ⊥
+Stands text n sites.Script = ⊥
+Stands text n sites.Calls = ⊥
 Stands text n sites.Unknown = Unit {0}
 
 -- what is found of a bad line: the first cause that is so of the line where it stands

@@ -12,9 +12,7 @@ use crate::form::{Form, form_of};
 use crate::good::{put_good, put_good_calls, put_good_script};
 use crate::histories::calls_fault;
 use crate::seeking::finding_of;
-use ec_explain::{
-    Cause, Finding, calls_finding, of_whole, put_finding, script_finding,
-};
+use ec_explain::{Cause, Finding, calls_finding, of_whole, put_finding, script_finding};
 use ec_script::{Plan, ScriptFault, parse};
 use ec_text::{Input, Out, read_up_to};
 use ec_trace::{TRACE_MAX, TraceFault, Traced, read_trace};
@@ -58,11 +56,7 @@ fn write_finding<W: Write, N: Write>(
 }
 
 /// Writes that a script is good.
-fn write_good_script<W: Write, N: Write>(
-    plan: &Plan,
-    out: &mut W,
-    notes: &mut Out<'_, N>,
-) -> Status
+fn write_good_script<W: Write, N: Write>(plan: &Plan, out: &mut W, notes: &mut Out<'_, N>) -> Status
     ensures ends { Writes (good_script (shown_plan plan.now)) Done result
         (record { out = W.contents out.old; notes = notes.old })
         (record { out = W.contents out.new; notes = notes.new }) }

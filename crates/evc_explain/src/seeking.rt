@@ -73,7 +73,11 @@ fn declared_at(heading: &Heading, fault: HeadFault, text: &[u8], number: u64) ->
     requires fails { head_step heading.now (line_at number text.now) ≡ Err fault }
     ensures { FindsBad text.now number result }
 {
-    found_at(&Site::Declaration(heading, fault), number, line_at(number, text))
+    found_at(
+        &Site::Declaration(heading, fault),
+        number,
+        line_at(number, text),
+    )
 }
 
 /// Returns what is wrong with a line after the line of the workers.
@@ -146,11 +150,11 @@ pub(crate) fn finding_of(
 {
     match *fault {
         TraceFault::BadLine(number) => bad_line(alloc, text, number),
-        TraceFault::Refused(number, refusal) => {
-            Ok(refused_at(number, refusal, text))
-        }
+        TraceFault::Refused(number, refusal) => { Ok(refused_at(number, refusal, text)) }
         TraceFault::WrongReply(number, right) => Ok(wrong_reply_at(number, right, text)),
         TraceFault::Unfinished => Ok(unfinished(text)),
-        TraceFault::TooLarge | TraceFault::Read | TraceFault::Memory => Ok(of_whole(Cause::TooLarge)),
+        TraceFault::TooLarge | TraceFault::Read | TraceFault::Memory => Ok(of_whole(
+            Cause::TooLarge,
+        )),
     }
 }

@@ -4,12 +4,12 @@ use Rattle.calls_text.specs.Outcomes.{parts_of}
 use Rattle.evc_explain.specs.Histories.{FaultFrom}
 use Rattle.evc_explain.proofs.histories.calls_fault.Given as goal
 
--- what follows has the fault of the whole text
-abbrev pub invariant-loop : goal.invariant-loop
-invariant-loop l = record {
+-- the fault of what follows is that of the whole text
+abbrev pub invariant-loop-read : goal.invariant-loop-read
+invariant-loop-read l = record {
   few : l.number + length l.rest ≤ 1 + length l.text;
   follows : (o : Option (ℕ × Kind)) → FaultFrom l.number (parts_of l.rest) o → FaultFrom 1 (parts_of l.text) o;
 }
 
-abbrev pub decreases-loop : goal.decreases-loop
-decreases-loop l = length l.rest
+abbrev pub decreases-loop-read : goal.decreases-loop-read
+decreases-loop-read l = length l.rest
