@@ -261,8 +261,12 @@ fn put_calls<W: Write>(out: &mut Out<'_, W>, picture: &Picture<'_>) {
 /// Puts a line for each call that a certificate names.
 fn put_named<W: Write>(out: &mut Out<'_, W>, picture: &Picture<'_>, evidence: &Evidence<'_>) {
     for call in &evidence.faulty {
+        let mut bar = Bar::of(call);
+        if call.last >= picture.events.len() {
+            bar.end = None;
+        }
         out.put(b"named: ");
-        put_whole(out, picture, &Bar::of(call));
+        put_whole(out, picture, &bar);
         out.put(b"\n");
     }
 }
