@@ -135,4 +135,4 @@ remedy causes.CallPending = codes "Record the line returns of that call before i
 remedy causes.NoPendingCall = codes "Record the line calls of the call before it."
 remedy causes.Unsuited = codes "advance, put, v, p, pboth and write return done, read, ticket and get a number, snapshot a number for each cell."
 remedy causes.CallLimit = codes "Raise the limit in the second line of the history."
-remedy causes.Other = codes "Look into FORMATS.md, or into the manual page evc-formats."
+remedy causes.Other = codes "Look into docs/REFERENCE.md, or the manual page evc-trace."

@@ -315,7 +315,7 @@ impl Cause {
             Cause::Unsuited =>
                 b"advance, put, v, p, pboth and write return done, read, ticket and get a number, snapshot a number for each cell.",
             Cause::CallLimit => b"Raise the limit in the second line of the history.",
-            Cause::Other => b"Look into FORMATS.md, or into the manual page evc-formats.",
+            Cause::Other => b"Look into docs/REFERENCE.md, or the manual page evc-trace.",
         }
     }
 }
