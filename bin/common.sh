@@ -75,6 +75,7 @@ release_table() {
 evc evc crates/evc/out/evc
 evc-draw evc_draw crates/evc_draw/out/evc_draw
 evc-calls evc_calls crates/evc_calls/out/evc_calls
+evc-explain evc_explain crates/evc_explain/out/evc_explain
 libevc evc_c crates/evc_c/out/libevc_c.a
 END
 }

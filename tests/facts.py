@@ -232,7 +232,7 @@ def faults_of_summaries():
 
 def faults_of_options():
     """Looks for the options of evc-draw, by its help, in REFERENCE and in its completions."""
-    options = re.findall(r"^  (?:-\w, )?--([a-z]+)", read("crates/evc_draw/src/help.rt"), re.M)
+    options = re.findall(r'"([a-z]+)", help::', read("crates/evc_draw_task/src/line.rt"))
     page = section("REFERENCE.md", "## Pictures")
     for name in options:
         if f"`--{name}" not in page and name not in ("help", "version"):
@@ -257,7 +257,17 @@ def faults_of_manuals():
             yield f"{page} can't be made: {made.stderr.strip()}"
 
 
+def faults_of_causes():
+    """Compares the causes of evc-explain in its man page with their sentences in ec_explain."""
+    table = read("package/evc-explain.causes")
+    advice = read("crates/ec_explain/specs/Advice.antt")
+    for text in re.findall(r'^\w+ causes\.\w+ = codes "([^"]*)"', advice, re.M):
+        if text.replace("\\\\", "\\") not in table.replace("`", ""):
+            yield f"package/evc-explain.causes: the sentence is missing: {text}"
+
+
 CHECKS = [
+    faults_of_causes,
     faults_of_limits,
     faults_of_recorders,
     faults_of_reserved,

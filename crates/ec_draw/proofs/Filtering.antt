@@ -1,13 +1,10 @@
 -- What is kept of lists, element by element.
 use Rattle.std.proofs.Common.{◌≡◌, ℕ, suc, ◌+◌, ◌<◌, ◌≤◌, Bool, true, false, List, [], ◌∷◌, ◌++◌, Option, Some, None, refl, ap, sym, ◌∙◌, arith, cond, append-nil, append_assoc, reverse}
 use Rattle.std.specs.List.{filter}
-use Rattle.std.proofs.lemmas.Bool.{lt-ltb, le-ltb}
 use Rattle.std.specs.Option.{option_to_list}
 use Rattle.ec_core.specs.declared.act.Entry.{Entry}
 use Rattle.ec_draw.specs.declared.window.Window.{Window}
-use Rattle.ec_draw.specs.declared.open.Open.{Open}
 use Rattle.ec_draw.specs.declared.curve.Counted.TheVariants.{Event, Sequencer}
-use Rattle.ec_draw.specs.Open.{is_open_shown, open_call, open_calls}
 use Rattle.ec_draw.specs.Curves.{Line, line_of, event_lines, sequencer_lines}
 
 pub filter_more : {X : Type 0} (f : X → Bool) (xs : List X) (x : X) → filter f (xs ++ x ∷ []) ≡ filter f xs ++ cond (f x) (x ∷ []) []
@@ -20,18 +17,6 @@ filter_more f (y ∷ ys) x = elim (f y) as (λ b. cond b (y ∷ filter f (ys ++ 
 pub filter_behind : {X : Type 0} (f : X → Bool) (xs : List X) (o : Option X) → filter f (xs ++ option_to_list o) ≡ filter f xs ++ filter f (option_to_list o)
 filter_behind f xs None = ap (filter f) (append-nil xs) ∙ sym (append-nil (filter f xs))
 filter_behind f xs (Some x) = filter_more f xs x
-
--- CALLS UNDER WAY
-
--- those of one worker more
-pub open_more : (w : Window) (h : List Entry) (n : ℕ) (os : List Open) (o : Option Open) → os ≡ filter (is_open_shown w) (open_calls n (reverse h)) → o ≡ open_call n (reverse h)
-    → os ++ filter (is_open_shown w) (option_to_list o) ≡ filter (is_open_shown w) (open_calls (n + 1) (reverse h))
-unfolding open_calls
-open_more w h n os o was is =
-    let one : n + 1 ≡ suc n = omega arith in
-    ap (λ z. z ++ filter (is_open_shown w) (option_to_list o)) was
-    ∙ ap (λ z. filter (is_open_shown w) (open_calls n (reverse h)) ++ filter (is_open_shown w) (option_to_list z)) is
-    ∙ sym (filter_behind (is_open_shown w) (open_calls n (reverse h)) (open_call n (reverse h))) ∙ ap (λ m. filter (is_open_shown w) (open_calls m (reverse h))) (sym one)
 
 -- CURVES
 
@@ -65,17 +50,3 @@ kept_no f bs p rest ps all steps hidden was = sym (ap (λ z. bs ++ filter f z) s
 
 pub kept_all : {X : Type 0} (f : X → Bool) (bs rest ps qs : List X) → rest ≡ [] → ps ≡ qs → bs ++ filter f rest ≡ filter f ps → bs ≡ filter f qs
 kept_all f bs rest ps qs none same was = sym (append-nil bs) ∙ sym (ap (λ z. bs ++ filter f z) none) ∙ was ∙ ap (filter f) same
-
-pub open_yes : (w : Window) (h : List Entry) (n : ℕ) (os ps : List Open) (b : Open) → os ≡ filter (is_open_shown w) (open_calls n (reverse h)) → Some b ≡ open_call n (reverse h) → b.first < w.to
-    → ps ≡ os ++ b ∷ [] → ps ≡ filter (is_open_shown w) (open_calls (n + 1) (reverse h))
-open_yes w h n os ps b was is begun more =
-    more ∙ sym (ap (λ d. os ++ cond d (b ∷ []) []) (lt-ltb b.first w.to begun)) ∙ open_more w h n os (Some b) was is
-
-pub open_no : (w : Window) (h : List Entry) (n : ℕ) (os : List Open) (b : Open) → os ≡ filter (is_open_shown w) (open_calls n (reverse h)) → Some b ≡ open_call n (reverse h) → w.to ≤ b.first
-    → os ≡ filter (is_open_shown w) (open_calls (n + 1) (reverse h))
-open_no w h n os b was is later =
-    sym (append-nil os) ∙ sym (ap (λ d. os ++ cond d (b ∷ []) []) (le-ltb b.first w.to later)) ∙ open_more w h n os (Some b) was is
-
-pub open_none : (w : Window) (h : List Entry) (n : ℕ) (os : List Open) → os ≡ filter (is_open_shown w) (open_calls n (reverse h)) → None ≡ open_call n (reverse h)
-    → os ≡ filter (is_open_shown w) (open_calls (n + 1) (reverse h))
-open_none w h n os was is = sym (append-nil os) ∙ open_more w h n os None was is

@@ -8,3 +8,4 @@ mod WalkLemmas
 mod Telling
 mod Beginning
 mod Shown
+mod Choosing

@@ -1,13 +1,12 @@
 -- The curves of counts: of each eventcount its total, and of each sequencer its tickets, at each moment that is shown. The moment of
 -- column j is moment from + j, at which so many of the history's entries have happened.
-use Rattle.std.specs.Prelude.{◌≡◌, ℕ, ◌+◌, ◌-◌, ◌<◌, zero, suc, Bool, List, [], ◌∷◌, ◌++◌, length, Some, slice_get}
+use Rattle.std.specs.Prelude.{ℕ, ◌+◌, ◌-◌, ◌<◌, zero, suc, Bool, List, [], ◌∷◌, ◌++◌, length}
 use Rattle.ec_count.specs.Tables.{Tables}
 use Rattle.ec_core.specs.declared.act.Act.{Act}
 use Rattle.ec_core.specs.declared.act.Entry.{Entry}
 use Rattle.ec_core.specs.Counts.{past_at, total, issued, is_advance, is_ticket}
 use Rattle.ec_draw.specs.declared.window.Window.{Window}
 use Rattle.ec_draw.specs.declared.curve.Counted.{Counted}
-use Rattle.ec_draw.specs.declared.curve.Counts.{Counts}
 use Rattle.ec_draw.specs.declared.curve.Curve.{Curve}
 use Rattle.ec_draw.specs.declared.curve.Plotted.{Plotted}
 use Rattle.ec_draw.specs.declared.curve.Plotted.TheVariants.{Count}
@@ -61,9 +60,9 @@ sequencer_lines w h (suc n) = sequencer_lines w h n ++ line_of w h (Sequencer n)
 abbrev pub lines : Tables → Window → List Entry → List Line
 lines t w h = event_lines w h (length t.events) ++ sequencer_lines w h (length t.takers)
 
--- A WALK
+-- IN A WORLD
 
--- these are the counts at moment k
-pub record AreCounts (h : List Entry) (counts : Counts) (k : ℕ) : Type 0 where
-  pub events : (e : ℕ) → e < 32 → slice_get counts.events e ≡ Some (count_at (Event e) h k)
-  pub sequencers : (q : ℕ) → q < 32 → slice_get counts.sequencers q ≡ Some (count_at (Sequencer q) h k)
+-- what is counted is declared
+abbrev pub IsCounted : Tables → Counted → Type 0
+IsCounted t (Event e) = e < length t.events
+IsCounted t (Sequencer q) = q < length t.takers

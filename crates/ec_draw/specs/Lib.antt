@@ -10,4 +10,5 @@ pub mod Arrows
 pub mod Findings
 pub mod LeftOut
 pub mod Pictures
+pub mod Chosen
 pub mod Laws

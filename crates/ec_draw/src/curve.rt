@@ -1,11 +1,12 @@
 //! The curves of what is counted.
-ghost use Rattle.std.specs.Prelude.{◌≡◌, ℕ, ◌+◌, ◌^◌, List, ◌++◌, ◌∷◌, [], ◌<◌, ◌≤◌, IfOk, OnOk, Some, map, slice_get};
+ghost use Rattle.std.specs.Prelude.{◌≡◌, ◌+◌, List, ◌++◌, ◌∷◌, [], ◌<◌, ◌≤◌, IfOk, OnOk, length, map, reverse, take};
 ghost use Rattle.ec_core.specs.declared.act.Entry.{Entry};
 ghost use Rattle.ec_draw.specs.declared.curve.Counted.TheVariants.{Event, Sequencer};
-ghost use Rattle.ec_draw.specs.Curves.{AreCounts, count_at, heights, line_of, lines, raises, shown};
+ghost use Rattle.ec_core.specs.Standing.{StandsFor};
+ghost use Rattle.ec_draw.specs.Curves.{IsCounted, count_at, count_of, heights, line_of, lines, raises, shown};
 
 use crate::Window;
-use ec_core::{Act, Run};
+use ec_core::{Act, Run, World};
 use ec_count::{EventId, SeqId};
 use std::alloc::{AllocError, Global};
 
@@ -61,76 +62,15 @@ fn raised(run: &Run, object: &Counted, position: usize) -> u64
     }
 }
 
-/// One more. The greatest number stays as it is.
-fn one_more(count: u64) -> u64
-    ensures { count + 1 < 2 ^ 64 → result ≡ count + 1 }
+/// Returns a count in a world; 0 of what is not declared.
+fn count_in(world: &World, object: &Counted) -> u64
+    requires { IsCounted world.now.setup object.now }
+    ensures { (h : List Entry) → StandsFor world.now h → result ≡ count_of object.now (reverse h) }
 {
-    count.saturating_add(1)
-}
-
-/// The counts at a moment: the totals of the eventcounts, and the tickets of the sequencers.
-#[derive(Drop)]
-struct Counts {
-    events: [u64; 32],
-    sequencers: [u64; 32],
-}
-
-/// Before the first entry.
-fn no_counts() -> [u64; 32]
-    ensures { (n : ℕ) → n < 32 → slice_get result n ≡ Some 0 }
-{
-    [0; 32]
-}
-
-impl Counts {
-    /// With one more entry.
-    fn note(&mut self, act: &Act)
-        ensures { (h : List Entry) (k : ℕ) (x : Entry) → slice_get h k ≡ Some x → act.now ≡ x.act → k + 1 < 2 ^ 64
-            → AreCounts h self.old k → AreCounts h self.new (k + 1) }
-    {
-        match act {
-            Act::Advance(event) => {
-                let number = event.get();
-                self.events[number] = one_more(self.events[number]);
-            }
-            Act::Ticket(sequencer) => {
-                let number = sequencer.get();
-                self.sequencers[number] = one_more(self.sequencers[number]);
-            }
-            Act::Read(_) => {}
-            Act::Await(_, _) => {}
-            Act::Go => {}
-            Act::Put(_, _) => {}
-            Act::Get(_) => {}
-            Act::Hand(_, _) => {}
-        }
+    match *object {
+        Counted::Event(event) => world.total(event).unwrap_or(0),
+        Counted::Sequencer(sequencer) => world.issued(sequencer).unwrap_or(0),
     }
-
-    /// That of one count.
-    fn of(&self, object: &Counted) -> u64
-        ensures { (h : List Entry) (k : ℕ) → AreCounts h self.now k → result ≡ count_at object.now h k }
-    {
-        match object {
-            Counted::Event(event) => self.events[event.get()],
-            Counted::Sequencer(sequencer) => self.sequencers[sequencer.get()],
-        }
-    }
-}
-
-/// The counts at a moment of a run, in one walk up to it.
-fn counts_at(run: &Run, moment: usize) -> Counts
-    ensures { AreCounts run.now.entries result moment }
-{
-    let mut counts = Counts {
-        events: no_counts(),
-        sequencers: no_counts(),
-    };
-    for position in 0..moment {
-        if let Some(entry) = run.entry(position) {
-            counts.note(&entry.act);
-        }
-    }
-    counts
 }
 
 /// The counts at the moments that are shown, given the first of them.
@@ -155,18 +95,19 @@ fn heights(
     Ok(heights)
 }
 
-/// The curve of one count of a run, given the counts at the start of the window.
-fn curve_with(
+/// Returns the curve of one count of a run, given the state before the first entry that is shown.
+fn curve_of(
     alloc: Global,
     run: &Run,
+    world: &World,
     object: Counted,
     window: Window,
-    counts: &Counts,
 ) -> Result<Curve, AllocError>
-    requires { AreCounts run.now.entries counts.now window.from }
+    requires counted { IsCounted world.now.setup object }
+    requires stands { StandsFor world.now (take window.from run.now.entries) }
     ensures { IfOk result (λ c. shown c ≡ line_of window run.now.entries object) }
 {
-    let first = counts.of(&object);
+    let first = count_in(world, &object);
     let heights = heights(alloc, run, &object, window, first)?;
     Ok(Curve {
         object: Plotted::Count(object),
@@ -174,35 +115,23 @@ fn curve_with(
     })
 }
 
-/// The curve of one count of a run.
-pub fn curve_of(
-    alloc: Global,
-    run: &Run,
-    object: Counted,
-    window: Window,
-) -> Result<Curve, AllocError>
-    ensures { IfOk result (λ c. shown c ≡ line_of window run.now.entries object) }
-{
-    let counts = counts_at(run, window.from);
-    curve_with(alloc, run, object, window, &counts)
-}
-
 /// Adds the curve of an eventcount, by its number.
 fn add_event(
     curves: &mut Vec<Curve>,
     alloc: Global,
     run: &Run,
+    world: &World,
     window: Window,
-    counts: &Counts,
     number: usize,
 ) -> Result<(), AllocError>
-    requires number { number < 32 }
-    requires counts { AreCounts run.now.entries counts.now window.from }
+    requires few { number < 32 }
+    requires counted { number < length world.now.setup.events }
+    requires stands { StandsFor world.now (take window.from run.now.entries) }
     ensures { OnOk result (map shown curves.new.items ≡ map shown curves.old.items ++ line_of window run.now.entries (Event number) ∷ []) }
 {
     if let Some(event) = EventId::new(number) {
         let object = Counted::Event(event);
-        curves.push(curve_with(alloc, run, object, window, counts)?)?;
+        curves.push(curve_of(alloc, run, world, object, window)?)?;
     }
     Ok(())
 }
@@ -212,33 +141,41 @@ fn add_sequencer(
     curves: &mut Vec<Curve>,
     alloc: Global,
     run: &Run,
+    world: &World,
     window: Window,
-    counts: &Counts,
     number: usize,
 ) -> Result<(), AllocError>
-    requires number { number < 32 }
-    requires counts { AreCounts run.now.entries counts.now window.from }
+    requires few { number < 32 }
+    requires counted { number < length world.now.setup.takers }
+    requires stands { StandsFor world.now (take window.from run.now.entries) }
     ensures { OnOk result (map shown curves.new.items ≡ map shown curves.old.items ++ line_of window run.now.entries (Sequencer number) ∷ []) }
 {
     if let Some(sequencer) = SeqId::new(number) {
         let object = Counted::Sequencer(sequencer);
-        curves.push(curve_with(alloc, run, object, window, counts)?)?;
+        curves.push(curve_of(alloc, run, world, object, window)?)?;
     }
     Ok(())
 }
 
-/// The curves of all that a run counts: of the eventcounts, and then of the sequencers.
-pub fn curves(alloc: Global, run: &Run, window: Window) -> Result<Vec<Curve>, AllocError>
+/// Returns the curves of all that a run counts, of the eventcounts and then of the sequencers, given the state before the first
+/// entry that is shown.
+pub(crate) fn curves(
+    alloc: Global,
+    run: &Run,
+    world: &World,
+    window: Window,
+) -> Result<Vec<Curve>, AllocError>
+    requires setup { world.now.setup ≡ run.now.setup }
+    requires stands { StandsFor world.now (take window.from run.now.entries) }
     ensures { IfOk result (λ cs. map shown cs.items ≡ lines run.now.setup window run.now.entries) }
 {
     run.known();
-    let counts = counts_at(run, window.from);
     let mut curves = Vec::new(alloc);
     for number in 0..run.setup().events() {
-        add_event(&mut curves, alloc, run, window, &counts, number)?;
+        add_event(&mut curves, alloc, run, world, window, number)?;
     }
     for number in 0..run.setup().sequencers() {
-        add_sequencer(&mut curves, alloc, run, window, &counts, number)?;
+        add_sequencer(&mut curves, alloc, run, world, window, number)?;
     }
     Ok(curves)
 }

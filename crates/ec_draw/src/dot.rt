@@ -1,5 +1,5 @@
 //! The dots of entries.
-ghost use Rattle.std.specs.Prelude.{◌≡◌, IfOk, List, length, option_and_then, reverse};
+ghost use Rattle.std.specs.Prelude.{◌≡◌, IfOk, List, length, option_and_then, reverse, take};
 ghost use Rattle.ec_core.specs.declared.act.Entry.{Entry};
 ghost use Rattle.ec_core.specs.Rounds.{read_of};
 ghost use Rattle.ec_core.specs.Standing.{StandsFor};
@@ -103,18 +103,22 @@ fn dot_of(world: &World, position: usize, entry: &Entry) -> Dot
     }
 }
 
-/// The dots of the entries of a run that are shown, in order.
-pub fn dots(alloc: Global, run: &Run, window: Window) -> Result<Vec<Dot>, AllocError>
+/// Returns the dots of the entries of a run that are shown, in order, given the state before the first of them.
+pub(crate) fn dots(
+    alloc: Global,
+    run: &Run,
+    mut world: World,
+    window: Window,
+) -> Result<Vec<Dot>, AllocError>
+    requires setup { world.setup ≡ run.now.setup }
+    requires stands { StandsFor world (take window.from run.now.entries) }
     ensures { IfOk result (λ ds. ds.items ≡ dots_of run.now.setup window (reverse run.now.entries)) }
 {
     run.known();
-    let mut world = World::open(run.setup().copy());
     let mut dots = Vec::new(alloc);
-    for position in 0..run.len() {
+    for position in window.from..window.to.min(run.len()) {
         if let Some(entry) = run.entry(position) {
-            if window.shows(position) {
-                dots.push(dot_of(&world, position, &entry))?;
-            }
+            dots.push(dot_of(&world, position, &entry))?;
             let _reply = world.step(entry.worker, entry.act);
         }
     }

@@ -123,13 +123,13 @@ fn walked<'a>(
 
 /// What the audits of the groups find that are followed, where it is shown.
 #[derive(Drop)]
-pub struct Findings {
+pub(crate) struct Findings {
     /// The curves of balances.
-    pub curves: Vec<Curve>,
+    pub(crate) curves: Vec<Curve>,
     /// The shades over accepting tries.
-    pub shades: Vec<Shade>,
+    pub(crate) shades: Vec<Shade>,
     /// The arrows of deliveries.
-    pub arrows: Vec<Arrow>,
+    pub(crate) arrows: Vec<Arrow>,
 }
 
 /// Adds what was found of a semaphore.
@@ -278,7 +278,7 @@ fn add_groups(
 }
 
 /// What the audits find of those groups whose workers follow them, in one walk over the run.
-pub fn findings_of(
+pub(crate) fn findings_of(
     alloc: Global,
     run: &Run,
     groups: &[Group],

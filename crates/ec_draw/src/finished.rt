@@ -16,7 +16,7 @@ fn keep(bars: &mut Vec<Placed>, placed: &Placed) -> Result<(), AllocError>
 }
 
 /// The finished calls of a run that are shown, each with its point, in order of their points.
-pub fn bars(alloc: Global, run: &Run, window: Window) -> Result<Vec<Placed>, AllocError>
+pub(crate) fn bars(alloc: Global, run: &Run, window: Window) -> Result<Vec<Placed>, AllocError>
     ensures { IfOk result (λ ps. ps.items ≡ bars run.now.setup window run.now.entries) }
 {
     let Ok(order) = in_order(alloc, run) else {

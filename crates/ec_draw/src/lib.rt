@@ -4,6 +4,7 @@
 
 mod arrow;
 mod balance;
+mod chosen;
 mod curve;
 mod dot;
 mod finding;
@@ -11,19 +12,19 @@ mod finished;
 mod laws;
 mod open;
 mod picture;
+mod replay;
 mod shade;
 mod window;
 
 pub use arrow::Arrow;
-pub use curve::{Counted, Curve, Plotted, curve_of, curves};
-pub use dot::{Dot, dots};
-pub use finding::{Findings, findings_of};
-pub use finished::bars;
+pub use chosen::{Choice, Chosen};
+pub use curve::{Counted, Curve, Plotted};
+pub use dot::Dot;
 pub use laws::{
     arrows_are_deliveries, balance_curves_are_balances, bars_are_calls, curves_are_counts,
     following_is_answered, pictures_have_400_columns_at_most, shades_begin_lists, shades_end_tries,
 };
-pub use open::{Open, open_bars};
+pub use open::Open;
 pub use picture::{Picture, picture_of};
 pub use shade::{Shade, Span};
 pub use window::{COLUMNS_MAX, Window};

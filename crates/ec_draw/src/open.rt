@@ -1,15 +1,13 @@
-//! The bars of calls under way.
-ghost use Rattle.std.specs.Prelude.{◌≡◌, ◌+◌, ◌<◌, List, ◌++◌, ◌∷◌, [], Some, IfOk, OnOk, reverse, slice_get};
-ghost use Rattle.ec_core.specs.declared.act.Entry.{Entry};
-ghost use Rattle.ec_core.specs.Counts.{past_at};
-ghost use Rattle.ec_draw.specs.Open.{AreOpen, open_bars, open_call, told_open};
+//! The bars of pending calls.
+ghost use Rattle.std.specs.Prelude.{◌≡◌, ◌<◌, ◌++◌, ◌∷◌, [], IfOk, OnOk, reverse};
+ghost use Rattle.ec_draw.specs.Open.{begins, begun_at, open_bars, open_bars_of, open_call};
 
 use crate::Window;
-use ec_core::{Act, Entry, Reply, Run};
+use ec_core::{Act, Entry, Run};
 use ec_count::WorkerId;
 use std::alloc::{AllocError, Global};
 
-/// A call under way.
+/// A pending call.
 #[derive(Clone, Copy, Debug, PartialEq, Eq)]
 pub struct Open {
     /// The worker whose call it is.
@@ -20,87 +18,74 @@ pub struct Open {
     pub first: usize,
 }
 
-/// What is under way of a worker after its entry at a position.
-fn open_after(begun: Option<Open>, entry: &Entry, position: usize) -> Option<Open>
-    ensures { result ≡ told_open begun entry.now position }
+/// Whether an entry is one of a worker, and begins a call.
+fn begins(worker: WorkerId, entry: &Entry) -> bool
+    ensures { result ≡ begins worker entry.now }
 {
-    let worker = entry.worker;
-    match (entry.reply, entry.act) {
-        (Reply::Pending, Act::Go) => begun,
-        (Reply::Pending, op) => Some(Open {
-            worker,
-            op,
-            first: position,
-        }),
-        _ => None,
-    }
+    entry.worker.get() == worker.get() && !matches!(entry.act, Act::Go)
 }
 
-/// The calls under way after some entries of a run, by worker.
-#[derive(Drop)]
-struct OpenCalls {
-    calls: [Option<Open>; 16],
-}
-
-impl OpenCalls {
-    /// Before the first entry.
-    fn new() -> Self
-        ensures { AreOpen result.calls [] }
-    {
-        OpenCalls { calls: [None; 16] }
-    }
-
-    /// With the entry at a position.
-    fn note(&mut self, entry: &Entry, position: usize)
-        ensures { (h : List Entry) → slice_get h position ≡ Some entry.now → AreOpen self.old.calls (past_at position h)
-            → AreOpen self.new.calls (past_at (position + 1) h) }
-    {
-        let number = entry.worker.get();
-        self.calls[number] = open_after(self.calls[number], entry, position);
-    }
-
-    /// That of a worker, by its number.
-    fn of(&self, number: usize) -> Option<Open>
-        requires { number < 16 }
-        ensures { (past : List Entry) → AreOpen self.now.calls past → result ≡ open_call number past }
-    {
-        self.calls[number]
-    }
-}
-
-/// The calls that are under way at the end of a run, in one walk over it.
-fn all_open(run: &Run) -> OpenCalls
-    ensures { AreOpen result.calls (reverse run.now.entries) }
+/// Returns the position of the latest entry of a worker that began a call; 0 if there is none.
+fn begun_at(run: &Run, worker: WorkerId) -> usize
+    ensures { result ≡ begun_at worker (reverse run.now.entries) }
 {
-    let mut begun = OpenCalls::new();
-    for position in 0..run.len() {
-        if let Some(entry) = run.entry(position) {
-            begun.note(&entry, position);
+    let mut end = run.len();
+    while end > 0 {
+        end -= 1;
+        if let Some(entry) = run.entry(end) {
+            if begins(worker, &entry) {
+                return end;
+            }
         }
     }
-    begun
+    0
 }
 
-/// Keeps one more.
-fn keep(bars: &mut Vec<Open>, begun: Open) -> Result<(), AllocError>
-    ensures { OnOk result (bars.new.items ≡ bars.old.items ++ begun ∷ []) }
+/// Returns the call of a worker that is pending at the end of a run, if one is.
+#[tactic(auto, using(crate::proofs::Stepping::open_some, crate::proofs::Stepping::open_none))]
+fn open_call(run: &Run, worker: WorkerId) -> Option<Open>
+    ensures { result ≡ open_call worker (reverse run.now.entries) }
 {
-    bars.extend_from_slice(&[begun])?;
+    match run.world().under_way(worker) {
+        Some(call) => Some(Open {
+            worker,
+            op: call.op(),
+            first: begun_at(run, worker),
+        }),
+        None => None,
+    }
+}
+
+/// Adds the pending call of a worker, by its number, if it has one that is shown.
+fn add_open(
+    bars: &mut Vec<Open>,
+    run: &Run,
+    window: Window,
+    number: usize,
+) -> Result<(), AllocError>
+    requires { number < 16 }
+    ensures { OnOk result (bars.new.items ≡ bars.old.items ++ open_bars_of window number (reverse run.now.entries)) }
+{
+    let Some(worker) = WorkerId::new(number) else {
+        return Ok(());
+    };
+    if let Some(begun) = open_call(run, worker) {
+        if begun.first < window.to {
+            bars.extend_from_slice(&[begun])?;
+        }
+    }
     Ok(())
 }
 
-/// The calls under way at the end of a run that are shown, by their workers.
-pub fn open_bars(alloc: Global, run: &Run, window: Window) -> Result<Vec<Open>, AllocError>
+/// Returns the calls that are pending at the end of a run and are shown, by their workers.
+#[tactic(auto, using(crate::proofs::Stepping::no_open, crate::proofs::Stepping::more_open))]
+pub(crate) fn open_bars(alloc: Global, run: &Run, window: Window) -> Result<Vec<Open>, AllocError>
     ensures { IfOk result (λ os. os.items ≡ open_bars run.now.setup window run.now.entries) }
 {
-    let calls = all_open(run);
+    run.known();
     let mut bars = Vec::new(alloc);
     for number in 0..run.setup().workers() {
-        if let Some(begun) = calls.of(number) {
-            if begun.first < window.to {
-                keep(&mut bars, begun)?;
-            }
-        }
+        add_open(&mut bars, run, window, number)?;
     }
     Ok(bars)
 }

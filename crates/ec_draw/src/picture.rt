@@ -3,7 +3,13 @@ ghost use Rattle.std.specs.Prelude.{◌≡◌, ◌++◌, IfOk, OnOk, map};
 ghost use Rattle.ec_draw.specs.Curves.{shown};
 ghost use Rattle.ec_draw.specs.Pictures.{kept, shapes};
 
-use crate::{Arrow, Curve, Dot, Open, Shade, Window, bars, curves, dots, findings_of, open_bars};
+use crate::curve::curves;
+use crate::dot::dots;
+use crate::finding::findings_of;
+use crate::finished::bars;
+use crate::open::open_bars;
+use crate::replay::world_at;
+use crate::{Arrow, Curve, Dot, Open, Shade, Window};
 use ec_core::Run;
 use ec_heading::Group;
 use ec_order::Placed;
@@ -49,13 +55,14 @@ pub fn picture_of(
     ensures { IfOk result (λ p. kept p ≡ shapes run.now.setup groups.now window run.now.entries) }
 {
     let found = findings_of(alloc, run, groups, window)?;
-    let mut curves = curves(alloc, run, window)?;
+    let world = world_at(run, window.from);
+    let mut curves = curves(alloc, run, &world, window)?;
     add_curves(&mut curves, found.curves)?;
     Ok(Picture {
         window,
         calls: bars(alloc, run, window)?,
         begun: open_bars(alloc, run, window)?,
-        dots: dots(alloc, run, window)?,
+        dots: dots(alloc, run, world, window)?,
         curves,
         shades: found.shades,
         arrows: found.arrows,

@@ -1,4 +1,3 @@
 mod Columns
 mod Fronts
-mod Heights
 mod Whole

@@ -1,4 +1,4 @@
-pub mod Text
-pub mod Documents
+pub mod Windows
+pub mod Unknown
 pub mod Faults
 pub mod Draws

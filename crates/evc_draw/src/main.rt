@@ -1,40 +1,86 @@
-//! `evc-draw`: draws a trace.
+//! `evc-draw`: draws a trace, or a history of calls.
 #![tactic(auto)]
 
-mod asked;
-mod cells;
-mod complaint;
-mod document;
+mod calls;
 mod drawing;
-mod empty;
+mod elements;
 mod fault;
-mod found;
-mod help;
+mod findings;
+mod html;
+mod names;
+mod note;
+mod shapes;
+mod sheet;
 mod style;
+mod svg;
 mod text;
-mod told;
 mod unknown;
+mod view;
+mod window;
+mod words;
 
-use crate::asked::{Asked, read_words};
-use crate::complaint::say_complaint;
 use crate::drawing::draw;
-use crate::help::{HELP, USAGE, VERSION};
-use ec_text::{Out, write_out};
+use crate::view::View;
+use ec_draw::Choice;
+use ec_text::Out;
+use evc_draw_task::{Bound, Error, NoNumber, Task, status_of, task};
 use evc_engine::Status;
 use std::alloc::AllocError;
-use std::env;
-use std::io::{ErrorKind, Write};
+use std::io::Write;
 use std::process::ExitCode;
+use std::{env, fs, io};
 
-/// Writes a text that was asked for.
-fn tell<W: Write, N: Write>(text: &[u8], out: &mut W, notes: &mut Out<'_, N>) -> Status {
-    match write_out(out, text) {
-        Ok(()) => Status::Done,
+/// Says that an option takes a number.
+fn say_no_number<N: Write>(notes: &mut Out<'_, N>, wrong: &NoNumber<'_>) -> u8 {
+    let option = match wrong.option {
+        Bound::From => b"error: '--from' takes a number, not '".as_slice(),
+        Bound::To => b"error: '--to' takes a number, not '".as_slice(),
+    };
+    notes.put(option);
+    notes.put(wrong.given.as_bytes());
+    notes.say(b"'\n");
+    Status::Usage.code()
+}
+
+/// Draws a file, or standard input, and returns the exit status.
+fn run_task<N: Write>(rt: &HostRuntime, task: &Task<'_>, notes: &mut Out<'_, N>) -> u8 {
+    let alloc = rt.alloc();
+    let range = match task.range() {
+        Ok(range) => range,
+        Err(wrong) => return say_no_number(notes, &wrong),
+    };
+    let choice = Choice {
+        workers: task.workers.as_slice(),
+        objects: task.objects.as_slice(),
+    };
+    let view = View {
+        form: task.form,
+        range,
+        choice,
+    };
+    let mut stdout = rt.stdout();
+    let Some(path) = task.file else {
+        return draw(alloc, &view, &mut rt.stdin(), &mut stdout, notes).code();
+    };
+    match fs::open(rt, path) {
+        Ok(mut file) => draw(alloc, &view, &mut file, &mut stdout, notes).code(),
         Err(_) => {
-            notes.say(b"write fault\n");
-            Status::InputOutput
+            notes.put(b"cannot open ");
+            notes.put(path.as_bytes());
+            notes.say(b"\n");
+            Status::InputOutput.code()
         }
     }
+}
+
+/// Writes what the command line gave in place of a task, and returns the exit status.
+fn end_by<N: Write>(rt: &HostRuntime, error: &Error, notes: &mut Out<'_, N>) -> u8 {
+    // (help goes to standard output, and that a note could not be written is not reported)
+    if error.print(rt).is_err() && !error.use_stderr() {
+        notes.say(b"write fault\n");
+        return Status::InputOutput.code();
+    }
+    status_of(error)
 }
 
 fn main(rt: HostRuntime) -> ExitCode {
@@ -44,9 +90,8 @@ fn main(rt: HostRuntime) -> ExitCode {
     let words: Result<Vec<String>, AllocError> = match env::args(&rt) {
         Ok(args) => args.collect(alloc),
         Err(error) => {
-            if error.kind() == ErrorKind::InvalidData {
-                notes.put(b"evc-draw: a word of the command line is no UTF-8 text\n");
-                notes.say(USAGE);
+            if error.kind() == io::ErrorKind::InvalidData {
+                notes.say(b"error: a word of the command line is not UTF-8\n");
                 return ExitCode::from(Status::Usage.code());
             }
             Err(AllocError)
@@ -56,18 +101,9 @@ fn main(rt: HostRuntime) -> ExitCode {
         notes.say(b"no memory\n");
         return ExitCode::from(Status::Memory.code());
     };
-    let Ok(asked) = read_words(alloc, words.as_slice().get(1..).unwrap_or(&[])) else {
-        notes.say(b"no memory\n");
-        return ExitCode::from(Status::Memory.code());
+    let status = match task(alloc, words.as_slice()) {
+        Ok(task) => run_task(&rt, &task, &mut notes),
+        Err(error) => end_by(&rt, &error, &mut notes),
     };
-    let status = match asked {
-        Asked::Draw(view) => draw(alloc, &view, &mut rt.stdin(), &mut rt.stdout(), &mut notes),
-        Asked::Help => tell(HELP, &mut rt.stdout(), &mut notes),
-        Asked::Version => tell(VERSION, &mut rt.stdout(), &mut notes),
-        Asked::Wrong(complaint) => {
-            say_complaint(&mut notes, &complaint);
-            Status::Usage
-        }
-    };
-    ExitCode::from(status.code())
+    ExitCode::from(status)
 }

@@ -9,5 +9,5 @@ abbrev pub invariant-loop-position : goal.invariant-loop-position
 invariant-loop-position l = record {
   setup : l.world.setup ≡ l.run.setup;
   stands : StandsFor l.world (take l.position l.run.entries);
-  dots : l.dots.items ≡ dots_of l.run.setup l.window (past_at l.position l.run.entries);
+  dots : l.dots.items ≡ dots_of l.run.setup l.fn.window (past_at l.position l.run.entries);
 }

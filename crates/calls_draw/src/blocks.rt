@@ -1,0 +1,178 @@
+//! The panels of cells and databases: values as blocks.
+use crate::grid::LEFT;
+use crate::panels::{Panel, Spot};
+use crate::picture::{Evidence, Picture};
+use crate::sink::{Place, end_text, put_line, put_rect, start_text};
+use crate::words::put_value;
+use calls_core::{Call, Op, Reply};
+use ec_text::Out;
+use std::io::Write;
+
+/// How high a block is.
+pub(crate) const BLOCK: u64 = 22;
+
+/// Puts a block with a value.
+fn put_block<W: Write>(
+    out: &mut Out<'_, W>,
+    picture: &Picture<'_>,
+    class: &[u8],
+    object: usize,
+    value: usize,
+    at: Place,
+    width: u64,
+) {
+    put_rect(out, class, at, width, BLOCK - 4);
+    let middle = Place {
+        x: at.x.saturating_add(width / 2),
+        y: at.y.saturating_add(13),
+    };
+    start_text(out, b"middle", middle);
+    put_value(out, picture, object, value);
+    end_text(out);
+}
+
+/// Returns where the block ends that begins with this spot: at the next put.
+fn end_of(picture: &Picture<'_>, spots: &[Spot]) -> u64 {
+    let next = spots.iter().find(|spot| matches!(spot.op, Op::Put(_)));
+    next.map_or(picture.grid.right(), |spot| spot.x)
+}
+
+/// Puts the values along the order, a block from each put to the next.
+pub(crate) fn put_values<W: Write>(
+    out: &mut Out<'_, W>,
+    picture: &Picture<'_>,
+    panel: &Panel,
+    top: u64,
+) {
+    let object = panel.subject.object();
+    let spots = panel.spots.as_slice();
+    let end = end_of(picture, spots);
+    let first = Place { x: LEFT, y: top };
+    let width = end.saturating_sub(LEFT);
+    put_block(out, picture, b"block", object, panel.before, first, width);
+    for (i, spot) in spots.iter().enumerate() {
+        if matches!(spot.op, Op::Put(_)) {
+            let rest = spots.get(i.saturating_add(1)..).unwrap_or(&[]);
+            let width = end_of(picture, rest).saturating_sub(spot.x);
+            let at = Place { x: spot.x, y: top };
+            put_block(out, picture, b"block", object, spot.value, at, width);
+        }
+    }
+}
+
+/// Returns the value that a put stores or a get returned.
+fn value_of(call: &Call) -> usize {
+    match (call.op, call.reply) {
+        (Op::Put(n), _) => n,
+        (_, Reply::Number(n)) => n,
+        _ => 0,
+    }
+}
+
+/// Returns how many of these calls have another value than those before them.
+fn lanes_in(calls: &[Call]) -> usize {
+    let mut lanes = 0usize;
+    for (i, call) in calls.iter().enumerate() {
+        let before = calls.get(..i).unwrap_or(&[]);
+        let is_new = before.iter().all(|other| value_of(other) != value_of(call));
+        if is_new {
+            lanes = lanes.saturating_add(1);
+        }
+    }
+    lanes
+}
+
+/// Returns the lane of a value: how many other values come before its first call.
+fn lane_of(calls: &[Call], value: usize) -> usize {
+    let first = calls.iter().position(|call| value_of(call) == value);
+    lanes_in(calls.get(..first.unwrap_or(0)).unwrap_or(&[]))
+}
+
+/// Returns how high the blocks of a certificate are.
+pub(crate) fn lanes_height(evidence: &Evidence<'_>) -> u64 {
+    let lanes = lanes_in(evidence.faulty.as_slice()) as u64;
+    lanes.saturating_mul(BLOCK)
+}
+
+/// Returns the middle of the lane of a call.
+fn lane_y(calls: &[Call], call: &Call, top: u64) -> u64 {
+    let lane = lane_of(calls, value_of(call)) as u64;
+    top.saturating_add(lane.saturating_mul(BLOCK))
+}
+
+/// Puts a tie from the end of a call to the beginning of another, if it precedes that one.
+fn put_before<W: Write>(
+    out: &mut Out<'_, W>,
+    picture: &Picture<'_>,
+    calls: &[Call],
+    one: &Call,
+    other: &Call,
+    top: u64,
+) {
+    if one.last >= other.first {
+        return;
+    }
+    let half = BLOCK / 2 - 2;
+    let from = Place {
+        x: picture.grid.x(one.last),
+        y: lane_y(calls, one, top).saturating_add(half),
+    };
+    let to = Place {
+        x: picture.grid.x(other.first),
+        y: lane_y(calls, other, top).saturating_add(half),
+    };
+    put_line(out, b"stair", from, to);
+}
+
+/// Puts which calls precede which: two calls, two pairs of a cell whose values alternate, or gets of
+/// which each follows the next one.
+fn put_ties<W: Write>(
+    out: &mut Out<'_, W>,
+    picture: &Picture<'_>,
+    evidence: &Evidence<'_>,
+    top: u64,
+) {
+    let calls = evidence.faulty.as_slice();
+    if let [a, b, c, d] = calls {
+        if evidence.is_distinct() {
+            put_before(out, picture, calls, a, b, top);
+            put_before(out, picture, calls, c, d, top);
+            return;
+        }
+    }
+    for (i, call) in calls.iter().enumerate() {
+        if let Some(other) = calls.get(i.saturating_add(1)) {
+            put_before(out, picture, calls, call, other, top);
+            put_before(out, picture, calls, other, call, top);
+        }
+    }
+}
+
+/// Puts the calls of a certificate, as blocks, a lane for each value.
+pub(crate) fn put_lanes<W: Write>(
+    out: &mut Out<'_, W>,
+    picture: &Picture<'_>,
+    evidence: &Evidence<'_>,
+    top: u64,
+) {
+    let object = evidence.refusal.object;
+    let calls = evidence.faulty.as_slice();
+    put_ties(out, picture, evidence, top);
+    for call in calls {
+        let x = picture.grid.x(call.first);
+        let width = picture.grid.x(call.last).saturating_sub(x);
+        let at = Place {
+            x,
+            y: lane_y(calls, call, top),
+        };
+        put_block(
+            out,
+            picture,
+            b"block hot",
+            object,
+            value_of(call),
+            at,
+            width,
+        );
+    }
+}

@@ -1,0 +1,293 @@
+//! What shows that a history is refused, in the panel of its object.
+use crate::curves::put_level;
+use crate::grid::LEFT;
+use crate::panels::{Panel, Subject, said_by};
+use crate::picture::{Evidence, Picture};
+use crate::scale::{Range, Scale};
+use crate::sink::{
+    Place, end_path, end_text, go_across, go_along, put_line, start_path, start_text,
+};
+use calls_core::{Call, Op, Reply};
+use calls_shapes::{Counted, Portion, Stair};
+use ec_text::Out;
+use std::io::Write;
+
+/// Returns what shows that a history is refused, if this is the panel of its object.
+pub(crate) fn evidence_in<'a, 'b>(
+    picture: &'b Picture<'a>,
+    panel: &Panel,
+) -> Option<&'b Evidence<'a>> {
+    let evidence = picture.evidence.as_ref()?;
+    let is_its = panel
+        .subject
+        .is_of(evidence.refusal.object, evidence.stairs.as_slice());
+    if is_its { Some(evidence) } else { None }
+}
+
+/// Returns the number of a stair where the first column begins.
+fn number_before(picture: &Picture<'_>, stair: &Stair) -> usize {
+    let from = picture.window().from;
+    let before = stair.rises.iter().filter(|rise| **rise < from).count();
+    stair.course.base.saturating_add(before)
+}
+
+/// Returns the number of a stair at its end.
+fn number_at_end(stair: &Stair) -> usize {
+    stair.course.base.saturating_add(stair.rises.len())
+}
+
+/// Returns the range with the numbers of what shows that a history is refused.
+pub(crate) fn evidence_range(
+    picture: &Picture<'_>,
+    range: Range,
+    evidence: &Evidence<'_>,
+) -> Range {
+    let mut range = stairs_range(picture, range, evidence.stairs.as_slice());
+    for call in &evidence.faulty {
+        range = said_by(call.op, call.reply).map_or(range, |n| range.with(n));
+        range = missed(call).map_or(range, |n| range.with(n));
+    }
+    range
+}
+
+/// Returns the threshold of an await that returned a number below it.
+fn missed(call: &Call) -> Option<usize> {
+    match (call.op, call.reply) {
+        (Op::Await(threshold), Reply::Number(n)) if n < threshold => Some(threshold),
+        _ => None,
+    }
+}
+
+/// Returns the range with the numbers of stairs.
+fn stairs_range(picture: &Picture<'_>, range: Range, stairs: &[Stair]) -> Range {
+    let mut range = range;
+    for stair in stairs {
+        let low = number_before(picture, stair);
+        range = range.with(low).with(number_at_end(stair));
+    }
+    range
+}
+
+/// Returns how a stair is drawn.
+fn stair_class(stair: &Stair) -> &'static [u8] {
+    match stair.course.counted {
+        Counted::Adding(_) => b"given",
+        _ => b"stair",
+    }
+}
+
+/// Returns the words before the number at the end of a stair.
+fn stair_words(stair: &Stair) -> &'static [u8] {
+    match (stair.course.counted, stair.course.portion) {
+        (Counted::Adding(_), _) => b"given: ",
+        (Counted::Taking(_), _) => b"taken: ",
+        (_, Portion::Called) => b"at most ",
+        _ => b"at least ",
+    }
+}
+
+/// Puts the number at the end of a stair.
+fn put_stair_end<W: Write>(out: &mut Out<'_, W>, at: Place, stair: &Stair) {
+    let place = Place {
+        x: at.x.saturating_sub(5),
+        y: at.y.saturating_sub(5),
+    };
+    start_text(out, b"why end", place);
+    out.put(stair_words(stair));
+    out.put_number(number_at_end(stair) as u64);
+    end_text(out);
+}
+
+/// Puts a stair.
+fn put_stair<W: Write>(out: &mut Out<'_, W>, picture: &Picture<'_>, scale: &Scale, stair: &Stair) {
+    let from = picture.window().from;
+    let mut number = number_before(picture, stair);
+    let x = if stair.course.from == 0 {
+        LEFT
+    } else {
+        picture.grid.x(stair.course.from)
+    };
+    start_path(
+        out,
+        stair_class(stair),
+        Place {
+            x,
+            y: scale.y(number),
+        },
+    );
+    for rise in &stair.rises {
+        if *rise >= from {
+            number = number.saturating_add(1);
+            go_across(out, picture.grid.x(*rise));
+            go_along(out, scale.y(number));
+        }
+    }
+    let end = picture.grid.x(stair.course.to);
+    go_across(out, end);
+    end_path(out, false);
+    put_stair_end(
+        out,
+        Place {
+            x: end,
+            y: scale.y(number),
+        },
+        stair,
+    );
+}
+
+/// Puts the stairs.
+fn put_stairs<W: Write>(
+    out: &mut Out<'_, W>,
+    picture: &Picture<'_>,
+    scale: &Scale,
+    stairs: &[Stair],
+) {
+    for stair in stairs {
+        put_stair(out, picture, scale, stair);
+    }
+}
+
+/// Puts what a call said.
+fn put_said<W: Write>(out: &mut Out<'_, W>, picture: &Picture<'_>, scale: &Scale, call: &Call) {
+    put_level(
+        out, picture, scale, b"said", call.first, call.last, call.op, call.reply,
+    );
+}
+
+/// Puts what a call said in words.
+fn put_said_words<W: Write>(
+    out: &mut Out<'_, W>,
+    picture: &Picture<'_>,
+    scale: &Scale,
+    call: &Call,
+) {
+    let Some(n) = said_by(call.op, call.reply) else {
+        return;
+    };
+    let at = Place {
+        x: picture.grid.x(call.last).saturating_add(4),
+        y: scale.y(n).saturating_add(14),
+    };
+    start_text(out, b"why", at);
+    out.put(said_words(call));
+    out.put_number(n as u64);
+    end_text(out);
+}
+
+/// Returns the words before what a call said.
+fn said_words(call: &Call) -> &'static [u8] {
+    match (call.op, call.reply) {
+        (Op::Await(_), Reply::Done) => b"reached ",
+        (Op::Await(_), Reply::Timeout) => b"at most ",
+        _ => b"returned ",
+    }
+}
+
+/// Puts what the calls said that are named, a number that several said once.
+fn put_all_said<W: Write>(
+    out: &mut Out<'_, W>,
+    picture: &Picture<'_>,
+    scale: &Scale,
+    calls: &[Call],
+) {
+    for (i, call) in calls.iter().enumerate() {
+        put_said(out, picture, scale, call);
+        let before = calls.get(..i).unwrap_or(&[]);
+        let said = said_by(call.op, call.reply);
+        if before
+            .iter()
+            .all(|other| said_by(other.op, other.reply) != said)
+        {
+            put_said_words(out, picture, scale, call);
+        }
+    }
+}
+
+/// Puts a tie from the end of a stair to what the first call said.
+fn put_tie<W: Write>(
+    out: &mut Out<'_, W>,
+    picture: &Picture<'_>,
+    scale: &Scale,
+    evidence: &Evidence<'_>,
+) {
+    let (Some(stair), Some(call)) = (evidence.stairs.first(), evidence.faulty.first()) else {
+        return;
+    };
+    let Some(n) = said_by(call.op, call.reply) else {
+        return;
+    };
+    let x = picture.grid.x(stair.course.to);
+    let from = Place {
+        x,
+        y: scale.y(number_at_end(stair)),
+    };
+    put_line(out, b"tie", from, Place { x, y: scale.y(n) });
+}
+
+/// Puts a tie from the end of a ticket to the beginning of another, which it precedes.
+fn put_turn<W: Write>(out: &mut Out<'_, W>, picture: &Picture<'_>, scale: &Scale, calls: &[Call]) {
+    let [one, other] = calls else {
+        return;
+    };
+    let (Some(n), Some(m)) = (said_by(one.op, one.reply), said_by(other.op, other.reply)) else {
+        return;
+    };
+    if n != m {
+        let from = Place {
+            x: picture.grid.x(one.last),
+            y: scale.y(n),
+        };
+        let to = Place {
+            x: picture.grid.x(other.first),
+            y: scale.y(m),
+        };
+        put_line(out, b"tie", from, to);
+    }
+}
+
+/// Puts the threshold below which an await returned a number.
+fn put_missed<W: Write>(
+    out: &mut Out<'_, W>,
+    picture: &Picture<'_>,
+    scale: &Scale,
+    calls: &[Call],
+) {
+    let Some(call) = calls.first() else {
+        return;
+    };
+    let Some(threshold) = missed(call) else {
+        return;
+    };
+    let y = scale.y(threshold);
+    let from = picture.grid.x(call.first);
+    let to = picture.grid.x(call.last);
+    put_line(out, b"waits", Place { x: from, y }, Place { x: to, y });
+    let at = Place {
+        x: to.saturating_add(4),
+        y: y.saturating_add(3),
+    };
+    start_text(out, b"why", at);
+    out.put(b"awaited ");
+    out.put_number(threshold as u64);
+    end_text(out);
+}
+
+/// Puts what shows that a history is refused.
+pub(crate) fn put_evidence<W: Write>(
+    out: &mut Out<'_, W>,
+    picture: &Picture<'_>,
+    scale: &Scale,
+    subject: Subject,
+    evidence: &Evidence<'_>,
+) {
+    put_stairs(out, picture, scale, evidence.stairs.as_slice());
+    put_all_said(out, picture, scale, evidence.faulty.as_slice());
+    match subject {
+        Subject::Count(_) => {
+            put_tie(out, picture, scale, evidence);
+            put_missed(out, picture, scale, evidence.faulty.as_slice());
+        }
+        Subject::Numbers(_) => put_turn(out, picture, scale, evidence.faulty.as_slice()),
+        Subject::Units(_, _) | Subject::Values(_) => {}
+    }
+}

@@ -1,0 +1,190 @@
+//! The workers and the objects that are drawn.
+ghost use Rattle.std.specs.Prelude.{◌<◌, length, IsSome};
+
+use crate::view::CallsView;
+use calls_core::Op;
+use calls_text::{first_cell, first_group, first_sequencer};
+use ec_count::Target;
+use ec_heading::{Group, Heading};
+use std::alloc::{AllocError, Global};
+
+/// What a name chooses.
+#[derive(Clone, Copy, Debug, PartialEq, Eq)]
+pub(crate) enum Chosen {
+    /// A worker.
+    Worker(usize),
+    /// So many objects from this index on.
+    Objects(usize, usize),
+    /// The semaphore at this place among the groups.
+    Semaphore(usize),
+}
+
+/// What is drawn.
+#[derive(Drop)]
+pub(crate) struct Choice {
+    workers: Vec<Chosen>,
+    objects: Vec<Chosen>,
+}
+
+/// Returns what the group at a place is, if calls can be of it.
+fn group_chosen(heading: &Heading, place: usize) -> Option<Chosen> {
+    match heading.groups().get(place) {
+        Some(Group::Semaphore(_)) => Some(Chosen::Semaphore(place)),
+        Some(Group::Database(_)) => {
+            Some(Chosen::Objects(first_group(heading).saturating_add(place), 1))
+        }
+        _ => None,
+    }
+}
+
+/// Returns what a name of a worker chooses.
+fn worker_chosen(heading: &Heading, name: &[u8]) -> Option<Chosen> {
+    match heading.worker(name) {
+        Some(worker) => Some(Chosen::Worker(worker.get())),
+        None => None,
+    }
+}
+
+/// Returns what is chosen by the name of this.
+fn target_chosen(heading: &Heading, target: Target) -> Option<Chosen> {
+    match target {
+        Target::Worker(_) => None,
+        Target::Event(event) => Some(Chosen::Objects(event.get(), 1)),
+        Target::Sequencer(sequencer) => {
+            let index = first_sequencer(heading).saturating_add(sequencer.get());
+            Some(Chosen::Objects(index, 1))
+        }
+        Target::Cells(first, count) => {
+            let index = first_cell(heading).saturating_add(first.get());
+            Some(Chosen::Objects(index, count))
+        }
+        Target::Group(place) => group_chosen(heading, place),
+    }
+}
+
+/// Returns what a name of an object chooses.
+fn object_chosen(heading: &Heading, name: &[u8]) -> Option<Chosen> {
+    match heading.names().find_bytes(name) {
+        Some(target) => target_chosen(heading, target),
+        None => cell_chosen(heading, name),
+    }
+}
+
+/// Returns what the name of one cell of a block chooses.
+fn cell_chosen(heading: &Heading, name: &[u8]) -> Option<Chosen> {
+    match heading.cell(name) {
+        Some(cell) => {
+            let index = first_cell(heading).saturating_add(cell.get());
+            Some(Chosen::Objects(index, 1))
+        }
+        None => None,
+    }
+}
+
+/// Returns what each of these names chooses; of a name that is not declared nothing.
+fn workers_chosen(
+    alloc: Global,
+    heading: &Heading,
+    names: &[&str],
+) -> Result<Vec<Chosen>, AllocError> {
+    let mut chosen = Vec::new(alloc);
+    for name in names {
+        if let Some(one) = worker_chosen(heading, name.as_bytes()) {
+            chosen.push(one)?;
+        }
+    }
+    Ok(chosen)
+}
+
+/// Returns what each of these names of objects chooses; of one that is not declared nothing.
+fn objects_chosen(
+    alloc: Global,
+    heading: &Heading,
+    names: &[&str],
+) -> Result<Vec<Chosen>, AllocError> {
+    let mut chosen = Vec::new(alloc);
+    for name in names {
+        if let Some(one) = object_chosen(heading, name.as_bytes()) {
+            chosen.push(one)?;
+        }
+    }
+    Ok(chosen)
+}
+
+/// Returns the first of these names that is not a worker's.
+pub(crate) fn unknown_worker<'a>(heading: &Heading, names: &[&'a str]) -> Option<&'a str>
+    ensures { IsSome result → 0 < length names.now }
+{
+    for name in names {
+        if worker_chosen(heading, name.as_bytes()).is_none() {
+            return Some(*name);
+        }
+    }
+    None
+}
+
+/// Returns the first of these names that is not an object's.
+pub(crate) fn unknown_object<'a>(heading: &Heading, names: &[&'a str]) -> Option<&'a str>
+    ensures { IsSome result → 0 < length names.now }
+{
+    for name in names {
+        if object_chosen(heading, name.as_bytes()).is_none() {
+            return Some(*name);
+        }
+    }
+    None
+}
+
+/// Returns whether a call with this operation uses the semaphore at a place.
+pub(crate) fn uses_semaphore(op: Op, place: usize) -> bool {
+    match op {
+        Op::P(i) | Op::V(i) => i == place,
+        Op::PBoth(i, j) => i == place || j == place,
+        _ => false,
+    }
+}
+
+impl Chosen {
+    /// Returns whether a call of this object with this operation is among what was chosen.
+    fn has(self, object: usize, op: Op) -> bool {
+        match self {
+            Chosen::Worker(_) => false,
+            Chosen::Objects(first, count) => { first <= object && object - first < count }
+            Chosen::Semaphore(place) => uses_semaphore(op, place),
+        }
+    }
+}
+
+impl Choice {
+    /// Returns what a view chooses.
+    pub(crate) fn of(
+        alloc: Global,
+        heading: &Heading,
+        view: &CallsView<'_>,
+    ) -> Result<Choice, AllocError> {
+        Ok(Choice {
+            workers: workers_chosen(alloc, heading, view.workers)?,
+            objects: objects_chosen(alloc, heading, view.objects)?,
+        })
+    }
+
+    /// Returns whether a worker is drawn.
+    pub(crate) fn has_worker(&self, worker: usize) -> bool {
+        self.workers.is_empty() || self.workers.iter().any(|it| *it == Chosen::Worker(worker))
+    }
+
+    /// Returns whether calls of this object with this operation are drawn.
+    pub(crate) fn has_object(&self, object: usize, op: Op) -> bool {
+        self.objects.is_empty() || self.objects.iter().any(|it| it.has(object, op))
+    }
+
+    /// Returns whether the panel of a semaphore is drawn.
+    pub(crate) fn has_semaphore(&self, place: usize) -> bool {
+        self.has_object(usize::MAX, Op::V(place))
+    }
+
+    /// Returns whether a call is drawn.
+    pub(crate) fn has(&self, worker: usize, object: usize, op: Op) -> bool {
+        self.has_worker(worker) && self.has_object(object, op)
+    }
+}

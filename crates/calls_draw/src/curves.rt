@@ -1,0 +1,230 @@
+//! The panels of numbers: bands, curves, and what waits.
+use crate::grid::LEFT;
+use crate::panels::{Bounds, Panel, Subject, said_by};
+use crate::picture::{Bar, Picture};
+use crate::scale::{Range, Scale};
+use crate::sink::{
+    Place, end_path, end_text, go_across, go_along, put_circle, put_line, put_number, start_path,
+    start_text,
+};
+use crate::words::{put_subject, put_worker};
+use calls_core::{Op, Reply};
+use ec_text::Out;
+use std::io::Write;
+
+/// Returns the threshold of a pending await.
+fn awaited(bar: &Bar) -> Option<usize> {
+    match (bar.op, bar.end) {
+        (Op::Await(n), None) => Some(n),
+        _ => None,
+    }
+}
+
+/// Returns the range of bounds.
+fn bounds_range(range: Range, bounds: &[Bounds]) -> Range {
+    let mut range = range;
+    for one in bounds {
+        range = range.with(one.least).with(one.most);
+    }
+    range
+}
+
+/// Returns the range of the numbers that a panel shows.
+pub(crate) fn range_of(picture: &Picture<'_>, panel: &Panel) -> Range {
+    let first = match panel.bounds.first() {
+        Some(bounds) => bounds.least,
+        None => panel.before,
+    };
+    let mut range = bounds_range(Range::of(first), &panel.bounds);
+    let most = range.high.saturating_add(40);
+    for bar in &picture.shown {
+        if panel.subject.shows(bar.object, bar.op) {
+            let waited = awaited(bar).filter(|n| *n <= most);
+            range = waited.map_or(range, |n| range.with(n));
+        }
+    }
+    range
+}
+
+/// Puts the name of a panel before it.
+pub(crate) fn put_panel_name<W: Write>(
+    out: &mut Out<'_, W>,
+    picture: &Picture<'_>,
+    subject: Subject,
+    y: u64,
+) {
+    start_text(out, b"name", Place { x: LEFT - 34, y });
+    put_subject(out, picture, subject);
+    end_text(out);
+}
+
+/// How many numbers at most are written beside a panel.
+const NUMBERS: usize = 16;
+
+/// Puts the numbers beside a panel, and a line for each.
+pub(crate) fn put_scale<W: Write>(out: &mut Out<'_, W>, picture: &Picture<'_>, scale: &Scale) {
+    let Range { low, high } = scale.range;
+    let step = scale.range.step();
+    let right = picture.grid.right();
+    for i in 0..NUMBERS {
+        let n = low.saturating_add(step.saturating_mul(i));
+        if n > high {
+            return;
+        }
+        let y = scale.y(n);
+        put_line(out, b"grid", Place { x: LEFT, y }, Place { x: right, y });
+        let at = Place {
+            x: LEFT - 5,
+            y: y.saturating_add(3),
+        };
+        put_number(out, b"scale", at, n as u64);
+    }
+}
+
+/// Puts the upper edge of a band.
+fn put_most<W: Write>(out: &mut Out<'_, W>, picture: &Picture<'_>, scale: &Scale, panel: &Panel) {
+    let from = picture.window().from;
+    for (i, bounds) in panel.bounds.iter().enumerate() {
+        go_along(out, scale.y(bounds.most).saturating_sub(2));
+        go_across(out, picture.grid.x(from.saturating_add(i)));
+    }
+}
+
+/// Puts the lower edge of a band, from right to left.
+fn put_least<W: Write>(out: &mut Out<'_, W>, picture: &Picture<'_>, scale: &Scale, panel: &Panel) {
+    let from = picture.window().from;
+    for (i, bounds) in panel.bounds.iter().enumerate().rev() {
+        go_along(out, scale.y(bounds.least).saturating_add(2));
+        go_across(out, picture.grid.moment(from.saturating_add(i)));
+    }
+}
+
+/// Puts the band between the bounds.
+pub(crate) fn put_band<W: Write>(
+    out: &mut Out<'_, W>,
+    picture: &Picture<'_>,
+    scale: &Scale,
+    panel: &Panel,
+) {
+    let Some(first) = panel.bounds.first() else {
+        return;
+    };
+    let at = Place {
+        x: LEFT,
+        y: scale.y(first.most).saturating_sub(2),
+    };
+    start_path(out, b"band", at);
+    put_most(out, picture, scale, panel);
+    put_least(out, picture, scale, panel);
+    end_path(out, true);
+}
+
+/// Puts the number along the order.
+pub(crate) fn put_curve<W: Write>(
+    out: &mut Out<'_, W>,
+    picture: &Picture<'_>,
+    scale: &Scale,
+    panel: &Panel,
+) {
+    let at = Place {
+        x: LEFT,
+        y: scale.y(panel.before),
+    };
+    start_path(out, b"curve", at);
+    for spot in &panel.spots {
+        go_across(out, spot.x);
+        go_along(out, scale.y(spot.value));
+    }
+    go_across(out, picture.grid.right());
+    end_path(out, false);
+}
+
+/// Puts a dot on the curve for each read and await.
+pub(crate) fn put_seen<W: Write>(out: &mut Out<'_, W>, scale: &Scale, panel: &Panel) {
+    for spot in &panel.spots {
+        if matches!(spot.op, Op::Read | Op::Await(_)) {
+            let at = Place {
+                x: spot.x,
+                y: scale.y(spot.value),
+            };
+            put_circle(out, b"seen", at, 3);
+        }
+    }
+}
+
+/// Puts what a pending await waits for.
+fn put_waiting<W: Write>(
+    out: &mut Out<'_, W>,
+    picture: &Picture<'_>,
+    scale: &Scale,
+    bar: &Bar,
+    threshold: usize,
+) {
+    let y = scale.y(threshold).saturating_sub(3);
+    let x = picture.grid.x(bar.first);
+    let right = picture.grid.right();
+    put_line(out, b"waits", Place { x, y }, Place { x: right, y });
+    let at = Place {
+        x: x.saturating_add(3),
+        y: y.saturating_sub(4),
+    };
+    start_text(out, b"small", at);
+    put_worker(out, picture, bar.worker);
+    out.put(b" waits for ");
+    out.put_number(threshold as u64);
+    end_text(out);
+}
+
+/// Puts the thresholds of the pending awaits.
+pub(crate) fn put_awaited<W: Write>(
+    out: &mut Out<'_, W>,
+    picture: &Picture<'_>,
+    scale: &Scale,
+    panel: &Panel,
+) {
+    for bar in &picture.shown {
+        if panel.subject.shows(bar.object, bar.op) {
+            if let Some(threshold) = awaited(bar).filter(|n| *n <= scale.range.high) {
+                put_waiting(out, picture, scale, bar, threshold);
+            }
+        }
+    }
+}
+
+/// Puts the number that each completed ticket drew, from its invocation to its response.
+pub(crate) fn put_levels<W: Write>(
+    out: &mut Out<'_, W>,
+    picture: &Picture<'_>,
+    scale: &Scale,
+    panel: &Panel,
+) {
+    for bar in &picture.shown {
+        if panel.subject.shows(bar.object, bar.op) {
+            if let Some((last, reply)) = bar.end {
+                put_level(
+                    out, picture, scale, b"level", bar.first, last, bar.op, reply,
+                );
+            }
+        }
+    }
+}
+
+/// Puts the number that a call says, from its invocation to its response.
+pub(crate) fn put_level<W: Write>(
+    out: &mut Out<'_, W>,
+    picture: &Picture<'_>,
+    scale: &Scale,
+    class: &[u8],
+    first: usize,
+    last: usize,
+    op: Op,
+    reply: Reply,
+) {
+    let Some(n) = said_by(op, reply) else {
+        return;
+    };
+    let y = scale.y(n);
+    let from = picture.grid.x(first);
+    let to = picture.grid.x(last);
+    put_line(out, class, Place { x: from, y }, Place { x: to, y });
+}

@@ -1,0 +1,218 @@
+//! A text of histories of calls in, a picture of one of them out.
+ghost use Rattle.std.specs.Prelude.{◌≡◌, ◌⊎◌, ◌<◌, ◌≤◌, length, codes, nat_eq, false, IsTrue, IsSome};
+ghost use Rattle.std.specs.List.{starts_with};
+ghost use Rattle.ec_text.specs.Puts.{IsWrittenOut};
+ghost use Rattle.calls_draw.specs.Draws.{Draws, Chooses, SaysAsCheck, EndsOn, WritesOne};
+
+use crate::choice::{unknown_object, unknown_worker};
+use crate::history::{Found, find_history};
+use crate::picture::Picture;
+use crate::svg::put_svg;
+use crate::text::put_plain;
+use crate::view::{CallsView, Form};
+use calls_report::{Status, TEXT_MAX, check};
+use ec_text::{Out, write_out};
+use std::alloc::{AllocError, Global};
+use std::io::{Write, sink};
+
+/// Returns whether a text is one of histories of calls, by its first line.
+pub fn is_calls(text: &[u8]) -> bool
+    ensures { result ≡ starts_with nat_eq text.now (codes "evc-calls 1\n") }
+{
+    text.starts_with(b"evc-calls 1\n".as_slice())
+}
+
+/// Says of a text what `check` says, and returns the status with which that ends.
+fn say_as_check<N: Write>(alloc: Global, text: &[u8], notes: &mut Out<'_, N>) -> Status
+    ensures says { SaysAsCheck text.now result notes.old notes.new }
+    ensures written { IsWrittenOut notes.old → IsWrittenOut notes.new }
+{
+    let mut reader = text;
+    check(alloc, &mut reader, &mut sink(), notes)
+}
+
+/// Returns what `check` says of a text.
+fn note_on(alloc: Global, text: &[u8]) -> Result<Vec<u8>, AllocError> {
+    let mut note = Vec::new(alloc);
+    let mut out = Out::new(&mut note);
+    let _status = say_as_check(alloc, text, &mut out);
+    let done = out.finish();
+    out.into_writer();
+    match done {
+        Ok(()) => Ok(note),
+        Err(_) => Err(AllocError),
+    }
+}
+
+/// Says a name of the sort of this word that is not declared.
+fn say_unknown<N: Write>(sort: &[u8], name: &str, notes: &mut Out<'_, N>)
+    ensures { IsWrittenOut notes.new }
+{
+    notes.put(b"no ");
+    notes.put(sort);
+    notes.put(b" ");
+    notes.put(name.as_bytes());
+    notes.say(b" is declared\n");
+}
+
+/// Returns whether no event is chosen, although a range is.
+fn is_empty(view: &CallsView<'_>, count: usize) -> bool
+    ensures { IsTrue result → IsSome view.now.from ⊎ IsSome view.now.to }
+{
+    let is_chosen = view.from.is_some() || view.to.is_some();
+    let from = view.from.unwrap_or(0);
+    let to = view.to.unwrap_or(usize::MAX);
+    is_chosen && (to < from || count <= from)
+}
+
+/// Says that no event is chosen.
+fn say_empty<N: Write>(view: &CallsView<'_>, count: usize, notes: &mut Out<'_, N>)
+    ensures { IsWrittenOut notes.new }
+{
+    notes.put(b"no event from ");
+    notes.put_number(view.from.unwrap_or(0) as u64);
+    match view.to {
+        Some(to) => {
+            notes.put(b" to ");
+            notes.put_number(to as u64);
+        }
+        None => notes.put(b" on"),
+    }
+    notes.put(b": the history has ");
+    notes.put_number(count as u64);
+    notes.say(b" events\n");
+}
+
+/// Says what is wrong with what was chosen, and returns whether something is.
+fn say_wrong_choice<N: Write>(
+    view: &CallsView<'_>,
+    found: &Found<'_>,
+    notes: &mut Out<'_, N>,
+) -> bool
+    ensures chosen { IsTrue result → Chooses view.now }
+    ensures quiet { result ≡ false → notes.new ≡ notes.old }
+    ensures written { IsWrittenOut notes.old → IsWrittenOut notes.new }
+{
+    let heading = found.read.recording.heading();
+    if let Some(name) = unknown_worker(heading, view.workers) {
+        say_unknown(b"worker", name, notes);
+        return true;
+    }
+    if let Some(name) = unknown_object(heading, view.objects) {
+        say_unknown(b"object", name, notes);
+        return true;
+    }
+    let count = found.events().len();
+    if is_empty(view, count) {
+        say_empty(view, count, notes);
+        return true;
+    }
+    false
+}
+
+/// Puts a picture.
+fn put_picture<W: Write>(
+    alloc: Global,
+    form: Form,
+    out: &mut Out<'_, W>,
+    picture: &Picture<'_>,
+) -> Result<(), AllocError> {
+    match form {
+        Form::Svg => put_svg(alloc, out, picture),
+        Form::Text => put_plain(alloc, out, picture),
+    }
+}
+
+/// Returns the picture of a history, with what is said of the text.
+fn drawn(
+    alloc: Global,
+    view: &CallsView<'_>,
+    text: &[u8],
+    found: &Found<'_>,
+) -> Result<Vec<u8>, AllocError> {
+    let note = note_on(alloc, text)?;
+    let picture = Picture::of(alloc, view, found, note)?;
+    let mut bytes = Vec::new(alloc);
+    let mut out = Out::new(&mut bytes);
+    let put = put_picture(alloc, view.form, &mut out, &picture);
+    let done = out.finish();
+    out.into_writer();
+    put?;
+    match done {
+        Ok(()) => Ok(bytes),
+        Err(_) => Err(AllocError),
+    }
+}
+
+/// Writes a picture, and says of its text what `check` says.
+fn write_picture<W: Write, N: Write>(
+    alloc: Global,
+    text: &[u8],
+    picture: &[u8],
+    out: &mut W,
+    notes: &mut Out<'_, N>,
+) -> Status
+    ensures ends { WritesOne text.now result
+        (record { out = W.contents out.old; notes = notes.old })
+        (record { out = W.contents out.new; notes = notes.new }) }
+    ensures written { IsWrittenOut notes.old → IsWrittenOut notes.new }
+{
+    match write_out(out, picture) {
+        Ok(()) => say_as_check(alloc, text, notes),
+        Err(_) => {
+            notes.say(b"write fault\n");
+            Status::InputOutput
+        }
+    }
+}
+
+/// Draws a history of a text, and says of the text what `check` says.
+fn draw_found<W: Write, N: Write>(
+    alloc: Global,
+    view: &CallsView<'_>,
+    text: &[u8],
+    found: &Found<'_>,
+    out: &mut W,
+    notes: &mut Out<'_, N>,
+) -> Status
+    ensures ends { EndsOn view.now text.now result
+        (record { out = W.contents out.old; notes = notes.old })
+        (record { out = W.contents out.new; notes = notes.new }) }
+    ensures written { IsWrittenOut notes.old → IsWrittenOut notes.new }
+{
+    if say_wrong_choice(view, found, notes) {
+        return Status::Usage;
+    }
+    match drawn(alloc, view, text, found) {
+        Ok(picture) => write_picture(alloc, text, &picture, out, notes),
+        Err(_) => {
+            notes.say(b"no memory\n");
+            Status::Memory
+        }
+    }
+}
+
+/// Draws the first history of a text that is refused or not decided, or else the last one, and says
+/// of the text what `check` says.
+///
+/// Nothing is written unless the picture is whole in memory.
+pub fn draw_calls<W: Write, N: Write>(
+    alloc: Global,
+    view: &CallsView<'_>,
+    text: &[u8],
+    out: &mut W,
+    notes: &mut Out<'_, N>,
+) -> Status
+    ensures ends { Draws view.now text.now result
+        (record { out = W.contents out.old; notes = notes.old })
+        (record { out = W.contents out.new; notes = notes.new }) }
+    ensures written { IsWrittenOut notes.old → IsWrittenOut notes.new }
+{
+    if text.len() > TEXT_MAX {
+        return say_as_check(alloc, text, notes);
+    }
+    match find_history(alloc, text) {
+        Ok(found) => draw_found(alloc, view, text, &found, out, notes),
+        Err(_) => say_as_check(alloc, text, notes),
+    }
+}

@@ -1,0 +1,275 @@
+//! The panels below the rows: the numbers and the values of the objects.
+use crate::choice::uses_semaphore;
+use crate::picture::Picture;
+use calls_core::{Kind, Op, Placed, Reply};
+use calls_shapes::{Counted, Step, Tally, Track, start_of, steps_of, tallies_of};
+use std::alloc::{AllocError, Global};
+
+/// What a panel shows.
+#[derive(Clone, Copy, Debug, PartialEq, Eq)]
+pub(crate) enum Subject {
+    /// The count of the eventcount with this index.
+    Count(usize),
+    /// The numbers of the sequencer with this index.
+    Numbers(usize),
+    /// The units of the semaphore at this place, of the object with this index.
+    Units(usize, usize),
+    /// The values of the cell or database with this index.
+    Values(usize),
+}
+
+/// The least and the greatest number at each moment that is shown.
+#[derive(Clone, Copy, Debug, PartialEq, Eq)]
+pub(crate) struct Bounds {
+    pub(crate) least: usize,
+    pub(crate) most: usize,
+}
+
+/// What a number is from the point of a call on that is shown.
+#[derive(Clone, Copy, Debug, PartialEq, Eq)]
+pub(crate) struct Spot {
+    pub(crate) point: usize,
+    pub(crate) x: u64,
+    pub(crate) value: usize,
+    pub(crate) op: Op,
+}
+
+/// The numbers of an object.
+#[derive(Drop)]
+pub(crate) struct Panel {
+    pub(crate) subject: Subject,
+    /// The number where the first column begins.
+    pub(crate) before: usize,
+    /// What it is from the point of each call of the object on.
+    pub(crate) spots: Vec<Spot>,
+    /// Its bounds at each moment that is shown, none of a cell.
+    pub(crate) bounds: Vec<Bounds>,
+}
+
+impl Subject {
+    /// Returns the number of the object that it shows.
+    fn track(self) -> Track {
+        match self {
+            Subject::Count(object) | Subject::Numbers(object) | Subject::Values(object) => Track {
+                object,
+                index: 0,
+            },
+            Subject::Units(object, index) => Track { object, index },
+        }
+    }
+
+    /// Returns the index of its object.
+    pub(crate) fn object(self) -> usize {
+        self.track().object
+    }
+
+    /// Returns whether it shows what a call of this object does.
+    pub(crate) fn shows(self, object: usize, op: Op) -> bool {
+        match self {
+            Subject::Units(_, place) => uses_semaphore(op, place),
+            _ => object == self.object(),
+        }
+    }
+
+    /// Returns whether a certificate on this object speaks of what it shows.
+    pub(crate) fn is_of(self, object: usize, courses: &[calls_shapes::Stair]) -> bool {
+        match self {
+            Subject::Units(_, place) => {
+                courses
+                    .iter()
+                    .any(|stair| stair.course.counted == Counted::Adding(place))
+            }
+            _ => object == self.object(),
+        }
+    }
+}
+
+/// Returns the bounds of a number that is raised by each of the calls that are counted.
+fn raised_bounds(start: usize, tally: &Tally) -> Bounds {
+    Bounds {
+        least: start.saturating_add(tally.returned),
+        most: start.saturating_add(tally.called),
+    }
+}
+
+/// Returns the bounds of a number of units.
+fn unit_bounds(units: usize, given: &Tally, taken: &Tally) -> Bounds {
+    let least = units.saturating_add(given.returned);
+    let most = units.saturating_add(given.called);
+    Bounds {
+        least: least.saturating_sub(taken.called),
+        most: most.saturating_sub(taken.returned),
+    }
+}
+
+/// Returns the bounds at the moments that are shown of a number that goes up by ones.
+fn count_bounds(
+    alloc: Global,
+    picture: &Picture<'_>,
+    start: usize,
+    counted: Counted,
+) -> Result<Vec<Bounds>, AllocError> {
+    let window = picture.window();
+    let tallies = tallies_of(alloc, picture.events, counted)?;
+    let shown = tallies.get(window.from..).unwrap_or(&[]);
+    let count = window.len().saturating_add(1);
+    shown
+        .iter()
+        .take(count)
+        .map(|tally| raised_bounds(start, tally))
+        .collect(alloc)
+}
+
+/// Returns the bounds at the moments that are shown of the units of a semaphore.
+fn bounds_of_units(
+    alloc: Global,
+    picture: &Picture<'_>,
+    start: usize,
+    place: usize,
+) -> Result<Vec<Bounds>, AllocError> {
+    let window = picture.window();
+    let given = tallies_of(alloc, picture.events, Counted::Adding(place))?;
+    let taken = tallies_of(alloc, picture.events, Counted::Taking(place))?;
+    let mut bounds = Vec::new(alloc);
+    for position in window.from..=window.to {
+        if let (Some(given), Some(taken)) = (given.get(position), taken.get(position)) {
+            bounds.push(unit_bounds(start, given, taken))?;
+        }
+    }
+    Ok(bounds)
+}
+
+/// Returns the bounds of what this shows, at the moments that are shown.
+fn bounds_of(
+    alloc: Global,
+    picture: &Picture<'_>,
+    subject: Subject,
+    start: usize,
+) -> Result<Vec<Bounds>, AllocError> {
+    match subject {
+        Subject::Count(k) => count_bounds(alloc, picture, start, Counted::Advances(k)),
+        Subject::Numbers(k) => count_bounds(alloc, picture, start, Counted::Tickets(k)),
+        Subject::Units(_, place) => bounds_of_units(alloc, picture, start, place),
+        Subject::Values(_) => Ok(Vec::new(alloc)),
+    }
+}
+
+/// Returns the last of these values before a position, or else the first one.
+fn value_before(start: usize, steps: &[Step], position: usize) -> usize {
+    let before = steps.iter().rev().find(|step| step.point < position);
+    before.map_or(start, |step| step.value)
+}
+
+/// Returns where the calls of an object are in an order, by their indices there.
+fn indices_of(alloc: Global, order: &[Placed], object: usize) -> Result<Vec<usize>, AllocError> {
+    let mut indices = Vec::new(alloc);
+    for (i, placed) in order.iter().enumerate() {
+        if placed.call.object == object {
+            indices.push(i)?;
+        }
+    }
+    Ok(indices)
+}
+
+/// Returns what a number is from the point of each call on that is shown.
+fn spots_of(
+    alloc: Global,
+    picture: &Picture<'_>,
+    subject: Subject,
+    steps: &[Step],
+) -> Result<Vec<Spot>, AllocError> {
+    let mut spots = Vec::new(alloc);
+    let indices = indices_of(alloc, picture.order, subject.object())?;
+    for (i, step) in indices.iter().zip(steps) {
+        if let Some(placed) = picture.order.get(*i) {
+            let op = placed.call.op;
+            if picture.window().has_point(step.point) && subject.shows(placed.call.object, op) {
+                spots.push(Spot {
+                    point: step.point,
+                    x: picture.x_of(*i),
+                    value: step.value,
+                    op,
+                })?;
+            }
+        }
+    }
+    Ok(spots)
+}
+
+/// Returns the panel of what this shows.
+fn panel_of(alloc: Global, picture: &Picture<'_>, subject: Subject) -> Result<Panel, AllocError> {
+    let track = subject.track();
+    let start = start_of(picture.kinds, track);
+    let steps = steps_of(alloc, picture.kinds, picture.order, track)?;
+    Ok(Panel {
+        subject,
+        before: value_before(start, &steps, picture.window().from),
+        spots: spots_of(alloc, picture, subject, &steps)?,
+        bounds: bounds_of(alloc, picture, subject, start)?,
+    })
+}
+
+/// Returns whether a drawn call is one of what this shows.
+fn is_shown(picture: &Picture<'_>, subject: Subject) -> bool {
+    picture
+        .shown
+        .iter()
+        .any(|bar| subject.shows(bar.object, bar.op))
+}
+
+/// Adds the panel of what this shows, if a drawn call is one of it.
+fn add_panel(
+    alloc: Global,
+    panels: &mut Vec<Panel>,
+    picture: &Picture<'_>,
+    subject: Subject,
+) -> Result<(), AllocError> {
+    if is_shown(picture, subject) {
+        panels.push(panel_of(alloc, picture, subject)?)?;
+    }
+    Ok(())
+}
+
+/// Adds the panels of the semaphores.
+fn add_semaphores(
+    alloc: Global,
+    panels: &mut Vec<Panel>,
+    picture: &Picture<'_>,
+    object: usize,
+    count: usize,
+) -> Result<(), AllocError> {
+    for place in 0..count {
+        if picture.choice.has_semaphore(place) {
+            add_panel(alloc, panels, picture, Subject::Units(object, place))?;
+        }
+    }
+    Ok(())
+}
+
+/// Returns the panels of the objects of the calls that are drawn.
+pub(crate) fn panels_of(alloc: Global, picture: &Picture<'_>) -> Result<Vec<Panel>, AllocError> {
+    let mut panels = Vec::new(alloc);
+    for (object, kind) in picture.kinds.iter().enumerate() {
+        let subject = match kind {
+            Kind::Eventcount(_) => Subject::Count(object),
+            Kind::Sequencer => Subject::Numbers(object),
+            Kind::Cell | Kind::Database(_) => Subject::Values(object),
+            Kind::Semaphores(units) => {
+                add_semaphores(alloc, &mut panels, picture, object, units.len())?;
+                continue;
+            }
+        };
+        add_panel(alloc, &mut panels, picture, subject)?;
+    }
+    Ok(panels)
+}
+
+/// Returns the number that a call says of its object.
+pub(crate) fn said_by(op: Op, reply: Reply) -> Option<usize> {
+    match (op, reply) {
+        (_, Reply::Number(n)) => Some(n),
+        (Op::Await(v), Reply::Done) => Some(v),
+        (Op::Await(v), Reply::Timeout) => Some(v.saturating_sub(1)),
+        _ => None,
+    }
+}

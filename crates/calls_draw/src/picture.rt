@@ -1,0 +1,409 @@
+//! What a picture of a history has.
+use crate::choice::Choice;
+use crate::grid::{Grid, LEFT};
+use crate::history::Found;
+use crate::lines::EventLines;
+use crate::view::{CallsView, Window, window_of};
+use calls_core::{Action, Call, Event, Kind, Op, PendingCall, Placed, Reply};
+use calls_shapes::{Bars, Course, Stair, bars_of, courses_of, faulty_calls, stair_of};
+use calls_text::Lists;
+use calls_verdict::{Fault, Refusal, Verdict};
+use ec_heading::Heading;
+use std::alloc::{AllocError, Global};
+
+/// A call, with its end if it has one.
+#[derive(Clone, Copy, Debug, PartialEq, Eq)]
+pub(crate) struct Bar {
+    pub(crate) worker: usize,
+    pub(crate) object: usize,
+    pub(crate) op: Op,
+    pub(crate) first: usize,
+    pub(crate) end: Option<(usize, Reply)>,
+}
+
+/// The outline of a bar that a certificate names or counts.
+#[derive(Clone, Copy, Debug, PartialEq, Eq)]
+pub(crate) enum Outline {
+    /// It is named.
+    Hot,
+    /// It is counted.
+    Warm,
+}
+
+/// What shows that a history is refused.
+#[derive(Drop)]
+pub(crate) struct Evidence<'a> {
+    pub(crate) refusal: &'a Refusal,
+    /// The calls that the fault names.
+    pub(crate) faulty: Vec<Call>,
+    /// Its stairs.
+    pub(crate) stairs: Vec<Stair>,
+}
+
+/// What is drawn of a history.
+#[derive(Drop)]
+pub(crate) struct Picture<'a> {
+    pub(crate) heading: &'a Heading,
+    /// The lines of the events.
+    pub(crate) lines: EventLines<'a>,
+    pub(crate) lists: &'a Lists,
+    pub(crate) kinds: &'a [Kind],
+    pub(crate) events: &'a [Event],
+    pub(crate) bars: Bars,
+    /// Those that are drawn.
+    pub(crate) shown: Vec<Bar>,
+    /// The calls in an order, none if the history has no order or is not decided.
+    pub(crate) order: &'a [Placed],
+    /// The point of the call that each event invokes, 0 if it has none.
+    pub(crate) points: Vec<usize>,
+    /// Where the points of the order are, in pixels.
+    pub(crate) xs: Vec<u64>,
+    pub(crate) evidence: Option<Evidence<'a>>,
+    pub(crate) choice: Choice,
+    pub(crate) grid: Grid,
+    /// The number of the line of the event at position 0.
+    pub(crate) first_line: u64,
+    /// Whether all calls are of one object.
+    pub(crate) is_single: bool,
+    /// What is said of the history, in lines.
+    pub(crate) note: Vec<u8>,
+}
+
+impl Bar {
+    /// Returns the bar of a completed call.
+    pub(crate) fn of(call: &Call) -> Bar {
+        Bar {
+            worker: call.worker,
+            object: call.object,
+            op: call.op,
+            first: call.first,
+            end: Some((call.last, call.reply)),
+        }
+    }
+
+    /// Returns the bar of a pending call.
+    pub(crate) fn open(call: &PendingCall) -> Bar {
+        Bar {
+            worker: call.worker,
+            object: call.object,
+            op: call.op,
+            first: call.first,
+            end: None,
+        }
+    }
+
+    /// Returns whether it is drawn.
+    fn is_shown(&self, choice: &Choice, window: Window) -> bool {
+        window.meets(self.first, self.last()) && choice.has(self.worker, self.object, self.op)
+    }
+
+    /// Returns the position of its end, a high one if it has none.
+    pub(crate) fn last(&self) -> usize {
+        match self.end {
+            Some((last, _)) => last,
+            None => usize::MAX,
+        }
+    }
+}
+
+/// Returns the stairs of these courses.
+fn stairs_of(
+    alloc: Global,
+    events: &[Event],
+    courses: &[Course],
+) -> Result<Vec<Stair>, AllocError> {
+    let mut stairs = Vec::new(alloc);
+    for course in courses {
+        stairs.push(stair_of(alloc, events, *course)?)?;
+    }
+    Ok(stairs)
+}
+
+/// Returns what shows that a history is refused.
+fn evidence_of<'a>(
+    alloc: Global,
+    kinds: &[Kind],
+    events: &[Event],
+    refusal: &'a Refusal,
+) -> Result<Evidence<'a>, AllocError> {
+    let courses = courses_of(alloc, kinds, refusal.object, &refusal.fault)?;
+    Ok(Evidence {
+        refusal,
+        faulty: faulty_calls(alloc, &refusal.fault)?,
+        stairs: stairs_of(alloc, events, &courses)?,
+    })
+}
+
+impl<'a> Evidence<'a> {
+    /// Returns the outline of a bar.
+    pub(crate) fn outline(&self, bar: &Bar) -> Option<Outline> {
+        if self.faulty.iter().any(|call| call.first == bar.first) {
+            return Some(Outline::Hot);
+        }
+        let is_counted = self.stairs.iter().any(|stair| counts(&stair.course, bar));
+        if is_counted || self.may_have_drawn(bar) {
+            return Some(Outline::Warm);
+        }
+        None
+    }
+
+    /// Returns whether a ticket can have drawn a number up to that of a ticket for which too few did.
+    fn may_have_drawn(&self, bar: &Bar) -> bool {
+        let Fault::Ticket(calls_tickets::Fault::Drawn(call)) = &self.refusal.fault else {
+            return false;
+        };
+        let is_low = match (bar.end, call.reply) {
+            (Some((_, Reply::Number(n))), Reply::Number(most)) => n <= most,
+            (None, _) => true,
+            _ => false,
+        };
+        is_low && bar.object == self.refusal.object
+    }
+
+    /// Returns whether it is of a cell whose gets each have one put.
+    pub(crate) fn is_distinct(&self) -> bool {
+        matches!(
+            self.refusal.fault,
+            Fault::Value(calls_cells::Fault::Distinct(_))
+        )
+    }
+
+    /// Returns the least position of what it names.
+    fn earliest(&self) -> usize {
+        let mut least = self.refusal.at;
+        for call in &self.faulty {
+            least = least.min(call.first);
+        }
+        least
+    }
+}
+
+/// Returns whether a course counts the call of a bar.
+fn counts(course: &Course, bar: &Bar) -> bool {
+    match bar.end {
+        Some((last, reply)) => course.has_completed(&Call {
+            worker: bar.worker,
+            object: bar.object,
+            op: bar.op,
+            reply,
+            first: bar.first,
+            last,
+        }),
+        None => course.has_pending(&PendingCall {
+            worker: bar.worker,
+            object: bar.object,
+            op: bar.op,
+            first: bar.first,
+        }),
+    }
+}
+
+/// How many events are shown before what a certificate names.
+const BEFORE: usize = 4;
+
+/// The fewest events that are shown of a long history that is refused.
+const FEWEST: usize = 20;
+
+/// Returns the first event that is shown where none is chosen.
+fn usual_from(evidence: &Option<Evidence<'_>>, count: usize) -> usize {
+    match evidence {
+        Some(evidence) => {
+            let from = evidence.earliest().saturating_sub(BEFORE);
+            let from = from.min(count.saturating_sub(FEWEST));
+            if from < FEWEST { 0 } else { from }
+        }
+        None => 0,
+    }
+}
+
+/// Returns how many calls from an index on have the point of the one there.
+fn same_points(order: &[Placed], i: usize) -> usize {
+    let point = point_at(order, i);
+    let mut count = 0usize;
+    for placed in order.get(i..).unwrap_or(&[]) {
+        if placed.point != point {
+            return count;
+        }
+        count = count.saturating_add(1);
+    }
+    count
+}
+
+/// Returns the point at an index.
+fn point_at(order: &[Placed], i: usize) -> usize {
+    match order.get(i) {
+        Some(placed) => placed.point,
+        None => 0,
+    }
+}
+
+/// Returns where the points of an order are. Calls of one point stand side by side.
+fn places_of(alloc: Global, grid: Grid, order: &[Placed]) -> Result<Vec<u64>, AllocError> {
+    let mut xs = Vec::new(alloc);
+    let mut first = 0;
+    let mut count = 0;
+    for (i, placed) in order.iter().enumerate() {
+        if i >= count {
+            first = i;
+            count = i.saturating_add(same_points(order, i));
+        }
+        let rank = i.saturating_sub(first);
+        xs.push(grid.point(placed.point, rank, count.saturating_sub(first)))?;
+    }
+    Ok(xs)
+}
+
+/// Returns for each event the point of the call that it invokes, 0 if it has none.
+fn points_of(alloc: Global, events: &[Event], order: &[Placed]) -> Result<Vec<usize>, AllocError> {
+    let mut points = vec![in alloc; 0usize; events.len()]?;
+    for placed in order {
+        if let Some(point) = points.get_mut(placed.call.first) {
+            *point = placed.point;
+        }
+    }
+    Ok(points)
+}
+
+/// Returns the object of an invocation.
+fn invoked(event: &Event) -> Option<usize> {
+    match event.action {
+        Action::Invoke(object, _) => Some(object),
+        Action::Respond(_) => None,
+    }
+}
+
+/// Returns whether all calls are of one object, which needs no name then.
+fn has_one_object(events: &[Event], kinds: &[Kind]) -> bool {
+    let Some(first) = events.iter().find_map(|event| invoked(event)) else {
+        return true;
+    };
+    let is_one = !matches!(kinds.get(first), Some(Kind::Semaphores(_)));
+    is_one
+        && events
+            .iter()
+            .all(|event| invoked(event).is_none_or(|k| k == first))
+}
+
+/// Returns the bars that are drawn: the completed ones, and then the pending ones.
+fn shown_bars(
+    alloc: Global,
+    bars: &Bars,
+    choice: &Choice,
+    window: Window,
+) -> Result<Vec<Bar>, AllocError> {
+    let mut shown = completed_bars(alloc, bars, choice, window)?;
+    for call in &bars.pending {
+        let bar = Bar::open(call);
+        if bar.is_shown(choice, window) {
+            shown.push(bar)?;
+        }
+    }
+    Ok(shown)
+}
+
+/// Returns the completed ones that are drawn.
+fn completed_bars(
+    alloc: Global,
+    bars: &Bars,
+    choice: &Choice,
+    window: Window,
+) -> Result<Vec<Bar>, AllocError> {
+    let mut shown = Vec::new(alloc);
+    for call in &bars.completed {
+        let bar = Bar::of(call);
+        if bar.is_shown(choice, window) {
+            shown.push(bar)?;
+        }
+    }
+    Ok(shown)
+}
+
+/// Returns the order of the calls, if there is one.
+fn order_of(verdict: &Verdict) -> &[Placed] {
+    match verdict {
+        Verdict::Linearizable(order) => order.as_slice(),
+        _ => &[],
+    }
+}
+
+impl<'a> Picture<'a> {
+    /// Returns what is drawn of a history, and what is said of it.
+    pub(crate) fn of(
+        alloc: Global,
+        view: &CallsView<'_>,
+        found: &'a Found<'_>,
+        note: Vec<u8>,
+    ) -> Result<Picture<'a>, AllocError> {
+        let recording = &found.read.recording;
+        let heading = recording.heading();
+        let kinds = recording.kinds();
+        let events = found.events();
+        let evidence = match found.refusal() {
+            Some(refusal) => Some(evidence_of(alloc, kinds, events, refusal)?),
+            None => None,
+        };
+        let usual = usual_from(&evidence, events.len());
+        let window = window_of(view, events.len(), usual);
+        let choice = Choice::of(alloc, heading, view)?;
+        let bars = bars_of(alloc, events)?;
+        let order = order_of(&found.verdict);
+        Ok(Picture {
+            heading,
+            lines: found.lines(alloc)?,
+            lists: recording.lists(),
+            kinds,
+            events,
+            shown: shown_bars(alloc, &bars, &choice, window)?,
+            bars,
+            order,
+            points: points_of(alloc, events, order)?,
+            xs: places_of(alloc, Grid::new(window), order)?,
+            evidence,
+            choice,
+            grid: Grid::new(window),
+            first_line: found.first_line(),
+            is_single: has_one_object(events, kinds),
+            note,
+        })
+    }
+
+    /// Returns the events that are shown.
+    pub(crate) fn window(&self) -> Window {
+        self.grid.window
+    }
+
+    /// Returns how many workers are declared.
+    pub(crate) fn workers(&self) -> usize {
+        self.heading.setup().workers()
+    }
+
+    /// Returns how many workers are drawn of those before this one.
+    pub(crate) fn rows_before(&self, worker: usize) -> usize {
+        let mut rows = 0usize;
+        for other in 0..worker {
+            if self.choice.has_worker(other) {
+                rows = rows.saturating_add(1);
+            }
+        }
+        rows
+    }
+
+    /// Returns the bars of a worker that are drawn, in the order of their invocations.
+    pub(crate) fn bars_of(&self, alloc: Global, worker: usize) -> Result<Vec<Bar>, AllocError> {
+        self.shown
+            .iter()
+            .filter(|bar| bar.worker == worker)
+            .copied()
+            .collect(alloc)
+    }
+
+    /// Returns the point of a call, 0 if it has none.
+    pub(crate) fn point_of(&self, bar: &Bar) -> usize {
+        self.points.get(bar.first).copied().unwrap_or(0)
+    }
+
+    /// Returns where an order's point stands.
+    pub(crate) fn x_of(&self, i: usize) -> u64 {
+        self.xs.get(i).copied().unwrap_or(LEFT)
+    }
+}

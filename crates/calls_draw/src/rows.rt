@@ -1,0 +1,291 @@
+//! The rows of the workers: bars, and marks at the points.
+use crate::grid::{LEFT, TOP, below, row};
+use crate::lines::parts_of;
+use crate::picture::{Bar, Outline, Picture};
+use crate::sink::{
+    Place, end_text, put_attribute, put_circle, put_diamond, put_line, put_number, put_rect,
+    put_text, start_text,
+};
+use crate::words::{class_of, put_whole, put_worker};
+use calls_core::{Op, Reply};
+use ec_text::Out;
+use std::alloc::{AllocError, Global};
+use std::io::Write;
+
+/// Half the height of a bar.
+const HALF: u64 = 11;
+
+/// Puts what stands above the columns, and of how many events, if not all are shown.
+pub(crate) fn put_column_names<W: Write>(out: &mut Out<'_, W>, picture: &Picture<'_>) {
+    let x = LEFT - 14;
+    start_text(out, b"scale", Place { x, y: 20 });
+    out.put(b"event");
+    if picture.window().len() < picture.events.len() {
+        out.put(b" of ");
+        out.put_number(picture.events.len() as u64);
+    }
+    end_text(out);
+    put_text(out, b"scale", Place { x, y: 32 }, b"line");
+}
+
+/// Puts the columns of the events.
+pub(crate) fn put_columns<W: Write>(out: &mut Out<'_, W>, picture: &Picture<'_>, rows: usize) {
+    let window = picture.window();
+    for position in window.from..window.to {
+        let x = picture.grid.x(position);
+        put_number(out, b"event", Place { x, y: 20 }, position as u64);
+        let line = picture.first_line.saturating_add(position as u64);
+        put_number(out, b"line", Place { x, y: 32 }, line);
+        let from = Place { x, y: 38 };
+        let to = Place { x, y: below(rows) };
+        put_line(out, b"grid", from, to);
+    }
+}
+
+/// Puts the class that makes a text small where it has more room than this.
+fn put_squeezed<W: Write>(out: &mut Out<'_, W>, class: &[u8], at: Place, text: &[u8], room: u64) {
+    let letters = text.len() as u64;
+    out.put(b"<text class='");
+    out.put(class);
+    if letters.saturating_mul(6) > room {
+        if letters.saturating_mul(5) > room {
+            out.put(b" tiny");
+        } else {
+            out.put(b" long");
+        }
+    }
+    out.put(b"'");
+    put_attribute(out, b"x", at.x);
+    put_attribute(out, b"y", at.y);
+    out.put(b">");
+    put_cut(out, text, room);
+    end_text(out);
+}
+
+/// Puts as much of a text as there is room for in small letters.
+fn put_cut<W: Write>(out: &mut Out<'_, W>, text: &[u8], room: u64) {
+    let most = (room.saturating_mul(2) / 7).max(2) as usize;
+    if text.len() <= most {
+        out.put(text);
+        return;
+    }
+    out.put(text.get(..most.saturating_sub(1)).unwrap_or(text));
+    out.put(b"~");
+}
+
+/// Puts the outline of a bar, if a certificate names or counts it.
+fn put_outline<W: Write>(
+    out: &mut Out<'_, W>,
+    picture: &Picture<'_>,
+    bar: &Bar,
+    at: Place,
+    width: u64,
+) {
+    let Some(evidence) = &picture.evidence else {
+        return;
+    };
+    let class: &[u8] = match evidence.outline(bar) {
+        Some(Outline::Hot) => b"hot",
+        Some(Outline::Warm) => b"warm",
+        None => return,
+    };
+    let place = Place {
+        x: at.x.saturating_sub(3),
+        y: at.y.saturating_sub(3),
+    };
+    put_rect(out, class, place, width.saturating_add(6), 28);
+}
+
+/// Puts the rectangle of a bar.
+fn put_bar_rect<W: Write>(out: &mut Out<'_, W>, bar: &Bar, at: Place, width: u64) {
+    out.put(b"<rect class='bar ");
+    out.put(class_of(bar.op));
+    if bar.end.is_none() {
+        out.put(b" open");
+    }
+    out.put(b"' rx='4'");
+    put_attribute(out, b"x", at.x);
+    put_attribute(out, b"y", at.y);
+    put_attribute(out, b"width", width);
+    put_attribute(out, b"height", HALF.saturating_mul(2));
+    out.put(b"/>\n");
+}
+
+/// Puts a bar with its texts. The next bar of the row begins at this position.
+fn put_bar<W: Write>(out: &mut Out<'_, W>, picture: &Picture<'_>, bar: &Bar, next: usize, y: u64) {
+    let x = picture.grid.x(bar.first);
+    let end = picture.grid.x(bar.last());
+    let at = Place {
+        x: x.saturating_add(2),
+        y: y.saturating_sub(HALF),
+    };
+    let width = end.saturating_sub(x).saturating_sub(4).max(4);
+    let room = picture.grid.x(next).saturating_sub(x);
+    out.put(b"<g><title>");
+    put_whole(out, picture, bar);
+    out.put(b"</title>\n");
+    put_bar_rect(out, bar, at, width);
+    put_outline(out, picture, bar, at, width);
+    put_labels(out, picture, bar, Place { x, y }, room);
+    put_returned(out, picture, bar, Place { x: end, y }, room);
+    out.put(b"</g>\n");
+}
+
+/// Puts what a call returned below the end of its bar, nothing if that is `done`.
+fn put_returned<W: Write>(
+    out: &mut Out<'_, W>,
+    picture: &Picture<'_>,
+    bar: &Bar,
+    at: Place,
+    room: u64,
+) {
+    let Some((last, reply)) = bar.end else {
+        return;
+    };
+    if matches!(reply, Reply::Done) {
+        return;
+    }
+    let place = Place {
+        x: at.x.saturating_sub(2),
+        y: at.y.saturating_add(25),
+    };
+    let text = picture.lines.said(last);
+    put_squeezed(out, b"reply", place, text, room.max(40));
+}
+
+/// Puts what a call asks for above its bar, and of which object if there are several.
+fn put_labels<W: Write>(
+    out: &mut Out<'_, W>,
+    picture: &Picture<'_>,
+    bar: &Bar,
+    at: Place,
+    room: u64,
+) {
+    let x = at.x.saturating_add(2);
+    let low = Place {
+        x,
+        y: at.y.saturating_sub(18),
+    };
+    let high = Place {
+        x,
+        y: at.y.saturating_sub(28),
+    };
+    let act = picture.lines.said(bar.first);
+    let (verb, object, rest) = parts_of(act);
+    let verb = act.get(..verb.len()).unwrap_or(act);
+    match (picture.is_single, bar.op) {
+        (true, _) => put_act(out, low, verb, rest, room),
+        (false, Op::PBoth(_, _)) => {
+            put_squeezed(out, b"act", high, verb, room);
+            let both = act.get(verb.len().saturating_add(1)..).unwrap_or(object);
+            put_squeezed(out, b"act", low, both, room);
+        }
+        (false, _) => {
+            put_act(out, high, verb, rest, room);
+            put_squeezed(out, b"act", low, object, room);
+        }
+    }
+}
+
+/// Puts a verb and what a call asks for besides its object.
+fn put_act<W: Write>(out: &mut Out<'_, W>, at: Place, verb: &[u8], rest: &[u8], room: u64) {
+    let letters = (verb.len() as u64).saturating_add(1);
+    let used = letters.saturating_mul(6);
+    put_squeezed(out, b"act", at, verb, room);
+    if !rest.is_empty() {
+        let place = Place {
+            x: at.x.saturating_add(used),
+            y: at.y,
+        };
+        put_squeezed(out, b"act", place, rest, room.saturating_sub(used).max(12));
+    }
+}
+
+/// Puts the name of a worker, and the line of its row.
+fn put_row_name<W: Write>(out: &mut Out<'_, W>, picture: &Picture<'_>, worker: usize, y: u64) {
+    let at = Place {
+        x: LEFT - 14,
+        y: y.saturating_add(4),
+    };
+    start_text(out, b"name", at);
+    put_worker(out, picture, worker);
+    end_text(out);
+    let right = picture.grid.right();
+    put_line(out, b"zero", Place { x: LEFT, y }, Place { x: right, y });
+}
+
+/// Puts the row of a worker.
+fn put_row<W: Write>(
+    alloc: Global,
+    out: &mut Out<'_, W>,
+    picture: &Picture<'_>,
+    worker: usize,
+) -> Result<(), AllocError> {
+    let y = row(picture.rows_before(worker));
+    put_row_name(out, picture, worker, y);
+    let bars = picture.bars_of(alloc, worker)?;
+    for (i, bar) in bars.iter().enumerate() {
+        let next = match bars.get(i.saturating_add(1)) {
+            Some(next) => next.first,
+            None => picture.window().to,
+        };
+        put_bar(out, picture, bar, next, y);
+    }
+    Ok(())
+}
+
+/// Puts the rows of the workers.
+pub(crate) fn put_rows<W: Write>(
+    alloc: Global,
+    out: &mut Out<'_, W>,
+    picture: &Picture<'_>,
+) -> Result<(), AllocError> {
+    for worker in 0..picture.workers() {
+        if picture.choice.has_worker(worker) {
+            put_row(alloc, out, picture, worker)?;
+        }
+    }
+    Ok(())
+}
+
+/// Puts the marks at the points of the calls that are drawn.
+pub(crate) fn put_marks<W: Write>(out: &mut Out<'_, W>, picture: &Picture<'_>) {
+    for (i, placed) in picture.order.iter().enumerate() {
+        let call = &placed.call;
+        let is_shown = picture.window().has_point(placed.point)
+            && picture.choice.has(call.worker, call.object, call.op);
+        if is_shown {
+            let y = row(picture.rows_before(call.worker));
+            put_diamond(
+                out,
+                Place {
+                    x: picture.x_of(i),
+                    y,
+                },
+            );
+        }
+    }
+}
+
+/// Puts the column of the first faulty event.
+pub(crate) fn put_faulty_column<W: Write>(
+    out: &mut Out<'_, W>,
+    picture: &Picture<'_>,
+    rows: usize,
+) {
+    let Some(evidence) = &picture.evidence else {
+        return;
+    };
+    let at = evidence.refusal.at;
+    if !picture.window().meets(at, at) {
+        return;
+    }
+    let x = picture.grid.x(at);
+    let half = picture.grid.width / 3;
+    let place = Place {
+        x: x.saturating_sub(half),
+        y: TOP - 8,
+    };
+    let height = below(rows).saturating_sub(TOP - 8);
+    put_rect(out, b"wrong", place, half.saturating_mul(2), height);
+}

@@ -1,0 +1,216 @@
+//! The whole picture, as SVG.
+use crate::blocks::{BLOCK, lanes_height, put_lanes, put_values};
+use crate::certificate::{evidence_in, evidence_range, put_evidence};
+use crate::curves::{
+    put_awaited, put_band, put_curve, put_levels, put_panel_name, put_scale, put_seen, range_of,
+};
+use crate::grid::below;
+use crate::panels::{Panel, Subject, panels_of};
+use crate::picture::{Evidence, Picture};
+use crate::rows::{put_column_names, put_columns, put_faulty_column, put_marks, put_rows};
+use crate::scale::{Range, Scale};
+use crate::sink::{Place, put_attribute, put_text};
+use crate::style::{OPENING, STYLE};
+use ec_text::{Out, cut_line};
+use std::alloc::{AllocError, Global};
+use std::io::Write;
+
+/// The room between two panels.
+const GAP: u64 = 34;
+
+/// The room for words that go on beside the columns.
+const MARGIN: u64 = 70;
+
+/// How high a line of a note is.
+const NOTE: u64 = 17;
+
+/// Returns the range of the numbers of a panel.
+fn whole_range(picture: &Picture<'_>, panel: &Panel) -> Range {
+    let range = range_of(picture, panel);
+    match evidence_in(picture, panel) {
+        Some(evidence) => evidence_range(picture, range, evidence),
+        None => range,
+    }
+}
+
+/// Returns how high a panel is.
+fn panel_height(picture: &Picture<'_>, panel: &Panel) -> u64 {
+    match (panel.subject, evidence_in(picture, panel)) {
+        (Subject::Values(_), Some(evidence)) => lanes_height(evidence),
+        (Subject::Values(_), None) => BLOCK,
+        _ => Scale::new(whole_range(picture, panel), 0).height,
+    }
+}
+
+/// Returns where the panels end.
+fn panels_end(picture: &Picture<'_>, rows: usize, panels: &[Panel]) -> u64 {
+    let mut y = below(rows).saturating_add(GAP);
+    for panel in panels {
+        y = y
+            .saturating_add(panel_height(picture, panel))
+            .saturating_add(GAP);
+    }
+    y
+}
+
+/// Returns how many lines a note has, and how many letters the longest.
+fn measured(note: &[u8]) -> (u64, u64) {
+    let mut lines = 0u64;
+    let mut longest = 0u64;
+    let mut rest = note;
+    while let Some((line, behind)) = cut_line(rest) {
+        lines = lines.saturating_add(1);
+        longest = longest.max(line.len() as u64);
+        rest = behind;
+    }
+    (lines, longest)
+}
+
+/// Puts the beginning of a picture.
+fn put_header<W: Write>(out: &mut Out<'_, W>, width: u64, height: u64) {
+    out.put(OPENING);
+    put_attribute(out, b"width", width);
+    put_attribute(out, b"height", height);
+    out.put(b" viewBox='0 0 ");
+    out.put_number(width);
+    out.put(b" ");
+    out.put_number(height);
+    out.put(b"'>\n");
+    out.put(STYLE);
+}
+
+/// Puts a panel of numbers.
+fn put_numbers<W: Write>(out: &mut Out<'_, W>, picture: &Picture<'_>, panel: &Panel, top: u64) {
+    let scale = Scale::new(whole_range(picture, panel), top);
+    put_scale(out, picture, &scale);
+    match evidence_in(picture, panel) {
+        Some(evidence) => put_refused(out, picture, panel, &scale, evidence),
+        None => put_accepted(out, picture, panel, &scale),
+    }
+}
+
+/// Puts a panel of numbers of an object whose calls are refused.
+fn put_refused<W: Write>(
+    out: &mut Out<'_, W>,
+    picture: &Picture<'_>,
+    panel: &Panel,
+    scale: &Scale,
+    evidence: &Evidence<'_>,
+) {
+    match panel.subject {
+        Subject::Count(_) => put_band(out, picture, scale, panel),
+        Subject::Numbers(_) => put_levels(out, picture, scale, panel),
+        Subject::Units(_, _) | Subject::Values(_) => {}
+    }
+    put_evidence(out, picture, scale, panel.subject, evidence);
+}
+
+/// Puts a panel of numbers of another object.
+fn put_accepted<W: Write>(
+    out: &mut Out<'_, W>,
+    picture: &Picture<'_>,
+    panel: &Panel,
+    scale: &Scale,
+) {
+    put_band(out, picture, scale, panel);
+    put_levels_of_tickets(out, picture, panel, scale);
+    if !picture.order.is_empty() {
+        put_curve(out, picture, scale, panel);
+        put_seen(out, scale, panel);
+    }
+    put_awaited(out, picture, scale, panel);
+}
+
+/// Puts the numbers that tickets drew, if it is the panel of a sequencer.
+fn put_levels_of_tickets<W: Write>(
+    out: &mut Out<'_, W>,
+    picture: &Picture<'_>,
+    panel: &Panel,
+    scale: &Scale,
+) {
+    if matches!(panel.subject, Subject::Numbers(_)) {
+        put_levels(out, picture, scale, panel);
+    }
+}
+
+/// Returns where the name of a panel stands: beside it, or above it if its numbers are long.
+fn name_y(picture: &Picture<'_>, panel: &Panel, top: u64) -> u64 {
+    let is_long = !matches!(panel.subject, Subject::Values(_))
+        && whole_range(picture, panel).high > 9999;
+    if is_long {
+        return top.saturating_sub(12);
+    }
+    let middle = panel_height(picture, panel) / 2;
+    top.saturating_add(middle).saturating_add(4)
+}
+
+/// Puts a panel.
+fn put_panel<W: Write>(out: &mut Out<'_, W>, picture: &Picture<'_>, panel: &Panel, top: u64) {
+    put_panel_name(out, picture, panel.subject, name_y(picture, panel, top));
+    match (panel.subject, evidence_in(picture, panel)) {
+        (Subject::Values(_), Some(evidence)) => put_lanes(out, picture, evidence, top),
+        (Subject::Values(_), None) => {
+            if !picture.order.is_empty() {
+                put_values(out, picture, panel, top);
+            }
+        }
+        _ => put_numbers(out, picture, panel, top),
+    }
+}
+
+/// Puts the panels.
+fn put_panels<W: Write>(
+    out: &mut Out<'_, W>,
+    picture: &Picture<'_>,
+    rows: usize,
+    panels: &[Panel],
+) {
+    let mut y = below(rows).saturating_add(GAP);
+    for panel in panels {
+        put_panel(out, picture, panel, y);
+        y = y
+            .saturating_add(panel_height(picture, panel))
+            .saturating_add(GAP);
+    }
+}
+
+/// Puts the lines of a note.
+fn put_note<W: Write>(out: &mut Out<'_, W>, picture: &Picture<'_>, top: u64) {
+    let class: &[u8] = if picture.evidence.is_some() {
+        b"fault"
+    } else {
+        b"remark"
+    };
+    let mut y = top;
+    let mut rest = picture.note.as_slice();
+    while let Some((line, behind)) = cut_line(rest) {
+        put_text(out, class, Place { x: 24, y }, line);
+        y = y.saturating_add(NOTE);
+        rest = behind;
+    }
+}
+
+/// Puts a picture as SVG.
+pub(crate) fn put_svg<W: Write>(
+    alloc: Global,
+    out: &mut Out<'_, W>,
+    picture: &Picture<'_>,
+) -> Result<(), AllocError> {
+    let panels = panels_of(alloc, picture)?;
+    let rows = picture.rows_before(picture.workers());
+    let end = panels_end(picture, rows, panels.as_slice());
+    let (lines, longest) = measured(picture.note.as_slice());
+    let right = picture.grid.right().saturating_add(MARGIN);
+    let width = longest.saturating_mul(8).max(right);
+    let height = end.saturating_add(lines.saturating_mul(NOTE));
+    put_header(out, width.saturating_add(24), height);
+    put_column_names(out, picture);
+    put_columns(out, picture, rows);
+    put_rows(alloc, out, picture)?;
+    put_marks(out, picture);
+    put_faulty_column(out, picture, rows);
+    put_panels(out, picture, rows, panels.as_slice());
+    put_note(out, picture, end);
+    out.put(b"</svg>\n");
+    Ok(())
+}

@@ -1,0 +1,315 @@
+//! The whole picture, as a text for a terminal.
+use crate::panels::{Panel, Spot, Subject, panels_of};
+use crate::picture::{Bar, Evidence, Picture};
+use crate::words::{put_subject, put_value, put_whole, put_worker, worker_letters};
+use calls_core::Op;
+use calls_shapes::Stair;
+use ec_text::{Decimal, Out};
+use std::alloc::{AllocError, Global};
+use std::io::Write;
+
+/// How many places a name has.
+const NAME: usize = 18;
+
+/// How many places an event has: one for itself, and those before it for the moment before it.
+#[derive(Clone, Copy, Debug, PartialEq, Eq)]
+struct Places {
+    count: usize,
+}
+
+/// Returns the places that the events of a picture need.
+fn places_of(picture: &Picture<'_>) -> Places {
+    let last = picture
+        .window()
+        .to
+        .saturating_add(picture.first_line as usize);
+    if last < 1000 {
+        Places { count: 4 }
+    } else {
+        Places { count: 8 }
+    }
+}
+
+/// Puts so many times a byte.
+fn put_times<W: Write>(out: &mut Out<'_, W>, byte: u8, count: usize) {
+    for _place in 0..count {
+        out.put_byte(byte);
+    }
+}
+
+/// Puts a number at the end of so many places.
+fn put_padded<W: Write>(out: &mut Out<'_, W>, n: u64, places: usize) {
+    let digits = Decimal::new(n).digits();
+    put_times(out, b' ', places.saturating_sub(digits.bytes().len()));
+    out.put_number(n);
+}
+
+/// Puts what fills the name's places after so many letters.
+fn put_rest_of_name<W: Write>(out: &mut Out<'_, W>, letters: usize) {
+    put_times(out, b' ', NAME.saturating_sub(letters));
+}
+
+/// Puts the events, and their lines.
+fn put_heads<W: Write>(out: &mut Out<'_, W>, picture: &Picture<'_>, places: Places) {
+    let window = picture.window();
+    out.put(b"event");
+    put_rest_of_name(out, 5);
+    for position in window.from..window.to {
+        put_padded(out, position as u64, places.count);
+    }
+    out.put(b"\n");
+    put_lines(out, picture, places);
+}
+
+/// Puts the lines of the events.
+fn put_lines<W: Write>(out: &mut Out<'_, W>, picture: &Picture<'_>, places: Places) {
+    let window = picture.window();
+    out.put(b"line");
+    put_rest_of_name(out, 4);
+    for position in window.from..window.to {
+        let line = picture.first_line.saturating_add(position as u64);
+        put_padded(out, line, places.count);
+    }
+    out.put(b"\n");
+}
+
+/// Puts the moment before a position: dashes within a call, with a star at its point.
+fn put_moment<W: Write>(
+    out: &mut Out<'_, W>,
+    picture: &Picture<'_>,
+    bars: &[Bar],
+    position: usize,
+    places: Places,
+) {
+    let room = places.count.saturating_sub(1);
+    let open = bars
+        .iter()
+        .find(|bar| bar.first < position && position <= bar.last());
+    let Some(bar) = open else {
+        put_times(out, b' ', room);
+        return;
+    };
+    if picture.point_of(bar) == position {
+        out.put(b"-*");
+        put_times(out, b'-', room.saturating_sub(2));
+    } else {
+        put_times(out, b'-', room);
+    }
+}
+
+/// Puts the mark of the event at a position, if it is one of these bars.
+fn put_event<W: Write>(out: &mut Out<'_, W>, bars: &[Bar], position: usize) {
+    if bars.iter().any(|bar| bar.first == position) {
+        out.put(b"(");
+    } else if bars.iter().any(|bar| bar.last() == position) {
+        out.put(b")");
+    } else if bars
+        .iter()
+        .any(|bar| bar.first < position && position < bar.last())
+    {
+        out.put(b"-");
+    } else {
+        out.put(b" ");
+    }
+}
+
+/// Puts the row of a worker.
+fn put_row<W: Write>(
+    alloc: Global,
+    out: &mut Out<'_, W>,
+    picture: &Picture<'_>,
+    worker: usize,
+    places: Places,
+) -> Result<(), AllocError> {
+    let bars = picture.bars_of(alloc, worker)?;
+    let window = picture.window();
+    put_worker(out, picture, worker);
+    put_rest_of_name(out, worker_letters(picture, worker));
+    for position in window.from..window.to {
+        put_moment(out, picture, &bars, position, places);
+        put_event(out, &bars, position);
+    }
+    put_moment(out, picture, &bars, window.to, places);
+    if bars.iter().any(|bar| bar.last() >= window.to) {
+        out.put(b">");
+    }
+    out.put(b"\n");
+    Ok(())
+}
+
+/// Puts the rows of the workers.
+fn put_rows<W: Write>(
+    alloc: Global,
+    out: &mut Out<'_, W>,
+    picture: &Picture<'_>,
+    places: Places,
+) -> Result<(), AllocError> {
+    for worker in 0..picture.workers() {
+        if picture.choice.has_worker(worker) {
+            put_row(alloc, out, picture, worker, places)?;
+        }
+    }
+    Ok(())
+}
+
+/// Returns the number of a panel when the event at a position comes.
+fn number_at(panel: &Panel, position: usize) -> usize {
+    let last = panel.spots.iter().rev().find(|spot| spot.point <= position);
+    last.map_or(panel.before, |spot| spot.value)
+}
+
+/// Puts the number of an object along the order, before each event.
+fn put_numbers<W: Write>(
+    out: &mut Out<'_, W>,
+    picture: &Picture<'_>,
+    panel: &Panel,
+    places: Places,
+) {
+    let window = picture.window();
+    put_rest_of_name(out, 5);
+    for position in window.from..=window.to {
+        let number = number_at(panel, position) as u64;
+        put_padded(out, number, places.count.saturating_sub(1));
+        out.put(b" ");
+    }
+    out.put(b"\n");
+}
+
+/// Puts bounds, before each event.
+fn put_bounds<W: Write>(out: &mut Out<'_, W>, word: &[u8], numbers: &[usize], places: Places) {
+    out.put(word);
+    put_rest_of_name(out, word.len());
+    for number in numbers {
+        put_padded(out, *number as u64, places.count.saturating_sub(1));
+        out.put(b" ");
+    }
+    out.put(b"\n");
+}
+
+/// Puts the rows of a panel of numbers.
+fn put_panel_rows<W: Write>(
+    alloc: Global,
+    out: &mut Out<'_, W>,
+    picture: &Picture<'_>,
+    panel: &Panel,
+    places: Places,
+) -> Result<(), AllocError> {
+    let least: Vec<usize> = panel.bounds.iter().map(|it| it.least).collect(alloc)?;
+    let most: Vec<usize> = panel.bounds.iter().map(|it| it.most).collect(alloc)?;
+    put_subject(out, picture, panel.subject);
+    out.put(b"\n");
+    if !picture.order.is_empty() {
+        out.put(b"count");
+        put_numbers(out, picture, panel, places);
+    }
+    put_bounds(out, b"least", &least, places);
+    put_bounds(out, b"most", &most, places);
+    Ok(())
+}
+
+/// Puts a value of a cell or a database, and from which point on it has it.
+fn put_later<W: Write>(out: &mut Out<'_, W>, picture: &Picture<'_>, panel: &Panel, spot: &Spot) {
+    let object = panel.subject.object();
+    put_subject(out, picture, panel.subject);
+    out.put(b" ");
+    put_value(out, picture, object, spot.value);
+    out.put(b", from point ");
+    out.put_number(spot.point as u64);
+    out.put(b"\n");
+}
+
+/// Puts the values of a cell or a database along the order.
+fn put_values<W: Write>(out: &mut Out<'_, W>, picture: &Picture<'_>, panel: &Panel) {
+    let object = panel.subject.object();
+    put_subject(out, picture, panel.subject);
+    out.put(b" ");
+    put_value(out, picture, object, panel.before);
+    out.put(b" before\n");
+    for spot in &panel.spots {
+        if matches!(spot.op, Op::Put(_)) {
+            put_later(out, picture, panel, spot);
+        }
+    }
+}
+
+/// Puts the panels.
+fn put_panels<W: Write>(
+    alloc: Global,
+    out: &mut Out<'_, W>,
+    picture: &Picture<'_>,
+    places: Places,
+) -> Result<(), AllocError> {
+    let panels = panels_of(alloc, picture)?;
+    for panel in &panels {
+        if !matches!(panel.subject, Subject::Values(_)) {
+            put_panel_rows(alloc, out, picture, panel, places)?;
+        } else if !picture.order.is_empty() {
+            put_values(out, picture, panel);
+        }
+    }
+    Ok(())
+}
+
+/// Puts a line for each call that is drawn.
+fn put_calls<W: Write>(out: &mut Out<'_, W>, picture: &Picture<'_>) {
+    for bar in &picture.shown {
+        put_whole(out, picture, bar);
+        out.put(b"\n");
+    }
+}
+
+/// Puts a line for each call that a certificate names.
+fn put_named<W: Write>(out: &mut Out<'_, W>, picture: &Picture<'_>, evidence: &Evidence<'_>) {
+    for call in &evidence.faulty {
+        let mut bar = Bar::of(call);
+        if call.last >= picture.events.len() {
+            bar.end = None;
+        }
+        out.put(b"named: ");
+        put_whole(out, picture, &bar);
+        out.put(b"\n");
+    }
+}
+
+/// Puts the line of a stair.
+fn put_stair<W: Write>(out: &mut Out<'_, W>, stair: &Stair) {
+    out.put(b"stair: ");
+    out.put_number(stair.course.base as u64);
+    out.put(b" from event ");
+    out.put_number(stair.course.from as u64);
+    out.put(b", up at");
+    for rise in &stair.rises {
+        out.put(b" ");
+        out.put_number(*rise as u64);
+    }
+    out.put(b", to event ");
+    out.put_number(stair.course.to as u64);
+    out.put(b"\n");
+}
+
+/// Puts the lines of the stairs.
+fn put_stairs<W: Write>(out: &mut Out<'_, W>, evidence: &Evidence<'_>) {
+    for stair in &evidence.stairs {
+        put_stair(out, stair);
+    }
+}
+
+/// Puts a picture as a text.
+pub(crate) fn put_plain<W: Write>(
+    alloc: Global,
+    out: &mut Out<'_, W>,
+    picture: &Picture<'_>,
+) -> Result<(), AllocError> {
+    let places = places_of(picture);
+    put_heads(out, picture, places);
+    put_rows(alloc, out, picture, places)?;
+    put_panels(alloc, out, picture, places)?;
+    out.put(b"\n");
+    put_calls(out, picture);
+    if let Some(evidence) = &picture.evidence {
+        put_named(out, picture, evidence);
+        put_stairs(out, evidence);
+    }
+    out.put(picture.note.as_slice());
+    Ok(())
+}

@@ -1,0 +1,92 @@
+-- How the steps grow.
+use Rattle.std.proofs.Common.{◌≡◌, ℕ, suc, ◌+◌, ◌<◌, ◌==◌, Bool, true, false, cond, if◌then◌else◌}
+use Rattle.std.proofs.Common.{List, [], ◌∷◌, ◌++◌, length, drop, get_or, arith, ap, sym, ◌∙◌, refl}
+use Rattle.std.proofs.Common.{drop-cons, append_assoc, subst}
+use Rattle.std.proofs.lemmas.Bool.{eq-eqb, ne_eqb}
+use Rattle.calls_core.specs.declared.history.Placed.{Placed}
+use Rattle.calls_core.specs.Linearizations.{after}
+use Rattle.calls_shapes.specs.declared.steps.Step.{Step}
+use Rattle.calls_shapes.specs.Steps.{steps_of}
+
+-- what comes from an index on begins with the call there
+from_here : (order : List Placed) (n : ℕ) (d : Placed) → n < length order
+    → drop n order ≡ get_or order n d ∷ drop (n + 1) order
+from_here order n d lt =
+    let next : suc n ≡ n + 1 = omega arith in
+    drop-cons order n d lt ∙ ap (λ j. get_or order n d ∷ drop j order) next
+
+abbrev step : (ℕ → ℕ) → ℕ → Placed → Step
+step m i p = record { point = p.point; value = after m p.call.op p.call.reply i }
+
+here_is : (k i : ℕ) (m : ℕ → ℕ) (p : Placed) (ps : List Placed) → (p.call.object == k) ≡ true
+    → steps_of k i m (p ∷ ps) ≡ step m i p ∷ steps_of k i (after m p.call.op p.call.reply) ps
+here_is k i m p ps is =
+    ap (λ b. cond b (step m i p ∷ steps_of k i (after m p.call.op p.call.reply) ps)
+    (steps_of k i m ps)) is
+
+here_not : (k i : ℕ) (m : ℕ → ℕ) (p : Placed) (ps : List Placed) → (p.call.object == k) ≡ false
+    → steps_of k i m (p ∷ ps) ≡ steps_of k i m ps
+here_not k i m p ps is =
+    ap (λ b. cond b (step m i p ∷ steps_of k i (after m p.call.op p.call.reply) ps)
+    (steps_of k i m ps)) is
+
+-- a call of the object is a step more
+step_more : (k i : ℕ) (m : ℕ → ℕ) (order : List Placed) (n : ℕ) (d : Placed)
+    (done all : List Step) → n < length order → ((get_or order n d).call.object == k) ≡ true
+    → done ++ steps_of k i m (drop n order) ≡ all
+    → (done ++ step m i (get_or order n d) ∷ [])
+    ++ steps_of k i (after m (get_or order n d).call.op (get_or order n d).call.reply)
+    (drop (n + 1) order) ≡ all
+step_more k i m order n d done all lt is so_far =
+    append_assoc done (step m i (get_or order n d) ∷ []) _
+    ∙ ap (λ zs. done ++ zs) (sym (here_is k i m (get_or order n d) (drop (n + 1) order) is))
+    ∙ ap (λ zs. done ++ steps_of k i m zs) (sym (from_here order n d lt))
+    ∙ so_far
+
+-- a call of another object is none
+step_same : (k i : ℕ) (m : ℕ → ℕ) (order : List Placed) (n : ℕ) (d : Placed)
+    (done all : List Step) → n < length order → ((get_or order n d).call.object == k) ≡ false
+    → done ++ steps_of k i m (drop n order) ≡ all
+    → done ++ steps_of k i m (drop (n + 1) order) ≡ all
+step_same k i m order n d done all lt is so_far =
+    ap (λ zs. done ++ zs) (sym (here_not k i m (get_or order n d) (drop (n + 1) order) is))
+    ∙ ap (λ zs. done ++ steps_of k i m zs) (sym (from_here order n d lt))
+    ∙ so_far
+
+-- the numbers of the object have this value at the index, and the steps so far and those that come
+-- are all
+abbrev pub SoFar : ℕ → ℕ → List Placed → ℕ → List Step → ℕ → List Step → Type 0
+SoFar k i order n steps value all =
+    (m : ℕ → ℕ) × (m i ≡ value) × (steps ++ steps_of k i m (drop n order) ≡ all)
+
+pub so_far_more : (k i : ℕ) (order : List Placed) (n : ℕ) (d : Placed) (old new : List Step)
+    (value made next : ℕ) (all : List Step) → n < length order
+    → (get_or order n d).call.object ≡ k
+    → new ≡ old ++ (let s : Step = record { point = (get_or order n d).point; value = made } in s)
+    ∷ []
+    → ((m : ℕ → ℕ) → m i ≡ value
+    → made ≡ after m (get_or order n d).call.op (get_or order n d).call.reply i) → next ≡ made
+    → SoFar k i order n old value all → SoFar k i order (n + 1) new next all
+so_far_more k i order n d old new value made next all lt is grown by same (m, here, so_far) =
+    let p = get_or order n d in
+    let made_is = by m here in
+    let put : new ≡ old ++ step m i p ∷ [] =
+    grown ∙ ap (λ v. old ++ (let s : Step = record { point = p.point; value = v } in s) ∷ [])
+    made_is in (
+      after m p.call.op p.call.reply,
+      sym made_is ∙ sym same,
+      ap (λ zs. zs ++ steps_of k i (after m p.call.op p.call.reply) (drop (n + 1) order)) put
+          ∙ step_more k i m order n d old all lt (eq-eqb p.call.object k is) so_far,
+    )
+
+pub so_far_same : (k i : ℕ) (order : List Placed) (n : ℕ) (d : Placed) (old new : List Step)
+    (value next : ℕ) (all : List Step) → n < length order
+    → ((get_or order n d).call.object ≡ k → ⊥) → new ≡ old → next ≡ value
+    → SoFar k i order n old value all → SoFar k i order (n + 1) new next all
+so_far_same k i order n d old new value next all lt is kept same (m, here, so_far) = (
+  m,
+  here ∙ sym same,
+  ap (λ zs. zs ++ steps_of k i m (drop (n + 1) order)) kept
+      ∙ step_same k i m order n d old all lt
+      (ne_eqb (get_or order n d).call.object k is) so_far,
+)

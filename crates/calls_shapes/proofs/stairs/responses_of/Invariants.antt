@@ -1,0 +1,11 @@
+use Rattle.std.proofs.Common.{◌≡◌, reverse, take}
+use Rattle.calls_core.specs.Histories.{pending_calls}
+use Rattle.calls_shapes.specs.Stairs.{responses_in}
+use Rattle.calls_shapes.proofs.stairs.responses_of.Given as goal
+
+abbrev pub invariant-loop-event : goal.invariant-loop-event
+invariant-loop-event l = record {
+  pending : l.pending.items ≡ pending_calls (reverse (take l.event-index l.events));
+  positions : l.positions.items ≡ responses_in l.course.counted l.course.portion
+      (take l.event-index l.events);
+}

@@ -1,0 +1,9 @@
+use Rattle.calls_core.specs.Linearizations.{start}
+use Rattle.calls_shapes.specs.Steps.{steps_of}
+use Rattle.calls_shapes.proofs.StepLemmas.{SoFar}
+use Rattle.calls_shapes.proofs.steps.steps_of.Given as goal
+
+abbrev pub invariant-loop-placed : goal.invariant-loop-placed
+invariant-loop-placed l =
+    SoFar l.track.object l.track.index l.order l.placed-index l.steps.items l.value
+    (steps_of l.track.object l.track.index (start l.kinds l.track.object) l.order)

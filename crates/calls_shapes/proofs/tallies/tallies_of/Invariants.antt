@@ -1,0 +1,18 @@
+use Rattle.std.proofs.Common.{◌≡◌, ℕ, ◌<◌, ◌≤◌, Some, slice_get, length, count_by, reverse, take}
+use Rattle.calls_core.specs.Histories.{pending_calls, completed_calls}
+use Rattle.calls_shapes.specs.Tallies.{calls_counted, is_counted, tally_at}
+use Rattle.calls_shapes.proofs.tallies.tallies_of.Given as goal
+
+-- the tallies so far are there, and the next one is known
+abbrev pub invariant-loop-event : goal.invariant-loop-event
+invariant-loop-event l = record {
+  pending : l.pending.items ≡ pending_calls (reverse (take l.event-index l.events));
+  called : l.tally.called ≡ count_by (calls_counted l.counted) (take l.event-index l.events);
+  returned : l.tally.returned ≡ count_by (is_counted l.counted) (completed_calls
+      (reverse (take l.event-index l.events)));
+  few : l.tally.called ≤ l.event-index;
+  few_returned : l.tally.returned ≤ l.event-index;
+  count : length l.tallies.items ≡ l.event-index;
+  each : (p : ℕ) → p < l.event-index
+      → slice_get l.tallies.items p ≡ Some (tally_at l.counted l.events p);
+}

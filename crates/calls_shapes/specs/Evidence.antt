@@ -1,0 +1,117 @@
+-- What shows a fault, as shapes.
+use Rattle.std.specs.Prelude.{ℕ, Bool, true, false, List, [], ◌∷◌, if◌then◌else◌}
+use Rattle.calls_core.specs.declared.history.Kind.{Kind}
+use Rattle.calls_core.specs.declared.history.Call.{Call}
+use Rattle.calls_core.specs.declared.history.Reply.{Reply}
+use Rattle.calls_core.specs.declared.history.Reply.TheVariants.{Timeout}
+use Rattle.calls_core.specs.Linearizations.{start}
+use Rattle.calls_counts.specs.declared.fault.Fault as counts
+use Rattle.calls_counts.specs.declared.fault.Fault.TheVariants as count
+use Rattle.calls_counts.specs.Faults.{least}
+use Rattle.calls_tickets.specs.declared.fault.Fault as tickets
+use Rattle.calls_tickets.specs.declared.fault.Fault.TheVariants as ticket
+use Rattle.calls_semaphores.specs.declared.fault.Fault as units
+use Rattle.calls_cells.specs.declared.outcome.Fault as cells
+use Rattle.calls_cells.specs.declared.outcome.Fault.TheVariants.{Distinct, Serial}
+use Rattle.calls_distinct.specs.declared.cell.Fault as distincts
+use Rattle.calls_distinct.specs.declared.cell.Fault.TheVariants as distinct
+use Rattle.calls_verdict.specs.declared.verdict.Fault.{Fault}
+use Rattle.calls_verdict.specs.declared.verdict.Fault.TheVariants as faults
+use Rattle.calls_shapes.specs.declared.tallies.Counted.TheVariants.{Advances, Taking, Adding}
+use Rattle.calls_shapes.specs.declared.stairs.Portion.TheVariants.{Called, Returned, Between}
+use Rattle.calls_shapes.specs.declared.stairs.Course.{Course}
+
+-- THE CALLS THAT A FAULT NAMES
+
+abbrev pub counted_calls : counts.Fault → List Call
+counted_calls (count.Below c) = c ∷ []
+counted_calls (count.Few c) = c ∷ []
+counted_calls (count.Many c) = c ∷ []
+counted_calls (count.Since c s) = c ∷ s ∷ []
+
+abbrev pub drawn_calls : tickets.Fault → List Call
+drawn_calls (ticket.Twice c d) = c ∷ d ∷ []
+drawn_calls (ticket.Turned c d) = c ∷ d ∷ []
+drawn_calls (ticket.Drawn c) = c ∷ []
+
+abbrev pub distinct_calls : distincts.Fault → List Call
+distinct_calls (distinct.Nowhere c) = c ∷ []
+distinct_calls (distinct.Stale c d) = c ∷ d ∷ []
+distinct_calls (distinct.Alternate a b c d) = a ∷ b ∷ c ∷ d ∷ []
+
+abbrev pub stored_calls : cells.Fault → List Call
+stored_calls (Distinct f) = distinct_calls f
+stored_calls (Serial f) = f.gets.items
+
+abbrev pub faulty_calls : Fault → List Call
+faulty_calls (faults.Count f) = counted_calls f
+faulty_calls (faults.Ticket f) = drawn_calls f
+faulty_calls (faults.Units f) = f.call ∷ []
+faulty_calls (faults.Value f) = stored_calls f
+
+-- THE COURSES OF ITS STAIRS
+
+-- the advances of the eventcount k, of which start is the count at first, up to the response of c
+abbrev pub few_course : ℕ → ℕ → Call → Course
+few_course start k c = record {
+  counted = Advances k;
+  portion = Called;
+  from = 0;
+  base = start;
+  to = c.last;
+}
+
+-- those that had returned before the invocation of c
+abbrev pub many_course : ℕ → ℕ → Call → Course
+many_course start k c = record {
+  counted = Advances k;
+  portion = Between 0 c.first;
+  from = 0;
+  base = start;
+  to = c.first;
+}
+
+abbrev pub is_timeout : Reply → Bool
+is_timeout Timeout = true
+is_timeout _ = false
+
+-- those between s and c, from what s says on; an await that gave up says nothing of a least count
+abbrev pub since_course : ℕ → ℕ → Call → Call → Course
+since_course start k c s =
+    if is_timeout s.reply then many_course start k c
+    else record {
+      counted = Advances k;
+      portion = Between s.last c.first;
+      from = s.last;
+      base = least s.op s.reply;
+      to = c.first;
+    }
+
+abbrev pub count_courses : ℕ → ℕ → counts.Fault → List Course
+count_courses start k (count.Below c) = []
+count_courses start k (count.Few c) = few_course start k c ∷ []
+count_courses start k (count.Many c) = many_course start k c ∷ []
+count_courses start k (count.Since c s) = since_course start k c s ∷ []
+
+-- the units that were given, and those that were taken
+abbrev pub unit_courses : ℕ → units.Fault → List Course
+unit_courses n f =
+    record {
+      counted = Adding f.index;
+      portion = Called;
+      from = 0;
+      base = n;
+      to = f.call.last;
+    } ∷ record {
+      counted = Taking f.index;
+      portion = Returned;
+      from = 0;
+      base = 0;
+      to = f.call.last;
+    } ∷ []
+
+abbrev pub courses_of : List Kind → ℕ → Fault → List Course
+courses_of kinds k (faults.Count f) = count_courses (start kinds k 0) k f
+courses_of kinds k (faults.Units f) = unit_courses (start kinds k f.index) f
+courses_of kinds k (faults.Ticket f) = []
+courses_of kinds k (faults.Value f) = []

@@ -1,0 +1,14 @@
+//! The shapes of a picture of a history of calls, in positions and counts.
+#![tactic(auto)]
+
+mod bars;
+mod evidence;
+mod stairs;
+mod steps;
+mod tallies;
+
+pub use bars::{Bars, bars_of};
+pub use evidence::{courses_of, faulty_calls};
+pub use stairs::{Course, Portion, Stair, stair_of};
+pub use steps::{Step, Track, start_of, steps_of};
+pub use tallies::{Counted, Tally, is_counted, tallies_of};

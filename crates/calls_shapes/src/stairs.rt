@@ -1,0 +1,115 @@
+//! Stairs: numbers that rise by one with each call that a certificate counts.
+ghost use Rattle.std.specs.Prelude.{◌≡◌, IfOk};
+ghost use Rattle.calls_shapes.specs.declared.stairs.Portion.TheVariants.{Called};
+ghost use Rattle.calls_shapes.specs.Stairs.{has_completed, has_pending, rises_of, responses_in, IsStair};
+
+use crate::bars::completed;
+use crate::tallies::{Counted, calls_counted, counts, is_counted};
+use calls_core::{Call, Event, PendingCall};
+use calls_verdict::follow;
+use std::alloc::{AllocError, Global};
+
+/// Which of the counted calls a stair rises with, and when.
+#[derive(Clone, Copy, Debug, PartialEq, Eq)]
+pub enum Portion {
+    /// With each at its invocation.
+    Called,
+    /// With each at its response.
+    Returned,
+    /// At its response with each that was called at the first position or later and returned
+    /// before the second.
+    Between(usize, usize),
+}
+
+/// Where a stair begins and ends, and what it counts.
+#[derive(Clone, Copy, Debug, PartialEq, Eq)]
+pub struct Course {
+    /// Which calls are counted.
+    pub counted: Counted,
+    /// With which of them it rises.
+    pub portion: Portion,
+    /// The position where it begins.
+    pub from: usize,
+    /// The number there.
+    pub base: usize,
+    /// The position where it ends.
+    pub to: usize,
+}
+
+/// A number that rises by ones.
+#[derive(Debug, Drop)]
+pub struct Stair {
+    /// Where it begins and ends.
+    pub course: Course,
+    /// The positions at which it rises by one, in ascending order.
+    pub rises: Vec<usize>,
+}
+
+impl Course {
+    /// Returns whether it rises with a completed call.
+    pub fn has_completed(&self, call: &Call) -> bool
+        ensures { result ≡ has_completed self.now.counted self.now.portion call.now }
+    {
+        if !is_counted(self.counted, call) {
+            return false;
+        }
+        match self.portion {
+            Portion::Called | Portion::Returned => true,
+            Portion::Between(from, before) => from <= call.first && call.last < before,
+        }
+    }
+
+    /// Returns whether it rises with a pending call.
+    pub fn has_pending(&self, call: &PendingCall) -> bool
+        ensures { result ≡ has_pending self.now.counted self.now.portion call.now }
+    {
+        matches!(self.portion, Portion::Called) && counts(self.counted, call.object, call.op)
+    }
+}
+
+/// Returns the positions of the invocations of counted calls.
+fn invocations_of(
+    alloc: Global,
+    events: &[Event],
+    counted: Counted,
+) -> Result<Vec<usize>, AllocError>
+    ensures { IfOk result (λ v. v.items ≡ rises_of counted Called events.now) }
+{
+    let mut positions = Vec::new(alloc);
+    for event in events {
+        if calls_counted(counted, event) {
+            positions.push(event.at)?;
+        }
+    }
+    Ok(positions)
+}
+
+/// Returns the positions of the responses of the calls with which a course rises that goes by
+/// responses.
+fn responses_of(alloc: Global, events: &[Event], course: Course) -> Result<Vec<usize>, AllocError>
+    ensures { IfOk result (λ v. v.items ≡ responses_in course.counted course.portion events.now) }
+{
+    let mut pending = Vec::new(alloc);
+    let mut positions = Vec::new(alloc);
+    for event in events {
+        if let Some(call) = completed(&pending, event) {
+            if course.has_completed(&call) {
+                positions.push(call.last)?;
+            }
+        }
+        let _object = follow(&mut pending, event)?;
+    }
+    Ok(positions)
+}
+
+/// Returns the stair of a course over these events.
+pub fn stair_of(alloc: Global, events: &[Event], course: Course) -> Result<Stair, AllocError>
+    ensures { IfOk result (IsStair events.now course) }
+{
+    let rises = match course.portion {
+        Portion::Called => invocations_of(alloc, events, course.counted)?,
+        Portion::Returned => responses_of(alloc, events, course)?,
+        Portion::Between(_, _) => responses_of(alloc, events, course)?,
+    };
+    Ok(Stair { course, rises })
+}

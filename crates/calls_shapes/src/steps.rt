@@ -1,0 +1,101 @@
+//! The numbers of an object along an order of the calls.
+ghost use Rattle.std.specs.Prelude.{◌≡◌, ℕ, ◌+◌, IfOk};
+ghost use Rattle.calls_core.specs.Linearizations.{after, start};
+ghost use Rattle.calls_shapes.specs.Steps.{steps_of};
+
+use calls_core::{Kind, Op, Placed, Reply};
+use std::alloc::{AllocError, Global};
+
+/// A number of an object. Semaphores have one each; of other objects it is the one at index 0.
+#[derive(Clone, Copy, Debug, PartialEq, Eq)]
+pub struct Track {
+    /// The index of the object.
+    pub object: usize,
+    /// The index of the number.
+    pub index: usize,
+}
+
+/// What the number is from the point of a call on.
+#[derive(Clone, Copy, Debug, PartialEq, Eq)]
+pub struct Step {
+    /// The point of the call.
+    pub point: usize,
+    /// The number after the call.
+    pub value: usize,
+}
+
+/// Returns the number of a track at first.
+pub fn start_of(kinds: &[Kind], track: Track) -> usize
+    ensures { result ≡ start kinds.now track.object track.index }
+{
+    match kinds.get(track.object) {
+        Some(Kind::Eventcount(start)) => *start,
+        Some(Kind::Semaphores(units)) => match units.get(track.index) {
+            Some(units) => *units,
+            None => 0,
+        },
+        _ => 0,
+    }
+}
+
+/// Returns a number that is raised by one.
+fn raised(value: usize) -> Result<usize, AllocError>
+    ensures { IfOk result (λ n. n ≡ value + 1) }
+{
+    match value.checked_add(1) {
+        Some(n) => Ok(n),
+        None => Err(AllocError),
+    }
+}
+
+/// Returns the number at an index after a call, if it was this before.
+fn next(value: usize, index: usize, op: Op, reply: Reply) -> Result<usize, AllocError>
+    ensures { IfOk result (λ n. (m : ℕ → ℕ) → m index ≡ value → n ≡ after m op reply index) }
+{
+    match (op, reply) {
+        (Op::Advance | Op::Ticket, _) => { if index == 0 { raised(value) } else { Ok(value) } }
+        (Op::V(i), _) => { if index == i { raised(value) } else { Ok(value) } }
+        (Op::P(i), Reply::Done) => {
+            if index == i {
+                Ok(value.saturating_sub(1))
+            } else {
+                Ok(value)
+            }
+        }
+        (Op::PBoth(i, j), Reply::Done) => {
+            if index == i || index == j {
+                Ok(value.saturating_sub(1))
+            } else {
+                Ok(value)
+            }
+        }
+        (Op::Put(v), _) => { if index == 0 { Ok(v) } else { Ok(value) } }
+        (Op::P(_) | Op::PBoth(_, _), Reply::Number(_) | Reply::Timeout) => Ok(value),
+        (Op::Read | Op::Await(_) | Op::Get, _) => Ok(value),
+    }
+}
+
+/// Returns what a number is after each call of its object, in this order of the calls.
+pub fn steps_of(
+    alloc: Global,
+    kinds: &[Kind],
+    order: &[Placed],
+    track: Track,
+) -> Result<Vec<Step>, AllocError>
+    ensures { IfOk result (λ steps. steps.items
+        ≡ steps_of track.object track.index (start kinds.now track.object) order.now) }
+{
+    let mut steps = Vec::new(alloc);
+    let mut value = start_of(kinds, track);
+    for placed in order {
+        let call = &placed.call;
+        if call.object == track.object {
+            value = next(value, track.index, call.op, call.reply)?;
+            steps.push(Step {
+                point: placed.point,
+                value,
+            })?;
+        }
+    }
+    Ok(steps)
+}

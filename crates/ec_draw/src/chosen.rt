@@ -1,0 +1,210 @@
+//! Which workers and objects are drawn.
+ghost use Rattle.std.specs.Prelude.{◌≡◌, ◌≤◌, ◌++◌, ◌∷◌, [], IfOk, OnOk};
+ghost use Rattle.std.specs.List.{list_any};
+ghost use Rattle.ec_heading.specs.Spelling.{cell_in};
+ghost use Rattle.ec_draw.specs.Chosen.{chosen_targets, draws, draws_arrow, draws_cell, draws_curve, draws_event, draws_object, draws_sequencer, draws_shade, draws_worker, is_chosen, is_drawn, stands_for};
+ghost use Rattle.ec_draw.specs.Shades.{seen};
+
+use crate::{Arrow, Counted, Plotted, Shade};
+use ec_core::Act;
+use ec_count::{CellId, EventId, SeqId, Target, Vocabulary, WorkerId};
+use std::alloc::{AllocError, Global};
+use std::marker::Model;
+
+/// Names of workers and of objects that are to be drawn. Where there is none all are.
+#[derive(Clone, Copy, Debug)]
+pub struct Choice<'a> {
+    pub workers: &'a [&'a str],
+    pub objects: &'a [&'a str],
+}
+
+/// The workers and the objects that are drawn.
+#[derive(Drop)]
+pub struct Chosen {
+    targets: Vec<Target>,
+}
+
+impl Model for Chosen {
+    ghost use Rattle.std.specs.Prelude.{List};
+    ghost use Rattle.ec_count.specs.declared.target.Target.{Target};
+
+    ghost Value = { List Target };
+
+    ghost view = { λ c. c.targets.items };
+}
+
+/// Whether a name stands for a word: it is the word, or that of the group whose object the word spells.
+fn stands_for(word: &[u8], name: &[u8]) -> bool
+    ensures { result ≡ stands_for word.now name.now }
+{
+    if !word.starts_with(name) {
+        return false;
+    }
+    match word.get(name.len()) {
+        None => true,
+        Some(byte) => *byte == b'.',
+    }
+}
+
+/// Whether a name stands for a word.
+fn is_named(word: &[u8], name: &str) -> bool
+    ensures { result ≡ stands_for word.now name.now }
+{
+    stands_for(word, name.as_bytes())
+}
+
+/// Whether some name stands for a word.
+fn any_named(names: &[&str], word: &[u8]) -> bool
+    ensures { result ≡ list_any (λ name. stands_for word.now name.now) names.now }
+{
+    names.iter().any(|name| is_named(word, name))
+}
+
+/// Whether a word is chosen by names; where there are none all are.
+fn is_chosen(names: &[&str], word: &[u8]) -> bool
+    ensures { result ≡ is_chosen names.now word.now }
+{
+    names.is_empty() || any_named(names, word)
+}
+
+/// Whether what a word stands for is drawn.
+fn is_drawn(choice: &Choice<'_>, word: &[u8], target: &Target) -> bool
+    ensures { result ≡ is_drawn choice.now (word.now, target.now) }
+{
+    match *target {
+        Target::Worker(_) => is_chosen(choice.workers, word),
+        Target::Event(_) | Target::Sequencer(_) | Target::Cells(_, _) | Target::Group(_) => {
+            is_chosen(choice.objects, word)
+        }
+    }
+}
+
+/// Adds what a word stands for, if that is drawn.
+fn add_drawn(
+    targets: &mut Vec<Target>,
+    choice: &Choice<'_>,
+    word: &[u8],
+    target: &Target,
+) -> Result<(), AllocError>
+    ensures { OnOk result (targets.new.items ≡ targets.old.items ++ chosen_targets choice.now ((word.now, target.now) ∷ [])) }
+{
+    if is_drawn(choice, word, target) {
+        targets.extend_from_slice(&[*target])?;
+    }
+    Ok(())
+}
+
+/// Whether a cell is one of a target's.
+fn cell_in(cell: usize, target: &Target) -> bool
+    ensures { result ≡ cell_in cell target.now }
+{
+    match *target {
+        Target::Cells(first, n) => first.get() <= cell && cell - first.get() < n,
+        Target::Worker(_) | Target::Event(_) | Target::Sequencer(_) | Target::Group(_) => false,
+    }
+}
+
+impl Chosen {
+    /// Returns what is drawn of all that the words of a heading stand for.
+    pub fn new(alloc: Global, choice: &Choice<'_>, words: &Vocabulary) -> Result<Chosen, AllocError>
+        ensures { IfOk result (λ c. c ≡ chosen_targets choice.now words.now) }
+    {
+        let mut targets = Vec::new(alloc);
+        for place in 0..words.len() {
+            if let Some((word, target)) = words.at(place) {
+                add_drawn(&mut targets, choice, word, &target)?;
+            }
+        }
+        Ok(Chosen { targets })
+    }
+
+    /// Whether a worker is drawn.
+    pub fn draws_worker(&self, worker: WorkerId) -> bool
+        ensures { result ≡ draws_worker self.now worker }
+    {
+        self.targets.as_slice().contains(&Target::Worker(worker))
+    }
+
+    /// How many of the first workers are drawn.
+    pub fn workers_before(&self, number: usize) -> usize
+        ensures { result ≤ 16 }
+    {
+        let drawn = (0..number).filter(|worker| match WorkerId::new(*worker) {
+            Some(worker) => self.draws_worker(worker),
+            None => false,
+        });
+        drawn.count().min(16)
+    }
+
+    /// Whether an eventcount is drawn.
+    fn draws_event(&self, event: EventId) -> bool
+        ensures { result ≡ draws_event self.now event }
+    {
+        self.targets.as_slice().contains(&Target::Event(event))
+    }
+
+    /// Whether a sequencer is drawn.
+    fn draws_sequencer(&self, sequencer: SeqId) -> bool
+        ensures { result ≡ draws_sequencer self.now sequencer }
+    {
+        let targets = self.targets.as_slice();
+        targets.contains(&Target::Sequencer(sequencer))
+    }
+
+    /// Whether a cell is drawn.
+    fn draws_cell(&self, cell: CellId) -> bool
+        ensures { result ≡ draws_cell self.now cell }
+    {
+        let number = cell.get();
+        let targets = self.targets.as_slice();
+        targets.iter().any(|target| cell_in(number, target))
+    }
+
+    /// Whether the object of an act is drawn.
+    pub fn draws_object(&self, act: &Act) -> bool
+        ensures { result ≡ draws_object self.now act.now }
+    {
+        match *act {
+            Act::Advance(event) | Act::Read(event) | Act::Await(event, _) | Act::Hand(event, _) => {
+                self.draws_event(event)
+            }
+            Act::Go => true,
+            Act::Ticket(sequencer) => self.draws_sequencer(sequencer),
+            Act::Put(cell, _) | Act::Get(cell) => self.draws_cell(cell),
+        }
+    }
+
+    /// Whether a call of a worker is drawn: the worker and the object are.
+    pub fn draws(&self, worker: WorkerId, act: &Act) -> bool
+        ensures { result ≡ draws self.now worker act.now }
+    {
+        self.draws_worker(worker) && self.draws_object(act)
+    }
+
+    /// Whether a curve is drawn; that of a balance is where its semaphore's eventcount is.
+    pub fn draws_curve(&self, object: &Plotted) -> bool
+        ensures { result ≡ draws_curve self.now object.now }
+    {
+        match *object {
+            Plotted::Count(Counted::Event(event)) => self.draws_event(event),
+            Plotted::Count(Counted::Sequencer(sequencer)) => self.draws_sequencer(sequencer),
+            Plotted::Balance(event) => self.draws_event(event),
+        }
+    }
+
+    /// Whether a shade is drawn: its reader is, and its database's eventcount of starts.
+    pub fn draws_shade(&self, shade: &Shade) -> bool
+        ensures { result ≡ draws_shade self.now (seen shade.now) }
+    {
+        self.draws_worker(shade.accepted.worker) && self.draws_event(shade.count)
+    }
+
+    /// Whether an arrow is drawn: its producer and its consumer are, and its buffer's eventcount of puts.
+    pub fn draws_arrow(&self, arrow: &Arrow) -> bool
+        ensures { result ≡ draws_arrow self.now arrow.now }
+    {
+        let ends = self.draws_worker(arrow.delivery.producer)
+            && self.draws_worker(arrow.delivery.consumer);
+        ends && self.draws_event(arrow.count)
+    }
+}

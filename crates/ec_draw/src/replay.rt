@@ -1,0 +1,22 @@
+//! The state of a world at a moment of a run.
+ghost use Rattle.std.specs.Prelude.{◌≡◌, take};
+ghost use Rattle.ec_core.specs.Standing.{StandsFor};
+
+use ec_core::{Run, World};
+
+/// Returns the state after so many of the first entries of a run.
+pub(crate) fn world_at(run: &Run, moment: usize) -> World
+    ensures setup { result.setup ≡ run.now.setup }
+    ensures stands { StandsFor result (take moment run.now.entries) }
+{
+    run.known();
+    let mut world = World::open(run.setup().copy());
+    let mut place = 0;
+    for entry in run.entries() {
+        if place < moment {
+            let _reply = world.step(entry.worker, entry.act);
+            place += 1;
+        }
+    }
+    world
+}

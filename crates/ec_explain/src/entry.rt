@@ -1,0 +1,135 @@
+//! What is wrong with a line in the place of an entry.
+ghost use Rattle.std.specs.Prelude.{◌≡◌, ◌≤◌, IfSome};
+ghost use Rattle.ec_explain.specs.Causes.{act_words, equals_place, has_object, lacks_value, is_reply, act_cause, reply_cause, entry_cause, is_hand};
+
+use crate::cause::Cause;
+use crate::words::{is_among, is_same, word_at};
+use ec_heading::Heading;
+use ec_text::number;
+
+static PAIRS: [&str; 4] = ["advance", "read", "ticket", "get"];
+
+static TRIPLES: [&str; 3] = ["await", "put", "hand"];
+
+static ON_CELLS: [&str; 2] = ["put", "get"];
+
+static WITH_VALUES: [&str; 2] = ["await", "put"];
+
+static REPLIES: [&str; 2] = ["done", "pending"];
+
+/// Returns how many words an act has that begins with this one.
+fn act_words(verb: &[u8]) -> Option<usize>
+    ensures value { result ≡ act_words verb.now }
+    ensures few { IfSome result (λ n. n ≤ 3) }
+{
+    if is_same(verb, b"go".as_slice()) {
+        return Some(1);
+    }
+    if is_among(&PAIRS, verb) {
+        return Some(2);
+    }
+    if is_among(&TRIPLES, verb) {
+        return Some(3);
+    }
+    None
+}
+
+/// Returns where the sign of equality stands after such an act.
+pub(crate) fn equals_place(line: &[u8]) -> usize
+    ensures value { result ≡ equals_place line.now }
+    ensures few { result ≤ 4 }
+{
+    match act_words(word_at(1, line)) {
+        None => 2,
+        Some(n) => 1 + n,
+    }
+}
+
+/// Returns whether the act is a hand.
+fn is_hand(verb: &[u8]) -> bool
+    ensures { result ≡ is_hand verb.now }
+{
+    is_same(verb, b"hand".as_slice())
+}
+
+/// Returns whether a word is what an act names first, if it names something.
+fn has_object(heading: &Heading, verb: &[u8], word: &[u8]) -> bool
+    ensures { result ≡ has_object heading.now.words verb.now word.now }
+{
+    if is_same(verb, b"go".as_slice()) {
+        return true;
+    }
+    if is_same(verb, b"ticket".as_slice()) {
+        return heading.sequencer(word).is_some();
+    }
+    if is_among(&ON_CELLS, verb) {
+        return heading.cell(word).is_some();
+    }
+    heading.event(word).is_some()
+}
+
+/// Returns whether an act has a value, and the word is none.
+fn lacks_value(verb: &[u8], word: &[u8]) -> bool
+    ensures { result ≡ lacks_value verb.now word.now }
+{
+    is_among(&WITH_VALUES, verb) && number(word).is_none()
+}
+
+/// Returns whether a word is a reply.
+fn is_reply(word: &[u8]) -> bool
+    ensures { result ≡ is_reply word.now }
+{
+    is_among(&REPLIES, word) || number(word).is_some()
+}
+
+/// Returns what is wrong with the worker, the act and its object.
+fn act_cause(heading: &Heading, line: &[u8]) -> Option<Cause>
+    ensures { result ≡ act_cause heading.now line.now }
+{
+    if heading.worker(word_at(0, line)).is_none() {
+        return Some(Cause::NoWorker);
+    }
+    let verb = word_at(1, line);
+    if act_words(verb).is_none() {
+        return Some(Cause::NoAct);
+    }
+    if is_hand(verb) && !heading.version().has_hand() {
+        return Some(Cause::HandInOne);
+    }
+    if !has_object(heading, verb, word_at(2, line)) {
+        return Some(Cause::NoObject);
+    }
+    None
+}
+
+/// Returns what is wrong with the words after the object.
+fn reply_cause(heading: &Heading, line: &[u8]) -> Cause
+    ensures { result ≡ reply_cause heading.now line.now }
+{
+    let verb = word_at(1, line);
+    let third = word_at(3, line);
+    if lacks_value(verb, third) {
+        return Cause::NoValue;
+    }
+    if is_hand(verb) && heading.worker(third).is_none() {
+        return Cause::NoReceiver;
+    }
+    let equals = equals_place(line);
+    if !is_same(word_at(equals, line), b"=".as_slice()) {
+        return Cause::NoEquals;
+    }
+    if !is_reply(word_at(equals + 1, line)) {
+        return Cause::NoReply;
+    }
+    Cause::EntryWords
+}
+
+/// Returns what is wrong with a line in the place of an entry.
+pub(crate) fn entry_cause(heading: &Heading, line: &[u8]) -> Cause
+    ensures { result ≡ entry_cause heading.now line.now }
+{
+    match act_cause(heading, line) {
+        Some(cause) => cause,
+        None => reply_cause(heading, line),
+    }
+}

@@ -1,0 +1,167 @@
+//! What is wrong with a line of a heading.
+ghost use Rattle.std.specs.Prelude.{◌≡◌, is_some};
+ghost use Rattle.std.specs.List.{list_all};
+ghost use Rattle.ec_count.specs.Reserved.{is_name_byte};
+ghost use Rattle.ec_heading.specs.Sorts.{sort_of};
+ghost use Rattle.ec_explain.specs.Places.{word_at};
+ghost use Rattle.ec_explain.specs.Causes.{is_header, first_cause, limit_cause, has_name_form, name_cause, head_cause, bad_name_place, new_name_place, workers_cause, declaration_cause};
+
+use crate::cause::Cause;
+use crate::words::{is_same, names_before, word_at};
+use ec_heading::{HeadFault, Heading, count_words};
+use ec_text::{cut_word, is_number_form};
+
+/// Returns whether a line begins as the first line of some version does.
+fn is_header(line: &[u8]) -> bool
+    ensures { result ≡ is_header line.now }
+{
+    line.starts_with(b"evc-trace".as_slice())
+        || line.starts_with(b"evc-script".as_slice())
+        || line.starts_with(b"evc-calls".as_slice())
+}
+
+/// Returns what is wrong with a first line.
+pub(crate) fn first_cause(line: &[u8]) -> Cause
+    ensures { result ≡ first_cause line.now }
+{
+    if is_header(line) {
+        return Cause::OtherVersion;
+    }
+    Cause::NoHeader
+}
+
+/// Returns what is wrong with a line in the place of the limit.
+pub(crate) fn limit_cause(line: &[u8]) -> Cause
+    ensures { result ≡ limit_cause line.now }
+{
+    if !is_same(word_at(0, line), b"limit".as_slice()) {
+        return Cause::NoLimit;
+    }
+    if count_words(line) != 2 {
+        return Cause::LimitWords;
+    }
+    let limit = word_at(1, line);
+    if !is_number_form(limit) {
+        return Cause::LimitNoNumber;
+    }
+    if is_same(limit, b"0".as_slice()) {
+        return Cause::LimitZero;
+    }
+    Cause::LimitLarge
+}
+
+/// Returns whether each byte may stand in a name after the first.
+fn has_name_bytes(rest: &[u8]) -> bool
+    ensures { result ≡ list_all is_name_byte rest.now }
+{
+    rest.iter()
+        .all(|byte| byte.is_ascii_alphanumeric() || *byte == b'_')
+}
+
+/// Returns whether a word is a letter, followed by letters, digits and underscores.
+fn has_name_form(word: &[u8]) -> bool
+    ensures { result ≡ has_name_form word.now }
+{
+    let [first, rest @ ..] = word else {
+        return false;
+    };
+    first.is_ascii_alphabetic() && has_name_bytes(rest)
+}
+
+/// Returns what is wrong with a word that is no name.
+fn name_cause(word: &[u8]) -> Cause
+    ensures { result ≡ name_cause word.now }
+{
+    if word.len() > 16 {
+        return Cause::LongName;
+    }
+    if has_name_form(word) {
+        return Cause::ReservedName;
+    }
+    Cause::BadName
+}
+
+/// Returns what is wrong with a line of a heading whose least fault is this, and whose new name is
+/// this word.
+fn head_cause(fault: HeadFault, name: &[u8]) -> Cause
+    ensures { result ≡ head_cause fault name.now }
+{
+    match fault {
+        HeadFault::BadLine => Cause::DeclarationForm,
+        HeadFault::BadName => name_cause(name),
+        HeadFault::NameTaken => Cause::NameTaken,
+        HeadFault::UnknownName => Cause::UnknownName,
+        HeadFault::BadNumber => Cause::BadNumber,
+        HeadFault::TooMany => Cause::TooMany,
+        HeadFault::TwoRoles => Cause::TwoRoles,
+        HeadFault::Memory => Cause::Other,
+    }
+}
+
+/// Returns the place of the first word that is no name, after the word `workers`.
+pub(crate) fn bad_name_place(line: &[u8]) -> usize
+    ensures { result ≡ bad_name_place line.now }
+{
+    match cut_word(line) {
+        (_, None) => 1,
+        (_, Some(list)) => 1 + names_before(list),
+    }
+}
+
+/// Returns the place of the new name in a line of a heading, or of the first word that should be one.
+pub(crate) fn new_name_place(line: &[u8]) -> usize
+    ensures { result ≡ new_name_place line.now }
+{
+    if is_same(word_at(0, line), b"workers".as_slice()) {
+        bad_name_place(line)
+    } else {
+        1
+    }
+}
+
+/// Returns what is wrong with a line of a heading that has this as its least fault.
+pub(crate) fn named_cause(fault: HeadFault, line: &[u8]) -> Cause
+    ensures { result ≡ head_cause fault (word_at (new_name_place line.now) line.now) }
+{
+    head_cause(fault, word_at(new_name_place(line), line))
+}
+
+/// Returns what is wrong with a line in the place of the workers.
+pub(crate) fn workers_cause(fault: HeadFault, line: &[u8]) -> Cause
+    ensures { result ≡ workers_cause fault line.now }
+{
+    if !is_same(word_at(0, line), b"workers".as_slice()) {
+        return Cause::NoWorkers;
+    }
+    if count_words(line) == 1 {
+        return Cause::NoWorkers;
+    }
+    head_cause(fault, word_at(bad_name_place(line), line))
+}
+
+/// Returns whether a word begins a declaration.
+fn is_sort(word: &[u8]) -> bool
+    ensures { result ≡ is_some (sort_of word.now) }
+{
+    is_same(word, b"eventcount".as_slice())
+        || is_same(word, b"sequencer".as_slice())
+        || is_same(word, b"cells".as_slice())
+        || is_same(word, b"buffer".as_slice())
+        || is_same(word, b"database".as_slice())
+        || is_same(word, b"semaphore".as_slice())
+        || is_same(word, b"both".as_slice())
+}
+
+/// Returns what is wrong with a line in the place of a declaration.
+pub(crate) fn declaration_cause(heading: &Heading, fault: HeadFault, line: &[u8]) -> Cause
+    ensures { result ≡ declaration_cause heading.now fault line.now }
+{
+    let first = word_at(0, line);
+    if heading.worker(first).is_some() {
+        return Cause::EntryBeforeRun;
+    }
+    if !is_sort(first) {
+        return Cause::NoDeclaration;
+    }
+    head_cause(fault, word_at(1, line))
+}

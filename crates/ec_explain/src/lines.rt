@@ -1,0 +1,76 @@
+//! The lines of a text, by their numbers.
+ghost use Rattle.std.specs.Prelude.{◌≡◌, ◌≤◌, ◌<◌, ◌==◌, IfSome, length};
+ghost use Rattle.std.specs.List.{position_from};
+ghost use Rattle.ec_explain.specs.TextLines.{before_line, behind, behind_line, first_line, line_at, lines_in, place_of};
+
+/// Returns where a byte stands first.
+fn position_of(sign: u8, bytes: &[u8]) -> Option<usize>
+    ensures value { result ≡ position_from (λ b. b == sign) 0 bytes.now }
+    ensures within { IfSome result (λ place. place < length bytes.now) }
+{
+    bytes.iter().position(|b| *b == sign)
+}
+
+/// Returns where a byte stands first; behind the last byte if it doesn't.
+pub(crate) fn place_of(sign: u8, bytes: &[u8]) -> usize
+    ensures value { result ≡ place_of sign bytes.now }
+    ensures within { result ≤ length bytes.now }
+{
+    match position_of(sign, bytes) {
+        Some(place) => place,
+        None => bytes.len(),
+    }
+}
+
+/// Returns what stands after the first line.
+fn behind_line(text: &[u8]) -> &[u8]
+    ensures { result.now ≡ behind_line text.now }
+{
+    let end = place_of(b'\n', text);
+    if end < text.len() {
+        &text[end + 1..]
+    } else {
+        &[]
+    }
+}
+
+/// Returns what stands after so many lines.
+fn behind(lines: u64, text: &[u8]) -> &[u8]
+    ensures { result.now ≡ behind lines text.now }
+{
+    let mut rest = text;
+    for _line in 0..lines {
+        rest = behind_line(rest);
+    }
+    rest
+}
+
+/// Returns the first line, without its LF.
+fn first_line(text: &[u8]) -> &[u8]
+    ensures { result.now ≡ first_line text.now }
+{
+    &text[..place_of(b'\n', text)]
+}
+
+/// Returns a line of a text, without its LF. Lines are counted from 1.
+pub fn line_at(number: u64, text: &[u8]) -> &[u8]
+    ensures { result.now ≡ line_at number text.now }
+{
+    first_line(behind(number.saturating_sub(1), text))
+}
+
+/// Returns all that stands before a line.
+pub fn before_line(number: u64, text: &[u8]) -> &[u8]
+    ensures { result.now ≡ before_line number text.now }
+{
+    let rest = behind(number.saturating_sub(1), text);
+    &text[..text.len().saturating_sub(rest.len())]
+}
+
+/// Returns how many lines a text has, a last one without its LF not among them.
+pub(crate) fn lines_in(text: &[u8]) -> usize
+    ensures value { result ≡ lines_in text.now }
+    ensures few { result ≤ length text.now }
+{
+    text.iter().filter(|b| **b == b'\n').count()
+}

@@ -1,0 +1,79 @@
+//! Which other line of a text shows why a line is rejected.
+ghost use Rattle.std.specs.Prelude.{◌≡◌, None, Some, if◌then◌else◌};
+ghost use Rattle.ec_explain.specs.Looking.{base_of, call_line, declaration_line, fits, last_in, lines_of};
+
+use crate::lines::{before_line, line_at, place_of};
+use crate::words::{is_same, word_at};
+use ec_text::cut_line;
+
+/// What is looked for.
+#[derive(Drop)]
+enum Sought<'a> {
+    /// A line by which this worker begins a call.
+    Call(&'a [u8]),
+    /// The line that declares what is called so.
+    Declaration(&'a [u8]),
+}
+
+/// Returns whether a line is looked for.
+fn fits(sought: &Sought<'_>, line: &[u8]) -> bool
+    ensures { result ≡ fits sought.now line.now }
+{
+    match sought {
+        Sought::Call(worker) => {
+            is_same(word_at(0, line), worker) && !is_same(word_at(1, line), b"go".as_slice())
+        }
+        Sought::Declaration(name) => {
+            is_same(word_at(1, line), name) || is_same(word_at(0, line), name)
+        }
+    }
+}
+
+/// Returns the number of a line if it is looked for, else that of an earlier one.
+fn found_or(sought: &Sought<'_>, line: &[u8], number: usize, found: Option<usize>) -> Option<usize>
+    ensures { result ≡ (if fits sought.now line.now then Some number else found) }
+{
+    if fits(sought, line) {
+        Some(number)
+    } else {
+        found
+    }
+}
+
+/// Returns the number of the last line that is looked for.
+fn last_in(sought: &Sought<'_>, text: &[u8]) -> Option<usize>
+    ensures { result ≡ last_in (fits sought.now) 0 None (lines_of text.now) }
+{
+    let mut found: Option<usize> = None;
+    let mut number = 0usize;
+    let mut rest = text;
+    while let Some((line, behind)) = cut_line(rest) {
+        number += 1;
+        found = found_or(sought, line, number, found);
+        rest = behind;
+    }
+    found
+}
+
+/// Returns the number of the line by which the worker of a line began its last call before it.
+pub(crate) fn call_line(number: u64, text: &[u8]) -> Option<usize>
+    ensures { result ≡ call_line number text.now }
+{
+    let worker = word_at(0, line_at(number, text));
+    last_in(&Sought::Call(worker), before_line(number, text))
+}
+
+/// Returns what a word of an object begins with: the name of its declaration.
+fn base_of(word: &[u8]) -> &[u8]
+    ensures { result.now ≡ base_of word.now }
+{
+    &word[..place_of(b'.', word).min(place_of(b'[', word))]
+}
+
+/// Returns the number of the line that declares the object of the act of a line.
+pub(crate) fn declaration_line(number: u64, text: &[u8]) -> Option<usize>
+    ensures { result ≡ declaration_line number text.now }
+{
+    let name = base_of(word_at(2, line_at(number, text)));
+    last_in(&Sought::Declaration(name), before_line(number, text))
+}

@@ -1,3 +1,0 @@
-mod Drawn
-mod Rounds
-pub mod shared

@@ -1,2 +1,0 @@
--- Lemmas that the proofs of other crates cite too.
-pub mod Loops

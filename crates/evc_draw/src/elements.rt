@@ -1,0 +1,99 @@
+//! The elements of a picture.
+ghost use Rattle.std.specs.Prelude.{◌≤◌};
+
+use crate::names::Name;
+use std::alloc::AllocError;
+
+/// A place in a picture, in pixels.
+#[derive(Clone, Copy)]
+pub(crate) struct Place {
+    pub(crate) x: u64,
+    pub(crate) y: u64,
+}
+
+impl Place {
+    /// Returns the place in the same height.
+    pub(crate) fn at(self, x: u64) -> Place {
+        Place { x, y: self.y }
+    }
+}
+
+pub(crate) fn put_line(
+    out: &mut String,
+    class: &str,
+    from: Place,
+    to: Place,
+) -> Result<(), AllocError> {
+    let (x1, y1, x2, y2) = (from.x, from.y, to.x, to.y);
+    write!(
+        out,
+        "<line class='{class}' x1='{x1}' y1='{y1}' x2='{x2}' y2='{y2}'/>\n"
+    )
+}
+
+pub(crate) fn put_rect(
+    out: &mut String,
+    at: Place,
+    width: u64,
+    height: u64,
+) -> Result<(), AllocError> {
+    let Place { x, y } = at;
+    write!(
+        out,
+        "<rect rx='6' x='{x}' y='{y}' width='{width}' height='{height}'/>\n"
+    )
+}
+
+/// Puts the beginning of a text. The class may have a second word, which makes the text small.
+pub(crate) fn put_text_start(
+    out: &mut String,
+    class: &str,
+    small: &str,
+    at: Place,
+) -> Result<(), AllocError> {
+    write!(
+        out,
+        "<text class='{class}{small}' x='{}' y='{}'>",
+        at.x, at.y
+    )
+}
+
+pub(crate) fn put_text_end(out: &mut String) -> Result<(), AllocError> {
+    out.push_str("</text>\n")
+}
+
+pub(crate) fn put_number(
+    out: &mut String,
+    class: &str,
+    at: Place,
+    number: u64,
+) -> Result<(), AllocError> {
+    put_text_start(out, class, "", at)?;
+    write!(out, "{number}")?;
+    put_text_end(out)
+}
+
+/// Puts the name before a row.
+pub(crate) fn put_row_name(out: &mut String, at: Place, name: Name<'_>) -> Result<(), AllocError> {
+    let small = if name.len() > 17 { " long" } else { "" };
+    put_text_start(out, "name", small, at)?;
+    write!(out, "{name}")?;
+    put_text_end(out)
+}
+
+/// Returns what makes a text small that has so many letters, so that it fits its column.
+pub(crate) fn squeeze(letters: usize) -> &'static str {
+    match letters {
+        ..14 => "",
+        14..17 => " long",
+        _ => " tiny",
+    }
+}
+
+/// Returns how many digits a number has.
+pub(crate) fn digits(number: u64) -> usize
+    ensures { result ≤ 20 }
+{
+    let mut digits = itoa::Buffer::new();
+    digits.format(number).len()
+}

@@ -1,0 +1,165 @@
+//! The picture as SVG.
+
+use crate::elements::{Place, put_line, put_number, put_row_name};
+use crate::findings::{put_arrow, put_shade};
+use crate::note::{Told, put_note};
+use crate::shapes::{put_bar, put_dot, put_mark, put_open_bar};
+use crate::sheet::{LEFT, Scale, Sheet, greatest, least};
+use crate::style::{OPENING, STYLE};
+use ec_count::WorkerId;
+use ec_draw::{Curve, Dot, Plotted};
+use std::alloc::{AllocError, Global};
+
+/// Puts the beginning of a picture.
+fn put_header(out: &mut String, width: u64, height: u64) -> Result<(), AllocError> {
+    write!(out, "{OPENING} width='{width}' height='{height}'")?;
+    write!(out, " viewBox='0 0 {width} {height}'>\n{STYLE}")
+}
+
+/// Puts the row of a worker.
+fn put_row(out: &mut String, sheet: &Sheet<'_>, worker: WorkerId) -> Result<(), AllocError> {
+    let y = sheet.row(worker);
+    let name = sheet.names.worker(worker);
+    put_row_name(out, Place { x: 124, y: y + 47 }, name)?;
+    let from = Place { x: LEFT, y: y + 43 };
+    put_line(out, "zero", from, from.at(sheet.width()))
+}
+
+/// Puts the rows of the workers that are drawn.
+fn put_rows(out: &mut String, sheet: &Sheet<'_>) -> Result<(), AllocError> {
+    for number in 0..sheet.workers {
+        if let Some(worker) = WorkerId::new(number) {
+            if sheet.chosen.draws_worker(worker) {
+                put_row(out, sheet, worker)?;
+            }
+        }
+    }
+    Ok(())
+}
+
+/// Puts the column of an entry.
+fn put_column(out: &mut String, sheet: &Sheet<'_>, dot: &Dot) -> Result<(), AllocError> {
+    let x = sheet.edge(dot.position);
+    let y = sheet.below();
+    put_line(out, "grid", Place { x, y: 34 }, Place { x, y })?;
+    let x = sheet.centre(dot.position);
+    put_number(out, "entry", Place { x, y: 30 }, dot.position as u64)
+}
+
+/// Puts the line of a curve: at each moment's number up to the entry that comes then.
+fn put_path(out: &mut String, scale: &Scale, curve: &Curve) -> Result<(), AllocError> {
+    let class = match curve.object {
+        Plotted::Count(_) => "curve",
+        Plotted::Balance(_) => "balance",
+    };
+    let first = curve.heights.first().copied().unwrap_or(0);
+    write!(out, "<path class='{class}' d='M 136 {}", scale.level(first))?;
+    let mut x = 178u64;
+    for number in curve.heights.as_slice() {
+        write!(out, " V {} H {x}", scale.level(*number))?;
+        x = x.saturating_add(84);
+    }
+    out.push_str("'/>\n")
+}
+
+/// Puts a curve, with its name and its least and its greatest number.
+fn put_curve(
+    out: &mut String,
+    sheet: &Sheet<'_>,
+    number: usize,
+    curve: &Curve,
+) -> Result<(), AllocError> {
+    let y = sheet.base(number);
+    let from = Place { x: LEFT, y };
+    put_line(out, "zero", from, from.at(sheet.width()))?;
+    put_row_name(
+        out,
+        Place { x: 124, y: y - 20 },
+        sheet.names.curve(&curve.object),
+    )?;
+    put_number(out, "count", Place { x: 124, y }, least(curve))?;
+    if least(curve) != greatest(curve) {
+        put_number(out, "count", Place { x: 124, y: y - 44 }, greatest(curve))?;
+    }
+    put_path(out, &sheet.scale(number, curve), curve)
+}
+
+/// Puts the curves that are drawn.
+fn put_curves(out: &mut String, sheet: &Sheet<'_>) -> Result<(), AllocError> {
+    for (number, curve) in sheet.picture.curves.iter().enumerate() {
+        if sheet.chosen.draws_curve(&curve.object) {
+            put_curve(out, sheet, number, curve)?;
+        }
+    }
+    Ok(())
+}
+
+/// Puts what stands behind the calls: the columns, the curves, and what the audits of groups find.
+fn put_back(out: &mut String, sheet: &Sheet<'_>) -> Result<(), AllocError> {
+    put_rows(out, sheet)?;
+    for dot in sheet.picture.dots.as_slice() {
+        put_column(out, sheet, dot)?;
+    }
+    put_curves(out, sheet)
+}
+
+/// Puts what the audits of groups find.
+fn put_findings(out: &mut String, sheet: &Sheet<'_>) -> Result<(), AllocError> {
+    for shade in sheet.picture.shades.as_slice() {
+        if sheet.chosen.draws_shade(shade) {
+            put_shade(out, sheet, shade)?;
+        }
+    }
+    for arrow in sheet.picture.arrows.as_slice() {
+        if sheet.chosen.draws_arrow(arrow) {
+            put_arrow(out, sheet, arrow)?;
+        }
+    }
+    Ok(())
+}
+
+/// Puts the bars of the calls.
+fn put_bars(out: &mut String, sheet: &Sheet<'_>) -> Result<(), AllocError> {
+    for placed in sheet.picture.calls.as_slice() {
+        if sheet.chosen.draws(placed.call.worker, &placed.call.op) {
+            put_bar(out, sheet, placed)?;
+        }
+    }
+    for begun in sheet.picture.begun.as_slice() {
+        if sheet.chosen.draws(begun.worker, &begun.op) {
+            put_open_bar(out, sheet, begun)?;
+        }
+    }
+    Ok(())
+}
+
+/// Puts the dots of the entries and the marks of the points.
+fn put_front(out: &mut String, sheet: &Sheet<'_>) -> Result<(), AllocError> {
+    for dot in sheet.picture.dots.as_slice() {
+        if sheet.chosen.draws(dot.worker, &dot.op) {
+            put_dot(out, sheet, dot)?;
+        }
+    }
+    for placed in sheet.picture.calls.as_slice() {
+        if sheet.chosen.draws(placed.call.worker, &placed.call.op) {
+            put_mark(out, sheet, placed)?;
+        }
+    }
+    Ok(())
+}
+
+/// Puts a picture as SVG.
+pub(crate) fn put_svg(
+    out: &mut String,
+    alloc: Global,
+    sheet: &Sheet<'_>,
+) -> Result<(), AllocError> {
+    let told = Told::of(alloc, sheet)?;
+    put_header(out, told.width(sheet), sheet.height() + told.height())?;
+    put_back(out, sheet)?;
+    put_findings(out, sheet)?;
+    put_bars(out, sheet)?;
+    put_front(out, sheet)?;
+    put_note(out, sheet, &told)?;
+    out.push_str("</svg>\n")
+}

@@ -1,0 +1,93 @@
+//! What is said of a shape: the title of its element, or its line in a text.
+
+use crate::names::{Asked, Names, Returned, kind};
+use ec_core::{Act, Reply};
+use ec_count::{EventId, WorkerId};
+use ec_draw::{Arrow, Open, Shade};
+use ec_order::Placed;
+use std::alloc::AllocError;
+
+/// Puts a call, as an entry of a trace would spell it.
+fn put_call(
+    out: &mut String,
+    names: &Names<'_>,
+    worker: WorkerId,
+    act: Act,
+    reply: Reply,
+) -> Result<(), AllocError> {
+    let asked = Asked { names, act };
+    let returned = Returned(reply);
+    write!(
+        out,
+        "{} {}{asked} = {returned}",
+        names.worker(worker),
+        kind(&act)
+    )
+}
+
+/// Puts a completed call, with its entries and its point.
+pub(crate) fn put_call_words(
+    out: &mut String,
+    names: &Names<'_>,
+    placed: &Placed,
+) -> Result<(), AllocError> {
+    let call = &placed.call;
+    put_call(out, names, call.worker, call.op, call.reply)?;
+    let (first, last, point) = (call.first, call.last, placed.point);
+    write!(out, ", entries {first} to {last}, point {point}")
+}
+
+/// Puts a pending call, with its first entry.
+pub(crate) fn put_open_words(
+    out: &mut String,
+    names: &Names<'_>,
+    begun: &Open,
+) -> Result<(), AllocError> {
+    put_call(out, names, begun.worker, begun.op, Reply::Pending)?;
+    write!(out, ", under way from entry {}", begun.first)
+}
+
+/// Puts what the audit of a group finds: what it is, the group, and a number.
+fn put_finding(
+    out: &mut String,
+    names: &Names<'_>,
+    what: &str,
+    event: EventId,
+    number: u64,
+) -> Result<(), AllocError> {
+    write!(out, "{what} {} {number}", names.group(event))
+}
+
+/// Puts a delivery, and where its item was put and got.
+pub(crate) fn put_delivery_words(
+    out: &mut String,
+    names: &Names<'_>,
+    arrow: &Arrow,
+) -> Result<(), AllocError> {
+    let delivery = &arrow.delivery;
+    put_finding(out, names, "delivery", arrow.count, delivery.number)?;
+    let (producer, consumer) = (
+        names.worker(delivery.producer),
+        names.worker(delivery.consumer),
+    );
+    let (item, put, got) = (delivery.item, arrow.put, arrow.got);
+    write!(
+        out,
+        " {producer} {consumer} {item}, put at entry {put}, got at entry {got}"
+    )
+}
+
+/// Puts an accepting try, with the values that it got and its entries.
+pub(crate) fn put_version_words(
+    out: &mut String,
+    names: &Names<'_>,
+    shade: &Shade,
+) -> Result<(), AllocError> {
+    let accepted = &shade.accepted;
+    put_finding(out, names, "version", shade.count, accepted.version)?;
+    write!(out, " {}", names.worker(accepted.worker))?;
+    for value in accepted.values.as_slice() {
+        write!(out, " {value}")?;
+    }
+    write!(out, ", entries {} to {}", shade.span.first, shade.span.last)
+}

@@ -1,0 +1,2 @@
+pub mod PlainLines
+mod Found

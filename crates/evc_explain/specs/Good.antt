@@ -1,0 +1,45 @@
+-- What is said of a good text.
+use Rattle.std.specs.Prelude.{ℕ, Bool, true, false, List, ◌++◌, length, count_by, codes, decimal}
+use Rattle.ec_core.specs.declared.act.Act.{Act}
+use Rattle.ec_core.specs.declared.act.Act.TheVariants.{Go}
+use Rattle.ec_core.specs.declared.act.Entry.{Entry}
+use Rattle.ec_script.specs.Scripted.{Planned}
+use Rattle.ec_trace.specs.Recounted.{Recounted}
+
+-- each act but a go begins a call
+abbrev pub is_begun_by : Act → Bool
+is_begun_by Go = false
+is_begun_by act = true
+
+abbrev pub begins_call : Entry → Bool
+begins_call e = is_begun_by e.act
+
+-- how many calls a history has, those under way at its end among them
+abbrev pub calls_of : List Entry → ℕ
+calls_of entries = count_by begins_call entries
+
+unfoldable pub workers_words : Recounted → List ℕ
+workers_words t = decimal t.heading.setup.workers ++ codes " workers.\n"
+
+unfoldable pub entries_words : Recounted → List ℕ
+entries_words t = codes "The trace is good: " ++ decimal (length t.entries) ++ codes " entries, "
+
+unfoldable pub calls_words : Recounted → List ℕ
+calls_words t = decimal (calls_of t.entries) ++ codes " calls, "
+
+-- how many entries, calls and workers it has
+unfoldable pub good_text : Recounted → List ℕ
+good_text t = entries_words t ++ calls_words t ++ workers_words t
+
+unfoldable pub script_workers : Planned → List ℕ
+script_workers p = codes "The script is good: " ++ decimal p.heading.setup.workers ++ codes " workers, "
+
+unfoldable pub script_turns : Planned → List ℕ
+script_turns p = decimal (length p.schedule) ++ codes " turns in its schedule.\n"
+
+-- how many workers a script has, and how many turns its schedule
+unfoldable pub good_script : Planned → List ℕ
+good_script p = script_workers p ++ script_turns p
+
+abbrev pub good_calls : List ℕ
+good_calls = codes "The text is well formed. Whether the calls are linearizable says evc-calls check.\n"

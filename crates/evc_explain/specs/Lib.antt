@@ -1,0 +1,5 @@
+pub mod Forms
+pub mod Seeking
+pub mod Histories
+pub mod Good
+pub mod Explains

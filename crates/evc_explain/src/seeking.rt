@@ -1,0 +1,160 @@
+//! Where the faulty line of a trace stands, and what is wrong with it there.
+ghost use Rattle.std.specs.Prelude.{◌≡◌, ◌++◌, Err, IfOk, IfSome, codes};
+ghost use Rattle.ec_heading.specs.Heading.{head_step};
+ghost use Rattle.ec_explain.specs.TextLines.{line_at};
+ghost use Rattle.evc_explain.specs.Seeking.{Finds, FindsBad, Opens, follows_end, up_to};
+
+use ec_explain::{
+    Cause, Finding, Site, before_line, found_at, line_at, of_whole, refused_at, unfinished,
+    wrong_reply_at,
+};
+use ec_heading::{HeadFault, Heading, Version};
+use ec_trace::{Opened, TraceFault, open_trace};
+use std::alloc::{AllocError, Global};
+
+/// Returns what a text declares up to its line `run`, if it comes to that.
+fn heading_of(alloc: Global, text: &[u8]) -> Result<Option<Heading>, AllocError>
+    ensures { IfOk result (λ found. IfSome found (Opens text.now)) }
+{
+    let mut rest = text;
+    match open_trace(alloc, &mut rest) {
+        Ok(
+            Opened {
+                heading,
+                lines: _lines,
+            },
+        ) => Ok(Some(heading)),
+        Err(TraceFault::Memory) => Err(AllocError),
+        Err(_) => Ok(None),
+    }
+}
+
+/// Returns the lines before a line, and then `run`.
+fn up_to(alloc: Global, number: u64, text: &[u8]) -> Result<Vec<u8>, AllocError>
+    ensures { IfOk result (λ bytes. bytes.items ≡ up_to number text.now) }
+{
+    let mut bytes = Vec::new(alloc);
+    bytes.extend_from_slice(before_line(number, text))?;
+    bytes.extend_from_slice(b"run\n")?;
+    Ok(bytes)
+}
+
+/// Returns the least fault of a line after a heading, which stays as it is then.
+fn fault_of(heading: &mut Heading, line: &[u8]) -> Result<Option<HeadFault>, AllocError>
+    ensures same { IfOk result (λ found. IfSome found (λ fault. heading.new ≡ heading.old)) }
+    ensures fault { IfOk result (λ found. IfSome found
+        (λ fault. head_step heading.old line.now ≡ Err fault)) }
+{
+    match heading.line(line) {
+        Ok(()) => Ok(None),
+        Err(HeadFault::Memory) => Err(AllocError),
+        Err(fault) => Ok(Some(fault)),
+    }
+}
+
+/// Returns what is wrong with the line of the workers.
+fn in_workers(alloc: Global, text: &[u8]) -> Result<Finding, AllocError>
+    ensures { IfOk result (FindsBad text.now 3) }
+{
+    let line = line_at(3, text);
+    let Some(limit) = Version::One.limit(1) else {
+        return Ok(found_at(&Site::Unknown, 3, line));
+    };
+    let mut heading = Heading::new(alloc, Version::One, limit)?;
+    match fault_of(&mut heading, line)? {
+        Some(fault) => Ok(found_at(&Site::Workers(fault), 3, line)),
+        None => Ok(found_at(&Site::Unknown, 3, line)),
+    }
+}
+
+/// Returns what is wrong with a line after this heading, with this as its least fault.
+fn declared_at(heading: &Heading, fault: HeadFault, text: &[u8], number: u64) -> Finding
+    requires opens { Opens (up_to number text.now) heading.now }
+    requires fails { head_step heading.now (line_at number text.now) ≡ Err fault }
+    ensures { FindsBad text.now number result }
+{
+    found_at(
+        &Site::Declaration(heading, fault),
+        number,
+        line_at(number, text),
+    )
+}
+
+/// Returns what is wrong with a line after the line of the workers.
+fn in_declarations(alloc: Global, text: &[u8], number: u64) -> Result<Finding, AllocError>
+    ensures { IfOk result (FindsBad text.now number) }
+{
+    let line = line_at(number, text);
+    let before = up_to(alloc, number, text)?;
+    let Some(mut heading) = heading_of(alloc, before.as_slice())? else {
+        return Ok(found_at(&Site::Unknown, number, line));
+    };
+    match fault_of(&mut heading, line)? {
+        Some(fault) => Ok(declared_at(&heading, fault, text, number)),
+        None => Ok(found_at(&Site::Unknown, number, line)),
+    }
+}
+
+/// Returns what is wrong with a line before `run`.
+fn in_heading(alloc: Global, text: &[u8], number: u64) -> Result<Finding, AllocError>
+    ensures { IfOk result (FindsBad text.now number) }
+{
+    if number == 1 {
+        return Ok(found_at(&Site::First, number, line_at(number, text)));
+    }
+    if number == 2 {
+        return Ok(found_at(&Site::Limit, number, line_at(number, text)));
+    }
+    if number == 3 {
+        return in_workers(alloc, text);
+    }
+    in_declarations(alloc, text, number)
+}
+
+/// Returns whether a line stands after `end`.
+fn follows_end(number: u64, text: &[u8]) -> bool
+    ensures { result ≡ follows_end number text.now }
+{
+    line_at(number.saturating_sub(1), text) == b"end".as_slice()
+}
+
+/// Returns what is wrong with a line after `run`.
+fn in_run(heading: &Heading, text: &[u8], number: u64) -> Finding
+    requires { Opens text.now heading.now }
+    ensures { FindsBad text.now number result }
+{
+    let line = line_at(number, text);
+    if follows_end(number, text) {
+        return found_at(&Site::Behind, number, line);
+    }
+    found_at(&Site::Entry(heading), number, line)
+}
+
+/// Returns what is wrong with a bad line.
+fn bad_line(alloc: Global, text: &[u8], number: u64) -> Result<Finding, AllocError>
+    ensures { IfOk result (FindsBad text.now number) }
+{
+    match heading_of(alloc, text)? {
+        Some(heading) => Ok(in_run(&heading, text, number)),
+        None => in_heading(alloc, text, number),
+    }
+}
+
+/// Returns what is wrong with a text that has this fault as a trace.
+pub(crate) fn finding_of(
+    alloc: Global,
+    text: &[u8],
+    fault: &TraceFault,
+) -> Result<Finding, AllocError>
+    ensures { IfOk result (Finds text.now fault.now) }
+{
+    match *fault {
+        TraceFault::BadLine(number) => bad_line(alloc, text, number),
+        TraceFault::Refused(number, refusal) => { Ok(refused_at(number, refusal, text)) }
+        TraceFault::WrongReply(number, right) => Ok(wrong_reply_at(number, right, text)),
+        TraceFault::Unfinished => Ok(unfinished(text)),
+        TraceFault::TooLarge | TraceFault::Read | TraceFault::Memory => Ok(of_whole(
+            Cause::TooLarge,
+        )),
+    }
+}
