@@ -29,7 +29,7 @@ fn calls_of(alloc: Global, zs: &[Zone]) -> Result<Vec<Call>, AllocError>
 {
     let mut calls = Vec::new(alloc);
     for z in zs {
-        calls.push(z.call)?;
+        calls.push(*z.call)?;
     }
     Ok(calls)
 }
@@ -40,11 +40,11 @@ pub(crate) fn judge(alloc: Global, zs: &[Grouped], end: usize) -> Result<Verdict
         → IsDistinctHistory past → AreGroupedOf past end zs.now → IsVerdict past end v) }
 {
     if let Some(z) = first_lacking(zs) {
-        return Ok(Verdict::Faulty(Fault::Nowhere(z.call)));
+        return Ok(Verdict::Faulty(Fault::Nowhere(*z.call)));
     }
     let order = sorted(alloc, zs, end)?;
     match crossing(&order) {
-        Some((x, z)) => Ok(Verdict::Faulty(crossing_fault(&x, &z))),
+        Some((x, z)) => Ok(Verdict::Faulty(crossing_fault(x, z))),
         None => Ok(Verdict::Ordered(calls_of(alloc, &order)?)),
     }
 }

@@ -1,12 +1,13 @@
-use Rattle.std.proofs.Common.{◌+◌, ◌-◌, ℕ, sym, arith, subst, List}
+use Rattle.std.proofs.Common.{◌+◌, ◌-◌, ℕ, ◌∙◌, sym, arith, subst, List}
 use Rattle.std.proofs.Common.{get_or}
 use Rattle.std.proofs.lemmas.Result.{IfOk-weaker}
 use Rattle.calls_core.specs.declared.history.Op.TheVariants.{Advance}
 use Rattle.calls_core.specs.declared.history.Action.TheVariants.{Invoke}
 use Rattle.calls_core.specs.declared.history.Event.{Event}
 use Rattle.calls_core.specs.Beginnings.{past_at}
-use Rattle.calls_distinct.specs.declared.zone.Grouped.{Grouped}
-use Rattle.calls_distinct.specs.Verdicts.{AreGroupedOf, IsVerdict}
+use Rattle.calls_core.specs.declared.history.Call.{Call}
+use Rattle.calls_distinct.specs.Groups.{AreGrouped}
+use Rattle.calls_distinct.specs.Verdicts.{IsVerdict}
 use Rattle.calls_distinct.proofs.Earlier.{distinct_at, store_at, clock_at, clock_is}
 use Rattle.calls_distinct.proofs.deciding.judge_beginning.Goals as goal
 
@@ -35,5 +36,7 @@ returns c =
     IfOk-weaker _ _ _ (λ v f. subst (λ (t : ℕ). IsVerdict (past_at n events) t v) (sym is)
     (f (past_at n events) (store_at n events c.requires.store) (omega (arith, is))
     (distinct_at n events c.requires.store c.requires.distinct)
-    (subst (λ (zs : List Grouped). AreGroupedOf (past_at n events) ((get_or events (n - 1) none).at
-    + 1) zs) (sym c.deref.ensures.value) c.in_ok-zs.ensures))) c.judge.ensures
+    (subst (λ (cs : List Call). AreGrouped cs cs c.deref-3.result.now)
+    (c.deref-2.ensures.value ∙ c.in_ok-calls.ensures)
+    (subst (AreGrouped c.deref-2.result.now c.deref-2.result.now) (sym c.deref-3.ensures.value)
+    c.in_ok-zs.ensures)))) c.judge.ensures
