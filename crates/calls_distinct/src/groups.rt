@@ -1,8 +1,7 @@
 //! What is known of all calls of each value.
 ghost use Rattle.std.specs.Prelude.{◌≡◌, ◌<◌, ℕ, List, ◌++◌, ◌∷◌, [], length, map, IfOk, OnOk};
-ghost use Rattle.std.specs.Prelude.{Option, None, Some};
-ghost use Rattle.std.specs.Ordering.{nat_cmp};
-ghost use Rattle.std.specs.BTreeMap.{get};
+ghost use Rattle.std.specs.Prelude.{Option, None, Some, nat_eq};
+ghost use Rattle.std.specs.HashMap.{get};
 ghost use Rattle.std.specs.List.{Contains};
 ghost use Rattle.calls_core.specs.Lists.{Each};
 ghost use Rattle.calls_distinct.specs.Cells.{value};
@@ -13,7 +12,7 @@ use crate::reading::{is_put, value};
 use crate::zone::{Group, Grouped};
 use calls_core::Call;
 use std::alloc::{AllocError, Global};
-use std::collections::BTreeMap;
+use std::collections::HashMap;
 
 /// Makes the group of one call.
 fn group_of_one(call: &Call) -> Group<'_>
@@ -70,10 +69,10 @@ fn with_call<'a>(group: &Group<'a>, call: &'a Call) -> Group<'a>
 }
 
 /// Adds a call.
-fn add<'a>(groups: &mut BTreeMap<usize, Group<'a>>, call: &'a Call) -> Result<(), AllocError>
-    requires { (v : ℕ) (g : Group) → get nat_cmp groups.old v ≡ Some g → g.puts < usize.MAX }
-    ensures { OnOk result ((seen : List Call) → AreGroups seen groups.old
-        → AreGroups (seen ++ call.now ∷ []) groups.new) }
+fn add<'a>(groups: &mut HashMap<usize, Group<'a>>, call: &'a Call) -> Result<(), AllocError>
+    requires { (v : ℕ) (g : Group) → get nat_eq groups.old v ≡ Some g → g.puts < usize.MAX }
+    ensures { OnOk result ((seen : List Call) → AreGroups seen (get nat_eq groups.old)
+        → AreGroups (seen ++ call.now ∷ []) (get nat_eq groups.new)) }
 {
     let v = value(call);
     let group = match groups.get(&v) {
@@ -88,10 +87,10 @@ fn add<'a>(groups: &mut BTreeMap<usize, Group<'a>>, call: &'a Call) -> Result<()
 pub(crate) fn groups_of(
     alloc: Global,
     calls: &[Call],
-) -> Result<BTreeMap<usize, Group<'_>>, AllocError>
-    ensures { IfOk result (AreGroups calls.now) }
+) -> Result<HashMap<usize, Group<'_>>, AllocError>
+    ensures { IfOk result (λ groups. AreGroups calls.now (get nat_eq groups)) }
 {
-    let mut groups = BTreeMap::new(alloc);
+    let mut groups = HashMap::new(alloc);
     for call in calls {
         add(&mut groups, call)?;
     }
@@ -102,9 +101,9 @@ pub(crate) fn groups_of(
 pub(crate) fn grouped<'g, 'a>(
     alloc: Global,
     calls: &'a [Call],
-    groups: &'g BTreeMap<usize, Group<'a>>,
+    groups: &'g HashMap<usize, Group<'a>>,
 ) -> Result<Vec<Grouped<'g, 'a>>, AllocError>
-    requires { AreGroups calls.now groups.now }
+    requires { AreGroups calls.now (get nat_eq groups.now) }
     ensures { IfOk result (λ v. AreGrouped calls.now calls.now v.items) }
 {
     let mut out = Vec::new(alloc);
