@@ -48,7 +48,7 @@ pub fn decide(alloc: Global, kinds: &[Kind], events: &[Event]) -> Result<Verdict
     for (object, kind) in kinds.iter().enumerate() {
         let own: &[Event] = &parts[object];
         let decision = decide_object(alloc, kind, own, end)?;
-        add(alloc, &mut found, object, own, decision)?;
+        add(&mut found, object, own, decision)?;
     }
     conclude(found)
 }

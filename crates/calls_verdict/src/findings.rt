@@ -5,7 +5,7 @@ ghost use Rattle.calls_verdict.specs.kept.Findings.{HasRoom, IsAddedTo, IsEarlie
 use crate::verdict::{Decision, Refusal, Undecided, Verdict};
 use calls_core::{Event, Placed};
 use calls_local::{merge, place};
-use std::alloc::{AllocError, Global};
+use std::alloc::AllocError;
 
 /// What is found of the objects that were decided.
 #[derive(Debug, Drop)]
@@ -30,7 +30,6 @@ fn earlier(kept: Option<Refusal>, next: Refusal) -> Refusal
 
 /// Adds what is decided of an object, whose events these are.
 pub fn add(
-    alloc: Global,
     found: &mut Found,
     object: usize,
     own: &[Event],
@@ -41,7 +40,7 @@ pub fn add(
 {
     match decision {
         Decision::Ordered(calls) => {
-            found.placed.append(&mut place(alloc, &calls)?)?;
+            place(&mut found.placed, &calls)?;
             Ok(())
         }
         Decision::Refused(i, fault) => {

@@ -7,15 +7,15 @@ use Rattle.calls_verdict.proofs.Founding.{any_event, kept_first, found_ordered, 
 use Rattle.calls_verdict.proofs.Founding.{found_open}
 use Rattle.calls_verdict.proofs.findings.add.Goals as goal
 
-pub returns-in_ok-append-in-Ordered : goal.returns-in_ok-append-in-Ordered
-returns-in_ok-append-in-Ordered c =
+pub returns-in_ok-place-in-Ordered : goal.returns-in_ok-place-in-Ordered
+returns-in_ok-place-in-Ordered c =
     λ kinds past kind h is mine d f. found_ordered kinds past h c.args.object kind c.args.own.now
     c.in-Ordered.calls.items
     c.args.found.now _ is mine
     (subst (λ (z : Decision). IsDecision kind c.args.own.now (clock past) z) c.in-Ordered.is d) refl
     refl
-    (c.in_ok-append-in-Ordered.ensures.items ∙ ap (λ zs. c.args.found.now.placed.items ++ zs)
-    (c.in_ok-place-in-Ordered.ensures ∙ ap (placed_one 0) c.deref.ensures.value)) f
+    (c.in_ok-place-in-Ordered.ensures ∙ ap (λ cs. c.args.found.now.placed.items ++ placed_one 0 cs)
+    c.deref.ensures.value) f
 
 pub returns-in-Refused : goal.returns-in-Refused
 returns-in-Refused c =
