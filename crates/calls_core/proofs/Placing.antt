@@ -29,8 +29,8 @@ placed_next latest ps c h =
     let calls = calls_more ps (record { point = max latest (c.first + 1); call = c }) in
     record {
       points = ap (λ qs. qs ++ own) h.points ∙ ap (λ n.
-          placed_one 0 (calls_of ps) ++ record { point = max n (c.first + 1); call = c } ∷ []) h.last
-          ∙ sym (placed_more 0 (calls_of ps) c) ∙ ap (placed_one 0) (sym calls);
+          placed_one 0 (calls_of ps) ++ record { point = max n (c.first + 1); call = c } ∷ [])
+          h.last ∙ sym (placed_more 0 (calls_of ps) c) ∙ ap (placed_one 0) (sym calls);
       last = ap (λ n. max n (c.first + 1)) h.last ∙ sym (last_more 0 (calls_of ps) c)
           ∙ ap (last_point 0) (sym calls);
     }

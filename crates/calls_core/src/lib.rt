@@ -7,5 +7,5 @@ mod part;
 mod placed;
 
 pub use history::{Action, Call, Event, Kind, Op, PendingCall, Placed, Reply, WORKERS};
-pub use part::Part;
+pub use part::{Part, PartList};
 pub use placed::PlacedCalls;

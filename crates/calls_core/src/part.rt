@@ -1,9 +1,10 @@
 //! The events of one object.
-ghost use Rattle.std.specs.Prelude.{◌≡◌, ◌<◌, ◌≤◌, length, take, get_or, map};
+ghost use Rattle.std.specs.Prelude.{◌≡◌, ◌<◌, ◌≤◌, ◌++◌, ◌∷◌, [], length, take, get_or, map, OnOk};
 ghost use Rattle.std.specs.Borrow.{Bor};
 ghost use Rattle.calls_core.specs.declared.history.Event.{Event};
 
 use crate::Event;
+use std::alloc::{AllocError, Global};
 use std::marker::Model;
 
 /// Events of one object, in order, which are among those of a history.
@@ -60,5 +61,46 @@ impl<'p, 'h> Part<'p, 'h> {
         Part {
             events: &self.events[..n],
         }
+    }
+}
+
+/// Events of one object, in order, while they are gathered from a history.
+#[derive(Drop)]
+pub struct PartList<'h> {
+    events: Vec<&'h Event>,
+}
+
+impl<'h> Model for PartList<'h> {
+    ghost use Rattle.std.specs.Prelude.{List, map};
+    ghost use Rattle.calls_core.specs.declared.history.Event.{Event};
+
+    ghost Value = { List Event };
+
+    ghost view = { λ p. map (λ x. x.now) p.events.items };
+}
+
+impl<'h> PartList<'h> {
+    /// Returns no events.
+    pub fn new(alloc: Global) -> PartList<'h>
+        ensures { result ≡ [] }
+    {
+        PartList {
+            events: Vec::new(alloc),
+        }
+    }
+
+    /// Adds an event at the end.
+    pub fn push(&mut self, event: &'h Event) -> Result<(), AllocError>
+        ensures { OnOk result (self.new ≡ self.old ++ event.now ∷ []) }
+    {
+        self.events.push(event)?;
+        Ok(())
+    }
+
+    /// Returns the events so far.
+    pub fn part(&self) -> Part<'_, 'h>
+        ensures { result ≡ self.now }
+    {
+        Part::new(&self.events)
     }
 }

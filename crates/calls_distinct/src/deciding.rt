@@ -15,11 +15,11 @@ use crate::testing::first_repeated;
 use crate::verdict::{Verdict, judge};
 use crate::zone::Grouped;
 use crate::{Fault, Outcome};
-use calls_core::Event;
+use calls_core::Part;
 use std::alloc::{AllocError, Global};
 
 /// Judges the first n events.
-fn judge_beginning(alloc: Global, events: &[Event], n: usize) -> Result<Verdict, AllocError>
+fn judge_beginning(alloc: Global, events: &Part<'_, '_>, n: usize) -> Result<Verdict, AllocError>
     requires store { IsStoreHistory (reverse events.now) }
     requires distinct { IsDistinctHistory (reverse events.now) }
     requires room { clock (reverse events.now) ≤ usize.MAX }
@@ -27,15 +27,20 @@ fn judge_beginning(alloc: Global, events: &[Event], n: usize) -> Result<Verdict,
     requires within { n ≤ length events.now }
     ensures { IfOk result (IsVerdict (past_at n events.now) (clock (past_at n events.now))) }
 {
-    let end = events[n - 1].at + 1;
-    let calls = calls_in(alloc, &events[..n], end)?;
+    let end = events.at(n - 1).at + 1;
+    let beginning = events.first(n);
+    let calls = calls_in(alloc, &beginning, end)?;
     let groups = groups_of(alloc, &calls)?;
     let zs = grouped(alloc, &calls, &groups)?;
     judge(alloc, &zs, end)
 }
 
 /// Finds the first event with which the events show a fault, if all of them show one.
-fn first_fault(alloc: Global, events: &[Event], fault: Fault) -> Result<(usize, Fault), AllocError>
+fn first_fault(
+    alloc: Global,
+    events: &Part<'_, '_>,
+    fault: Fault,
+) -> Result<(usize, Fault), AllocError>
     requires store { IsStoreHistory (reverse events.now) }
     requires distinct { IsDistinctHistory (reverse events.now) }
     requires room { clock (reverse events.now) ≤ usize.MAX }
@@ -62,7 +67,7 @@ fn first_fault(alloc: Global, events: &[Event], fault: Fault) -> Result<(usize, 
 /// Decides the calls of some events, of which each is given with those of its value.
 fn decide_grouped(
     alloc: Global,
-    events: &[Event],
+    events: &Part<'_, '_>,
     zs: &[Grouped<'_, '_>],
     end: usize,
 ) -> Result<Outcome, AllocError>
@@ -88,7 +93,7 @@ fn decide_grouped(
 /// nothing if a value was got that was put twice, or 0 was put and got.
 ///
 /// The events are those of its calls, in order, and `end` is a position after all of them.
-pub fn decide(alloc: Global, events: &[Event], end: usize) -> Result<Outcome, AllocError>
+pub fn decide(alloc: Global, events: &Part<'_, '_>, end: usize) -> Result<Outcome, AllocError>
     requires history { IsStoreHistory (reverse events.now) }
     requires end { clock (reverse events.now) ≤ end }
     ensures { IfOk result (IsOutcome events.now end) }

@@ -11,23 +11,23 @@ use crate::crossing::{crossing, crossing_fault};
 use crate::testing::first_lacking;
 use crate::zone::{Grouped, Zone};
 use crate::zones::sorted;
-use calls_core::Call;
+use calls_core::PlacedCalls;
 use std::alloc::{AllocError, Global};
 
 /// A linearization, or what shows that there is none.
 #[derive(Debug, Drop)]
 pub(crate) enum Verdict {
     /// This is one.
-    Ordered(Vec<Call>),
+    Ordered(PlacedCalls),
     /// This fault is shown.
     Faulty(Fault),
 }
 
 /// Lists the calls of some zones.
-fn calls_of(alloc: Global, zs: &[Zone]) -> Result<Vec<Call>, AllocError>
-    ensures { IfOk result (λ v. v.items ≡ zone_calls zs.now) }
+fn calls_of(alloc: Global, zs: &[Zone]) -> Result<PlacedCalls, AllocError>
+    ensures { IfOk result (λ v. v ≡ zone_calls zs.now) }
 {
-    let mut calls = Vec::new(alloc);
+    let mut calls = PlacedCalls::new(alloc);
     for z in zs {
         calls.push(*z.call)?;
     }

@@ -3,8 +3,8 @@ ghost use Rattle.std.specs.Prelude.{IfOk, OnOk};
 ghost use Rattle.calls_verdict.specs.kept.Findings.{HasRoom, IsAddedTo, IsEarlier, Gives};
 
 use crate::verdict::{Decision, Refusal, Undecided, Verdict};
-use calls_core::{Event, Placed};
-use calls_local::{merge, place};
+use calls_core::{Part, Placed};
+use calls_local::merge;
 use std::alloc::AllocError;
 
 /// What is found of the objects that were decided.
@@ -32,7 +32,7 @@ fn earlier(kept: Option<Refusal>, next: Refusal) -> Refusal
 pub fn add(
     found: &mut Found,
     object: usize,
-    own: &[Event],
+    own: &Part<'_, '_>,
     decision: Decision,
 ) -> Result<(), AllocError>
     requires { HasRoom own.now decision }
@@ -40,11 +40,11 @@ pub fn add(
 {
     match decision {
         Decision::Ordered(calls) => {
-            place(&mut found.placed, &calls)?;
+            calls.append_to(&mut found.placed)?;
             Ok(())
         }
         Decision::Refused(i, fault) => {
-            let at = own[i].at;
+            let at = own.at(i).at;
             let next = Refusal { at, object, fault };
             found.refusal = Some(earlier(found.refusal.take(), next));
             Ok(())

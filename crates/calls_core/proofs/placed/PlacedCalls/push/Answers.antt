@@ -1,5 +1,4 @@
-use Rattle.std.proofs.Common.{ℕ, List, ◌++◌, ◌∷◌, [], ap, sym, subst}
-use Rattle.calls_core.specs.declared.history.Placed.{Placed}
+use Rattle.std.proofs.Common.{ℕ, ◌++◌, ◌∷◌, [], sym, subst}
 use Rattle.calls_core.specs.Points.{ArePlacedOne}
 use Rattle.calls_core.proofs.Placing.{placed_next}
 use Rattle.calls_core.proofs.placed.PlacedCalls.push.Goals as goal
