@@ -26,7 +26,7 @@ MODES = {"decide": ("decide", tuple(CALLS)), "monitor": ("Monitor", ("counts", "
 JUDGED = {mode: Target(f"`{name}`: million events/s", digits=1) for mode, (name, _) in MODES.items()}
 JUDGED_BESIDE = {mode: Target(f"`{name}` / baseline", digits=1) for mode, (name, _) in MODES.items()}
 JUDGED_GROWTH = {mode: Target(f"`{name}`: time / that of a tenth", 11, digits=1) for mode, (name, _) in MODES.items()}
-JUDGED_MEMORY = {mode: Target(f"`{name}`: MiB", digits=1) for mode, (name, _) in MODES.items()}
+JUDGED_MEMORY = {"decide": Target("`decide`: MiB", digits=0), "monitor": Target("`Monitor`: MiB", digits=1)}
 
 # Histories of calls as text: how many calls of each kind, and how many tiny histories.
 TEXT_CALLS = 1_000_000
@@ -38,7 +38,7 @@ PIPE = f"{PIPED} MB by a pipe"
 
 TEXT_BESIDE = Target("`evc-calls check` / baseline", 1.5)
 TEXT_SPEED = Target("`evc-calls check`: MB/s", 100, least=True, digits=0)
-TEXT_MEMORY = Target("`evc-calls check`: more memory / text", 0.5, digits=1)
+TEXT_MEMORY = Target("`evc-calls check`: memory without text / text", 0.5, digits=1)
 TEXT_GROWTH = Target(f"`evc-calls check`: {SIZES[-1]} MiB / {SIZES[0]} MiB", 8.5, digits=1)
 WATCH_SPEED = Target("`evc-calls watch`: MB/s", 100, least=True, digits=0)
 WATCH_MEMORY = Target("`evc-calls watch`: MiB", 8, digits=1)
