@@ -490,19 +490,19 @@ AUDITED = {
 }
 
 SORTS = {
-    "advances": (advances_kernel, advances),
-    "cells": (cells_kernel, cells),
-    "reads": (interleaved_kernel, reads),
+    "32 eventcounts": (advances_kernel, advances),
+    "256 cells": (cells_kernel, cells),
+    "reads of 16 components": (interleaved_kernel, reads),
     "awaits": (awaits_kernel, awaits),
-    "mixed": (mixed_kernel, mixed),
+    "mixed lines": (mixed_kernel, mixed),
 }
 
 # The kinds of traces: the kernel of each, and what its workers do.
 KINDS = {
     "ordinary": (ordinary_kernel, ordinary),
-    "interleaved": (interleaved_kernel, interleaved),
+    "interleaved reads": (interleaved_kernel, interleaved),
     "version 2": (version_2_kernel, ordinary),
-    "hands": (hands_kernel, hands),
+    "transfers": (hands_kernel, hands),
 }
 
 

@@ -1,5 +1,6 @@
 """What pages say that the sources fix, for tests/pages: limits, reserved words, refusals, kinds of errors, their causes,
-statuses, outcomes, summaries of commands, the map of the crates, and that each man page can be made.
+statuses, outcomes, summaries of commands, the map of the crates, the form of the figures of bench/run and which of them
+are missed, and that each man page can be made.
 
 Each check yields what is wrong. The sources are right."""
 
@@ -10,6 +11,8 @@ import subprocess
 import sys
 
 TOP = os.path.dirname(os.path.dirname(os.path.realpath(__file__)))
+sys.path.insert(0, os.path.join(TOP, "bench"))
+import page as figures
 
 # The rows of docs/REFERENCE.md, "Limits", by their first cells. Of each part of the second cell the greatest number is what
 # these sources have.
@@ -250,6 +253,11 @@ def faults_of_map():
         yield "docs/DESIGN.md: the map of the crates is another one: run bin/crates --write"
 
 
+def faults_of_performance():
+    """Compares the tables and lines of figures with what bench/run makes, and the figures with those it has as missed."""
+    yield from (f"docs/PERFORMANCE.md: {it}" for it in figures.faults(read("docs", "PERFORMANCE.md")))
+
+
 def faults_of_manuals():
     for page in sorted(glob.glob("package/*.[135]", root_dir=TOP)):
         made = subprocess.run(["awk", "-f", "package/tables.awk", page], cwd=TOP, capture_output=True, text=True)
@@ -279,5 +287,6 @@ CHECKS = [
     faults_of_summaries,
     faults_of_options,
     faults_of_map,
+    faults_of_performance,
     faults_of_manuals,
 ]

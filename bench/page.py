@@ -1,0 +1,168 @@
+"""What bench/run writes into docs/PERFORMANCE.md between its two marks: tables, lines, and the targets that are missed.
+
+`written` gives the page with the figures of a run. `faults` says without a measure where a page has another form than a run
+gives it, or where what it has as missed doesn't fit its figures; tests/pages asks it.
+"""
+
+import re
+
+import of_calls
+import of_scripts
+import of_traces
+from measuring import SIZES
+
+MARK = "<!-- bench/run -->\n"
+MACHINE = r"\d+ cores at \d+ MHz\."
+# What stands in place of a figure in the form that a run gives the page, and what a page has there (`-` is not measured yet).
+OPEN = "\0"
+FIGURE = r"(-|\d+(?:\.\d+)?)"
+# How many rows a line on a missed target names: pages have short sentences.
+NAMED = 6
+EVERYWHERE = "each row"
+
+# The columns of the tables. Those of the second are in groups, each with its rows: a row has the groups up to its last.
+COMMANDS = [of_traces.BESIDE["check"], of_traces.BESIDE["audit"], of_traces.MEMORY["check"]]
+CHECKED = [of_calls.TEXT_BESIDE, of_calls.TEXT_SPEED, of_calls.TEXT_MEMORY]
+DECIDED = [it["decide"] for it in (of_calls.JUDGED, of_calls.JUDGED_BESIDE, of_calls.JUDGED_MEMORY)]
+MONITORED = [it["monitor"] for it in (of_calls.JUDGED, of_calls.JUDGED_BESIDE)]
+WATCHED = [of_calls.WATCH_SPEED, of_calls.WATCH_MEMORY]
+GROUPS = {
+    tuple(CHECKED): of_calls.TEXTS,
+    tuple(DECIDED): list(of_calls.CALLS.values()),
+    (*MONITORED, *WATCHED): of_calls.WATCHED_KINDS,
+}
+
+
+def heads(targets):
+    """Gives the names of columns, with their bounds. What is measured of one command names it once."""
+    found, last = [], "``"
+    for it in targets:
+        found.append(it.named().removeprefix(f"{last}: ").removeprefix(f"{last} "))
+        last = re.match(r"`[^`]*`", it.name)[0]
+    return found
+
+
+def tables():
+    """Gives the tables: the names of the columns, and for each row its name and the targets of its figures."""
+    yield [f"{SIZES[-1]} MiB of a trace", *heads(COMMANDS)], {kind: COMMANDS for kind in of_traces.KINDS}
+    rows = {kind: [it for of in GROUPS if kind in GROUPS[of] for it in of] for kind in of_calls.TEXTS}
+    yield ["A million calls", *heads(it for of in GROUPS for it in of)], rows
+
+
+def summary(text_of):
+    """Gives the lines under the tables, which have the worst of all rows if they name none. `text_of` is as in `lines`."""
+
+    def worst(target, unit="", row=None):
+        return f"{text_of(target, row)}{unit} ({target.bound:g})"
+
+    alone = {f"{it}_trace": target for it, target in of_traces.ALONE.items()}
+    speeds = {**of_traces.SPEED, "upgrade": of_traces.UPGRADE_SPEED, **alone, "parse": of_scripts.PARSE_SPEED}
+    yield f"MB/s: {', '.join(f'`{it}` {worst(speeds[it])}' for it in speeds)}."
+    growths = {**of_traces.GROWTH, "evc-calls check": of_calls.TEXT_GROWTH}
+    yield f"{SIZES[-1]} MiB / {SIZES[0]} MiB: {', '.join(f'`{it}` {worst(growths[it])}' for it in growths)}."
+    decide, monitor = map(worst, of_calls.JUDGED_GROWTH.values())
+    yield f"A million calls / a tenth: `decide` {decide}, `Monitor` {monitor}."
+    audit, upgrade = worst(of_traces.MEMORY["audit"], " MiB"), worst(of_traces.UPGRADE_MEMORY)
+    watch, monitor = worst(of_calls.WATCH_MEMORY, " MiB", of_calls.PIPE), text_of(of_calls.JUDGED_MEMORY["monitor"], None)
+    yield (
+        f"Memory: `audit` {audit}, `upgrade` / `check` {upgrade}, `Monitor` {monitor} MiB, "
+        f"`evc-calls watch` of {of_calls.PIPE} {watch}."
+    )
+    yield f"`audit` with 32 semaphores / with 1: {worst(of_traces.GROUPS)}."
+    ratios = "; ".join(f"{it}: {text_of(of_scripts.THREADED, it)}" for it in of_scripts.ROWS)
+    yield f"{of_scripts.THREADED.named()}: {ratios}."
+    world, run = (
+        f"{worst(of_scripts.STEP[it], ' ns')}, {text_of(of_scripts.STEP_BESIDE[it], None)}" for it in of_scripts.STEP
+    )
+    sim = text_of(of_scripts.SIM, None)
+    yield f"A step of a `World` takes {world} of the baseline; of a `Run` {run}; of `sim` {sim} µs."
+
+
+def lines(text_of):
+    """Gives the lines between the marks, without those on the machine and on what is missed. `text_of` gives the text of a
+    figure by its target and its row; of the worst, if the row is None."""
+    for head, rows in tables():
+        yield from [f"|{'|'.join(head)}|", "|-" * len(head) + "|"]
+        yield from (f"|{'|'.join([row, *(text_of(it, row) for it in targets)])}|" for row, targets in rows.items())
+        yield ""
+    yield from (f"- {it}" for it in summary(text_of))
+
+
+def missed(figures):
+    """Gives the lines on each target that is missed, with the rows on which it is."""
+    over = {}
+    for it in figures:
+        rows = over.setdefault(it.target, [])
+        rows += [it.row] if not it.target.is_met(it.number) else []
+    for target, rows in over.items():
+        if rows and len(rows) == sum(it.target == target for it in figures):
+            rows = [EVERYWHERE]
+        for at in range(0, len(rows), NAMED):
+            yield f"- Missed: {target.named()}: {'; '.join(rows[at : at + NAMED])}."
+
+
+def written(page, machine, figures):
+    """Gives a page with the figures of a run between its marks, or None if it doesn't have two of them."""
+    parts = page.split(MARK)
+    if len(parts) != 3:
+        return None
+
+    def text_of(target, row):
+        found = [it for it in figures if it.target == target and row in (None, it.row)]
+        return (min if target.least else max)(found, key=lambda it: it.number).text()
+
+    block = [machine, "", *lines(text_of), *missed(figures)]
+    return MARK.join([parts[0], "".join(f"{it}\n" for it in block), parts[2]])
+
+
+def is_row(figures, target, row):
+    """Whether a row that is missed is one of a target, also of a smaller trace."""
+    return row == EVERYWHERE or any(it in figures for it in ((target, None), (target, row.partition(" (")[0])))
+
+
+def faults_of_missed(figures, found):
+    """Yields what the lines on missed targets have otherwise than the figures of a page: a text by each target and row."""
+    targets = {it.named(): it for it, _ in figures}
+    named = {}
+    for it in found:
+        parts = re.fullmatch(r"- Missed: (.*): ([^:]*)\.", it)
+        rows = parts[2].split("; ") if parts else []
+        if not parts or parts[1] not in targets or not all(is_row(figures, targets[parts[1]], row) for row in rows):
+            yield f"bench/run --write doesn't make the line {it}"
+        else:
+            named.setdefault(targets[parts[1]], []).extend(rows)
+    for (target, row), text in figures.items():
+        rows = named.get(target, [])
+        said = bool(rows) if row is None else row in rows or EVERYWHERE in rows
+        if text != "-" and not said and not target.is_met(float(text)):
+            yield f"{target.named()}: {row or 'the worst'} is {text}, and no line has it as missed"
+        # (what is over may be printed as the bound)
+        if said and (text == "-" or target.is_met(float(text)) and float(text) != target.bound):
+            yield f"{target.named()}: {row or 'the worst'} is {text}, and a line has it as missed"
+
+
+def faults(page):
+    """Yields what a page has between its marks otherwise than a run writes it."""
+    parts = page.split(MARK)
+    if len(parts) != 3:
+        yield f"it has {len(parts) - 1} marks, and not 2"
+        return
+    asked = []
+
+    def text_of(target, row):
+        asked.append((target, row))
+        return OPEN
+
+    right = list(lines(text_of))
+    patterns = [MACHINE, "", *(FIGURE.join(map(re.escape, it.split(OPEN))) for it in right)]
+    block, texts = parts[1].splitlines(), []
+    for pattern, line in zip(patterns, block):
+        said = re.fullmatch(pattern, line)
+        if not said:
+            yield f"bench/run --write doesn't make the line {line}"
+            return
+        texts += said.groups()
+    if len(block) < len(patterns):
+        yield "lines of bench/run --write are missing"
+        return
+    yield from faults_of_missed(dict(zip(asked, texts)), block[len(patterns) :])
