@@ -8,7 +8,7 @@ use Rattle.calls_cells.specs.declared.outcome.Outcome.TheVariants.{Ordered, Refu
 use Rattle.calls_cells.specs.Faults.{Shows, ShowsUndecided}
 
 abbrev pub IsOutcome : Kind → List Event → ℕ → Outcome → Type 0
-IsOutcome kind events end (Ordered cs) = IsOrderOf kind (reverse events) end cs.items
+IsOutcome kind events end (Ordered cs) = IsOrderOf kind (reverse events) end cs
 IsOutcome kind events end (Refused i f) = IsFirstFault (λ past. Shows past f) kind events i
 IsOutcome kind events end (Undecided i u) = IsFirstFault (λ past. ShowsUndecided past u) kind events
     i

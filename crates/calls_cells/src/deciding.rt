@@ -8,14 +8,14 @@ ghost use Rattle.calls_cells.specs.Faults.{ShowsUndecided};
 ghost use Rattle.calls_cells.specs.kept.Tries.{IsTry};
 
 use crate::outcome::{Fault, Outcome, Undecided};
-use calls_core::{Call, Event};
+use calls_core::{Part, PlacedCalls};
 use std::alloc::{AllocError, Global};
 
 /// What is found of a beginning.
 #[derive(Debug, Drop)]
 enum Try {
     /// It has this linearization.
-    Ordered(Vec<Call>),
+    Ordered(PlacedCalls),
     /// It has none, since the event at this index shows this fault.
     Refused(usize, Fault),
     /// Nothing is decided of it.
@@ -23,7 +23,7 @@ enum Try {
 }
 
 /// Tries both classes on a beginning.
-fn try_both(alloc: Global, events: &[Event], end: usize) -> Result<Try, AllocError>
+fn try_both(alloc: Global, events: &Part<'_, '_>, end: usize) -> Result<Try, AllocError>
     requires history { IsHistoryOf Cell (reverse events.now) }
     requires late { clock (reverse events.now) ≤ end }
     ensures { IfOk result (IsTry events.now end) }
@@ -58,7 +58,7 @@ fn middle(low: usize, high: usize) -> usize
 /// Decides the longest beginning that can be decided, if all events cannot: by halving.
 fn decide_beginning(
     alloc: Global,
-    events: &[Event],
+    events: &Part<'_, '_>,
     end: usize,
     undecided: Undecided,
 ) -> Result<Outcome, AllocError>
@@ -72,7 +72,8 @@ fn decide_beginning(
     let mut high = events.len();
     while high - low > 1 {
         let mid = middle(low, high);
-        match try_both(alloc, &events[..mid], end)? {
+        let beginning = events.first(mid);
+        match try_both(alloc, &beginning, end)? {
             Try::Ordered(_) => low = mid,
             Try::Refused(i, fault) => return Ok(Outcome::Refused(i, fault)),
             Try::Open(cause) => {
@@ -86,7 +87,7 @@ fn decide_beginning(
 
 /// Decides whether the calls of a cell have a linearization, if no value that was got was put
 /// twice, or no two puts overlap. A database is decided in the same way.
-pub fn decide(alloc: Global, events: &[Event], end: usize) -> Result<Outcome, AllocError>
+pub fn decide(alloc: Global, events: &Part<'_, '_>, end: usize) -> Result<Outcome, AllocError>
     requires history { IsHistoryOf Cell (reverse events.now) }
     requires late { clock (reverse events.now) ≤ end }
     ensures { IfOk result (IsOutcome Cell events.now end) }

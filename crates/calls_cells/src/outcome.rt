@@ -1,5 +1,5 @@
 //! What is decided of a cell or a database.
-use calls_core::{Call, PendingCall};
+use calls_core::{PendingCall, PlacedCalls};
 
 /// Why the calls have no linearization.
 #[derive(Debug, Drop)]
@@ -26,7 +26,7 @@ pub struct Undecided {
 #[derive(Debug, Drop)]
 pub enum Outcome {
     /// The calls have this linearization.
-    Ordered(Vec<Call>),
+    Ordered(PlacedCalls),
     /// They have none: the event at this index is the first with which they show a fault.
     Refused(usize, Fault),
     /// The event at this index is the first with which nothing is decided.

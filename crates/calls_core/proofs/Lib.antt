@@ -5,3 +5,4 @@ pub mod Positions
 pub mod Drawing
 pub mod Settling
 pub mod Beginnings
+mod Placing

@@ -1,5 +1,5 @@
 -- Points: when each call takes effect.
-use Rattle.std.specs.Prelude.{ℕ, ◌+◌, ◌<◌, ◌≤◌, ◌==◌, nat_le, max, List, [], ◌∷◌, map}
+use Rattle.std.specs.Prelude.{◌≡◌, ℕ, ◌+◌, ◌<◌, ◌≤◌, ◌==◌, nat_le, max, List, [], ◌∷◌, map}
 use Rattle.std.specs.Prelude.{if◌then◌else◌}
 use Rattle.std.specs.List.{filter}
 use Rattle.calls_core.specs.declared.history.Call.{Call}
@@ -41,6 +41,16 @@ by_points (p ∷ ps) = put_in p (by_points ps)
 
 abbrev pub calls_of : List Placed → List Call
 calls_of ps = map (λ (p : Placed). p.call) ps
+
+-- the point of the last call, if n is the point of the one before the first
+abbrev pub last_point : ℕ → List Call → ℕ
+last_point n [] = n
+last_point n (c ∷ cs) = last_point (max n (c.first + 1)) cs
+
+-- the calls of one object with their points, of which this is the last, 0 if there is none
+pub record ArePlacedOne (latest : ℕ) (ps : List Placed) : Type 0 where
+  pub points : ps ≡ placed_one 0 (calls_of ps)
+  pub last : latest ≡ last_point 0 (calls_of ps)
 
 -- a list of the calls of many objects that is in order for each, in an order for all
 abbrev pub merged : List Call → List Call

@@ -3,5 +3,9 @@
 #![tactic(auto)]
 
 mod history;
+mod part;
+mod placed;
 
 pub use history::{Action, Call, Event, Kind, Op, PendingCall, Placed, Reply, WORKERS};
+pub use part::{Part, PartList};
+pub use placed::PlacedCalls;

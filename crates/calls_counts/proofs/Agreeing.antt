@@ -50,7 +50,7 @@ agrees : (start : ℕ) (events : List Event) (end : ℕ) (outcome : Outcome) (j 
     → ⊥) → Agrees outcome j answer
 agrees start events end (Ordered v) j (Ok u) h is yes' no' = tt
 agrees start events end (Ordered v) j (Err r) h is yes' no' =
-    no' r refl (beginning_ordered start events end v.items (j + 1) h is)
+    no' r refl (beginning_ordered start events end v (j + 1) h is)
 agrees start events end (Refused i f) j (Ok u) h is yes' no' = λ same.
     (let order = yes' u refl in
     let shows = subst (λ k. Shows start (past_at (k + 1) events) f) (sym same) is.shows in

@@ -11,6 +11,6 @@ use Rattle.calls_counts.specs.Faults.{Shows}
 -- end
 abbrev pub IsOutcome : ℕ → List Event → ℕ → Outcome → Type 0
 IsOutcome start events end (Ordered v) =
-    IsOrderOf (Eventcount start) (reverse events) end v.items
+    IsOrderOf (Eventcount start) (reverse events) end v
 IsOutcome start events end (Refused i f) =
     IsFirstFault (λ past. Shows start past f) (Eventcount start) events i

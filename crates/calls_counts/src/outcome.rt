@@ -1,12 +1,12 @@
 //! What the decision says.
 use crate::Fault;
-use calls_core::Call;
+use calls_core::PlacedCalls;
 
 /// Whether a history has a linearization.
 #[derive(Debug, Drop)]
 pub enum Outcome {
     /// It has this one.
-    Ordered(Vec<Call>),
+    Ordered(PlacedCalls),
     /// It has none: with the event at this index, and with none before, it shows this fault.
     Refused(usize, Fault),
 }

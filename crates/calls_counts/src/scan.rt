@@ -10,7 +10,7 @@ use crate::find::{fill, find, grow, is_advance};
 use crate::observe::observe;
 use crate::untaken::{complete, order};
 use crate::{Fault, Noted, Outcome, PlacedRead, Slot};
-use calls_core::{Action, Call, Event, Op, PendingCall, Reply};
+use calls_core::{Action, Call, Event, Op, Part, PendingCall, Reply};
 use std::alloc::{AllocError, Global};
 
 /// What is kept of the events so far.
@@ -117,7 +117,7 @@ fn take_in(
 pub fn decide(
     alloc: Global,
     start: usize,
-    events: &[Event],
+    events: &Part<'_, '_>,
     end: usize,
 ) -> Result<Outcome, AllocError>
     requires history { IsHistoryOf (Eventcount start) (reverse events.now) }
@@ -131,7 +131,8 @@ pub fn decide(
         pending: Vec::new(alloc),
         reads: Vec::new(alloc),
     };
-    for (i, event) in events.iter().enumerate() {
+    for i in 0..events.len() {
+        let event = events.at(i);
         if let Some(fault) = take_in(alloc, start, &mut scan, *event)? {
             return Ok(Outcome::Refused(i, fault));
         }

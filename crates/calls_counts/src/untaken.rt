@@ -7,7 +7,7 @@ ghost use Rattle.calls_counts.specs.Scanning.{Completes};
 
 use crate::find::{fill, is_advance};
 use crate::{Noted, PlacedRead, Slot};
-use calls_core::{Call, Reply};
+use calls_core::{Call, PlacedCalls, Reply};
 use std::alloc::{AllocError, Global};
 
 /// Lets pending advances take the free slots, as if they had their responses at `end`.
@@ -41,14 +41,14 @@ fn sort(reads: &mut Vec<PlacedRead>) -> Result<(), AllocError>
 
 /// Appends the reads of place `k`, which begin at index `from`, and returns where they end.
 fn push_run(
-    out: &mut Vec<Call>,
+    out: &mut PlacedCalls,
     reads: &[PlacedRead],
     from: usize,
     k: usize,
 ) -> Result<usize, AllocError>
     requires rising { IsNonDecreasingBy (λ p. p.place) reads.now }
     requires cut { IsCut reads.now k from }
-    ensures pushed { OnOk result (out.new.items ≡ out.old.items ++ reads_at k reads.now) }
+    ensures pushed { OnOk result (out.new ≡ out.old ++ reads_at k reads.now) }
     ensures cut { IfOk result (IsCut reads.now (k + 1)) }
 {
     let mut j = from;
@@ -63,11 +63,11 @@ fn push_run(
 }
 
 /// Puts each read at its place among the slots.
-fn merge(alloc: Global, slots: &[Slot], reads: &[PlacedRead]) -> Result<Vec<Call>, AllocError>
+fn merge(alloc: Global, slots: &[Slot], reads: &[PlacedRead]) -> Result<PlacedCalls, AllocError>
     requires { IsNonDecreasingBy (λ p. p.place) reads.now }
-    ensures { IfOk result (λ v. v.items ≡ order_from 0 slots.now reads.now) }
+    ensures { IfOk result (λ v. v ≡ order_from 0 slots.now reads.now) }
 {
-    let mut out = Vec::new(alloc);
+    let mut out = PlacedCalls::new(alloc);
     let mut j = 0;
     for (k, slot) in slots.iter().enumerate() {
         j = push_run(&mut out, reads, j, k)?;
@@ -85,8 +85,8 @@ pub fn order(
     alloc: Global,
     slots: &[Slot],
     reads: &mut Vec<PlacedRead>,
-) -> Result<Vec<Call>, AllocError>
-    ensures { IfOk result (λ v. IsOrdering slots.now reads.old.items v.items) }
+) -> Result<PlacedCalls, AllocError>
+    ensures { IfOk result (IsOrdering slots.now reads.old.items) }
 {
     sort(reads)?;
     merge(alloc, slots, reads)

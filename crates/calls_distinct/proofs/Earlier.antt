@@ -1,5 +1,5 @@
 -- Beginnings of a history: their class, their clock, and the first fault.
-use Rattle.std.proofs.Common.{◌≡◌, ℕ, ◌+◌, ◌-◌, ◌/◌, ◌<◌, ◌≤◌, Vec, Global, Bool, true}
+use Rattle.std.proofs.Common.{◌≡◌, ℕ, ◌+◌, ◌-◌, ◌/◌, ◌<◌, ◌≤◌, Bool, true}
 use Rattle.std.proofs.Common.{false, ◌==◌, cond, Option, Some, None, List, [], ◌∷◌, ◌++◌}
 use Rattle.std.proofs.Common.{length, drop, reverse, get_or, refl, ap, sym, ◌∙◌, arith, subst}
 use Rattle.std.proofs.Common.{count_by}
@@ -176,7 +176,7 @@ search_start events n fault e s = record {
 }
 
 pub search_up : (events : List Event) (low middle high newLow newHigh : ℕ) (fault newFault : Fault)
-    (v : Verdict) (cs : Vec Call Global) → IsSearched events low high fault
+    (v : Verdict) (cs : List Call) → IsSearched events low high fault
     → IsVerdict (past_at middle events) (clock (past_at middle events)) v → v ≡ Ordered cs
     → middle < high
     → newLow ≡ middle → newHigh ≡ high → newFault ≡ fault
@@ -188,7 +188,7 @@ search_up events low middle high newLow newHigh fault newFault v cs s h e lt el 
     (subst (IsSearched events middle high) (sym ef) (record {
       apart = lt;
       within = s.within;
-      order = λ kind store. (cs.items, order kind store);
+      order = λ kind store. (cs, order kind store);
       shows = s.shows;
     })))
 

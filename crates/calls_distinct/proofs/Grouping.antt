@@ -6,9 +6,6 @@ use Rattle.std.proofs.Common.{◌∙◌, arith, count_by}
 use Rattle.std.specs.List.{Contains}
 use Rattle.std.proofs.lemmas.Bool.{eq-eqb, eqb-true, le-leb, ltb-true}
 use Rattle.std.proofs.lemmas.Bool.{ltb-false, and_from, cases_eq, false≢true}
-use Rattle.std.specs.Ordering.{is_eq, nat_cmp}
-use Rattle.std.specs.declared.cmp.Ordering.TheVariants.{Less, Equal, Greater}
-use Rattle.std.proofs.lemmas.Cmp.{nat_cmp_total, tied_itself}
 use Rattle.std.proofs.lemmas.List.Sums.{count_by-le-length}
 use Rattle.std.proofs.lemmas.List.Elements.{Contains-append_left, Contains-append_right}
 use Rattle.calls_core.specs.declared.history.Call.{Call}
@@ -192,24 +189,19 @@ other_more seen call v (Some g) ne h =
           (call ∷ []) h.most ((λ e. absurd (ne e)), tt);
     }
 
-same_key : (k v : ℕ) → k ≡ v → is_eq (nat_cmp k v) ≡ true
-same_key k v e = ap (λ q. is_eq (nat_cmp k q)) (sym e) ∙ ap is_eq (tied_itself nat_cmp_total k)
+same_key : (k v : ℕ) → k ≡ v → (k == v) ≡ true
+same_key k v e = eq-eqb k v e
 
-other_key : (k v : ℕ) → k ≢ v → is_eq (nat_cmp k v) ≡ false
-other_key k v ne = elim (nat_lt k v) as (λ b. is_eq (cond b Less (cond (k == v) Equal Greater))
-    ≡ false) [
-      | true ↦ refl
-      | false ↦ elim (k == v) as (λ b. (k == v) ≡ b → is_eq (cond b Equal Greater) ≡ false) [
-        | true ↦
-            λ e. absurd (ne (eqb-true k v e))
-        | false ↦ λ e. refl
-      ] refl
-    ]
+other_key : (k v : ℕ) → k ≢ v → (k == v) ≡ false
+other_key k v ne = elim (either (k == v)) [
+  | inl e ↦ absurd (ne (eqb-true k v e))
+  | inr e ↦ e
+]
 
 pub groups_more : (seen : List Call) (call : Call) (old new : ℕ → Option Group) (k : ℕ) (g : Group)
     → ((v : ℕ) → IsGroupOf seen v (old v)) → k ≡ value call
     → IsGroup (seen ++ call ∷ []) (value call) g
-    → ((q : ℕ) → new q ≡ cond (is_eq (nat_cmp k q)) (Some g) (old q)) → (v : ℕ)
+    → ((q : ℕ) → new q ≡ cond (k == q) (Some g) (old q)) → (v : ℕ)
     → IsGroupOf (seen ++ call ∷ []) v (new v)
 groups_more seen call old new k g h e own is v =
     elim (cases_eq (value call) v) [

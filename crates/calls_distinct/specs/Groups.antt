@@ -2,8 +2,6 @@
 use Rattle.std.specs.Prelude.{◌≡◌, ℕ, ◌+◌, ◌<◌, ◌≤◌, Bool, true, false, ◌&&◌, ◌||◌, not}
 use Rattle.std.specs.Prelude.{◌==◌, nat_lt, count_by, List, map, Option, Some, None}
 use Rattle.std.specs.Prelude.{if◌then◌else◌}
-use Rattle.std.specs.Ordering.{nat_cmp}
-use Rattle.std.specs.BTreeMap.{BTreeMap, get}
 use Rattle.std.specs.List.{Contains, filter}
 use Rattle.calls_core.specs.declared.history.Call.{Call}
 use Rattle.calls_core.specs.Lists.{Each}
@@ -53,8 +51,8 @@ abbrev pub IsGroupOf : List Call → ℕ → Option Group → Type 0
 IsGroupOf seen v None = Each (λ (c : Call). value c ≡ v → ⊥) seen
 IsGroupOf seen v (Some g) = IsGroup seen v g
 
-abbrev pub AreGroups : List Call → BTreeMap ℕ Group → Type 0
-AreGroups seen groups = (v : ℕ) → IsGroupOf seen v (get nat_cmp groups v)
+abbrev pub AreGroups : List Call → (ℕ → Option Group) → Type 0
+AreGroups seen group_at = (v : ℕ) → IsGroupOf seen v (group_at v)
 
 abbrev pub grouped_calls : List Grouped → List Call
 grouped_calls zs = map (λ (z : Grouped). z.call) zs

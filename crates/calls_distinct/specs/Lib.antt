@@ -1,4 +1,5 @@
 pub mod Cells
+pub mod Records
 pub mod Outcomes
 pub mod Zones
 pub mod Groups

@@ -27,7 +27,7 @@ pub record IsRepeated (done : List Call) (pending : List PendingCall) (v positio
 -- for each kind of store
 abbrev pub IsOutcome : List Event → ℕ → Outcome → Type 0
 IsOutcome events end (Ordered cs) =
-    (kind : Kind) → IsStore kind → IsOrderOf kind (reverse events) end cs.items
+    (kind : Kind) → IsStore kind → IsOrderOf kind (reverse events) end cs
 IsOutcome events end (Refused i fault) =
     (kind : Kind) → IsStore kind → IsFirstFault (λ past. Shows past fault) kind events i
 IsOutcome events end (Repeated v position) =

@@ -19,5 +19,5 @@ abbrev pub AreGroupedOf : List Event → ℕ → List Grouped → Type 0
 AreGroupedOf past t zs = AreGrouped (listed past t) (listed past t) zs
 
 abbrev pub IsVerdict : List Event → ℕ → Verdict → Type 0
-IsVerdict past t (Ordered cs) = (kind : Kind) → IsStore kind → IsOrderOf kind past t cs.items
+IsVerdict past t (Ordered cs) = (kind : Kind) → IsStore kind → IsOrderOf kind past t cs
 IsVerdict past t (Faulty fault) = Shows past fault

@@ -1,5 +1,5 @@
 //! What is decided of a cell.
-use calls_core::Call;
+use calls_core::{Call, PlacedCalls};
 
 /// Why the calls of a cell have no linearization.
 #[derive(Clone, Copy, Debug, PartialEq, Eq)]
@@ -18,7 +18,7 @@ pub enum Fault {
 #[derive(Debug, Drop)]
 pub enum Outcome {
     /// They have this linearization. A pending put that took effect has its response at the end.
-    Ordered(Vec<Call>),
+    Ordered(PlacedCalls),
     /// They have none: the event at this index is the first with which they show a fault, this
     /// one.
     Refused(usize, Fault),

@@ -1,5 +1,6 @@
 //! Whether calls are after some that they precede.
-ghost use Rattle.std.specs.Prelude.{◌≡◌};
+ghost use Rattle.std.specs.Prelude.{◌≡◌, ◌↔◌, IsTrue, option_copied, option_map};
+ghost use Rattle.calls_core.specs.Linearizations.{Precedes};
 ghost use Rattle.calls_core.specs.Lists.{EachPair};
 ghost use Rattle.calls_distinct.specs.Zones.{NotAfter, crossing_fault, IsCrossing, latest};
 
@@ -11,33 +12,40 @@ use crate::zone::Zone;
 pub(crate) fn crossing_fault(x: &Zone, z: &Zone) -> Fault
     ensures { result ≡ crossing_fault x.now z.now }
 {
-    if gets(0, &x.call) {
-        Fault::Stale(z.call, x.call)
+    if gets(0, x.call) {
+        Fault::Stale(*z.call, *x.call)
     } else {
-        Fault::Alternate(x.early, z.late, z.call, x.call)
+        Fault::Alternate(*x.early, *z.late, *z.call, *x.call)
     }
 }
 
 /// Returns the one whose invocation is later.
-fn latest(x: Option<Zone>, z: &Zone) -> Zone
-    ensures { result ≡ latest x z.now }
+fn latest<'z, 'a>(x: Option<&'z Zone<'a>>, z: &'z Zone<'a>) -> &'z Zone<'a>
+    ensures { result.now ≡ latest (option_copied x.entry) z.now }
 {
     match x {
-        Some(x) => if x.call.first < z.call.first { *z } else { x },
-        None => *z,
+        Some(x) => if x.call.first < z.call.first { z } else { x },
+        None => z,
     }
 }
 
-/// Finds a call that precedes an earlier one in the list.
-pub(crate) fn crossing(zs: &[Zone]) -> Option<(Zone, Zone)>
-    requires { EachPair NotAfter zs.now }
-    ensures { IsCrossing zs.now result }
+/// Returns whether the call of z precedes that of x.
+fn precedes(z: &Zone, x: &Zone) -> bool
+    ensures { IsTrue result ↔ Precedes z.now.call x.now.call }
 {
-    let mut late: Option<Zone> = None;
+    z.call.last < x.call.first
+}
+
+/// Finds a call that precedes an earlier one in the list.
+pub(crate) fn crossing<'z, 'a>(zs: &'z [Zone<'a>]) -> Option<(&'z Zone<'a>, &'z Zone<'a>)>
+    requires { EachPair NotAfter zs.now }
+    ensures { IsCrossing zs.now (option_map (λ p. (p.0.now, p.1.now)) result) }
+{
+    let mut late: Option<&Zone> = None;
     for z in zs {
         if let Some(x) = late {
-            if z.call.last < x.call.first {
-                return Some((x, *z));
+            if precedes(z, x) {
+                return Some((x, z));
             }
         }
         late = Some(latest(late, z));

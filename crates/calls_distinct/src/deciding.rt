@@ -8,26 +8,18 @@ ghost use Rattle.calls_distinct.specs.Cells.{IsStore, IsStoreHistory, IsDistinct
 ghost use Rattle.calls_distinct.specs.Outcomes.{IsOutcome};
 ghost use Rattle.calls_distinct.specs.Verdicts.{AreGroupedOf, IsVerdict};
 
-use crate::groups::grouped;
+use crate::groups::{grouped, groups_of};
 use crate::history::calls_in;
 use crate::reading::value;
 use crate::testing::first_repeated;
 use crate::verdict::{Verdict, judge};
 use crate::zone::Grouped;
 use crate::{Fault, Outcome};
-use calls_core::Event;
+use calls_core::Part;
 use std::alloc::{AllocError, Global};
 
-/// Lists the calls of some events, each with what is known of the calls of its value.
-fn grouped_calls(alloc: Global, events: &[Event], end: usize) -> Result<Vec<Grouped>, AllocError>
-    ensures { IfOk result (λ v. AreGroupedOf (reverse events.now) end v.items) }
-{
-    let calls = calls_in(alloc, events, end)?;
-    grouped(alloc, &calls)
-}
-
 /// Judges the first n events.
-fn judge_beginning(alloc: Global, events: &[Event], n: usize) -> Result<Verdict, AllocError>
+fn judge_beginning(alloc: Global, events: &Part<'_, '_>, n: usize) -> Result<Verdict, AllocError>
     requires store { IsStoreHistory (reverse events.now) }
     requires distinct { IsDistinctHistory (reverse events.now) }
     requires room { clock (reverse events.now) ≤ usize.MAX }
@@ -35,13 +27,20 @@ fn judge_beginning(alloc: Global, events: &[Event], n: usize) -> Result<Verdict,
     requires within { n ≤ length events.now }
     ensures { IfOk result (IsVerdict (past_at n events.now) (clock (past_at n events.now))) }
 {
-    let end = events[n - 1].at + 1;
-    let zs = grouped_calls(alloc, &events[..n], end)?;
+    let end = events.at(n - 1).at + 1;
+    let beginning = events.first(n);
+    let calls = calls_in(alloc, &beginning, end)?;
+    let groups = groups_of(alloc, &calls)?;
+    let zs = grouped(alloc, &calls, &groups)?;
     judge(alloc, &zs, end)
 }
 
 /// Finds the first event with which the events show a fault, if all of them show one.
-fn first_fault(alloc: Global, events: &[Event], fault: Fault) -> Result<(usize, Fault), AllocError>
+fn first_fault(
+    alloc: Global,
+    events: &Part<'_, '_>,
+    fault: Fault,
+) -> Result<(usize, Fault), AllocError>
     requires store { IsStoreHistory (reverse events.now) }
     requires distinct { IsDistinctHistory (reverse events.now) }
     requires room { clock (reverse events.now) ≤ usize.MAX }
@@ -65,24 +64,42 @@ fn first_fault(alloc: Global, events: &[Event], fault: Fault) -> Result<(usize, 
     Ok((low, fault))
 }
 
-/// Decides whether the calls of one cell, or of one database, have a linearization. It says
-/// nothing if a value was got that was put twice, or 0 was put and got.
-///
-/// The events are those of its calls, in order, and `end` is a position after all of them.
-pub fn decide(alloc: Global, events: &[Event], end: usize) -> Result<Outcome, AllocError>
+/// Decides the calls of some events, of which each is given with those of its value.
+fn decide_grouped(
+    alloc: Global,
+    events: &Part<'_, '_>,
+    zs: &[Grouped<'_, '_>],
+    end: usize,
+) -> Result<Outcome, AllocError>
     requires history { IsStoreHistory (reverse events.now) }
     requires end { clock (reverse events.now) ≤ end }
+    requires grouped { AreGroupedOf (reverse events.now) end zs.now }
     ensures { IfOk result (IsOutcome events.now end) }
 {
-    let zs = grouped_calls(alloc, events, end)?;
-    if let Some(z) = first_repeated(&zs) {
-        return Ok(Outcome::Repeated(value(&z.call), z.group.put));
+    if let Some(z) = first_repeated(zs) {
+        let group = z.group;
+        return Ok(Outcome::Repeated(value(z.call), group.put));
     }
-    match judge(alloc, &zs, end)? {
+    match judge(alloc, zs, end)? {
         Verdict::Ordered(calls) => Ok(Outcome::Ordered(calls)),
         Verdict::Faulty(fault) => {
             let (index, fault) = first_fault(alloc, events, fault)?;
             Ok(Outcome::Refused(index, fault))
         }
     }
+}
+
+/// Decides whether the calls of one cell, or of one database, have a linearization. It says
+/// nothing if a value was got that was put twice, or 0 was put and got.
+///
+/// The events are those of its calls, in order, and `end` is a position after all of them.
+pub fn decide(alloc: Global, events: &Part<'_, '_>, end: usize) -> Result<Outcome, AllocError>
+    requires history { IsStoreHistory (reverse events.now) }
+    requires end { clock (reverse events.now) ≤ end }
+    ensures { IfOk result (IsOutcome events.now end) }
+{
+    let calls = calls_in(alloc, events, end)?;
+    let groups = groups_of(alloc, &calls)?;
+    let zs = grouped(alloc, &calls, &groups)?;
+    decide_grouped(alloc, events, &zs, end)
 }

@@ -1,8 +1,7 @@
 //! What is known of all calls of each value.
 ghost use Rattle.std.specs.Prelude.{◌≡◌, ◌<◌, ℕ, List, ◌++◌, ◌∷◌, [], length, map, IfOk, OnOk};
-ghost use Rattle.std.specs.Prelude.{Option, None, Some};
-ghost use Rattle.std.specs.Ordering.{nat_cmp};
-ghost use Rattle.std.specs.BTreeMap.{get};
+ghost use Rattle.std.specs.Prelude.{Option, None, Some, nat_eq};
+ghost use Rattle.std.specs.HashMap.{get};
 ghost use Rattle.std.specs.List.{Contains};
 ghost use Rattle.calls_core.specs.Lists.{Each};
 ghost use Rattle.calls_distinct.specs.Cells.{value};
@@ -13,10 +12,10 @@ use crate::reading::{is_put, value};
 use crate::zone::{Group, Grouped};
 use calls_core::Call;
 use std::alloc::{AllocError, Global};
-use std::collections::BTreeMap;
+use std::collections::HashMap;
 
 /// Makes the group of one call.
-fn group_of_one(call: &Call) -> Group
+fn group_of_one(call: &Call) -> Group<'_>
     ensures { IsGroup (call.now ∷ []) (value call.now) result }
 {
     let put = is_put(call.op);
@@ -24,32 +23,32 @@ fn group_of_one(call: &Call) -> Group
         got: !put,
         puts: if put { 1 } else { 0 },
         put: call.first,
-        early: *call,
-        late: *call,
+        early: call,
+        late: call,
     }
 }
 
 /// Returns the one with the earlier response.
-fn earlier(a: &Call, b: &Call) -> Call
-    ensures { result ≡ earlier a.now b.now }
+fn earlier<'a>(a: &'a Call, b: &'a Call) -> &'a Call
+    ensures { result.now ≡ earlier a.now b.now }
 {
-    if b.last < a.last { *b } else { *a }
+    if b.last < a.last { b } else { a }
 }
 
 /// Returns the one with the later invocation.
-fn later(a: &Call, b: &Call) -> Call
-    ensures { result ≡ later a.now b.now }
+fn later<'a>(a: &'a Call, b: &'a Call) -> &'a Call
+    ensures { result.now ≡ later a.now b.now }
 {
-    if a.first < b.first { *b } else { *a }
+    if a.first < b.first { b } else { a }
 }
 
 /// Adds a call to the group of its value.
-fn with_call(group: &Group, call: &Call) -> Group
+fn with_call<'a>(group: &Group<'a>, call: &'a Call) -> Group<'a>
     requires { group.now.puts < usize.MAX }
     ensures { result ≡ with_call group.now call.now }
 {
-    let early = earlier(&group.early, call);
-    let late = later(&group.late, call);
+    let early = earlier(group.early, call);
+    let late = later(group.late, call);
     if is_put(call.op) {
         Group {
             got: group.got,
@@ -70,10 +69,10 @@ fn with_call(group: &Group, call: &Call) -> Group
 }
 
 /// Adds a call.
-fn add(groups: &mut BTreeMap<usize, Group>, call: &Call) -> Result<(), AllocError>
-    requires { (v : ℕ) (g : Group) → get nat_cmp groups.old v ≡ Some g → g.puts < usize.MAX }
-    ensures { OnOk result ((seen : List Call) → AreGroups seen groups.old
-        → AreGroups (seen ++ call.now ∷ []) groups.new) }
+fn add<'a>(groups: &mut HashMap<usize, Group<'a>>, call: &'a Call) -> Result<(), AllocError>
+    requires { (v : ℕ) (g : Group) → get nat_eq groups.old v ≡ Some g → g.puts < usize.MAX }
+    ensures { OnOk result ((seen : List Call) → AreGroups seen (get nat_eq groups.old)
+        → AreGroups (seen ++ call.now ∷ []) (get nat_eq groups.new)) }
 {
     let v = value(call);
     let group = match groups.get(&v) {
@@ -85,10 +84,13 @@ fn add(groups: &mut BTreeMap<usize, Group>, call: &Call) -> Result<(), AllocErro
 }
 
 /// Groups the calls by their values.
-fn groups_of(alloc: Global, calls: &[Call]) -> Result<BTreeMap<usize, Group>, AllocError>
-    ensures { IfOk result (AreGroups calls.now) }
+pub(crate) fn groups_of(
+    alloc: Global,
+    calls: &[Call],
+) -> Result<HashMap<usize, Group<'_>>, AllocError>
+    ensures { IfOk result (λ groups. AreGroups calls.now (get nat_eq groups)) }
 {
-    let mut groups = BTreeMap::new(alloc);
+    let mut groups = HashMap::new(alloc);
     for call in calls {
         add(&mut groups, call)?;
     }
@@ -96,17 +98,18 @@ fn groups_of(alloc: Global, calls: &[Call]) -> Result<BTreeMap<usize, Group>, Al
 }
 
 /// Finds the group of each call.
-pub(crate) fn grouped(alloc: Global, calls: &[Call]) -> Result<Vec<Grouped>, AllocError>
+pub(crate) fn grouped<'g, 'a>(
+    alloc: Global,
+    calls: &'a [Call],
+    groups: &'g HashMap<usize, Group<'a>>,
+) -> Result<Vec<Grouped<'g, 'a>>, AllocError>
+    requires { AreGroups calls.now (get nat_eq groups.now) }
     ensures { IfOk result (λ v. AreGrouped calls.now calls.now v.items) }
 {
-    let groups = groups_of(alloc, calls)?;
     let mut out = Vec::new(alloc);
     for call in calls {
         if let Some(group) = groups.get(&value(call)) {
-            out.push(Grouped {
-                call: *call,
-                group: *group,
-            })?;
+            out.push(Grouped { call, group })?;
         }
     }
     Ok(out)

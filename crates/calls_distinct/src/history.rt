@@ -6,7 +6,7 @@ ghost use Rattle.calls_core.specs.Linearizations.{answered_calls};
 ghost use Rattle.calls_distinct.specs.Zones.{put_answer, begun_calls};
 
 use crate::reading::is_put;
-use calls_core::{Action, Call, Event, PendingCall, Reply};
+use calls_core::{Action, Call, Event, Part, PendingCall, Reply};
 use std::alloc::{AllocError, Global};
 
 /// Takes out the pending call of this worker, if it has one.
@@ -75,14 +75,18 @@ fn add_puts(calls: &mut Vec<Call>, pending: &[PendingCall], end: usize) -> Resul
 }
 
 /// Lists the completed calls, and the pending puts with a response at the end.
-pub(crate) fn calls_in(alloc: Global, events: &[Event], end: usize) -> Result<Vec<Call>, AllocError>
+pub(crate) fn calls_in(
+    alloc: Global,
+    events: &Part<'_, '_>,
+    end: usize,
+) -> Result<Vec<Call>, AllocError>
     ensures { IfOk result (λ v. v.items ≡ begun_calls (completed_calls (reverse events.now))
         (pending_calls (reverse events.now)) end) }
 {
     let mut calls = Vec::new(alloc);
     let mut pending = Vec::new(alloc);
-    for x in events {
-        note(&mut calls, &mut pending, x)?;
+    for i in 0..events.len() {
+        note(&mut calls, &mut pending, events.at(i))?;
     }
     add_puts(&mut calls, &pending, end)?;
     Ok(calls)

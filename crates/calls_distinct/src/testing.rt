@@ -11,35 +11,37 @@ use crate::zone::Grouped;
 fn repeats(z: &Grouped) -> bool
     ensures { result ≡ repeats z.now }
 {
-    !is_put(z.call.op) && (1 < z.group.puts || (value(&z.call) == 0 && 0 < z.group.puts))
+    let group = z.group;
+    !is_put(z.call.op) && (1 < group.puts || (value(z.call) == 0 && 0 < group.puts))
 }
 
 /// Returns whether this is a get of a value that was not put before its response.
 fn lacks_put(z: &Grouped) -> bool
     ensures { result ≡ lacks_put z.now }
 {
-    (!is_put(z.call.op) && value(&z.call) != 0) && (z.group.puts == 0 || z.call.last < z.group.put)
+    let group = z.group;
+    (!is_put(z.call.op) && value(z.call) != 0) && (group.puts == 0 || z.call.last < group.put)
 }
 
 /// Finds a get of a value that was put twice, or of 0, which was put.
-pub(crate) fn first_repeated(zs: &[Grouped]) -> Option<Grouped>
-    ensures { IsFirst repeats zs.now result }
+pub(crate) fn first_repeated<'z, 'g, 'a>(zs: &'z [Grouped<'g, 'a>]) -> Option<&'z Grouped<'g, 'a>>
+    ensures { IsFirst repeats zs.now (option_copied result) }
 {
     for z in zs {
         if repeats(z) {
-            return Some(*z);
+            return Some(z);
         }
     }
     None
 }
 
 /// Finds a get of a value that was not put before its response.
-pub(crate) fn first_lacking(zs: &[Grouped]) -> Option<Grouped>
-    ensures { IsFirst lacks_put zs.now result }
+pub(crate) fn first_lacking<'z, 'g, 'a>(zs: &'z [Grouped<'g, 'a>]) -> Option<&'z Grouped<'g, 'a>>
+    ensures { IsFirst lacks_put zs.now (option_copied result) }
 {
     for z in zs {
         if lacks_put(z) {
-            return Some(*z);
+            return Some(z);
         }
     }
     None

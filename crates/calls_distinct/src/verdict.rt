@@ -11,25 +11,25 @@ use crate::crossing::{crossing, crossing_fault};
 use crate::testing::first_lacking;
 use crate::zone::{Grouped, Zone};
 use crate::zones::sorted;
-use calls_core::Call;
+use calls_core::PlacedCalls;
 use std::alloc::{AllocError, Global};
 
 /// A linearization, or what shows that there is none.
 #[derive(Debug, Drop)]
 pub(crate) enum Verdict {
     /// This is one.
-    Ordered(Vec<Call>),
+    Ordered(PlacedCalls),
     /// This fault is shown.
     Faulty(Fault),
 }
 
 /// Lists the calls of some zones.
-fn calls_of(alloc: Global, zs: &[Zone]) -> Result<Vec<Call>, AllocError>
-    ensures { IfOk result (λ v. v.items ≡ zone_calls zs.now) }
+fn calls_of(alloc: Global, zs: &[Zone]) -> Result<PlacedCalls, AllocError>
+    ensures { IfOk result (λ v. v ≡ zone_calls zs.now) }
 {
-    let mut calls = Vec::new(alloc);
+    let mut calls = PlacedCalls::new(alloc);
     for z in zs {
-        calls.push(z.call)?;
+        calls.push(*z.call)?;
     }
     Ok(calls)
 }
@@ -40,11 +40,11 @@ pub(crate) fn judge(alloc: Global, zs: &[Grouped], end: usize) -> Result<Verdict
         → IsDistinctHistory past → AreGroupedOf past end zs.now → IsVerdict past end v) }
 {
     if let Some(z) = first_lacking(zs) {
-        return Ok(Verdict::Faulty(Fault::Nowhere(z.call)));
+        return Ok(Verdict::Faulty(Fault::Nowhere(*z.call)));
     }
     let order = sorted(alloc, zs, end)?;
     match crossing(&order) {
-        Some((x, z)) => Ok(Verdict::Faulty(crossing_fault(&x, &z))),
+        Some((x, z)) => Ok(Verdict::Faulty(crossing_fault(x, z))),
         None => Ok(Verdict::Ordered(calls_of(alloc, &order)?)),
     }
 }

@@ -1,9 +1,10 @@
 //! A call among those of its value.
 use calls_core::Call;
+use std::marker::Model;
 
 /// What is known of all calls of one value.
-#[derive(Clone, Copy, Debug, PartialEq, Eq)]
-pub(crate) struct Group {
+#[derive(Debug, Drop)]
+pub(crate) struct Group<'a> {
     /// Whether a get returned the value.
     pub got: bool,
     /// How many puts of it there are.
@@ -11,28 +12,62 @@ pub(crate) struct Group {
     /// The position of the invocation of the last of them that was seen.
     pub put: usize,
     /// One of the calls whose response is earliest.
-    pub early: Call,
+    pub early: &'a Call,
     /// One of the calls whose invocation is latest.
-    pub late: Call,
+    pub late: &'a Call,
+}
+
+impl<'a> Model for Group<'a> {
+    ghost use Rattle.calls_distinct.specs.Records as records;
+
+    ghost Value = { records.Group };
+
+    ghost view = { λ g. record {
+      got = g.got;
+      puts = g.puts;
+      put = g.put;
+      early = g.early.now;
+      late = g.late.now;
+    } };
 }
 
 /// A call, and what is known of the calls of its value.
-#[derive(Clone, Copy, Debug, PartialEq, Eq)]
-pub(crate) struct Grouped {
+#[derive(Debug, Drop)]
+pub(crate) struct Grouped<'g, 'a> {
     /// The call.
-    pub call: Call,
+    pub call: &'a Call,
     /// The calls of its value.
-    pub group: Group,
+    pub group: &'g Group<'a>,
+}
+
+impl<'g, 'a> Model for Grouped<'g, 'a> {
+    ghost use Rattle.calls_distinct.specs.Records as records;
+
+    ghost Value = { records.Grouped };
+
+    ghost view = { λ z. record { call = z.call.now; group = z.group.now } };
 }
 
 /// A call that takes effect, and two calls of its zone. The put of a value that was got and the
 /// gets of it are in one zone; a put of a value that nobody got has a zone of its own.
-#[derive(Clone, Copy, Debug, PartialEq, Eq)]
-pub(crate) struct Zone {
+#[derive(Debug, Drop)]
+pub(crate) struct Zone<'a> {
     /// The call.
-    pub call: Call,
+    pub call: &'a Call,
     /// One of its zone whose response is earliest.
-    pub early: Call,
+    pub early: &'a Call,
     /// One of its zone whose invocation is latest.
-    pub late: Call,
+    pub late: &'a Call,
+}
+
+impl<'a> Model for Zone<'a> {
+    ghost use Rattle.calls_distinct.specs.Records as records;
+
+    ghost Value = { records.Zone };
+
+    ghost view = { λ z. record {
+      call = z.call.now;
+      early = z.early.now;
+      late = z.late.now;
+    } };
 }

@@ -15,7 +15,7 @@ use std::cmp::Ordering;
 fn key(z: &Zone) -> usize
     ensures { result ≡ key z.now }
 {
-    if gets(0, &z.call) {
+    if gets(0, z.call) {
         0
     } else {
         z.early.last.min(z.late.first)
@@ -37,8 +37,8 @@ fn rank(call: &Call) -> usize
 fn compare(x: &Zone, y: &Zone) -> Ordering
     ensures { result ≡ zone_cmp x.now y.now }
 {
-    let by_value = value(&x.call).cmp(&value(&y.call));
-    let by_rank = rank(&x.call).cmp(&rank(&y.call));
+    let by_value = value(x.call).cmp(&value(y.call));
+    let by_rank = rank(x.call).cmp(&rank(y.call));
     key(x).cmp(&key(y)).then(by_value.then(by_rank))
 }
 
@@ -46,18 +46,20 @@ fn compare(x: &Zone, y: &Zone) -> Ordering
 fn takes_effect(end: usize, z: &Grouped) -> bool
     ensures { result ≡ takes_effect end z.now }
 {
-    z.call.last < end || z.group.got
+    let group = z.group;
+    z.call.last < end || group.got
 }
 
 /// Returns the zone of a call.
-fn zone_of(z: &Grouped) -> Zone
+fn zone_of<'a>(z: &Grouped<'_, 'a>) -> Zone<'a>
     ensures { result ≡ zone_of z.now }
 {
-    if z.group.got {
+    let group = z.group;
+    if group.got {
         Zone {
             call: z.call,
-            early: z.group.early,
-            late: z.group.late,
+            early: group.early,
+            late: group.late,
         }
     } else {
         Zone {
@@ -69,7 +71,7 @@ fn zone_of(z: &Grouped) -> Zone
 }
 
 /// Lists the calls that take effect, with their zones.
-fn zones(alloc: Global, zs: &[Grouped], end: usize) -> Result<Vec<Zone>, AllocError>
+fn zones<'a>(alloc: Global, zs: &[Grouped<'_, 'a>], end: usize) -> Result<Vec<Zone<'a>>, AllocError>
     ensures { IfOk result (λ v. v.items ≡ zones_of end zs.now) }
 {
     let mut out = Vec::new(alloc);
@@ -82,7 +84,11 @@ fn zones(alloc: Global, zs: &[Grouped], end: usize) -> Result<Vec<Zone>, AllocEr
 }
 
 /// Lists the calls that take effect, in the order of their zones.
-pub(crate) fn sorted(alloc: Global, zs: &[Grouped], end: usize) -> Result<Vec<Zone>, AllocError>
+pub(crate) fn sorted<'a>(
+    alloc: Global,
+    zs: &[Grouped<'_, 'a>],
+    end: usize,
+) -> Result<Vec<Zone<'a>>, AllocError>
     ensures moved { IfOk result (λ v. IsPermutation (zones_of end zs.now) v.items) }
     ensures sorted { IfOk result (λ v. EachPair NotAfter v.items) }
 {

@@ -12,4 +12,4 @@ pub use laws::{
     parts_are_linearized, parts_make_whole, placed_parts_make_whole, points_keep_the_order,
     responses_become_answers,
 };
-pub use placing::{merge, place};
+pub use placing::merge;

@@ -1,36 +1,15 @@
-//! Linearization points, and the calls of many objects in one order.
-ghost use Rattle.std.specs.Prelude.{◌≡◌, ◌+◌, ◌<◌, ◌^◌, max, IfOk};
-ghost use Rattle.calls_core.specs.declared.history.Call.{Call};
-ghost use Rattle.calls_core.specs.Lists.{Each};
-ghost use Rattle.calls_core.specs.Points.{placed_one, by_points};
+//! The calls of many objects in one order.
+ghost use Rattle.std.specs.Prelude.{◌≡◌, IfOk};
+ghost use Rattle.calls_core.specs.Points.{by_points};
 
-use calls_core::{Call, Placed};
-use std::alloc::{AllocError, Global};
+use calls_core::Placed;
+use std::alloc::AllocError;
 
-/// Returns the point of a call that follows one whose point is `latest`.
-fn next_point(latest: usize, call: &Call) -> usize
-    requires { call.now.first + 1 < 2 ^ 64 }
-    ensures { result ≡ max latest (call.now.first + 1) }
+/// Returns the point of a call.
+fn point(placed: &Placed) -> usize
+    ensures { result ≡ placed.now.point }
 {
-    latest.max(call.first + 1)
-}
-
-/// Gives each call of one object its point: right after the latest invocation among the calls that
-/// stand up to it.
-pub fn place(alloc: Global, calls: &[Call]) -> Result<Vec<Placed>, AllocError>
-    requires { Each (λ (c : Call). c.first + 1 < 2 ^ 64) calls.now }
-    ensures { IfOk result (λ v. v.items ≡ placed_one 0 calls.now) }
-{
-    let mut latest = 0;
-    let mut list = Vec::new(alloc);
-    for call in calls {
-        latest = next_point(latest, call);
-        list.push(Placed {
-            point: latest,
-            call: *call,
-        })?;
-    }
-    Ok(list)
+    placed.point
 }
 
 /// Puts calls in the order of their points, and those of one point in the order in which they
@@ -38,6 +17,6 @@ pub fn place(alloc: Global, calls: &[Call]) -> Result<Vec<Placed>, AllocError>
 pub fn merge(calls: &mut Vec<Placed>) -> Result<(), AllocError>
     ensures { IfOk result (λ u. calls.new.items ≡ by_points calls.old.items) }
 {
-    calls.sort_by_key(|p: &Placed| p.point)?;
+    calls.sort_by_key(|p: &Placed| point(p))?;
     Ok(())
 }

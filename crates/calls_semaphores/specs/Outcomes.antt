@@ -10,5 +10,5 @@ use Rattle.calls_semaphores.specs.Faults.{Shows}
 -- the calls have this linearization, in which a pending call that took effect has its response at
 -- t; or this event is the first faulty one, and the events up to it show the fault
 abbrev pub IsOutcome : Kind → List Event → ℕ → Outcome → Type 0
-IsOutcome kind events t (Ordered cs) = IsOrderOf kind (reverse events) t cs.items
+IsOutcome kind events t (Ordered cs) = IsOrderOf kind (reverse events) t cs
 IsOutcome kind events t (Refused i f) = IsFirstFault (λ past. Shows kind past f) kind events i

@@ -10,7 +10,7 @@ ghost use Rattle.calls_semaphores.specs.Keeping.{is_v, IsOpened, Steps};
 ghost use Rattle.calls_semaphores.specs.Outcomes.{IsOutcome};
 
 use crate::{Bank, Fault, Outcome};
-use calls_core::{Action, Call, Event, Op, PendingCall, Reply};
+use calls_core::{Action, Call, Event, Op, Part, PendingCall, PlacedCalls, Reply};
 use std::alloc::{AllocError, Global};
 
 /// A pending call.
@@ -148,12 +148,23 @@ impl Scan {
     }
 }
 
+/// Returns calls with their points.
+fn placed(alloc: Global, calls: &[Call]) -> Result<PlacedCalls, AllocError>
+    ensures { IfOk result (λ order. order ≡ calls.now) }
+{
+    let mut order = PlacedCalls::new(alloc);
+    for call in calls {
+        order.push(*call)?;
+    }
+    Ok(order)
+}
+
 /// Decides whether the calls of a bank of semaphores have a linearization. `end` is a position
 /// after all events.
 pub fn decide(
     alloc: Global,
     units: &Vec<usize>,
-    events: &[Event],
+    events: &Part<'_, '_>,
     end: usize,
 ) -> Result<Outcome, AllocError>
     requires history { IsHistoryOf (Semaphores units.now) (reverse events.now) }
@@ -162,10 +173,11 @@ pub fn decide(
     ensures { IfOk result (IsOutcome (Semaphores units.now) events.now end) }
 {
     let mut scan = Scan::new(alloc, units, end)?;
-    for (i, event) in events.iter().enumerate() {
+    for i in 0..events.len() {
+        let event = events.at(i);
         if let Some(fault) = scan.event(*event)? {
             return Ok(Outcome::Refused(i, fault));
         }
     }
-    Ok(Outcome::Ordered(scan.order))
+    Ok(Outcome::Ordered(placed(alloc, &scan.order)?))
 }

@@ -29,6 +29,6 @@ pub record AreOverlapping (events : List Event) (o p : PendingCall) : Type 0 whe
   pub both : AreBothPending (pending_calls (past_at moment events)) o p
 
 abbrev pub IsOutcome : Kind → List Event → ℕ → Outcome → Type 0
-IsOutcome kind events end (Ordered calls) = IsOrderOf kind (reverse events) end calls.items
+IsOutcome kind events end (Ordered calls) = IsOrderOf kind (reverse events) end calls
 IsOutcome kind events end (Refused i fault) = IsFirstFault (λ past. Shows past fault) kind events i
 IsOutcome kind events end (Overlapping o p) = AreOverlapping events o p

@@ -11,7 +11,7 @@ use crate::outcome::Outcome;
 use crate::responses::respond;
 use crate::search::{find, pending_put, put_value};
 use crate::stage::{Pass, Stage, Stop};
-use calls_core::{Action, Call, Event, PendingCall};
+use calls_core::{Action, Call, Event, Part, PendingCall, PlacedCalls};
 use std::alloc::{AllocError, Global};
 
 /// Takes in an invocation, or gives two puts that overlap.
@@ -97,8 +97,8 @@ fn begin(alloc: Global) -> Result<Pass, AllocError>
 }
 
 /// Puts the calls of a stage after others.
-fn add_calls(calls: &mut Vec<Call>, stage: &Stage) -> Result<(), AllocError>
-    ensures { IfOk result (λ _. calls.new.items ≡ calls.old.items ++ held_calls (held stage.now)) }
+fn add_calls(calls: &mut PlacedCalls, stage: &Stage) -> Result<(), AllocError>
+    ensures { IfOk result (λ _. calls.new ≡ calls.old ++ held_calls (held stage.now)) }
 {
     if let Some(put) = stage.put {
         calls.push(put)?;
@@ -110,10 +110,10 @@ fn add_calls(calls: &mut Vec<Call>, stage: &Stage) -> Result<(), AllocError>
 }
 
 /// Gives the calls of the stages in their order.
-fn order(alloc: Global, stages: &[Stage]) -> Result<Vec<Call>, AllocError>
-    ensures { IfOk result (λ v. v.items ≡ all_calls (helds stages.now)) }
+fn order(alloc: Global, stages: &[Stage]) -> Result<PlacedCalls, AllocError>
+    ensures { IfOk result (λ v. v ≡ all_calls (helds stages.now)) }
 {
-    let mut calls = Vec::new(alloc);
+    let mut calls = PlacedCalls::new(alloc);
     for stage in stages {
         add_calls(&mut calls, stage)?;
     }
@@ -132,13 +132,14 @@ fn outcome_of(i: usize, stop: Stop) -> Outcome
 
 /// Says whether a history of a cell has a linearization: gives one, or why there is none. If two
 /// of its puts overlap, it may give these instead.
-pub fn decide(alloc: Global, events: &[Event], end: usize) -> Result<Outcome, AllocError>
+pub fn decide(alloc: Global, events: &Part<'_, '_>, end: usize) -> Result<Outcome, AllocError>
     requires history { IsHistoryOf Cell (reverse events.now) }
     requires late { clock (reverse events.now) ≤ end }
     ensures { IfOk result (IsOutcome Cell events.now end) }
 {
     let mut pass = begin(alloc)?;
-    for (i, event) in events.iter().enumerate() {
+    for i in 0..events.len() {
+        let event = events.at(i);
         if let Some(stop) = take_in(alloc, &mut pass, *event, end)? {
             return Ok(outcome_of(i, stop));
         }

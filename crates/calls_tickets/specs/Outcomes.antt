@@ -8,5 +8,5 @@ use Rattle.calls_tickets.specs.declared.deciding.Outcome.TheVariants.{Ordered, R
 use Rattle.calls_tickets.specs.Faults.{Shows}
 
 abbrev pub IsOutcome : List Event → ℕ → Outcome → Type 0
-IsOutcome events t (Ordered cs) = IsOrderOf Sequencer (reverse events) t cs.items
+IsOutcome events t (Ordered cs) = IsOrderOf Sequencer (reverse events) t cs
 IsOutcome events t (Refused i f) = IsFirstFault (λ past. Shows past f) Sequencer events i

@@ -7,14 +7,14 @@ ghost use Rattle.calls_tickets.specs.Outcomes.{IsOutcome};
 use crate::Fault;
 use crate::recorded::Recorded;
 use crate::table::Decision;
-use calls_core::{Call, Event};
+use calls_core::{Part, PlacedCalls};
 use std::alloc::{AllocError, Global};
 
 /// Whether the tickets of a history have a linearization.
 #[derive(Debug, Drop)]
 pub enum Outcome {
     /// They have this one.
-    Ordered(Vec<Call>),
+    Ordered(PlacedCalls),
     /// They have none: the event at this index is the first faulty one, and with it the events show
     /// this fault.
     Refused(usize, Fault),
@@ -22,13 +22,14 @@ pub enum Outcome {
 
 /// Decides whether the tickets of a history have a linearization, if the responses that pending
 /// tickets get are at position `end`.
-pub fn decide(alloc: Global, events: &[Event], end: usize) -> Result<Outcome, AllocError>
+pub fn decide(alloc: Global, events: &Part<'_, '_>, end: usize) -> Result<Outcome, AllocError>
     requires history { IsHistoryOf Sequencer (reverse events.now) }
     requires ends { clock (reverse events.now) ≤ end }
     ensures { IfOk result (IsOutcome events.now end) }
 {
     let mut calls = Recorded::new(alloc);
-    for (i, event) in events.iter().enumerate() {
+    for i in 0..events.len() {
+        let event = events.at(i);
         if !calls.event(*event)? {
             return match calls.decide(alloc, event.at)? {
                 Decision::Order(_) => unreachable!(),

@@ -1,7 +1,6 @@
 -- The events of each object, with one event more of all.
 use Rattle.std.proofs.Common.{◌≡◌, ℕ, ◌+◌, ◌<◌, List, length, get_or, take, reverse}
 use Rattle.std.proofs.Common.{Option, Some, None, ap, sym, ◌∙◌, subst}
-use Rattle.std.specs.Global.{Vec}
 use Rattle.calls_core.specs.declared.history.Event.{Event}
 use Rattle.calls_core.specs.declared.history.PendingCall.{PendingCall}
 use Rattle.calls_core.specs.Lists.{EachFrom}
@@ -22,7 +21,7 @@ module _ (events : List Event) (i : ℕ) (d : Event) (lt : i < length events) wh
       ∙ sym f.object_is ∙ is
 
   pub added_more : (os new : List PendingCall) (o : Option ℕ) (j : ℕ)
-      (parts later : List (Vec Event))
+      (parts later : List (List Event))
       → os ≡ pending_calls (reverse (take i events)) → IsFollowed os new (get_or events i d) o
       → o ≡ Some j
       → IsAdded j (get_or events i d) parts later → EachFrom (IsPart (reverse (take i events))) 0
@@ -32,7 +31,7 @@ module _ (events : List Event) (i : ℕ) (d : Event) (lt : i < length events) wh
       subst (λ past. EachFrom (IsPart past) 0 later) (sym (reversed_more events i d lt))
       (added (reverse (take i events)) (object_now os new o (Some j) was f is) each)
 
-  pub unadded_more : (os new : List PendingCall) (o : Option ℕ) (parts : List (Vec Event))
+  pub unadded_more : (os new : List PendingCall) (o : Option ℕ) (parts : List (List Event))
       → os ≡ pending_calls (reverse (take i events)) → IsFollowed os new (get_or events i d) o
       → o ≡ None
       → EachFrom (IsPart (reverse (take i events))) 0 parts

@@ -2,7 +2,6 @@
 use Rattle.std.proofs.Common.{◌≡◌, ℕ, zero, suc, ◌+◌, ◌<◌, false, ◌==◌, cond}
 use Rattle.std.proofs.Common.{List, [], ◌∷◌, ◌++◌, length, get_or, set, reverse}
 use Rattle.std.proofs.Common.{Option, Some, None, refl, ap, sym, ◌∙◌, arith}
-use Rattle.std.specs.Global.{Vec}
 use Rattle.std.proofs.lemmas.Bool.{eq-eqb, ne_eqb}
 use Rattle.std.proofs.lemmas.List.{reverse-append}
 use Rattle.calls_core.specs.declared.history.Action.{Action}
@@ -39,7 +38,7 @@ part_more j x past e =
     ap (λ b. cond b (x ∷ part j past) (part j past)) (on_object j j x.action
     (pending_of x.worker (pending_calls past)) e ∙ eq-eqb j j refl)
 
-others_same : (j k : ℕ) (x : Event) (past : List Event) (parts : List (Vec Event))
+others_same : (j k : ℕ) (x : Event) (past : List Event) (parts : List (List Event))
     → object_of x.action (pending_of x.worker (pending_calls past)) ≡ Some j
     → ((i : ℕ) → i < length parts → k + i ≡ j → ⊥)
     → EachFrom (IsPart past) k parts → EachFrom (IsPart (x ∷ past)) k parts
@@ -50,15 +49,15 @@ others_same j k x past (own ∷ parts) e other h = (
 )
 
 -- the event goes to the part at its object
-pub parts_more : (j k i : ℕ) (x : Event) (past : List Event) (parts : List (Vec Event))
-    (own d : Vec Event) → object_of x.action (pending_of x.worker (pending_calls past)) ≡ Some j
+pub parts_more : (j k i : ℕ) (x : Event) (past : List Event) (parts : List (List Event))
+    (own d : List Event) → object_of x.action (pending_of x.worker (pending_calls past)) ≡ Some j
     → k + i ≡ j → i < length parts
-    → own.items ≡ (get_or parts i d).items ++ x ∷ [] → EachFrom (IsPart past) k parts
+    → own ≡ get_or parts i d ++ x ∷ [] → EachFrom (IsPart past) k parts
     → EachFrom (IsPart (x ∷ past)) k (set parts i own)
 parts_more j k i x past [] own d e at lt is h = absurd (omega arith)
 parts_more j k zero x past (p ∷ parts) own d e at lt is h =
     let same : k ≡ j = omega arith in (
-      ap reverse is ∙ reverse-append p.items (x ∷ []) ∙ ap (λ zs. x ∷ zs) h.0 ∙ ap (λ n.
+      ap reverse is ∙ reverse-append p (x ∷ []) ∙ ap (λ zs. x ∷ zs) h.0 ∙ ap (λ n.
           x ∷ part n past) same ∙ sym (part_more j x past e) ∙ ap (λ n. part n (x ∷ past))
           (sym same),
       others_same j (k + 1) x past parts e (λ i lt is. omega arith) h.1,
@@ -70,7 +69,7 @@ parts_more j k (suc i) x past (p ∷ parts) own d e at lt is h = (
 )
 
 -- an event of no object, or of one that has no part here
-pub parts_same : (k : ℕ) (x : Event) (past : List Event) (parts : List (Vec Event))
+pub parts_same : (k : ℕ) (x : Event) (past : List Event) (parts : List (List Event))
     → object_of x.action (pending_of x.worker (pending_calls past)) ≡ None
     → EachFrom (IsPart past) k parts → EachFrom (IsPart (x ∷ past)) k parts
 parts_same k x past [] e h = tt
@@ -81,13 +80,13 @@ parts_same k x past (own ∷ parts) e h = (
       (k + 1) x past parts e h.1,
 )
 
-pub parts_beyond : (j : ℕ) (x : Event) (past : List Event) (parts : List (Vec Event))
+pub parts_beyond : (j : ℕ) (x : Event) (past : List Event) (parts : List (List Event))
     → object_of x.action (pending_of x.worker (pending_calls past)) ≡ Some j
     → (j < length parts → ⊥) → EachFrom (IsPart past) 0 parts → EachFrom (IsPart (x ∷ past)) 0 parts
 parts_beyond j x past parts e beyond h = others_same j 0 x past parts e (λ i lt is.
     beyond (omega arith)) h
 
-pub empty_more : (k : ℕ) (parts : List (Vec Event)) (own : Vec Event) → own.items ≡ []
+pub empty_more : (k : ℕ) (parts : List (List Event)) (own : List Event) → own ≡ []
     → EachFrom (IsPart []) k parts → EachFrom (IsPart []) k (parts ++ own ∷ [])
 empty_more k [] own e h = (ap reverse e, tt)
 empty_more k (p ∷ parts) own e h = (h.0, empty_more (k + 1) parts own e h.1)

@@ -3,16 +3,11 @@ use Rattle.std.proofs.Common.{◌≡◌, ℕ, zero, suc, ◌+◌, ◌<◌, ◌�
 use Rattle.std.proofs.Common.{get_or}
 use Rattle.std.proofs.Common.{Some, refl, ap, sym, ◌∙◌, arith, subst, slice_get}
 use Rattle.std.proofs.lemmas.Option.{slice_get_read}
-use Rattle.std.specs.Global.{Vec}
 use Rattle.calls_core.specs.declared.history.Kind.{Kind}
 use Rattle.calls_core.specs.declared.history.Event.{Event}
-use Rattle.calls_core.specs.declared.history.Call.{Call}
 use Rattle.calls_core.specs.Lists.{EachFrom}
-use Rattle.calls_core.specs.Histories.{clock, part, pending_calls, completed_calls, IsHistory}
+use Rattle.calls_core.specs.Histories.{clock, part, IsHistory}
 use Rattle.calls_core.specs.Histories.{IsHistoryOf}
-use Rattle.calls_core.proofs.Lists.{each_weaker}
-use Rattle.calls_core.proofs.Positions.{are_calls_of}
-use Rattle.calls_core.proofs.Settling.{Begun, before_of, done_begun, all_begun}
 use Rattle.calls_local.proofs.Parts.{part_history_of, part_clock}
 use Rattle.calls_verdict.specs.declared.verdict.Decision.{Decision}
 use Rattle.calls_verdict.specs.declared.verdict.Decision.TheVariants.{Ordered, Refused, Open}
@@ -20,14 +15,14 @@ use Rattle.calls_verdict.specs.Verdicts.{IsDecision}
 use Rattle.calls_verdict.specs.kept.Parts.{IsPart, AreParts}
 use Rattle.calls_verdict.specs.kept.Findings.{HasRoom}
 
-each_at : (past : List Event) (i k : ℕ) (parts : List (Vec Event)) (own : Vec Event)
+each_at : (past : List Event) (i k : ℕ) (parts : List (List Event)) (own : List Event)
     → k < length parts
     → own ≡ get_or parts k own → EachFrom (IsPart past) i parts
-    → reverse own.items ≡ part (i + k) past
+    → reverse own ≡ part (i + k) past
 each_at past i k [] own lt is h = absurd (omega arith)
 each_at past i zero (p ∷ parts) own lt is h =
     (let same : i + 0 ≡ i = omega arith in
-    ap (λ (v : Vec Event). reverse v.items) is ∙ h.0 ∙ ap (λ j. part j past) (sym same))
+    ap reverse is ∙ h.0 ∙ ap (λ j. part j past) (sym same))
 each_at past i (suc k) (p ∷ parts) own lt is h =
     (let same : i + 1 + k ≡ i + suc k = omega arith in
     each_at past (i + 1) k parts own (omega arith) is h.1 ∙ ap (λ j. part j past) same)
@@ -38,21 +33,14 @@ pub decision_room : (kind : Kind) (own : List Event) (t : ℕ) (d : Decision)
     → clock (reverse own) ≤ t → t < 2 ^ 64 → IsDecision kind own t d → HasRoom own d
 decision_room kind own t (Refused i f) h le fits is = is.within
 decision_room kind own t (Open i u) h le fits is = tt
-decision_room kind own t (Ordered cs) h le fits is =
-    (let past = reverse own in
-    let b = before_of kind (completed_calls past) (pending_calls past) (clock past)
-    (are_calls_of kind past h) in
-    each_weaker (Begun (clock past)) (λ (c : Call). c.first + 1 < 2 ^ 64) (λ c lt.
-    (let low : c.first < clock past = lt in omega arith)) cs.items
-    (all_begun (clock past) t is.answer (completed_calls past) (pending_calls past) cs.items b.early
-    (done_begun (clock past) (completed_calls past) b.spans) is.each_once))
+decision_room kind own t (Ordered cs) h le fits is = tt
 
 module _ (kinds : List Kind) (events : List Event) (h : IsHistory kinds (reverse events))
-    (parts : List (Vec Event))
+    (parts : List (List Event))
     (p : AreParts (length kinds) (reverse events) parts) (k : ℕ) (lt : k < length kinds)
     (kind : Kind)
-    (read : kind ≡ get_or kinds k kind) (own : Vec Event) (of : own ≡ get_or parts k own)
-    (list : List Event) (is : list ≡ own.items) where
+    (read : kind ≡ get_or kinds k kind) (own : List Event) (of : own ≡ get_or parts k own)
+    (list : List Event) (is : list ≡ own) where
   pub turn_kind : slice_get kinds k ≡ Some kind
   turn_kind = slice_get_read kinds (length kinds) k kind refl lt read
 

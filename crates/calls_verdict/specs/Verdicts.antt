@@ -20,7 +20,7 @@ use Rattle.calls_verdict.specs.Faults.{Shows, ShowsUndecided, IsDecided, IsFault
 
 -- what is found of the calls of one object
 abbrev pub IsDecision : Kind → List Event → ℕ → Decision → Type 0
-IsDecision kind events t (decision.Ordered cs) = IsOrderOf kind (reverse events) t cs.items
+IsDecision kind events t (decision.Ordered cs) = IsOrderOf kind (reverse events) t cs
 IsDecision kind events t (decision.Refused i f) = IsFirstFault (λ past.
     Shows kind past f) kind events i
 IsDecision kind events t (decision.Open i u) = IsFirstFault (λ past.

@@ -46,9 +46,9 @@ pub fn decide(alloc: Global, kinds: &[Kind], events: &[Event]) -> Result<Verdict
         undecided: None,
     };
     for (object, kind) in kinds.iter().enumerate() {
-        let own: &[Event] = &parts[object];
-        let decision = decide_object(alloc, kind, own, end)?;
-        add(alloc, &mut found, object, own, decision)?;
+        let own = parts[object].part();
+        let decision = decide_object(alloc, kind, &own, end)?;
+        add(&mut found, object, &own, decision)?;
     }
     conclude(found)
 }

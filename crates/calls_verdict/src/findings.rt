@@ -3,9 +3,9 @@ ghost use Rattle.std.specs.Prelude.{IfOk, OnOk};
 ghost use Rattle.calls_verdict.specs.kept.Findings.{HasRoom, IsAddedTo, IsEarlier, Gives};
 
 use crate::verdict::{Decision, Refusal, Undecided, Verdict};
-use calls_core::{Event, Placed};
-use calls_local::{merge, place};
-use std::alloc::{AllocError, Global};
+use calls_core::{Part, Placed};
+use calls_local::merge;
+use std::alloc::AllocError;
 
 /// What is found of the objects that were decided.
 #[derive(Debug, Drop)]
@@ -30,10 +30,9 @@ fn earlier(kept: Option<Refusal>, next: Refusal) -> Refusal
 
 /// Adds what is decided of an object, whose events these are.
 pub fn add(
-    alloc: Global,
     found: &mut Found,
     object: usize,
-    own: &[Event],
+    own: &Part<'_, '_>,
     decision: Decision,
 ) -> Result<(), AllocError>
     requires { HasRoom own.now decision }
@@ -41,11 +40,11 @@ pub fn add(
 {
     match decision {
         Decision::Ordered(calls) => {
-            found.placed.append(&mut place(alloc, &calls)?)?;
+            calls.append_to(&mut found.placed)?;
             Ok(())
         }
         Decision::Refused(i, fault) => {
-            let at = own[i].at;
+            let at = own.at(i).at;
             let next = Refusal { at, object, fault };
             found.refusal = Some(earlier(found.refusal.take(), next));
             Ok(())

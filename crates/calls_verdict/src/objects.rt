@@ -6,14 +6,14 @@ ghost use Rattle.calls_core.specs.Histories.{IsHistoryOf, clock};
 ghost use Rattle.calls_verdict.specs.Verdicts.{IsDecision};
 
 use crate::verdict::{Decision, Fault};
-use calls_core::{Event, Kind};
+use calls_core::{Kind, Part};
 use std::alloc::{AllocError, Global};
 
 /// Decides the calls of an eventcount that is at `start` first.
 fn decide_count(
     alloc: Global,
     start: usize,
-    events: &[Event],
+    events: &Part<'_, '_>,
     end: usize,
 ) -> Result<Decision, AllocError>
     requires history { IsHistoryOf (Eventcount start) (reverse events.now) }
@@ -27,7 +27,11 @@ fn decide_count(
 }
 
 /// Decides the calls of a sequencer.
-fn decide_sequencer(alloc: Global, events: &[Event], end: usize) -> Result<Decision, AllocError>
+fn decide_sequencer(
+    alloc: Global,
+    events: &Part<'_, '_>,
+    end: usize,
+) -> Result<Decision, AllocError>
     requires history { IsHistoryOf Sequencer (reverse events.now) }
     requires end { clock (reverse events.now) ≤ end }
     ensures { IfOk result (IsDecision Sequencer events.now end) }
@@ -42,7 +46,7 @@ fn decide_sequencer(alloc: Global, events: &[Event], end: usize) -> Result<Decis
 fn decide_semaphores(
     alloc: Global,
     units: &Vec<usize>,
-    events: &[Event],
+    events: &Part<'_, '_>,
     end: usize,
 ) -> Result<Decision, AllocError>
     requires history { IsHistoryOf (Semaphores units.now) (reverse events.now) }
@@ -59,7 +63,7 @@ fn decide_semaphores(
 }
 
 /// Decides the calls of a cell. A database is decided as one.
-fn decide_cell(alloc: Global, events: &[Event], end: usize) -> Result<Decision, AllocError>
+fn decide_cell(alloc: Global, events: &Part<'_, '_>, end: usize) -> Result<Decision, AllocError>
     requires history { IsHistoryOf Cell (reverse events.now) }
     requires end { clock (reverse events.now) ≤ end }
     ensures { IfOk result (IsDecision Cell events.now end) }
@@ -75,7 +79,7 @@ fn decide_cell(alloc: Global, events: &[Event], end: usize) -> Result<Decision, 
 pub fn decide_object(
     alloc: Global,
     kind: &Kind,
-    events: &[Event],
+    events: &Part<'_, '_>,
     end: usize,
 ) -> Result<Decision, AllocError>
     requires history { IsHistoryOf kind.now (reverse events.now) }

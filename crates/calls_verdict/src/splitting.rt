@@ -5,7 +5,7 @@ ghost use Rattle.calls_verdict.specs.kept.Parts.{IsPendingOf, IsFollowed, IsPart
 ghost use Rattle.calls_verdict.specs.kept.Parts.{AreParts};
 ghost use Rattle.calls_core.specs.Lists.{EachFrom};
 
-use calls_core::{Action, Event, Kind, PendingCall};
+use calls_core::{Action, Event, Kind, PartList, PendingCall};
 use std::alloc::{AllocError, Global};
 
 /// Finds a worker's call among the pending ones.
@@ -43,21 +43,21 @@ pub fn follow(pending: &mut Vec<PendingCall>, event: &Event) -> Result<Option<us
 }
 
 /// Makes so many empty lists.
-fn empty_parts(alloc: Global, count: usize) -> Result<Vec<Vec<Event>>, AllocError>
+fn empty_parts<'h>(alloc: Global, count: usize) -> Result<Vec<PartList<'h>>, AllocError>
     ensures count { IfOk result (λ v. length v.items ≡ count) }
     ensures empty { IfOk result (λ v. EachFrom (IsPart []) 0 v.items) }
 {
     let mut parts = Vec::with_capacity(alloc, count)?;
     for _i in 0..count {
-        parts.push(Vec::new(alloc))?;
+        parts.push(PartList::new(alloc))?;
     }
     Ok(parts)
 }
 
 /// Adds an event to the list of its object.
-fn add(parts: &mut Vec<Vec<Event>>, object: usize, event: Event) -> Result<(), AllocError>
+fn add<'h>(parts: &mut Vec<PartList<'h>>, object: usize, event: &'h Event) -> Result<(), AllocError>
     ensures count { OnOk result (length parts.new.items ≡ length parts.old.items) }
-    ensures added { OnOk result (IsAdded object event parts.old.items parts.new.items) }
+    ensures added { OnOk result (IsAdded object event.now parts.old.items parts.new.items) }
 {
     if object < parts.len() {
         parts[object].push(event)?;
@@ -66,14 +66,18 @@ fn add(parts: &mut Vec<Vec<Event>>, object: usize, event: Event) -> Result<(), A
 }
 
 /// Lists for each object its own events.
-pub fn split(alloc: Global, kinds: &[Kind], events: &[Event]) -> Result<Vec<Vec<Event>>, AllocError>
+pub fn split<'h>(
+    alloc: Global,
+    kinds: &[Kind],
+    events: &'h [Event],
+) -> Result<Vec<PartList<'h>>, AllocError>
     ensures { IfOk result (λ v. AreParts (length kinds.now) (reverse events.now) v.items) }
 {
     let mut parts = empty_parts(alloc, kinds.len())?;
     let mut pending = Vec::new(alloc);
     for event in events {
         if let Some(object) = follow(&mut pending, event)? {
-            add(&mut parts, object, *event)?;
+            add(&mut parts, object, event)?;
         }
     }
     Ok(parts)

@@ -1,5 +1,5 @@
 //! What is found of a history.
-use calls_core::{Call, Placed};
+use calls_core::{Placed, PlacedCalls};
 
 /// Why a history has no linearization: what its calls of one object show, by counting.
 #[derive(Debug, Drop)]
@@ -51,7 +51,7 @@ pub enum Verdict {
 #[derive(Debug, Drop)]
 pub enum Decision {
     /// They have this linearization.
-    Ordered(Vec<Call>),
+    Ordered(PlacedCalls),
     /// They have none, since the event at this index shows this fault.
     Refused(usize, Fault),
     /// They aren't decided, from the event at this index on.

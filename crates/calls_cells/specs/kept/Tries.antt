@@ -8,6 +8,6 @@ use Rattle.calls_cells.specs.declared.deciding.Try.TheVariants.{Ordered, Refused
 use Rattle.calls_cells.specs.Faults.{Shows, ShowsUndecided}
 
 abbrev pub IsTry : List Event → ℕ → Try → Type 0
-IsTry events end (Ordered cs) = IsOrderOf Cell (reverse events) end cs.items
+IsTry events end (Ordered cs) = IsOrderOf Cell (reverse events) end cs
 IsTry events end (Refused i f) = IsFirstFault (λ past. Shows past f) Cell events i
 IsTry events end (Open u) = ShowsUndecided (reverse events) u

@@ -1,10 +1,9 @@
 -- What is kept of the objects that were decided.
-use Rattle.std.specs.Prelude.{◌≡◌, ◌⊎◌, ℕ, ◌+◌, ◌<◌, ◌≤◌, ◌^◌, List, length, reverse, Option}
+use Rattle.std.specs.Prelude.{◌≡◌, ◌⊎◌, ℕ, ◌+◌, ◌<◌, ◌≤◌, List, length, reverse, Option}
 use Rattle.std.specs.Prelude.{Some}
 use Rattle.std.specs.Prelude.{None, slice_get}
 use Rattle.calls_core.specs.declared.history.Kind.{Kind}
 use Rattle.calls_core.specs.declared.history.Event.{Event}
-use Rattle.calls_core.specs.declared.history.Call.{Call}
 use Rattle.calls_core.specs.declared.history.Placed.{Placed}
 use Rattle.calls_core.specs.Lists.{Each}
 use Rattle.calls_core.specs.Histories.{clock, IsHistory, pending_calls, completed_calls, part}
@@ -52,9 +51,9 @@ pub record AreFound (kinds : List Kind) (past : List Event) (n : ℕ) (found : F
   pub placed : found.refusal ≡ None → found.undecided ≡ None
       → ArePlaced kinds past n found.placed.items
 
--- the positions in a decision on these events have room
+-- the index in a refusal is that of an event
 abbrev pub HasRoom : List Event → Decision → Type 0
-HasRoom own (Ordered cs) = Each (λ (c : Call). c.first + 1 < 2 ^ 64) cs.items
+HasRoom own (Ordered cs) = Unit {0}
 HasRoom own (Refused i f) = i < length own
 HasRoom own (Open i u) = Unit {0}
 

@@ -2,7 +2,6 @@
 use Rattle.std.specs.Prelude.{◌≡◌, ℕ, ◌<◌, List, ◌∷◌, length, reverse, Option, Some, None}
 use Rattle.std.specs.Prelude.{slice_index_or}
 use Rattle.std.specs.List.{remove}
-use Rattle.std.specs.Global.{Vec}
 use Rattle.calls_core.specs.declared.history.Action.{Action}
 use Rattle.calls_core.specs.declared.history.Action.TheVariants.{Invoke, Respond}
 use Rattle.calls_core.specs.declared.history.Event.{Event}
@@ -26,16 +25,16 @@ pub record IsFollowed (old new : List PendingCall) (x : Event) (object : Option 
   pub pending : new ≡ pending_after x x.action old
   pub object_is : object ≡ object_of x.action (pending_of x.worker old)
 
-abbrev pub IsPart : List Event → ℕ → Vec Event → Type 0
-IsPart past k own = reverse own.items ≡ part k past
+abbrev pub IsPart : List Event → ℕ → List Event → Type 0
+IsPart past k own = reverse own ≡ part k past
 
 -- an event of object j was added
-abbrev pub IsAdded : ℕ → Event → List (Vec Event) → List (Vec Event) → Type 0
+abbrev pub IsAdded : ℕ → Event → List (List Event) → List (List Event) → Type 0
 IsAdded j x old new = (past : List Event)
     → object_of x.action (pending_of x.worker (pending_calls past)) ≡ Some j
     → EachFrom (IsPart past) 0 old → EachFrom (IsPart (x ∷ past)) 0 new
 
 -- the events of each of the first n objects, in natural order
-pub record AreParts (n : ℕ) (past : List Event) (parts : List (Vec Event)) : Type 0 where
+pub record AreParts (n : ℕ) (past : List Event) (parts : List (List Event)) : Type 0 where
   pub count : length parts ≡ n
   pub each : EachFrom (IsPart past) 0 parts

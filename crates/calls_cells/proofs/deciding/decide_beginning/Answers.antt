@@ -1,7 +1,8 @@
-use Rattle.std.proofs.Common.{◌≡◌, ◌+◌, length, take, reverse, arith, subst}
+use Rattle.std.proofs.Common.{◌≡◌, ◌+◌, ◌≤◌, take, reverse, arith, subst}
 use Rattle.std.proofs.Common.{sym}
 use Rattle.std.proofs.lemmas.List.{take_all}
 use Rattle.calls_core.specs.declared.history.Kind.TheVariants.{Cell}
+use Rattle.calls_core.specs.Histories.{IsHistoryOf, clock}
 use Rattle.calls_core.specs.Beginnings.{past_at}
 use Rattle.calls_core.specs.Outcomes.{HasOrderOf}
 use Rattle.calls_core.proofs.Beginnings.{history_at, orders_before}
@@ -15,30 +16,36 @@ use Rattle.calls_cells.proofs.deciding.decide_beginning.Goals as goal
 
 pub loop-high-init : goal.loop-high-init
 loop-high-init c =
-    (record {
-      apart = some_events c.args.events.now c.args.undecided.first c.args.undecided.second
-          c.requires.open.overlap;
-      within = omega arith;
+    (let events = c.args.events.now in
+    let some = some_events events c.args.undecided.first c.args.undecided.second
+    c.requires.open.overlap in
+    record {
+      apart = omega (arith, some, c.len-high.ensures);
+      within = omega (arith, c.len-high.ensures);
       good = nothing_ordered Cell;
       shown = subst (λ zs. ShowsUndecided (reverse zs) c.args.undecided) (sym (take_all
-          (length c.args.events.now) c.args.events.now (omega arith))) c.requires.open;
+          c.len-high.result events (omega (arith, c.len-high.ensures)))) c.requires.open;
     })
 
 pub try_both-requires-clause-history : goal.try_both-requires-clause-history
-try_both-requires-clause-history c = history_at Cell
-    c.middle-mid.result c.args.events.now c.requires.history
+try_both-requires-clause-history c = subst (λ zs. IsHistoryOf Cell (reverse zs))
+    (sym c.first-beginning.ensures)
+    (history_at Cell c.middle-mid.result c.args.events.now c.requires.history)
 
 pub try_both-requires-clause-late : goal.try_both-requires-clause-late
-try_both-requires-clause-late c =
-    before_end Cell c.middle-mid.result c.args.end c.args.events.now c.requires.history
-    c.requires.late
+try_both-requires-clause-late c = subst (λ zs. clock (reverse zs) ≤ c.args.end)
+    (sym c.first-beginning.ensures)
+    (before_end Cell c.middle-mid.result c.args.end c.args.events.now c.requires.history
+    c.requires.late)
 
 pub returns-in-Refused : goal.returns-in-Refused
 returns-in-Refused c =
     (let mid = c.middle-mid.result in
     let found : IsTry (take mid c.args.events.now) c.args.end
     (Refused c.in-Refused.i c.in-Refused.fault) =
-    subst (IsTry (take mid c.args.events.now) c.args.end) c.in-Refused.is c.in_ok-i.ensures in
+    subst (IsTry (take mid c.args.events.now) c.args.end) c.in-Refused.is
+    (subst (λ zs. IsTry zs c.args.end c.in_ok-i.field-0) c.first-beginning.ensures
+    c.in_ok-i.ensures) in
     fault_longer (λ past. Shows past c.in-Refused.fault) Cell mid c.in-Refused.i c.args.events.now
     found)
 
@@ -53,12 +60,14 @@ loop-high-preserved-after-branch-2 c = elim c.match-branch-2.branch [
       let test = c.loop-high-test.true in
       let inside = c.loop-high.invariant.within in
       let found : IsTry (take mid events) c.args.end (Ordered w.in-Ordered.field-0) =
-      subst (IsTry (take mid events) c.args.end) w.in-Ordered.is c.in_ok-i.ensures in
+      subst (IsTry (take mid events) c.args.end) w.in-Ordered.is
+      (subst (λ zs. IsTry zs c.args.end c.in_ok-i.field-0) c.first-beginning.ensures
+      c.in_ok-i.ensures) in
       record {
         apart = omega arith;
         within = omega arith;
         good = subst (λ n. HasOrderOf Cell (past_at n events)) (sym low)
-            (has_order_from Cell (past_at mid events) c.args.end w.in-Ordered.field-0.items
+            (has_order_from Cell (past_at mid events) c.args.end w.in-Ordered.field-0
             (history_at Cell mid events c.requires.history)
             (before_end Cell mid c.args.end events c.requires.history c.requires.late) found);
         shown = subst (λ n. ShowsUndecided (past_at n events) c.match-branch-2.undecided) (sym high)
@@ -74,7 +83,9 @@ loop-high-preserved-after-branch-2 c = elim c.match-branch-2.branch [
       let test = c.loop-high-test.true in
       let inside = c.loop-high.invariant.within in
       let found : IsTry (take mid events) c.args.end (Open w.in-Open.cause) =
-      subst (IsTry (take mid events) c.args.end) w.in-Open.is c.in_ok-i.ensures in
+      subst (IsTry (take mid events) c.args.end) w.in-Open.is
+      (subst (λ zs. IsTry zs c.args.end c.in_ok-i.field-0) c.first-beginning.ensures
+      c.in_ok-i.ensures) in
       record {
         apart = omega arith;
         within = omega arith;

@@ -1,5 +1,5 @@
 -- The pass over the events, and what is made of the scan at its end.
-use Rattle.std.proofs.Common.{reverse, sym, arith, subst, below_more}
+use Rattle.std.proofs.Common.{◌<◌, length, reverse, sym, arith, subst, below_more}
 use Rattle.calls_core.specs.declared.history.Kind.TheVariants.{Eventcount}
 use Rattle.calls_core.specs.declared.history.Event.{Event}
 use Rattle.calls_core.specs.declared.history.Action.TheVariants.{Invoke}
@@ -11,7 +11,7 @@ use Rattle.calls_core.specs.Beginnings.{past_at}
 use Rattle.calls_core.specs.Outcomes.{HasOrderOf}
 use Rattle.calls_counts.specs.ScanStates.{noted_calls}
 use Rattle.calls_counts.specs.Orders.{IsOrdering}
-use Rattle.calls_counts.specs.Scanning.{Holds, Completes}
+use Rattle.calls_counts.specs.Scanning.{Holds, Completes, TakesIn}
 use Rattle.calls_counts.proofs.Events.{pending_rise}
 use Rattle.calls_counts.proofs.Deciding.{past_all, begun_within, took_fault, took_next}
 use Rattle.calls_counts.proofs.Deciding.{history_upto, ordered, kept_has_order, upto}
@@ -26,7 +26,8 @@ take_in-requires c =
     omega (
       arith,
       begun_within c.args.start c.args.events.now c.loop-i.i s.begun s.slots.items
-          s.pending.items s.reads.items (omega arith) c.loop-i.invariant.0.holds,
+          s.pending.items s.reads.items (omega (arith, c.loop-i-test.true, c.len-i-end.ensures))
+          c.loop-i.invariant.0.holds,
     )
 
 pub returns-in-Some : goal.returns-in-Some
@@ -35,10 +36,13 @@ returns-in-Some c =
     let n = c.loop-i in
     let s = n.scan in
     let events = c.args.events.now in
+    let lt : n.i < length events = omega (arith, c.loop-i-test.true, c.len-i-end.ensures) in
+    let took = subst (λ (x : Event). TakesIn c.args.start s c.take_in.new.scan x
+    c.in_ok-fault.field-0) (c.at-event.ensures no_event) c.in_ok-fault.ensures in
     record {
-      within = c.loop-i-test.true;
-      shows = took_fault c.args.start events n.i no_event c.loop-i-test.true c.requires.history s
-          c.take_in.new.scan c.in_ok-fault.field-0 c.in_ok-fault.ensures n.invariant.0
+      within = lt;
+      shows = took_fault c.args.start events n.i no_event lt c.requires.history s
+          c.take_in.new.scan c.in_ok-fault.field-0 took n.invariant.0
           c.in-Some.fault c.in-Some.is;
       before = λ k le. upto (λ j. HasOrderOf (Eventcount c.args.start) (past_at j events)) n.i
           n.invariant.1
@@ -52,9 +56,12 @@ unfolding no_event
 loop-i-preserved c =
     let n = c.loop-i in
     let s = n.scan in
-    let events = c.args.events.now in (
-      took_next c.args.start events n.i no_event c.loop-i-test.true c.requires.history s
-          c.take_in.new.scan c.in_ok-fault.field-0 c.in_ok-fault.ensures n.invariant.0
+    let events = c.args.events.now in
+    let lt : n.i < length events = omega (arith, c.loop-i-test.true, c.len-i-end.ensures) in
+    let took = subst (λ (x : Event). TakesIn c.args.start s c.take_in.new.scan x
+    c.in_ok-fault.field-0) (c.at-event.ensures no_event) c.in_ok-fault.ensures in (
+      took_next c.args.start events n.i no_event lt c.requires.history s
+          c.take_in.new.scan c.in_ok-fault.field-0 took n.invariant.0
           c.in_default.is,
       below_more (λ j. HasOrderOf (Eventcount c.args.start) (past_at j events)) n.i n.invariant.1
           (kept_has_order c.args.start (past_at n.i events) s.begun s.slots.items s.pending.items
@@ -69,15 +76,16 @@ returns c =
     let past = reverse c.args.events.now in
     let holds : Holds start past s.begun s.slots.items s.pending.items s.reads.items =
     subst (λ p. Holds start p s.begun s.slots.items s.pending.items s.reads.items)
-    (past_all c.args.events.now c.loop-i.i c.loop-i-test.false) c.loop-i.invariant.0.holds in
+    (past_all c.args.events.now c.loop-i.i
+    (omega (arith, c.loop-i-test.false, c.len-i-end.ensures))) c.loop-i.invariant.0.holds in
     let rise : EachPair Earlier (noted_calls s.pending.items) =
     subst (EachPair Earlier) (sym holds.pending_is)
     (pending_rise (Eventcount start) past c.requires.history) in
     ordered start past c.args.end s.begun c.complete.new.slots.items s.reads.items s.pending.items
-    c.in_ok-calls.calls.items c.requires.history holds.pending_is
+    c.in_ok-calls.calls c.requires.history holds.pending_is
     (subst (λ us. Completes s.slots.items c.complete.new.slots.items s.next.items us c.args.end)
     c.deref.ensures.value c.complete.ensures
     c.loop-i.invariant.0.skips start (completed_calls past) (clock past) s.begun s.reads.items
     c.requires.time rise holds.state)
-    (subst (λ zs. IsOrdering zs s.reads.items c.in_ok-calls.calls.items) c.deref-2.ensures.value
+    (subst (λ zs. IsOrdering zs s.reads.items c.in_ok-calls.calls) c.deref-2.ensures.value
     c.in_ok-calls.ensures)

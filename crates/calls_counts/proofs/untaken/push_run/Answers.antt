@@ -20,7 +20,7 @@ no_read = record {
 }
 
 pub loop-j-init : goal.loop-j-init
-loop-j-init c = pushed_none c.args.reads.now c.args.k c.args.out.now.items c.args.from
+loop-j-init c = pushed_none c.args.reads.now c.args.k c.args.out.now c.args.from
     c.requires.cut
 
 pub returns-then-reads-j-clause-pushed : goal.returns-then-reads-j-clause-pushed
@@ -28,7 +28,7 @@ unfolding no_read
 returns-then-reads-j-clause-pushed c =
     (let l = c.loop-j in
     let p = get_or c.args.reads.now l.j no_read in
-    (pushed_stop c.args.reads.now c.args.k c.args.out.now.items l.out.items l.j p c.requires.rising
+    (pushed_stop c.args.reads.now c.args.k c.args.out.now l.out l.j p c.requires.rising
     c.loop-j-test.true (get_or_default c.args.reads.now l.j no_read p c.loop-j-test.true)
     c.if-reads-j.true l.invariant).0)
 
@@ -37,6 +37,6 @@ unfolding no_read
 returns-then-reads-j-clause-cut c =
     (let l = c.loop-j in
     let p = get_or c.args.reads.now l.j no_read in
-    (pushed_stop c.args.reads.now c.args.k c.args.out.now.items l.out.items l.j p c.requires.rising
+    (pushed_stop c.args.reads.now c.args.k c.args.out.now l.out l.j p c.requires.rising
     c.loop-j-test.true (get_or_default c.args.reads.now l.j no_read p c.loop-j-test.true)
     c.if-reads-j.true l.invariant).1)

@@ -1,12 +1,12 @@
-use Rattle.std.proofs.Common.{◌+◌, ◌-◌, ◌/◌, arith, refl, length}
+use Rattle.std.proofs.Common.{◌+◌, ◌-◌, ◌/◌, arith}
 use Rattle.calls_distinct.proofs.Earlier.{search_start, search_up, search_down}
 use Rattle.calls_distinct.proofs.Earlier.{middle_between, first_fault_is}
 use Rattle.calls_distinct.proofs.deciding.first_fault.Goals as goal
 use Rattle.calls_distinct.proofs.deciding.first_fault.Goals.{in-Ordered, in-Faulty}
 
 pub loop-high-init : goal.loop-high-init
-loop-high-init c = search_start c.args.events.now (length c.args.events.now) c.args.fault refl
-    c.requires.shows
+loop-high-init c = search_start c.args.events.now c.len-high.result c.args.fault
+    c.len-high.ensures c.requires.shows
 
 pub loop-high-preserved-after-branch-2 : goal.loop-high-preserved-after-branch-2
 loop-high-preserved-after-branch-2 c =

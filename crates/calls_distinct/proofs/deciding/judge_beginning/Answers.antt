@@ -1,12 +1,13 @@
-use Rattle.std.proofs.Common.{◌+◌, ◌-◌, ℕ, sym, arith, subst, List}
-use Rattle.std.proofs.Common.{get_or}
+use Rattle.std.proofs.Common.{◌≡◌, ◌+◌, ◌-◌, ℕ, ◌∙◌, ap, sym, arith, subst, List, reverse}
 use Rattle.std.proofs.lemmas.Result.{IfOk-weaker}
 use Rattle.calls_core.specs.declared.history.Op.TheVariants.{Advance}
 use Rattle.calls_core.specs.declared.history.Action.TheVariants.{Invoke}
 use Rattle.calls_core.specs.declared.history.Event.{Event}
+use Rattle.calls_core.specs.Histories.{clock}
 use Rattle.calls_core.specs.Beginnings.{past_at}
-use Rattle.calls_distinct.specs.declared.zone.Grouped.{Grouped}
-use Rattle.calls_distinct.specs.Verdicts.{AreGroupedOf, IsVerdict}
+use Rattle.calls_core.specs.declared.history.Call.{Call}
+use Rattle.calls_distinct.specs.Groups.{AreGrouped}
+use Rattle.calls_distinct.specs.Verdicts.{IsVerdict, listed}
 use Rattle.calls_distinct.proofs.Earlier.{distinct_at, store_at, clock_at, clock_is}
 use Rattle.calls_distinct.proofs.deciding.judge_beginning.Goals as goal
 
@@ -23,7 +24,7 @@ overflow_add-end c =
     let room = c.requires.room in
     let le = clock_at n events c.requires.store in
     let is = clock_is (n - 1) n events none (omega arith) (omega arith) in
-    omega (arith, is)
+    omega (arith, is, ap (λ (x : Event). x.at) (c.at.ensures none))
 
 pub returns : goal.returns
 returns c =
@@ -31,9 +32,16 @@ returns c =
     let events = c.args.events.now in
     let some = c.requires.some in
     let within = c.requires.within in
-    let is = clock_is (n - 1) n events none (omega arith) (omega arith) in
+    let end = c.at.result.now.at + 1 in
+    let is : clock (past_at n events) ≡ end =
+    clock_is (n - 1) n events none (omega arith) (omega arith)
+    ∙ ap (λ (x : Event). x.at + 1) (sym (c.at.ensures none)) in
+    let calls = c.in_ok-calls.ensures
+    ∙ ap (λ (zs : List Event). listed (reverse zs) end) c.first-beginning.ensures in
     IfOk-weaker _ _ _ (λ v f. subst (λ (t : ℕ). IsVerdict (past_at n events) t v) (sym is)
     (f (past_at n events) (store_at n events c.requires.store) (omega (arith, is))
     (distinct_at n events c.requires.store c.requires.distinct)
-    (subst (λ (zs : List Grouped). AreGroupedOf (past_at n events) ((get_or events (n - 1) none).at
-    + 1) zs) (sym c.deref.ensures.value) c.in_ok-zs.ensures))) c.judge.ensures
+    (subst (λ (cs : List Call). AreGrouped cs cs c.deref-3.result.now)
+    (c.deref-2.ensures.value ∙ calls)
+    (subst (AreGrouped c.deref-2.result.now c.deref-2.result.now) (sym c.deref-3.ensures.value)
+    c.in_ok-zs.ensures)))) c.judge.ensures

@@ -1,6 +1,6 @@
 use Rattle.std.proofs.Common.{sym, ap, ◌∙◌, subst}
-use Rattle.std.specs.Ordering.{nat_cmp}
-use Rattle.std.specs.BTreeMap.{get}
+use Rattle.std.specs.Prelude.{nat_eq}
+use Rattle.std.specs.HashMap.{get}
 use Rattle.calls_distinct.specs.Groups.{IsGroup}
 use Rattle.calls_distinct.proofs.Grouping.{groups_more, group_kept, group_new}
 use Rattle.calls_distinct.proofs.groups.add.Goals as goal
@@ -8,8 +8,8 @@ use Rattle.calls_distinct.proofs.groups.add.Goals.{in-Some, in-None}
 
 pub returns : goal.returns
 returns c = λ seen h.
-    let here = ap (get nat_cmp c.args.groups.now) (sym c.value-v.ensures) in
-    groups_more seen c.args.call.now (get nat_cmp c.args.groups.now) (get nat_cmp c.insert.new.self)
+    let here = ap (get nat_eq c.args.groups.now) (sym c.value-v.ensures) in
+    groups_more seen c.args.call.now (get nat_eq c.args.groups.now) (get nat_eq c.insert.new.self)
     c.value-v.result c.match-get.group h c.value-v.ensures
     (elim c.match-get.branch [
       | in-Some w ↦ group_kept seen c.args.call.now _ _ c.match-get.group (h _)

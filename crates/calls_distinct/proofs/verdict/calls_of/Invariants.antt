@@ -3,4 +3,4 @@ use Rattle.calls_distinct.specs.Zones.{zone_calls}
 use Rattle.calls_distinct.proofs.verdict.calls_of.Given as goal
 
 abbrev pub invariant-loop-z : goal.invariant-loop-z
-invariant-loop-z l = l.calls.items ≡ zone_calls (take l.z-index l.zs)
+invariant-loop-z l = l.calls ≡ zone_calls (take l.z-index l.zs)

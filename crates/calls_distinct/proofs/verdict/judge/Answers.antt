@@ -1,5 +1,7 @@
 use Rattle.std.proofs.Common.{◌∙◌, ap, sym, subst, List}
 use Rattle.calls_core.specs.Lists.{EachPair}
+use Rattle.calls_distinct.specs.declared.cell.Fault.TheVariants.{Nowhere}
+use Rattle.calls_distinct.specs.declared.zone.Grouped.{Grouped}
 use Rattle.calls_distinct.specs.declared.zone.Zone.{Zone}
 use Rattle.calls_distinct.specs.Cells.{Shows}
 use Rattle.calls_distinct.specs.Zones.{KeptZones, AreCrossed, zone_calls}
@@ -7,16 +9,18 @@ use Rattle.calls_distinct.proofs.Judging.{nowhere_shows, crossing_shows, order_i
 use Rattle.calls_distinct.proofs.verdict.judge.Goals as goal
 
 pub returns-in-Some : goal.returns-in-Some
-returns-in-Some c = λ past h le distinct grouped. nowhere_shows past c.args.end h le distinct
-    c.args.zs.now grouped c.in-Some.z c.in-Some.ensures.0 c.in-Some.ensures.1
+returns-in-Some c = λ past h le distinct grouped.
+    subst (λ (z : Grouped). Shows past (Nowhere z.call)) (sym c.z.view_is)
+    (nowhere_shows past c.args.end h le distinct c.args.zs.now grouped c.in-Some.z.now
+    c.in-Some.ensures.0 c.in-Some.ensures.1)
 
 pub returns-in-Some-crossing : goal.returns-in-Some-crossing
 returns-in-Some-crossing c = λ past h le distinct grouped.
     subst (Shows past) (sym c.crossing_fault.ensures) (crossing_shows past c.args.end h le distinct
     c.args.zs.now grouped c.in_default.ensures c.in_ok-order.order.items
     c.in_ok-order.ensures.moved c.in_ok-order.ensures.sorted
-    c.in-Some-crossing.x c.in-Some-crossing.z (subst (λ (zs : List Zone). AreCrossed zs
-    c.in-Some-crossing.x c.in-Some-crossing.z) c.deref.ensures.value
+    c.in-Some-crossing.x.now c.in-Some-crossing.z.now (subst (λ (zs : List Zone). AreCrossed zs
+    c.in-Some-crossing.x.now c.in-Some-crossing.z.now) c.deref.ensures.value
     c.in-Some-crossing.ensures))
 
 pub returns : goal.returns

@@ -1,12 +1,13 @@
-use Rattle.std.proofs.Common.{◌≡◌, ◌∷◌, ◌+◌, ◌≤◌, ◌∙◌, sym, subst, arith, get_or}
+use Rattle.std.proofs.Common.{◌≡◌, ◌<◌, length, reverse, ◌∷◌, ◌+◌, ◌≤◌, ◌∙◌, sym, subst, arith}
+use Rattle.std.proofs.Common.{get_or}
 use Rattle.calls_core.specs.declared.history.Event.{Event}
 use Rattle.calls_core.specs.declared.history.Action.TheVariants.{Invoke}
 use Rattle.calls_core.specs.declared.history.Op.TheVariants.{Advance}
 use Rattle.calls_core.specs.declared.history.Kind.TheVariants.{Semaphores}
 use Rattle.calls_core.specs.Beginnings.{past_at}
-use Rattle.calls_core.specs.Outcomes.{HasOrderOf}
+use Rattle.calls_core.specs.Outcomes.{HasOrderOf, IsOrderOf}
 use Rattle.calls_core.specs.Histories.{clock}
-use Rattle.calls_semaphores.specs.Keeping.{Holds, IsStep}
+use Rattle.calls_semaphores.specs.Keeping.{Holds, IsStep, Steps}
 use Rattle.calls_semaphores.proofs.Scanning.{scan_start}
 use Rattle.calls_semaphores.proofs.Deciding.{has_order, kept_start}
 use Rattle.calls_semaphores.proofs.Finding.{next, next_history, next_clock, orders_more, held_whole}
@@ -23,28 +24,35 @@ returns-in-Some c =
     let units = c.args.units.now in
     let events = c.args.events.now in
     let x = get_or events l.i no_event in
+    let lt : l.i < length events = omega (arith, c.loop-i-test.true, c.len-i-end.ensures) in
+    let steps = subst (λ (y : Event). Steps l.scan c.event.new.self y c.in_ok-fault.field-0)
+    (c.at-event.ensures no_event) c.in_ok-fault.ensures.step in
     let step : IsStep units (past_at l.i events) x c.event.new.self c.in_ok-fault.field-0 =
-    c.in_ok-fault.ensures.step units (past_at l.i events)
+    steps units (past_at l.i events)
     (next_history units events c.args.end c.requires.history c.requires.end l.i no_event
-    c.loop-i-test.true)
+    lt)
     (subst (λ n. clock (x ∷ past_at l.i events) ≤ n) (sym l.invariant.end)
     (next_clock units events c.args.end c.requires.history c.requires.end l.i no_event
-    c.loop-i-test.true)) l.invariant.holds in
+    lt)) l.invariant.holds in
     first_fault units events c.args.end c.requires.history c.requires.end l.i no_event
-    c.in-Some.fault c.loop-i-test.true
+    c.in-Some.fault lt
     (subst (IsStep units (past_at l.i events) x c.event.new.self) c.in-Some.is step)
     l.invariant.before
 
 pub returns : goal.returns
 returns c =
-    held_whole c.args.units.now c.args.events.now c.args.end c.requires.history c.requires.end
-    c.loop-i.scan c.loop-i.invariant.end c.loop-i.i c.loop-i-test.false c.loop-i.invariant.holds
+    subst (IsOrderOf (Semaphores c.args.units.now) (reverse c.args.events.now) c.args.end)
+    (sym (c.in_ok-placed.ensures ∙ c.deref.ensures.value))
+    (held_whole c.args.units.now c.args.events.now c.args.end c.requires.history c.requires.end
+    c.loop-i.scan c.loop-i.invariant.end c.loop-i.i
+    (omega (arith, c.loop-i-test.false, c.len-i-end.ensures)) c.loop-i.invariant.holds)
 
 pub event-requires : goal.event-requires
 event-requires c = λ i. omega (
   arith,
   c.loop-i.invariant.room i,
   c.loop-i-test.true,
+  c.len-i-end.ensures,
   c.requires.room,
 )
 
@@ -68,17 +76,20 @@ loop-i-preserved c =
     let units = c.args.units.now in
     let events = c.args.events.now in
     let x = get_or events l.i no_event in
+    let lt : l.i < length events = omega (arith, c.loop-i-test.true, c.len-i-end.ensures) in
+    let steps = subst (λ (y : Event). Steps l.scan c.event.new.self y c.in_ok-fault.field-0)
+    (c.at-event.ensures no_event) c.in_ok-fault.ensures.step in
     let step : IsStep units (past_at l.i events) x c.event.new.self c.in_ok-fault.field-0 =
-    c.in_ok-fault.ensures.step units (past_at l.i events)
+    steps units (past_at l.i events)
     (next_history units events c.args.end c.requires.history c.requires.end l.i no_event
-    c.loop-i-test.true)
+    lt)
     (subst (λ n. clock (x ∷ past_at l.i events) ≤ n) (sym l.invariant.end)
     (next_clock units events c.args.end c.requires.history c.requires.end l.i no_event
-    c.loop-i-test.true)) l.invariant.holds in
+    lt)) l.invariant.holds in
     let holds : Holds units (past_at (l.i + 1) events) c.event.new.self =
     subst (λ past. Holds units past c.event.new.self) (sym
     (next units events c.args.end c.requires.history c.requires.end l.i no_event
-    c.loop-i-test.true)) (subst (IsStep units (past_at l.i events) x c.event.new.self)
+    lt)) (subst (IsStep units (past_at l.i events) x c.event.new.self)
     c.in_default.is step) in
     let end : c.event.new.self.end ≡ c.args.end = c.event.ensures.end ∙ l.invariant.end in
     record {

@@ -4,4 +4,4 @@ use Rattle.calls_serial.proofs.pass.add_calls.Given as goal
 
 abbrev pub invariant-loop-get : goal.invariant-loop-get
 invariant-loop-get l =
-    l.calls.items ≡ l.fn.calls.items ++ (put_calls l.stage.put ++ take l.get-index l.get-items)
+    l.calls ≡ l.fn.calls ++ (put_calls l.stage.put ++ take l.get-index l.get-items)

@@ -1,7 +1,9 @@
-use Rattle.std.proofs.Common.{ap, sym, ◌∙◌, subst, reverse}
+use Rattle.std.proofs.Common.{◌<◌, ap, sym, ◌∙◌, subst, reverse, length, arith}
+use Rattle.calls_core.specs.declared.history.Event.{Event}
 use Rattle.calls_core.specs.declared.history.Kind.TheVariants.{Cell}
 use Rattle.calls_core.specs.Outcomes.{IsOrderOf}
 use Rattle.calls_serial.specs.kept.Stages.{all_calls, helds}
+use Rattle.calls_serial.specs.kept.Passing.{TakesIn}
 use Rattle.calls_serial.specs.Outcomes.{IsOutcome}
 use Rattle.calls_serial.proofs.Deciding.{begun, stopped, holds_next, order_all}
 use Rattle.calls_serial.proofs.pass.decide.Goals as goal
@@ -12,20 +14,30 @@ loop-i-init c = begun c.args.end c.in_ok-pass.pass c.in_ok-pass.ensures.pending
 
 pub returns-in-Some : goal.returns-in-Some
 returns-in-Some c =
+    let x = c.at-event.result.now in
+    let lt : c.loop-i.i < length c.args.events.now =
+    omega (arith, c.loop-i-test.true, c.len-i-end.ensures) in
+    let took = subst (λ (y : Event). TakesIn c.args.end c.loop-i.pass c.take_in.new.pass y
+    c.in_ok-stop.field-0) (c.at-event.ensures x) c.in_ok-stop.ensures in
     subst (IsOutcome Cell c.args.events.now c.args.end) (sym c.outcome_of.ensures)
-    (stopped c.args.end c.loop-i.i c.args.events.now _ c.loop-i-test.true c.requires.history
+    (stopped c.args.end c.loop-i.i c.args.events.now x lt c.requires.history
     c.requires.late c.loop-i.pass c.take_in.new.pass c.loop-i.invariant c.in_ok-stop.field-0
-    c.in_ok-stop.ensures c.in-Some.stop c.in-Some.is)
+    took c.in-Some.stop c.in-Some.is)
 
 pub loop-i-preserved : goal.loop-i-preserved
 loop-i-preserved c =
-    holds_next c.args.end c.loop-i.i c.args.events.now _ c.loop-i-test.true c.requires.history
+    let x = c.at-event.result.now in
+    let lt : c.loop-i.i < length c.args.events.now =
+    omega (arith, c.loop-i-test.true, c.len-i-end.ensures) in
+    let took = subst (λ (y : Event). TakesIn c.args.end c.loop-i.pass c.take_in.new.pass y
+    c.in_ok-stop.field-0) (c.at-event.ensures x) c.in_ok-stop.ensures in
+    holds_next c.args.end c.loop-i.i c.args.events.now x lt c.requires.history
     c.requires.late c.loop-i.pass c.take_in.new.pass c.loop-i.invariant c.in_ok-stop.field-0
-    c.in_ok-stop.ensures c.in_default.is
+    took c.in_default.is
 
 pub returns : goal.returns
 returns c =
     subst (IsOrderOf Cell (reverse c.args.events.now) c.args.end)
     (sym (c.in_ok-order.ensures ∙ ap (λ ss. all_calls (helds ss)) c.deref.ensures.value))
-    (order_all c.args.end c.loop-i.i c.args.events.now c.loop-i.pass c.loop-i-test.false
-    c.loop-i.invariant)
+    (order_all c.args.end c.loop-i.i c.args.events.now c.loop-i.pass
+    (omega (arith, c.loop-i-test.false, c.len-i-end.ensures)) c.loop-i.invariant)

@@ -7,7 +7,7 @@ use Rattle.calls_serial.proofs.pass.order.Goals as goal
 pub loop-stage-preserved : goal.loop-stage-preserved
 loop-stage-preserved c =
     order_more c.args.stages.now c.loop-stage.stage-index c.stage-item.result
-    c.loop-stage.calls.items c.add_calls.new.calls.items c.loop-stage-test.true
+    c.loop-stage.calls c.add_calls.new.calls c.loop-stage-test.true
     c.loop-stage.invariant
     (c.in_ok-add_calls.ensures
-    ∙ ap (λ (z : Stage). c.loop-stage.calls.items ++ held_calls (held z)) c.stage-item.is)
+    ∙ ap (λ (z : Stage). c.loop-stage.calls ++ held_calls (held z)) c.stage-item.is)

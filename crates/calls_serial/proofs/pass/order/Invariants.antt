@@ -4,4 +4,4 @@ use Rattle.calls_serial.proofs.pass.order.Given as goal
 
 abbrev pub invariant-loop-stage : goal.invariant-loop-stage
 invariant-loop-stage l =
-    l.calls.items ≡ all_calls (helds (take l.stage-index l.stages))
+    l.calls ≡ all_calls (helds (take l.stage-index l.stages))

@@ -12,7 +12,7 @@ decide_object-requires-clause-history c =
     turn_history c.args.kinds.now c.args.events.now c.requires.history c.in_ok-parts.parts.items
     c.in_ok-parts.ensures
     c.loop-object.object c.loop-object-test.true c.index-kinds-object.result c.index-kinds-object.is
-    c.index.result.now c.index.ensures c.deref-own.result.now c.deref-own.ensures.value
+    c.index.result.now c.index.ensures c.part-own.result c.part-own.ensures
 
 pub decide_object-requires-clause-end : goal.decide_object-requires-clause-end
 decide_object-requires-clause-end c =
@@ -23,7 +23,7 @@ decide_object-requires-clause-end c =
           c.in_ok-parts.parts.items c.in_ok-parts.ensures c.loop-object.object
           c.loop-object-test.true
           c.index-kinds-object.result c.index-kinds-object.is c.index.result.now c.index.ensures
-          c.deref-own.result.now c.deref-own.ensures.value,
+          c.part-own.result c.part-own.ensures,
     )
 
 pub add-requires : goal.add-requires
@@ -31,7 +31,7 @@ add-requires c =
     turn_added c.args.kinds.now c.args.events.now c.requires.history c.in_ok-parts.parts.items
     c.in_ok-parts.ensures
     c.loop-object.object c.loop-object-test.true c.index-kinds-object.result c.index-kinds-object.is
-    c.index.result.now c.index.ensures c.deref-own.result.now c.deref-own.ensures.value
+    c.index.result.now c.index.ensures c.part-own.result c.part-own.ensures
     c.end_of-end.result c.in_ok-decision.decision c.end_of-end.ensures c.requires.room
     c.in_ok-decision.ensures
 
@@ -42,12 +42,12 @@ loop-object-preserved c =
     (turn_kind c.args.kinds.now c.args.events.now c.requires.history c.in_ok-parts.parts.items
     c.in_ok-parts.ensures
     c.loop-object.object c.loop-object-test.true c.index-kinds-object.result c.index-kinds-object.is
-    c.index.result.now c.index.ensures c.deref-own.result.now c.deref-own.ensures.value)
+    c.index.result.now c.index.ensures c.part-own.result c.part-own.ensures)
     (turn_part c.args.kinds.now c.args.events.now c.requires.history c.in_ok-parts.parts.items
     c.in_ok-parts.ensures
     c.loop-object.object c.loop-object-test.true c.index-kinds-object.result c.index-kinds-object.is
-    c.index.result.now c.index.ensures c.deref-own.result.now c.deref-own.ensures.value)
-    (subst (λ t. IsDecision c.index-kinds-object.result c.deref-own.result.now t
+    c.index.result.now c.index.ensures c.part-own.result c.part-own.ensures)
+    (subst (λ t. IsDecision c.index-kinds-object.result c.part-own.result t
     c.in_ok-decision.decision)
     c.end_of-end.ensures c.in_ok-decision.ensures)
     c.loop-object.invariant

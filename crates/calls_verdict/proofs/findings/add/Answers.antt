@@ -1,30 +1,34 @@
-use Rattle.std.proofs.Common.{◌∙◌, ap, subst, refl, inl, inr, ◌++◌}
-use Rattle.calls_core.specs.Points.{placed_one}
+use Rattle.std.proofs.Common.{subst, refl, inl, inr}
+use Rattle.calls_core.specs.declared.history.Event.{Event}
 use Rattle.calls_core.specs.Histories.{clock}
 use Rattle.calls_verdict.specs.declared.verdict.Decision.{Decision}
 use Rattle.calls_verdict.specs.Verdicts.{IsDecision}
+use Rattle.calls_verdict.specs.kept.Findings.{IsEarlier}
 use Rattle.calls_verdict.proofs.Founding.{any_event, kept_first, found_ordered, found_refused}
 use Rattle.calls_verdict.proofs.Founding.{found_open}
 use Rattle.calls_verdict.proofs.findings.add.Goals as goal
 
-pub returns-in_ok-append-in-Ordered : goal.returns-in_ok-append-in-Ordered
-returns-in_ok-append-in-Ordered c =
+pub returns-in_ok-append_to-in-Ordered : goal.returns-in_ok-append_to-in-Ordered
+returns-in_ok-append_to-in-Ordered c =
     λ kinds past kind h is mine d f. found_ordered kinds past h c.args.object kind c.args.own.now
-    c.in-Ordered.calls.items
+    c.in-Ordered.calls
     c.args.found.now _ is mine
     (subst (λ (z : Decision). IsDecision kind c.args.own.now (clock past) z) c.in-Ordered.is d) refl
     refl
-    (c.in_ok-append-in-Ordered.ensures.items ∙ ap (λ zs. c.args.found.now.placed.items ++ zs)
-    (c.in_ok-place-in-Ordered.ensures ∙ ap (placed_one 0) c.deref.ensures.value)) f
+    c.in_ok-append_to-in-Ordered.ensures f
 
 pub returns-in-Refused : goal.returns-in-Refused
 returns-in-Refused c =
+    let x = c.at.result.now in
+    let earlier = subst (λ (y : Event). IsEarlier c.take.result
+    (record { at = y.at; object = c.args.object; fault = c.in-Refused.fault }) c.earlier.result)
+    (c.at.ensures x) c.earlier.ensures in
     λ kinds past kind h is mine d f. found_refused kinds past h c.args.object kind c.args.own.now
-    c.in-Refused.i _ c.in-Refused.fault
+    c.in-Refused.i x c.in-Refused.fault
     c.args.found.now _ c.take.result c.earlier.result c.take.ensures.value is mine
     (subst (λ (z : Decision). IsDecision kind c.args.own.now (clock past) z) c.in-Refused.is d) refl
     refl
-    c.earlier.ensures f
+    earlier f
 
 pub returns-then-is_none : goal.returns-then-is_none
 returns-then-is_none c =

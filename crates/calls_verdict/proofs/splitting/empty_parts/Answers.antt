@@ -11,5 +11,5 @@ loop-i-preserved c = record {
       (c.new.result ∷ []) in
       omega (arith, c.loop-i.invariant.count, e));
   each = subst (EachFrom (IsPart []) 0) (sym c.in_ok-push.ensures.items)
-      (empty_more 0 c.loop-i.parts.items c.new.result c.new.ensures.items c.loop-i.invariant.each);
+      (empty_more 0 c.loop-i.parts.items c.new.result c.new.ensures c.loop-i.invariant.each);
 }

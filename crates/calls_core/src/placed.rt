@@ -1,0 +1,76 @@
+//! The calls of one object in order, each with its point.
+ghost use Rattle.std.specs.Prelude.{◌≡◌, ◌+◌, ◌++◌, ◌∷◌, [], max, IfOk, OnOk};
+ghost use Rattle.calls_core.specs.Points.{placed_one};
+
+use crate::{Call, Placed};
+use std::alloc::{AllocError, Global};
+use std::marker::Model;
+
+/// The calls of one object in an order. Each has its point: right after the latest invocation among
+/// the calls that stand up to it.
+#[derive(Debug, Drop)]
+pub struct PlacedCalls {
+    list: Vec<Placed>,
+    latest: usize,
+}
+
+impl Model for PlacedCalls {
+    ghost use Rattle.std.specs.Prelude.{List};
+    ghost use Rattle.calls_core.specs.declared.history.Call.{Call};
+    ghost use Rattle.calls_core.specs.Points.{calls_of, ArePlacedOne};
+
+    ghost Value = { List Call };
+
+    ghost view = { λ p. calls_of p.list.items };
+
+    ghost invariant = { λ p. ArePlacedOne p.latest p.list.items };
+}
+
+/// Returns the point of a call that follows one whose point is `latest`.
+fn next_point(latest: usize, call: &Call) -> Result<usize, AllocError>
+    ensures { IfOk result (λ point. point ≡ max latest (call.now.first + 1)) }
+{
+    // (the position of a response is greater, so there is one)
+    match call.first.checked_add(1) {
+        Some(next) => Ok(latest.max(next)),
+        None => Err(AllocError),
+    }
+}
+
+impl PlacedCalls {
+    /// Returns no calls.
+    pub fn new(alloc: Global) -> PlacedCalls
+        ensures { result ≡ [] }
+    {
+        PlacedCalls {
+            list: Vec::new(alloc),
+            latest: 0,
+        }
+    }
+
+    /// Adds a call at the end.
+    pub fn push(&mut self, call: Call) -> Result<(), AllocError>
+        ensures { OnOk result (self.new ≡ self.old ++ call ∷ []) }
+    {
+        let point = next_point(self.latest, &call)?;
+        self.list.push(Placed { point, call })?;
+        self.latest = point;
+        Ok(())
+    }
+
+    /// Adds the calls with their points at the end of others.
+    pub fn append_to(self, list: &mut Vec<Placed>) -> Result<(), AllocError>
+        ensures { OnOk result (list.new.items ≡ list.old.items ++ placed_one 0 self) }
+    {
+        let PlacedCalls {
+            list: mut own,
+            latest: _,
+        } = self;
+        if list.is_empty() {
+            *list = own;
+            return Ok(());
+        }
+        list.append(&mut own)?;
+        Ok(())
+    }
+}
