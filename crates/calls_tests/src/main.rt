@@ -1,5 +1,5 @@
 //! Reads histories of calls from standard input, and writes what the libraries find of each, for
-//! tests: `calls_driver decide` and `calls_driver monitor`. A history is the lines of its objects,
+//! tests: `calls_tests decide` and `calls_tests monitor`. A history is the lines of its objects,
 //! a line `run`, its events, and a line `end`.
 #![tactic(auto)]
 
