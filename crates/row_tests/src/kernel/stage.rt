@@ -7,7 +7,7 @@ use crate::kernel::heads::{answer_heading, tell_heading};
 use crate::kernel::orders::answer_order;
 use crate::kernel::programs::Programs;
 use crate::kernel::runs::{answer_look, are_silent, is_same, tell_run};
-use crate::kernel::works::Works;
+use crate::kernel::works::{Begun, answer_works};
 use crate::kernel::worlds::{answer_event, answer_state, answer_world, tell_world};
 use crate::kernel::writing::{tell_reply, tell_worker};
 use crate::line::tell;
@@ -88,7 +88,7 @@ impl Stage {
 pub struct Parts {
     pub stage: Stage,
     rest: Option<Run>,
-    works: Works,
+    works: Vec<Begun>,
     judged: Vec<Placed>,
     pub programs: Programs,
 }
@@ -99,7 +99,7 @@ impl Parts {
         Parts {
             stage: Stage::Heading,
             rest: None,
-            works: Works::new(alloc),
+            works: Vec::new(alloc),
             judged: Vec::new(alloc),
             programs: Programs::new(alloc),
         }
@@ -138,7 +138,7 @@ impl Parts {
         match &mut self.stage {
             Stage::Heading => Err(Fault::Line),
             Stage::World(world) => answer_world(world, ask),
-            Stage::Run(run) => self.works.answer(run, ask),
+            Stage::Run(run) => answer_works(&mut self.works, run, ask),
             Stage::Board(board) => answer_board(board, ask),
         }
     }

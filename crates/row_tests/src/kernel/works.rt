@@ -11,7 +11,6 @@ use ec_core::{Procedure, Run, StepFault, VALUE_MAX};
 use ec_count::WorkerId;
 use ec_database::{Snapshot, SnapshotEnd, WriteAll};
 use ec_semaphore::{Down, DownBoth, Up};
-use std::alloc::Global;
 
 /// A procedure.
 #[derive(Drop)]
@@ -27,15 +26,9 @@ enum Work {
 
 /// A procedure with its worker.
 #[derive(Drop)]
-struct Begun {
+pub struct Begun {
     worker: WorkerId,
     work: Work,
-}
-
-/// The procedures that were begun.
-#[derive(Drop)]
-pub struct Works {
-    list: Vec<Begun>,
 }
 
 /// Makes so many steps of a procedure, or fewer where it ends, and returns how far it came.
@@ -159,51 +152,39 @@ fn tell_end(snapshot: &Snapshot, ask: &mut Ask<'_>) -> Result<(), Fault> {
     tell("", ask.out)
 }
 
-impl Works {
-    /// Has no procedure yet.
-    pub fn new(alloc: Global) -> Self {
-        Works {
-            list: Vec::new(alloc),
+/// Has the procedure at a place go on.
+fn go_on_at(
+    works: &mut Vec<Begun>,
+    run: &mut Run,
+    ask: &mut Ask<'_>,
+) -> Result<&'static str, Fault> {
+    let (place, steps) = (ask.size()?, ask.size()?);
+    let begun = works.get_mut(place).ok_or(Fault::Line)?;
+    begun.go_on(run, steps)
+}
+
+/// Writes how the snapshot at a place has ended.
+fn ended(works: &[Begun], ask: &mut Ask<'_>) -> Result<(), Fault> {
+    let place = ask.size()?;
+    let begun = works.get(place).ok_or(Fault::Line)?;
+    match &begun.work {
+        Work::Snapshot(snapshot) => tell_end(snapshot, ask),
+        _ => Err(Fault::Line),
+    }
+}
+
+/// Answers a line about procedures, if it is one. `begin` adds one, `go-on` makes steps of the one
+/// at a place, `turn` does so and says nothing, and `make` goes through one in at most nine steps.
+pub fn answer_works(works: &mut Vec<Begun>, run: &mut Run, ask: &mut Ask<'_>) -> Result<(), Fault> {
+    match ask.verb {
+        "begin" => Ok(works.push(begun_of(ask)?)?),
+        "make" => tell(begun_of(ask)?.go_on(run, 9)?, ask.out),
+        "go-on" => tell(go_on_at(works, run, ask)?, ask.out),
+        "turn" => {
+            let _progress = go_on_at(works, run, ask)?;
+            Ok(())
         }
-    }
-
-    /// Has the procedure at a place go on.
-    fn go_on(&mut self, run: &mut Run, ask: &mut Ask<'_>) -> Result<&'static str, Fault> {
-        let (place, steps) = (ask.size()?, ask.size()?);
-        let begun = self.list.get_mut(place).ok_or(Fault::Line)?;
-        begun.go_on(run, steps)
-    }
-
-    /// Adds a procedure.
-    fn begin(&mut self, ask: &mut Ask<'_>) -> Result<(), Fault> {
-        self.list.push(begun_of(ask)?)?;
-        Ok(())
-    }
-
-    /// Writes how the snapshot at a place has ended.
-    fn ended(&self, ask: &mut Ask<'_>) -> Result<(), Fault> {
-        let place = ask.size()?;
-        let begun = self.list.get(place).ok_or(Fault::Line)?;
-        match &begun.work {
-            Work::Snapshot(snapshot) => tell_end(snapshot, ask),
-            _ => Err(Fault::Line),
-        }
-    }
-
-    /// Answers a line about procedures, if it is one. `begin` adds one, `go-on` makes steps of the
-    /// one at a place, `turn` does so and says nothing, and `make` goes through one in at most nine
-    /// steps.
-    pub fn answer(&mut self, run: &mut Run, ask: &mut Ask<'_>) -> Result<(), Fault> {
-        match ask.verb {
-            "begin" => self.begin(ask),
-            "make" => tell(begun_of(ask)?.go_on(run, 9)?, ask.out),
-            "go-on" => tell(self.go_on(run, ask)?, ask.out),
-            "turn" => {
-                let _progress = self.go_on(run, ask)?;
-                Ok(())
-            }
-            "ended" => self.ended(ask),
-            _ => Err(Fault::Line),
-        }
+        "ended" => ended(works.as_slice(), ask),
+        _ => Err(Fault::Line),
     }
 }

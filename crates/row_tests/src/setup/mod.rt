@@ -14,23 +14,24 @@ use crate::line::tell;
 use crate::output::Output;
 use crate::setup::line::Line;
 use crate::setup::naming::{Naming, cut};
-use crate::setup::numbers::Numbers;
+use crate::setup::numbers::{answer_numbers, tell_numbers};
 use crate::setup::setups::{answer_setup, declare, declares};
 use crate::setup::shapes::Shapes;
 use crate::setup::texts::Texts;
-use crate::setup::values::Values;
-use ec_count::{Limit, Setup};
+use crate::setup::values::answer_values;
+use ec_count::{Count, Limit, Setup};
+use ec_numbers::NumberList;
 use std::alloc::Global;
 
-/// Declarations, a copy of them, the last groups, names, words, values, numbers and texts.
+/// Declarations, a copy of them, the last groups, names, words, a count, numbers and texts.
 #[derive(Drop)]
 pub struct Table {
     setup: Setup,
     kept: Setup,
     shapes: Shapes,
     naming: Naming,
-    values: Values,
-    numbers: Numbers,
+    count: Count,
+    numbers: NumberList,
     texts: Texts,
 }
 
@@ -64,8 +65,8 @@ impl Table {
         let is_answered = declare(&mut self.setup, line)?
             || self.shapes.declare(&mut self.setup, line)?
             || self.answer_declarations(line)?
-            || self.values.answer(line)?
-            || self.numbers.answer(line)?
+            || answer_values(&mut self.count, line)?
+            || answer_numbers(&mut self.numbers, line)?
             || self.texts.answer(line)?
             || self.naming.answer(line)?;
         if is_answered {
@@ -99,7 +100,7 @@ impl Driver for Table {
 
     fn write_all(&self, out: &mut Output) -> Result<(), Fault> {
         self.naming.tell(out)?;
-        self.numbers.tell(out)
+        tell_numbers(&self.numbers, out)
     }
 }
 
@@ -112,8 +113,8 @@ impl Table {
             kept: Setup::new(limit),
             shapes: Shapes::default(),
             naming,
-            values: Values::default(),
-            numbers: Numbers::new(alloc),
+            count: Count::zero(limit),
+            numbers: NumberList::new(alloc),
             texts: Texts::new(alloc),
         })
     }

@@ -3,6 +3,7 @@ use crate::fault::Fault;
 use crate::line::{tell, tell_if};
 use crate::output::Output;
 use crate::setup::line::{Line, cell, event, worker};
+use crate::setup::texts::long;
 use crate::writing::{write_found, write_name, write_word};
 use ec_count::{NameFault, Names, Target, Vocabulary, WORD_MAX};
 use std::alloc::Global;
@@ -12,14 +13,6 @@ use std::alloc::Global;
 pub struct Naming {
     names: Names,
     words: Vocabulary,
-}
-
-/// As many bytes as the longest word that is looked for.
-static LONG: [u8; 300] = [b'x'; 300];
-
-/// So many bytes of the longest word.
-fn long(many: usize) -> Result<&'static [u8], Fault> {
-    LONG.as_slice().get(..many).ok_or(Fault::Line)
 }
 
 /// Reads what a name or a word stands for.

@@ -17,6 +17,11 @@ pub struct Texts {
 /// As many bytes as wait before a writer.
 static WHOLE: [u8; 8192] = [b'x'; 8192];
 
+/// Returns so many of these bytes.
+pub fn long(many: usize) -> Result<&'static [u8], Fault> {
+    WHOLE.as_slice().get(..many).ok_or(Fault::Line)
+}
+
 /// Writes a piece in angle brackets, or `-`.
 fn put_piece(piece: Option<&[u8]>, out: &mut Output) -> Result<(), Fault> {
     let Some(piece) = piece else {
@@ -94,7 +99,7 @@ impl Texts {
         let mut shorter = ShortText::new();
         let _fits = shorter.take_in(b"!");
         let mut out = Out::new(line.out);
-        out.put(WHOLE.as_slice().get(..before).ok_or(Fault::Line)?);
+        out.put(long(before)?);
         out.put_short(&self.short);
         out.put_short(&shorter);
         end(out)
@@ -102,9 +107,9 @@ impl Texts {
 
     /// Writes so many bytes, a text, and with it the short text.
     fn put_with_short(&self, text: &str, line: &mut Line<'_>) -> Result<(), Fault> {
-        let before = line.size()?;
+        let before = long(line.size()?)?;
         let mut out = Out::new(line.out);
-        out.put(WHOLE.as_slice().get(..before).ok_or(Fault::Line)?);
+        out.put(before);
         out.put_with_short(text.as_bytes(), &self.short);
         end(out)
     }

@@ -4,12 +4,6 @@ use crate::line::tell_if;
 use crate::setup::line::Line;
 use ec_count::{CellId, Count, EventId, Limit, SeqId, WorkerId};
 
-/// A count.
-#[derive(Clone, Copy, Default)]
-pub struct Values {
-    count: Option<Count>,
-}
-
 /// Returns the number of an id, where a number has one.
 fn id_of(sort: &str, n: usize) -> Option<usize> {
     Some(match sort {
@@ -20,33 +14,29 @@ fn id_of(sort: &str, n: usize) -> Option<usize> {
     })
 }
 
-impl Values {
-    /// Writes the value of the count, and whether that is the limit.
-    fn tell(&self, line: &mut Line<'_>) -> Result<(), Fault> {
-        let count = self.count.as_ref().ok_or(Fault::Line)?;
-        writeln!(line.out, "{}, full: {}", count.value(), count.is_full())
-    }
+/// Writes the value of a count, and whether that is the limit.
+fn tell_count(count: &Count, line: &mut Line<'_>) -> Result<(), Fault> {
+    writeln!(line.out, "{}, full: {}", count.value(), count.is_full())
+}
 
-    /// Advances the count.
-    fn advance(&mut self, line: &mut Line<'_>) -> Result<(), Fault> {
-        let count = self.count.as_mut().ok_or(Fault::Line)?;
-        if let Err(fault) = count.advance() {
-            write!(line.out, "{fault}: ")?;
-        }
-        self.tell(line)
+/// Advances a count.
+fn advance(count: &mut Count, line: &mut Line<'_>) -> Result<(), Fault> {
+    if let Err(fault) = count.advance() {
+        write!(line.out, "{fault}: ")?;
     }
+    tell_count(count, line)
+}
 
-    /// Answers a line about these, if it is one.
-    pub fn answer(&mut self, line: &mut Line<'_>) -> Result<bool, Fault> {
-        match line.verb {
-            "id" => tell_if(id_of(line.word(), line.size()?), line.out)?,
-            "count" => {
-                self.count = Limit::new(line.number()?).map(Count::zero);
-                self.tell(line)?;
-            }
-            "advance" => self.advance(line)?,
-            _ => return Ok(false),
+/// Answers a line about a count or an id, if it is one.
+pub fn answer_values(count: &mut Count, line: &mut Line<'_>) -> Result<bool, Fault> {
+    match line.verb {
+        "id" => tell_if(id_of(line.word(), line.size()?), line.out)?,
+        "count" => {
+            *count = Count::zero(Limit::new(line.number()?).ok_or(Fault::Line)?);
+            tell_count(count, line)?;
         }
-        Ok(true)
+        "advance" => advance(count, line)?,
+        _ => return Ok(false),
     }
+    Ok(true)
 }
