@@ -5,7 +5,11 @@ mod explaining;
 mod form;
 mod good;
 mod histories;
+mod reasons;
+mod round;
 mod seeking;
+mod telling;
+mod told;
 
 use crate::explaining::explain;
 use ec_text::Out;
