@@ -28,4 +28,4 @@ pub use rights::{Asked, asked_in, holders};
 pub use round::{Look, event_or, looks_with};
 pub use script::script_finding;
 pub use site::Site;
-pub use telling::put_finding;
+pub use telling::{put_finding, put_line_seen};

@@ -138,7 +138,7 @@ fn put_see_front<W: Write>(out: &mut Out<'_, W>, number: u64)
 
 /// Puts another line that shows why, with its number.
 #[tactic(auto, unfolding(crate::specs::Findings::line_seen))]
-fn put_line_seen<W: Write>(out: &mut Out<'_, W>, number: u64, place: usize, line: &[u8])
+pub fn put_line_seen<W: Write>(out: &mut Out<'_, W>, number: u64, place: usize, line: &[u8])
     ensures { Puts out.old out.new (line_seen number place line.now) }
 {
     put_see_front(out, number);

@@ -1,8 +1,8 @@
 pub mod Forms
 pub mod Seeking
-pub mod Histories
 pub mod Good
 pub mod Reasons
 pub mod Said
+pub mod Judged
 pub mod Tells
 pub mod Explains

@@ -1,6 +1,7 @@
 -- What is known of the entry of a faulty line, by the history before it: who has the right that it
 -- lacks, and what the round has found whose reply is wrong.
-use Rattle.std.specs.Prelude.{ℕ, ◌-◌, ◌==◌, nat_lt, List, [], ◌∷◌, ◌++◌, length, reverse, codes, decimal}
+use Rattle.std.specs.Prelude.{ℕ, ◌-◌, ◌==◌, nat_lt, List, [], ◌∷◌, ◌++◌, length, reverse, codes}
+use Rattle.std.specs.Prelude.{decimal}
 use Rattle.std.specs.Prelude.{Bool, true, false, Option, Some, None, Result, Ok, Err}
 use Rattle.std.specs.Prelude.{if◌then◌else◌}
 use Rattle.std.specs.Option.{option_map_or}
@@ -122,10 +123,12 @@ ends_of r [] = []
 ends_of r (l ∷ ls) = if length ls == 0 then [] else ends_text r l
 
 unfoldable pub yet_text : Round → List ℕ
-yet_text r = codes "The reply is pending until all " ++ decimal r.width ++ codes " components are read.\n"
+yet_text r = codes "The reply is pending until all " ++ decimal r.width
+    ++ codes " components are read.\n"
 
 abbrev pub short_text : Reply → List ℕ
-short_text right = if is_pending right then codes "The sum is below the threshold of the await.\n" else []
+short_text right = if is_pending right then codes "The sum is below the threshold of the await.\n"
+    else []
 
 -- why the right reply is pending, if it is
 abbrev pub rest_text : Round → List ℕ
@@ -150,7 +153,8 @@ story n text = read_back (outcome TRACE_MAX (ended_before n text))
 
 -- who has the right after a trace that this asks for
 abbrev pub holders_at : Recounted → Asked → List ℕ
-holders_at t a = holders_text t.heading.words a.act (holders t.heading.setup (reverse t.entries) a.act)
+holders_at t a = holders_text t.heading.words a.act
+    (holders t.heading.setup (reverse t.entries) a.act)
 
 -- the eventcount of the call that an act goes on with or begins after a trace
 abbrev pub event_at : Recounted → Asked → ℕ
@@ -184,15 +188,18 @@ abbrev pub holders_before : List ℕ → ℕ → Recounted → List ℕ
 holders_before text n t = option_map_or (holders_at t) (asked_in t.heading (line_at n text)) []
 
 abbrev pub round_before : List ℕ → ℕ → Reply → Recounted → List ℕ
-round_before text n right t = option_map_or (round_for n right t) (asked_in t.heading (line_at n text)) []
+round_before text n right t =
+    option_map_or (round_for n right t) (asked_in t.heading (line_at n text)) []
 
 abbrev pub refused_reason : List ℕ → ℕ → Refusal → List ℕ
 refused_reason text n refusals.NoRight = option_map_or (holders_before text n) (story n text) []
-refused_reason text n refusals.AlreadySignals = option_map_or (holders_before text n) (story n text) []
+refused_reason text n refusals.AlreadySignals =
+    option_map_or (holders_before text n) (story n text) []
 refused_reason text n _ = []
 
 -- what is said of a text that has this fault
 abbrev pub reason_text : List ℕ → TraceFault → List ℕ
 reason_text text (faults.Refused n refusal) = refused_reason text n refusal
-reason_text text (faults.WrongReply n right) = option_map_or (round_before text n right) (story n text) []
+reason_text text (faults.WrongReply n right) =
+    option_map_or (round_before text n right) (story n text) []
 reason_text text _ = []

@@ -3,10 +3,10 @@ use Rattle.std.specs.Prelude.{◌≡◌, ℕ, List}
 use Rattle.evc_engine.specs.declared.status.Status.{Status}
 use Rattle.ec_explain.specs.Findings.{finding_text}
 use Rattle.ec_script.specs.Outcome.{shown_plan}
-use Rattle.evc_explain.specs.Good.{good_calls, good_script, good_text}
+use Rattle.evc_explain.specs.Good.{good_script, good_text, ordered_text}
 use Rattle.evc_explain.specs.Reasons.{holders_text, round_text, shown}
 use Rattle.evc_explain.specs.declared.told.Said.{Said}
-use Rattle.evc_explain.specs.declared.told.Said.TheVariants.{Found, GoodTrace, GoodScript, GoodCalls}
+use Rattle.evc_explain.specs.declared.told.Said.TheVariants.{Found, GoodTrace, GoodScript, Ordered}
 use Rattle.evc_explain.specs.declared.told.Said.TheVariants.{Holders, Round}
 use Rattle.evc_explain.specs.declared.told.Told.{Told}
 
@@ -14,7 +14,7 @@ abbrev pub said_text : Said → List ℕ
 said_text (Found f more text) = finding_text f.now more.now text.now
 said_text (GoodTrace t) = good_text t.now
 said_text (GoodScript p) = good_script (shown_plan p.now)
-said_text GoodCalls = good_calls
+said_text (Ordered r) = ordered_text r.now
 said_text (Holders h act ws) = holders_text h.now.words act ws.now
 said_text (Round r) = round_text (shown r.now)
 

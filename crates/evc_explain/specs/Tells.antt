@@ -1,5 +1,5 @@
 -- What is said of a text, and how the program ends.
-use Rattle.std.specs.Prelude.{◌≡◌, ◌⊎◌, ℕ, ◌<◌, List, [], length, Some, None, Ok, Err}
+use Rattle.std.specs.Prelude.{◌≡◌, ◌⊎◌, ℕ, ◌<◌, List, [], length, Ok, Err}
 use Rattle.ec_trace.specs.Recounted.{Recounted}
 use Rattle.ec_trace.specs.declared.fault.TraceFault.{TraceFault}
 use Rattle.ec_trace.specs.declared.fault.TraceFault.TheVariants as faults
@@ -8,18 +8,17 @@ use Rattle.evc_engine.specs.declared.status.Status.TheVariants.{Done, Refused}
 use Rattle.evc_engine.specs.Checks.{ReadsAs, RefusedFor}
 use Rattle.ec_explain.specs.declared.finding.Finding.{Finding}
 use Rattle.ec_explain.specs.Findings.{finding_text, of_whole}
-use Rattle.ec_explain.specs.Kinds.{script_finding, calls_finding}
+use Rattle.ec_explain.specs.Kinds.{script_finding}
 use Rattle.ec_explain.specs.declared.cause.Cause.TheVariants as causes
-use Rattle.calls_text.specs.declared.fault.Kind as calls
 use Rattle.ec_script.specs.Outcome.{outcome as script_outcome}
 use Rattle.ec_script.specs.Scripted.{Planned}
 use Rattle.ec_script.specs.declared.fault.Kind.{Kind}
 use Rattle.evc_explain.specs.Forms.{form_of}
-use Rattle.evc_explain.specs.Histories.{CallsFault}
+use Rattle.evc_explain.specs.Judged.{TellsHistories}
 use Rattle.evc_explain.specs.declared.form.Form.{Form}
 use Rattle.evc_explain.specs.declared.form.Form.TheVariants as forms
 use Rattle.evc_explain.specs.declared.told.Told.{Told}
-use Rattle.evc_explain.specs.Good.{good_text, good_script, good_calls}
+use Rattle.evc_explain.specs.Good.{good_text, good_script}
 use Rattle.evc_explain.specs.Reasons.{reason_text}
 use Rattle.evc_explain.specs.Said.{IsTold}
 use Rattle.evc_explain.specs.Seeking.{Finds}
@@ -34,7 +33,8 @@ RefusedOr text fault = RefusedFor text fault
 -- its line by the history before it
 abbrev pub TellsFault : List ℕ → TraceFault → Told → Type 0
 TellsFault text fault t =
-    (f : Finding) × Finds text fault f × IsTold (finding_text f (reason_text text fault) text) Refused t
+    (f : Finding) × Finds text fault f
+        × IsTold (finding_text f (reason_text text fault) text) Refused t
 
 -- of a text that is meant to be a trace: it is one, and that is said; or it is none, and its first
 -- fault is explained
@@ -51,14 +51,12 @@ TellsScript text t =
     ⊎ ((n : ℕ) × (kind : Kind) × (script_outcome text ≡ Err (n, kind))
     × IsTold (finding_text (script_finding kind n text) [] text) Refused t)
 
--- of histories of calls: the text is too large; or it is well formed, and that is said; or what is
--- found of its first faulty line and the least kind of its faults
+-- of histories of calls: the text is too large; or each is linearizable, and that is said; or the
+-- first that has a fault, or no linearization, or is not decided, is explained
 abbrev pub TellsCalls : List ℕ → Told → Type 0
 TellsCalls text t =
     ((TRACE_MAX < length text) × IsTold (finding_text (of_whole causes.TooLarge) [] text) Refused t)
-    ⊎ ((CallsFault text None × IsTold good_calls Done t)
-    ⊎ ((n : ℕ) × (kind : calls.Kind) × CallsFault text (Some (n, kind))
-    × IsTold (finding_text (calls_finding kind n text) [] text) Refused t))
+    ⊎ TellsHistories text t
 
 abbrev pub TellsBy : Form → List ℕ → Told → Type 0
 TellsBy forms.Trace = TellsTrace

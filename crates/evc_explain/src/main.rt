@@ -4,7 +4,7 @@
 mod explaining;
 mod form;
 mod good;
-mod histories;
+mod judging;
 mod reasons;
 mod round;
 mod seeking;

@@ -8,7 +8,8 @@ ghost use Rattle.ec_text.specs.Puts.{Puts};
 ghost use Rattle.evc_explain.specs.Tells.{RefusedOr};
 ghost use Rattle.evc_engine.specs.Checks.{ReadsAs};
 ghost use Rattle.evc_explain.specs.Reasons.{right_words, worker_after, names_text, may_words};
-ghost use Rattle.evc_explain.specs.Reasons.{holders_text, ended_before, story, holders_at, event_at};
+ghost use Rattle.evc_explain.specs.Reasons.{holders_text, ended_before, story, holders_at};
+ghost use Rattle.evc_explain.specs.Reasons.{event_at};
 ghost use Rattle.evc_explain.specs.Reasons.{round_at, is_reading, round_for, holders_before};
 ghost use Rattle.evc_explain.specs.Reasons.{round_before, refused_reason, reason_text, shown};
 

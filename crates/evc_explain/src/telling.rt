@@ -4,11 +4,11 @@ ghost use Rattle.ec_trace.specs.declared.read.TheConstants.{TRACE_MAX};
 ghost use Rattle.evc_explain.specs.Tells.{Tells, TellsCalls, TellsFault, TellsScript, TellsTrace};
 
 use crate::form::{Form, form_of};
-use crate::histories::calls_fault;
+use crate::judging::tell_histories;
 use crate::reasons::{read_text, reason_of};
 use crate::seeking::finding_of;
 use crate::told::{Said, Told, tell_finding, tell_good};
-use ec_explain::{Cause, calls_finding, of_whole, script_finding};
+use ec_explain::{Cause, of_whole, script_finding};
 use ec_script::{ScriptFault, parse};
 use ec_trace::{TRACE_MAX, TraceFault};
 use std::alloc::{AllocError, Global};
@@ -54,13 +54,7 @@ fn tell_calls(alloc: Global, text: &[u8]) -> Result<Told, AllocError>
     if text.len() > TRACE_MAX {
         return tell_finding(alloc, &of_whole(Cause::TooLarge), b"", text);
     }
-    match calls_fault(alloc, text)? {
-        None => tell_good(alloc, &Said::GoodCalls),
-        Some((line, kind)) => {
-            let finding = calls_finding(kind, line, text);
-            tell_finding(alloc, &finding, b"", text)
-        }
-    }
+    tell_histories(alloc, text)
 }
 
 /// Returns what is said of a text, by how its first line begins.

@@ -5,9 +5,10 @@ ghost use Rattle.evc_engine.specs.declared.status.Status.TheVariants.{Done, Refu
 ghost use Rattle.ec_explain.specs.Findings.{finding_text};
 ghost use Rattle.evc_explain.specs.Said.{IsTold, said_text};
 
-use crate::good::{put_good, put_good_calls, put_good_script};
+use crate::good::{put_good, put_good_script, put_ordered};
 use crate::reasons::put_holders;
 use crate::round::Round;
+use calls_text::Recording;
 use ec_core::Act;
 use ec_count::WorkerId;
 use ec_explain::{Finding, put_finding};
@@ -28,8 +29,8 @@ pub(crate) enum Said<'a> {
     GoodTrace(&'a Traced),
     /// That a script is good.
     GoodScript(&'a Plan),
-    /// That histories of calls are well formed.
-    GoodCalls,
+    /// That a history of calls is linearizable.
+    Ordered(&'a Recording),
     /// Which workers have the right to an act.
     Holders(&'a Heading, Act, &'a [WorkerId]),
     /// What a round has found.
@@ -51,7 +52,7 @@ fn put_said<W: Write>(out: &mut Out<'_, W>, said: &Said<'_>)
         Said::Found(finding, more, text) => put_finding(out, finding, more, text),
         Said::GoodTrace(traced) => put_good(out, traced),
         Said::GoodScript(plan) => put_good_script(out, plan),
-        Said::GoodCalls => put_good_calls(out),
+        Said::Ordered(recording) => put_ordered(out, recording),
         Said::Holders(heading, act, workers) => put_holders(out, heading, act, workers),
         Said::Round(round) => round.put(out),
     }
