@@ -2,6 +2,7 @@ pub mod Forms
 pub mod Seeking
 pub mod Good
 pub mod Reasons
+pub mod Played
 pub mod Said
 pub mod Judged
 pub mod Tells

@@ -3,7 +3,8 @@ ghost use Rattle.std.specs.Prelude.{◌≡◌, ◌++◌, decimal, length};
 ghost use Rattle.ec_text.specs.Puts.{Puts};
 ghost use Rattle.evc_explain.specs.Good.{begins_call, calls_in, calls_of, calls_words};
 ghost use Rattle.evc_explain.specs.Good.{entries_words, good_script, good_text, is_invocation};
-ghost use Rattle.evc_explain.specs.Good.{ordered_calls, ordered_text, script_turns, script_workers, workers_words};
+ghost use Rattle.evc_explain.specs.Good.{ordered_calls, ordered_text, script_turns, script_workers};
+ghost use Rattle.evc_explain.specs.Good.{workers_words};
 ghost use Rattle.ec_script.specs.Outcome.{shown_plan};
 
 use calls_core::{Action, Event};

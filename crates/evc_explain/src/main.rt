@@ -5,6 +5,7 @@ mod explaining;
 mod form;
 mod good;
 mod judging;
+mod playing;
 mod reasons;
 mod round;
 mod seeking;

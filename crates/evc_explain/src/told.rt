@@ -6,6 +6,7 @@ ghost use Rattle.ec_explain.specs.Findings.{finding_text};
 ghost use Rattle.evc_explain.specs.Said.{IsTold, said_text};
 
 use crate::good::{put_good, put_good_script, put_ordered};
+use crate::playing::put_turn;
 use crate::reasons::put_holders;
 use crate::round::Round;
 use calls_text::Recording;
@@ -27,8 +28,10 @@ pub(crate) enum Said<'a> {
     Found(&'a Finding, &'a [u8], &'a [u8]),
     /// That a trace is good.
     GoodTrace(&'a Traced),
-    /// That a script is good.
-    GoodScript(&'a Plan),
+    /// That a script is good, and what more is known of it.
+    GoodScript(&'a Plan, &'a [u8]),
+    /// Which turn of a schedule is of a worker that has ended.
+    Turn(&'a Heading, usize, WorkerId),
     /// That a history of calls is linearizable.
     Ordered(&'a Recording),
     /// Which workers have the right to an act.
@@ -51,7 +54,11 @@ fn put_said<W: Write>(out: &mut Out<'_, W>, said: &Said<'_>)
     match said {
         Said::Found(finding, more, text) => put_finding(out, finding, more, text),
         Said::GoodTrace(traced) => put_good(out, traced),
-        Said::GoodScript(plan) => put_good_script(out, plan),
+        Said::GoodScript(plan, more) => {
+            put_good_script(out, plan);
+            out.put(more);
+        }
+        Said::Turn(heading, place, worker) => put_turn(out, heading, *place, *worker),
         Said::Ordered(recording) => put_ordered(out, recording),
         Said::Holders(heading, act, workers) => put_holders(out, heading, act, workers),
         Said::Round(round) => round.put(out),
