@@ -33,7 +33,7 @@ abbrev pub asked_by : Option Act → ℕ → Option Asked
 asked_by act w = option_map (λ a. record { worker = w; act = a }) act
 
 -- who asks in a line, and for what
-abbrev pub asked_in : Headed → List ℕ → Option Asked
+unfoldable pub asked_in : Headed → List ℕ → Option Asked
 asked_in h line =
     option_and_then (asked_by (act_of h.words (word_at 1 line) (word_at 2 line)))
     (worker_in h.words (word_at 0 line))

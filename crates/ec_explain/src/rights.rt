@@ -1,7 +1,7 @@
 //! Who asks for what in a line, and who has the right to it.
 ghost use Rattle.std.specs.Prelude.{◌≡◌, ◌<◌, ◌++◌, ◌∷◌, [], IfOk, OnOk, reverse, if◌then◌else◌};
 ghost use Rattle.ec_core.specs.Acceptance.{has_right};
-ghost use Rattle.ec_explain.specs.Rights.{act_of, asked_in, holders};
+ghost use Rattle.ec_explain.specs.Rights.{act_of, asked_by, asked_in, holders};
 
 use crate::words::{is_among, is_same, word_at};
 use ec_core::{Act, Run};
@@ -46,13 +46,28 @@ fn act_of(heading: &Heading, verb: &[u8], word: &[u8]) -> Option<Act>
     None
 }
 
+/// Returns who asks for an act, if there is one.
+fn asked_by(act: Option<Act>, worker: WorkerId) -> Option<Asked>
+    ensures { result ≡ asked_by act worker }
+{
+    match act {
+        Some(act) => Some(Asked { worker, act }),
+        None => None,
+    }
+}
+
 /// Returns who asks in a line, and for what.
 pub fn asked_in(heading: &Heading, line: &[u8]) -> Option<Asked>
     ensures { result ≡ asked_in heading.now line.now }
 {
-    let worker = heading.worker(word_at(0, line))?;
-    let act = act_of(heading, word_at(1, line), word_at(2, line))?;
-    Some(Asked { worker, act })
+    let first = word_at(0, line);
+    let verb = word_at(1, line);
+    let object = word_at(2, line);
+    let act = act_of(heading, verb, object);
+    match heading.worker(first) {
+        Some(worker) => asked_by(act, worker),
+        None => None,
+    }
 }
 
 /// Returns whether a worker has the right to an act at the end of a run.
