@@ -600,7 +600,11 @@ def antt_tokens(text, scope, own, place, segmap=None, members=None, locs=None, h
                     if r:
                         new = r.new
                         r.used += 1
-                if segmap and len(chain) == 2 and base in ("goal", "c", "l", "g"):
+                tr = TRAIT_RULES.get(t)
+                if tr and tr.crate in SEES[crate_of(place)] and len(chain) > 1 and base in ("g", "c", "l", "T", "H", "A", "P"):
+                    new = tr.new
+                    tr.used += 1
+                if new == t and segmap and len(chain) == 2 and base in ("goal", "c", "l", "g"):
                     new = seg_rename(t, segmap, place)
                 elif locs and len(chain) > 1 and t in locs and "inside" not in chain:
                     new = locs[t]
@@ -839,6 +843,16 @@ def rewrite_rt(f):
                     problem("a ghost use that was not read", f"{f}: {lead[:60]}")
             else:
                 fn = next((x for x in FNS[f] if x[0] <= i < x[1]), None)
+
+                def brackets(m):
+                    def one(m2):
+                        r, _ = rust_rule(f, m2.group())
+                        return r.new if r else m2.group()
+
+                    return re.sub(r"[A-Za-z_]\w*", one, m.group())
+
+                whole = part
+                part = re.sub(r"⟦[^⟧]*⟧", brackets, part)
                 own = {}
                 for w, (r, got) in list(cache.items()):
                     pass
@@ -854,7 +868,7 @@ def rewrite_rt(f):
                     if k not in sc.names and re.search(rf"(?<![\w.]){k}(?![\w])", part):
                         problem("a parameter that hides an import of that name", f"{f}: {k}")
                 new = antt_tokens(part, sc, own, f)
-                if new != part:
+                if new != whole:
                     edits.append((i, j, new))
             i = j
         elif z[i] == "k":
@@ -1219,6 +1233,9 @@ def rewrite_page(f, text):
     text = re.sub(r"\]\(([^)#\s]+)([^)]*\))", link, text)
     text = re.sub(r"(?<![\w/.])crates/[\w/]+\.(?:antt|rt)", plain, text)
     return re.sub(r"`[^`\n]+`", ticks, text)
+
+
+TRAIT_RULES = {k[2]: r for k, r in IT.items() if ITEMS.get(k[:2], {}).get(k[2]) == "trait"}
 
 
 # ---------------------------------------------------------------------------------------------------- collisions
