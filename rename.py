@@ -858,6 +858,10 @@ def rewrite_rt(f):
                     pass
                 for w in set(re.findall(r"[A-Za-z_]\w*", part)) - set(ghost.names):
                     r = clause_rule(c, mod, f, w)
+                    if not r and re.search(rf"(?<![\w.]){w}\.\w", part):
+                        got = lookup(c, mod, [w])
+                        if got and got[0] == "item" and ITEMS[got[1:3]].get(w) in ("enum", "struct", "type"):
+                            r = IT.get(got[1:])
                     if r:
                         own[w] = r
                 params = set(re.findall(r"\b(\w+):", t[fn[0] : i])) if fn else set()
