@@ -418,8 +418,8 @@ def new_path(segs):
     kind = segs[1]
     out.append(kind)
     rest = segs[2:]
-    if kind == "specs" and rest[:1] == ["declared"]:
-        out.append("declared")
+    if kind == "specs" and rest[:1] and rest[0] in ("declared", "contracts"):
+        out.append(rest[0])
         return out + src_path(crate, rest[1:])
     # a file of specs/ or proofs/: the longest module that there is
     for n in range(len(rest), 0, -1):
