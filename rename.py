@@ -16,6 +16,7 @@ A line of names56.list is one rename:
     field CRATE a.b.Struct OLD > NEW ; FILE-REGEX @ RECEIVER-REGEX ..
     def CRATE specs.A OLD > NEW           a definition of a file of specs/ or proofs/
     local FILE-REGEX OLD > NEW            a variable, in the files whose path fits, wherever the word stands by itself
+    word FILE-REGEX OLD > NEW             the same, and a field or a label of that name
     page OLD > NEW [; FILE-REGEX]         a name in backticks on the pages
 
 A name is found by what its file imports, never by its spelling alone. Of a function's proof files, the parts between
@@ -53,7 +54,7 @@ class Rule:
             self.crate, self.old = words[1], words[2]
         elif self.kind in ("item", "method", "variant", "field", "def", "member"):
             self.crate, self.where, self.old = words[1], words[2], words[3]
-        elif self.kind == "local":
+        elif self.kind in ("local", "word"):
             self.file, self.old = re.compile(words[1]), words[2]
         elif self.kind == "page":
             self.old = words[1]
@@ -301,6 +302,7 @@ MM = collections.defaultdict(list)  # spec record fields
 MO = {}
 CR = {}
 LO = []
+WO = []
 PA = []
 for r in RULES:
     if ONLY and not any(o in r.line for o in ONLY):
@@ -325,8 +327,10 @@ for r in RULES:
         MO[(r.crate, r.old)] = r
     elif r.kind == "crate":
         CR[r.old] = r
-    elif r.kind == "local":
+    elif r.kind in ("local", "word"):
         LO.append(r)
+        if r.kind == "word":
+            WO.append(r)
     elif r.kind == "page":
         PA.append(r)
 
@@ -608,6 +612,12 @@ def antt_tokens(text, scope, own, place, segmap=None, members=None, locs=None, h
                     new = seg_rename(t, segmap, place)
                 elif locs and len(chain) > 1 and t in locs and "inside" not in chain:
                     new = locs[t]
+                if new == t and not (len(chain) == 2 and base in ("goal", "c", "l", "g")):
+                    for r in WO:
+                        clause = {"ensures", "requires"} & set(chain)
+                        if r.old == t and r.file.search(place) and (not clause or r.file.search(f"crates/{crate_of(place)}/src/x.rt")):
+                            new = r.new
+                            r.used += 1
                 if new == t and t in MM:
                     for r in MM[t]:
                         if any(f.search(place) and (not p or p.search(".".join(chain[:-1]))) for f, p in r.sites):
@@ -762,6 +772,11 @@ def rewrite_rt(f):
                 new = method_site(f, c, t, i, w)
             elif not call and w in FI:
                 new = field_site(f, t, i, w)
+            if not call and new is None:
+                for lr in WO:
+                    if lr.old == w and lr.file.search(f):
+                        new = lr.new
+                        lr.used += 1
         elif t[i - 2 : i] == "::":
             path = path_before(t, i)
             if path:
@@ -818,6 +833,16 @@ def rewrite_rt(f):
                         if lr.old == w and lr.file.search(f):
                             new = lr.new
                             lr.used += 1
+        if w == "proofs" and t[i - 2 : i] == "::":
+            whole = re.match(r"proofs((?:::\w+)+)", t[i:])
+            head = re.findall(r"\w+", t[max(0, i - 40) : i])[-1]
+            segs = whole.group(1).split("::")[1:]
+            owner = c if head == "crate" else head
+            names = new_path([owner, "proofs", *segs[:-1]])[2:]
+            r = DE.get((f"{owner}.proofs." + ".".join(segs[:-1]), segs[-1]))
+            text = "".join("::" + s for s in [*names, r.new if r else segs[-1]])
+            if text != whole.group(1):
+                edits.append((i + 6, i + whole.end(), text))
         fn = next((x for x in FNS[f] if x[0] <= i < x[1]), None)
         if new and new != w:
             edits.append((i, m.end(), new))
