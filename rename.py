@@ -1198,6 +1198,10 @@ def rust_fragment(src, text):
                 for r in FI[w]:
                     if any(a.search(src) and (not b or b.search(before[:-1])) for a, b in r.sites):
                         return r.new
+            if not call:
+                for r in WO:
+                    if r.old == w and r.file.search(src):
+                        return r.new
             return w
         if before.endswith("::"):
             path = path_before(text, i)
