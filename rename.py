@@ -141,6 +141,7 @@ def zones(text):
         for k in range(m.end(), j - 1):
             if z[k] != "k":
                 z[k] = "a"
+        z[m.end() - 1] = z[j - 1] = "b"
     return z
 
 
