@@ -58,7 +58,7 @@ fn has_name_bytes(rest: &[u8]) -> bool
         .all(|byte| byte.is_ascii_alphanumeric() || *byte == b'_')
 }
 
-/// Whether a word is a name: an ASCII letter and then at most 15 ASCII letters, digits or
+/// Returns whether a word is a name: an ASCII letter and then at most 15 ASCII letters, digits or
 /// underscores, and no reserved word.
 #[tactic(auto, unfolding(crate::specs::Reserved::is_name))]
 pub fn is_name(word: &[u8]) -> bool

@@ -83,7 +83,7 @@ impl Model for Vocabulary {
 }
 
 impl Vocabulary {
-    /// No words, with room for a few.
+    /// Makes a table of no words, with room for a few.
     pub fn new(alloc: Global) -> Result<Self, AllocError>
         ensures { IfOk result (λ words. words ≡ []) }
     {
@@ -94,14 +94,14 @@ impl Vocabulary {
         })
     }
 
-    /// How many words were added.
+    /// Returns how many words were added.
     pub fn len(&self) -> usize
         ensures { result ≡ length self.now }
     {
         self.table.len()
     }
 
-    /// What the word stands for.
+    /// Returns what the word stands for.
     pub fn find(&self, word: &[u8]) -> Option<Target>
         ensures { result ≡ find_name word.now self.now }
     {
@@ -140,7 +140,7 @@ impl Vocabulary {
         table.get(&key).copied()
     }
 
-    /// The word at a place, and what it stands for.
+    /// Returns the word at a place, and what it stands for.
     pub fn at(&self, place: usize) -> Option<(&[u8], Target)>
         ensures { option_map (λ e. (e.0.now, e.1)) result ≡ slice_get self.now place }
     {
