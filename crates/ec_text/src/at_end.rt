@@ -7,8 +7,8 @@ ghost use Rattle.ec_text.specs.Eight.{word_of, worth_from, HoldsBytes, HoldsDigi
 
 use crate::numbers::has_form;
 
-/// The number that the last word of a text spells, behind a space, and the place of that space. Of the text `w = 17` these are
-/// 17 and 3.
+/// Returns the number that the last word of a text spells, behind a space, and the place of that
+/// space. Of the text `w = 17` these are 17 and 3.
 ///
 /// It is found and read from the end of the text, in one pass: up to seven digits at once, and more digit by digit.
 #[inline(always)]

@@ -33,7 +33,7 @@ fn line_end(bytes: &[u8]) -> Option<usize>
     }
 }
 
-/// The bytes before the first LF, and those behind it: `None` where there is no LF.
+/// Returns the bytes before the first LF, and those behind it: `None` where there is no LF.
 #[inline(always)]
 #[tactic(auto, using(crate::proofs::LineCuts::line_cuts))]
 pub fn cut_line(bytes: &[u8]) -> Option<(&[u8], &[u8])>

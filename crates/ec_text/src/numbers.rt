@@ -4,7 +4,7 @@ ghost use Rattle.std.specs.List.{list_all};
 ghost use Rattle.std.specs.Char.{is_ascii_digit};
 ghost use Rattle.ec_text.specs.Words.{number_of, digits_from, has_form, is_number_form};
 
-/// The number that a word spells: `0`, or at most 18 digits of which the first is none.
+/// Returns the number that a word spells: `0`, or at most 18 digits of which the first is none.
 pub fn number(word: &[u8]) -> Option<u64>
     ensures value { result ≡ number_of word.now }
     ensures small { IfSome result (λ n. n < 1000000000000000000) }
@@ -12,14 +12,14 @@ pub fn number(word: &[u8]) -> Option<u64>
     if has_form(word) { digits(word) } else { None }
 }
 
-/// Whether a word is `0`, or digits of any count of which the first is not 0.
+/// Returns whether a word is `0`, or digits of any count of which the first is not 0.
 pub fn is_number_form(word: &[u8]) -> bool
     ensures { result ≡ is_number_form word.now }
 {
     has_form(word) && is_digits(word)
 }
 
-/// Whether a word has one byte, or several of which the first is not the digit 0.
+/// Returns whether a word has one byte, or several of which the first is not the digit 0.
 #[inline(always)]
 pub(crate) fn has_form(word: &[u8]) -> bool
     ensures { result ≡ has_form word.now }

@@ -53,7 +53,8 @@ fn front(line: &[u8]) -> usize
     }
 }
 
-/// The first word of a line, and what stands behind the space after it: `None` where no space follows.
+/// Returns the first word of a line, and what stands behind the space after it: `None` where no
+/// space follows.
 ///
 /// Words are what lies between single spaces, so that two spaces in a row have an empty word between them.
 #[tactic(auto, using(crate::proofs::shared::WordLemmas::cuts))]
@@ -73,7 +74,7 @@ pub fn cut_word(line: &[u8]) -> (&[u8], Option<&[u8]>)
     (line, None)
 }
 
-/// Whether a word of a line is empty, as where two spaces stand in a row.
+/// Returns whether a word of a line is empty, as where two spaces stand in a row.
 pub fn has_blank(line: &[u8]) -> bool
     ensures { result ≡ list_any (λ w. length w == 0) (words_of line.now) }
 {
