@@ -29,7 +29,7 @@ impl<'a> Model for Entries<'a> {
 }
 
 impl<'a> Entries<'a> {
-    /// All entries of some segments.
+    /// Returns all entries of some segments.
     pub(crate) fn of(full: &'a [Segment], last: &'a Segment) -> Self
         ensures { result ≡ joined full.now last.now }
     {
@@ -41,7 +41,7 @@ impl<'a> Entries<'a> {
         }
     }
 
-    /// The next of them, which is still the next one then.
+    /// Returns the next of them, which is still the next one then.
     #[inline(always)]
     pub fn peek(&self) -> Option<Entry>
         ensures { result ≡ slice_get self.now 0 }

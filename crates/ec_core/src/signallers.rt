@@ -50,7 +50,7 @@ fn places_in(members: &Members) -> [Option<u8>; 16]
 }
 
 impl Signallers {
-    /// These workers, of which none stands twice.
+    /// Returns these workers, of which none stands twice.
     pub(crate) fn new(list: &[WorkerId]) -> Self
         requires few { length list.now ≤ 16 }
         requires different { has_repeat list.now ≡ false }
@@ -64,14 +64,14 @@ impl Signallers {
         }
     }
 
-    /// The worker that signals a component.
+    /// Returns the worker that signals a component.
     pub(crate) fn signaller(&self, component: usize) -> Option<WorkerId>
         ensures { result ≡ slice_get self.now component }
     {
         self.members.get(component)
     }
 
-    /// The component that the worker signals.
+    /// Returns the component that the worker signals.
     #[inline(always)]
     pub(crate) fn component(&self, worker: WorkerId) -> Option<usize>
         ensures value { result ≡ place_of worker self.now }

@@ -49,7 +49,7 @@ impl<'a> Model for Words<'a> {
 }
 
 impl<'a> Words<'a> {
-    /// These, from a place on.
+    /// Returns these, from a place on.
     #[inline(always)]
     pub(crate) fn of(words: &'a [u32], start: usize) -> Self
         requires { start ≤ length words.now }
@@ -60,7 +60,7 @@ impl<'a> Words<'a> {
         }
     }
 
-    /// The same words again.
+    /// Returns the same words again.
     #[inline(always)]
     pub(crate) fn copy(&self) -> Self
         ensures { result ≡ self.now }
@@ -103,7 +103,7 @@ pub(crate) struct Stored {
 }
 
 impl Stored {
-    /// The entry without its numbers.
+    /// Returns the entry without its numbers.
     #[inline(always)]
     pub(crate) fn of(entry: &Entry) -> Self
         ensures { result ≡ kept_of entry.now }
@@ -115,7 +115,7 @@ impl Stored {
         }
     }
 
-    /// How many words its numbers take.
+    /// Returns how many words its numbers take.
     #[inline(always)]
     pub(crate) fn width(&self) -> usize
         ensures value { result ≡ width self.now }
@@ -124,7 +124,8 @@ impl Stored {
         value_width(self.verb) + number_width(self.answer)
     }
 
-    /// The entry that is kept. Its numbers are the first of these words, and are taken off them.
+    /// Returns the entry that is kept. Its numbers are the first of these words, and are taken off
+    /// them.
     #[inline(always)]
     pub(crate) fn entry(&self, words: &mut Words<'_>) -> Entry
         ensures value { result ≡ stored_entry words.old self.now }
@@ -140,7 +141,7 @@ impl Stored {
     }
 }
 
-/// How many words some entries take.
+/// Returns how many words some entries take.
 pub(crate) fn widths(stored: &[Stored]) -> usize
     requires { length stored.now < 2 ^ 32 }
     ensures { result ≡ widths stored.now }
@@ -252,7 +253,7 @@ fn verb_in(act: &Act) -> Verb
     }
 }
 
-/// The value of an act, where it has one.
+/// Returns the value of an act, where it has one.
 pub(crate) fn value_in(act: &Act) -> Option<u64>
     ensures value { result ≡ value_in act.now }
     ensures receiver { receiver_in act.now < 16 }
@@ -275,7 +276,7 @@ fn answer_in(reply: &Reply) -> Answer
     }
 }
 
-/// The number of a reply, where it has one.
+/// Returns the number of a reply, where it has one.
 pub(crate) fn number_in(reply: &Reply) -> Option<u64>
     ensures { result ≡ number_in reply.now }
 {
