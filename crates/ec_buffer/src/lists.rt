@@ -36,7 +36,7 @@ fn is_sequencer(shape: &BufferShape, sequencer: SeqId) -> bool
     sequencer == shape.put_seq() || sequencer == shape.take_seq()
 }
 
-/// Whether an act names an object of the buffer.
+/// Returns whether an act names an object of the buffer.
 pub fn is_on(shape: &BufferShape, act: &Act) -> bool
     ensures { result ≡ is_on shape.now act.now }
 {
