@@ -42,7 +42,7 @@ fn is_cell(shape: &DatabaseShape, x: CellId) -> bool
     first <= x.get() && x.get() < first + shape.cells()
 }
 
-/// Whether an act names an object of the database.
+/// Returns whether an act names an object of the database.
 pub fn is_on(shape: &DatabaseShape, act: &Act) -> bool
     ensures { result ≡ is_on shape.now act.now }
 {
@@ -85,7 +85,7 @@ impl<'a> Lists<'a> {
         }
     }
 
-    /// Whether the worker is a writer.
+    /// Returns whether the worker is a writer.
     pub(crate) fn writes(&self, worker: WorkerId) -> bool
         ensures { result ≡ writes self.now.setup.now self.now.shape.now worker }
     {

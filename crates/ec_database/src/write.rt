@@ -26,7 +26,7 @@ pub struct WriteAll {
 }
 
 impl WriteAll {
-    /// As many values as the database has cells, each of at most VALUE_MAX.
+    /// Makes a writing of as many values as the database has cells, each of at most VALUE_MAX.
     pub fn new(shape: DatabaseShape, values: ArrayVec<u64, 256>) -> Self
         requires many { array_vec_len values ≡ shape.cells }
         requires small { All (λ v. v ≤ VALUE_MAX) values.items }
