@@ -36,8 +36,8 @@ pub struct DownBoth {
 }
 
 impl DownBoth {
-    /// The three semaphores are different, and the common one has initial value 1, as
-    /// `declare_both` gives it.
+    /// Makes P on two semaphores. The three semaphores are different, and the common one has
+    /// initial value 1, as `declare_both` gives it.
     pub fn new(common: SemaphoreShape, one: SemaphoreShape, other: SemaphoreShape) -> Self
         requires single { common.initial ≡ 1 }
         requires apart { (common ≢ one) × (common ≢ other) × (one ≢ other) }

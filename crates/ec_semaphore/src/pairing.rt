@@ -136,7 +136,7 @@ impl<'a> Audit for PairAudit<'a> {
 }
 
 impl<'a> PairAudit<'a> {
-    /// Before the first entry.
+    /// Makes the audit before the first entry.
     pub fn new(alloc: Global, common: SemaphoreShape, shapes: &'a [SemaphoreShape]) -> Self
         ensures common { result.common ≡ common }
         ensures shapes { result.shapes ≡ shapes.now }
@@ -158,8 +158,8 @@ impl<'a> PairAudit<'a> {
         }
     }
 
-    /// The pairs after the entries so far, where the workers follow the guarded parts. Where they
-    /// don't, the first entry that breaks the lists of calls is told.
+    /// Returns the pairs after the entries so far, where the workers follow the guarded parts.
+    /// Where they don't, the first entry that breaks the lists of calls is told.
     pub fn finish(self) -> Result<Vec<Pair>, AuditFault>
         ensures followed { (t : Tables) (h : List Entry) → EndsAt t (IsPairing self.entry) h → IsOk result → Follow (both_rules self.entry.common (is_line self.entry.common self.entry.shapes)) (reverse h) }
         ensures pairs { (t : Tables) (h : List Entry) → EndsAt t (IsPairing self.entry) h → IfOk result (λ ps. ps.items ≡ pairs_of self.entry.common self.entry.shapes h) }
@@ -176,8 +176,8 @@ impl<'a> PairAudit<'a> {
         Ok(self.pairs)
     }
 
-    /// The pairs after all entries of a run whose workers follow the guarded parts. Where they
-    /// don't, the first entry that breaks the lists of calls is told.
+    /// Returns the pairs after all entries of a run whose workers follow the guarded parts. Where
+    /// they don't, the first entry that breaks the lists of calls is told.
     pub fn pairs(self, run: &Run) -> Result<Vec<Pair>, AuditFault>
         requires { IsPairing self (reverse run.now.entries) }
         ensures followed { IsOk result → Follow (both_rules self.entry.common (is_line self.entry.common self.entry.shapes)) (reverse run.now.entries) }
@@ -191,10 +191,10 @@ impl<'a> PairAudit<'a> {
     }
 }
 
-/// The pairs of tickets that the P on two of these semaphores draw in a run whose workers follow
-/// the guarded parts of a common one, in the order in which their first tickets were drawn: one for
-/// each P that has drawn both. Err is NotFollowed, with the first entry that breaks the lists of
-/// calls, or want of memory where there is none.
+/// Returns the pairs of tickets that the P on two of these semaphores draw in a run whose workers
+/// follow the guarded parts of a common one, in the order in which their first tickets were drawn:
+/// one for each P that has drawn both. Err is NotFollowed, with the first entry that breaks the
+/// lists of calls, or want of memory where there is none.
 ///
 /// A semaphore is told by its sequencer here: two shapes with one sequencer are one semaphore, and
 /// a shape with the sequencer of the common one is none of the two. It is meant for shapes that fit

@@ -29,7 +29,7 @@ impl Uses {
         Uses { shape }
     }
 
-    /// The semaphore.
+    /// Returns the semaphore.
     #[inline(always)]
     pub(crate) fn shape(&self) -> &SemaphoreShape
         ensures { result.now ≡ self.now.shape }
@@ -38,7 +38,7 @@ impl Uses {
     }
 }
 
-/// Whether an act names the eventcount or the sequencer of a semaphore.
+/// Returns whether an act names the eventcount or the sequencer of a semaphore.
 pub fn is_on(shape: &SemaphoreShape, act: &Act) -> bool
     ensures { result ≡ is_on shape.now act.now }
 {
