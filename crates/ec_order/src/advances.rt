@@ -28,7 +28,7 @@ impl Model for Advances {
 }
 
 impl Advances {
-    /// Before the first entry.
+    /// Makes what is kept before the first entry.
     pub(crate) fn none(alloc: Global) -> Result<Self, AllocError>
         ensures { IfOk result (λ advances. AreRaised advances []) }
     {
@@ -71,7 +71,8 @@ impl Advances {
         }
     }
 
-    /// The point of the read or await that the entry at hand ends: to be asked before that entry is taken in.
+    /// Returns the point of the read or await that the entry at hand ends: to be asked before that
+    /// entry is taken in.
     #[tactic(auto, using(crate::proofs::KeptPoints::point_none, crate::proofs::KeptPoints::point_one))]
     pub(crate) fn point(&self, call: &Call) -> usize
         ensures { IsPointBy self.now call.now result }

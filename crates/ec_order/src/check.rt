@@ -94,8 +94,8 @@ fn judge(alloc: Global, run: &Run, placed: &[Placed]) -> Result<Verdict, AllocEr
     }
 }
 
-/// Whether a list is a legal order of the finished calls of a run, each with its point, and else what is first wrong.
-/// The run is as before, with want of memory too.
+/// Returns whether a list is a legal order of the finished calls of a run, each with its point, and
+/// else what is first wrong. The run is as before, with want of memory too.
 pub fn verify(alloc: Global, run: &Run, placed: &[Placed]) -> Result<Verdict, AllocError>
     ensures verdict { IfOk result (λ v.
         IsVerdict run.now.setup (reverse run.now.entries) placed.now v) }

@@ -31,7 +31,7 @@ impl Model for Marks {
 }
 
 impl Marks {
-    /// None yet.
+    /// Makes a list of no marks.
     pub(crate) fn new(alloc: Global) -> Self
         ensures { result ≡ [] }
     {
@@ -51,7 +51,7 @@ impl Marks {
         Ok(())
     }
 
-    /// All of them.
+    /// Returns all of them.
     pub(crate) fn iter(&self) -> MarksLeft<'_>
         ensures value { result ≡ self.now }
         ensures few { length self.now < 2 ^ 64 }
@@ -130,7 +130,7 @@ impl<'a> Model for MarksLeft<'a> {
 }
 
 impl<'a> MarksLeft<'a> {
-    /// The next of them.
+    /// Returns the next of them.
     #[inline(always)]
     pub(crate) fn peek(&self) -> Option<bool>
         ensures { result ≡ slice_get self.now 0 }

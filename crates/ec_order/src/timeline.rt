@@ -68,7 +68,7 @@ fn keep(
 }
 
 impl<'a> Timeline<'a> {
-    /// Before the first entry of a history on this setup.
+    /// Makes what is kept before the first entry of a history on this setup.
     pub fn open(alloc: Global, setup: &'a Setup) -> Result<Self, OrderFault>
         ensures setup { IfOk result (λ timeline. timeline.setup ≡ setup.now) }
         ensures first { IfOk result (λ timeline. IsTimeline timeline []) }
@@ -128,8 +128,8 @@ impl<'a> Timeline<'a> {
         }
     }
 
-    /// The finished calls after the entries so far, by their points, one after another: a legal order of them. Err where memory
-    /// was refused for one of the entries.
+    /// Returns the finished calls after the entries so far, by their points, one after another: a
+    /// legal order of them. `Err` if memory was refused for one of the entries.
     pub fn calls(&self) -> Result<InTime<'_>, OrderFault>
         ensures value { (past : List Entry) → IsTimeline self.now past → IsAccepted self.now.setup past → IfOk result (λ calls. calls ≡ dated_by_points self.now.setup past) }
         ensures good { (past : List Entry) → IsTimeline self.now past → IsAccepted self.now.setup past → IfOk result (λ calls. TellsGood self.now.setup past calls) }

@@ -82,9 +82,10 @@ impl<'a> Iterator for InOrder<'a> {
     }
 }
 
-/// The finished calls of a run by their points, as `order` lists them, one after another: a legal order of them, whatever
-/// the run. It keeps memory for the reads and awaits alone; while it looks through the run it also wants a number for each
-/// advance that is made while a read or an await of its eventcount is under way. The run is as before, with want of memory too.
+/// Returns the finished calls of a run by their points, as `order` lists them, one after another: a
+/// legal order of them, whatever the run. It keeps memory for the reads and awaits alone; while it
+/// looks through the run it also wants a number for each advance that is made while a read or an
+/// await of its eventcount is under way. The run is as before, with want of memory too.
 pub fn in_order(alloc: Global, run: &Run) -> Result<InOrder<'_>, OrderFault>
     ensures value { IfOk result (λ calls.
         calls ≡ ordered_by_points run.now.setup (reverse run.now.entries)) }
