@@ -64,7 +64,7 @@ impl Watch {
         }
     }
 
-    /// Whether there is room for what an event adds.
+    /// Returns whether there is room for what an event adds.
     pub(crate) fn has_room(&self, action: Action) -> bool
         ensures { IsTrue result ↔ RoomFor self.now action }
     {
