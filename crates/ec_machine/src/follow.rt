@@ -72,9 +72,9 @@ fn follows_one(run: &Run, programs: &[Program], worker: WorkerId) -> bool
     true
 }
 
-/// The first worker whose entries are no run of its program, perhaps unfinished; None where each
-/// worker's are one. The programs are those of the workers in order of declaration; a missing one
-/// is empty. It takes no memory.
+/// Returns the first worker whose entries are no run of its program, perhaps unfinished; `None` if
+/// each worker's are one. The programs are those of the workers in order of declaration; a missing
+/// one is empty. It takes no memory.
 pub fn follows(run: &Run, programs: &[Program]) -> Option<WorkerId>
     ensures { MatchOption result
         ((w : ℕ) → w < run.now.setup.workers → Follows programs.now run.now.entries w)

@@ -20,7 +20,7 @@ pub const COMMANDS_MAX: usize = 4096;
 /// The greatest number of tries of a snapshot.
 pub const TRIES_MAX: usize = 1000;
 
-/// Whether a program can be made of the commands.
+/// Returns whether a program can be made of the commands.
 pub(crate) fn keeps_limits(commands: &[Command]) -> bool
     ensures { IsTrue result ↔ IsProgram commands.now }
 {
@@ -141,7 +141,8 @@ fn is_same(one: &SemaphoreShape, other: &SemaphoreShape) -> bool
     one.count() == other.count() && one.line() == other.line() && one.initial() == other.initial()
 }
 
-/// Whether a P on both of two semaphores may be made under a common one: that has initial value 1, and the three are different.
+/// Returns whether a P on both of two semaphores may be made under a common one: that has initial
+/// value 1, and the three are different.
 pub fn are_apart(common: &SemaphoreShape, one: &SemaphoreShape, other: &SemaphoreShape) -> bool
     ensures { result ≡ are_apart common.now one.now other.now }
 {

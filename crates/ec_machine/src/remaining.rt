@@ -130,7 +130,7 @@ impl<'a> Model for Remaining<'a> {
 }
 
 impl<'a> Remaining<'a> {
-    /// All commands of a block.
+    /// Returns all commands of a block.
     pub(crate) fn new(block: &'a [Command]) -> Self
         requires sound { is_sound block.now ≡ true }
         requires nesting { nesting block.now ≤ 4 }
