@@ -137,7 +137,7 @@ fn numbered<'a>(sort: Sort, name: &'a [u8], rest: &'a [u8]) -> Option<Parts<'a>>
     opened(sort, name, word, rest)
 }
 
-/// The parts of a line of one of the forms.
+/// Returns the parts of a line of one of the forms.
 #[tactic(auto, using(crate::proofs::Stops::sorted_none, crate::proofs::Stops::word_of_sort), unfolding(crate::specs::Form::parts_in))]
 pub(crate) fn parts_of(line: &[u8]) -> Option<Parts<'_>>
     ensures { option_map shown result ≡ parts_in (words_of line.now) }

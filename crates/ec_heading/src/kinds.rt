@@ -27,7 +27,7 @@ fn has_bad_name(list: &[u8]) -> bool
     }
 }
 
-/// The least fault of the names of workers.
+/// Returns the least fault of the names of workers.
 pub(crate) fn workers_fault(list: &[u8]) -> Option<HeadFault>
     ensures { result ≡ workers_fault (words_of list.now) }
 {
@@ -43,7 +43,7 @@ pub(crate) fn workers_fault(list: &[u8]) -> Option<HeadFault>
     None
 }
 
-/// The number, or 0 where there is none of at most 18 digits.
+/// Returns the number, or 0 where there is none of at most 18 digits.
 pub(crate) fn size_of(parts: &Parts<'_>) -> u64
     ensures { result ≡ size_in (shown parts.now) }
 {
@@ -144,7 +144,7 @@ fn has_two_roles(words: &Vocabulary, parts: &Parts<'_>) -> bool
     }
 }
 
-/// The least fault of a line of one of the forms.
+/// Returns the least fault of a line of one of the forms.
 pub(crate) fn declaration_fault(
     setup: &Setup,
     words: &Vocabulary,

@@ -65,7 +65,8 @@ fn cell(number: usize) -> CellId
     id
 }
 
-/// What the name of the next declaration will stand for, after this setup and n groups of its sort.
+/// Returns what the name of the next declaration will stand for, after this setup and n groups of
+/// its sort.
 pub(crate) fn target_of(setup: &Setup, groups: usize, sort: Sort, n: usize) -> Target
     requires room { is_full_for sort setup.now n ≡ false }
     requires some { is_in_range sort n ≡ true }
