@@ -115,7 +115,7 @@ fn read_objects(
     }
 }
 
-/// The entry that a line without its LF spells, if it spells one.
+/// Returns the entry that a line without its LF spells, if it spells one.
 #[tactic(auto, unfolding(crate::specs::Entries::entry_in, crate::specs::Entries::entry_of))]
 pub(crate) fn read_entry(heading: &Heading, line: &[u8]) -> Option<Entry>
     ensures { result ≡ entry_of heading.now.words line.now }

@@ -94,7 +94,7 @@ impl Model for Fronts {
 }
 
 impl Fronts {
-    /// No fronts, and no places yet.
+    /// Makes a list of no fronts, with no places yet.
     pub(crate) fn none(alloc: Global) -> Self
         ensures { (names : Named) → AreKept names result }
     {
@@ -213,7 +213,7 @@ impl Fronts {
         self.keep(opening, entry);
     }
 
-    /// The entry that a line spells, whose front is kept then.
+    /// Returns the entry that a line spells, and keeps its front then.
     pub(crate) fn read_anew(&mut self, heading: &Heading, line: &[u8]) -> Option<Entry>
         ensures value { result ≡ entry_of heading.now.words line.now }
         ensures kept { AreKept heading.now.words self.old → AreKept heading.now.words self.new }
@@ -225,7 +225,8 @@ impl Fronts {
         Some(entry)
     }
 
-    /// The entry that a front without a value spells with a reply, where it was read lately.
+    /// Returns the entry that a front without a value spells with a reply, where it was read
+    /// lately.
     #[inline(always)]
     pub(crate) fn whole(&self, front: &[u8], reply: Reply) -> Option<Entry>
         ensures { (names : Named) (line : List ℕ) → AreKept names self.now → EndsIn line front.now reply → IfSome result (λ e. entry_of names line ≡ Some e) }
@@ -241,7 +242,8 @@ impl Fronts {
         })
     }
 
-    /// The entry that a front spells with a reply, by its value and what stands before that, where the latter was read lately.
+    /// Returns the entry that a front spells with a reply, by its value and what stands before
+    /// that, where the latter was read lately.
     #[inline(always)]
     pub(crate) fn valued(&self, opening: &[u8], value: u64, reply: Reply) -> Option<Entry>
         ensures { (names : Named) (line front : List ℕ) → AreKept names self.now → EndsIn line front reply → HasNumber front opening.now value → IfSome result (λ e. entry_of names line ≡ Some e) }
@@ -282,7 +284,7 @@ fn with_value(act: Act, value: u64) -> Act
     }
 }
 
-/// The value before the `=` that ends a front, and what stands before the space before it.
+/// Returns the value before the `=` that ends a front, and what stands before the space before it.
 #[inline(always)]
 pub(crate) fn cut_value(front: &[u8]) -> Option<(&[u8], u64)>
     ensures { IfSome result (λ p. HasNumber front.now p.0.now p.1) }
@@ -296,7 +298,8 @@ pub(crate) fn cut_value(front: &[u8]) -> Option<(&[u8], u64)>
     Some((&head[..space], value))
 }
 
-/// The reply that the last word of a line spells, and what stands before the space before it.
+/// Returns the reply that the last word of a line spells, and what stands before the space before
+/// it.
 #[inline(always)]
 #[tactic(auto, using(crate::proofs::FrontLemmas::ends))]
 pub(crate) fn cut_reply(line: &[u8]) -> Option<(&[u8], Reply)>

@@ -20,7 +20,7 @@ pub(crate) struct Key {
 impl Key {
     ghost use Rattle.ec_trace.specs.Keys.{text_of};
 
-    /// The key of a text, where it has one.
+    /// Returns the key of a text, where it has one.
     #[inline(always)]
     pub(crate) fn of(text: &[u8]) -> Option<Self>
         ensures { IfSome result (λ k. text_of k ≡ text.now) }
@@ -75,7 +75,7 @@ impl Key {
         }
     }
 
-    /// Whether it is this key.
+    /// Returns whether it is this key.
     #[inline(always)]
     pub(crate) fn is(&self, other: &Key) -> bool
         ensures { IsTrue result → self.now ≡ other.now }
@@ -87,8 +87,8 @@ impl Key {
             && self.len == other.len
     }
 
-    /// The key's place among so many, of which there are 2, 4, 8 and so on up to 65536. It depends on all words of the key: two keys
-    /// mostly have different places.
+    /// Returns the key's place among so many, of which there are 2, 4, 8 and so on up to 65536. It
+    /// depends on all words of the key: two keys mostly have different places.
     #[inline(always)]
     pub(crate) fn place(&self, places: usize) -> usize {
         let head = self.first.wrapping_add(self.second.wrapping_mul(9));

@@ -47,7 +47,7 @@ impl Model for Lines {
 }
 
 impl Lines {
-    /// Before the first line.
+    /// Makes the lines of a text, before the first one.
     pub(crate) fn new() -> Lines
         ensures { result ≡ record { number = 0; taken = 0; line = []; part = []; behind = []; over = [] } }
     {
@@ -65,7 +65,7 @@ impl Lines {
         }
     }
 
-    /// The line that came last, without its LF.
+    /// Returns the line that came last, without its LF.
     #[inline(always)]
     pub(crate) fn line(&self) -> &[u8]
         ensures { result.now ≡ self.now.line }
@@ -78,7 +78,7 @@ impl Lines {
         }
     }
 
-    /// Its number, counted from 1.
+    /// Returns its number, counted from 1.
     #[inline(always)]
     pub(crate) fn number(&self) -> u64
         ensures { result ≡ self.now.number }

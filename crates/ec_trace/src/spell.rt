@@ -78,7 +78,7 @@ impl<'a> Model for Spellings<'a> {
 }
 
 impl<'a> Spellings<'a> {
-    /// The words of a heading, as `Heading::words` gives them. It takes no memory.
+    /// Returns the words of a heading, as `Heading::words` gives them. It takes no memory.
     pub fn new(vocabulary: &'a Vocabulary) -> Self
         ensures { result ≡ vocabulary.now }
     {
@@ -96,21 +96,21 @@ impl<'a> Spellings<'a> {
         }
     }
 
-    /// The name of a worker, of no bytes where it has none.
+    /// Returns the name of a worker, of no bytes where it has none.
     pub fn worker(&self, worker: WorkerId) -> &'a [u8]
         ensures { result.now ≡ word_of self.now (Worker worker) }
     {
         word_in(&self.words.workers, worker.get())
     }
 
-    /// The name of an eventcount, of no bytes where it has none.
+    /// Returns the name of an eventcount, of no bytes where it has none.
     pub fn event(&self, event: EventId) -> &'a [u8]
         ensures { result.now ≡ word_of self.now (Event event) }
     {
         word_in(&self.words.events, event.get())
     }
 
-    /// The name of a sequencer, of no bytes where it has none.
+    /// Returns the name of a sequencer, of no bytes where it has none.
     pub fn sequencer(&self, sequencer: SeqId) -> &'a [u8]
         ensures { result.now ≡ word_of self.now (Sequencer sequencer) }
     {

@@ -219,7 +219,7 @@ fn put_targets<W: Write>(out: &mut Out<'_, W>, spellings: &Spellings<'_>, headin
     }
 }
 
-/// The first line of a trace.
+/// Returns the first line of a trace.
 pub(crate) fn first_line(version: Version) -> &'static [u8]
     ensures { result.now ≡ trace_header version }
 {
