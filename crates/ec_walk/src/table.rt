@@ -16,7 +16,7 @@ pub(crate) struct Span {
 }
 
 impl Span {
-    /// Whether there is no group among these.
+    /// Returns whether there is no group among these.
     #[inline(always)]
     pub(crate) fn is_empty(&self) -> bool
         ensures yes { IsTrue result → self.now.end ≤ self.now.first }
@@ -25,7 +25,7 @@ impl Span {
         self.end <= self.first
     }
 
-    /// Whether there is just one.
+    /// Returns whether there is just one.
     #[inline(always)]
     pub(crate) fn is_one(&self) -> bool
         ensures yes { IsTrue result → self.now.end ≡ self.now.first + 1 }
@@ -52,7 +52,8 @@ pub(crate) struct Table {
     wide: Span,
 }
 
-/// Whether an act names an object of a group. `both` is asked as the common semaphore that it has.
+/// Returns whether an act names an object of a group. `both` is asked as the common semaphore that
+/// it has.
 pub(crate) fn names(group: &Group, act: &Act) -> bool
     ensures { result ≡ names group.now act.now }
 {
@@ -78,8 +79,8 @@ fn reaching(span: Span, number: usize) -> Span
     }
 }
 
-/// Whether a group is about each call of its users: within a guarded part of `both` a worker makes
-/// no other.
+/// Returns whether a group is about each call of its users: within a guarded part of `both` a
+/// worker makes no other.
 pub(crate) fn is_wide(group: &Group) -> bool
     ensures { result ≡ is_wide group.now }
 {
@@ -210,7 +211,7 @@ impl Table {
         }
     }
 
-    /// The groups of which an act names an object are among these.
+    /// Returns groups, among which are those of which an act names an object.
     #[inline(always)]
     pub(crate) fn of(&self, act: &Act) -> Span
         ensures { (groups : List Group) → IsTable groups self.now → CoversAct groups act.now result }
@@ -227,7 +228,7 @@ impl Table {
         }
     }
 
-    /// The groups that are about each call are among these.
+    /// Returns groups, among which are those that are about each call.
     #[inline(always)]
     pub(crate) fn wide(&self) -> Span
         ensures { (groups : List Group) → IsTable groups self.now → Covers groups is_wide result }
