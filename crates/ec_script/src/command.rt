@@ -33,7 +33,7 @@ fn amount_in(rest: Option<&[u8]>) -> Value
     }
 }
 
-/// The number that the only word spells, 0 where it spells none.
+/// Returns the number that the only word spells, 0 if it spells none.
 pub(crate) fn size_in(rest: Option<&[u8]>) -> u64
     ensures { result ≡ size_in (rest_words rest.entry) }
 {
@@ -146,7 +146,7 @@ fn database_order(
     }
 }
 
-/// What a line says of the worker's commands; none where it is about nothing.
+/// Returns what a line says of the worker's commands; none where it is about nothing.
 pub(crate) fn command_in(
     alloc: Global,
     parts: &Parts<'_>,

@@ -37,7 +37,7 @@ fn is_value_form(word: &[u8]) -> bool
     }
 }
 
-/// The value that a word spells, where its number is in range.
+/// Returns the value that a word spells, where its number is in range.
 #[tactic(auto, unfolding(crate::specs::Forms::value_of))]
 pub(crate) fn value_of(word: &[u8]) -> Option<Value>
     ensures value { result ≡ value_of word.now }
@@ -72,7 +72,7 @@ fn are_value_forms(list: &[u8]) -> bool
     }
 }
 
-/// The only word that is left, where it is the only one.
+/// Returns the only word that is left, where it is the only one.
 #[tactic(auto, using(crate::proofs::Words::only_word))]
 pub(crate) fn only_word(rest: Option<&[u8]>) -> Option<&[u8]>
     ensures { option_map (λ w. w.now) result ≡ only_in (rest_words rest.entry) }
@@ -117,7 +117,7 @@ fn tailed<'a>(verb: Verb, object: &'a [u8], rest: Option<&'a [u8]>) -> Option<Pa
     Some(Parts { verb, object, rest })
 }
 
-/// The parts of a line of one of the forms.
+/// Returns the parts of a line of one of the forms.
 #[tactic(auto, unfolding(crate::specs::Forms::phrase_in))]
 pub(crate) fn parts_of(line: &[u8]) -> Option<Parts<'_>>
     ensures { option_map shown result ≡ phrase_in (words_of line.now) }

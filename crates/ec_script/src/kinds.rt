@@ -283,7 +283,7 @@ fn is_badly_nested(verb: Verb, block: Option<BlockView>) -> bool
     }
 }
 
-/// The object, or nothing.
+/// Returns the object, or nothing.
 pub(crate) fn or_nothing(object: Option<Object>) -> Object
     ensures { result ≡ or_nothing object }
 {
@@ -293,7 +293,8 @@ pub(crate) fn or_nothing(object: Option<Object>) -> Object
     }
 }
 
-/// The least fault of a line that has one of the forms; `meant` is what its word for an object means.
+/// Returns the least fault of a line that has one of the forms; `meant` is what its word for an
+/// object means.
 pub(crate) fn phrase_fault(
     view: &View<'_>,
     parts: &Parts<'_>,

@@ -119,8 +119,8 @@ fn handed_in(heading: &Heading, parts: &Parts<'_>) -> Option<Object>
     Some(Object::Handed(event, to))
 }
 
-/// What a line is about: the declared object, of the sort that its verb asks for, that its word
-/// spells.
+/// Returns what a line is about: the declared object, of the sort that its verb asks for, that its
+/// word spells.
 pub(crate) fn object_in(heading: &Heading, parts: &Parts<'_>) -> Option<Object>
     ensures { result ≡ object_in heading.now (shown parts.now) }
 {
@@ -188,7 +188,7 @@ fn owns(object: &Object, group: &Group) -> bool
     }
 }
 
-/// Whether an eventcount, a sequencer or a cell belongs to one of the groups.
+/// Returns whether an eventcount, a sequencer or a cell belongs to one of the groups.
 pub(crate) fn is_owned(groups: &[Group], object: &Object) -> bool
     ensures { result ≡ is_owned groups.now object.now }
 {

@@ -100,7 +100,7 @@ fn parse_lines(alloc: Global, text: &[u8]) -> Result<Plan, ScriptFault>
     finish(alloc, stage, number, rest)
 }
 
-/// The plan that a script says, or its first faulty line with the least kind of its faults.
+/// Returns the plan that a script says, or its first faulty line with the least kind of its faults.
 ///
 /// Lines are counted from 1. A line is judged by those before it. A last line without its LF is
 /// judged like every line, and then the text is unfinished; so is one that ends before its line of

@@ -109,7 +109,7 @@ fn set_program(programs: &mut Vec<Program>, place: usize, program: Program)
 }
 
 impl Script {
-    /// A script of this heading, before its blocks.
+    /// Makes a script of this heading, before its blocks.
     pub(crate) fn new(alloc: Global, heading: Heading) -> Result<Self, AllocError>
         ensures { IfOk result (λ script. script ≡ script_of heading) }
     {
@@ -304,7 +304,7 @@ fn opens_outer(line: &[u8]) -> bool
 }
 
 impl Script {
-    /// The plan, where no block is open.
+    /// Returns the plan, where no block is open.
     pub(crate) fn plan(self) -> Option<Plan>
         ensures { option_map shown_plan result ≡ plan_or self self.block }
     {

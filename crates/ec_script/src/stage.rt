@@ -29,7 +29,7 @@ pub(crate) enum Stage {
     Reading(Script),
 }
 
-/// The version whose first line this is.
+/// Returns the version whose first line this is.
 pub(crate) fn version_of(line: &[u8]) -> Option<Version>
     ensures { result ≡ version_of script_header line.now }
 {
@@ -148,7 +148,7 @@ impl Stage {
 }
 
 impl Stage {
-    /// The plan, where the text may end here.
+    /// Returns the plan, where the text may end here.
     pub(crate) fn plan(self) -> Option<Plan>
         ensures { option_map shown_plan result ≡ plan_in self }
     {
