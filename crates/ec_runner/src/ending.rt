@@ -71,7 +71,7 @@ fn last_moment(tolds: &[Told]) -> usize
     last
 }
 
-/// The worker of a number.
+/// Returns the worker of a number.
 pub(crate) fn worker_of(number: usize) -> WorkerId
     requires { number < 16 }
     ensures { result ≡ number }
@@ -95,7 +95,7 @@ fn first_unlikely(run: &Run, tolds: &[Told]) -> Option<WorkerId>
     None
 }
 
-/// A worker that ended otherwise than the run bears out.
+/// Returns a worker that ended otherwise than the run bears out.
 pub(crate) fn first_not_borne_out(run: &Run, tolds: &[Told]) -> Option<WorkerId>
     requires { length tolds.now ≤ 16 }
     ensures { MatchOption result

@@ -146,10 +146,10 @@ fn advance(board: &mut Board, worker: WorkerId, act: Act, may_park: bool) -> Hel
     Held { next, woken }
 }
 
-/// One hold of the board: a step and, after an await that fell short, where the worker may wait, the
-/// wait. Only an advance of what somebody waits for, and a wait by which the board comes to be stuck,
-/// can wake others, and only then is it looked who sleeps. Where the worker goes to sleep nobody is
-/// woken; and it does so only where it may.
+/// Makes one hold of the board: a step and, after an await that fell short, where the worker may
+/// wait, the wait. Only an advance of what somebody waits for, and a wait by which the board comes
+/// to be stuck, can wake others, and only then is it looked who sleeps. Where the worker goes to
+/// sleep nobody is woken; and it does so only where it may.
 pub(crate) fn hold(board: &mut Board, worker: WorkerId, act: Act, may_park: bool) -> Held
     ensures last { is_sleep result.next ≡ true → may_park ≡ true }
     ensures none { is_sleep result.next ≡ true → result.woken ≡ None }
@@ -166,7 +166,7 @@ pub(crate) fn hold(board: &mut Board, worker: WorkerId, act: Act, may_park: bool
     Held { next, woken }
 }
 
-/// The worker leaves the board. It answers which others are to be woken.
+/// Has the worker leave the board, and returns which others are to be woken.
 pub(crate) fn leave(board: &mut Board, worker: WorkerId) -> [bool; 16]
     ensures gone { is_live (seat_of board.old.seats worker) ≡ true → board.new ≡ with_seat board.old worker Gone }
     ensures same { is_live (seat_of board.old.seats worker) ≡ false → board.new ≡ board.old }

@@ -48,7 +48,7 @@ impl Model for Line {
 }
 
 impl Line {
-    /// Nobody waits.
+    /// Makes a line in which nobody waits.
     pub fn empty() -> Self
         ensures { result ≡ [] }
     {
@@ -57,7 +57,7 @@ impl Line {
         }
     }
 
-    /// Whether nobody waits.
+    /// Returns whether nobody waits.
     pub fn is_empty(&self) -> bool
         ensures { result ≡ (length self.now == 0) }
     {

@@ -53,7 +53,7 @@ fn play_place(run: &mut Run, machines: &mut [Machine<'_>], worker: WorkerId) -> 
     take_turn(run, machine, worker)
 }
 
-/// The places of a schedule, up to the first whose worker has ended.
+/// Plays the places of a schedule, up to the first whose worker has ended.
 pub(crate) fn play_places(
     run: &mut Run,
     machines: &mut [Machine<'_>],

@@ -170,8 +170,8 @@ fn first_wrong_at(run: &Run, world: &World, moment: usize, tolds: &[Told]) -> Op
     None
 }
 
-/// A worker whose refusal at a moment up to this one is not right, found in one walk over the entries
-/// with a world that makes their steps.
+/// Returns a worker whose refusal at a moment up to this one is not right, found in one walk over
+/// the entries with a world that makes their steps.
 pub(crate) fn first_wrong(run: &Run, tolds: &[Told], last: usize) -> Option<WorkerId>
     requires few { length tolds.now ≤ 16 }
     requires within { last ≤ length run.now.entries }

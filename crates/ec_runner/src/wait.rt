@@ -38,8 +38,8 @@ fn unmet(run: &Run, wait: Option<Wait>) -> Option<Wait>
     }
 }
 
-/// The await of a worker whose last round fell short, where the worker's latest entry ended it and
-/// the total has not come to the threshold since.
+/// Returns the await of a worker whose last round fell short, where the worker's latest entry ended
+/// it and the total has not come to the threshold since.
 pub(crate) fn unmet_await(run: &Run, worker: WorkerId) -> Option<Wait>
     ensures { result ≡ unmet (past_of run.now) (awaited run.now.setup worker (past_of run.now)) }
 {

@@ -58,8 +58,8 @@ fn first_unfinished(cursors: &[usize; 16], tolds: &[Told]) -> Option<WorkerId>
     None
 }
 
-/// A worker whose entries in the run are not its log, found in one walk over the entries with a
-/// cursor for each worker.
+/// Returns a worker whose entries in the run are not its log, found in one walk over the entries
+/// with a cursor for each worker.
 pub(crate) fn first_unlike(run: &Run, tolds: &[Told]) -> Option<WorkerId>
     requires few { length tolds.now ≤ 16 }
     requires each { length tolds.now ≡ run.now.setup.workers }
