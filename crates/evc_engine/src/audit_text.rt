@@ -118,7 +118,7 @@ fn put_ticket<W: Write>(out: &mut Out<'_, W>, semaphore: &[u8], ticket: u64)
     put_spaced_number(out, ticket);
 }
 
-/// The name of a group; the one without a name is `both`.
+/// Returns the name of a group; the one without a name is `both`.
 pub(crate) fn group_word(names: &Names, group: usize) -> &[u8]
     ensures { result.now ≡ group_word names.now group }
 {

@@ -127,7 +127,8 @@ impl<'a> Auditing<'a> {
 }
 
 impl<'a> Auditing<'a> {
-    /// What it found of the entries so far, or the first of them that breaks the group's lists of calls.
+    /// Returns what it found of the entries so far, or the first of them that breaks the group's
+    /// lists of calls.
     pub(crate) fn finish(self) -> Result<Audited, AuditFault>
         ensures { (h : Headed) (entries : List Entry) (g : Group) → EndsFor h entries g self.entry
             → MatchResult result (λ a. IsAudited h entries g a) (λ fault. IsAuditFault (group_rules h.setup h.groups g) entries fault) }
@@ -177,7 +178,7 @@ impl<'a> GroupAudit for Auditing<'a> {
     ghost stays = { audits_stay };
 }
 
-/// The audits of groups before the first entry, where these are all semaphores.
+/// Returns the audits of groups before the first entry, where these are all semaphores.
 pub(crate) fn opened<'a>(
     alloc: Global,
     groups: &'a [Group],
