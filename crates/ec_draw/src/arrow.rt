@@ -110,7 +110,7 @@ impl<'a> Audit for Moves<'a> {
 }
 
 impl<'a> Moves<'a> {
-    /// Before the first entry of a run on this setup. It takes no memory.
+    /// Makes what is kept before the first entry of a run on this setup. It takes no memory.
     pub(crate) fn new(alloc: Global, shape: &'a BufferShape, setup: &'a Setup) -> Self
         ensures shape { result.shape ≡ shape.now }
         ensures setup { result.audit.setup ≡ setup.now }

@@ -100,7 +100,7 @@ impl Audit for Course {
 }
 
 impl Course {
-    /// Before the first entry. It takes no memory.
+    /// Makes what is kept before the first entry. It takes no memory.
     pub(crate) fn new(alloc: Global, shape: SemaphoreShape, window: Window) -> Self
         ensures shape { result.audit.shape ≡ shape }
         ensures window { result.window ≡ window }
@@ -114,7 +114,7 @@ impl Course {
         }
     }
 
-    /// Whether the workers follow the semaphore, after all entries of a run.
+    /// Returns whether the workers follow the semaphore, after all entries of a run.
     pub(crate) fn follows(&self, run: &Run) -> bool
         requires { IsCounted self.now.audit (reverse run.now.entries) }
         ensures { result ≡ follows (use_rules self.now.audit.shape) (reverse run.now.entries) }
@@ -122,7 +122,7 @@ impl Course {
         self.audit.balance(run).is_ok()
     }
 
-    /// What was left at the moments that are shown, after all entries of a run.
+    /// Returns what was left at the moments that are shown, after all entries of a run.
     pub(crate) fn heights(self, run: &Run, shape: &SemaphoreShape) -> Result<Vec<u64>, AllocError>
         requires shape { self.audit.shape ≡ shape.now }
         requires stands { IsCourse self (reverse run.now.entries) }

@@ -118,14 +118,14 @@ impl Chosen {
         Ok(Chosen { targets })
     }
 
-    /// Whether a worker is drawn.
+    /// Returns whether a worker is drawn.
     pub fn draws_worker(&self, worker: WorkerId) -> bool
         ensures { result ≡ draws_worker self.now worker }
     {
         self.targets.as_slice().contains(&Target::Worker(worker))
     }
 
-    /// How many of the first workers are drawn.
+    /// Returns how many of the first workers are drawn.
     pub fn workers_before(&self, number: usize) -> usize
         ensures { result ≤ 16 }
     {
@@ -160,7 +160,7 @@ impl Chosen {
         targets.iter().any(|target| cell_in(number, target))
     }
 
-    /// Whether the object of an act is drawn.
+    /// Returns whether the object of an act is drawn.
     pub fn draws_object(&self, act: &Act) -> bool
         ensures { result ≡ draws_object self.now act.now }
     {
@@ -174,14 +174,14 @@ impl Chosen {
         }
     }
 
-    /// Whether a call of a worker is drawn: the worker and the object are.
+    /// Returns whether a call of a worker is drawn: the worker and the object are.
     pub fn draws(&self, worker: WorkerId, act: &Act) -> bool
         ensures { result ≡ draws self.now worker act.now }
     {
         self.draws_worker(worker) && self.draws_object(act)
     }
 
-    /// Whether a curve is drawn; that of a balance is where its semaphore's eventcount is.
+    /// Returns whether a curve is drawn; that of a balance is where its semaphore's eventcount is.
     pub fn draws_curve(&self, object: &Plotted) -> bool
         ensures { result ≡ draws_curve self.now object.now }
     {
@@ -192,14 +192,15 @@ impl Chosen {
         }
     }
 
-    /// Whether a shade is drawn: its reader is, and its database's eventcount of starts.
+    /// Returns whether a shade is drawn: its reader is, and its database's eventcount of starts.
     pub fn draws_shade(&self, shade: &Shade) -> bool
         ensures { result ≡ draws_shade self.now (seen shade.now) }
     {
         self.draws_worker(shade.accepted.worker) && self.draws_event(shade.count)
     }
 
-    /// Whether an arrow is drawn: its producer and its consumer are, and its buffer's eventcount of puts.
+    /// Returns whether an arrow is drawn: its producer and its consumer are, and its buffer's
+    /// eventcount of puts.
     pub fn draws_arrow(&self, arrow: &Arrow) -> bool
         ensures { result ≡ draws_arrow self.now arrow.now }
     {

@@ -277,7 +277,8 @@ fn add_groups(
     Ok(())
 }
 
-/// What the audits find of those groups whose workers follow them, in one walk over the run.
+/// Returns what the audits find of those groups whose workers follow them, in one walk over the
+/// run.
 pub(crate) fn findings_of(
     alloc: Global,
     run: &Run,

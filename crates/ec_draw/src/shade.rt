@@ -172,7 +172,7 @@ impl<'a> Audit for Tries<'a> {
 }
 
 impl<'a> Tries<'a> {
-    /// Before the first entry of a run on this setup.
+    /// Makes what is kept before the first entry of a run on this setup.
     pub(crate) fn new(
         alloc: Global,
         shape: &'a DatabaseShape,
