@@ -60,7 +60,7 @@ fn first_line(text: &[u8]) -> &[u8]
     &text[..place_of(b'\n', text)]
 }
 
-/// A line of a text, counted from 1.
+/// Returns a line of a text, counted from 1.
 pub(crate) fn line_at(number: u64, text: &[u8]) -> &[u8]
     ensures { result.now ≡ line_at number text.now }
 {
@@ -136,7 +136,8 @@ pub(crate) fn read_text(alloc: Global, text: &[u8]) -> Result<Traced, TraceFault
     read_trace(alloc, &mut rest)
 }
 
-/// The trace of the lines before a faulty one, and of that with its right reply, if it has one; none where no run had begun.
+/// Returns the trace of the lines before a faulty one, and of that with its right reply, if it has
+/// one; none where no run had begun.
 pub(crate) fn history(
     alloc: Global,
     number: u64,
@@ -164,7 +165,7 @@ pub(crate) fn history(
     }
 }
 
-/// The number of the line of a fault.
+/// Returns the number of the line of a fault.
 pub(crate) fn fault_line(fault: &TraceFault) -> Option<u64>
     ensures { result ≡ fault_line fault.now }
 {
@@ -178,7 +179,7 @@ pub(crate) fn fault_line(fault: &TraceFault) -> Option<u64>
     }
 }
 
-/// The right reply, where the reply alone is wrong.
+/// Returns the right reply, where the reply alone is wrong.
 pub(crate) fn right_of(fault: &TraceFault) -> Option<Reply>
     ensures { result ≡ right_of fault.now }
 {
@@ -193,7 +194,7 @@ pub(crate) fn right_of(fault: &TraceFault) -> Option<Reply>
     }
 }
 
-/// The position of the entry of a faulty line, where so many entries were read.
+/// Returns the position of the entry of a faulty line, where so many entries were read.
 pub(crate) fn position_in(right: &Option<Reply>, entries: usize) -> usize
     ensures { result ≡ position_in right.now entries }
 {

@@ -65,7 +65,7 @@ fn any_lacks_object(words: &Vocabulary, names: &[&str]) -> bool
     names.iter().any(|name| lacks_object(words, name))
 }
 
-/// Whether the trace doesn't have some name that was chosen.
+/// Returns whether the trace doesn't have some name that was chosen.
 pub(crate) fn has_unknown(words: &Vocabulary, choice: &Choice<'_>) -> bool
     ensures { result ≡ has_unknown choice.now words.now }
 {
