@@ -33,7 +33,7 @@ impl Sort {
         }
     }
 
-    /// The one object.
+    /// Returns the one object.
     pub fn kinds(self, alloc: Global) -> Result<Vec<Kind>, AllocError> {
         let kind = match self {
             Sort::Counts => Kind::Eventcount(0),
