@@ -103,7 +103,7 @@ impl<'a> Rules<'a> {
         }
     }
 
-    /// Whether a rule was broken, or a worker called with another number than the next.
+    /// Returns whether a rule was broken, or a worker called with another number than the next.
     pub fn has_failed(&self) -> bool {
         self.has_failed.load(Ordering::SeqCst)
     }
