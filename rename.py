@@ -3,6 +3,7 @@
 
     python3 rename.py --dry     prints what it would do, and all that it cannot decide
     python3 rename.py           does it
+    python3 rename.py --edits   after rt fmt in each crate: mends mutants whose text was laid out over several lines
 
 A line of names56.list is one rename:
 
@@ -1358,7 +1359,69 @@ def wrap(f, old, new):
             yield b
 
 
+def tokens(text):
+    return [(m.group(), m.start(), m.end()) for m in re.finditer(r"\w+|[^\w\s]", text)]
+
+
+def mend_pair(source, old, new):
+    """Returns a pair for a mutant whose text rt fmt has laid out over several lines: the one line that changes."""
+    o, n = tokens(old), tokens(new)
+    parts = [re.escape(w) for w, _, _ in o]
+    pattern = r"\s*".join(f"(?:,\\s*)?{x}" if w in ")}]" else x for x, (w, _, _) in zip(parts, o))
+    found = list(re.finditer(pattern, source))
+    if len(found) != 1:
+        return None
+    s = found[0].start()
+    here = [x for x in tokens(found[0].group())]
+    # the tokens of the source that stand for those of the old text: commas that the layout added are left out
+    places, k = [], 0
+    for w, a, b in here:
+        if k < len(o) and w == o[k][0]:
+            places.append((s + a, s + b))
+            k += 1
+    i = 0
+    while i < min(len(o), len(n)) and o[i][0] == n[i][0]:
+        i += 1
+    j = 0
+    while j < min(len(o), len(n)) - i and o[-1 - j][0] == n[-1 - j][0]:
+        j += 1
+    first = places[i][0] if i < len(o) - j else places[i - 1][1] if i else places[0][0]
+    last = places[len(o) - j - 1][1] if i < len(o) - j else first
+    text = new[n[i - 1][2] if i else 0 : n[len(n) - j][1] if j else len(new)] if i == len(o) - j else new[n[i][1] : n[len(n) - j - 1][2]] if i < len(n) - j else ""
+    a, b = source.rfind("\n", 0, first) + 1, source.find("\n", last)
+    line = source[a:b]
+    if "\n" in line or source.count(line.strip()) != 1:
+        return None
+    start = a + len(line) - len(line.lstrip())
+    return line.strip(), source[start:first] + text + source[last:b]
+
+
+def mend_edits():
+    """After rt fmt: mutants whose text stands no more in one line of its file."""
+    for f in FILES:
+        if not f.endswith(".edit"):
+            continue
+        lines, src = TEXT[f].split("\n"), None
+        for i, line in enumerate(lines):
+            if line.startswith("file: "):
+                path = f"crates/{crate_of(f)}/{line[6:].strip()}"
+                src = open(path, encoding="utf-8").read() if os.path.isfile(path) else None
+            elif line.startswith("old: ") and src is not None and src.count(line[5:]) != 1:
+                got = mend_pair(src, line[5:], lines[i + 1][5:])
+                if got is None:
+                    print("a mutant to mend by hand:", f, line[:100])
+                else:
+                    print("mended:", f, got)
+                    lines[i], lines[i + 1] = "old: " + got[0], "new: " + got[1]
+        text = "\n".join(lines)
+        if text != TEXT[f]:
+            open(f, "w", encoding="utf-8").write(text)
+
+
 def main():
+    if "--edits" in sys.argv:
+        mend_edits()
+        return
     check_collisions()
     new = {}
     for f in TEXT:
