@@ -19,6 +19,7 @@ A line of names56.list is one rename:
     local FILE-REGEX OLD > NEW            a variable, in the files whose path fits, wherever the word stands by itself
     word FILE-REGEX OLD > NEW             the same, and a field or a label of that name
     page OLD > NEW [; FILE-REGEX]         a name in backticks on the pages
+    text FILE ; OLD ; NEW                 words of a page, as they are
 
 A name is found by what its file imports, never by its spelling alone. Of a function's proof files, the parts between
 hyphens of the names that the tool makes of the code are renamed with the code of that function.
@@ -59,6 +60,9 @@ class Rule:
             self.file, self.old = re.compile(words[1]), words[2]
         elif self.kind == "page":
             self.old = words[1]
+        elif self.kind == "text":
+            self.old = words[1]
+            self.pair = [x.strip() for x in line.split(" ; ")[1:]]
         else:
             raise SystemExit("no such kind: " + line)
 
@@ -1449,6 +1453,11 @@ def main():
         n = rewrite_page(f, t) if f.endswith(".md") else t
         for r in CR.values():
             n = re.sub(rf"(?<![\w]){r.old}(?![\w])", r.new, n)
+        for r in RULES:
+            if r.kind == "text" and r.old == f:
+                if n.count(r.pair[0]) != 1:
+                    problem("words that are not once on their page", r.line)
+                n = n.replace(r.pair[0], r.pair[1])
         new[f] = n
     changed = [f for f in new if new[f] != TEXT[f]]
     moves = [(f, moved(f)) for f in FILES if moved(f) != f]
