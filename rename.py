@@ -410,9 +410,10 @@ def new_type_seg(crate, mod, seg):
         if c == crate and m == mod and s.startswith(old):
             tail = s[len(old) :]
             if tail == "" or (tail in TRAITS and s not in ITEMS.get((c, m), {})):
-                return plus + r.new + tail
-    for (c, m, old), r in IT.items():
-        pass
+                return plus + r.new + (TRAIT_RULES[tail].new if tail in TRAIT_RULES else tail)
+    for old, r in TRAIT_RULES.items():
+        if s.endswith(old) and s != old and s not in ITEMS.get((crate, mod), {}):
+            return plus + s[: -len(old)] + r.new
     return seg
 
 
