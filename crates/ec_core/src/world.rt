@@ -48,7 +48,7 @@ pub struct Step {
     pub reply: Reply,
 }
 
-/// The state of a kernel: who signals now, its counts, cells and calls under way.
+/// The state of a kernel: who signals now, its counts, cells and pending calls.
 #[derive(Drop)]
 pub struct World {
     setup: Setup,
@@ -328,7 +328,8 @@ impl World {
         }
     }
 
-    /// The act that began the call that an act of the worker is part of, where this call is under way.
+    /// The act that began the call that an act of the worker is part of, where this call is
+    /// pending.
     #[inline(always)]
     fn begun_by(&self, worker: WorkerId, act: &Act) -> Act
         ensures { result ≡ op_in self.now worker act.now }

@@ -155,7 +155,7 @@ fn add_semaphore(
     }
 }
 
-/// Whether the workers follow the guarded parts of `both`, after all entries of a run.
+/// Whether the workers follow the critical sections of `both`, after all entries of a run.
 fn follows_both(run: &Run, pairs: PairAudit<'_>) -> Result<bool, AllocError>
     requires { IsPairing pairs (reverse run.now.entries) }
     ensures { IfOk result (λ b. b ≡ follows (both_rules pairs.entry.common (is_line pairs.entry.common pairs.entry.shapes)) (reverse run.now.entries)) }

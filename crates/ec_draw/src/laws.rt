@@ -5,7 +5,7 @@ ghost use Rattle.ec_draw.specs.Laws.{ArrowsAreDeliveries, BalanceCurvesAreLefts,
 
 use ec_order::order_by_points_ascends;
 
-/// States that the bars of an accepted history are exactly its finished calls that the window
+/// States that the bars of an accepted history are exactly its completed calls that the window
 /// shows, each with its point.
 pub fn bars_are_calls()
     ensures { BarsAreCalls }

@@ -40,7 +40,7 @@ refusal_cause refusals.UnknownWorker = causes.Other
 refusal_cause refusals.UnknownObject = causes.Other
 refusal_cause refusals.ValueTooLarge = causes.Other
 
--- the line that shows why the act of line n is refused: the one by which the call under way began; the one that declares the object, and
+-- the line that shows why the act of line n is refused: the one by which the pending call began; the one that declares the object, and
 -- who may use it; and the limit's
 abbrev pub reason_line : Refusal → ℕ → List ℕ → Option ℕ
 reason_line refusals.Busy n text = call_line n text

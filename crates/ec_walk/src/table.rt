@@ -79,7 +79,7 @@ fn reaching(span: Span, number: usize) -> Span
     }
 }
 
-/// Returns whether a group is about each call of its users: within a guarded part of `both` a
+/// Returns whether a group is about each call of its users: within a critical section of `both` a
 /// worker makes no other.
 pub(crate) fn is_wide(group: &Group) -> bool
     ensures { result ≡ is_wide group.now }

@@ -66,7 +66,7 @@ fn check_bytes(
     check(alloc, &mut reader, out, notes)
 }
 
-/// Checks a trace: the order of its finished calls and the totals are the text.
+/// Checks a trace: the order of its completed calls and the totals are the text.
 ///
 /// The status is that of `evc check`, and 3 where the text had no room: then a proper front of it was written.
 #[tactic(auto, using(crate::proofs::Grown::answers))]

@@ -32,7 +32,7 @@ fn now_of(parts: &Balance) -> u64
         .saturating_sub(parts.downs)
 }
 
-/// The audits of `both`: of its common semaphore, and of its guarded parts.
+/// The audits of `both`: of its common semaphore, and of its critical sections.
 #[derive(Drop)]
 pub(crate) struct BothAudit<'a> {
     pub(crate) common: SemaphoreShape,
