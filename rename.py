@@ -671,7 +671,11 @@ def seg_rename(t, segmap, place, weak=False):
     parts = t.split("-")
     got = []
     for i, p in enumerate(parts):
-        if p in segmap:
+        if i and parts[i - 1] == "clause":
+            # a label of a clause, which only a rule for the word renames
+            new = [r.new for r in WO if r.old == p and r.file.search(place)]
+            got.append(new[0] if new else p)
+        elif p in segmap:
             new, alone = segmap[p]
             if not alone and p in parts[:i]:
                 problem("a part that is a function and a variable: the first was renamed", f"{place}: {t}")
