@@ -1368,6 +1368,52 @@ def wrap(f, old, new):
             yield b
 
 
+LIMIT = 100
+
+
+def broken(line):
+    """Returns the lines of a line of antt that is too long: it is broken before an arrow, a join or a product, or after
+    the `=` of a definition, at the outermost of these, as far to the right as there is room."""
+    indent = len(line) - len(line.lstrip())
+    found, depth, i = [], 0, 0
+    while i < len(line):
+        ch = line[i]
+        if ch in "([{":
+            depth += 1
+        elif ch in ")]}":
+            depth -= 1
+        for sign in (" → ", " ∙ ", " × ", " ++ ", " ≡ "):
+            if line.startswith(sign, i) and indent + 20 < i <= LIMIT:
+                found.append((depth, sign == " ≡ ", -i, i))
+        if line.startswith(" = ", i) and indent + 8 < i <= LIMIT:
+            found.append((depth, False, -i - 2, i + 2))
+        i += 1
+    if not found:
+        return [line]
+    at = min(found)[3]
+    rest = " " * (indent + 4) + line[at + 1 :]
+    if len(rest) >= len(line):
+        return [line]
+    return [line[:at], *(broken(rest) if len(rest) > LIMIT else [rest])]
+
+
+def wrapped(f, old, new):
+    """Breaks the lines of antt that the renames made longer than 100 columns."""
+    a, b = old.split("\n"), new.split("\n")
+    if len(a) != len(b):
+        problem("lines were added", f)
+        return new
+    out = []
+    for x, y in zip(a, b):
+        head = y.lstrip()
+        clause = re.match(r"(requires|ensures)\b|→|×|∙", head)
+        if len(y) <= LIMIT or len(x) > LIMIT or head.startswith(("use ", "pub use ", "--", "ghost ", "//")) or f.endswith(".rt") and not clause:
+            out.append(y)
+        else:
+            out += broken(y)
+    return "\n".join(out)
+
+
 def tokens(text):
     return [(m.group(), m.start(), m.end()) for m in re.finditer(r"\w+|[^\w\s]", text)]
 
@@ -1481,6 +1527,8 @@ def main():
     if DRY:
         return
     for f in changed:
+        if f.endswith((".rt", ".antt")):
+            new[f] = wrapped(f, TEXT[f], new[f])
         open(f, "w", encoding="utf-8").write(new[f])
     for a, b in moves:
         os.makedirs(os.path.dirname(b), exist_ok=True)
