@@ -205,7 +205,9 @@ R = [
 (r"\blegal order\b","linearization"),
 (r"\bkeeps every finished-before pair\b","keeps real-time order"),
 (r"\b(is|are|be|comes to be|come to be) stuck\b",r"\1 deadlocked"),
+(r"\bwas live and every\b","was active and every"),
 (r"\bis live\b","is active"),(r"\bare live\b","are active"),(r"\blive (worker|workers)\b",r"active \1"),(r"\b[Nn]obody is live\b","nobody is active"),
+(r"\b([Aa]) active\b",r"\1n active"),
 ]
 def sub(t):
     for a,b in R: t=re.sub(a,b,t)
