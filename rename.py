@@ -348,7 +348,7 @@ FNS = {}  # file -> list of (start, end, name, impl or None)
 
 
 def block_end(t, z, i):
-    d = 0
+    d = flat = 0
     while i < len(t):
         if z[i] == "c":
             if t[i] == "{":
@@ -357,7 +357,11 @@ def block_end(t, z, i):
                 d -= 1
                 if d == 0:
                     return i + 1
-            elif t[i] == ";" and d == 0:
+            elif t[i] in "[(":
+                flat += 1
+            elif t[i] in "])":
+                flat -= 1
+            elif t[i] == ";" and d == 0 and flat <= 0:
                 return i + 1
         i += 1
     return i
