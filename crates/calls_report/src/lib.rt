@@ -17,5 +17,5 @@ mod words;
 
 pub use certificate::{Certificate, start_at};
 pub use checking::{TEXT_MAX, check, linearize, note_unread};
-pub use notes::{say_certificate, say_fault};
+pub use notes::{say_certificate, say_fault, say_refusal, say_undecided};
 pub use status::Status;

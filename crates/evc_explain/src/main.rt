@@ -4,8 +4,13 @@
 mod explaining;
 mod form;
 mod good;
-mod histories;
+mod judging;
+mod playing;
+mod reasons;
+mod round;
 mod seeking;
+mod telling;
+mod told;
 
 use crate::explaining::explain;
 use ec_text::Out;

@@ -1,0 +1,125 @@
+//! What is said of a text, by what it is.
+ghost use Rattle.std.specs.Prelude.{◌≡◌, ◌≤◌, IfOk, length};
+ghost use Rattle.ec_trace.specs.declared.read.TheConstants.{TRACE_MAX};
+ghost use Rattle.ec_explain.specs.Findings.{finding_text, of_whole};
+ghost use Rattle.ec_script.specs.Confined.{IsPlan};
+ghost use Rattle.ec_script.specs.Outcome.{shown_plan};
+ghost use Rattle.evc_engine.specs.declared.status.Status.TheVariants.{Done, Refused};
+ghost use Rattle.evc_explain.specs.Played.{turn_text};
+ghost use Rattle.evc_explain.specs.Said.{IsTold};
+ghost use Rattle.evc_explain.specs.Tells.{Tells, TellsCalls, TellsFault, TellsPlan, TellsScript};
+ghost use Rattle.evc_explain.specs.Tells.{TellsTrace, played_text};
+
+use crate::form::{Form, form_of};
+use crate::judging::tell_histories;
+use crate::playing::left_text;
+use crate::reasons::{read_text, reason_of};
+use crate::seeking::finding_of;
+use crate::told::{Said, Told, bytes_of, tell_finding, tell_good};
+use ec_count::WorkerId;
+use ec_explain::{Cause, of_whole, script_finding};
+use ec_heading::Heading;
+use ec_runner::{Report, SimFault, simulate};
+use ec_script::{Plan, ScriptFault, parse};
+use ec_trace::{TRACE_MAX, TraceFault};
+use std::alloc::{AllocError, Global};
+
+/// Returns what is found wrong with a text that has this fault as a trace.
+fn tell_fault(alloc: Global, text: &[u8], fault: &TraceFault) -> Result<Told, AllocError>
+    ensures { IfOk result (TellsFault text.now fault.now) }
+{
+    let finding = finding_of(alloc, text, fault)?;
+    let reason = reason_of(alloc, text, fault)?;
+    tell_finding(alloc, &finding, reason.as_slice(), text)
+}
+
+/// Returns what is said of a trace.
+fn tell_trace(alloc: Global, text: &[u8]) -> Result<Told, AllocError>
+    ensures { IfOk result (TellsTrace text.now) }
+{
+    match read_text(alloc, text) {
+        Ok(traced) => tell_good(alloc, &Said::GoodTrace(&traced)),
+        Err(TraceFault::Memory | TraceFault::Read) => Err(AllocError),
+        Err(fault) => tell_fault(alloc, text, &fault),
+    }
+}
+
+/// Returns what is said of a script whose schedule was played.
+fn tell_played(alloc: Global, plan: &Plan, report: &Report) -> Result<Told, AllocError>
+    requires { length report.now.outcomes.items ≤ 16 }
+    ensures { IfOk result (IsTold (played_text plan.now report.now) Done) }
+{
+    let left = left_text(
+        alloc,
+        &plan.heading,
+        &report.run,
+        plan.schedule.as_slice(),
+        report.outcomes.as_slice(),
+    )?;
+    tell_good(alloc, &Said::GoodScript(plan, left.as_slice()))
+}
+
+/// Returns what is said of a script whose schedule has a turn of a worker that has ended.
+fn tell_turn(
+    alloc: Global,
+    text: &[u8],
+    heading: &Heading,
+    place: usize,
+    worker: WorkerId,
+) -> Result<Told, AllocError>
+    ensures { IfOk result (IsTold (finding_text (of_whole Cause.TurnOfEnded)
+        (turn_text heading.now.words place worker) text.now) Refused) }
+{
+    let more = bytes_of(alloc, &Said::Turn(heading, place, worker))?;
+    tell_finding(alloc, &of_whole(Cause::TurnOfEnded), more.as_slice(), text)
+}
+
+/// Returns what is said of a script, by its parts.
+fn tell_plan(alloc: Global, text: &[u8], plan: &Plan) -> Result<Told, AllocError>
+    requires { IsPlan (shown_plan plan.now) }
+    ensures { IfOk result (TellsPlan text.now plan.now) }
+{
+    plan.heading.setup().known();
+    match simulate(alloc, plan) {
+        Ok(report) => tell_played(alloc, plan, &report),
+        Err(SimFault::Ended { place, worker }) => {
+            tell_turn(alloc, text, &plan.heading, place, worker)
+        }
+        Err(SimFault::Memory) => Err(AllocError),
+    }
+}
+
+/// Returns what is said of a script.
+fn tell_script(alloc: Global, text: &[u8]) -> Result<Told, AllocError>
+    ensures { IfOk result (TellsScript text.now) }
+{
+    match parse(alloc, text) {
+        Ok(plan) => tell_plan(alloc, text, &plan),
+        Err(ScriptFault::Memory) => Err(AllocError),
+        Err(ScriptFault::At { line, kind }) => {
+            let finding = script_finding(kind, line, text);
+            tell_finding(alloc, &finding, b"", text)
+        }
+    }
+}
+
+/// Returns what is said of histories of calls.
+fn tell_calls(alloc: Global, text: &[u8]) -> Result<Told, AllocError>
+    ensures { IfOk result (TellsCalls text.now) }
+{
+    if text.len() > TRACE_MAX {
+        return tell_finding(alloc, &of_whole(Cause::TooLarge), b"", text);
+    }
+    tell_histories(alloc, text)
+}
+
+/// Returns what is said of a text, by how its first line begins.
+pub(crate) fn tell(alloc: Global, text: &[u8]) -> Result<Told, AllocError>
+    ensures { IfOk result (Tells text.now) }
+{
+    match form_of(text) {
+        Form::Trace => tell_trace(alloc, text),
+        Form::Script => tell_script(alloc, text),
+        Form::Calls => tell_calls(alloc, text),
+    }
+}
