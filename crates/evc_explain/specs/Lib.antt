@@ -3,6 +3,7 @@ pub mod Seeking
 pub mod Good
 pub mod Reasons
 pub mod Played
+pub mod GoingOn
 pub mod Said
 pub mod Judged
 pub mod Tells

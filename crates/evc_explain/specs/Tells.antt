@@ -18,6 +18,7 @@ use Rattle.ec_runner.specs.Reported.{IsReport}
 use Rattle.ec_runner.specs.Schedules.{HasEnded}
 use Rattle.ec_script.specs.declared.fault.Kind.{Kind}
 use Rattle.evc_explain.specs.Forms.{form_of}
+use Rattle.evc_explain.specs.GoingOn.{SaysBeyond}
 use Rattle.evc_explain.specs.Judged.{TellsHistories}
 use Rattle.evc_explain.specs.declared.form.Form.{Form}
 use Rattle.evc_explain.specs.declared.form.Form.TheVariants as forms
@@ -53,12 +54,17 @@ abbrev pub played_text : Plan → Report → List ℕ
 played_text p r =
     good_script (shown_plan p) ++ left_text p.heading.words r.run p.schedule.items r.outcomes.items
 
+-- and what it comes to beyond its schedule, if its workers go on in turn
+abbrev pub TellsPlayed : Plan → Report → Told → Type 0
+TellsPlayed p r t =
+    (more : List ℕ) × SaysBeyond p more × IsTold (played_text p r ++ more) Done t
+
 -- of a script: its schedule was played, and that is said; or it has a turn of a worker that has
 -- ended
 abbrev pub TellsPlan : List ℕ → Plan → Told → Type 0
 TellsPlan text p t =
     ((r : Report) × IsReport p.heading.setup p.programs.items p.schedule.items r
-    × IsTold (played_text p r) Done t)
+    × TellsPlayed p r t)
     ⊎ ((place w : ℕ) × HasEnded p.heading.setup p.programs.items p.schedule.items place w
     × IsTold (finding_text (of_whole causes.TurnOfEnded) (turn_text p.heading.words place w) text)
     Refused t)

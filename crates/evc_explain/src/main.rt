@@ -3,6 +3,7 @@
 
 mod explaining;
 mod form;
+mod going_on;
 mod good;
 mod judging;
 mod playing;

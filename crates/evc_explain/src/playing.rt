@@ -138,7 +138,7 @@ fn add_ends(
 }
 
 /// Returns how the workers are left at the end of a run of a schedule.
-fn ends_of(
+pub(crate) fn ends_of(
     alloc: Global,
     run: &Run,
     schedule: &[WorkerId],
@@ -292,7 +292,7 @@ fn is_waiting(end: &End) -> bool
 }
 
 /// Returns whether a worker can go on.
-fn goes_on(end: &End) -> bool
+pub(crate) fn goes_on(end: &End) -> bool
     ensures { result ≡ goes_on end.now }
 {
     match end {
@@ -319,7 +319,7 @@ fn put_deadlock<W: Write>(out: &mut Out<'_, W>, ends: &[End])
 
 /// Puts how the workers are left.
 #[tactic(auto, unfolding(crate::specs::Played::ends_text))]
-fn put_ends<W: Write>(out: &mut Out<'_, W>, heading: &Heading, ends: &[End])
+pub(crate) fn put_ends<W: Write>(out: &mut Out<'_, W>, heading: &Heading, ends: &[End])
     requires { length ends.now ≤ 16 }
     ensures { Puts out.old out.new (ends_text heading.now.words ends.now) }
 {

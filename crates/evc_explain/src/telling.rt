@@ -1,16 +1,18 @@
 //! What is said of a text, by what it is.
-ghost use Rattle.std.specs.Prelude.{◌≡◌, ◌≤◌, IfOk, length};
+ghost use Rattle.std.specs.Prelude.{◌≡◌, ◌≤◌, ◌<◌, IfOk, length};
+ghost use Rattle.std.specs.List.{All};
 ghost use Rattle.ec_trace.specs.declared.read.TheConstants.{TRACE_MAX};
 ghost use Rattle.ec_explain.specs.Findings.{finding_text, of_whole};
 ghost use Rattle.ec_script.specs.Confined.{IsPlan};
 ghost use Rattle.ec_script.specs.Outcome.{shown_plan};
-ghost use Rattle.evc_engine.specs.declared.status.Status.TheVariants.{Done, Refused};
+ghost use Rattle.evc_engine.specs.declared.status.Status.TheVariants.{Refused};
 ghost use Rattle.evc_explain.specs.Played.{turn_text};
 ghost use Rattle.evc_explain.specs.Said.{IsTold};
 ghost use Rattle.evc_explain.specs.Tells.{Tells, TellsCalls, TellsFault, TellsPlan, TellsScript};
-ghost use Rattle.evc_explain.specs.Tells.{TellsTrace, played_text};
+ghost use Rattle.evc_explain.specs.Tells.{TellsPlayed, TellsTrace};
 
 use crate::form::{Form, form_of};
+use crate::going_on::beyond;
 use crate::judging::tell_histories;
 use crate::playing::left_text;
 use crate::reasons::{read_text, reason_of};
@@ -45,9 +47,12 @@ fn tell_trace(alloc: Global, text: &[u8]) -> Result<Told, AllocError>
 }
 
 /// Returns what is said of a script whose schedule was played.
-fn tell_played(alloc: Global, plan: &Plan, report: &Report) -> Result<Told, AllocError>
-    requires { length report.now.outcomes.items ≤ 16 }
-    ensures { IfOk result (IsTold (played_text plan.now report.now) Done) }
+fn tell_played(alloc: Global, plan: &mut Plan, report: &Report) -> Result<Told, AllocError>
+    requires outcomes { length report.now.outcomes.items ≤ 16 }
+    requires programs { length plan.old.programs.items ≡ plan.old.heading.setup.workers }
+    requires few { plan.old.heading.setup.workers ≤ 16 }
+    requires schedule { All (λ w. w < plan.old.heading.setup.workers) plan.old.schedule.items }
+    ensures { IfOk result (TellsPlayed plan.old report.now) }
 {
     let left = left_text(
         alloc,
@@ -56,7 +61,10 @@ fn tell_played(alloc: Global, plan: &Plan, report: &Report) -> Result<Told, Allo
         plan.schedule.as_slice(),
         report.outcomes.as_slice(),
     )?;
-    tell_good(alloc, &Said::GoodScript(plan, left.as_slice()))
+    let mut told = tell_good(alloc, &Said::GoodScript(plan, left.as_slice()))?;
+    let more = beyond(alloc, plan)?;
+    told.bytes.extend_from_slice(more.as_slice())?;
+    Ok(told)
 }
 
 /// Returns what is said of a script whose schedule has a turn of a worker that has ended.
@@ -75,9 +83,9 @@ fn tell_turn(
 }
 
 /// Returns what is said of a script, by its parts.
-fn tell_plan(alloc: Global, text: &[u8], plan: &Plan) -> Result<Told, AllocError>
-    requires { IsPlan (shown_plan plan.now) }
-    ensures { IfOk result (TellsPlan text.now plan.now) }
+fn tell_plan(alloc: Global, text: &[u8], plan: &mut Plan) -> Result<Told, AllocError>
+    requires { IsPlan (shown_plan plan.old) }
+    ensures { IfOk result (TellsPlan text.now plan.old) }
 {
     plan.heading.setup().known();
     match simulate(alloc, plan) {
@@ -94,7 +102,7 @@ fn tell_script(alloc: Global, text: &[u8]) -> Result<Told, AllocError>
     ensures { IfOk result (TellsScript text.now) }
 {
     match parse(alloc, text) {
-        Ok(plan) => tell_plan(alloc, text, &plan),
+        Ok(mut plan) => tell_plan(alloc, text, &mut plan),
         Err(ScriptFault::Memory) => Err(AllocError),
         Err(ScriptFault::At { line, kind }) => {
             let finding = script_finding(kind, line, text);
