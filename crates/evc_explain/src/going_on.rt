@@ -1,6 +1,7 @@
 //! What a script comes to if its workers go on in turn after its schedule.
-ghost use Rattle.std.specs.Prelude.{◌≡◌, ◌++◌, ◌≤◌, ◌+◌, ◌<◌, IfOk, IfSome, OnOk, length, not};
-ghost use Rattle.std.specs.List.{All, list_any};
+ghost use Rattle.std.specs.Prelude.{◌≡◌, ℕ, ◌≤◌, ◌+◌, ◌<◌, List, IfOk, IfSome, OnOk, length, not};
+ghost use Rattle.std.specs.List.{All, list_all, list_any};
+ghost use Rattle.ec_runner.specs.Reported.{IsReport};
 ghost use Rattle.ec_text.specs.Puts.{Puts};
 ghost use Rattle.evc_explain.specs.Played.{goes_on};
 ghost use Rattle.evc_explain.specs.GoingOn.{AreLeft, Continues, SaysBeyond, come_text, is_over};
@@ -63,7 +64,16 @@ fn add_rounds(
 
 /// Plays the schedule of a script. If it has a turn of a worker that has ended, cuts it there, but
 /// keeps its first turns.
-fn play_or_cut(alloc: Global, plan: &mut Plan, first: usize) -> Result<Option<Report>, AllocError> {
+fn play_or_cut(alloc: Global, plan: &mut Plan, first: usize) -> Result<Option<Report>, AllocError>
+    requires programs { length plan.old.programs.items ≡ plan.old.heading.setup.workers }
+    requires schedule { All (λ w. w < plan.old.heading.setup.workers) plan.old.schedule.items }
+    ensures same { (plan.new.heading ≡ plan.old.heading) × (plan.new.programs ≡ plan.old.programs) }
+    ensures report { IfOk result (λ found. IfSome found (λ r. (plan.new.schedule ≡ plan.old.schedule)
+        × IsReport plan.old.heading.setup plan.old.programs.items plan.old.schedule.items r)) }
+    ensures continues { (own : List ℕ) → length own ≡ first
+        → Continues plan.old.heading.setup.workers own plan.old.schedule.items
+        → Continues plan.old.heading.setup.workers own plan.new.schedule.items }
+{
     match simulate(alloc, plan) {
         Ok(report) => Ok(Some(report)),
         Err(SimFault::Ended { place, .. }) => {
