@@ -76,7 +76,7 @@ SIZES = {
     "docs/GALLERY.md": 5,
     "docs/COMPARISON.md": 2.5,
     "docs/LIBRARY.md": 8,
-    "docs/THEORY.md": 19,
+    "docs/THEORY.md": 19.5,
     "docs/GUARANTEES.md": 10,
     "docs/DESIGN.md": 9,
     "CONTRIBUTING.md": 6,
