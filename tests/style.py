@@ -77,7 +77,7 @@ SIZES = {
     "docs/COMPARISON.md": 2.5,
     "docs/LIBRARY.md": 8,
     "docs/THEORY.md": 19.5,
-    "docs/GUARANTEES.md": 10,
+    "docs/GUARANTEES.md": 10.5,
     "docs/DESIGN.md": 9,
     "CONTRIBUTING.md": 6,
     "docs/PERFORMANCE.md": 3,
