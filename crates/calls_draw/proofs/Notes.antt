@@ -15,16 +15,20 @@ abbrev pub PutsSome : Outgoing → Outgoing → Type 0
 PutsSome old new = (note : List ℕ) × Puts old new note
 
 both : (old mid new : Outgoing) → PutsSome old mid → PutsSome mid new → PutsSome old new
-both old mid new one other =
-    (one.0 ++ other.0, λ first all holds.
-    subst (Holds first new) (append_assoc all one.0 other.0)
-    (other.1 first (all ++ one.0) (one.1 first all holds)))
+both old mid new one other = (
+  one.0 ++ other.0,
+  λ first all holds.
+      subst (Holds first new) (append_assoc all one.0 other.0)
+      (other.1 first (all ++ one.0) (one.1 first all holds)),
+)
 
 same : (old new : Outgoing) → new ≡ old → PutsSome old new
-same old new is =
-    ([], λ first all holds.
-    subst (λ o. Holds first o (all ++ [])) (sym is)
-    (subst (Holds first old) (sym (append-nil all)) holds))
+same old new is = (
+  [],
+  λ first all holds.
+      subst (λ o. Holds first o (all ++ [])) (sym is)
+      (subst (Holds first old) (sym (append-nil all)) holds),
+)
 
 ends_say : (status : Status) (m : ℕ) (qs : List (List ℕ)) (old new : Outgoing)
     → Ends status m qs old new → PutsSome old new
@@ -104,7 +108,11 @@ pub noted : (text : List ℕ) (status : Status) (before after : Option (List ℕ
 noted text status before after w new note checks holds none works =
     let is : new ≡ at_first w (Some note) =
     at_is new w (Some note) (writer_stays text status before after w new checks) holds none
-    works in
-    (before, after, w, subst (λ (o : Outgoing). ChecksWhole status text
-    (record { out = before; notes = at_first w (Some []) })
-    (record { out = after; notes = o })) is checks)
+    works in (
+      before,
+      after,
+      w,
+      subst (λ (o : Outgoing). ChecksWhole status text
+          (record { out = before; notes = at_first w (Some []) })
+          (record { out = after; notes = o })) is checks,
+    )

@@ -111,9 +111,9 @@ module _ (t : Tables) (d : Database) (h : List Entry) (w : ℕ) where
       by_worker : (x.worker == w && begins_list Rules (Block m) x.act) ≡ false
       by_worker = elim (x.worker == w) as (λ b. (x.worker == w) ≡ b
           → (b && begins_list Rules (Block m) x.act) ≡ false) [
-        | true ↦ λ e. none (eqb-true x.worker w e)
-        | false ↦ λ e. refl
-      ] refl
+            | true ↦ λ e. none (eqb-true x.worker w e)
+            | false ↦ λ e. refl
+          ] refl
 
   -- behind the last entry
   starts_end : (m : ℕ) → slice_get h m ≡ None → IsStarted m → IsStarted (suc m)
@@ -263,10 +263,10 @@ module _ (t : Tables) (d : Database) (h : List Entry) (w : ℕ) where
         | None ↦ λ at.
             (let same = past_end h m at in (
               λ c calls is. starts_end m at
-              ((started m).0 c calls (ap (block Rules w) (sym same) ∙ is)),
+                  ((started m).0 c calls (ap (block Rules w) (sym same) ∙ is)),
               λ call is blk on. starts_end m at
-              ((started m).1 call (ap (under_way w) (sym same) ∙ is) (ap (block Rules w) (sym same)
-              ∙ blk) on),
+                  ((started m).1 call (ap (under_way w) (sym same) ∙ is) (ap (block Rules w) (sym same)
+                  ∙ blk) on),
             ))
         | Some x ↦ λ at.
             (elim (x.worker == w) as (λ b. (x.worker == w) ≡ b
@@ -278,18 +278,22 @@ module _ (t : Tables) (d : Database) (h : List Entry) (w : ℕ) where
                   let none : x.worker ≡ w → begins_list Rules (Block m) x.act ≡ false =
                   λ own. absurd (true≢false (sym (eq-eqb x.worker w own) ∙ off)) in (
                     λ c calls is. starts_before m x at none
-                    ((started m).0 c calls (sym blocks ∙ is)),
+                        ((started m).0 c calls (sym blocks ∙ is)),
                     λ call is blk on. starts_before m x at none
-                    ((started m).1 call (sym ways ∙ is) (sym blocks ∙ blk) on),
+                        ((started m).1 call (sym ways ∙ is) (sym blocks ∙ blk) on),
                   ))
               | true ↦ λ e.
                   (let own = eqb-true x.worker w e in
                   elim (begins_list Rules (Block m) x.act) as (λ b. begins_list Rules (Block m)
                   x.act ≡ b → HasCalls (suc m) × HasCall (suc m)) [
-                    | true ↦ λ begins. (λ c calls is. starts_here m x at own begins,
-                        λ call is blk on. starts_here m x at own begins)
-                    | false ↦ λ none. (own_calls m x at own none (started m).0 (started m).1,
-                        own_call m x at own none (started m).1)
+                    | true ↦ λ begins. (
+                      λ c calls is. starts_here m x at own begins,
+                      λ call is blk on. starts_here m x at own begins,
+                    )
+                    | false ↦ λ none. (
+                      own_calls m x at own none (started m).0 (started m).1,
+                      own_call m x at own none (started m).1,
+                    )
                   ] refl)
             ] refl)
       ] refl

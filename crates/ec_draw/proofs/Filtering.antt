@@ -15,9 +15,9 @@ filter_more f [] x = refl
 filter_more f (y ∷ ys) x =
     elim (f y) as (λ b. cond b (y ∷ filter f (ys ++ x ∷ [])) (filter f (ys ++ x ∷ []))
     ≡ cond b (y ∷ filter f ys) (filter f ys) ++ cond (f x) (x ∷ []) []) [
-  | true ↦ ap (λ z. y ∷ z) (filter_more f ys x)
-  | false ↦ filter_more f ys x
-]
+      | true ↦ ap (λ z. y ∷ z) (filter_more f ys x)
+      | false ↦ filter_more f ys x
+    ]
 
 pub filter_behind : {X : Type 0} (f : X → Bool) (xs : List X) (o : Option X)
     → filter f (xs ++ option_to_list o) ≡ filter f xs ++ filter f (option_to_list o)

@@ -61,16 +61,16 @@ latest_is : (w : ℕ) (h : List Entry) (first : ℕ) (x : Entry) → slice_get h
 latest_is w h first x at own zero lt none = absurd (omega arith)
 latest_is w h first x at own (suc k) lt none =
     elim (first == k) as (λ b. (first == k) ≡ b → begun_at w (past_at (suc k) h) ≡ first) [
-  | true ↦ λ e.
-      (let same : first ≡ k = eqb-true first k e in
-      ap (λ j. begun_at w (past_at (suc j) h)) (sym same)
-      ∙ ap (λ j. begun_at w (past_at j h)) (sym (add-one first)) ∙ begun_here w h first x at own)
-  | false ↦ λ e.
-      (let other = eqb-false first k e in
-      let before : begun_at w (past_at k h) ≡ first =
-      latest_is w h first x at own k (omega arith) (λ i y low high. none i y low (omega arith)) in
-      next (slice_get h k) refl before (λ y there. none k y (omega arith) (omega arith) there))
-] refl
+      | true ↦ λ e.
+          (let same : first ≡ k = eqb-true first k e in
+          ap (λ j. begun_at w (past_at (suc j) h)) (sym same)
+          ∙ ap (λ j. begun_at w (past_at j h)) (sym (add-one first)) ∙ begun_here w h first x at own)
+      | false ↦ λ e.
+          (let other = eqb-false first k e in
+          let before : begun_at w (past_at k h) ≡ first =
+          latest_is w h first x at own k (omega arith) (λ i y low high. none i y low (omega arith)) in
+          next (slice_get h k) refl before (λ y there. none k y (omega arith) (omega arith) there))
+    ] refl
   where
     next : (o : Option Entry) → slice_get h k ≡ o → begun_at w (past_at k h) ≡ first
         → ((y : Entry) → slice_get h k ≡ Some y → begins w y ≡ false)
@@ -83,9 +83,9 @@ latest_is w h first x at own (suc k) lt none =
 no_beginning : (w : ℕ) (y : Entry) → (y.worker ≡ w → y.act ≡ Go) → begins w y ≡ false
 no_beginning w y goes =
     elim (y.worker == w) as (λ b. (y.worker == w) ≡ b → (b && not (is_go y.act)) ≡ false) [
-  | true ↦ λ own. ap (λ a. not (is_go a)) (goes (eqb-true y.worker w own))
-  | false ↦ λ other. refl
-] refl
+      | true ↦ λ own. ap (λ a. not (is_go a)) (goes (eqb-true y.worker w own))
+      | false ↦ λ other. refl
+    ] refl
 
 began : (w : ℕ) (h : List Entry) (k : ℕ) (call : CallSoFar) (is : IsUnderWay w h k call)
     → begun_at w (past_at k h) ≡ is.first
@@ -105,6 +105,9 @@ bars_begin cut w h call pending =
     (cut w (length h) h call).0 (ap (under_way w) all ∙ pending) in
     let kept : Begun (begun_at w (reverse h)) (Some call) =
     subst (Begun (begun_at w (reverse h))) pending (call_begun w (reverse h)) in
-    let less : length call.moments - 1 ≡ kept.0 = omega (arith, kept.1) in
-    (is, ap (begun_at w) (sym all) ∙ began w h (length h) call is, kept.2
-    ∙ ap (position_of call.moments) (sym less))
+    let less : length call.moments - 1 ≡ kept.0 = omega (arith, kept.1) in (
+      is,
+      ap (begun_at w) (sym all) ∙ began w h (length h) call is,
+      kept.2
+          ∙ ap (position_of call.moments) (sym less),
+    )

@@ -151,8 +151,10 @@ tries_next a b d w x past before count i place starts hs gs small who at of same
     let span : record { first = slice_index starts i; last = place } ≡ span_at b.setup b.shape x
     past =
     ap (λ f. record { first = f; last = place }) first
-    ∙ ap (λ l. record { first = list_start (database_rules a.setup d x.worker) x.worker past;
-    last = l }) at ∙ here in
+    ∙ ap (λ l. record {
+      first = list_start (database_rules a.setup d x.worker) x.worker past;
+      last = l;
+    }) at ∙ here in
     let before_now : hs ≡ shades_shown b.setup b.shape w past = was
     ∙ ap (λ u. shades_shown u d w past) (sym on)
     ∙ ap (λ z. shades_shown b.setup z w past) (sym e) in

@@ -24,9 +24,11 @@ kept : {X : Type 0} (f : X → Bool) (xs : List X) (k : ℕ) (x : X) → slice_g
     → f x ≡ true → (j : ℕ) × (slice_get (filter f xs) j ≡ Some x)
 kept f [] k x at is = cc
 kept f (y ∷ ys) zero x at is =
-    let same : y ≡ x = cc in
-    (0, ap (λ b. slice_get (cond b (y ∷ filter f ys) (filter f ys)) 0) (ap f same ∙ is)
-    ∙ ap Some same)
+    let same : y ≡ x = cc in (
+      0,
+      ap (λ b. slice_get (cond b (y ∷ filter f ys) (filter f ys)) 0) (ap f same ∙ is)
+          ∙ ap Some same,
+    )
 kept f (y ∷ ys) (suc k) x at is =
     let r = kept f ys k x at is in
     put (f y) r.0 r.1
@@ -51,9 +53,12 @@ bars_are ascends t w h d acc =
       each = λ p in'.
           (let own : Contains ps p = All-contains (Contains ps) (filter (is_shown w) ps) p
           (All-filter (is_shown w) (Contains ps) ps (All-contains_itself ps)) in' in
-          let both = is.each p own in
-          (both.0, both.1, All-contains (λ q. is_shown w q ≡ true) (filter (is_shown w) ps) p
-          (filter_passes (is_shown w) ps) in'));
+          let both = is.each p own in (
+            both.0,
+            both.1,
+            All-contains (λ q. is_shown w q ≡ true) (filter (is_shown w) ps) p
+                (filter_passes (is_shown w) ps) in',
+          ));
       every = λ p call point in'. filter_has (is_shown w) ps p (is.every p call point) in';
     }
 

@@ -129,15 +129,15 @@ pub dots_all : (t : Tables) (w : Window) (h : List Entry) (k : ℕ) → min w.to
 dots_all t w h k most =
     elim (nat_le (length h) k) as (λ b. nat_le (length h) k ≡ b
     → dots_of t w (past_at k h) ≡ dots_of t w (reverse h)) [
-  | true ↦ λ e. ap (λ z. dots_of t w (reverse z)) (take_all k h (leb-true (length h) k e))
-  | false ↦ λ e.
-      (let below = leb-false (length h) k e in
-      let long : length (past_at k h) ≡ k = length-reverse (take k h)
-      ∙ length-take-le k h (omega arith) in
-      sym (ap (λ z. dots_of t w (reverse z)) (sym (take-append-drop k h))
-      ∙ ap (dots_of t w) (reverse-append (take k h) (drop k h))
-      ∙ dots_after t w (reverse (drop k h)) (past_at k h) (omega (arith, clamps, long))))
-] refl
+      | true ↦ λ e. ap (λ z. dots_of t w (reverse z)) (take_all k h (leb-true (length h) k e))
+      | false ↦ λ e.
+          (let below = leb-false (length h) k e in
+          let long : length (past_at k h) ≡ k = length-reverse (take k h)
+          ∙ length-take-le k h (omega arith) in
+          sym (ap (λ z. dots_of t w (reverse z)) (sym (take-append-drop k h))
+          ∙ ap (dots_of t w) (reverse-append (take k h) (drop k h))
+          ∙ dots_after t w (reverse (drop k h)) (past_at k h) (omega (arith, clamps, long))))
+    ] refl
 
 pub none_here : {X : Type 0} (h : List X) (i : ℕ) → slice_get h i ≡ None → i < length h → ⊥
 none_here [] i e lt = omega arith

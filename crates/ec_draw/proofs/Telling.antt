@@ -66,8 +66,11 @@ pub split_last : (k m : ℕ) → k ≤ suc m → (k ≤ m) ⊎ (k ≡ suc m)
 split_last zero m le = inl (omega arith)
 split_last (suc k) zero le = inr (omega arith)
 split_last (suc k) (suc m) le =
-    elim (split_last k m (omega arith)) [ inl less ↦ inl (omega arith) | inr same ↦
-    inr (ap suc same) ]
+    elim (split_last k m (omega arith)) [
+      | inl less ↦ inl (omega arith)
+      | inr same ↦
+          inr (ap suc same)
+    ]
 
 -- BALANCES
 
@@ -246,7 +249,7 @@ tries_have_shades t d h k a ends =
     let within : k < length h = slice_get_within h k ends.entry ends.is in (
       s,
       ap (λ q. slice_get (shades_in t d (reverse q)) i) (sym (take-length h))
-      ∙ shade_stays t d h (suc k) (length h) i s next (omega arith),
+          ∙ shade_stays t d h (suc k) (length h) i s next (omega arith),
       long_past h k ends.entry ends.is,
       refl,
     )

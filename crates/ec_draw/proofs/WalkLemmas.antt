@@ -101,9 +101,11 @@ module _ (t : Tables) (all : List Semaphore) (w : Window) where
   walk_ends gs starts list past each walked = λ i g at.
       (let was = each i g at in
       let now = walked i g at in
-      let same : now.0 ≡ was.0 = (let one = now.2 in let two = was.1 in cc) in
-      (now.1, now.3,
-      finds_last g was.0 now.1 past was.2 (subst (λ a. FindsOn a now.1 past) same now.5)))
+      let same : now.0 ≡ was.0 = (let one = now.2 in let two = was.1 in cc) in (
+        now.1,
+        now.3,
+        finds_last g was.0 now.1 past was.2 (subst (λ a. FindsOn a now.1 past) same now.5),
+      ))
 
 -- WHAT IS HANDED OUT
 

@@ -58,8 +58,13 @@ number_in t w past act = None
 -- the dot of an entry at the end of a past; the entry's position is the length of its past
 abbrev pub dot_of : Tables → List Entry → Entry → Dot
 dot_of t past x =
-    record { worker = x.worker; op = op_in x.worker past x.act; position = length past;
-    component = component_in t x.worker past x.act; number = number_in t x.worker past x.act }
+    record {
+      worker = x.worker;
+      op = op_in x.worker past x.act;
+      position = length past;
+      component = component_in t x.worker past x.act;
+      number = number_in t x.worker past x.act;
+    }
 
 -- the dots of a past: of each entry that is shown, in order
 unfoldable pub dots_of : Tables → Window → List Entry → List Dot

@@ -331,16 +331,25 @@ moving_going m x past on is =
 pub finds_off : (start now : Finding) (x : Entry) (past : List Entry)
     → is_on (group_of start) (op_at x past) ≡ false → FindsOn start now past
     → FindsOn start now (x ∷ past)
-finds_off (finds.Balance a) (finds.Balance b) x past off on =
-    (on.0, on.1, course_off b x past
-    (subst (λ (s : Semaphore). semaphores.is_on s (op_at x past) ≡ false) (sym on.1) off) on.2)
-finds_off (finds.Tries a) (finds.Tries b) x past off on =
-    (on.0, on.1, on.2,
-    trying_off b x past
-    (subst (λ (d : Database). databases.is_on d (op_at x past) ≡ false) (sym on.0) off) on.3)
-finds_off (finds.Moves a) (finds.Moves b) x past off on =
-    (on.0, on.1, moving_off b x past
-    (subst (λ (s : Buffer). buffers.is_on s (op_at x past) ≡ false) (sym on.0) off) on.2)
+finds_off (finds.Balance a) (finds.Balance b) x past off on = (
+  on.0,
+  on.1,
+  course_off b x past
+      (subst (λ (s : Semaphore). semaphores.is_on s (op_at x past) ≡ false) (sym on.1) off) on.2,
+)
+finds_off (finds.Tries a) (finds.Tries b) x past off on = (
+  on.0,
+  on.1,
+  on.2,
+  trying_off b x past
+      (subst (λ (d : Database). databases.is_on d (op_at x past) ≡ false) (sym on.0) off) on.3,
+)
+finds_off (finds.Moves a) (finds.Moves b) x past off on = (
+  on.0,
+  on.1,
+  moving_off b x past
+      (subst (λ (s : Buffer). buffers.is_on s (op_at x past) ≡ false) (sym on.0) off) on.2,
+)
 finds_off (finds.Both a) now x past off on = absurd (true≢false off)
 finds_off start now x past off on = absurd on
 
@@ -352,7 +361,8 @@ finds_stay (finds.Tries a) (finds.Tries b) x past on is =
     (is.0, is.1, is.2, trying_going b x past on is.3)
 finds_stay (finds.Moves a) (finds.Moves b) x past on is =
     (is.0, is.1, moving_going b x past on is.2)
-finds_stay (finds.Both a) (finds.Both b) x past on (course, pairs) =
-    ((course.0, course.1, course_going b.course x past on course.2),
-    (pairs.0, pairs.1, pairing_going b.pairs x past on pairs.2))
+finds_stay (finds.Both a) (finds.Both b) x past on (course, pairs) = (
+  (course.0, course.1, course_going b.course x past on course.2),
+  (pairs.0, pairs.1, pairing_going b.pairs x past on pairs.2),
+)
 finds_stay start now x past on is = absurd is

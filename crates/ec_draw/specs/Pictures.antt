@@ -43,6 +43,12 @@ shapes t gs w h = record {
 
 -- the shapes that a picture keeps
 abbrev pub kept : Picture → Shapes
-kept p = record { window = p.window; calls = p.calls.items; begun = p.begun.items;
-    dots = p.dots.items; curves = map shown p.curves.items; shades = map seen p.shades.items;
-    arrows = p.arrows.items }
+kept p = record {
+  window = p.window;
+  calls = p.calls.items;
+  begun = p.begun.items;
+  dots = p.dots.items;
+  curves = map shown p.curves.items;
+  shades = map seen p.shades.items;
+  arrows = p.arrows.items;
+}

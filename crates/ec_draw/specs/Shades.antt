@@ -54,8 +54,10 @@ shaded count span a = record { count = count; span = span; accepted = a }
 -- the list that the worker of an entry is in when it comes at the end of a past, from its first
 -- entry to this one
 abbrev pub span_at : Tables → Database → Entry → List Entry → Span
-span_at t d x past = record { first = list_start (database_rules t d x.worker) x.worker past;
-    last = length past }
+span_at t d x past = record {
+  first = list_start (database_rules t d x.worker) x.worker past;
+  last = length past;
+}
 
 -- the shade of the accepting try that an entry ends, if it ends one
 abbrev pub shade_at : Tables → Database → Entry → List Entry → Option Shaded

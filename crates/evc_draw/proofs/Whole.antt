@@ -85,6 +85,6 @@ pub cut_told : (v : View) (t : Recounted) (old new : Outlets)
 cut_told v t old new puts out keeps =
     elim (is_wide (window_on v.range (length t.entries))) as (λ b. is_wide
     (window_on v.range (length t.entries)) ≡ b → TellsCut v t old new) [
-  | true ↦ λ e. inr (e, (puts e, out e))
-  | false ↦ λ e. inl (e, keeps e)
-] refl
+      | true ↦ λ e. inr (e, (puts e, out e))
+      | false ↦ λ e. inl (e, keeps e)
+    ] refl

@@ -7,5 +7,5 @@ invariant-loop-place l = record {
   few : length l.initial.heights.items ≤ l._place;
   within : l._place ≤ l.many;
   are : l.heights.items ≡ l.initial.heights.items
-  ++ replicate (l._place - length l.initial.heights.items) l.number;
+      ++ replicate (l._place - length l.initial.heights.items) l.number;
 }
