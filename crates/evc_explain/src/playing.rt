@@ -62,7 +62,7 @@ fn awaited_by(op: Act) -> Option<Awaited>
 }
 
 /// Returns the await that a worker is in at the end of a run.
-fn awaited(run: &Run, worker: WorkerId) -> Option<Awaited>
+fn pending_await(run: &Run, worker: WorkerId) -> Option<Awaited>
     ensures { result ≡ awaited worker (reverse run.now.entries) }
 {
     match run.world().under_way(worker) {
@@ -108,7 +108,7 @@ fn end_of(run: &Run, schedule: &[WorkerId], worker: WorkerId, outcome: &Outcome)
         ≡ end_of run.now.setup (reverse run.now.entries) schedule.now worker outcome.now }
 {
     match *outcome {
-        Outcome::Running => running_end(run, has_turn(schedule, worker), awaited(run, worker)),
+        Outcome::Running => running_end(run, has_turn(schedule, worker), pending_await(run, worker)),
         Outcome::Refused(refusal) => End::Refused(refusal),
         Outcome::ValueTooLarge => End::TooLarge,
         Outcome::Finished | Outcome::Stopped | Outcome::OutOfTurns | Outcome::Memory => End::Over,
