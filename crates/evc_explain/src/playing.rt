@@ -108,7 +108,11 @@ fn end_of(run: &Run, schedule: &[WorkerId], worker: WorkerId, outcome: &Outcome)
         ≡ end_of run.now.setup (reverse run.now.entries) schedule.now worker outcome.now }
 {
     match *outcome {
-        Outcome::Running => running_end(run, has_turn(schedule, worker), pending_await(run, worker)),
+        Outcome::Running => running_end(
+            run,
+            has_turn(schedule, worker),
+            pending_await(run, worker),
+        ),
         Outcome::Refused(refusal) => End::Refused(refusal),
         Outcome::ValueTooLarge => End::TooLarge,
         Outcome::Finished | Outcome::Stopped | Outcome::OutOfTurns | Outcome::Memory => End::Over,
