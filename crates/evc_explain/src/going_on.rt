@@ -7,6 +7,7 @@ ghost use Rattle.evc_explain.specs.Played.{goes_on};
 ghost use Rattle.evc_explain.specs.GoingOn.{AreLeft, Continues, SaysBeyond, come_text, is_over};
 
 use crate::playing::{End, ends_of, goes_on, put_ends};
+use crate::told::whole;
 use ec_count::WorkerId;
 use ec_heading::Heading;
 use ec_machine::Outcome;
@@ -178,8 +179,5 @@ pub(crate) fn beyond(alloc: Global, plan: &mut Plan) -> Result<Vec<u8>, AllocErr
     put_come(&mut out, &plan.heading, ends.as_slice());
     let done = out.finish();
     out.into_writer();
-    match done {
-        Ok(()) => Ok(bytes),
-        Err(_) => Err(AllocError),
-    }
+    whole(bytes, done)
 }

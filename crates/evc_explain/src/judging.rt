@@ -12,7 +12,8 @@ ghost use Rattle.evc_explain.specs.Judged.{seen_lines, count_reason, ticket_reas
 ghost use Rattle.evc_explain.specs.Judged.{distinct_reason, reason_for, IsShown, TellsRefused};
 ghost use Rattle.evc_explain.specs.Judged.{TellsOpen, open_text, Judges, TellsHistories, IsUnread};
 
-use crate::told::{Said, Told, bytes_of, tell_finding};
+use crate::good::ordered_bytes;
+use crate::told::{Told, tell_finding, whole};
 use calls_core::Call;
 use calls_report::{say_refusal, say_undecided};
 use calls_shapes::faulty_calls;
@@ -182,10 +183,7 @@ fn refusal_text(
     out.put(reason_for(&refusal.fault));
     let done = out.finish();
     out.into_writer();
-    match done {
-        Ok(()) => Ok(bytes),
-        Err(_) => Err(AllocError),
-    }
+    whole(bytes, done)
 }
 
 /// Returns what is said of a history that has no linearization.
@@ -220,10 +218,7 @@ fn open_text(
     put_seen(&mut out, text, read, undecided.cause.first.first);
     let done = out.finish();
     out.into_writer();
-    match done {
-        Ok(()) => Ok(bytes),
-        Err(_) => Err(AllocError),
-    }
+    whole(bytes, done)
 }
 
 /// Returns what is said of a history that is not decided.
@@ -270,7 +265,7 @@ fn tell_unread(alloc: Global, fault: TextFault, text: &[u8]) -> Result<Told, All
 fn add_ordered(alloc: Global, lines: &mut Vec<u8>, recording: &Recording) -> Result<(), AllocError>
     ensures { OnOk result (lines.new.items ≡ lines.old.items ++ ordered_text recording.now) }
 {
-    let bytes = bytes_of(alloc, &Said::Ordered(recording))?;
+    let bytes = ordered_bytes(alloc, recording)?;
     lines.extend_from_slice(bytes.as_slice())
 }
 

@@ -10,6 +10,7 @@ ghost use Rattle.evc_explain.specs.Played.{reached_words, end_text, end_lines, i
 ghost use Rattle.evc_explain.specs.Played.{is_deadlock, deadlock_text, ends_text, left_text};
 ghost use Rattle.evc_explain.specs.Played.{turn_text};
 
+use crate::told::whole;
 use ec_core::{Act, Refusal, Run};
 use ec_count::{EventId, WorkerId};
 use ec_heading::Heading;
@@ -350,20 +351,12 @@ pub(crate) fn left_text(
     put_ends(&mut out, heading, ends.as_slice());
     let done = out.finish();
     out.into_writer();
-    match done {
-        Ok(()) => Ok(bytes),
-        Err(_) => Err(AllocError),
-    }
+    whole(bytes, done)
 }
 
 /// Puts which turn is of a worker that has ended.
 #[tactic(auto, unfolding(crate::specs::Played::turn_text))]
-pub(crate) fn put_turn<W: Write>(
-    out: &mut Out<'_, W>,
-    heading: &Heading,
-    place: usize,
-    worker: WorkerId,
-)
+fn put_turn<W: Write>(out: &mut Out<'_, W>, heading: &Heading, place: usize, worker: WorkerId)
     ensures { Puts out.old out.new (turn_text heading.now.words place worker) }
 {
     let spellings = Spellings::new(heading.words());
@@ -371,4 +364,21 @@ pub(crate) fn put_turn<W: Write>(
     out.put_number(place as u64);
     out.put(b" of the schedule, counted from 0, it names ");
     put_worker_words(out, &spellings, worker, b".\n");
+}
+
+/// Returns which turn is of a worker that has ended, as bytes.
+pub(crate) fn turn_bytes(
+    alloc: Global,
+    heading: &Heading,
+    place: usize,
+    worker: WorkerId,
+) -> Result<Vec<u8>, AllocError>
+    ensures { IfOk result (λ bytes. bytes.items ≡ turn_text heading.now.words place worker) }
+{
+    let mut bytes = Vec::new(alloc);
+    let mut out = Out::new(&mut bytes);
+    put_turn(&mut out, heading, place, worker);
+    let done = out.finish();
+    out.into_writer();
+    whole(bytes, done)
 }

@@ -14,7 +14,7 @@ ghost use Rattle.evc_explain.specs.Reasons.{round_at, is_reading, round_for, hol
 ghost use Rattle.evc_explain.specs.Reasons.{round_before, refused_reason, reason_text, shown};
 
 use crate::round::Round;
-use crate::told::{Said, bytes_of};
+use crate::told::whole;
 use ec_core::{Act, Refusal, Reply, Run};
 use ec_count::{EventId, Setup, WorkerId};
 use ec_explain::{Asked, asked_in, before_line, event_or, holders, line_at, looks_with};
@@ -149,8 +149,12 @@ fn holders_at(alloc: Global, traced: &Traced, asked: &Asked) -> Result<Vec<u8>, 
     ensures { IfOk result (λ bytes. bytes.items ≡ holders_at traced.now asked.now) }
 {
     let workers = holders(alloc, traced.run(), &asked.act)?;
-    let said = Said::Holders(traced.heading(), asked.act, workers.as_slice());
-    bytes_of(alloc, &said)
+    let mut bytes = Vec::new(alloc);
+    let mut out = Out::new(&mut bytes);
+    put_holders(&mut out, traced.heading(), &asked.act, workers.as_slice());
+    let done = out.finish();
+    out.into_writer();
+    whole(bytes, done)
 }
 
 /// Returns the eventcount of the call that an act goes on with or begins after a trace.
@@ -234,7 +238,7 @@ fn round_for(
         return Ok(Vec::new(alloc));
     }
     let round = round_at(alloc, traced, asked, number, right)?;
-    bytes_of(alloc, &Said::Round(&round))
+    round.bytes(alloc)
 }
 
 /// Returns who has the right at a line that it asks for.

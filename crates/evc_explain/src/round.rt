@@ -1,5 +1,5 @@
 //! What the round of a read or an await has found, up to its last act.
-ghost use Rattle.std.specs.Prelude.{◌≡◌, ◌++◌, codes, decimal};
+ghost use Rattle.std.specs.Prelude.{◌≡◌, ◌++◌, IfOk, codes, decimal};
 ghost use Rattle.std.specs.List.{flat_map};
 ghost use Rattle.ec_count.specs.declared.target.Target.TheVariants.{Event};
 ghost use Rattle.ec_heading.specs.Spelling.{word_of};
@@ -9,11 +9,13 @@ ghost use Rattle.evc_explain.specs.Reasons.{signalled_words, place_words, look_t
 ghost use Rattle.evc_explain.specs.Reasons.{begun_words, ends_text, ends_of, yet_text, short_text};
 ghost use Rattle.evc_explain.specs.Reasons.{rest_text, round_text};
 
+use crate::told::whole;
 use ec_core::Reply;
 use ec_count::{EventId, WorkerId};
 use ec_explain::Look;
 use ec_text::Out;
 use ec_trace::Spellings;
+use std::alloc::{AllocError, Global};
 use std::io::Write;
 
 /// What a round has found.
@@ -179,11 +181,23 @@ impl<'a> Round<'a> {
 
     /// Puts what the round has found.
     #[tactic(auto, unfolding(crate::specs::Reasons::round_text))]
-    pub(crate) fn put<W: Write>(&self, out: &mut Out<'_, W>)
+    fn put<W: Write>(&self, out: &mut Out<'_, W>)
         ensures { Puts out.old out.new (round_text (shown self.now)) }
     {
         self.put_looks(out, self.looks.as_slice());
         self.put_ends_of(out, self.looks.as_slice());
         self.put_rest(out);
+    }
+
+    /// Returns what the round has found, as bytes.
+    pub(crate) fn bytes(&self, alloc: Global) -> Result<Vec<u8>, AllocError>
+        ensures { IfOk result (λ bytes. bytes.items ≡ round_text (shown self.now)) }
+    {
+        let mut bytes = Vec::new(alloc);
+        let mut out = Out::new(&mut bytes);
+        self.put(&mut out);
+        let done = out.finish();
+        out.into_writer();
+        whole(bytes, done)
     }
 }

@@ -13,17 +13,19 @@ ghost use Rattle.evc_explain.specs.Tells.{TellsPlayed, TellsTrace};
 
 use crate::form::{Form, form_of};
 use crate::going_on::beyond;
+use crate::good::{good_bytes, script_bytes};
 use crate::judging::tell_histories;
-use crate::playing::left_text;
+use crate::playing::{left_text, turn_bytes};
 use crate::reasons::{read_text, reason_of};
 use crate::seeking::finding_of;
-use crate::told::{Said, Told, bytes_of, tell_finding, tell_good};
+use crate::told::{Told, tell_finding};
 use ec_count::WorkerId;
 use ec_explain::{Cause, of_whole, script_finding};
 use ec_heading::Heading;
 use ec_runner::{Report, SimFault, simulate};
 use ec_script::{Plan, ScriptFault, parse};
 use ec_trace::{TRACE_MAX, TraceFault};
+use evc_engine::Status;
 use std::alloc::{AllocError, Global};
 
 /// Returns what is found wrong with a text that has this fault as a trace.
@@ -40,7 +42,10 @@ fn tell_trace(alloc: Global, text: &[u8]) -> Result<Told, AllocError>
     ensures { IfOk result (TellsTrace text.now) }
 {
     match read_text(alloc, text) {
-        Ok(traced) => tell_good(alloc, &Said::GoodTrace(&traced)),
+        Ok(traced) => Ok(Told {
+            bytes: good_bytes(alloc, &traced)?,
+            status: Status::Done,
+        }),
         Err(TraceFault::Memory | TraceFault::Read) => Err(AllocError),
         Err(fault) => tell_fault(alloc, text, &fault),
     }
@@ -61,10 +66,13 @@ fn tell_played(alloc: Global, plan: &mut Plan, report: &Report) -> Result<Told, 
         plan.schedule.as_slice(),
         report.outcomes.as_slice(),
     )?;
-    let mut told = tell_good(alloc, &Said::GoodScript(plan, left.as_slice()))?;
+    let mut bytes = script_bytes(alloc, plan, left.as_slice())?;
     let more = beyond(alloc, plan)?;
-    told.bytes.extend_from_slice(more.as_slice())?;
-    Ok(told)
+    bytes.extend_from_slice(more.as_slice())?;
+    Ok(Told {
+        bytes,
+        status: Status::Done,
+    })
 }
 
 /// Returns what is said of a script whose schedule has a turn of a worker that has ended.
@@ -78,7 +86,7 @@ fn tell_turn(
     ensures { IfOk result (IsTold (finding_text (of_whole Cause.TurnOfEnded)
         (turn_text heading.now.words place worker) text.now) Refused) }
 {
-    let more = bytes_of(alloc, &Said::Turn(heading, place, worker))?;
+    let more = turn_bytes(alloc, heading, place, worker)?;
     tell_finding(alloc, &of_whole(Cause::TurnOfEnded), more.as_slice(), text)
 }
 
