@@ -16,11 +16,11 @@ pub(crate) struct Sums {
 
 /// What steps are made on.
 pub(crate) trait Steps {
-    /// Makes a step, and gives the number that is told, 0 where none is.
+    /// Makes a step, and gives the number that is told, 0 if none is.
     fn make(&mut self, worker: WorkerId, act: Act) -> Option<u64>;
 }
 
-/// The number of a reply, 0 where it has none.
+/// Returns the number of a reply, 0 if it has none.
 fn number_of(reply: Reply) -> u64 {
     match reply {
         Reply::Number(n) => n,
@@ -40,7 +40,7 @@ impl Steps for Run {
     }
 }
 
-/// One round: an advance, a read of four components, and a ticket.
+/// Returns one round: an advance, a read of four components, and a ticket.
 fn round<S: Steps>(steps: &mut S, objects: &Objects, worker: WorkerId) -> Option<u64> {
     steps.make(worker, Act::Advance(objects.event))?;
     steps.make(worker, Act::Read(objects.event))?;
@@ -51,7 +51,8 @@ fn round<S: Steps>(steps: &mut S, objects: &Objects, worker: WorkerId) -> Option
     Some(total.wrapping_add(ticket))
 }
 
-/// At least so many steps, in whole rounds by each worker in turn, and the sum of the numbers told.
+/// Makes at least so many steps, in whole rounds by each worker in turn, and returns the sum of the
+/// numbers that they return.
 pub(crate) fn many<S: Steps>(steps: &mut S, objects: &Objects, count: u64) -> Option<u64> {
     let mut told = 0u64;
     for i in 0..count.div_ceil(ROUND) {

@@ -24,7 +24,7 @@ pub(crate) fn evidence_in<'a, 'b>(
     if is_its { Some(evidence) } else { None }
 }
 
-/// Returns the number of a stair where the first column begins.
+/// Returns the number of a stair if the first column begins.
 fn number_before(picture: &Picture<'_>, stair: &Stair) -> usize {
     let from = picture.window().from;
     let before = stair.rises.iter().filter(|rise| **rise < from).count();

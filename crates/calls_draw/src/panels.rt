@@ -38,7 +38,7 @@ pub(crate) struct Spot {
 #[derive(Drop)]
 pub(crate) struct Panel {
     pub(crate) subject: Subject,
-    /// The number where the first column begins.
+    /// The number if the first column begins.
     pub(crate) before: usize,
     /// What it is from the point of each call of the object on.
     pub(crate) spots: Vec<Spot>,

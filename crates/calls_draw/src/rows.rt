@@ -42,7 +42,7 @@ pub(crate) fn put_columns<W: Write>(out: &mut Out<'_, W>, picture: &Picture<'_>,
     }
 }
 
-/// Puts the class that makes a text small where it has more room than this.
+/// Puts the class that makes a text small if it has more room than this.
 fn put_squeezed<W: Write>(out: &mut Out<'_, W>, class: &[u8], at: Place, text: &[u8], room: u64) {
     let letters = text.len() as u64;
     out.put(b"<text class='");

@@ -9,7 +9,7 @@ pub(crate) struct Place {
     pub(crate) y: u64,
 }
 
-/// Puts a byte of a text, escaped where XML needs it; what is no plain character is a question mark.
+/// Puts a byte of a text, escaped if XML needs it; what is no plain character is a question mark.
 fn put_escaped_byte<W: Write>(out: &mut Out<'_, W>, byte: u8) {
     match byte {
         b'<' => out.put(b"&lt;"),

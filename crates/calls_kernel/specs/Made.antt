@@ -18,7 +18,7 @@ use Rattle.calls_core.specs.declared.history.Reply.{Reply}
 use Rattle.calls_core.specs.declared.history.Reply.TheVariants.{Done, Number, Timeout}
 use Rattle.calls_core.specs.declared.history.Call.{Call}
 
--- the act that begins a call of object k, where the objects are the declared eventcounts, then the
+-- the act that begins a call of object k, if the objects are the declared eventcounts, then the
 -- sequencers, then the cells
 abbrev pub act_on : Tables → ℕ → Op → Act
 act_on t k Advance = acts.Advance k
@@ -51,7 +51,7 @@ pub record KeepsLimit (t : Tables) (cs : List Call) : Type 0 where
 
 -- HOW THEY ARE MADE
 
--- what a call of this op returned, and the reply to its last entry. Where an await returned no
+-- what a call of this op returned, and the reply to its last entry. If an await returned no
 -- number, the reply is a number that reaches its threshold
 abbrev pub IsReplyOf : Op → Reply → StepReply → Type 0
 IsReplyOf (Await v) Done (replies.Number n) = v ≤ n
@@ -64,7 +64,7 @@ pub record IsMadeAs (t : Tables) (d : FinishedCall) (c : Call) : Type 0 where
   pub act : d.op ≡ act_of t c
   pub reply : IsReplyOf c.op c.reply d.reply
 
--- the finished calls are these calls in this order
+-- the completed calls are these calls in this order
 abbrev pub AreMadeAs : Tables → List FinishedCall → List Call → Type 0
 AreMadeAs t [] [] = Unit {0}
 AreMadeAs t (d ∷ ds) (c ∷ cs) = IsMadeAs t d c × AreMadeAs t ds cs
@@ -75,8 +75,8 @@ abbrev pub AreInARow : ℕ → List FinishedCall → ℕ → Type 0
 AreInARow i [] n = i ≡ n
 AreInARow i (d ∷ ds) n = (d.first ≡ i) × (d.first ≤ d.last) × AreInARow (d.last + 1) ds n
 
--- an accepted history of steps in which the finished calls are these calls, in this order, each
--- with its entries next to each other. There is no other entry: no call is under way at its end
+-- an accepted history of steps in which the completed calls are these calls, in this order, each
+-- with its entries next to each other. There is no other entry: no call is pending at its end
 pub record AreMade (t : Tables) (cs : List Call) : Type 0 where
   pub steps : List Entry
   pub accepted : IsAccepted t (reverse steps)

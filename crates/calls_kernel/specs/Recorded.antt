@@ -18,7 +18,7 @@ use Rattle.calls_core.specs.Linearizations.{answered_calls}
 use Rattle.calls_kernel.specs.Seen.{is_call}
 use Rattle.calls_kernel.specs.Made.{IsMadeAs, IsGranted, KeepsLimit}
 
--- the call c was recorded of the kernel's call d, where the entry at position i happened at the
+-- the call c was recorded of the kernel's call d, if the entry at position i happened at the
 -- position `moment i` of the record: each of its entries from its invocation to its response
 pub record IsRecordedAs (t : Tables) (moment : ℕ → ℕ) (d : FinishedCall) (c : Call) : Type 0 where
   pub made : IsMadeAs t d c
@@ -31,7 +31,7 @@ AreRecordedAs t moment (d ∷ ds) (c ∷ cs) = IsRecordedAs t moment d c × AreR
 AreRecordedAs t moment _ _ = ⊥
 
 -- a history of calls that can have been recorded of a kernel: there is an accepted history of
--- steps, and its entries happened at positions of the record that never fall. Its finished calls
+-- steps, and its entries happened at positions of the record that never fall. Its completed calls
 -- but for the hands are the completed calls of the record and some of the pending ones, of which
 -- the response had not been recorded
 pub record IsRecord (t : Tables) (past : List Event) : Type 0 where

@@ -31,7 +31,7 @@ pub record IsWhole (list : ℕ → List Act) (calls : List Told) : Type 0 where
 abbrev pub IsNext : (ℕ → List Act) → List Told → Act → Type 0
 IsNext list calls op = slice_get (list (turn_of calls)) (length calls) ≡ Some (unvalued op)
 
--- the calls are whole lists joined end to end, and the beginning of one more, in which a call that is under way is next
+-- the calls are whole lists joined end to end, and the beginning of one more, in which a call that is pending is next
 pub record AreLists (list : ℕ → List Act) (calls : List Told) (going : Option Act) : Type 0 where
   pub lists : List (List Told)
   pub last : List Told
@@ -40,7 +40,7 @@ pub record AreLists (list : ℕ → List Act) (calls : List Told) (going : Optio
   pub begun : IsBegun list last
   pub next : IfSome going (IsNext list last)
 
--- an accepted history follows a buffer exactly where each worker's calls on it are its lists joined end to end
+-- an accepted history follows a buffer exactly if each worker's calls on it are its lists joined end to end
 abbrev pub FollowingMeansLists : Type 0
 FollowingMeansLists = (t : Tables) (b : Buffer) (h : List Entry) → IsDeclared t → IsAccepted t (reverse h)
     → FollowsBuffer t b (reverse h)

@@ -20,7 +20,7 @@ pub struct Ongoing {
     pub first: usize,
     /// The position at which its last round began.
     pub round: usize,
-    /// The component that its last entry read, where it is a read or an await; else 0.
+    /// The component that its last entry read, if it is a read or an await; else 0.
     pub index: usize,
 }
 
@@ -38,8 +38,8 @@ fn read_on(setup: &Setup, call: &mut Ongoing, at: usize)
     }
 }
 
-/// Makes of a worker's call under way the call that its next act is part of, with it. Of one that goes on it changes no more than its
-/// numbers.
+/// Makes of a worker's pending call the call that its next act is part of, with it. Of one that
+/// goes on it changes no more than its numbers.
 #[inline(always)]
 fn go_on(setup: &Setup, act: Act, call: &mut Option<Ongoing>, place: usize)
     ensures { call.new ≡ went_on setup.now act call.old place }
@@ -72,7 +72,7 @@ fn end_by(reply: Reply, call: &mut Option<Ongoing>)
     }
 }
 
-/// The calls under way after some entries of a run, by worker.
+/// The pending calls after some entries of a run, by worker.
 #[derive(Drop)]
 pub struct Calls {
     calls: [Option<Ongoing>; 16],
@@ -88,7 +88,7 @@ impl Model for Calls {
 }
 
 impl Calls {
-    /// Before the first entry.
+    /// Returns the calls before the first entry.
     pub fn new() -> Self
         ensures { (t : Tables) → AreCalls t result [] }
     {
@@ -97,7 +97,7 @@ impl Calls {
         }
     }
 
-    /// Takes the next entry in, at this position, and gives the call that it is part of, up to it; None where it is a Go that
+    /// Takes the next entry in, at this position, and gives the call that it is part of, up to it; None if it is a Go that
     /// goes on with no call.
     #[inline(always)]
     pub fn take(&mut self, setup: &Setup, place: usize, entry: &Entry) -> Option<Ongoing>

@@ -7,7 +7,7 @@ use crate::{Act, Reply};
 use ec_count::WorkerId;
 
 /// What is kept of the list of calls that a worker is in: how many of its calls are finished, and
-/// two numbers that they told, each 0 where a group has no use for it.
+/// two numbers that they told, each 0 if a group has no use for it.
 #[derive(Clone, Copy, Debug, PartialEq, Eq)]
 pub struct Kept {
     pub at: usize,
@@ -22,15 +22,15 @@ pub trait Protocol {
 
     ghost keeps: { Self → List Told → Kept };
 
-    /// What is kept where no call of a list is finished.
+    /// Returns what is kept if no call of a list is finished.
     fn start(&self) -> Kept
         ensures { result ≡ keeps self.now [] };
 
-    /// Whether an act of the worker is right there.
+    /// Returns whether an act of the worker is right there.
     fn is_right(&self, worker: WorkerId, kept: &Kept, act: &Act) -> bool
         ensures { (calls : List Told) → kept.now ≡ keeps self.now calls → result ≡ is_right (rules self.now worker) calls act.now };
 
-    /// What is kept after one more step of a call, given the act that began the call.
+    /// Returns what is kept after one more step of a call, given the act that began the call.
     fn after(&self, worker: WorkerId, kept: &Kept, op: &Act, reply: Reply) -> Kept
         ensures { (calls : List Told) → kept.now ≡ keeps self.now calls → result ≡ keeps self.now (block_after (rules self.now worker) calls op.now reply) };
 }

@@ -31,7 +31,7 @@ pub record IsWhole (list : List Told → List Act) (calls : List Told) : Type 0 
 abbrev pub IsNext : (List Told → List Act) → List Told → Act → Type 0
 IsNext list calls op = slice_get (list calls) (length calls) ≡ Some (unvalued op)
 
--- the calls are whole lists joined end to end, and the beginning of one more, in which a call that is under way is next
+-- the calls are whole lists joined end to end, and the beginning of one more, in which a call that is pending is next
 pub record AreLists (list : List Told → List Act) (calls : List Told) (going : Option Act) : Type 0 where
   pub lists : List (List Told)
   pub last : List Told
@@ -40,7 +40,7 @@ pub record AreLists (list : List Told → List Act) (calls : List Told) (going :
   pub begun : IsBegun list last
   pub next : IfSome going (IsNext list last)
 
--- an accepted history follows a database exactly where each worker's calls on it are its lists joined end to end, and
+-- an accepted history follows a database exactly if each worker's calls on it are its lists joined end to end, and
 -- the beginning of one more
 abbrev pub FollowingMeansLists : Type 0
 FollowingMeansLists = (t : Tables) (d : Database) (h : List Entry) → IsDeclared t → IsAccepted t (reverse h)

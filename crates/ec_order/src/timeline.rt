@@ -1,4 +1,4 @@
-//! The finished calls of a history by their points, gathered while the history goes past.
+//! The completed calls of a history by their points, gathered while the history goes past.
 ghost use Rattle.std.specs.Prelude.{◌≡◌, ◌+◌, ◌<◌, ◌^◌, true, false, List, [], Some, IfOk, IfSome, OnOk};
 ghost use Rattle.ec_core.specs.declared.act.Entry.{Entry};
 ghost use Rattle.ec_core.specs.Acceptance.{IsAccepted};
@@ -18,10 +18,11 @@ use ec_count::Setup;
 use std::alloc::{AllocError, Global};
 use std::marker::Model;
 
-/// The finished calls of a history by their points, gathered while the history goes past: each entry is handed to it once, by
-/// `take`. Of a call of one entry, as each advance is, and each read that is told at once, it keeps that entry; of a finished read or await
-/// of more entries one entry that tells it, and its point; and of every entry one bit. The moment of an advance is kept only while a read
-/// or an await of its eventcount is under way.
+/// The completed calls of a history by their points, gathered while the history goes past: each
+/// entry is handed to it once, by `take`. Of a call of one entry, as each advance is, and each read
+/// that is told at once, it keeps that entry; of a completed read or await of more entries one
+/// entry that tells it, and its point; and of every entry one bit. The moment of an advance is kept
+/// only while a read or an await of its eventcount is pending.
 #[derive(Drop)]
 pub struct Timeline<'a> {
     setup: &'a Setup,
@@ -41,7 +42,7 @@ impl<'a> Model for Timeline<'a> {
     ghost view = { λ s. record { setup = s.setup.now; under_way = s.under_way; advances = s.advances; marks = s.marks; alone = s.alone; readings = s.readings; lacks = s.lacks } };
 }
 
-/// The call, told as one entry.
+/// Returns the call, told as one entry.
 fn told(call: &Call) -> Entry
     ensures { result ≡ call_entry call.now }
 {
@@ -68,7 +69,7 @@ fn keep(
 }
 
 impl<'a> Timeline<'a> {
-    /// Before the first entry of a history on this setup.
+    /// Makes what is kept before the first entry of a history on this setup.
     pub fn open(alloc: Global, setup: &'a Setup) -> Result<Self, OrderFault>
         ensures setup { IfOk result (λ timeline. timeline.setup ≡ setup.now) }
         ensures first { IfOk result (λ timeline. IsTimeline timeline []) }
@@ -128,8 +129,8 @@ impl<'a> Timeline<'a> {
         }
     }
 
-    /// The finished calls after the entries so far, by their points, one after another: a legal order of them. Err where memory
-    /// was refused for one of the entries.
+    /// Returns the completed calls after the entries so far, by their points, one after another: a
+    /// linearization of them. `Err` if memory was refused for one of the entries.
     pub fn calls(&self) -> Result<InTime<'_>, OrderFault>
         ensures value { (past : List Entry) → IsTimeline self.now past → IsAccepted self.now.setup past → IfOk result (λ calls. calls ≡ dated_by_points self.now.setup past) }
         ensures good { (past : List Entry) → IsTimeline self.now past → IsAccepted self.now.setup past → IfOk result (λ calls. TellsGood self.now.setup past calls) }
@@ -155,7 +156,7 @@ impl<'a> Audit for Timeline<'a> {
     }
 }
 
-/// Whether the next entry is a read or an await that is told at once.
+/// Returns whether the next entry is a read or an await that is told at once.
 #[inline(always)]
 fn read_comes(marks: &MarksLeft<'_>, alone: &Entries<'_>) -> bool
     ensures { result ≡ read_comes marks.now alone.now }
@@ -169,8 +170,9 @@ fn read_comes(marks: &MarksLeft<'_>, alone: &Entries<'_>) -> bool
     }
 }
 
-/// The read or await at a place among those of more than one entry, if it is due at a moment. Of those whose point is one moment the
-/// first is the one that is told at once, since it ends there.
+/// Returns the read or await at a place among those of more than one entry, if it is due at a
+/// moment. Of those whose point is one moment the first is the one that is told at once, since it
+/// ends there.
 #[inline(always)]
 fn due(
     readings: &ByPoints,
@@ -189,7 +191,8 @@ fn due(
     Some(dated)
 }
 
-/// Finished calls by their points, one after another. A contract sees it as the list of those that are left.
+/// Completed calls by their points, one after another. A contract sees it as the list of those that
+/// are left.
 #[derive(Drop)]
 pub struct InTime<'a> {
     marks: MarksLeft<'a>,
@@ -212,7 +215,7 @@ impl<'a> Model for InTime<'a> {
 }
 
 impl<'a> InTime<'a> {
-    /// All of them.
+    /// Returns all of them.
     fn all(marks: &'a Marks, alone: &'a Segments, readings: &'a ByPoints) -> Self
         ensures { result ≡ dates 0 marks.now alone.now readings.now }
     {

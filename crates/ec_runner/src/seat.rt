@@ -9,14 +9,14 @@ use ec_count::EventId;
 pub(crate) enum Seat {
     /// It has left, or was never declared.
     Gone,
-    /// It is live, and doesn't wait.
+    /// It is active, and doesn't wait.
     Running,
-    /// It is live, and waits until the total of the eventcount has come to the threshold.
+    /// It is active, and waits until the total of the eventcount has come to the threshold.
     Waiting(EventId, u64),
 }
 
 impl Seat {
-    /// Whether the worker has not left.
+    /// Returns whether the worker has not left.
     pub fn is_live(&self) -> bool
         ensures { result ≡ is_live self.now }
     {
@@ -26,7 +26,7 @@ impl Seat {
         }
     }
 
-    /// Whether it waits.
+    /// Returns whether it waits.
     pub fn is_waiting(&self) -> bool
         ensures { result ≡ is_waiting self.now }
     {
@@ -36,7 +36,7 @@ impl Seat {
         }
     }
 
-    /// Whether it is live and doesn't wait.
+    /// Returns whether it is active and doesn't wait.
     pub(crate) fn is_running(&self) -> bool
         ensures { result ≡ is_running self.now }
     {

@@ -38,7 +38,7 @@ impl Model for Seats {
 }
 
 impl Seats {
-    /// The first so many workers are live, and nobody waits.
+    /// Makes seats in which the first so many workers are active, and nobody waits.
     pub fn open(workers: usize) -> Self
         requires { workers ≤ 16 }
         ensures seats { (w : ℕ) → w < 16 → slice_get result w ≡ Some (if nat_lt w workers then Running else Gone) }
@@ -50,14 +50,14 @@ impl Seats {
         }
     }
 
-    /// The seat of a worker.
+    /// Returns the seat of a worker.
     pub fn get(&self, worker: WorkerId) -> Seat
         ensures { slice_get self.now worker ≡ Some result }
     {
         self.table[worker.get()]
     }
 
-    /// Whether anybody waits for an eventcount.
+    /// Returns whether anybody waits for an eventcount.
     pub fn has_waiters(&self, event: EventId) -> bool
         ensures { result ≡ list_any (waits_on event) self.now }
     {
@@ -85,7 +85,7 @@ impl Seats {
         self.table[worker.get()] = Seat::Waiting(event, threshold);
     }
 
-    /// Lets the first in line for an eventcount go, where the total has come to its threshold.
+    /// Lets the first in line for an eventcount go, if the total has come to its threshold.
     fn release_first(&mut self, event: EventId, total: u64) -> bool
         ensures yes { result ≡ true → LetsOneGo event total self.old self.new }
         ensures no { result ≡ false → (self.new ≡ self.old) × (map (kept event total) self.old ≡ self.old) }
@@ -121,7 +121,7 @@ impl Seats {
         }
     }
 
-    /// Whether some worker is live and every live worker waits.
+    /// Returns whether some worker is active and every active worker waits.
     pub fn are_stuck(&self) -> bool
         ensures { result ≡ is_stuck_in self.now }
     {
@@ -149,7 +149,7 @@ fn join(lines: &mut [Line; 32], event: EventId, waiter: Waiter)
     line.join(waiter);
 }
 
-/// Takes the first off the line for an eventcount, where the total has come to its threshold.
+/// Takes the first off the line for an eventcount, if the total has come to its threshold.
 fn take_reached(lines: &mut [Line; 32], event: EventId, total: u64) -> Option<Waiter>
     ensures first { (line : List Waiter) → slice_get lines.old event ≡ Some line → result ≡ first_reached total line }
     ensures rest { lines.new ≡ changed_at (λ line. if is_some result then drop 1 line else line) lines.old event }
@@ -159,7 +159,7 @@ fn take_reached(lines: &mut [Line; 32], event: EventId, total: u64) -> Option<Wa
     line.take_reached(total)
 }
 
-/// The first so many seats are those of workers that run.
+/// Makes seats of which the first so many are those of workers that run.
 fn running(workers: usize) -> [Seat; 16]
     requires { workers ≤ 16 }
     ensures long { length result ≡ 16 }

@@ -1,4 +1,4 @@
-//! The guarded part of P on two semaphores, as a list of calls.
+//! The critical section of P on two semaphores, as a list of calls.
 ghost use Rattle.std.specs.Prelude.{◌≡◌, ℕ, ◌<◌, ◌==◌, List, [], ◌∷◌, Some, slice_get};
 ghost use Rattle.ec_core.specs.declared.protocol.Kept.{Kept};
 ghost use Rattle.ec_core.specs.Following.{Told, block_after, is_right};
@@ -10,7 +10,7 @@ use crate::uses::{NOTHING, is_on};
 use ec_core::{Act, Kept, Protocol, Reply};
 use ec_count::{SeqId, WorkerId};
 
-/// The guarded part of P on two of these semaphores, for workers that use a common one, and a
+/// The critical section of P on two of these semaphores, for workers that use a common one, and a
 /// table of the sequencers that it may draw from.
 #[derive(Drop)]
 pub(crate) struct Guarded<'a> {
@@ -20,7 +20,7 @@ pub(crate) struct Guarded<'a> {
     ghost tabled: { (q : ℕ) → q < 32 → slice_get lines q ≡ Some (is_line common shapes.now q) },
 }
 
-/// Whether each sequencer is that of one of the semaphores, and not that of the common one.
+/// Returns whether each sequencer is that of one of the semaphores, and not that of the common one.
 fn lines_of(common: &SemaphoreShape, shapes: &[SemaphoreShape]) -> [bool; 32]
     ensures { (q : ℕ) → q < 32 → slice_get result q ≡ Some (is_line common.now shapes.now q) }
 {
@@ -44,7 +44,7 @@ impl<'a> Guarded<'a> {
         }
     }
 
-    /// Whether a ticket of the sequencer may be one of the two.
+    /// Returns whether a ticket of the sequencer may be one of the two.
     fn is_line(&self, sequencer: SeqId) -> bool
         ensures { result ≡ is_line self.now.common self.now.shapes.now sequencer }
     {
@@ -53,7 +53,7 @@ impl<'a> Guarded<'a> {
     }
 }
 
-/// The sequencer that an act draws from, by number; 0 where it draws no ticket.
+/// Returns the sequencer that an act draws from, by number; 0 if it draws no ticket.
 fn line_of(act: &Act) -> u64
     ensures { result ≡ line_of act.now }
 {

@@ -7,7 +7,7 @@ use std::marker::Model;
 /// A number and its decimal digits, so that one that is put again and again isn't spelled anew each time.
 ///
 /// Meant for a number that mostly stays or changes by little, as the points of lines do: `set` then keeps another last digit alone.
-/// Any number may follow any other, and is spelled anew where the last digit isn't enough.
+/// Any number may follow any other, and is spelled anew if the last digit isn't enough.
 #[derive(Drop)]
 pub struct Decimal {
     /// The number with a last digit of 0.
@@ -29,7 +29,7 @@ impl Model for Decimal {
 }
 
 impl Decimal {
-    /// A number, which is spelled here.
+    /// Makes a number, whose digits are written here.
     #[inline(always)]
     pub fn new(n: u64) -> Self
         ensures { result ≡ n }
@@ -62,7 +62,8 @@ impl Decimal {
         *self = Decimal::new(n);
     }
 
-    /// The decimal digits of the number but for the last one, in whose place any other stands, and the last one, ready to be put.
+    /// Returns the decimal digits of the number but for the last one, in whose place any other
+    /// stands, and the last one, ready to be put.
     #[inline(always)]
     pub(crate) fn ending(&self) -> (&ShortText, u8)
         ensures some { 0 < length result.0.now }
@@ -71,7 +72,7 @@ impl Decimal {
         (&self.digits, b'0' + self.last)
     }
 
-    /// The decimal digits of the number.
+    /// Returns the decimal digits of the number.
     pub fn digits(&self) -> ShortText
         ensures { result ≡ decimal self.now }
     {

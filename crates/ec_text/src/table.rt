@@ -28,7 +28,7 @@ fn write_ends<const N: usize>(table: &mut [u8], place: usize, bytes: &[u8])
     write_front::<N>(table, place + last, &bytes[last..]);
 }
 
-/// Writes bytes into a table, over those from a place on. At most 32 of them are two stores of one size, which may overlap; where they are
+/// Writes bytes into a table, over those from a place on. At most 32 of them are two stores of one size, which may overlap; if they are
 /// a literal, a compiler chooses that size. (It is put into its callers without `#[inline(always)]`, by which these would be taken for very
 /// large, and called.)
 fn write_at(table: &mut [u8], place: usize, bytes: &[u8])
@@ -68,7 +68,7 @@ impl Model for ShortText {
 }
 
 impl ShortText {
-    /// A text of no bytes.
+    /// Makes a text of no bytes.
     #[inline(always)]
     pub fn new() -> Self
         ensures { result ≡ [] }
@@ -79,7 +79,8 @@ impl ShortText {
         }
     }
 
-    /// The decimal digits of a number. They are written into a longer table, and the 32 bytes from the first digit on are copied at once.
+    /// Returns the decimal digits of a number. They are written into a longer table, and the 32
+    /// bytes from the first digit on are copied at once.
     #[inline(always)]
     pub(crate) fn spelled(n: u64) -> Self
         ensures { result ≡ decimal n }
@@ -92,7 +93,7 @@ impl ShortText {
         text
     }
 
-    /// Takes bytes in behind those that are there, where the text stays short, and tells whether it did.
+    /// Takes bytes in behind those that are there, if the text stays short, and tells whether it did.
     #[inline(always)]
     pub fn take_in(&mut self, bytes: &[u8]) -> bool
         ensures taken { IsTrue result → self.new ≡ self.old ++ bytes.now }
@@ -107,7 +108,7 @@ impl ShortText {
         true
     }
 
-    /// The bytes of the text.
+    /// Returns the bytes of the text.
     #[inline(always)]
     pub fn bytes(&self) -> &[u8]
         ensures value { result.now ≡ self.now }
@@ -135,7 +136,7 @@ impl Model for Table {
 }
 
 impl Table {
-    /// A table of no bytes.
+    /// Makes a table of no bytes.
     pub(crate) fn new() -> Self
         ensures { result ≡ [] }
     {
@@ -145,7 +146,7 @@ impl Table {
         }
     }
 
-    /// The bytes of the table.
+    /// Returns the bytes of the table.
     pub(crate) fn as_slice(&self) -> &[u8]
         ensures { result.now ≡ self.now }
     {
@@ -159,7 +160,7 @@ impl Table {
         self.len = 0;
     }
 
-    /// Takes bytes in where there is room for all of them, and tells whether it did.
+    /// Takes bytes in if there is room for all of them, and tells whether it did.
     #[inline(always)]
     pub(crate) fn take_in(&mut self, bytes: &[u8]) -> bool
         ensures taken { IsTrue result → self.new ≡ self.old ++ bytes.now }
@@ -174,7 +175,7 @@ impl Table {
         true
     }
 
-    /// Takes bytes in, and a short text behind them, where there is room for the longest, and tells whether it did. Of bytes there are
+    /// Takes bytes in, and a short text behind them, if there is room for the longest, and tells whether it did. Of bytes there are
     /// at most 32 here.
     #[inline(always)]
     pub(crate) fn take_in_short(&mut self, before: &[u8], text: &ShortText) -> bool

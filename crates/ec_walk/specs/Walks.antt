@@ -23,7 +23,7 @@ names (groups.Database d) act = databases.is_on d act
 names (groups.Semaphore s) act = semaphores.is_on s act
 names (groups.Both s) act = semaphores.is_on s act
 
--- whether a group is about each call of its users, whatever it names: within a guarded part of
+-- whether a group is about each call of its users, whatever it names: within a critical section of
 -- `both` a worker makes no other
 abbrev pub is_wide : Group → Bool
 is_wide (groups.Buffer b) = false
@@ -54,7 +54,7 @@ is_asked_at gs false act i = passes_at gs (λ g. not (is_wide g) && names g act)
 
 -- THE TABLE
 
--- the least span in which those of the first n groups are that pass a test: where it is not empty,
+-- the least span in which those of the first n groups are that pass a test: if it is not empty,
 -- the groups at its two ends pass it
 pub record CoversFirst (gs : List Group) (test : Group → Bool) (span : Span) (n : ℕ) : Type 0 where
   pub among : (i : ℕ) → i < n → (g : Group) → slice_get gs i ≡ Some g → test g ≡ true

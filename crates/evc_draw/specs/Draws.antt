@@ -1,5 +1,5 @@
 -- What the program answered and wrote, for an input whose bytes are known and what was asked for. That the bytes of a picture are those
--- of its shapes is tested; that the shapes are those of the history is a `requires` where they are handed to the writer.
+-- of its shapes is tested; that the shapes are those of the history is a `requires` if they are handed to the writer.
 use Rattle.std.specs.Prelude.{◌≡◌, ◌⊎◌, ℕ, ◌+◌, Ok, Err, Bool, true, false, nat_eq, List, length, Option, Some, None, codes}
 use Rattle.std.specs.Io.KnownBytes.{Appends, Keeps}
 use Rattle.std.specs.List.{starts_with}
@@ -51,7 +51,7 @@ TellsUsage v t old new =
 abbrev pub IsDrawable : View → Recounted → Type 0
 IsDrawable v t = (has_unknown v.choice t.heading.words ≡ false) × (is_empty v.range (length t.entries) ≡ false)
 
--- a note says that only the last entries are drawn, where the range has more than a picture has; else there is none
+-- a note says that only the last entries are drawn, if the range has more than a picture has; else there is none
 abbrev pub TellsCut : View → Recounted → Outlets → Outlets → Type 0
 TellsCut v t old new =
     ((is_wide (window_on v.range (length t.entries)) ≡ false) × KeepsNotes old new)
@@ -69,7 +69,7 @@ Drawn v t Stopped old new = ⊥
 -- TEXTS THAT ARE REFUSED
 
 -- the history that is drawn of a text that is refused: that of the lines before the faulty one, and of that line with its right reply
--- where its reply alone is wrong; none where the fault has no line, or where no run had begun there
+-- if its reply alone is wrong; none if the fault has no line, or where no run had begun there
 abbrev pub history_at : List ℕ → TraceFault → Option ℕ → Option Recounted
 history_at text fault None = None
 history_at text fault (Some n) = history n (right_of fault) text
@@ -77,7 +77,7 @@ history_at text fault (Some n) = history n (right_of fault) text
 abbrev pub story : List ℕ → TraceFault → Option Recounted
 story text fault = history_at text fault (fault_line fault)
 
--- how the telling of a fault of a text ended, where this is the history up to there
+-- how the telling of a fault of a text ended, if this is the history up to there
 abbrev pub TellsFault : Option Recounted → TraceFault → Status → Outlets → Outlets → Type 0
 TellsFault None fault Refused old new = Keeps old.out new.out × Notes old new (fault_note fault)
 TellsFault (Some t) fault Refused old new = Wrote old.out new.out × Notes old new (fault_note fault)
@@ -124,7 +124,7 @@ abbrev pub DrawsText : View → List ℕ → Status → Outlets → Outlets → 
 DrawsText v text status old new =
     ((status ≡ Memory) × Wants old new) ⊎ (((t : Recounted) × ReadsAs text t × Drawn v t status old new) ⊎ Refuses text status old new)
 
--- and with a text behind which a read failed: a fault of its lines is told in the same way, but not that it has no end; where
+-- and with a text behind which a read failed: a fault of its lines is told in the same way, but not that it has no end; if
 -- there is none the failed read is told, and nothing was written
 pub record TellsRead (text : List ℕ) (status : Status) (old new : Outlets) : Type 0 where
   pub ends : status ≡ InputOutput
