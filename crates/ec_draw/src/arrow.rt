@@ -30,7 +30,7 @@ pub struct Arrow {
     pub got: usize,
 }
 
-/// Whether an act puts into a buffer, or gets from it.
+/// Returns whether an act puts into a buffer, or gets from it.
 fn is_move(what: Move, shape: &BufferShape, act: &Act) -> bool
     ensures { result ≡ is_move what shape.now act.now }
 {
@@ -49,7 +49,9 @@ fn note_move(
     place: usize,
     act: &Act,
 ) -> Result<(), AllocError>
-    ensures { OnOk result (list.new.items ≡ list.old.items ++ (if is_move what shape.now act.now then place ∷ [] else [])) }
+    ensures { OnOk result
+        (list.new.items ≡ list.old.items ++ (if is_move what shape.now act.now then place ∷ []
+        else [])) }
 {
     if is_move(what, shape, act) {
         list.push(place)?;
@@ -57,7 +59,8 @@ fn note_move(
     Ok(())
 }
 
-/// The same, unless there was no memory for an earlier one. The answer is whether one is lacking.
+/// Returns the same, unless there was no memory for an earlier one. The answer is whether one is
+/// lacking.
 fn lacks_after(
     lacks: bool,
     list: &mut Vec<usize>,
@@ -67,7 +70,9 @@ fn lacks_after(
     act: &Act,
 ) -> bool
     ensures before { result ≡ false → lacks ≡ false }
-    ensures noted { result ≡ false → list.new.items ≡ list.old.items ++ (if is_move what shape.now act.now then place ∷ [] else []) }
+    ensures noted { result ≡ false
+        → list.new.items ≡ list.old.items ++ (if is_move what shape.now act.now then place ∷ []
+        else []) }
 {
     lacks || note_move(list, what, shape, place, act).is_err()
 }
@@ -87,7 +92,13 @@ impl<'a> Model for Moves<'a> {
 
     ghost Value = { Moving };
 
-    ghost view = { λ s. record { audit = s.audit; shape = s.shape.now; puts = s.puts.items; gets = s.gets.items; lacks = s.lacks } };
+    ghost view = { λ s. record {
+      audit = s.audit;
+      shape = s.shape.now;
+      puts = s.puts.items;
+      gets = s.gets.items;
+      lacks = s.lacks;
+    } };
 }
 
 impl<'a> Audit for Moves<'a> {
@@ -110,7 +121,7 @@ impl<'a> Audit for Moves<'a> {
 }
 
 impl<'a> Moves<'a> {
-    /// Before the first entry of a run on this setup. It takes no memory.
+    /// Makes what is kept before the first entry of a run on this setup. It takes no memory.
     pub(crate) fn new(alloc: Global, shape: &'a BufferShape, setup: &'a Setup) -> Self
         ensures shape { result.shape ≡ shape.now }
         ensures setup { result.audit.setup ≡ setup.now }
@@ -126,14 +137,14 @@ impl<'a> Moves<'a> {
     }
 }
 
-/// The position of a move by its number.
+/// Returns the position of a move by its number.
 fn place_of(list: &[usize], number: u64) -> usize
     ensures { result ≡ place_of list.now number }
 {
     list.get(number as usize).copied().unwrap_or(0)
 }
 
-/// The arrow of a delivery.
+/// Returns the arrow of a delivery.
 fn arrow_of(shape: &BufferShape, puts: &[usize], gets: &[usize], delivery: &Delivery) -> Arrow
     ensures { result ≡ arrow_of shape.now puts.now gets.now delivery.now }
 {
@@ -147,7 +158,8 @@ fn arrow_of(shape: &BufferShape, puts: &[usize], gets: &[usize], delivery: &Deli
 
 /// Adds an arrow, if one of its ends is shown.
 fn add_arrow(arrows: &mut Vec<Arrow>, arrow: Arrow, window: Window) -> Result<(), AllocError>
-    ensures { OnOk result (arrows.new.items ≡ arrows.old.items ++ filter (is_in window) (arrow ∷ [])) }
+    ensures { OnOk result
+        (arrows.new.items ≡ arrows.old.items ++ filter (is_in window) (arrow ∷ [])) }
 {
     if window.shows(arrow.put) || window.shows(arrow.got) {
         arrows.push(arrow)?;
@@ -164,7 +176,9 @@ fn add_deliveries(
     list: &[Delivery],
     window: Window,
 ) -> Result<(), AllocError>
-    ensures { OnOk result (arrows.new.items ≡ arrows.old.items ++ filter (is_in window) (map (arrow_of shape.now puts.now gets.now) list.now)) }
+    ensures { OnOk result
+        (arrows.new.items ≡ arrows.old.items
+        ++ filter (is_in window) (map (arrow_of shape.now puts.now gets.now) list.now)) }
 {
     for delivery in list {
         add_arrow(arrows, arrow_of(shape, puts, gets, delivery), window)?;
@@ -184,7 +198,9 @@ pub(crate) fn add_buffer(
     requires shape { moves.shape ≡ shape.now }
     requires setup { moves.audit.setup ≡ run.now.setup }
     requires stands { IsMoving moves (reverse run.now.entries) }
-    ensures { OnOk result (arrows.new.items ≡ arrows.old.items ++ group_arrows run.now.setup window run.now.entries (groups.Buffer shape.now)) }
+    ensures { OnOk result
+        (arrows.new.items ≡ arrows.old.items ++ group_arrows run.now.setup window run.now.entries
+        (groups.Buffer shape.now)) }
 {
     run.known();
     shape.known();

@@ -10,7 +10,8 @@ use ec_core::{Act, Entry, Run, UnderWay, World};
 use ec_count::WorkerId;
 use std::alloc::{AllocError, Global};
 
-/// An entry: whose it is, of which call, where it stands, and the component that it read or raised, if it did.
+/// An entry: whose it is, of which call, where it stands, and the component that it read or raised,
+/// if it did.
 #[derive(Clone, Copy, Debug, PartialEq, Eq)]
 pub struct Dot {
     pub worker: WorkerId,
@@ -22,7 +23,7 @@ pub struct Dot {
     pub number: Option<u64>,
 }
 
-/// The act that began the call whose entry an act makes in a world.
+/// Returns the act that began the call whose entry an act makes in a world.
 fn op_in(world: &World, worker: WorkerId, act: Act) -> Act
     ensures { (h : List Entry) → StandsFor world.now h
         → result ≡ op_in worker (reverse h) act }
@@ -32,17 +33,11 @@ fn op_in(world: &World, worker: WorkerId, act: Act) -> Act
             Some(call) => call.op(),
             None => Act::Go,
         },
-        Act::Advance(_)
-        | Act::Read(_)
-        | Act::Await(_, _)
-        | Act::Ticket(_)
-        | Act::Put(_, _)
-        | Act::Get(_)
-        | Act::Hand(_, _) => act,
+        _ => act,
     }
 }
 
-/// The component that an act reads or raises in a world.
+/// Returns the component that an act reads or raises in a world.
 fn component_in(world: &World, worker: WorkerId, act: Act) -> Option<usize>
     ensures { (h : List Entry) → StandsFor world.now h
         → result ≡ component_in world.now.setup worker (reverse h) act }
@@ -58,23 +53,19 @@ fn component_in(world: &World, worker: WorkerId, act: Act) -> Option<usize>
     }
 }
 
-/// What a go of a call reads in a world.
+/// Returns what a go of a call reads in a world.
 fn gone_read(world: &World, call: &UnderWay) -> Option<u64>
     ensures { (h : List Entry) → StandsFor world.now h
-        → result ≡ option_and_then (λ e. held_in world.now.setup e call.now.index (reverse h)) (read_of call.now.op) }
+        → result ≡ option_and_then (λ e. held_in world.now.setup e call.now.index (reverse h))
+        (read_of call.now.op) }
 {
     match call.op() {
         Act::Read(event) | Act::Await(event, _) => world.component(event, call.index()),
-        Act::Advance(_)
-        | Act::Go
-        | Act::Ticket(_)
-        | Act::Put(_, _)
-        | Act::Get(_)
-        | Act::Hand(_, _) => None,
+        _ => None,
     }
 }
 
-/// What an act reads of its component in a world.
+/// Returns what an act reads of its component in a world.
 fn number_in(world: &World, worker: WorkerId, act: Act) -> Option<u64>
     ensures { (h : List Entry) → StandsFor world.now h
         → result ≡ number_in world.now.setup worker (reverse h) act }
@@ -89,7 +80,7 @@ fn number_in(world: &World, worker: WorkerId, act: Act) -> Option<u64>
     }
 }
 
-/// The dot of an entry that comes next in a world.
+/// Returns the dot of an entry that comes next in a world.
 fn dot_of(world: &World, position: usize, entry: &Entry) -> Dot
     ensures { (h : List Entry) → StandsFor world.now h → position ≡ length (reverse h)
         → result ≡ dot_of world.now.setup (reverse h) entry.now }
@@ -103,7 +94,8 @@ fn dot_of(world: &World, position: usize, entry: &Entry) -> Dot
     }
 }
 
-/// Returns the dots of the entries of a run that are shown, in order, given the state before the first of them.
+/// Returns the dots of the entries of a run that are shown, in order, given the state before the
+/// first of them.
 pub(crate) fn dots(
     alloc: Global,
     run: &Run,
@@ -112,7 +104,8 @@ pub(crate) fn dots(
 ) -> Result<Vec<Dot>, AllocError>
     requires setup { world.setup ≡ run.now.setup }
     requires stands { StandsFor world (take window.from run.now.entries) }
-    ensures { IfOk result (λ ds. ds.items ≡ dots_of run.now.setup window (reverse run.now.entries)) }
+    ensures { IfOk result
+        (λ ds. ds.items ≡ dots_of run.now.setup window (reverse run.now.entries)) }
 {
     run.known();
     let mut dots = Vec::new(alloc);

@@ -18,7 +18,7 @@ pub struct Open {
     pub first: usize,
 }
 
-/// Whether an entry is one of a worker, and begins a call.
+/// Returns whether an entry is one of a worker, and begins a call.
 fn begins(worker: WorkerId, entry: &Entry) -> bool
     ensures { result ≡ begins worker entry.now }
 {
@@ -64,7 +64,8 @@ fn add_open(
     number: usize,
 ) -> Result<(), AllocError>
     requires { number < 16 }
-    ensures { OnOk result (bars.new.items ≡ bars.old.items ++ open_bars_of window number (reverse run.now.entries)) }
+    ensures { OnOk result
+        (bars.new.items ≡ bars.old.items ++ open_bars_of window number (reverse run.now.entries)) }
 {
     let Some(worker) = WorkerId::new(number) else {
         return Ok(());

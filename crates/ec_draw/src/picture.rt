@@ -19,9 +19,9 @@ use std::alloc::{AllocError, Global};
 #[derive(Drop)]
 pub struct Picture {
     pub window: Window,
-    /// The finished calls that are shown, each with its point.
+    /// The completed calls that are shown, each with its point.
     pub calls: Vec<Placed>,
-    /// The calls under way that are shown.
+    /// The pending calls that are shown.
     pub begun: Vec<Open>,
     /// The entries that are shown.
     pub dots: Vec<Dot>,
@@ -36,7 +36,8 @@ pub struct Picture {
 
 /// Adds some curves.
 fn add_curves(curves: &mut Vec<Curve>, list: Vec<Curve>) -> Result<(), AllocError>
-    ensures { OnOk result (map shown curves.new.items ≡ map shown curves.old.items ++ map shown list.items) }
+    ensures { OnOk result (map shown curves.new.items ≡ map shown curves.old.items
+        ++ map shown list.items) }
 {
     for curve in list {
         curves.push(curve)?;
@@ -44,8 +45,8 @@ fn add_curves(curves: &mut Vec<Curve>, list: Vec<Curve>) -> Result<(), AllocErro
     Ok(())
 }
 
-/// The picture of a run through a window: its shapes are those of the run's history, with these groups. The run is as
-/// before, with want of memory too.
+/// Returns the picture of a run through a window: its shapes are those of the run's history, with
+/// these groups. The run is as before, with want of memory too.
 pub fn picture_of(
     alloc: Global,
     run: &Run,
