@@ -60,7 +60,7 @@ pub record Judged : Type 0 where
   pub read : OneRead
   pub order : List Placed
 
--- from line n on, where the lines are these, the text has these histories, each linearizable, and
+-- from line n on, if the lines are these, the text has these histories, each linearizable, and
 -- then come these lines, from line m on
 abbrev pub AreJudged : ℕ → List (List ℕ) → List Judged → ℕ → List (List ℕ) → Type 0
 AreJudged n ps [] m qs = (n ≡ m) × (ps ≡ qs)
@@ -151,6 +151,11 @@ IsTooLarge Refused text old new =
     (TEXT_MAX < length text) × Keeps old.out new.out × Puts old.notes new.notes
     (codes "too large\n")
 IsTooLarge _ text old new = ⊥
+
+-- how `check_whole` ended
+abbrev pub ChecksWhole : Status → List ℕ → Outlets → Outlets → Type 0
+ChecksWhole status text old new =
+    ((length text ≤ TEXT_MAX) × ChecksText status text old new) ⊎ IsTooLarge status text old new
 
 -- nothing was judged, since a read failed, or memory ran out
 abbrev pub IsNothingRead : Status → List ℕ → Option (List ℕ) → Outlets → Outlets → Type 0

@@ -1,12 +1,13 @@
 -- The words of a line by their places, and where they begin.
-use Rattle.std.specs.Prelude.{ℕ, ◌+◌, ◌-◌, ◌==◌, ◌||◌, Bool, List, [], ◌∷◌, length, min, unwrap_or, slice_get, is_some, codes, bytes_eq, if◌then◌else◌}
+use Rattle.std.specs.Prelude.{ℕ, ◌+◌, ◌-◌, ◌==◌, ◌||◌, Bool, List, [], ◌∷◌, length, min, unwrap_or}
+use Rattle.std.specs.Prelude.{slice_get, is_some, codes, bytes_eq, if◌then◌else◌}
 use Rattle.std.specs.List.{list_any}
 use Rattle.ec_count.specs.Reserved.{is_name}
 use Rattle.ec_text.specs.Words.{words_of, number_of}
 use Rattle.ec_heading.specs.Lists.{worker_in}
 use Rattle.ec_heading.specs.Spelled.{Named}
 
--- the word at a place, counted from 0; nothing where there are not so many
+-- the word at a place, counted from 0; nothing if there are not so many
 abbrev pub word_at : ℕ → List ℕ → List ℕ
 word_at k line = unwrap_or (slice_get (words_of line) k) []
 
@@ -20,7 +21,7 @@ abbrev pub bytes_before : ℕ → List (List ℕ) → ℕ
 bytes_before k [] = 0
 bytes_before k (w ∷ ws) = if k == 0 then 0 else length w + 1 + bytes_before (k - 1) ws
 
--- where the word at a place begins; behind the last byte where there are not so many
+-- where the word at a place begins; behind the last byte if there are not so many
 abbrev pub start_of : ℕ → List ℕ → ℕ
 start_of k line = min (bytes_before k (words_of line)) (length line)
 
@@ -31,11 +32,14 @@ is_among ws word = list_any (λ w. bytes_eq w word) ws
 -- the words before a list, and between two
 abbrev pub list_openers : List (List ℕ)
 list_openers =
-    codes "signal" ∷ codes "observe" ∷ codes "take" ∷ codes "write" ∷ codes "read" ∷ codes "produce" ∷ codes "consume" ∷ codes "use" ∷ []
+    codes "signal" ∷ codes "observe" ∷ codes "take" ∷ codes "write" ∷ codes "read" ∷ codes "produce"
+    ∷ codes "consume" ∷ codes "use" ∷ []
 
--- whether a word may stand behind the name of a declaration: a worker, a number, or a word before a list
+-- whether a word may stand behind the name of a declaration: a worker, a number, or a word before a
+-- list
 abbrev pub is_listed : Named → List ℕ → Bool
-is_listed names w = (is_some (worker_in names w) || is_some (number_of w)) || is_among list_openers w
+is_listed names w = (is_some (worker_in names w) || is_some (number_of w))
+    || is_among list_openers w
 
 -- how many words stand before the first that is no name, that may not be listed, and that is empty
 abbrev pub names_before : List (List ℕ) → ℕ

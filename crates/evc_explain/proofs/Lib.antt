@@ -1,3 +1,6 @@
 mod Places
-mod Turns
+mod Histories
+mod Continuing
+mod Ending
+mod Scripts
 mod Whole
