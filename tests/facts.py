@@ -269,7 +269,8 @@ def faults_of_causes():
     """Compares the causes of evc-explain in its man page with their sentences in ec_explain."""
     table = read("package/evc-explain.causes")
     advice = read("crates/ec_explain/specs/Advice.antt")
-    for text in re.findall(r'^\w+ causes\.\w+ = codes "([^"]*)"', advice, re.M):
+    for said in re.findall(r'^\w+ causes\.\w+ =((?:\s+(?:\+\+ )?codes "[^"]*")+)', advice, re.M):
+        text = "".join(re.findall('codes "([^"]*)"', said))
         if text.replace("\\\\", "\\") not in table.replace("`", ""):
             yield f"package/evc-explain.causes: the sentence is missing: {text}"
 

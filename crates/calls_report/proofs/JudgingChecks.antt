@@ -7,8 +7,7 @@ use Rattle.calls_report.specs.declared.checking.TheConstants.{TEXT_MAX}
 use Rattle.calls_report.specs.declared.status.Status.{Status}
 use Rattle.calls_report.specs.declared.status.Status.TheVariants.{Done, Refused, Usage}
 use Rattle.calls_report.specs.declared.status.Status.TheVariants.{InputOutput, Memory, NotDecided}
-use Rattle.calls_report.specs.Checks.{Outlets, ChecksText, IsTooLarge, Checks}
-use Rattle.calls_report.specs.kept.Judging.{ChecksWhole}
+use Rattle.calls_report.specs.Checks.{Outlets, ChecksText, ChecksWhole, IsTooLarge, Checks}
 
 -- a text that is within its bound is all that there is
 pub all_of_it : (max : ℕ) (bytes : List ℕ) → length (looked_at max bytes) ≤ max

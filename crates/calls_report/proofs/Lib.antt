@@ -4,4 +4,3 @@ mod SumLemmas
 mod TotalLemmas
 pub mod JudgingLemmas
 pub mod JudgingChecks
-mod StopLemmas

@@ -152,6 +152,11 @@ IsTooLarge Refused text old new =
     (codes "too large\n")
 IsTooLarge _ text old new = ⊥
 
+-- how `check_whole` ended
+abbrev pub ChecksWhole : Status → List ℕ → Outlets → Outlets → Type 0
+ChecksWhole status text old new =
+    ((length text ≤ TEXT_MAX) × ChecksText status text old new) ⊎ IsTooLarge status text old new
+
 -- nothing was judged, since a read failed, or memory ran out
 abbrev pub IsNothingRead : Status → List ℕ → Option (List ℕ) → Outlets → Outlets → Type 0
 IsNothingRead InputOutput bytes left old new =

@@ -3,11 +3,12 @@ ghost use Rattle.std.specs.Prelude.{◌≡◌, ◌≤◌, IfSome, IfOk, OnOk, On
 ghost use Rattle.ec_text.specs.Puts.{Puts, IsWrittenOut};
 ghost use Rattle.calls_report.specs.Notes.{fault_note};
 ghost use Rattle.calls_report.specs.Remarks.{remarks_text};
-ghost use Rattle.calls_report.specs.Checks.{history_text, HasOrder, ChecksText, Checks};
+ghost use Rattle.calls_report.specs.Checks.{history_text, HasOrder, ChecksText, ChecksWhole};
+ghost use Rattle.calls_report.specs.Checks.{Checks};
 ghost use Rattle.calls_report.specs.Stops.{StopsAs};
 ghost use Rattle.calls_report.specs.kept.Sums.{AreSums};
 ghost use Rattle.calls_report.specs.kept.Judging.{PutsOrder, StopsBy, status_by, EndsBy};
-ghost use Rattle.calls_report.specs.kept.Judging.{fault_status, Judges, ChecksWhole};
+ghost use Rattle.calls_report.specs.kept.Judging.{fault_status, Judges};
 
 use crate::notes::{say_fault, say_refusal, say_undecided};
 use crate::order::put_order;
@@ -25,6 +26,18 @@ use std::io::{Read, Write};
 
 /// The most bytes that a text may have.
 pub const TEXT_MAX: usize = 67_108_864;
+
+/// A history at which a check ended: the first that has no linearization or is not decided, or else
+/// the last one of the text.
+#[derive(Drop)]
+pub struct LastJudged<'a> {
+    /// The text from the history's first line on.
+    pub text: &'a [u8],
+    /// The number of that line.
+    pub number: u64,
+    pub read: OneRead<'a>,
+    pub verdict: Verdict,
+}
 
 /// Why no text of a history is put.
 #[derive(Clone, Copy, Debug, PartialEq, Eq)]
@@ -51,10 +64,11 @@ fn put_text<W: Write>(out: &mut Out<'_, W>, recording: &Recording, order: &[Plac
     out.put(b"end\n");
 }
 
-/// Returns a linearization of a history, or says why there is none.
+/// Returns a linearization of a history, or says why there is none and keeps the verdict.
 fn find_order<N: Write>(
     alloc: Global,
     read: &OneRead<'_>,
+    kept: &mut Option<Verdict>,
     notes: &mut Out<'_, N>,
 ) -> Result<Vec<Placed>, Stop>
     ensures ok { IfOk result (λ order. HasOrder read.now.recording order.items) }
@@ -69,20 +83,26 @@ fn find_order<N: Write>(
     match verdict {
         Verdict::Linearizable(order) => Ok(order),
         Verdict::Refused(refusal) => match say_refusal(alloc, notes, read, &refusal) {
-            Ok(()) => Err(Stop::Refused),
+            Ok(()) => {
+                *kept = Some(Verdict::Refused(refusal));
+                Err(Stop::Refused)
+            }
             Err(_) => Err(Stop::Memory),
         },
         Verdict::NotDecided(undecided) => {
             say_undecided(notes, read, &undecided);
+            *kept = Some(Verdict::NotDecided(undecided));
             Err(Stop::NotDecided)
         }
     }
 }
 
-/// Judges a history: puts its text and says the remarks on it, or says why there is no text.
+/// Judges a history: puts its text and says the remarks on it, or says why there is no text; and
+/// keeps the verdict.
 fn judge<W: Write, N: Write>(
     alloc: Global,
     read: &OneRead<'_>,
+    kept: &mut Option<Verdict>,
     out: &mut Out<'_, W>,
     notes: &mut Out<'_, N>,
 ) -> Result<(), Stop>
@@ -93,7 +113,7 @@ fn judge<W: Write, N: Write>(
     ensures none { OnErr result (out.new ≡ out.old) }
     ensures written { IsWrittenOut notes.old → IsWrittenOut notes.new }
 {
-    let order = match find_order(alloc, read, notes) {
+    let order = match find_order(alloc, read, kept, notes) {
         Ok(order) => order,
         Err(stop) => return Err(stop),
     };
@@ -105,6 +125,7 @@ fn judge<W: Write, N: Write>(
     };
     put_text(out, &read.recording, &order, &sums);
     say_remarks(notes, read, &remarks);
+    *kept = Some(Verdict::Linearizable(order));
     Ok(())
 }
 
@@ -137,7 +158,7 @@ pub fn linearize<N: Write>(
         (StopsAs read.now.number read.now.recording notes.old notes.new) }
     ensures written { IsWrittenOut notes.old → IsWrittenOut notes.new }
 {
-    match find_order(alloc, read, notes) {
+    match find_order(alloc, read, &mut None, notes) {
         Ok(order) => Ok(order),
         Err(stop) => Err(end_by(stop, notes)),
     }
@@ -156,10 +177,26 @@ pub fn note_unread<N: Write>(fault: TextFault, notes: &mut Out<'_, N>) -> Status
     }
 }
 
-/// Judges the histories of a text, up to the first that is rejected.
-fn judge_all<W: Write, N: Write>(
+/// Returns the history that was read from a line of a text, with its verdict, if there is one.
+fn judged<'a>(
+    text: &'a [u8],
+    number: u64,
+    read: OneRead<'a>,
+    verdict: Option<Verdict>,
+) -> Option<LastJudged<'a>> {
+    Some(LastJudged {
+        text,
+        number,
+        read,
+        verdict: verdict?,
+    })
+}
+
+/// Judges the histories of a text, up to the first that is rejected, and keeps the last of them.
+fn judge_all<'a, W: Write, N: Write>(
     alloc: Global,
-    text: &[u8],
+    text: &'a [u8],
+    last: &mut Option<LastJudged<'a>>,
     out: &mut Out<'_, W>,
     notes: &mut Out<'_, N>,
 ) -> Status
@@ -174,21 +211,25 @@ fn judge_all<W: Write, N: Write>(
             Ok(read) => read,
             Err(fault) => return note_unread(fault, notes),
         };
-        if let Err(stop) = judge(alloc, &read, out, notes) {
+        let mut verdict = None;
+        if let Err(stop) = judge(alloc, &read, &mut verdict, out, notes) {
+            *last = judged(rest, number, read, verdict);
             return end_by(stop, notes);
+        }
+        if read.rest.is_empty() {
+            *last = judged(rest, number, read, verdict);
+            return Status::Done;
         }
         number = read.number;
         rest = read.rest;
-        if rest.is_empty() {
-            return Status::Done;
-        }
     }
 }
 
-/// Judges a text within the bound, and writes what was found.
-fn check_text<W: Write, N: Write>(
+/// Judges a text within the bound, writes what was found, and keeps the last history.
+fn check_text<'a, W: Write, N: Write>(
     alloc: Global,
-    text: &[u8],
+    text: &'a [u8],
+    last: &mut Option<LastJudged<'a>>,
     out: &mut W,
     notes: &mut Out<'_, N>,
 ) -> Status
@@ -199,7 +240,7 @@ fn check_text<W: Write, N: Write>(
     ensures written { IsWrittenOut notes.old → IsWrittenOut notes.new }
 {
     let mut texts = Out::new(out);
-    let status = judge_all(alloc, text, &mut texts, notes);
+    let status = judge_all(alloc, text, last, &mut texts, notes);
     let done = texts.finish();
     texts.into_writer();
     match done {
@@ -211,10 +252,12 @@ fn check_text<W: Write, N: Write>(
     }
 }
 
-/// Checks a text that was read whole, or more of it than a text may have.
-fn check_whole<W: Write, N: Write>(
+/// Checks a text that was read whole, or more of it than a text may have, and keeps the history at
+/// which that ended, if there is one.
+pub fn check_whole<'a, W: Write, N: Write>(
     alloc: Global,
-    text: &[u8],
+    text: &'a [u8],
+    last: &mut Option<LastJudged<'a>>,
     out: &mut W,
     notes: &mut Out<'_, N>,
 ) -> Status
@@ -227,7 +270,7 @@ fn check_whole<W: Write, N: Write>(
         notes.say(b"too large\n");
         return Status::Refused;
     }
-    check_text(alloc, text, out, notes)
+    check_text(alloc, text, last, out, notes)
 }
 
 /// Reads histories of calls, and writes an order of the calls of each, up to the first that has no
@@ -251,7 +294,7 @@ pub fn check<R: Read, W: Write, N: Write>(
     ensures written { IsWrittenOut notes.old → IsWrittenOut notes.new }
 {
     match read_up_to(alloc, reader, TEXT_MAX) {
-        Ok(Input::Whole(text)) => check_whole(alloc, text.as_slice(), out, notes),
+        Ok(Input::Whole(text)) => check_whole(alloc, text.as_slice(), &mut None, out, notes),
         Ok(Input::CutOff(_)) => {
             notes.say(b"read fault\n");
             Status::InputOutput

@@ -52,7 +52,7 @@ fn is_counted(counted: Counted, call: &Call) -> bool
 }
 
 /// Returns the call that an event completes, if it completes one of these.
-pub(crate) fn completed(pending: &[PendingCall], event: &Event) -> Option<Call>
+pub fn completed(pending: &[PendingCall], event: &Event) -> Option<Call>
     ensures call { cons_option result [] ≡ ended_call event.now event.now.action
         (pending_of event.now.worker pending.now) }
     ensures at { IfSome result (λ c. c.last ≡ event.now.at) }

@@ -16,6 +16,7 @@ mod totals;
 mod words;
 
 pub use certificate::{Certificate, start_at};
-pub use checking::{TEXT_MAX, check, linearize, note_unread};
-pub use notes::{say_certificate, say_fault};
+pub use checking::{LastJudged, TEXT_MAX, check, check_whole, linearize, note_unread};
+pub use counting::completed;
+pub use notes::{say_certificate, say_fault, say_refusal, say_undecided};
 pub use status::Status;

@@ -147,7 +147,7 @@ fn put_refusal<W: Write>(out: &mut Out<'_, W>, site: &Site<'_>, shown: Certifica
 }
 
 /// Says why a history has no linearization.
-pub(crate) fn say_refusal<N: Write>(
+pub fn say_refusal<N: Write>(
     alloc: Global,
     notes: &mut Out<'_, N>,
     read: &Read<'_>,
@@ -234,11 +234,7 @@ fn put_overlap<W: Write>(out: &mut Out<'_, W>, site: &Site<'_>, cause: &calls_ce
 }
 
 /// Says why a history is not decided.
-pub(crate) fn say_undecided<N: Write>(
-    notes: &mut Out<'_, N>,
-    read: &Read<'_>,
-    undecided: &Undecided,
-)
+pub fn say_undecided<N: Write>(notes: &mut Out<'_, N>, read: &Read<'_>, undecided: &Undecided)
     ensures puts { Puts notes.old notes.new (undecided_note (scene_of read.now.number
         read.now.recording undecided.now.object 0) undecided.now.cause) }
     ensures written { IsWrittenOut notes.new }

@@ -85,8 +85,8 @@ fn of_few(start: usize, object: usize, call: &Call) -> Course
     }
 }
 
-/// Returns the course of the advances between two calls, from what the earlier one says on. One that
-/// gave up says nothing of a least count.
+/// Returns the course of the advances between two calls, from what the earlier one says on. One
+/// that gave up says nothing of a least count.
 fn of_since(start: usize, object: usize, call: &Call, earlier: &Call) -> Course
     ensures { result ≡ since_course start object call.now earlier.now }
 {

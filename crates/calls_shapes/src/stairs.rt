@@ -1,11 +1,12 @@
 //! Stairs: numbers that rise by one with each call that a certificate counts.
 ghost use Rattle.std.specs.Prelude.{◌≡◌, IfOk};
 ghost use Rattle.calls_shapes.specs.declared.stairs.Portion.TheVariants.{Called};
-ghost use Rattle.calls_shapes.specs.Stairs.{has_completed, has_pending, rises_of, responses_in, IsStair};
+ghost use Rattle.calls_shapes.specs.Stairs.{has_completed, has_pending, rises_of, responses_in};
+ghost use Rattle.calls_shapes.specs.Stairs.{IsStair};
 
-use crate::bars::completed;
 use crate::tallies::{Counted, calls_counted, counts, is_counted};
 use calls_core::{Call, Event, PendingCall};
+use calls_report::completed;
 use calls_verdict::follow;
 use std::alloc::{AllocError, Global};
 

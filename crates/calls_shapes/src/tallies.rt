@@ -4,8 +4,8 @@ ghost use Rattle.std.specs.List.{cons_option};
 ghost use Rattle.std.specs.Prelude.{[], ◌∷◌, count_by};
 ghost use Rattle.calls_shapes.specs.Tallies.{counts, calls_counted, is_counted, tally_at};
 
-use crate::bars::completed;
 use calls_core::{Action, Call, Event, Op, Reply};
+use calls_report::completed;
 use calls_verdict::follow;
 use std::alloc::{AllocError, Global};
 

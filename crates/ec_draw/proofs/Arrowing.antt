@@ -1,5 +1,6 @@
 -- Puts, gets and deliveries, entry by entry.
-use Rattle.std.proofs.Common.{◌≡◌, ℕ, false, List, [], ◌∷◌, ◌++◌, length, map, refl, ap, sym, ◌∙◌, cond, reverse}
+use Rattle.std.proofs.Common.{◌≡◌, ℕ, false, List, [], ◌∷◌, ◌++◌, length, map, refl, ap, sym, ◌∙◌}
+use Rattle.std.proofs.Common.{cond, reverse}
 use Rattle.std.specs.List.{filter}
 use Rattle.ec_count.specs.Tables.{Tables}
 use Rattle.ec_core.specs.declared.act.Entry.{Entry}
@@ -25,20 +26,28 @@ unfolding places
 places_first m b = refl
 
 -- one entry more
-pub places_next : (m : Move) (b : Buffer) (x : Entry) (past : List Entry) (place : ℕ) (ks ls : List ℕ) → place ≡ length past → ks ≡ places m b past
+pub places_next : (m : Move) (b : Buffer) (x : Entry) (past : List Entry) (place : ℕ)
+    (ks ls : List ℕ) → place ≡ length past → ks ≡ places m b past
     → ls ≡ ks ++ cond (is_move m b x.act) (place ∷ []) [] → ls ≡ places m b (x ∷ past)
 unfolding places
 places_next m b x past place ks ls at was more =
-    more ∙ ap (λ l. l ++ cond (is_move m b x.act) (place ∷ []) []) was ∙ ap (λ k. places m b past ++ cond (is_move m b x.act) (k ∷ []) []) at
+    more ∙ ap (λ l. l ++ cond (is_move m b x.act) (place ∷ []) []) was
+    ∙ ap (λ k. places m b past ++ cond (is_move m b x.act) (k ∷ []) []) at
 
 -- the arrows of a buffer that is followed, and of one that isn't
-pub arrows_are : (t : Tables) (b : Buffer) (w : Window) (h : List Entry) (puts gets : List ℕ) (list : List Delivery) → IsFollowed t b h → AreDeliveries t b h list
-    → puts ≡ places moves.Put b (reverse h) → gets ≡ places moves.Get b (reverse h) → filter (is_in w) (map (arrow_of b puts gets) list) ≡ group_arrows t w h (groups.Buffer b)
+pub arrows_are : (t : Tables) (b : Buffer) (w : Window) (h : List Entry) (puts gets : List ℕ)
+    (list : List Delivery) → IsFollowed t b h → AreDeliveries t b h list
+    → puts ≡ places moves.Put b (reverse h) → gets ≡ places moves.Get b (reverse h)
+    → filter (is_in w) (map (arrow_of b puts gets) list) ≡ group_arrows t w h (groups.Buffer b)
 arrows_are t b w h puts gets list f are put got =
-    ap (λ l. filter (is_in w) (map (arrow_of b puts gets) l)) (determined t b h f list (collected b (reverse h)) are (gathered t b h f))
+    ap (λ l. filter (is_in w) (map (arrow_of b puts gets) l))
+    (determined t b h f list (collected b (reverse h)) are (gathered t b h f))
     ∙ ap (λ ks. filter (is_in w) (map (arrow_of b ks gets) (collected b (reverse h)))) put
-    ∙ ap (λ ks. filter (is_in w) (map (arrow_of b (places moves.Put b (reverse h)) ks) (collected b (reverse h)))) got
-    ∙ sym (ap (λ c. cond c (filter (is_in w) (arrows_in b (reverse h))) []) (follow_yes (buffer_rules t b) (reverse h) f.followed))
+    ∙ ap (λ ks. filter (is_in w)
+    (map (arrow_of b (places moves.Put b (reverse h)) ks) (collected b (reverse h)))) got
+    ∙ sym (ap (λ c. cond c (filter (is_in w) (arrows_in b (reverse h))) [])
+    (follow_yes (buffer_rules t b) (reverse h) f.followed))
 
-pub arrows_none : (t : Tables) (b : Buffer) (w : Window) (h : List Entry) → false ≡ follows (buffer_rules t b) (reverse h) → [] ≡ group_arrows t w h (groups.Buffer b)
+pub arrows_none : (t : Tables) (b : Buffer) (w : Window) (h : List Entry)
+    → false ≡ follows (buffer_rules t b) (reverse h) → [] ≡ group_arrows t w h (groups.Buffer b)
 arrows_none t b w h off = ap (λ c. cond c (filter (is_in w) (arrows_in b (reverse h))) []) off

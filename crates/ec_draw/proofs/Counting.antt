@@ -1,5 +1,7 @@
 -- Counts, one entry after another.
-use Rattle.std.proofs.Common.{◌≡◌, ℕ, zero, suc, ◌+◌, ◌<◌, ◌≤◌, ◌==◌, Bool, true, false, List, [], ◌∷◌, ◌++◌, length, take, Some, None, refl, ap, sym, ◌∙◌, arith, cond, subst, slice_get}
+use Rattle.std.proofs.Common.{◌≡◌, ℕ, zero, suc, ◌+◌, ◌≤◌, Bool, true, false, List, []}
+use Rattle.std.proofs.Common.{◌∷◌, ◌++◌, length, take, Some, None, refl, ap, sym, ◌∙◌, arith, cond}
+use Rattle.std.proofs.Common.{slice_get}
 use Rattle.std.proofs.lemmas.List.{length-reverse}
 use mir.Val.{bool_byte}
 use Rattle.ec_core.specs.declared.act.Entry.{Entry}
@@ -10,20 +12,26 @@ use Rattle.ec_draw.specs.declared.curve.Counted.TheVariants.{Event, Sequencer}
 use Rattle.ec_draw.specs.Curves.{count_of, count_at, raises, counts_from}
 use Rattle.ec_draw.proofs.Stepping.{next_past}
 
-count_more : (object : Counted) (x : Entry) (past : List Entry) → count_of object (x ∷ past) ≡ cond (raises object x.act) 1 0 + count_of object past
+count_more : (object : Counted) (x : Entry) (past : List Entry)
+    → count_of object (x ∷ past) ≡ cond (raises object x.act) 1 0 + count_of object past
 unfolding total issued
 count_more (Event e) x past = refl
 count_more (Sequencer q) x past = refl
 
-pub count_next : (object : Counted) (h : List Entry) (k : ℕ) (x : Entry) (n : ℕ) → slice_get h k ≡ Some x → n ≡ cond (raises object x.act) 1 0 → count_at object h (k + 1) ≡ count_at object h k + n
+pub count_next : (object : Counted) (h : List Entry) (k : ℕ) (x : Entry) (n : ℕ)
+    → slice_get h k ≡ Some x → n ≡ cond (raises object x.act) 1 0
+    → count_at object h (k + 1) ≡ count_at object h k + n
 count_next object h k x n at is =
-    let step : count_at object h (k + 1) ≡ cond (raises object x.act) 1 0 + count_at object h k = ap (count_of object) (next_past h k x at) ∙ count_more object x (past_at k h) in
+    let step : count_at object h (k + 1) ≡ cond (raises object x.act) 1 0 + count_at object h k =
+    ap (count_of object) (next_past h k x at) ∙ count_more object x (past_at k h) in
     omega arith
 
-pub count_end : (object : Counted) (h : List Entry) (k : ℕ) → slice_get h k ≡ None → count_at object h (k + 1) ≡ count_at object h k + 0
+pub count_end : (object : Counted) (h : List Entry) (k : ℕ) → slice_get h k ≡ None
+    → count_at object h (k + 1) ≡ count_at object h k + 0
 count_end object h k at =
     let one : k + 1 ≡ suc k = omega arith in
-    let step : count_at object h (k + 1) ≡ count_at object h k = ap (λ j. count_at object h j) one ∙ ap (count_of object) (past_end h k at) in
+    let step : count_at object h (k + 1) ≡ count_at object h k = ap (λ j. count_at object h j) one
+    ∙ ap (count_of object) (past_end h k at) in
     omega arith
 
 pub count_none : (object : Counted) (h : List Entry) → count_at object h 0 ≡ 0
@@ -31,21 +39,33 @@ unfolding total issued
 count_none (Event e) h = refl
 count_none (Sequencer q) h = refl
 
-pub counts_one : (object : Counted) (h : List Entry) (k n : ℕ) → n ≡ count_at object h k → n ∷ [] ≡ counts_from object h k 1
+pub counts_one : (object : Counted) (h : List Entry) (k n : ℕ) → n ≡ count_at object h k
+    → n ∷ [] ≡ counts_from object h k 1
 unfolding counts_from
-counts_one object h k n is = (let same : k + 0 ≡ k = omega arith in ap (λ v. v ∷ []) (is ∙ ap (count_at object h) (sym same)))
+counts_one object h k n is =
+    (let same : k + 0 ≡ k = omega arith in
+    ap (λ v. v ∷ []) (is ∙ ap (count_at object h) (sym same)))
 
-pub counts_more : (object : Counted) (h : List Entry) (k j n : ℕ) (hs : List ℕ) → hs ≡ counts_from object h k (j + 1) → n ≡ count_at object h (k + (j + 1)) → hs ++ n ∷ [] ≡ counts_from object h k (j + 1 + 1)
+pub counts_more : (object : Counted) (h : List Entry) (k j n : ℕ) (hs : List ℕ)
+    → hs ≡ counts_from object h k (j + 1) → n ≡ count_at object h (k + (j + 1))
+    → hs ++ n ∷ [] ≡ counts_from object h k (j + 1 + 1)
 unfolding counts_from
 counts_more object h k j n hs was is =
     let one : j + 1 + 1 ≡ suc (j + 1) = omega arith in
-    ap (λ z. z ++ n ∷ []) was ∙ ap (λ v. counts_from object h k (j + 1) ++ v ∷ []) is ∙ sym (ap (counts_from object h k) one)
+    ap (λ z. z ++ n ∷ []) was ∙ ap (λ v. counts_from object h k (j + 1) ++ v ∷ []) is
+    ∙ sym (ap (counts_from object h k) one)
 
-pub count_here : (object : Counted) (h : List Entry) (k n : ℕ) → n ≡ count_at object h k → n ≡ count_at object h (k + 0)
-count_here object h k n is = (let same : k ≡ k + 0 = omega arith in is ∙ ap (count_at object h) same)
+pub count_here : (object : Counted) (h : List Entry) (k n : ℕ) → n ≡ count_at object h k
+    → n ≡ count_at object h (k + 0)
+count_here object h k n is =
+    (let same : k ≡ k + 0 = omega arith in is ∙ ap (count_at object h) same)
 
-pub count_step : (object : Counted) (h : List Entry) (k j n m : ℕ) → n ≡ count_at object h (k + j) → count_at object h (k + j + 1) ≡ count_at object h (k + j) + m → n + m ≡ count_at object h (k + (j + 1))
-count_step object h k j n m was more = (let same : k + j + 1 ≡ k + (j + 1) = omega arith in ap (λ v. v + m) was ∙ sym more ∙ ap (count_at object h) same)
+pub count_step : (object : Counted) (h : List Entry) (k j n m : ℕ) → n ≡ count_at object h (k + j)
+    → count_at object h (k + j + 1) ≡ count_at object h (k + j) + m
+    → n + m ≡ count_at object h (k + (j + 1))
+count_step object h k j n m was more =
+    (let same : k + j + 1 ≡ k + (j + 1) = omega arith in ap (λ v. v + m) was ∙ sym more
+    ∙ ap (count_at object h) same)
 
 pub byte_is : (b d : Bool) → b ≡ d → bool_byte b ≡ cond d 1 0
 byte_is true d e = ap (λ x. cond x 1 0) e

@@ -1,4 +1,5 @@
 mod Stepping
+mod Opening
 mod Counting
 mod Filtering
 mod Balancing

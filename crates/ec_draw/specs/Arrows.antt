@@ -1,5 +1,7 @@
--- The arrows: of each buffer that is followed, its deliveries, each from the put of an item to the get of the same number.
-use Rattle.std.specs.Prelude.{◌≡◌, ℕ, Bool, false, ◌||◌, List, [], ◌∷◌, ◌++◌, length, map, reverse, is_some, slice_get, unwrap_or, if◌then◌else◌}
+-- The arrows: of each buffer that is followed, its deliveries, each from the put of an item to the
+-- get of the same number.
+use Rattle.std.specs.Prelude.{◌≡◌, ℕ, Bool, false, ◌||◌, List, [], ◌∷◌, ◌++◌, length, map, reverse}
+use Rattle.std.specs.Prelude.{is_some, slice_get, unwrap_or, if◌then◌else◌}
 use Rattle.std.specs.List.{filter, flat_map}
 use Rattle.ec_count.specs.Tables.{Tables}
 use Rattle.ec_core.specs.declared.act.Act.{Act}
@@ -33,8 +35,8 @@ places m b (x ∷ past) = places m b past ++ (if is_move m b x.act then length p
 abbrev pub place_of : List ℕ → ℕ → ℕ
 place_of ks n = unwrap_or (slice_get ks n) 0
 
--- the arrow of a delivery, where these are the positions of the puts and of the gets: item n is put by put n and got by get n,
--- counted from 0. Its buffer is told by the eventcount of the puts
+-- the arrow of a delivery, where these are the positions of the puts and of the gets: item n is put
+-- by put n and got by get n, counted from 0. Its buffer is told by the eventcount of the puts
 abbrev pub arrow_of : Buffer → List ℕ → List ℕ → Delivery → Arrow
 arrow_of b puts gets d = record {
   count = b.in_count;
@@ -45,7 +47,8 @@ arrow_of b puts gets d = record {
 
 -- those of all deliveries of a past, by number
 abbrev pub arrows_in : Buffer → List Entry → List Arrow
-arrows_in b past = map (arrow_of b (places moves.Put b past) (places moves.Get b past)) (collected b past)
+arrows_in b past =
+    map (arrow_of b (places moves.Put b past) (places moves.Get b past)) (collected b past)
 
 -- whether an arrow is shown: one of its ends is
 abbrev pub is_in : Window → Arrow → Bool
@@ -53,10 +56,9 @@ is_in w a = shows w a.put || shows w a.got
 
 -- those of a group, where it is a buffer and is followed
 abbrev pub group_arrows : Tables → Window → List Entry → Group → List Arrow
-group_arrows t w h (groups.Buffer b) = if follows (buffer_rules t b) (reverse h) then filter (is_in w) (arrows_in b (reverse h)) else []
-group_arrows t w h (groups.Database d) = []
-group_arrows t w h (groups.Semaphore s) = []
-group_arrows t w h (groups.Both c) = []
+group_arrows t w h (groups.Buffer b) = if follows (buffer_rules t b) (reverse h)
+    then filter (is_in w) (arrows_in b (reverse h)) else []
+group_arrows t w h _ = []
 
 -- those of all groups
 abbrev pub arrows : Tables → List Group → Window → List Entry → List Arrow
@@ -64,7 +66,8 @@ arrows t gs w h = flat_map (group_arrows t w h) gs
 
 -- A WALK
 
--- what a walk keeps of a buffer: its audit, and the positions of the puts and of the gets, or that memory was refused
+-- what a walk keeps of a buffer: its audit, and the positions of the puts and of the gets, or that
+-- memory was refused
 pub record Moving : Type 0 where
   pub audit : Delivering
   pub shape : Buffer
@@ -81,4 +84,5 @@ pub record IsMoving (m : Moving) (past : List Entry) : Type 0 where
 
 -- of the same buffer, after a past
 abbrev pub MovesOn : Moving → Moving → List Entry → Type 0
-MovesOn start now past = (now.shape ≡ start.shape) × (now.audit.setup ≡ start.audit.setup) × IsMoving now past
+MovesOn start now past = (now.shape ≡ start.shape) × (now.audit.setup ≡ start.audit.setup)
+    × IsMoving now past

@@ -1,5 +1,7 @@
--- The curves of balances: of each semaphore that is followed, how many it has left at each moment that is shown.
-use Rattle.std.specs.Prelude.{◌≡◌, ℕ, ◌+◌, ◌-◌, ◌<◌, ◌^◌, Bool, false, ◌&&◌, nat_le, min, List, [], ◌∷◌, ◌++◌, length, replicate, reverse, if◌then◌else◌}
+-- The curves of balances: of each semaphore that is followed, how many it has left at each moment
+-- that is shown.
+use Rattle.std.specs.Prelude.{◌≡◌, ℕ, ◌+◌, ◌-◌, ◌<◌, ◌^◌, Bool, false, ◌&&◌, nat_le, min, List, []}
+use Rattle.std.specs.Prelude.{◌∷◌, ◌++◌, length, replicate, reverse, if◌then◌else◌}
 use Rattle.std.specs.List.{flat_map}
 use Rattle.ec_core.specs.declared.act.Entry.{Entry}
 use Rattle.ec_semaphore.specs.Shapes.{Semaphore}
@@ -17,8 +19,8 @@ use Rattle.ec_draw.specs.Curves.{Line}
 
 -- WHAT IS LEFT
 
--- how many a semaphore has left after a past: those at first and those given back, without those taken. Where it is
--- followed this is its balance
+-- how many a semaphore has left after a past: those at first and those given back, without those
+-- taken. Where it is followed this is its balance
 abbrev pub left_of : Semaphore → List Entry → ℕ
 left_of s past = s.initial + ups s past - downs s past
 
@@ -43,12 +45,14 @@ balance_line w h s = record { object = Balance s.count; heights = lefts s w (rev
 abbrev pub line_if : Bool → Line → List Line
 line_if b l = if b then l ∷ [] else []
 
--- that of a group, where it is a semaphore, or `both`, and is followed; these are all the semaphores
+-- that of a group, where it is a semaphore, or `both`, and is followed; these are all the
+-- semaphores
 abbrev pub group_line : List Semaphore → Window → List Entry → Group → List Line
-group_line all w h (groups.Buffer b) = []
-group_line all w h (groups.Database d) = []
-group_line all w h (groups.Semaphore s) = line_if (follows (use_rules s) (reverse h)) (balance_line w h s)
-group_line all w h (groups.Both c) = line_if (follows (both_rules c (is_line c all)) (reverse h)) (balance_line w h c)
+group_line all w h (groups.Semaphore s) =
+    line_if (follows (use_rules s) (reverse h)) (balance_line w h s)
+group_line all w h (groups.Both c) =
+    line_if (follows (both_rules c (is_line c all)) (reverse h)) (balance_line w h c)
+group_line all w h _ = []
 
 -- those of all groups
 abbrev pub balance_lines : List Group → Window → List Entry → List Line
@@ -60,8 +64,8 @@ balance_lines gs w h = flat_map (group_line (semaphores_of gs) w h) gs
 abbrev pub moments : Window → ℕ → ℕ
 moments w k = min k w.to + 1 - w.from
 
--- what a walk keeps of a semaphore: its audit, and what was left at the first of the moments that are shown, or that memory was
--- refused
+-- what a walk keeps of a semaphore: its audit, and what was left at the first of the moments that
+-- are shown, or that memory was refused
 pub record Course : Type 0 where
   pub audit : Balancing
   pub window : Window
@@ -72,7 +76,8 @@ pub record Course : Type 0 where
 abbrev pub left_by : Balancing → ℕ
 left_by a = a.shape.initial + a.ups - a.downs
 
--- what was left at each moment that is shown up to moment k: since the latest that is kept nothing was given back or taken
+-- what was left at each moment that is shown up to moment k: since the latest that is kept nothing
+-- was given back or taken
 abbrev pub padded : Course → ℕ → List ℕ
 padded c k = c.heights ++ replicate (moments c.window k - length c.heights) (left_by c.audit)
 
@@ -83,8 +88,10 @@ IsSmall s past = s.initial + ups s past < 2 ^ 64
 -- it is that after a past
 pub record IsCourse (c : Course) (past : List Entry) : Type 0 where
   pub counted : IsCounted c.audit past
-  pub heights : c.lacks ≡ false → IsSmall c.audit.shape past → padded c (length past) ≡ lefts c.audit.shape c.window past
+  pub heights : c.lacks ≡ false → IsSmall c.audit.shape past
+      → padded c (length past) ≡ lefts c.audit.shape c.window past
 
 -- of the same semaphore, after a past
 abbrev pub CoursesOn : Course → Course → List Entry → Type 0
-CoursesOn start now past = (now.window ≡ start.window) × (now.audit.shape ≡ start.audit.shape) × IsCourse now past
+CoursesOn start now past = (now.window ≡ start.window) × (now.audit.shape ≡ start.audit.shape)
+    × IsCourse now past

@@ -1,10 +1,11 @@
 -- Which workers and objects are drawn: those for which a chosen name stands; without names all are.
-use Rattle.std.specs.Prelude.{ℕ, Bool, true, ◌==◌, ◌&&◌, ◌||◌, List, map, length, Option, Some, None, slice_get}
+use Rattle.std.specs.Prelude.{ℕ, Bool, true, ◌==◌, ◌&&◌, ◌||◌, List, map, length, Option, Some}
+use Rattle.std.specs.Prelude.{None, slice_get}
 use Rattle.std.specs.Borrow.{Bor}
 use Rattle.std.specs.List.{list_any, filter, starts_with}
 use Rattle.ec_count.specs.Targets.{same_target}
 use Rattle.ec_count.specs.declared.target.Target.{Target}
-use Rattle.ec_count.specs.declared.target.Target.TheVariants.{Worker, Event, Sequencer, Cells, Group}
+use Rattle.ec_count.specs.declared.target.Target.TheVariants.{Worker, Event, Sequencer}
 use Rattle.ec_core.specs.declared.act.Act.{Act}
 use Rattle.ec_core.specs.declared.act.Act.TheVariants as acts
 use Rattle.ec_heading.specs.Spelling.{Named, cell_in}
@@ -22,9 +23,11 @@ abbrev pub ends_name : Option ℕ → Bool
 ends_name None = true
 ends_name (Some b) = b == 46
 
--- whether a name stands for a word: it is the word, or that of the group whose object the word spells
+-- whether a name stands for a word: it is the word, or that of the group whose object the word
+-- spells
 abbrev pub stands_for : List ℕ → List ℕ → Bool
-stands_for word name = starts_with (λ a b. a == b) word name && ends_name (slice_get word (length name))
+stands_for word name =
+    starts_with (λ a b. a == b) word name && ends_name (slice_get word (length name))
 
 -- whether a word is chosen: some name stands for it; where there is no name all are
 abbrev pub is_chosen : List (Bor (List ℕ)) → List ℕ → Bool
@@ -33,10 +36,7 @@ is_chosen names word = (length names == 0) || list_any (λ name. stands_for word
 -- the names that speak of a target
 abbrev pub names_for : Choice → Target → List (Bor (List ℕ))
 names_for n (Worker w) = n.workers.now
-names_for n (Event e) = n.objects.now
-names_for n (Sequencer q) = n.objects.now
-names_for n (Cells x k) = n.objects.now
-names_for n (Group g) = n.objects.now
+names_for n _ = n.objects.now
 
 -- whether what a word stands for is drawn
 abbrev pub is_drawn : Choice → List ℕ × Target → Bool
@@ -87,4 +87,5 @@ draws_shade ts s = draws_worker ts s.accepted.worker && draws_event ts s.count
 
 -- an arrow, by its producer, its consumer and its buffer's eventcount of puts
 abbrev pub draws_arrow : List Target → Arrow → Bool
-draws_arrow ts a = (draws_worker ts a.delivery.producer && draws_worker ts a.delivery.consumer) && draws_event ts a.count
+draws_arrow ts a = (draws_worker ts a.delivery.producer && draws_worker ts a.delivery.consumer)
+    && draws_event ts a.count

@@ -1,5 +1,6 @@
--- The curves of counts: of each eventcount its total, and of each sequencer its tickets, at each moment that is shown. The moment of
--- column j is moment from + j, at which so many of the history's entries have happened.
+-- The curves of counts: of each eventcount its total, and of each sequencer its tickets, at each
+-- moment that is shown. The moment of column j is moment from + j, at which so many of the
+-- history's entries have happened.
 use Rattle.std.specs.Prelude.{ℕ, ◌+◌, ◌-◌, ◌<◌, zero, suc, Bool, List, [], ◌∷◌, ◌++◌, length}
 use Rattle.ec_count.specs.Tables.{Tables}
 use Rattle.ec_core.specs.declared.act.Act.{Act}
@@ -31,7 +32,8 @@ unfoldable pub counts_from : Counted → List Entry → ℕ → ℕ → List ℕ
 counts_from object h k zero = []
 counts_from object h k (suc n) = counts_from object h k n ++ count_at object h (k + n) ∷ []
 
--- the counts at the moments that are shown: those before each entry that is shown, and the one after the last
+-- the counts at the moments that are shown: those before each entry that is shown, and the one
+-- after the last
 abbrev pub heights : Counted → Window → List Entry → List ℕ
 heights object w h = counts_from object h w.from (w.to - w.from + 1)
 

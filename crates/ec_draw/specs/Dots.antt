@@ -1,5 +1,6 @@
 -- The dots: one for each entry that is shown, with the component that it read or raised.
-use Rattle.std.specs.Prelude.{ℕ, List, [], ◌∷◌, ◌++◌, length, Option, Some, None, option_and_then, nat_lt, if◌then◌else◌}
+use Rattle.std.specs.Prelude.{ℕ, List, [], ◌∷◌, ◌++◌, length, Option, Some, None, option_and_then}
+use Rattle.std.specs.Prelude.{nat_lt, if◌then◌else◌}
 use Rattle.ec_count.specs.Tables.{Tables}
 use Rattle.ec_core.specs.declared.act.Act.{Act}
 use Rattle.ec_core.specs.declared.act.Act.TheVariants.{Advance, Read, Await, Go}
@@ -26,8 +27,9 @@ abbrev pub gone_component : Tables → Option CallSoFar → Option ℕ
 gone_component t None = None
 gone_component t (Some call) = Some (next_component t (event_or call.op) call.moments)
 
--- the component that an act of w reads or raises at the end of a past: an advance raises w's own, a read and an await begin
--- with component 0, and a go reads the one that comes next; the others have none
+-- the component that an act of w reads or raises at the end of a past: an advance raises w's own, a
+-- read and an await begin with component 0, and a go reads the one that comes next; the others have
+-- none
 abbrev pub component_in : Tables → ℕ → List Entry → Act → Option ℕ
 component_in t w past (Advance e) = component_at t e past w
 component_in t w past (Read e) = Some 0
@@ -43,7 +45,8 @@ held_in t e c past = if nat_lt c (width t e) then Some (component_total t e c pa
 abbrev pub gone_read : Tables → List Entry → Option CallSoFar → Option ℕ
 gone_read t past None = None
 gone_read t past (Some call) =
-    option_and_then (λ e. held_in t e (next_component t (event_or call.op) call.moments) past) (read_of call.op)
+    option_and_then (λ e. held_in t e (next_component t (event_or call.op) call.moments) past)
+    (read_of call.op)
 
 -- what an act of w reads of its component at the end of a past
 abbrev pub number_in : Tables → ℕ → List Entry → Act → Option ℕ
@@ -54,9 +57,17 @@ number_in t w past act = None
 
 -- the dot of an entry at the end of a past; the entry's position is the length of its past
 abbrev pub dot_of : Tables → List Entry → Entry → Dot
-dot_of t past x = record { worker = x.worker; op = op_in x.worker past x.act; position = length past; component = component_in t x.worker past x.act; number = number_in t x.worker past x.act }
+dot_of t past x =
+    record {
+      worker = x.worker;
+      op = op_in x.worker past x.act;
+      position = length past;
+      component = component_in t x.worker past x.act;
+      number = number_in t x.worker past x.act;
+    }
 
 -- the dots of a past: of each entry that is shown, in order
 unfoldable pub dots_of : Tables → Window → List Entry → List Dot
 dots_of t w [] = []
-dots_of t w (x ∷ past) = dots_of t w past ++ (if shows w (length past) then dot_of t past x ∷ [] else [])
+dots_of t w (x ∷ past) =
+    dots_of t w past ++ (if shows w (length past) then dot_of t past x ∷ [] else [])

@@ -27,12 +27,14 @@ CourseFor w s f past = ⊥
 -- that of `both`, where these are all semaphores
 abbrev pub BothFor : List Semaphore → Window → Semaphore → Finding → List Entry → Type 0
 BothFor all w c (finds.Both b) past =
-    (b.course.audit.shape ≡ c) × (b.course.window ≡ w) × IsCourse b.course past × (b.pairs.common ≡ c) × (b.pairs.shapes ≡ all) × IsPairing b.pairs past
+    (b.course.audit.shape ≡ c) × (b.course.window ≡ w) × IsCourse b.course past
+    × (b.pairs.common ≡ c) × (b.pairs.shapes ≡ all) × IsPairing b.pairs past
 BothFor all w c f past = ⊥
 
 -- that of the database
 abbrev pub TriesFor : Tables → Window → Database → Finding → List Entry → Type 0
-TriesFor t w d (finds.Tries a) past = (a.shape ≡ d) × (a.audit.setup ≡ t) × (a.window ≡ w) × IsTrying a past
+TriesFor t w d (finds.Tries a) past = (a.shape ≡ d) × (a.audit.setup ≡ t) × (a.window ≡ w)
+    × IsTrying a past
 TriesFor t w d f past = ⊥
 
 -- that of the buffer
@@ -40,7 +42,8 @@ abbrev pub MovesFor : Tables → Buffer → Finding → List Entry → Type 0
 MovesFor t b (finds.Moves m) past = (m.shape ≡ b) × (m.audit.setup ≡ t) × IsMoving m past
 MovesFor t b f past = ⊥
 
--- what is kept is that of the group, under these declarations, with these semaphores and through this window, after a past
+-- what is kept is that of the group, under these declarations, with these semaphores and through
+-- this window, after a past
 abbrev pub FindsFor : Tables → List Semaphore → Window → Group → Finding → List Entry → Type 0
 FindsFor t all w (groups.Buffer b) f past = MovesFor t b f past
 FindsFor t all w (groups.Database d) f past = TriesFor t w d f past
@@ -48,11 +51,13 @@ FindsFor t all w (groups.Semaphore s) f past = CourseFor w s f past
 FindsFor t all w (groups.Both c) f past = BothFor all w c f past
 
 -- each group from number n on has its own, in order
-abbrev pub EachFindsFrom : Tables → List Semaphore → Window → List Group → ℕ → List Finding → List Entry → Type 0
+abbrev pub EachFindsFrom : Tables → List Semaphore → Window → List Group → ℕ → List Finding
+    → List Entry → Type 0
 EachFindsFrom t all w gs n list past = EachFrom (λ g f. FindsFor t all w g f past) gs n list
 
 -- each group has its own, in order
-abbrev pub EachFinds : Tables → List Semaphore → Window → List Group → List Finding → List Entry → Type 0
+abbrev pub EachFinds : Tables → List Semaphore → Window → List Group → List Finding → List Entry
+    → Type 0
 EachFinds t all w gs list past = Each (λ g f. FindsFor t all w g f past) gs list
 
 -- IN A WALK
@@ -79,7 +84,8 @@ FindsOn start now past = ⊥
 -- WHAT IS HANDED OUT
 
 -- what is found of one more group, which these are all the semaphores of
-pub record AddsGroup (t : Tables) (all : List Semaphore) (w : Window) (h : List Entry) (g : Group) (old new : Findings) : Type 0 where
+pub record AddsGroup (t : Tables) (all : List Semaphore) (w : Window) (h : List Entry) (g : Group)
+    (old new : Findings) : Type 0 where
   pub curves : map shown new.curves.items ≡ map shown old.curves.items ++ group_line all w h g
   pub shades : map seen new.shades.items ≡ map seen old.shades.items ++ group_shades t w h g
   pub arrows : new.arrows.items ≡ old.arrows.items ++ group_arrows t w h g

@@ -6,4 +6,5 @@ use Rattle.ec_core.specs.Following.{Rule, block, is_right}
 -- each entry is right by its worker's rule
 unfoldable pub follows : (ℕ → Rule) → List Entry → Bool
 follows rules [] = true
-follows rules (x ∷ past) = is_right (rules x.worker) (block (rules x.worker) x.worker past) x.act && follows rules past
+follows rules (x ∷ past) = is_right (rules x.worker) (block (rules x.worker) x.worker past) x.act
+    && follows rules past

@@ -1,11 +1,14 @@
 -- What bars, curves, shades and arrows are, over the history in its natural order.
-use Rattle.std.specs.Prelude.{◌≡◌, ◌↔◌, ℕ, ◌+◌, ◌-◌, ◌<◌, ◌≤◌, true, false, List, [], Some, length, slice_get, reverse, pos}
+use Rattle.std.specs.Prelude.{◌≡◌, ◌↔◌, ℕ, ◌+◌, ◌-◌, ◌<◌, ◌≤◌, true, false, List, [], Some, length}
+use Rattle.std.specs.Prelude.{slice_get, reverse, pos}
 use Rattle.std.specs.List.{Contains}
 use Rattle.ec_count.specs.Tables.{Tables, IsDeclared}
 use Rattle.ec_core.specs.declared.act.Entry.{Entry}
 use Rattle.ec_core.specs.Acceptance.{IsAccepted}
 use Rattle.ec_core.specs.Counts.{past_at}
-use Rattle.ec_core.specs.Calls.{is_go}
+use Rattle.ec_core.specs.Calls.{CallSoFar, under_way, is_go}
+use Rattle.ec_core.specs.CallsInOrder.{IsUnderWay}
+use Rattle.ec_core.specs.Rounds.{position_of}
 use Rattle.ec_core.specs.Following.{Rule, Follow, block}
 use Rattle.ec_buffer.specs.Shapes.{Buffer}
 use Rattle.ec_buffer.specs.Items.{PutsItem, GetsItem, gets_made}
@@ -25,47 +28,69 @@ use Rattle.ec_draw.specs.Bars.{bars, is_shown}
 use Rattle.ec_draw.specs.Curves.{count_at, heights}
 use Rattle.ec_draw.specs.Following.{follows}
 use Rattle.ec_draw.specs.Balances.{left_of, lefts}
+use Rattle.ec_draw.specs.Open.{begun_at}
 use Rattle.ec_draw.specs.Shades.{Shaded, begins_list, shades_in}
 use Rattle.ec_draw.specs.declared.arrow.Arrow.{Arrow}
 use Rattle.ec_draw.specs.Arrows.{arrows_in}
 
 -- the bars are exactly the finished calls that are shown, each with its point
 pub record AreBars (t : Tables) (w : Window) (h : List Entry) (ps : List Placed) : Type 0 where
-  pub each : (p : Placed) → Contains ps p → IsFinishedCall t h p.call × IsPoint h p.call p.point × (is_shown w p ≡ true)
-  pub every : (p : Placed) → IsFinishedCall t h p.call → IsPoint h p.call p.point → is_shown w p ≡ true → Contains ps p
+  pub each : (p : Placed) → Contains ps p → IsFinishedCall t h p.call × IsPoint h p.call p.point
+      × (is_shown w p ≡ true)
+  pub every : (p : Placed) → IsFinishedCall t h p.call → IsPoint h p.call p.point
+      → is_shown w p ≡ true → Contains ps p
 
 abbrev pub BarsAreCalls : Type 0
-BarsAreCalls = (t : Tables) (w : Window) (h : List Entry) → IsDeclared t → IsAccepted t (reverse h) → AreBars t w h (bars t w h)
+BarsAreCalls = (t : Tables) (w : Window) (h : List Entry) → IsDeclared t → IsAccepted t (reverse h)
+    → AreBars t w h (bars t w h)
+
+-- the bar of a call that is pending at the end of a history begins where the call did: at the entry
+-- that opened it, after which all entries of its worker are goes that were answered Pending; this
+-- is the first of the call's entries as the world keeps them
+abbrev pub PendingBarsBegin : Type 0
+PendingBarsBegin = (w : ℕ) (h : List Entry) (call : CallSoFar)
+    → under_way w (reverse h) ≡ Some call
+    → (is : IsUnderWay w h (length h) call)
+    × (begun_at w (reverse h) ≡ is.first)
+    × (begun_at w (reverse h) ≡ position_of call.moments (length call.moments - 1))
 
 -- the curve at column j is the count at moment from + j
 abbrev pub CurvesAreCounts : Type 0
-CurvesAreCounts = (object : Counted) (w : Window) (h : List Entry) (j : ℕ) → j ≤ w.to - w.from → slice_get (heights object w h) j ≡ Some (count_at object h (w.from + j))
+CurvesAreCounts = (object : Counted) (w : Window) (h : List Entry) (j : ℕ) → j ≤ w.to - w.from
+    → slice_get (heights object w h) j ≡ Some (count_at object h (w.from + j))
 
 -- whether a past follows is answered as the word says
 abbrev pub FollowingIsAnswered : Type 0
-FollowingIsAnswered = (rules : ℕ → Rule) (past : List Entry) → follows rules past ≡ true ↔ Follow rules past
+FollowingIsAnswered = (rules : ℕ → Rule) (past : List Entry) → follows rules past ≡ true
+    ↔ Follow rules past
 
--- the curve of a balance at column j is what is left at moment from + j, up to the last moment of the history
+-- the curve of a balance at column j is what is left at moment from + j, up to the last moment of
+-- the history
 abbrev pub BalanceCurvesAreLefts : Type 0
-BalanceCurvesAreLefts = (s : Semaphore) (w : Window) (h : List Entry) (j : ℕ) → w.from + j ≤ w.to → w.from + j ≤ length h
+BalanceCurvesAreLefts = (s : Semaphore) (w : Window) (h : List Entry) (j : ℕ) → w.from + j ≤ w.to
+    → w.from + j ≤ length h
     → slice_get (lefts s w (reverse h)) j ≡ Some (left_of s (past_at (w.from + j) h))
 
 -- and that is the balance, where the semaphore is followed
 abbrev pub LeftsAreBalances : Type 0
-LeftsAreBalances = (s : Semaphore) (t : Tables) (k : ℕ) (h : List Entry) → IsDeclared t → IsAccepted t (reverse h) → Follow (use_rules s) (reverse h)
+LeftsAreBalances = (s : Semaphore) (t : Tables) (k : ℕ) (h : List Entry) → IsDeclared t
+    → IsAccepted t (reverse h) → Follow (use_rules s) (reverse h)
     → pos (left_of s (past_at k h)) ≡ balance_of s (past_at k h)
 
 -- each shade is that of an accepting try, which its last entry ends
 abbrev pub ShadesEndTries : Type 0
-ShadesEndTries = (t : Tables) (d : Database) (h : List Entry) (i : ℕ) (s : Shaded) → slice_get (shades_in t d (reverse h)) i ≡ Some s → EndsTry t d h s.span.last s.accepted
+ShadesEndTries = (t : Tables) (d : Database) (h : List Entry) (i : ℕ) (s : Shaded)
+    → slice_get (shades_in t d (reverse h)) i ≡ Some s → EndsTry t d h s.span.last s.accepted
 
 -- and each accepting try has its shade, behind those of the tries that ended before it
 abbrev pub TriesHaveShades : Type 0
-TriesHaveShades = (t : Tables) (d : Database) (h : List Entry) (k : ℕ) (a : AcceptedTry) → EndsTry t d h k a
-    → (s : Shaded) × (slice_get (shades_in t d (reverse h)) (tries_before t d h k) ≡ Some s) × (s.span.last ≡ k) × (s.accepted ≡ a)
+TriesHaveShades = (t : Tables) (d : Database) (h : List Entry) (k : ℕ) (a : AcceptedTry)
+    → EndsTry t d h k a
+    → (s : Shaded) × (slice_get (shades_in t d (reverse h)) (tries_before t d h k) ≡ Some s)
+    × (s.span.last ≡ k) × (s.accepted ≡ a)
 
--- entry i began the list of calls on the database that w was in before entry k: it began a call on it while no call of a
--- list was finished, and no entry of w since then did so
+-- entry i began the list of calls on the database that w was in before entry k: it began a call on
+-- it while no call of a list was finished, and no entry of w since then did so
 pub record BeginsList (t : Tables) (d : Database) (h : List Entry) (w k i : ℕ) : Type 0 where
   pub entry : Entry
   pub is : slice_get h i ≡ Some entry
@@ -74,11 +99,15 @@ pub record BeginsList (t : Tables) (d : Database) (h : List Entry) (w k i : ℕ)
   pub on : is_on d entry.act ≡ true
   pub first : block (database_rules t d w) w (past_at i h) ≡ []
   pub before : i < k
-  pub none_since : (j : ℕ) (x : Entry) → i < j → j < k → slice_get h j ≡ Some x → x.worker ≡ w → begins_list (database_rules t d w) (block (database_rules t d w) w (past_at j h)) x.act ≡ false
+  pub none_since : (j : ℕ) (x : Entry) → i < j → j < k → slice_get h j ≡ Some x → x.worker ≡ w
+      → begins_list (database_rules t d w) (block (database_rules t d w) w (past_at j h)) x.act
+      ≡ false
 
 -- each shade begins with the entry that began the list of its reader
 abbrev pub ShadesBeginLists : Type 0
-ShadesBeginLists = (t : Tables) (d : Database) (h : List Entry) (i : ℕ) (s : Shaded) → slice_get (shades_in t d (reverse h)) i ≡ Some s → BeginsList t d h s.accepted.worker s.span.last s.span.first
+ShadesBeginLists = (t : Tables) (d : Database) (h : List Entry) (i : ℕ) (s : Shaded)
+    → slice_get (shades_in t d (reverse h)) i ≡ Some s
+    → BeginsList t d h s.accepted.worker s.span.last s.span.first
 
 -- the arrow is that of item n: its one end puts what its other end gets, by that number
 pub record IsArrow (t : Tables) (b : Buffer) (h : List Entry) (n : ℕ) (a : Arrow) : Type 0 where
@@ -92,4 +121,5 @@ pub record AreArrows (t : Tables) (b : Buffer) (h : List Entry) (list : List Arr
   pub numbered : (n : ℕ) (a : Arrow) → slice_get list n ≡ Some a → IsArrow t b h n a
 
 abbrev pub ArrowsAreDeliveries : Type 0
-ArrowsAreDeliveries = (t : Tables) (b : Buffer) (h : List Entry) → IsFollowed t b h → AreArrows t b h (arrows_in b (reverse h))
+ArrowsAreDeliveries = (t : Tables) (b : Buffer) (h : List Entry) → IsFollowed t b h
+    → AreArrows t b h (arrows_in b (reverse h))

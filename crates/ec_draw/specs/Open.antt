@@ -1,5 +1,6 @@
 -- The bars of pending calls.
-use Rattle.std.specs.Prelude.{ℕ, ◌==◌, ◌&&◌, not, Bool, zero, suc, List, [], ◌∷◌, ◌++◌, length, Option, if◌then◌else◌, nat_lt, reverse}
+use Rattle.std.specs.Prelude.{ℕ, ◌==◌, ◌&&◌, not, Bool, zero, suc, List, [], ◌∷◌, ◌++◌, length}
+use Rattle.std.specs.Prelude.{Option, if◌then◌else◌, nat_lt, reverse}
 use Rattle.std.specs.Option.{option_map, option_to_list}
 use Rattle.std.specs.List.{filter}
 use Rattle.ec_count.specs.Tables.{Tables}
@@ -17,7 +18,8 @@ unfoldable pub begun_at : ℕ → List Entry → ℕ
 begun_at w [] = 0
 begun_at w (x ∷ past) = if begins w x then length past else begun_at w past
 
--- the call of w that is pending after a past, if one is. Its first entry is the latest of w that began a call
+-- the call of w that is pending after a past, if one is. Its first entry is the latest of w that
+-- began a call
 abbrev pub open_of : ℕ → List Entry → CallSoFar → Open
 open_of w past call = record { worker = w; op = call.op; first = begun_at w past }
 

@@ -17,8 +17,9 @@ use Rattle.ec_draw.specs.Balances.{balance_lines}
 use Rattle.ec_draw.specs.Shades.{Shaded, seen, shades}
 use Rattle.ec_draw.specs.Arrows.{arrows}
 
--- a picture, as a contract sees it: the finished calls with their points, the calls under way, the entries with the
--- components that they read or raised, the curves of counts and of balances, the accepting tries, and the deliveries
+-- a picture, as a contract sees it: the finished calls with their points, the calls under way, the
+-- entries with the components that they read or raised, the curves of counts and of balances, the
+-- accepting tries, and the deliveries
 pub record Shapes : Type 0 where
   pub window : Window
   pub calls : List Placed
@@ -42,4 +43,12 @@ shapes t gs w h = record {
 
 -- the shapes that a picture keeps
 abbrev pub kept : Picture → Shapes
-kept p = record { window = p.window; calls = p.calls.items; begun = p.begun.items; dots = p.dots.items; curves = map shown p.curves.items; shades = map seen p.shades.items; arrows = p.arrows.items }
+kept p = record {
+  window = p.window;
+  calls = p.calls.items;
+  begun = p.begun.items;
+  dots = p.dots.items;
+  curves = map shown p.curves.items;
+  shades = map seen p.shades.items;
+  arrows = p.arrows.items;
+}

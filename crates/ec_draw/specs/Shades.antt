@@ -1,6 +1,8 @@
--- The shades: of each database that is followed, its accepting tries, each from the first entry of its first call to its last
--- entry.
-use Rattle.std.specs.Prelude.{◌≡◌, ℕ, ◌<◌, Bool, false, ◌==◌, ◌&&◌, not, List, [], ◌∷◌, ◌++◌, length, reverse, Option, Some, None, option_to_list, slice_get, slice_set, if◌then◌else◌}
+-- The shades: of each database that is followed, its accepting tries, each from the first entry of
+-- its first call to its last entry.
+use Rattle.std.specs.Prelude.{◌≡◌, ℕ, ◌<◌, Bool, false, ◌==◌, ◌&&◌, not, List, [], ◌∷◌, ◌++◌}
+use Rattle.std.specs.Prelude.{length, reverse, Option, Some, None, option_to_list, slice_get}
+use Rattle.std.specs.Prelude.{slice_set, if◌then◌else◌}
 use Rattle.std.specs.Option.{option_map}
 use Rattle.std.specs.List.{filter, flat_map}
 use Rattle.ec_count.specs.Tables.{Tables}
@@ -27,14 +29,17 @@ abbrev pub begins_list : Rule → List Told → Act → Bool
 begins_list r [] act = not (is_go act) && r.concerns [] act
 begins_list r (c ∷ calls) act = false
 
--- the position of the entry that began the list of calls that w is in after a past: the latest that began one
+-- the position of the entry that began the list of calls that w is in after a past: the latest that
+-- began one
 unfoldable pub list_start : Rule → ℕ → List Entry → ℕ
 list_start r w [] = 0
-list_start r w (x ∷ past) = if x.worker == w && begins_list r (block r w past) x.act then length past else list_start r w past
+list_start r w (x ∷ past) = if x.worker == w && begins_list r (block r w past) x.act
+    then length past else list_start r w past
 
 -- SHADES
 
--- an accepting try, and the positions of its first and its last entry; its database is told by its eventcount of starts
+-- an accepting try, and the positions of its first and its last entry; its database is told by its
+-- eventcount of starts
 pub record Shaded : Type 0 where
   pub count : ℕ
   pub span : Span
@@ -46,13 +51,18 @@ seen s = record { count = s.count; span = s.span; accepted = shown_try s.accepte
 abbrev pub shaded : ℕ → Span → AcceptedTry → Shaded
 shaded count span a = record { count = count; span = span; accepted = a }
 
--- the list that the worker of an entry is in when it comes at the end of a past, from its first entry to this one
+-- the list that the worker of an entry is in when it comes at the end of a past, from its first
+-- entry to this one
 abbrev pub span_at : Tables → Database → Entry → List Entry → Span
-span_at t d x past = record { first = list_start (database_rules t d x.worker) x.worker past; last = length past }
+span_at t d x past = record {
+  first = list_start (database_rules t d x.worker) x.worker past;
+  last = length past;
+}
 
 -- the shade of the accepting try that an entry ends, if it ends one
 abbrev pub shade_at : Tables → Database → Entry → List Entry → Option Shaded
-shade_at t d x past = option_map (shaded d.start (span_at t d x past)) (ended_at d (writes t d) x past)
+shade_at t d x past =
+    option_map (shaded d.start (span_at t d x past)) (ended_at d (writes t d) x past)
 
 -- those of a past, in the order of their last entries
 unfoldable pub shades_in : Tables → Database → List Entry → List Shaded
@@ -68,10 +78,9 @@ shades_shown t d w past = filter (is_in w) (shades_in t d past)
 
 -- those of a group, where it is a database and is followed
 abbrev pub group_shades : Tables → Window → List Entry → Group → List Shaded
-group_shades t w h (groups.Buffer b) = []
-group_shades t w h (groups.Database d) = if follows (database_rules t d) (reverse h) then shades_shown t d w (reverse h) else []
-group_shades t w h (groups.Semaphore s) = []
-group_shades t w h (groups.Both c) = []
+group_shades t w h (groups.Database d) = if follows (database_rules t d) (reverse h)
+    then shades_shown t d w (reverse h) else []
+group_shades t w h _ = []
 
 -- those of all groups
 abbrev pub shades : Tables → List Group → Window → List Entry → List Shaded
@@ -79,8 +88,8 @@ shades t gs w h = flat_map (group_shades t w h) gs
 
 -- A WALK
 
--- what a walk keeps of a database: its audit, where the list began that each worker is in, and the shades that are shown, or
--- that memory was refused
+-- what a walk keeps of a database: its audit, where the list began that each worker is in, and the
+-- shades that are shown, or that memory was refused
 pub record Trying : Type 0 where
   pub audit : Versioning
   pub shape : Database
@@ -91,7 +100,8 @@ pub record Trying : Type 0 where
 
 -- by worker, where the list began that it is in
 abbrev pub AreStarts : Tables → Database → List ℕ → List Entry → Type 0
-AreStarts t d starts past = (w : ℕ) → w < 16 → slice_get starts w ≡ Some (list_start (database_rules t d w) w past)
+AreStarts t d starts past = (w : ℕ) → w < 16
+    → slice_get starts w ≡ Some (list_start (database_rules t d w) w past)
 
 -- it is that after a past
 pub record IsTrying (a : Trying) (past : List Entry) : Type 0 where
@@ -102,15 +112,20 @@ pub record IsTrying (a : Trying) (past : List Entry) : Type 0 where
 
 -- of the same database, after a past
 abbrev pub TriesOn : Trying → Trying → List Entry → Type 0
-TriesOn start now past = (now.shape ≡ start.shape) × (now.audit.setup ≡ start.audit.setup) × (now.window ≡ start.window) × IsTrying now past
+TriesOn start now past = (now.shape ≡ start.shape) × (now.audit.setup ≡ start.audit.setup)
+    × (now.window ≡ start.window) × IsTrying now past
 
 -- the starts after an entry, where its worker had finished so many calls of its list
 abbrev pub starts_after : Database → ℕ → ℕ → Entry → List ℕ → List ℕ
 starts_after d finished place x starts =
-    if (finished == 0 && not (is_go x.act)) && is_on d x.act then slice_set starts x.worker place else starts
+    if (finished == 0 && not (is_go x.act)) && is_on d x.act then slice_set starts x.worker place
+    else starts
 
 -- the try that was found since there were so many, if one was, is added, if it is shown
-abbrev pub AddsNewest : ℕ → Window → Span → Option ℕ → Versioning → List Shaded → List Shaded → Type 0
+abbrev pub AddsNewest : ℕ → Window → Span → Option ℕ → Versioning → List Shaded → List Shaded
+    → Type 0
 AddsNewest count w span None a old new = ⊥
 AddsNewest count w span (Some n) a old new =
-    (a.lacks ≡ false) × (new ≡ old ++ filter (is_in w) (option_to_list (option_map (shaded count span) (slice_get a.list n))))
+    (a.lacks ≡ false)
+    × (new ≡ old ++ filter (is_in w)
+    (option_to_list (option_map (shaded count span) (slice_get a.list n))))

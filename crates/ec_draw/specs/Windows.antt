@@ -7,8 +7,8 @@ use Rattle.ec_draw.specs.declared.window.TheConstants.{COLUMNS_MAX}
 abbrev pub shows : Window → ℕ → Bool
 shows w k = nat_le w.from k && nat_lt k w.to
 
--- whether a call with these first and last entries is shown: it began before the end of the window, and did not end before
--- its start
+-- whether a call with these first and last entries is shown: it began before the end of the window,
+-- and did not end before its start
 abbrev pub meets : Window → ℕ → ℕ → Bool
 meets w first last = nat_lt first w.to && nat_le w.from last
 
@@ -16,7 +16,7 @@ meets w first last = nat_lt first w.to && nat_le w.from last
 abbrev pub columns : Window → ℕ
 columns w = min (w.to - w.from) COLUMNS_MAX
 
--- the column of moment k: the one at which the window begins has column 0, and moments before and behind the window stand at
--- its edges
+-- the column of moment k: the one at which the window begins has column 0, and moments before and
+-- behind the window stand at its edges
 abbrev pub column : Window → ℕ → ℕ
 column w k = min (k - w.from) (columns w)

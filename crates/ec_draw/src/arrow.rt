@@ -49,7 +49,9 @@ fn note_move(
     place: usize,
     act: &Act,
 ) -> Result<(), AllocError>
-    ensures { OnOk result (list.new.items ≡ list.old.items ++ (if is_move what shape.now act.now then place ∷ [] else [])) }
+    ensures { OnOk result
+        (list.new.items ≡ list.old.items ++ (if is_move what shape.now act.now then place ∷ []
+        else [])) }
 {
     if is_move(what, shape, act) {
         list.push(place)?;
@@ -67,7 +69,9 @@ fn lacks_after(
     act: &Act,
 ) -> bool
     ensures before { result ≡ false → lacks ≡ false }
-    ensures noted { result ≡ false → list.new.items ≡ list.old.items ++ (if is_move what shape.now act.now then place ∷ [] else []) }
+    ensures noted { result ≡ false
+        → list.new.items ≡ list.old.items ++ (if is_move what shape.now act.now then place ∷ []
+        else []) }
 {
     lacks || note_move(list, what, shape, place, act).is_err()
 }
@@ -87,7 +91,13 @@ impl<'a> Model for Moves<'a> {
 
     ghost Value = { Moving };
 
-    ghost view = { λ s. record { audit = s.audit; shape = s.shape.now; puts = s.puts.items; gets = s.gets.items; lacks = s.lacks } };
+    ghost view = { λ s. record {
+      audit = s.audit;
+      shape = s.shape.now;
+      puts = s.puts.items;
+      gets = s.gets.items;
+      lacks = s.lacks;
+    } };
 }
 
 impl<'a> Audit for Moves<'a> {
@@ -147,7 +157,8 @@ fn arrow_of(shape: &BufferShape, puts: &[usize], gets: &[usize], delivery: &Deli
 
 /// Adds an arrow, if one of its ends is shown.
 fn add_arrow(arrows: &mut Vec<Arrow>, arrow: Arrow, window: Window) -> Result<(), AllocError>
-    ensures { OnOk result (arrows.new.items ≡ arrows.old.items ++ filter (is_in window) (arrow ∷ [])) }
+    ensures { OnOk result
+        (arrows.new.items ≡ arrows.old.items ++ filter (is_in window) (arrow ∷ [])) }
 {
     if window.shows(arrow.put) || window.shows(arrow.got) {
         arrows.push(arrow)?;
@@ -164,7 +175,9 @@ fn add_deliveries(
     list: &[Delivery],
     window: Window,
 ) -> Result<(), AllocError>
-    ensures { OnOk result (arrows.new.items ≡ arrows.old.items ++ filter (is_in window) (map (arrow_of shape.now puts.now gets.now) list.now)) }
+    ensures { OnOk result
+        (arrows.new.items ≡ arrows.old.items
+        ++ filter (is_in window) (map (arrow_of shape.now puts.now gets.now) list.now)) }
 {
     for delivery in list {
         add_arrow(arrows, arrow_of(shape, puts, gets, delivery), window)?;
@@ -184,7 +197,9 @@ pub(crate) fn add_buffer(
     requires shape { moves.shape ≡ shape.now }
     requires setup { moves.audit.setup ≡ run.now.setup }
     requires stands { IsMoving moves (reverse run.now.entries) }
-    ensures { OnOk result (arrows.new.items ≡ arrows.old.items ++ group_arrows run.now.setup window run.now.entries (groups.Buffer shape.now)) }
+    ensures { OnOk result
+        (arrows.new.items ≡ arrows.old.items ++ group_arrows run.now.setup window run.now.entries
+        (groups.Buffer shape.now)) }
 {
     run.known();
     shape.known();

@@ -1,5 +1,6 @@
 //! The curves of balances.
-ghost use Rattle.std.specs.Prelude.{◌≡◌, ◌+◌, ◌-◌, ◌<◌, ◌≤◌, ◌^◌, ◌++◌, [], false, length, replicate, IfOk, OnOk, map, reverse};
+ghost use Rattle.std.specs.Prelude.{◌≡◌, ◌+◌, ◌-◌, ◌<◌, ◌≤◌, ◌^◌, ◌++◌, [], false, length};
+ghost use Rattle.std.specs.Prelude.{replicate, IfOk, OnOk, map, reverse};
 ghost use Rattle.ec_semaphore.specs.Auditing.{IsCounted};
 ghost use Rattle.ec_semaphore.specs.Uses.{use_rules};
 ghost use Rattle.ec_draw.specs.Balances.{IsCourse, left_by, lefts, line_if, moments};
@@ -27,7 +28,9 @@ fn left(audit: &BalanceAudit) -> u64
 /// Adds a number so often that there are so many.
 fn fill(heights: &mut Vec<u64>, many: usize, number: u64) -> Result<(), AllocError>
     requires { length heights.old.items ≤ many }
-    ensures { OnOk result (heights.new.items ≡ heights.old.items ++ replicate (many - length heights.old.items) number) }
+    ensures { OnOk result
+        (heights.new.items ≡ heights.old.items ++ replicate (many - length heights.old.items)
+        number) }
 {
     for _place in heights.len()..many {
         heights.push(number)?;
@@ -37,7 +40,9 @@ fn fill(heights: &mut Vec<u64>, many: usize, number: u64) -> Result<(), AllocErr
 
 /// Tells a number at each moment that is shown up to this one, and that is not told yet.
 fn pad(heights: &mut Vec<u64>, window: Window, moment: usize, number: u64) -> Result<(), AllocError>
-    ensures { OnOk result (heights.new.items ≡ heights.old.items ++ replicate (moments window moment - length heights.old.items) number) }
+    ensures { OnOk result
+        (heights.new.items ≡ heights.old.items
+        ++ replicate (moments window moment - length heights.old.items) number) }
 {
     let Some(most) = moment.min(window.to).checked_sub(window.from) else {
         return Ok(());
@@ -60,7 +65,9 @@ fn lacks_after(
     number: u64,
 ) -> bool
     ensures before { result ≡ false → lacks ≡ false }
-    ensures added { result ≡ false → heights.new.items ≡ heights.old.items ++ replicate (moments window moment - length heights.old.items) number }
+    ensures added { result ≡ false
+        → heights.new.items ≡ heights.old.items
+        ++ replicate (moments window moment - length heights.old.items) number }
 {
     lacks || pad(heights, window, moment, number).is_err()
 }
@@ -79,7 +86,12 @@ impl Model for Course {
 
     ghost Value = { balances.Course };
 
-    ghost view = { λ s. record { audit = s.audit; window = s.window; heights = s.heights.items; lacks = s.lacks } };
+    ghost view = { λ s. record {
+      audit = s.audit;
+      window = s.window;
+      heights = s.heights.items;
+      lacks = s.lacks;
+    } };
 }
 
 impl Audit for Course {
@@ -126,7 +138,8 @@ impl Course {
     pub(crate) fn heights(self, run: &Run, shape: &SemaphoreShape) -> Result<Vec<u64>, AllocError>
         requires shape { self.audit.shape ≡ shape.now }
         requires stands { IsCourse self (reverse run.now.entries) }
-        ensures { IfOk result (λ hs. hs.items ≡ lefts shape.now self.window (reverse run.now.entries)) }
+        ensures { IfOk result
+            (λ hs. hs.items ≡ lefts shape.now self.window (reverse run.now.entries)) }
     {
         run.known();
         let _initial = shape.initial();
@@ -174,7 +187,12 @@ pub(crate) fn add_if(
 ) -> Result<(), AllocError>
     requires shape { course.audit.shape ≡ shape.now }
     requires stands { IsCourse course (reverse run.now.entries) }
-    ensures { OnOk result (map shown curves.new.items ≡ map shown curves.old.items ++ line_if follows (record { object = plotted.Balance shape.now.count; heights = lefts shape.now course.window (reverse run.now.entries) })) }
+    ensures { OnOk result (map shown curves.new.items ≡ map shown curves.old.items
+        ++ line_if follows
+        (record {
+          object = plotted.Balance shape.now.count;
+          heights = lefts shape.now course.window (reverse run.now.entries);
+        })) }
 {
     if follows {
         let heights = course.heights(run, shape)?;

@@ -2,7 +2,9 @@
 ghost use Rattle.std.specs.Prelude.{◌≡◌, ◌≤◌, ◌++◌, ◌∷◌, [], IfOk, OnOk};
 ghost use Rattle.std.specs.List.{list_any};
 ghost use Rattle.ec_heading.specs.Spelling.{cell_in};
-ghost use Rattle.ec_draw.specs.Chosen.{chosen_targets, draws, draws_arrow, draws_cell, draws_curve, draws_event, draws_object, draws_sequencer, draws_shade, draws_worker, is_chosen, is_drawn, stands_for};
+ghost use Rattle.ec_draw.specs.Chosen.{chosen_targets, draws, draws_arrow, draws_cell, draws_curve};
+ghost use Rattle.ec_draw.specs.Chosen.{draws_event, draws_object, draws_sequencer, draws_shade};
+ghost use Rattle.ec_draw.specs.Chosen.{draws_worker, is_chosen, is_drawn, stands_for};
 ghost use Rattle.ec_draw.specs.Shades.{seen};
 
 use crate::{Arrow, Counted, Plotted, Shade};
@@ -33,7 +35,8 @@ impl Model for Chosen {
     ghost view = { λ c. c.targets.items };
 }
 
-/// Whether a name stands for a word: it is the word, or that of the group whose object the word spells.
+/// Whether a name stands for a word: it is the word, or that of the group whose object the word
+/// spells.
 fn stands_for(word: &[u8], name: &[u8]) -> bool
     ensures { result ≡ stands_for word.now name.now }
 {
@@ -73,9 +76,7 @@ fn is_drawn(choice: &Choice<'_>, word: &[u8], target: &Target) -> bool
 {
     match *target {
         Target::Worker(_) => is_chosen(choice.workers, word),
-        Target::Event(_) | Target::Sequencer(_) | Target::Cells(_, _) | Target::Group(_) => {
-            is_chosen(choice.objects, word)
-        }
+        _ => is_chosen(choice.objects, word),
     }
 }
 
@@ -86,7 +87,9 @@ fn add_drawn(
     word: &[u8],
     target: &Target,
 ) -> Result<(), AllocError>
-    ensures { OnOk result (targets.new.items ≡ targets.old.items ++ chosen_targets choice.now ((word.now, target.now) ∷ [])) }
+    ensures { OnOk result
+        (targets.new.items ≡ targets.old.items
+        ++ chosen_targets choice.now ((word.now, target.now) ∷ [])) }
 {
     if is_drawn(choice, word, target) {
         targets.extend_from_slice(&[*target])?;
@@ -100,7 +103,7 @@ fn cell_in(cell: usize, target: &Target) -> bool
 {
     match *target {
         Target::Cells(first, n) => first.get() <= cell && cell - first.get() < n,
-        Target::Worker(_) | Target::Event(_) | Target::Sequencer(_) | Target::Group(_) => false,
+        _ => false,
     }
 }
 
@@ -199,7 +202,8 @@ impl Chosen {
         self.draws_worker(shade.accepted.worker) && self.draws_event(shade.count)
     }
 
-    /// Whether an arrow is drawn: its producer and its consumer are, and its buffer's eventcount of puts.
+    /// Whether an arrow is drawn: its producer and its consumer are, and its buffer's eventcount of
+    /// puts.
     pub fn draws_arrow(&self, arrow: &Arrow) -> bool
         ensures { result ≡ draws_arrow self.now arrow.now }
     {

@@ -1,9 +1,11 @@
 //! The curves of what is counted.
-ghost use Rattle.std.specs.Prelude.{◌≡◌, ◌+◌, List, ◌++◌, ◌∷◌, [], ◌<◌, ◌≤◌, IfOk, OnOk, length, map, reverse, take};
+ghost use Rattle.std.specs.Prelude.{◌≡◌, ◌+◌, List, ◌++◌, ◌∷◌, [], ◌<◌, ◌≤◌, IfOk, OnOk, length};
+ghost use Rattle.std.specs.Prelude.{map, reverse, take};
 ghost use Rattle.ec_core.specs.declared.act.Entry.{Entry};
 ghost use Rattle.ec_draw.specs.declared.curve.Counted.TheVariants.{Event, Sequencer};
 ghost use Rattle.ec_core.specs.Standing.{StandsFor};
-ghost use Rattle.ec_draw.specs.Curves.{IsCounted, count_at, count_of, heights, line_of, lines, raises, shown};
+ghost use Rattle.ec_draw.specs.Curves.{IsCounted, count_at, count_of, heights, line_of, lines};
+ghost use Rattle.ec_draw.specs.Curves.{raises, shown};
 
 use crate::Window;
 use ec_core::{Act, Run, World};
@@ -53,7 +55,8 @@ fn raises(object: &Counted, act: &Act) -> bool
 
 /// By how much the entry at a position raises a count; past the last entry by nothing.
 fn raised(run: &Run, object: &Counted, position: usize) -> u64
-    ensures value { count_at object.now run.now.entries (position + 1) ≡ count_at object.now run.now.entries position + result }
+    ensures value { count_at object.now run.now.entries (position + 1)
+        ≡ count_at object.now run.now.entries position + result }
     ensures small { result ≤ 1 }
 {
     match run.entry(position) {
@@ -127,7 +130,8 @@ fn add_event(
     requires few { number < 32 }
     requires counted { number < length world.now.setup.events }
     requires stands { StandsFor world.now (take window.from run.now.entries) }
-    ensures { OnOk result (map shown curves.new.items ≡ map shown curves.old.items ++ line_of window run.now.entries (Event number) ∷ []) }
+    ensures { OnOk result (map shown curves.new.items ≡ map shown curves.old.items
+        ++ line_of window run.now.entries (Event number) ∷ []) }
 {
     if let Some(event) = EventId::new(number) {
         let object = Counted::Event(event);
@@ -148,7 +152,8 @@ fn add_sequencer(
     requires few { number < 32 }
     requires counted { number < length world.now.setup.takers }
     requires stands { StandsFor world.now (take window.from run.now.entries) }
-    ensures { OnOk result (map shown curves.new.items ≡ map shown curves.old.items ++ line_of window run.now.entries (Sequencer number) ∷ []) }
+    ensures { OnOk result (map shown curves.new.items ≡ map shown curves.old.items
+        ++ line_of window run.now.entries (Sequencer number) ∷ []) }
 {
     if let Some(sequencer) = SeqId::new(number) {
         let object = Counted::Sequencer(sequencer);
@@ -157,8 +162,8 @@ fn add_sequencer(
     Ok(())
 }
 
-/// Returns the curves of all that a run counts, of the eventcounts and then of the sequencers, given the state before the first
-/// entry that is shown.
+/// Returns the curves of all that a run counts, of the eventcounts and then of the sequencers,
+/// given the state before the first entry that is shown.
 pub(crate) fn curves(
     alloc: Global,
     run: &Run,

@@ -10,7 +10,8 @@ use ec_core::{Act, Entry, Run, UnderWay, World};
 use ec_count::WorkerId;
 use std::alloc::{AllocError, Global};
 
-/// An entry: whose it is, of which call, where it stands, and the component that it read or raised, if it did.
+/// An entry: whose it is, of which call, where it stands, and the component that it read or raised,
+/// if it did.
 #[derive(Clone, Copy, Debug, PartialEq, Eq)]
 pub struct Dot {
     pub worker: WorkerId,
@@ -32,13 +33,7 @@ fn op_in(world: &World, worker: WorkerId, act: Act) -> Act
             Some(call) => call.op(),
             None => Act::Go,
         },
-        Act::Advance(_)
-        | Act::Read(_)
-        | Act::Await(_, _)
-        | Act::Ticket(_)
-        | Act::Put(_, _)
-        | Act::Get(_)
-        | Act::Hand(_, _) => act,
+        _ => act,
     }
 }
 
@@ -61,16 +56,12 @@ fn component_in(world: &World, worker: WorkerId, act: Act) -> Option<usize>
 /// What a go of a call reads in a world.
 fn gone_read(world: &World, call: &UnderWay) -> Option<u64>
     ensures { (h : List Entry) → StandsFor world.now h
-        → result ≡ option_and_then (λ e. held_in world.now.setup e call.now.index (reverse h)) (read_of call.now.op) }
+        → result ≡ option_and_then (λ e. held_in world.now.setup e call.now.index (reverse h))
+        (read_of call.now.op) }
 {
     match call.op() {
         Act::Read(event) | Act::Await(event, _) => world.component(event, call.index()),
-        Act::Advance(_)
-        | Act::Go
-        | Act::Ticket(_)
-        | Act::Put(_, _)
-        | Act::Get(_)
-        | Act::Hand(_, _) => None,
+        _ => None,
     }
 }
 
@@ -103,7 +94,8 @@ fn dot_of(world: &World, position: usize, entry: &Entry) -> Dot
     }
 }
 
-/// Returns the dots of the entries of a run that are shown, in order, given the state before the first of them.
+/// Returns the dots of the entries of a run that are shown, in order, given the state before the
+/// first of them.
 pub(crate) fn dots(
     alloc: Global,
     run: &Run,
@@ -112,7 +104,8 @@ pub(crate) fn dots(
 ) -> Result<Vec<Dot>, AllocError>
     requires setup { world.setup ≡ run.now.setup }
     requires stands { StandsFor world (take window.from run.now.entries) }
-    ensures { IfOk result (λ ds. ds.items ≡ dots_of run.now.setup window (reverse run.now.entries)) }
+    ensures { IfOk result
+        (λ ds. ds.items ≡ dots_of run.now.setup window (reverse run.now.entries)) }
 {
     run.known();
     let mut dots = Vec::new(alloc);

@@ -9,7 +9,8 @@ ghost use Rattle.ec_draw.specs.Arrows.{arrows, group_arrows};
 ghost use Rattle.ec_draw.specs.Balances.{balance_line, balance_lines, group_line, line_if};
 ghost use Rattle.ec_draw.specs.Curves.{shown};
 ghost use Rattle.ec_draw.specs.Following.{follows};
-ghost use Rattle.ec_draw.specs.Findings.{AddsGroup, BothFor, CourseFor, EachFinds, FindsFor, MovesFor, TriesFor};
+ghost use Rattle.ec_draw.specs.Findings.{AddsGroup, BothFor, CourseFor, EachFinds, FindsFor};
+ghost use Rattle.ec_draw.specs.Findings.{MovesFor, TriesFor};
 ghost use Rattle.ec_draw.specs.Shades.{group_shades, seen, shades};
 
 use crate::arrow::{Moves, add_buffer};
@@ -49,7 +50,8 @@ struct Asked<'a> {
 impl<'a> Finding<'a> {
     /// Before the first entry.
     fn new(alloc: Global, group: &'a Group, asked: &Asked<'a>) -> Self
-        ensures { FindsFor asked.now.setup.now asked.now.semaphores.now asked.now.window group.now result [] }
+        ensures { FindsFor asked.now.setup.now asked.now.semaphores.now asked.now.window group.now
+            result [] }
     {
         match group {
             Group::Buffer(shape) => Finding::Moves(Moves::new(alloc, shape, asked.setup)),
@@ -99,7 +101,9 @@ fn opened<'a>(
     groups: &'a [Group],
     asked: &Asked<'a>,
 ) -> Result<Vec<Finding<'a>>, AllocError>
-    ensures { IfOk result (λ list. EachFinds asked.now.setup.now asked.now.semaphores.now asked.now.window groups.now list.items []) }
+    ensures { IfOk result
+        (λ list. EachFinds asked.now.setup.now asked.now.semaphores.now asked.now.window groups.now
+        list.items []) }
 {
     let mut list = Vec::new(alloc);
     for number in 0..groups.len() {
@@ -115,7 +119,9 @@ fn walked<'a>(
     groups: &'a [Group],
     asked: &Asked<'a>,
 ) -> Result<Vec<Finding<'a>>, AllocError>
-    ensures { IfOk result (λ list. EachFinds asked.now.setup.now asked.now.semaphores.now asked.now.window groups.now list.items (reverse run.now.entries)) }
+    ensures { IfOk result
+        (λ list. EachFinds asked.now.setup.now asked.now.semaphores.now asked.now.window groups.now
+        list.items (reverse run.now.entries)) }
 {
     let list = opened(alloc, groups, asked)?;
     Ok(walk_groups(run, groups, list))
@@ -141,7 +147,9 @@ fn add_semaphore(
     finding: Finding<'_>,
 ) -> Result<(), AllocError>
     requires { CourseFor window shape.now finding (reverse run.now.entries) }
-    ensures { OnOk result (map shown curves.new.items ≡ map shown curves.old.items ++ line_if (follows (use_rules shape.now) (reverse run.now.entries)) (balance_line window run.now.entries shape.now)) }
+    ensures { OnOk result (map shown curves.new.items ≡ map shown curves.old.items
+        ++ line_if (follows (use_rules shape.now) (reverse run.now.entries))
+        (balance_line window run.now.entries shape.now)) }
 {
     let _ = window;
     match finding {
@@ -158,7 +166,10 @@ fn add_semaphore(
 /// Whether the workers follow the guarded parts of `both`, after all entries of a run.
 fn follows_both(run: &Run, pairs: PairAudit<'_>) -> Result<bool, AllocError>
     requires { IsPairing pairs (reverse run.now.entries) }
-    ensures { IfOk result (λ b. b ≡ follows (both_rules pairs.entry.common (is_line pairs.entry.common pairs.entry.shapes)) (reverse run.now.entries)) }
+    ensures { IfOk result
+        (λ b. b ≡ follows
+        (both_rules pairs.entry.common (is_line pairs.entry.common pairs.entry.shapes))
+        (reverse run.now.entries)) }
 {
     match pairs.pairs(run) {
         Ok(_pairs) => Ok(true),
@@ -175,8 +186,11 @@ fn add_both(
     asked: &Asked<'_>,
     finding: Finding<'_>,
 ) -> Result<(), AllocError>
-    requires { BothFor asked.now.semaphores.now asked.now.window shape.now finding (reverse run.now.entries) }
-    ensures { OnOk result (map shown curves.new.items ≡ map shown curves.old.items ++ line_if (follows (both_rules shape.now (is_line shape.now asked.now.semaphores.now)) (reverse run.now.entries)) (balance_line asked.now.window run.now.entries shape.now)) }
+    requires { BothFor asked.now.semaphores.now asked.now.window shape.now finding
+        (reverse run.now.entries) }
+    ensures { OnOk result (map shown curves.new.items ≡ map shown curves.old.items
+        ++ line_if (follows (both_rules shape.now (is_line shape.now asked.now.semaphores.now))
+        (reverse run.now.entries)) (balance_line asked.now.window run.now.entries shape.now)) }
 {
     let _ = asked;
     match finding {
@@ -199,7 +213,8 @@ fn add_tries(
     finding: Finding<'_>,
 ) -> Result<(), AllocError>
     requires { TriesFor run.now.setup window shape.now finding (reverse run.now.entries) }
-    ensures { OnOk result (map seen shades.new.items ≡ map seen shades.old.items ++ group_shades run.now.setup window run.now.entries (groups.Database shape.now)) }
+    ensures { OnOk result (map seen shades.new.items ≡ map seen shades.old.items
+        ++ group_shades run.now.setup window run.now.entries (groups.Database shape.now)) }
 {
     let _ = window;
     match finding {
@@ -219,7 +234,9 @@ fn add_moves(
     finding: Finding<'_>,
 ) -> Result<(), AllocError>
     requires { MovesFor run.now.setup shape.now finding (reverse run.now.entries) }
-    ensures { OnOk result (arrows.new.items ≡ arrows.old.items ++ group_arrows run.now.setup window run.now.entries (groups.Buffer shape.now)) }
+    ensures { OnOk result
+        (arrows.new.items ≡ arrows.old.items ++ group_arrows run.now.setup window run.now.entries
+        (groups.Buffer shape.now)) }
 {
     match finding {
         Finding::Balance(_) => unreachable!(),
@@ -237,8 +254,11 @@ fn add_group(
     asked: &Asked<'_>,
     finding: Finding<'_>,
 ) -> Result<(), AllocError>
-    requires { FindsFor run.now.setup asked.now.semaphores.now asked.now.window group.now finding (reverse run.now.entries) }
-    ensures { OnOk result (AddsGroup run.now.setup asked.now.semaphores.now asked.now.window run.now.entries group.now found.old found.new) }
+    requires { FindsFor run.now.setup asked.now.semaphores.now asked.now.window group.now finding
+        (reverse run.now.entries) }
+    ensures { OnOk result
+        (AddsGroup run.now.setup asked.now.semaphores.now asked.now.window run.now.entries group.now
+        found.old found.new) }
 {
     let Findings {
         curves,
@@ -261,10 +281,17 @@ fn add_groups(
     asked: &Asked<'_>,
     list: Vec<Finding<'_>>,
 ) -> Result<(), AllocError>
-    requires { EachFinds run.now.setup asked.now.semaphores.now asked.now.window groups.now list.items (reverse run.now.entries) }
-    ensures curves { OnOk result (map shown found.new.curves.items ≡ map shown found.old.curves.items ++ flat_map (group_line asked.now.semaphores.now asked.now.window run.now.entries) groups.now) }
-    ensures shades { OnOk result (map seen found.new.shades.items ≡ map seen found.old.shades.items ++ shades run.now.setup groups.now asked.now.window run.now.entries) }
-    ensures arrows { OnOk result (found.new.arrows.items ≡ found.old.arrows.items ++ arrows run.now.setup groups.now asked.now.window run.now.entries) }
+    requires { EachFinds run.now.setup asked.now.semaphores.now asked.now.window groups.now
+        list.items (reverse run.now.entries) }
+    ensures curves { OnOk result
+        (map shown found.new.curves.items ≡ map shown found.old.curves.items
+        ++ flat_map (group_line asked.now.semaphores.now asked.now.window run.now.entries)
+        groups.now) }
+    ensures shades { OnOk result (map seen found.new.shades.items ≡ map seen found.old.shades.items
+        ++ shades run.now.setup groups.now asked.now.window run.now.entries) }
+    ensures arrows { OnOk result
+        (found.new.arrows.items ≡ found.old.arrows.items ++ arrows run.now.setup groups.now
+        asked.now.window run.now.entries) }
 {
     let mut rest = list.into_iter();
     for number in 0..groups.len() {
@@ -284,9 +311,12 @@ pub(crate) fn findings_of(
     groups: &[Group],
     window: Window,
 ) -> Result<Findings, AllocError>
-    ensures curves { IfOk result (λ f. map shown f.curves.items ≡ balance_lines groups.now window run.now.entries) }
-    ensures shades { IfOk result (λ f. map seen f.shades.items ≡ shades run.now.setup groups.now window run.now.entries) }
-    ensures arrows { IfOk result (λ f. f.arrows.items ≡ arrows run.now.setup groups.now window run.now.entries) }
+    ensures curves { IfOk result
+        (λ f. map shown f.curves.items ≡ balance_lines groups.now window run.now.entries) }
+    ensures shades { IfOk result
+        (λ f. map seen f.shades.items ≡ shades run.now.setup groups.now window run.now.entries) }
+    ensures arrows { IfOk result
+        (λ f. f.arrows.items ≡ arrows run.now.setup groups.now window run.now.entries) }
 {
     let semaphores = semaphores_of(alloc, groups)?;
     let asked = Asked {

@@ -1,18 +1,32 @@
 //! Laws of bars, curves, shades and arrows, each the contract of a function that does nothing.
 ghost use Rattle.std.specs.Prelude.{◌≡◌};
 ghost use Rattle.ec_draw.specs.declared.window.TheConstants.{COLUMNS_MAX};
-ghost use Rattle.ec_draw.specs.Laws.{ArrowsAreDeliveries, BalanceCurvesAreLefts, BarsAreCalls, CurvesAreCounts, FollowingIsAnswered, LeftsAreBalances, ShadesBeginLists, ShadesEndTries, TriesHaveShades};
+ghost use Rattle.ec_draw.specs.Laws.{ArrowsAreDeliveries, BalanceCurvesAreLefts, BarsAreCalls};
+ghost use Rattle.ec_draw.specs.Laws.{CurvesAreCounts, FollowingIsAnswered, LeftsAreBalances};
+ghost use Rattle.ec_draw.specs.Laws.{PendingBarsBegin, ShadesBeginLists, ShadesEndTries};
+ghost use Rattle.ec_draw.specs.Laws.{TriesHaveShades};
 
+use ec_core::calls_under_way_are_cut_in_order;
 use ec_order::order_by_points_ascends;
 
-/// The bars of an accepted history are exactly its finished calls that the window shows, each with its point.
+/// The bars of an accepted history are exactly its finished calls that the window shows, each with
+/// its point.
 pub fn bars_are_calls()
     ensures { BarsAreCalls }
 {
     order_by_points_ascends();
 }
 
-/// The curve of an eventcount or a sequencer at column j is its total, or its tickets, at moment from + j.
+/// The bar of a pending call begins with the entry that opened the call, after which its worker has
+/// only goes that were answered `pending`: the first of the call's entries as the world keeps them.
+pub fn pending_bars_begin()
+    ensures { PendingBarsBegin }
+{
+    calls_under_way_are_cut_in_order();
+}
+
+/// The curve of an eventcount or a sequencer at column j is its total, or its tickets, at moment
+/// from + j.
 pub fn curves_are_counts()
     ensures { CurvesAreCounts }
 {}
@@ -22,22 +36,23 @@ pub fn following_is_answered()
     ensures { FollowingIsAnswered }
 {}
 
-/// The curve of a balance at column j is what is left at moment from + j, and where the semaphore is followed that is its
-/// balance.
+/// The curve of a balance at column j is what is left at moment from + j, and where the semaphore
+/// is followed that is its balance.
 pub fn balance_curves_are_balances()
     ensures curve { BalanceCurvesAreLefts }
     ensures balance { LeftsAreBalances }
 {}
 
-/// Each shade is that of an accepting try, which its last entry ends; and each accepting try has its shade, in the order of
-/// their last entries.
+/// Each shade is that of an accepting try, which its last entry ends; and each accepting try has
+/// its shade, in the order of their last entries.
 pub fn shades_end_tries()
     ensures each { ShadesEndTries }
     ensures every { TriesHaveShades }
 {}
 
-/// Each shade begins with the entry that began the list of calls that its reader was in: it began a call on the database while
-/// no call of a list was finished, and no later entry of the reader did so.
+/// Each shade begins with the entry that began the list of calls that its reader was in: it began a
+/// call on the database while no call of a list was finished, and no later entry of the reader did
+/// so.
 pub fn shades_begin_lists()
     ensures { ShadesBeginLists }
 {}

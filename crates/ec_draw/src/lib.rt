@@ -1,5 +1,5 @@
-//! The shapes of a picture of a run: a bar for each call, with a mark at its point, a dot for each entry, and the curves
-//! of what is counted.
+//! The shapes of a picture of a run: a bar for each call, with a mark at its point, a dot for each
+//! entry, and the curves of what is counted.
 #![tactic(auto)]
 
 mod arrow;
@@ -22,7 +22,8 @@ pub use curve::{Counted, Curve, Plotted};
 pub use dot::Dot;
 pub use laws::{
     arrows_are_deliveries, balance_curves_are_balances, bars_are_calls, curves_are_counts,
-    following_is_answered, pictures_have_400_columns_at_most, shades_begin_lists, shades_end_tries,
+    following_is_answered, pending_bars_begin, pictures_have_400_columns_at_most,
+    shades_begin_lists, shades_end_tries,
 };
 pub use open::Open;
 pub use picture::{Picture, picture_of};

@@ -64,7 +64,8 @@ fn add_open(
     number: usize,
 ) -> Result<(), AllocError>
     requires { number < 16 }
-    ensures { OnOk result (bars.new.items ≡ bars.old.items ++ open_bars_of window number (reverse run.now.entries)) }
+    ensures { OnOk result
+        (bars.new.items ≡ bars.old.items ++ open_bars_of window number (reverse run.now.entries)) }
 {
     let Some(worker) = WorkerId::new(number) else {
         return Ok(());

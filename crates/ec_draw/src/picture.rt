@@ -36,7 +36,8 @@ pub struct Picture {
 
 /// Adds some curves.
 fn add_curves(curves: &mut Vec<Curve>, list: Vec<Curve>) -> Result<(), AllocError>
-    ensures { OnOk result (map shown curves.new.items ≡ map shown curves.old.items ++ map shown list.items) }
+    ensures { OnOk result (map shown curves.new.items ≡ map shown curves.old.items
+        ++ map shown list.items) }
 {
     for curve in list {
         curves.push(curve)?;
@@ -44,8 +45,8 @@ fn add_curves(curves: &mut Vec<Curve>, list: Vec<Curve>) -> Result<(), AllocErro
     Ok(())
 }
 
-/// The picture of a run through a window: its shapes are those of the run's history, with these groups. The run is as
-/// before, with want of memory too.
+/// The picture of a run through a window: its shapes are those of the run's history, with these
+/// groups. The run is as before, with want of memory too.
 pub fn picture_of(
     alloc: Global,
     run: &Run,

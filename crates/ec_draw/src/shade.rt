@@ -1,9 +1,11 @@
 //! The shades over accepting tries.
-ghost use Rattle.std.specs.Prelude.{◌≡◌, ◌<◌, ◌++◌, ◌∷◌, [], false, ℕ, IfOk, OnOk, Some, map, option_to_list, reverse, slice_get};
+ghost use Rattle.std.specs.Prelude.{◌≡◌, ◌<◌, ◌++◌, ◌∷◌, [], false, ℕ, IfOk, OnOk, Some, map};
+ghost use Rattle.std.specs.Prelude.{option_to_list, reverse, slice_get};
 ghost use Rattle.std.specs.List.{filter, flat_map};
 ghost use Rattle.std.specs.Option.{option_map};
 ghost use Rattle.ec_core.specs.Calls.{is_go};
-ghost use Rattle.ec_draw.specs.Shades.{AddsNewest, IsTrying, group_shades, is_in, seen, shaded, starts_after};
+ghost use Rattle.ec_draw.specs.Shades.{AddsNewest, IsTrying, group_shades, is_in, seen, shaded};
+ghost use Rattle.ec_draw.specs.Shades.{starts_after};
 ghost use Rattle.ec_heading.specs.declared.group.Group.TheVariants as groups;
 
 use crate::Window;
@@ -20,7 +22,8 @@ pub struct Span {
     pub last: usize,
 }
 
-/// An accepting try of a database, and where it stands: from the first entry of its first call to its last entry.
+/// An accepting try of a database, and where it stands: from the first entry of its first call to
+/// its last entry.
 #[derive(Drop)]
 pub struct Shade {
     /// The eventcount of the database's starts.
@@ -33,16 +36,7 @@ pub struct Shade {
 fn is_go(act: &Act) -> bool
     ensures { result ≡ is_go act.now }
 {
-    match act {
-        Act::Go => true,
-        Act::Advance(_)
-        | Act::Read(_)
-        | Act::Await(_, _)
-        | Act::Ticket(_)
-        | Act::Put(_, _)
-        | Act::Get(_)
-        | Act::Hand(_, _) => false,
-    }
+    matches!(act, Act::Go)
 }
 
 /// Before the first entry no list has begun.
@@ -75,7 +69,8 @@ fn add_shade(
     window: Window,
     span: Span,
 ) -> Result<(), AllocError>
-    ensures { OnOk result (map seen shades.new.items ≡ map seen shades.old.items ++ filter (is_in window) (shaded count span accepted.now ∷ [])) }
+    ensures { OnOk result (map seen shades.new.items ≡ map seen shades.old.items
+        ++ filter (is_in window) (shaded count span accepted.now ∷ [])) }
 {
     if window.meets(span.first, span.last) {
         let accepted = accepted.to_accepted(*shades.allocator())?;
@@ -97,7 +92,9 @@ fn add_newest(
     window: Window,
     span: Span,
 ) -> Result<(), AllocError>
-    ensures { OnOk result (AddsNewest count window span before audit.now (map seen shades.old.items) (map seen shades.new.items)) }
+    ensures { OnOk result
+        (AddsNewest count window span before audit.now (map seen shades.old.items)
+        (map seen shades.new.items)) }
 {
     let Some(place) = before else {
         return Err(AllocError);
@@ -122,12 +119,15 @@ fn lacks_after(
     span: Span,
 ) -> bool
     ensures before { result ≡ false → lacks ≡ false }
-    ensures added { result ≡ false → AddsNewest count window span before audit.now (map seen shades.old.items) (map seen shades.new.items) }
+    ensures added { result ≡ false
+        → AddsNewest count window span before audit.now (map seen shades.old.items)
+        (map seen shades.new.items) }
 {
     lacks || add_newest(shades, audit, before, count, window, span).is_err()
 }
 
-/// The audit of a database in a walk over a run, where the list began that each worker is in, and the shades so far.
+/// The audit of a database in a walk over a run, where the list began that each worker is in, and
+/// the shades so far.
 #[derive(Drop)]
 pub(crate) struct Tries<'a> {
     audit: VersionAudit<'a>,
@@ -144,7 +144,14 @@ impl<'a> Model for Tries<'a> {
 
     ghost Value = { Trying };
 
-    ghost view = { λ s. record { audit = s.audit; shape = s.shape.now; window = s.window; starts = s.starts; shades = map seen s.shades.items; lacks = s.lacks } };
+    ghost view = { λ s. record {
+      audit = s.audit;
+      shape = s.shape.now;
+      window = s.window;
+      starts = s.starts;
+      shades = map seen s.shades.items;
+      lacks = s.lacks;
+    } };
 }
 
 impl<'a> Audit for Tries<'a> {
@@ -197,7 +204,8 @@ impl<'a> Tries<'a> {
 
 /// Adds some shades.
 fn add_all(shades: &mut Vec<Shade>, list: Vec<Shade>) -> Result<(), AllocError>
-    ensures { OnOk result (map seen shades.new.items ≡ map seen shades.old.items ++ map seen list.items) }
+    ensures { OnOk result (map seen shades.new.items ≡ map seen shades.old.items
+        ++ map seen list.items) }
 {
     for shade in list {
         shades.push(shade)?;
@@ -216,7 +224,9 @@ pub(crate) fn add_database(
     requires shape { tries.shape ≡ shape.now }
     requires setup { tries.audit.setup ≡ run.now.setup }
     requires stands { IsTrying tries (reverse run.now.entries) }
-    ensures { OnOk result (map seen shades.new.items ≡ map seen shades.old.items ++ group_shades run.now.setup tries.entry.window run.now.entries (groups.Database shape.now)) }
+    ensures { OnOk result (map seen shades.new.items ≡ map seen shades.old.items
+        ++ group_shades run.now.setup tries.entry.window run.now.entries
+        (groups.Database shape.now)) }
 {
     let _ = shape;
     let Tries {

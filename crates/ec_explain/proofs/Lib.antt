@@ -1,2 +1,4 @@
 mod Behind
 mod LinesLeft
+mod Holding
+mod Rounds

@@ -1,5 +1,7 @@
 -- The lines of a text that are left behind one of them.
-use Rattle.std.proofs.Common.{◌≡◌, ◌≢◌, ◌<◌, ◌≤◌, ℕ, ◌+◌, List, [], ◌∷◌, ◌++◌, length, cond, if◌then◌else◌, Bool, true, false, eqb, Option, Some, None, refl, ap, sym, ◌∙◌, ne_eqb, arith, length-append, subst}
+use Rattle.std.proofs.Common.{◌≡◌, ◌≢◌, ◌<◌, ◌≤◌, ℕ, ◌+◌, List, [], ◌∷◌, ◌++◌, length, cond}
+use Rattle.std.proofs.Common.{if◌then◌else◌, Bool, true, false, eqb, Option, Some, None, refl, ap}
+use Rattle.std.proofs.Common.{sym, ◌∙◌, ne_eqb, arith, length-append, subst}
 use Rattle.std.specs.List.{onto_first, All}
 use Rattle.std.proofs.lemmas.List.Splits.{slice_split_at, slice_split_none}
 use Rattle.std.proofs.lemmas.List.Elements.{All-weaker}
@@ -11,36 +13,47 @@ record HasFirst (bytes : List ℕ) : Type 0 where
   others : List (List ℕ)
   is : lines_of bytes ≡ first ∷ others
 
-onto_has : (b : ℕ) (parts : List (List ℕ)) → (first : List ℕ) × (others : List (List ℕ)) × (onto_first b parts ≡ first ∷ others)
+onto_has : (b : ℕ) (parts : List (List ℕ)) → (first : List ℕ) × (others : List (List ℕ))
+    × (onto_first b parts ≡ first ∷ others)
 onto_has b [] = (b ∷ [], [], refl)
 onto_has b (part ∷ parts) = (b ∷ part, parts, refl)
 
 has_first : (bytes : List ℕ) → HasFirst bytes
 has_first [] = record { first = []; others = []; is = refl }
 has_first (b ∷ bytes) =
-    let P : Bool → Type 0 = λ t. (first : List ℕ) × (others : List (List ℕ)) × (cond t ([] ∷ lines_of bytes) (onto_first b (lines_of bytes)) ≡ first ∷ others) in
-    let w : P (eqb b 10) = elim (eqb b 10) as P [ true ↦ ([], lines_of bytes, refl) | false ↦ onto_has b (lines_of bytes) ] in
+    let P : Bool → Type 0 = λ t. (first : List ℕ) × (others : List (List ℕ))
+    × (cond t ([] ∷ lines_of bytes) (onto_first b (lines_of bytes)) ≡ first ∷ others) in
+    let w : P (eqb b 10) = elim (eqb b 10) as
+    P [ true ↦ ([], lines_of bytes, refl) | false ↦ onto_has b (lines_of bytes) ] in
     record { first = w.0; others = w.1; is = w.2 }
 
 no_lf : (bytes : List ℕ) → All (λ b. b ≢ 10) bytes → All (λ b. eqb b 10 ≡ false) bytes
-no_lf bytes none = All-weaker (λ b. b ≢ 10) (λ b. eqb b 10 ≡ false) (λ b apart. ne_eqb b 10 apart) bytes none
+no_lf bytes none = All-weaker (λ b. b ≢ 10) (λ b. eqb b 10 ≡ false) (λ b apart. ne_eqb b 10 apart)
+    bytes none
 
-goes_on : (p : List ℕ → Bool) (k : ℕ) (found : Option ℕ) (line : List ℕ) (lines first : List (List ℕ)) (next : List ℕ) → lines ≡ next ∷ first
-    → last_in p (k + 1) (if p line then Some (k + 1) else found) lines ≡ last_in p k found (line ∷ lines)
+goes_on : (p : List ℕ → Bool) (k : ℕ) (found : Option ℕ) (line : List ℕ)
+    (lines first : List (List ℕ)) (next : List ℕ) → lines ≡ next ∷ first
+    → last_in p (k + 1) (if p line then Some (k + 1) else found) lines
+    ≡ last_in p k found (line ∷ lines)
 goes_on p k found line lines first next is = rw is refl
 
 -- one line more, of which it was asked whether it passes
-pub lasts_line : (p : List ℕ → Bool) (k m : ℕ) (found now : Option ℕ) (line more rest : List ℕ) → All (λ b. b ≢ 10) line → rest ≡ line ++ 10 ∷ more
-    → m ≡ k + 1 → now ≡ (if p line then Some m else found) → last_in p m now (lines_of more) ≡ last_in p k found (lines_of rest)
+pub lasts_line : (p : List ℕ → Bool) (k m : ℕ) (found now : Option ℕ) (line more rest : List ℕ)
+    → All (λ b. b ≢ 10) line → rest ≡ line ++ 10 ∷ more
+    → m ≡ k + 1 → now ≡ (if p line then Some m else found) → last_in p m now (lines_of more)
+    ≡ last_in p k found (lines_of rest)
 lasts_line p k m found now line more rest none is next asked =
     let f : HasFirst more = has_first more in
-    let cut : lines_of rest ≡ line ∷ lines_of more = ap lines_of is ∙ slice_split_at (λ b. eqb b 10) line 10 more (no_lf line none) refl in
+    let cut : lines_of rest ≡ line ∷ lines_of more = ap lines_of is
+    ∙ slice_split_at (λ b. eqb b 10) line 10 more (no_lf line none) refl in
     rw (asked, next, cut) (goes_on p k found line (lines_of more) f.others f.first f.is)
 
 -- nothing is left
-pub lasts_end : (p : List ℕ → Bool) (k : ℕ) (found : Option ℕ) (rest : List ℕ) → All (λ b. b ≢ 10) rest → last_in p k found (lines_of rest) ≡ found
+pub lasts_end : (p : List ℕ → Bool) (k : ℕ) (found : Option ℕ) (rest : List ℕ)
+    → All (λ b. b ≢ 10) rest → last_in p k found (lines_of rest) ≡ found
 lasts_end p k found rest none =
-    let whole : lines_of rest ≡ rest ∷ [] = slice_split_none (λ b. eqb b 10) rest (no_lf rest none) in
+    let whole : lines_of rest ≡ rest ∷ [] =
+    slice_split_none (λ b. eqb b 10) rest (no_lf rest none) in
     rw whole refl
 
 -- a line and its LF have a byte at least

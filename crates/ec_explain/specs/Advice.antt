@@ -1,5 +1,5 @@
 -- What is said of each cause: one sentence on what is wrong, and one on how to mend it.
-use Rattle.std.specs.Prelude.{ℕ, List, codes}
+use Rattle.std.specs.Prelude.{ℕ, List, ◌++◌, codes}
 use Rattle.ec_explain.specs.declared.cause.Cause.{Cause}
 use Rattle.ec_explain.specs.declared.cause.Cause.TheVariants as causes
 
@@ -29,13 +29,15 @@ sentence causes.UnknownName = codes "The word is not the name of a worker."
 sentence causes.BadNumber = codes "The number is out of its range."
 sentence causes.TooMany = codes "There are too many."
 sentence causes.TwoRoles = codes "A worker stands in both lists."
-sentence causes.EntryBeforeRun = codes "The line begins with a worker, and no line run came before it."
+sentence causes.EntryBeforeRun =
+    codes "The line begins with a worker, and no line run came before it."
 sentence causes.NoDeclaration = codes "The first word begins no declaration."
 sentence causes.DeclarationForm = codes "The line is not a whole declaration."
 sentence causes.NoWorker = codes "The first word is not the name of a worker."
 sentence causes.NoAct = codes "The second word is no act."
 sentence causes.HandInOne = codes "A text of version 1 has no hand."
-sentence causes.NoObject = codes "The word after the act is no declared object that the act may name."
+sentence causes.NoObject =
+    codes "The word after the act is no declared object that the act may name."
 sentence causes.NoValue = codes "The value is no number."
 sentence causes.NoReceiver = codes "The last word of the act is not the name of a worker."
 sentence causes.NoEquals = codes "The sign = is expected here."
@@ -43,11 +45,13 @@ sentence causes.NoReply = codes "The word is no reply."
 sentence causes.EntryWords = codes "There are words after the reply."
 sentence causes.AfterEnd = codes "The line stands after the line end."
 sentence causes.Busy = codes "The act is refused: a call of the worker is under way."
-sentence causes.Idle = codes "The act is refused: no call of the worker is under way, and go goes on with one."
+sentence causes.Idle =
+    codes "The act is refused: no call of the worker is under way, and go goes on with one."
 sentence causes.NoRight = codes "The act is refused: the worker lacks the right."
 sentence causes.AtLimit = codes "The act is refused: the count is at the limit."
 sentence causes.NotHandable = codes "The act is refused: the eventcount belongs to a group."
-sentence causes.AlreadySignals = codes "The act is refused: the receiver signals the eventcount already."
+sentence causes.AlreadySignals =
+    codes "The act is refused: the receiver signals the eventcount already."
 sentence causes.WrongReply = codes "The act has another reply."
 sentence causes.EmptyText = codes "The text is empty."
 sentence causes.NoLastLf = codes "The last line has no LF at its end."
@@ -55,7 +59,8 @@ sentence causes.NoEnd = codes "The text stops before the line end."
 sentence causes.TooLarge = codes "The text has more than 67108864 bytes."
 sentence causes.ScriptForm = codes "No line of this form may stand here in a script."
 sentence causes.CallsForm = codes "No line of this form may stand here in a history of calls."
-sentence causes.UnknownWord = codes "A word names nothing that is declared, or something of another sort."
+sentence causes.UnknownWord =
+    codes "A word names nothing that is declared, or something of another sort."
 sentence causes.OutOfRange = codes "A number is out of its range."
 sentence causes.Full = codes "A bound is passed."
 sentence causes.Hidden = codes "The object belongs to a group, and may not be named by itself."
@@ -68,6 +73,9 @@ sentence causes.CallPending = codes "The worker calls, and its last call has not
 sentence causes.NoPendingCall = codes "The worker returns, and has no pending call."
 sentence causes.Unsuited = codes "The reply does not suit the call."
 sentence causes.CallLimit = codes "The limit is passed."
+sentence causes.NoOrder = codes "The calls have no linearization."
+sentence causes.NotDecided = codes "It is not decided whether the calls have a linearization."
+sentence causes.TurnOfEnded = codes "The schedule has a turn of a worker that has ended."
 sentence causes.Other = codes "No line of this form may stand here."
 
 abbrev pub remedy : Cause → List ℕ
@@ -80,59 +88,99 @@ remedy causes.Comment = codes "Remove it: a text has no comments."
 remedy causes.SpaceBefore = codes "Remove the space: lines are not indented."
 remedy causes.SpaceAfter = codes "Remove the space."
 remedy causes.TwoSpaces = codes "Separate words by one space."
-remedy causes.OtherVersion = codes "The versions are evc-trace 1, evc-trace 2, evc-script 1, evc-script 2 and evc-calls 1."
-remedy causes.NoHeader = codes "Begin a trace with evc-trace 1, a script with evc-script 1, a history of calls with evc-calls 1."
+remedy causes.OtherVersion =
+    codes "The versions are evc-trace 1, evc-trace 2, evc-script 1, evc-script 2 and evc-calls 1."
+remedy causes.NoHeader =
+    codes "Begin a trace with evc-trace 1, a script with evc-script 1, a history of calls with "
+    ++ codes "evc-calls 1."
 remedy causes.NoLimit = codes "Write the word limit and a number, as in: limit 100"
 remedy causes.LimitWords = codes "Write the word limit and a number, as in: limit 100"
 remedy causes.LimitNoNumber = codes "Write it in digits, without a sign and without leading zeros."
 remedy causes.LimitZero = codes "Write 1 or more: it says how far each count may go."
-remedy causes.LimitLarge = codes "It is at most 4294967295 in version 1, and at most 281474976710655 in version 2."
+remedy causes.LimitLarge =
+    codes "It is at most 4294967295 in version 1, and at most 281474976710655 in version 2."
 remedy causes.NoWorkers = codes "Write the word workers and 1 to 16 names, as in: workers a b"
 remedy causes.LongName = codes "A name has at most 16 letters, digits and underscores."
 remedy causes.ReservedName = codes "Choose another name."
 remedy causes.BadName = codes "A name is a letter, followed by letters, digits and underscores."
-remedy causes.NameTaken = codes "Use each name once, name each worker once in a list, and give a worker one block."
+remedy causes.NameTaken =
+    codes "Use each name once, name each worker once in a list, and give a worker one block."
 remedy causes.UnknownName = codes "Name the worker in the line of the workers, or mend the word."
-remedy causes.BadNumber = codes "Cells, buffers and databases have 1 to 256 cells; a semaphore begins with 0 to 1000000."
-remedy causes.TooMany = codes "A text has at most 16 workers, 32 eventcounts, 32 sequencers and 256 cells, those of groups among them."
+remedy causes.BadNumber =
+    codes "Cells, buffers and databases have 1 to 256 cells; a semaphore begins with 0 to 1000000."
+remedy causes.TooMany =
+    codes "A text has at most 16 workers, 32 eventcounts, 32 sequencers and 256 cells, those of "
+    ++ codes "groups among them."
 remedy causes.TwoRoles = codes "The two lists of a buffer or a database share no worker."
 remedy causes.EntryBeforeRun = codes "Write the line run between the declarations and the entries."
-remedy causes.NoDeclaration = codes "Write eventcount, sequencer, cells, buffer, database, semaphore or both; the line run ends the declarations."
-remedy causes.DeclarationForm = codes "Name the object, then the workers in lists, as in: eventcount E signal a b observe c"
-remedy causes.NoWorker = codes "An entry is a worker, an act, the sign = and a reply, as in: a advance E = done"
+remedy causes.NoDeclaration =
+    codes "Write eventcount, sequencer, cells, buffer, database, semaphore or both; the line "
+    ++ codes "run ends the declarations."
+remedy causes.DeclarationForm =
+    codes "Name the object, then the workers in lists, as in: eventcount E signal a b observe c"
+remedy causes.NoWorker =
+    codes "An entry is a worker, an act, the sign = and a reply, as in: a advance E = done"
 remedy causes.NoAct = codes "The acts are advance, read, await, go, ticket, put, get and hand."
 remedy causes.HandInOne = codes "Write evc-trace 2 in the first line."
-remedy causes.NoObject = codes "advance, read, await and hand name an eventcount, ticket a sequencer, put and get a cell, as in: X[0]"
+remedy causes.NoObject =
+    codes "advance, read, await and hand name an eventcount, ticket a sequencer, put and get a "
+    ++ codes "cell, as in: X[0]"
 remedy causes.NoValue = codes "Write at most 18 digits, without leading zeros."
-remedy causes.NoReceiver = codes "Name the worker that is handed the component, as in: a hand E b = done"
+remedy causes.NoReceiver =
+    codes "Name the worker that is handed the component, as in: a hand E b = done"
 remedy causes.NoEquals = codes "Write the act, one space, the sign =, one space, and the reply."
-remedy causes.NoReply = codes "A reply is done, pending, or at most 18 digits without leading zeros."
+remedy causes.NoReply =
+    codes "A reply is done, pending, or at most 18 digits without leading zeros."
 remedy causes.EntryWords = codes "Remove them: a line is one entry."
 remedy causes.AfterEnd = codes "Remove it: the line end is the last one."
 remedy causes.Busy = codes "Let the worker go on with that call by go, until it returns."
 remedy causes.Idle = codes "Begin a read or an await before it, or remove the line."
-remedy causes.NoRight = codes "Name the worker in the list of the declaration: signal to advance, observe to read and await, take, write, read."
+remedy causes.NoRight =
+    codes "Name the worker in the list of the declaration: signal to advance, observe to read "
+    ++ codes "and await, take, write, read."
 remedy causes.AtLimit = codes "Raise the limit in the second line."
-remedy causes.NotHandable = codes "Hand over components of eventcounts that a line eventcount declares."
+remedy causes.NotHandable =
+    codes "Hand over components of eventcounts that a line eventcount declares."
 remedy causes.AlreadySignals = codes "Hand the component to a worker that has none at that moment."
-remedy causes.WrongReply = codes "Write the right reply; if the program recorded this one, the program or its record is wrong."
-remedy causes.EmptyText = codes "Look whether the program that writes it ran, and wrote to this file."
+remedy causes.WrongReply =
+    codes "Write the right reply; if the program recorded this one, the program or its record "
+    ++ codes "is wrong."
+remedy causes.EmptyText =
+    codes "Look whether the program that writes it ran, and wrote to this file."
 remedy causes.NoLastLf = codes "End each line with LF, also the last."
 remedy causes.NoEnd = codes "Write the line end as the last one: it shows that the record is whole."
 remedy causes.TooLarge = codes "Record a shorter run."
-remedy causes.ScriptForm = codes "Declarations come first, then blocks, each from worker a to end, then the lines schedule a b."
-remedy causes.CallsForm = codes "After run come lines as: a calls read E, and: a returns 1; the line end is the last one."
+remedy causes.ScriptForm =
+    codes "Declarations come first, then blocks, each from worker a to end, then the lines "
+    ++ codes "schedule a b."
+remedy causes.CallsForm =
+    codes "After run come lines as: a calls read E, and: a returns 1; the line end is the last one."
 remedy causes.UnknownWord = codes "Declare it or mend the word; a cell is written as: X[0]"
-remedy causes.OutOfRange = codes "A value is at most 999999999999999999; a snapshot has 1 to 1000 tries, a repeat 1 to 1000000; write has a value for each cell."
-remedy causes.Full = codes "A text has at most 16 workers, 32 eventcounts, 32 sequencers and 256 cells; a script 4096 commands a worker, 65536 turns and 1048576 bytes."
-remedy causes.Hidden = codes "Use the calls of the group: produce, consume, write, snapshot, p, v and pboth."
+remedy causes.OutOfRange =
+    codes "A value is at most 999999999999999999; a snapshot has 1 to 1000 tries, a repeat 1 to "
+    ++ codes "1000000; write has a value for each cell."
+remedy causes.Full =
+    codes "A text has at most 16 workers, 32 eventcounts, 32 sequencers and 256 cells; a script "
+    ++ codes "4096 commands a worker, 65536 turns and 1048576 bytes."
+remedy causes.Hidden =
+    codes "Use the calls of the group: produce, consume, write, snapshot, p, v and pboth."
 remedy causes.TwoUses = codes "A pboth is of two semaphores that differ."
 remedy causes.NoRole = codes "Name the worker in the list of the declaration that gives the right."
-remedy causes.BadNesting = codes "Close a block by end before worker or schedule; a repeat has a command, and at most four stand in one another."
-remedy causes.StopsEarly = codes "A script needs its line of workers and an end for each block and each repeat; a history of calls the line end."
+remedy causes.BadNesting =
+    codes "Close a block by end before worker or schedule; a repeat has a command, and at most "
+    ++ codes "four stand in one another."
+remedy causes.StopsEarly =
+    codes "A script needs its line of workers and an end for each block and each repeat; a "
+    ++ codes "history of calls the line end."
 remedy causes.BadOrder = codes "Write them in that order, one for each eventcount at most."
-remedy causes.CallPending = codes "Record the line returns of that call before it; each worker is one thread."
+remedy causes.CallPending =
+    codes "Record the line returns of that call before it; each worker is one thread."
 remedy causes.NoPendingCall = codes "Record the line calls of the call before it."
-remedy causes.Unsuited = codes "advance, put, v, p, pboth and write return done, read, ticket and get a number, snapshot a number for each cell."
+remedy causes.Unsuited =
+    codes "advance, put, v, p, pboth and write return done, read, ticket and get a number, "
+    ++ codes "snapshot a number for each cell."
 remedy causes.CallLimit = codes "Raise the limit in the second line of the history."
+remedy causes.NoOrder = codes "Look in the program for what these calls do; evc-draw draws them."
+remedy causes.NotDecided = codes "Record puts of different values, and none of 0."
+remedy causes.TurnOfEnded = codes "Remove the turn, or give the worker more commands."
 remedy causes.Other = codes "Look into docs/REFERENCE.md, or the manual page evc-trace."

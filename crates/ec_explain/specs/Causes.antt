@@ -1,6 +1,8 @@
--- What is wrong with a line: each cause is a test of the line and of what came before it, and of those that hold the first is
--- told.
-use Rattle.std.specs.Prelude.{ℕ, ◌+◌, ◌-◌, ◌==◌, ◌||◌, ◌&&◌, not, Bool, true, false, nat_lt, List, [], ◌∷◌, length, take, drop, Option, Some, None, is_some, is_none, unwrap_or, bytes_eq, codes, if◌then◌else◌}
+-- What is wrong with a line: each cause is a test of the line and of what came before it, and of
+-- those that hold the first is told.
+use Rattle.std.specs.Prelude.{ℕ, ◌+◌, ◌-◌, ◌==◌, ◌||◌, ◌&&◌, not, Bool, true, false, nat_lt, List}
+use Rattle.std.specs.Prelude.{[], ◌∷◌, length, take, drop, Option, Some, None, is_some, is_none}
+use Rattle.std.specs.Prelude.{unwrap_or, bytes_eq, codes, if◌then◌else◌}
 use Rattle.std.specs.List.{list_any, list_all}
 use Rattle.std.specs.Char.{is_ascii_alphabetic}
 use Rattle.ec_count.specs.Tables.{first_that}
@@ -18,7 +20,8 @@ use Rattle.ec_explain.specs.declared.cause.Cause.TheVariants as causes
 use Rattle.ec_explain.specs.declared.site.Site.{Site}
 use Rattle.ec_explain.specs.declared.site.Site.TheVariants as sites
 use Rattle.ec_explain.specs.TextLines.{place_of}
-use Rattle.ec_explain.specs.Places.{word_at, behind_first, start_of, is_among, names_before, listed_before, full_before}
+use Rattle.ec_explain.specs.Places.{word_at, behind_first, start_of, is_among, names_before}
+use Rattle.ec_explain.specs.Places.{listed_before, full_before}
 
 -- ANY LINE
 
@@ -33,13 +36,15 @@ last_byte line = drop (length line - 1) line
 abbrev pub has_tab : List ℕ → Bool
 has_tab line = list_any (λ b. b == 9) line
 
--- whether a word of the line is empty: two spaces stand in a row, or one at its beginning or its end
+-- whether a word of the line is empty: two spaces stand in a row, or one at its beginning or its
+-- end
 abbrev pub has_blank : List ℕ → Bool
 has_blank line = list_any (λ w. length w == 0) (words_of line)
 
 -- whether it begins as comments do elsewhere
 abbrev pub is_comment : List ℕ → Bool
-is_comment line = begins_with (codes "#") line || begins_with (codes "//") line || begins_with (codes ";") line
+is_comment line = begins_with (codes "#") line || begins_with (codes "//") line
+    || begins_with (codes ";") line
 
 -- what is wrong with the bytes of a line, wherever it stands
 abbrev pub line_cause : List ℕ → Option Cause
@@ -59,7 +64,8 @@ line_cause line = first_that (
 
 -- whether it begins as the first line of some version does
 abbrev pub is_header : List ℕ → Bool
-is_header line = begins_with (codes "evc-trace") line || begins_with (codes "evc-script") line || begins_with (codes "evc-calls") line
+is_header line = begins_with (codes "evc-trace") line || begins_with (codes "evc-script") line
+    || begins_with (codes "evc-calls") line
 
 abbrev pub first_cause : List ℕ → Cause
 first_cause line = if is_header line then causes.OtherVersion else causes.NoHeader
@@ -81,7 +87,8 @@ abbrev pub has_name_form : List ℕ → Bool
 has_name_form [] = false
 has_name_form (b ∷ bs) = is_ascii_alphabetic b && list_all is_name_byte bs
 
--- what is wrong with a word that is no name: it is too long; or it has the form, and so is reserved; or it lacks the form
+-- what is wrong with a word that is no name: it is too long; or it has the form, and so is
+-- reserved; or it lacks the form
 abbrev pub name_cause : List ℕ → Cause
 name_cause w = unwrap_or (first_that (
     (nat_lt 16 (length w), causes.LongName)
@@ -103,7 +110,8 @@ head_cause heads.Memory w = causes.Other
 abbrev pub bad_name_place : List ℕ → ℕ
 bad_name_place line = 1 + names_before (behind_first (words_of line))
 
--- the place of the new name in a line of a heading that has one, or of the first word that should be one
+-- the place of the new name in a line of a heading that has one, or of the first word that should
+-- be one
 abbrev pub new_name_place : List ℕ → ℕ
 new_name_place line = if bytes_eq (word_at 0 line) (codes "workers") then bad_name_place line else 1
 
@@ -127,7 +135,8 @@ declaration_cause h fault line = unwrap_or (first_that (
 abbrev pub act_words : List ℕ → Option ℕ
 act_words verb =
     if bytes_eq verb (codes "go") then Some 1
-    else (if is_among (codes "advance" ∷ codes "read" ∷ codes "ticket" ∷ codes "get" ∷ []) verb then Some 2
+    else (if is_among (codes "advance" ∷ codes "read" ∷ codes "ticket" ∷ codes "get" ∷ []) verb
+    then Some 2
     else (if is_among (codes "await" ∷ codes "put" ∷ codes "hand" ∷ []) verb then Some 3 else None))
 
 -- where the sign of equality stands behind such an act
@@ -230,7 +239,8 @@ word_place site causes.NoReply line = equals_place line + 1
 word_place site causes.EntryWords line = equals_place line + 2
 word_place site _ line = 0
 
--- where the line shows it, by the bytes before: at a byte that may not stand there, or where a word begins
+-- where the line shows it, by the bytes before: at a byte that may not stand there, or where a word
+-- begins
 abbrev pub place_at : Site → Cause → List ℕ → ℕ
 place_at site causes.Long line = 8192
 place_at site causes.Return line = length line - 1

@@ -1,14 +1,17 @@
 -- What is found wrong with a text, and how it is told.
-use Rattle.std.specs.Prelude.{ℕ, ◌+◌, ◌-◌, ◌&&◌, nat_le, nat_lt, List, [], ◌∷◌, ◌++◌, take, drop, length, min, Option, Some, None, replicate, bytes_eq, ◌==◌, codes, decimal, if◌then◌else◌}
+use Rattle.std.specs.Prelude.{ℕ, ◌+◌, ◌-◌, ◌&&◌, nat_le, nat_lt, List, [], ◌∷◌, ◌++◌, take, drop}
+use Rattle.std.specs.Prelude.{length, min, Option, Some, None, replicate, bytes_eq, ◌==◌, codes}
+use Rattle.std.specs.Prelude.{decimal, if◌then◌else◌}
 use Rattle.std.specs.List.{flat_map}
 use Rattle.ec_explain.specs.declared.cause.Cause.{Cause}
 use Rattle.ec_explain.specs.declared.cause.Cause.TheVariants as causes
 use Rattle.ec_explain.specs.declared.finding.Spot.{Spot}
 use Rattle.ec_explain.specs.declared.finding.Finding.{Finding}
 use Rattle.ec_explain.specs.declared.site.Site.{Site}
+use Rattle.ec_explain.specs.declared.site.Site.TheVariants as sites
 use Rattle.ec_explain.specs.Advice.{sentence, remedy}
-use Rattle.ec_explain.specs.Causes.{cause_at, place_at, equals_place, last_byte}
-use Rattle.ec_explain.specs.Looking.{call_line, declaration_line}
+use Rattle.ec_explain.specs.Causes.{cause_at, place_at, equals_place, last_byte, line_cause}
+use Rattle.ec_explain.specs.Looking.{call_line, declaration_line, right_line}
 use Rattle.ec_explain.specs.Places.{start_of, word_at}
 use Rattle.ec_heading.specs.Spelling.{reply_word}
 use Rattle.ec_core.specs.declared.act.Reply.{Reply}
@@ -18,11 +21,27 @@ use Rattle.ec_core.specs.declared.act.Refusal.TheVariants as refusals
 
 -- this cause, at this place of the line with this number
 abbrev pub shown_at : Cause → ℕ → ℕ → Finding
-shown_at cause n place = record { cause = cause; spot = Some (record { number = n; place = place }); right = None; see = None }
+shown_at cause n place =
+    record {
+      cause = cause;
+      spot = Some (record { number = n; place = place });
+      right = None;
+      see =
+          None;
+    }
 
 -- what is wrong with a rejected line, of this number, where it stands
 abbrev pub found_at : Site → ℕ → List ℕ → Finding
 found_at site n line = shown_at (cause_at site line) n (place_at site (cause_at site line) line)
+
+-- the cause that the bytes of a line show wherever it stands; or, if they show none, this one, at
+-- this place
+abbrev pub lined_by : Option Cause → Cause → ℕ → ℕ → List ℕ → Finding
+lined_by None cause n place line = shown_at cause n place
+lined_by (Some c) cause n place line = shown_at c n (place_at sites.Unknown c line)
+
+abbrev pub lined_at : Cause → ℕ → ℕ → List ℕ → Finding
+lined_at cause n place line = lined_by (line_cause line) cause n place line
 
 -- this cause, which no line shows
 abbrev pub of_whole : Cause → Finding
@@ -40,11 +59,12 @@ refusal_cause refusals.UnknownWorker = causes.Other
 refusal_cause refusals.UnknownObject = causes.Other
 refusal_cause refusals.ValueTooLarge = causes.Other
 
--- the line that shows why the act of line n is refused: the one by which the call under way began; the one that declares the object, and
--- who may use it; and the limit's
+-- the line that shows why the act of line n is refused: the one by which the call under way began;
+-- the one by which the right was lost, or that declares the object, and who may use it; and the
+-- limit's
 abbrev pub reason_line : Refusal → ℕ → List ℕ → Option ℕ
 reason_line refusals.Busy n text = call_line n text
-reason_line refusals.NoRight n text = declaration_line n text
+reason_line refusals.NoRight n text = right_line n text
 reason_line refusals.NotHandable n text = declaration_line n text
 reason_line refusals.AlreadySignals n text = declaration_line n text
 reason_line refusals.AtLimit n text = Some 2
@@ -52,18 +72,24 @@ reason_line _ n text = None
 
 -- the line of a refused act shows it at the act
 abbrev pub refused_at : ℕ → Refusal → List ℕ → Finding
-refused_at n refusal text = record (shown_at (refusal_cause refusal) n (start_of 1 (line_at n text))) { see = reason_line refusal n text }
+refused_at n refusal text =
+    record (shown_at (refusal_cause refusal) n (start_of 1 (line_at n text)))
+    { see = reason_line refusal n text }
 
 -- the line by which the call of line n began, if that is another
 abbrev pub begun_line : ℕ → List ℕ → Option ℕ
-begun_line n text = if bytes_eq (word_at 1 (line_at n text)) (codes "go") then call_line n text else None
+begun_line n text = if bytes_eq (word_at 1 (line_at n text)) (codes "go") then call_line n text
+    else None
 
 -- the line of an act that has another reply shows it at the reply
 abbrev pub wrong_reply_at : ℕ → Reply → List ℕ → Finding
 wrong_reply_at n right text =
-    record (shown_at causes.WrongReply n (start_of (equals_place (line_at n text) + 1) (line_at n text))) { right = Some right; see = begun_line n text }
+    record (shown_at causes.WrongReply n
+    (start_of (equals_place (line_at n text) + 1) (line_at n text)))
+    { right = Some right; see = begun_line n text }
 
--- what is missing from a text that stops too early: all of it; the LF of its last line; or else this
+-- what is missing from a text that stops too early: all of it; the LF of its last line; or else
+-- this
 abbrev pub stopped : Cause → List ℕ → Finding
 stopped cause text =
     if length text == 0 then of_whole causes.EmptyText
@@ -83,7 +109,8 @@ plain b = if nat_le 32 b && nat_lt b 127 then b else 63
 abbrev pub plain_byte : ℕ → List ℕ
 plain_byte b = plain b ∷ []
 
--- the first byte that is shown of a line: of a line in which the place stands far behind, some bytes before the place
+-- the first byte that is shown of a line: of a line in which the place stands far behind, some
+-- bytes before the place
 abbrev pub shown_from : ℕ → ℕ
 shown_from place = if nat_lt place 80 then 0 else place - 60
 
@@ -101,7 +128,8 @@ spaces n = replicate n 32
 -- the number of a line, and what is shown of the line
 unfoldable pub line_text : Spot → List ℕ → List ℕ
 line_text s line =
-    codes "line " ++ decimal s.number ++ codes ":\n    " ++ flat_map plain_byte (shown_bytes s.place line) ++ codes "\n    "
+    codes "line " ++ decimal s.number ++ codes ":\n    "
+    ++ flat_map plain_byte (shown_bytes s.place line) ++ codes "\n    "
 
 -- the line, and a mark under the place
 unfoldable pub spot_text : Spot → List ℕ → List ℕ
@@ -135,10 +163,14 @@ see_text (Some n) text = line_seen n 0 (line_at n text)
 unfoldable pub remedy_text : Cause → List ℕ
 remedy_text cause = remedy cause ++ codes "\n"
 
--- what is wrong, why, and how to mend it
-unfoldable pub advice_text : Finding → List ℕ → List ℕ
-advice_text f text = sentence_text f.cause ++ right_text f.right ++ see_text f.see text ++ remedy_text f.cause
+-- what is wrong, and why
+unfoldable pub why_text : Finding → List ℕ → List ℕ
+why_text f text = sentence_text f.cause ++ right_text f.right ++ see_text f.see text
 
--- the line where there is one, what is wrong, why, and how to mend it
-unfoldable pub finding_text : Finding → List ℕ → List ℕ
-finding_text f text = spot_or_none f.spot text ++ advice_text f text
+-- the line where there is one, what is wrong, and why
+unfoldable pub found_text : Finding → List ℕ → List ℕ
+found_text f text = spot_or_none f.spot text ++ why_text f text
+
+-- the line where there is one, what is wrong, why, what more is known of it, and how to mend it
+unfoldable pub finding_text : Finding → List ℕ → List ℕ → List ℕ
+finding_text f more text = found_text f text ++ more ++ remedy_text f.cause

@@ -1,5 +1,7 @@
--- What is wrong with a script and with a history of calls, by the kind of the fault that their readers report.
-use Rattle.std.specs.Prelude.{ℕ, ◌==◌, List, length, bytes_eq, codes, if◌then◌else◌}
+-- What is wrong with a script and with a history of calls, by the kind of the fault that their
+-- readers report.
+use Rattle.std.specs.Prelude.{ℕ, ◌==◌, List, length, bytes_eq, codes}
+use Rattle.std.specs.Prelude.{Option, None, is_none, if◌then◌else◌}
 use Rattle.ec_text.specs.Words.{words_of}
 use Rattle.ec_heading.specs.declared.heading.HeadFault.TheVariants as heads
 use Rattle.ec_script.specs.declared.fault.Kind as scripts
@@ -10,7 +12,8 @@ use Rattle.ec_explain.specs.declared.cause.Cause.{Cause}
 use Rattle.ec_explain.specs.declared.cause.Cause.TheVariants as causes
 use Rattle.ec_explain.specs.declared.finding.Finding.{Finding}
 use Rattle.ec_explain.specs.declared.site.Site.TheVariants as sites
-use Rattle.ec_explain.specs.Findings.{found_at, shown_at, stopped}
+use Rattle.ec_explain.specs.Findings.{found_at, lined_at, stopped}
+use Rattle.ec_explain.specs.Causes.{line_cause}
 use Rattle.ec_explain.specs.Looking.{call_line}
 use Rattle.ec_explain.specs.Places.{start_of, word_at}
 use Rattle.ec_explain.specs.TextLines.{line_at}
@@ -24,20 +27,29 @@ script_number_place line = if length (words_of line) == 2 then 1 else 2
 -- a line that names one where two are wanted: a pboth, or a declaration
 abbrev pub script_roles_at : ℕ → List ℕ → Finding
 script_roles_at n line =
-    if bytes_eq (word_at 0 line) (codes "pboth") then shown_at causes.TwoUses n (start_of 2 line) else shown_at causes.TwoRoles n 0
+    if bytes_eq (word_at 0 line) (codes "pboth")
+    then lined_at causes.TwoUses n (start_of 2 line) line else lined_at causes.TwoRoles n 0 line
 
 abbrev pub script_finding : scripts.Kind → ℕ → List ℕ → Finding
 script_finding script.BadHeader n text = found_at sites.First n (line_at n text)
 script_finding script.BadLine n text = found_at sites.Script n (line_at n text)
 script_finding script.BadName n text = found_at (sites.Heading heads.BadName) n (line_at n text)
-script_finding script.NameTaken n text = shown_at causes.NameTaken n (start_of 1 (line_at n text))
-script_finding script.UnknownName n text = shown_at causes.UnknownWord n (start_of 1 (line_at n text))
-script_finding script.BadNumber n text = shown_at causes.OutOfRange n (start_of (script_number_place (line_at n text)) (line_at n text))
-script_finding script.TooMany n text = shown_at causes.Full n 0
-script_finding script.Hidden n text = shown_at causes.Hidden n (start_of 1 (line_at n text))
+script_finding script.NameTaken n text =
+    lined_at causes.NameTaken n (start_of 1 (line_at n text)) (line_at n text)
+script_finding script.UnknownName n text =
+    lined_at causes.UnknownWord n (start_of 1 (line_at n text)) (line_at n text)
+script_finding script.BadNumber n text =
+    lined_at causes.OutOfRange n (start_of (script_number_place (line_at n text)) (line_at n text))
+    (line_at n text)
+script_finding script.TooMany n text =
+    lined_at causes.Full n 0 (line_at n text)
+script_finding script.Hidden n text =
+    lined_at causes.Hidden n (start_of 1 (line_at n text)) (line_at n text)
 script_finding script.TwoRoles n text = script_roles_at n (line_at n text)
-script_finding script.NoRight n text = shown_at causes.NoRole n 0
-script_finding script.BadNesting n text = shown_at causes.BadNesting n 0
+script_finding script.NoRight n text =
+    lined_at causes.NoRole n 0 (line_at n text)
+script_finding script.BadNesting n text =
+    lined_at causes.BadNesting n 0 (line_at n text)
 script_finding script.Unfinished n text = stopped causes.StopsEarly text
 
 -- A HISTORY OF CALLS
@@ -49,30 +61,49 @@ calls_object_place line = if bytes_eq (word_at 1 line) (codes "calls") then 3 el
 -- the place of its number
 abbrev pub calls_number_place : List ℕ → ℕ
 calls_number_place line =
-    if bytes_eq (word_at 1 line) (codes "calls") then 4 else (if length (words_of line) == 2 then 1 else 2)
+    if bytes_eq (word_at 1 line) (codes "calls") then 4
+    else (if length (words_of line) == 2 then 1 else 2)
 
 abbrev pub calls_roles_at : ℕ → List ℕ → Finding
 calls_roles_at n line =
-    if bytes_eq (word_at 2 line) (codes "pboth") then shown_at causes.TwoUses n (start_of 4 line) else shown_at causes.TwoRoles n 0
+    if bytes_eq (word_at 2 line) (codes "pboth")
+    then lined_at causes.TwoUses n (start_of 4 line) line else lined_at causes.TwoRoles n 0 line
 
--- the last call of the worker of line n shows it too
+-- the last call of the worker of line n, if the bytes of that line don't show the cause
+abbrev pub seen_call : ℕ → List ℕ → Option ℕ
+seen_call n text = if is_none (line_cause (line_at n text)) then call_line n text else None
+
+-- a line of which the last call of its worker shows the cause too
 abbrev pub calls_seen_at : Cause → ℕ → ℕ → List ℕ → Finding
-calls_seen_at cause place n text = record (shown_at cause n (start_of place (line_at n text))) { see = call_line n text }
+calls_seen_at cause place n text =
+    record (lined_at cause n (start_of place (line_at n text)) (line_at n text))
+    { see = seen_call n text }
 
 abbrev pub calls_finding : histories.Kind → ℕ → List ℕ → Finding
 calls_finding calls.BadHeader n text = found_at sites.First n (line_at n text)
 calls_finding calls.BadLine n text = found_at sites.Calls n (line_at n text)
 calls_finding calls.BadName n text = found_at (sites.Heading heads.BadName) n (line_at n text)
-calls_finding calls.NameTaken n text = shown_at causes.NameTaken n (start_of 1 (line_at n text))
-calls_finding calls.UnknownName n text = shown_at causes.UnknownWord n 0
-calls_finding calls.BadNumber n text = shown_at causes.OutOfRange n (start_of (calls_number_place (line_at n text)) (line_at n text))
-calls_finding calls.TooMany n text = shown_at causes.Full n 0
-calls_finding calls.Hidden n text = shown_at causes.Hidden n (start_of (calls_object_place (line_at n text)) (line_at n text))
+calls_finding calls.NameTaken n text =
+    lined_at causes.NameTaken n (start_of 1 (line_at n text)) (line_at n text)
+calls_finding calls.UnknownName n text =
+    lined_at causes.UnknownWord n 0 (line_at n text)
+calls_finding calls.BadNumber n text =
+    lined_at causes.OutOfRange n (start_of (calls_number_place (line_at n text)) (line_at n text))
+    (line_at n text)
+calls_finding calls.TooMany n text =
+    lined_at causes.Full n 0 (line_at n text)
+calls_finding calls.Hidden n text =
+    lined_at causes.Hidden n (start_of (calls_object_place (line_at n text)) (line_at n text))
+    (line_at n text)
 calls_finding calls.TwoRoles n text = calls_roles_at n (line_at n text)
-calls_finding calls.NoRight n text = shown_at causes.NoRole n 0
-calls_finding calls.BadOrder n text = shown_at causes.BadOrder n (start_of 1 (line_at n text))
+calls_finding calls.NoRight n text =
+    lined_at causes.NoRole n 0 (line_at n text)
+calls_finding calls.BadOrder n text =
+    lined_at causes.BadOrder n (start_of 1 (line_at n text)) (line_at n text)
 calls_finding calls.Unfinished n text = stopped causes.StopsEarly text
 calls_finding calls.Busy n text = calls_seen_at causes.CallPending 0 n text
-calls_finding calls.Idle n text = shown_at causes.NoPendingCall n 0
+calls_finding calls.Idle n text =
+    lined_at causes.NoPendingCall n 0 (line_at n text)
 calls_finding calls.Unsuited n text = calls_seen_at causes.Unsuited 2 n text
-calls_finding calls.AtLimit n text = shown_at causes.CallLimit n (start_of 2 (line_at n text))
+calls_finding calls.AtLimit n text =
+    lined_at causes.CallLimit n (start_of 2 (line_at n text)) (line_at n text)

@@ -5,3 +5,5 @@ pub mod Causes
 pub mod Advice
 pub mod Findings
 pub mod Kinds
+pub mod Rounds
+pub mod Rights

@@ -1,5 +1,6 @@
 -- The words of a line by their places, and where they begin.
-use Rattle.std.specs.Prelude.{ℕ, ◌+◌, ◌-◌, ◌==◌, ◌||◌, Bool, List, [], ◌∷◌, length, min, unwrap_or, slice_get, is_some, codes, bytes_eq, if◌then◌else◌}
+use Rattle.std.specs.Prelude.{ℕ, ◌+◌, ◌-◌, ◌==◌, ◌||◌, Bool, List, [], ◌∷◌, length, min, unwrap_or}
+use Rattle.std.specs.Prelude.{slice_get, is_some, codes, bytes_eq, if◌then◌else◌}
 use Rattle.std.specs.List.{list_any}
 use Rattle.ec_count.specs.Reserved.{is_name}
 use Rattle.ec_text.specs.Words.{words_of, number_of}
@@ -31,11 +32,14 @@ is_among ws word = list_any (λ w. bytes_eq w word) ws
 -- the words before a list, and between two
 abbrev pub list_openers : List (List ℕ)
 list_openers =
-    codes "signal" ∷ codes "observe" ∷ codes "take" ∷ codes "write" ∷ codes "read" ∷ codes "produce" ∷ codes "consume" ∷ codes "use" ∷ []
+    codes "signal" ∷ codes "observe" ∷ codes "take" ∷ codes "write" ∷ codes "read" ∷ codes "produce"
+    ∷ codes "consume" ∷ codes "use" ∷ []
 
--- whether a word may stand behind the name of a declaration: a worker, a number, or a word before a list
+-- whether a word may stand behind the name of a declaration: a worker, a number, or a word before a
+-- list
 abbrev pub is_listed : Named → List ℕ → Bool
-is_listed names w = (is_some (worker_in names w) || is_some (number_of w)) || is_among list_openers w
+is_listed names w = (is_some (worker_in names w) || is_some (number_of w))
+    || is_among list_openers w
 
 -- how many words stand before the first that is no name, that may not be listed, and that is empty
 abbrev pub names_before : List (List ℕ) → ℕ

@@ -1,5 +1,6 @@
 -- The lines of a text, by their numbers, which are counted from 1.
-use Rattle.std.specs.Prelude.{ℕ, ◌+◌, ◌-◌, zero, suc, ◌==◌, nat_lt, List, [], length, take, drop, unwrap_or, count_by, if◌then◌else◌}
+use Rattle.std.specs.Prelude.{ℕ, ◌+◌, ◌-◌, zero, suc, ◌==◌, nat_lt, List, [], length, take, drop}
+use Rattle.std.specs.Prelude.{unwrap_or, count_by, if◌then◌else◌}
 use Rattle.std.specs.List.{position_from}
 
 -- where a byte stands first; behind the last byte where it doesn't

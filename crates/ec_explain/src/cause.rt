@@ -133,6 +133,12 @@ pub enum Cause {
     Unsuited,
     /// The limit is passed.
     CallLimit,
+    /// The calls have no linearization.
+    NoOrder,
+    /// It is not decided whether the calls have a linearization.
+    NotDecided,
+    /// The schedule names a worker that has ended.
+    TurnOfEnded,
     /// None of these.
     Other,
 }
@@ -212,6 +218,9 @@ impl Cause {
             Cause::NoPendingCall => b"The worker returns, and has no pending call.",
             Cause::Unsuited => b"The reply does not suit the call.",
             Cause::CallLimit => b"The limit is passed.",
+            Cause::NoOrder => b"The calls have no linearization.",
+            Cause::NotDecided => b"It is not decided whether the calls have a linearization.",
+            Cause::TurnOfEnded => b"The schedule has a turn of a worker that has ended.",
             Cause::Other => b"No line of this form may stand here.",
         }
     }
@@ -231,9 +240,11 @@ impl Cause {
             Cause::SpaceAfter => b"Remove the space.",
             Cause::TwoSpaces => b"Separate words by one space.",
             Cause::OtherVersion =>
-                b"The versions are evc-trace 1, evc-trace 2, evc-script 1, evc-script 2 and evc-calls 1.",
+                b"The versions are evc-trace 1, evc-trace 2, evc-script 1, evc-script 2 and \
+                  evc-calls 1.",
             Cause::NoHeader =>
-                b"Begin a trace with evc-trace 1, a script with evc-script 1, a history of calls with evc-calls 1.",
+                b"Begin a trace with evc-trace 1, a script with evc-script 1, a history of \
+                  calls with evc-calls 1.",
             Cause::NoLimit => b"Write the word limit and a number, as in: limit 100",
             Cause::LimitWords => b"Write the word limit and a number, as in: limit 100",
             Cause::LimitNoNumber =>
@@ -246,25 +257,31 @@ impl Cause {
             Cause::ReservedName => b"Choose another name.",
             Cause::BadName => b"A name is a letter, followed by letters, digits and underscores.",
             Cause::NameTaken =>
-                b"Use each name once, name each worker once in a list, and give a worker one block.",
+                b"Use each name once, name each worker once in a list, and give a worker one \
+                  block.",
             Cause::UnknownName => b"Name the worker in the line of the workers, or mend the word.",
             Cause::BadNumber =>
-                b"Cells, buffers and databases have 1 to 256 cells; a semaphore begins with 0 to 1000000.",
+                b"Cells, buffers and databases have 1 to 256 cells; a semaphore begins with 0 \
+                  to 1000000.",
             Cause::TooMany =>
-                b"A text has at most 16 workers, 32 eventcounts, 32 sequencers and 256 cells, those of groups among them.",
+                b"A text has at most 16 workers, 32 eventcounts, 32 sequencers and 256 cells, \
+                  those of groups among them.",
             Cause::TwoRoles => b"The two lists of a buffer or a database share no worker.",
             Cause::EntryBeforeRun =>
                 b"Write the line run between the declarations and the entries.",
             Cause::NoDeclaration =>
-                b"Write eventcount, sequencer, cells, buffer, database, semaphore or both; the line run ends the declarations.",
+                b"Write eventcount, sequencer, cells, buffer, database, semaphore or both; the \
+                  line run ends the declarations.",
             Cause::DeclarationForm =>
-                b"Name the object, then the workers in lists, as in: eventcount E signal a b observe c",
+                b"Name the object, then the workers in lists, as in: eventcount E signal a b \
+                  observe c",
             Cause::NoWorker =>
                 b"An entry is a worker, an act, the sign = and a reply, as in: a advance E = done",
             Cause::NoAct => b"The acts are advance, read, await, go, ticket, put, get and hand.",
             Cause::HandInOne => b"Write evc-trace 2 in the first line.",
             Cause::NoObject =>
-                b"advance, read, await and hand name an eventcount, ticket a sequencer, put and get a cell, as in: X[0]",
+                b"advance, read, await and hand name an eventcount, ticket a sequencer, put and \
+                  get a cell, as in: X[0]",
             Cause::NoValue => b"Write at most 18 digits, without leading zeros.",
             Cause::NoReceiver =>
                 b"Name the worker that is handed the component, as in: a hand E b = done",
@@ -276,14 +293,16 @@ impl Cause {
             Cause::Busy => b"Let the worker go on with that call by go, until it returns.",
             Cause::Idle => b"Begin a read or an await before it, or remove the line.",
             Cause::NoRight =>
-                b"Name the worker in the list of the declaration: signal to advance, observe to read and await, take, write, read.",
+                b"Name the worker in the list of the declaration: signal to advance, observe to \
+                  read and await, take, write, read.",
             Cause::AtLimit => b"Raise the limit in the second line.",
             Cause::NotHandable =>
                 b"Hand over components of eventcounts that a line eventcount declares.",
             Cause::AlreadySignals =>
                 b"Hand the component to a worker that has none at that moment.",
             Cause::WrongReply =>
-                b"Write the right reply; if the program recorded this one, the program or its record is wrong.",
+                b"Write the right reply; if the program recorded this one, the program or its \
+                  record is wrong.",
             Cause::EmptyText =>
                 b"Look whether the program that writes it ran, and wrote to this file.",
             Cause::NoLastLf => b"End each line with LF, also the last.",
@@ -291,30 +310,40 @@ impl Cause {
                 b"Write the line end as the last one: it shows that the record is whole.",
             Cause::TooLarge => b"Record a shorter run.",
             Cause::ScriptForm =>
-                b"Declarations come first, then blocks, each from worker a to end, then the lines schedule a b.",
+                b"Declarations come first, then blocks, each from worker a to end, then the \
+                  lines schedule a b.",
             Cause::CallsForm =>
-                b"After run come lines as: a calls read E, and: a returns 1; the line end is the last one.",
+                b"After run come lines as: a calls read E, and: a returns 1; the line end is \
+                  the last one.",
             Cause::UnknownWord => b"Declare it or mend the word; a cell is written as: X[0]",
             Cause::OutOfRange =>
-                b"A value is at most 999999999999999999; a snapshot has 1 to 1000 tries, a repeat 1 to 1000000; write has a value for each cell.",
+                b"A value is at most 999999999999999999; a snapshot has 1 to 1000 tries, a \
+                  repeat 1 to 1000000; write has a value for each cell.",
             Cause::Full =>
-                b"A text has at most 16 workers, 32 eventcounts, 32 sequencers and 256 cells; a script 4096 commands a worker, 65536 turns and 1048576 bytes.",
+                b"A text has at most 16 workers, 32 eventcounts, 32 sequencers and 256 cells; a \
+                  script 4096 commands a worker, 65536 turns and 1048576 bytes.",
             Cause::Hidden =>
                 b"Use the calls of the group: produce, consume, write, snapshot, p, v and pboth.",
             Cause::TwoUses => b"A pboth is of two semaphores that differ.",
             Cause::NoRole =>
                 b"Name the worker in the list of the declaration that gives the right.",
             Cause::BadNesting =>
-                b"Close a block by end before worker or schedule; a repeat has a command, and at most four stand in one another.",
+                b"Close a block by end before worker or schedule; a repeat has a command, and \
+                  at most four stand in one another.",
             Cause::StopsEarly =>
-                b"A script needs its line of workers and an end for each block and each repeat; a history of calls the line end.",
+                b"A script needs its line of workers and an end for each block and each repeat; \
+                  a history of calls the line end.",
             Cause::BadOrder => b"Write them in that order, one for each eventcount at most.",
             Cause::CallPending =>
                 b"Record the line returns of that call before it; each worker is one thread.",
             Cause::NoPendingCall => b"Record the line calls of the call before it.",
             Cause::Unsuited =>
-                b"advance, put, v, p, pboth and write return done, read, ticket and get a number, snapshot a number for each cell.",
+                b"advance, put, v, p, pboth and write return done, read, ticket and get a \
+                  number, snapshot a number for each cell.",
             Cause::CallLimit => b"Raise the limit in the second line of the history.",
+            Cause::NoOrder => b"Look in the program for what these calls do; evc-draw draws them.",
+            Cause::NotDecided => b"Record puts of different values, and none of 0.",
+            Cause::TurnOfEnded => b"Remove the turn, or give the worker more commands.",
             Cause::Other => b"Look into docs/REFERENCE.md, or the manual page evc-trace.",
         }
     }

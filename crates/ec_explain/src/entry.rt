@@ -1,6 +1,7 @@
 //! What is wrong with a line in the place of an entry.
 ghost use Rattle.std.specs.Prelude.{◌≡◌, ◌≤◌, IfSome};
-ghost use Rattle.ec_explain.specs.Causes.{act_words, equals_place, has_object, lacks_value, is_reply, act_cause, reply_cause, entry_cause, is_hand};
+ghost use Rattle.ec_explain.specs.Causes.{act_words, equals_place, has_object, lacks_value};
+ghost use Rattle.ec_explain.specs.Causes.{is_reply, act_cause, reply_cause, entry_cause, is_hand};
 
 use crate::cause::Cause;
 use crate::words::{is_among, is_same, word_at};

@@ -1,11 +1,14 @@
 //! What is found wrong with a text.
 ghost use Rattle.std.specs.Prelude.{◌≡◌};
-ghost use Rattle.ec_explain.specs.Findings.{found_at, shown_at, refusal_cause, reason_line, refused_at, begun_line, wrong_reply_at, stopped, unfinished, of_whole};
+ghost use Rattle.ec_explain.specs.Findings.{found_at, lined_at, shown_at, refusal_cause};
+ghost use Rattle.ec_explain.specs.Findings.{reason_line, refused_at, begun_line, wrong_reply_at};
+ghost use Rattle.ec_explain.specs.Findings.{stopped, unfinished, of_whole};
 
 use crate::cause::Cause;
 use crate::entry::equals_place;
+use crate::line::line_cause;
 use crate::lines::{line_at, lines_in};
-use crate::looking::{call_line, declaration_line};
+use crate::looking::{call_line, declaration_line, right_line};
 use crate::placing::{cause_at, place_at};
 use crate::site::Site;
 use crate::words::{is_same, start_of, word_at};
@@ -40,6 +43,17 @@ pub fn shown_at(cause: Cause, number: u64, place: usize) -> Finding
         spot: Some(Spot { number, place }),
         right: None,
         see: None,
+    }
+}
+
+/// Returns the cause that the bytes of a line show wherever it stands; if they show none, this one,
+/// at this place.
+pub(crate) fn lined_at(cause: Cause, number: u64, place: usize, line: &[u8]) -> Finding
+    ensures { result ≡ lined_at cause number place line.now }
+{
+    match line_cause(line) {
+        Some(cause) => shown_at(cause, number, place_at(&Site::Unknown, cause, line)),
+        None => shown_at(cause, number, place),
     }
 }
 
@@ -84,9 +98,8 @@ fn reason_line(refusal: Refusal, number: u64, text: &[u8]) -> Option<usize>
 {
     match refusal {
         Refusal::Busy => call_line(number, text),
-        Refusal::NoRight | Refusal::NotHandable | Refusal::AlreadySignals => {
-            declaration_line(number, text)
-        }
+        Refusal::NoRight => right_line(number, text),
+        Refusal::NotHandable | Refusal::AlreadySignals => declaration_line(number, text),
         Refusal::AtLimit => Some(2),
         Refusal::Idle | Refusal::UnknownWorker | Refusal::UnknownObject | Refusal::ValueTooLarge =>
             None,

@@ -4,7 +4,9 @@ ghost use Rattle.std.specs.List.{list_all};
 ghost use Rattle.ec_count.specs.Reserved.{is_name_byte};
 ghost use Rattle.ec_heading.specs.Sorts.{sort_of};
 ghost use Rattle.ec_explain.specs.Places.{word_at};
-ghost use Rattle.ec_explain.specs.Causes.{is_header, first_cause, limit_cause, has_name_form, name_cause, head_cause, bad_name_place, new_name_place, workers_cause, declaration_cause};
+ghost use Rattle.ec_explain.specs.Causes.{is_header, first_cause, limit_cause, has_name_form};
+ghost use Rattle.ec_explain.specs.Causes.{name_cause, head_cause, bad_name_place, new_name_place};
+ghost use Rattle.ec_explain.specs.Causes.{workers_cause, declaration_cause};
 
 use crate::cause::Cause;
 use crate::words::{is_same, names_before, word_at};
@@ -108,7 +110,8 @@ pub(crate) fn bad_name_place(line: &[u8]) -> usize
     }
 }
 
-/// Returns the place of the new name in a line of a heading, or of the first word that should be one.
+/// Returns the place of the new name in a line of a heading, or of the first word that should be
+/// one.
 pub(crate) fn new_name_place(line: &[u8]) -> usize
     ensures { result ≡ new_name_place line.now }
 {

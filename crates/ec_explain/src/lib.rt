@@ -10,6 +10,8 @@ mod line;
 mod lines;
 mod looking;
 mod placing;
+mod rights;
+mod round;
 mod script;
 mod site;
 mod telling;
@@ -22,6 +24,8 @@ pub use finding::{
 };
 pub use lines::{before_line, line_at};
 pub use placing::{cause_at, place_at};
+pub use rights::{Asked, asked_in, holders};
+pub use round::{Look, event_or, looks_with};
 pub use script::script_finding;
 pub use site::Site;
-pub use telling::put_finding;
+pub use telling::{put_finding, put_line_seen};

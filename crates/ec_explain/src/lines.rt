@@ -1,7 +1,8 @@
 //! The lines of a text, by their numbers.
 ghost use Rattle.std.specs.Prelude.{◌≡◌, ◌≤◌, ◌<◌, ◌==◌, IfSome, length};
 ghost use Rattle.std.specs.List.{position_from};
-ghost use Rattle.ec_explain.specs.TextLines.{before_line, behind, behind_line, first_line, line_at, lines_in, place_of};
+ghost use Rattle.ec_explain.specs.TextLines.{before_line, behind, behind_line, first_line, line_at};
+ghost use Rattle.ec_explain.specs.TextLines.{lines_in, place_of};
 
 /// Returns where a byte stands first.
 fn position_of(sign: u8, bytes: &[u8]) -> Option<usize>

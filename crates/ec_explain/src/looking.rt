@@ -1,6 +1,7 @@
 //! Which other line of a text shows why a line is rejected.
 ghost use Rattle.std.specs.Prelude.{◌≡◌, None, Some, if◌then◌else◌};
-ghost use Rattle.ec_explain.specs.Looking.{base_of, call_line, declaration_line, fits, last_in, lines_of};
+ghost use Rattle.ec_explain.specs.Looking.{base_of, call_line, declaration_line, fits, hand_line};
+ghost use Rattle.ec_explain.specs.Looking.{last_in, lines_of, right_line};
 
 use crate::lines::{before_line, line_at, place_of};
 use crate::words::{is_same, word_at};
@@ -13,6 +14,8 @@ enum Sought<'a> {
     Call(&'a [u8]),
     /// The line that declares what is called so.
     Declaration(&'a [u8]),
+    /// A line by which this worker hands its component of what is called so to another.
+    Hand(&'a [u8], &'a [u8]),
 }
 
 /// Returns whether a line is looked for.
@@ -25,6 +28,11 @@ fn fits(sought: &Sought<'_>, line: &[u8]) -> bool
         }
         Sought::Declaration(name) => {
             is_same(word_at(1, line), name) || is_same(word_at(0, line), name)
+        }
+        Sought::Hand(worker, name) => {
+            is_same(word_at(0, line), worker)
+                && (is_same(word_at(1, line), b"hand".as_slice())
+                    && is_same(word_at(2, line), name))
         }
     }
 }
@@ -76,4 +84,27 @@ pub(crate) fn declaration_line(number: u64, text: &[u8]) -> Option<usize>
 {
     let name = base_of(word_at(2, line_at(number, text)));
     last_in(&Sought::Declaration(name), before_line(number, text))
+}
+
+/// Returns the number of the line by which the worker of a line last handed its component of the
+/// line's object to another.
+fn hand_line(number: u64, text: &[u8]) -> Option<usize>
+    ensures { result ≡ hand_line number text.now }
+{
+    let line = line_at(number, text);
+    let worker = word_at(0, line);
+    let name = word_at(2, line);
+    let before = before_line(number, text);
+    last_in(&Sought::Hand(worker, name), before)
+}
+
+/// Returns the number of the line by which the worker of a line lost its right to the line's
+/// object, or else of the line that declares the object and who has the right.
+pub(crate) fn right_line(number: u64, text: &[u8]) -> Option<usize>
+    ensures { result ≡ right_line number text.now }
+{
+    match hand_line(number, text) {
+        Some(line) => Some(line),
+        None => declaration_line(number, text),
+    }
 }

@@ -1,6 +1,7 @@
 //! The cause for which a line is rejected, and the place that shows it.
 ghost use Rattle.std.specs.Prelude.{◌≡◌};
-ghost use Rattle.ec_explain.specs.Causes.{site_cause, cause_at, name_place, first_unlisted, unknown_place, word_place, place_at};
+ghost use Rattle.ec_explain.specs.Causes.{site_cause, cause_at, name_place, first_unlisted};
+ghost use Rattle.ec_explain.specs.Causes.{unknown_place, word_place, place_at};
 
 use crate::cause::Cause;
 use crate::entry::{entry_cause, equals_place};

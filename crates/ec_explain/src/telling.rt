@@ -3,7 +3,11 @@ ghost use Rattle.std.specs.Prelude.{◌≡◌};
 ghost use Rattle.std.specs.List.{flat_map};
 ghost use Rattle.ec_heading.specs.Spelling.{reply_word};
 ghost use Rattle.ec_text.specs.Puts.{Puts};
-ghost use Rattle.ec_explain.specs.Findings.{plain, plain_byte, shown_from, shown_bytes, spaces, line_seen, line_text, advice_text, remedy_text, right_text, see_front, see_text, sentence_text, spot_text, spot_or_none, finding_text};
+ghost use Rattle.ec_explain.specs.Findings.{plain, plain_byte, shown_from, shown_bytes, spaces};
+ghost use Rattle.ec_explain.specs.Findings.{line_seen, line_text, remedy_text, right_text};
+ghost use Rattle.ec_explain.specs.Findings.{see_front};
+ghost use Rattle.ec_explain.specs.Findings.{see_text, sentence_text, spot_text, spot_or_none};
+ghost use Rattle.ec_explain.specs.Findings.{why_text, found_text, finding_text};
 
 use crate::cause::Cause;
 use crate::finding::{Finding, Spot};
@@ -134,7 +138,7 @@ fn put_see_front<W: Write>(out: &mut Out<'_, W>, number: u64)
 
 /// Puts another line that shows why, with its number.
 #[tactic(auto, unfolding(crate::specs::Findings::line_seen))]
-fn put_line_seen<W: Write>(out: &mut Out<'_, W>, number: u64, place: usize, line: &[u8])
+pub fn put_line_seen<W: Write>(out: &mut Out<'_, W>, number: u64, place: usize, line: &[u8])
     ensures { Puts out.old out.new (line_seen number place line.now) }
 {
     put_see_front(out, number);
@@ -161,24 +165,34 @@ fn put_remedy<W: Write>(out: &mut Out<'_, W>, cause: Cause)
     out.put(b"\n");
 }
 
-/// Puts what is wrong, why, and how to mend it.
-#[tactic(auto, unfolding(crate::specs::Findings::advice_text))]
-fn put_advice<W: Write>(out: &mut Out<'_, W>, finding: &Finding, text: &[u8])
-    ensures { Puts out.old out.new (advice_text finding.now text.now) }
+/// Puts what is wrong, and why.
+#[tactic(auto, unfolding(crate::specs::Findings::why_text))]
+fn put_why<W: Write>(out: &mut Out<'_, W>, finding: &Finding, text: &[u8])
+    ensures { Puts out.old out.new (why_text finding.now text.now) }
 {
     put_sentence(out, finding.cause);
     put_right(out, &finding.right);
     put_see(out, finding.see, text);
-    put_remedy(out, finding.cause);
+}
+
+/// Puts the line with a mark under the place, if a line shows what is wrong; what is wrong; and
+/// why.
+#[tactic(auto, unfolding(crate::specs::Findings::found_text))]
+fn put_found<W: Write>(out: &mut Out<'_, W>, finding: &Finding, text: &[u8])
+    ensures { Puts out.old out.new (found_text finding.now text.now) }
+{
+    put_spot_or_none(out, &finding.spot, text);
+    put_why(out, finding, text);
 }
 
 /// Puts what is found wrong with a text: the line with a mark under the place, if a line shows it;
-/// a sentence on what is wrong, the right reply, and another line that shows why, if there are such;
-/// and a sentence on how to mend it.
+/// a sentence on what is wrong, the right reply, and another line that shows why, if there are
+/// such; what more is known of it; and a sentence on how to mend it.
 #[tactic(auto, unfolding(crate::specs::Findings::finding_text))]
-pub fn put_finding<W: Write>(out: &mut Out<'_, W>, finding: &Finding, text: &[u8])
-    ensures { Puts out.old out.new (finding_text finding.now text.now) }
+pub fn put_finding<W: Write>(out: &mut Out<'_, W>, finding: &Finding, more: &[u8], text: &[u8])
+    ensures { Puts out.old out.new (finding_text finding.now more.now text.now) }
 {
-    put_spot_or_none(out, &finding.spot, text);
-    put_advice(out, finding, text);
+    put_found(out, finding, text);
+    out.put(more);
+    put_remedy(out, finding.cause);
 }

@@ -2,7 +2,8 @@
 ghost use Rattle.std.specs.Prelude.{◌≡◌, ◌≤◌, ◌+◌, bytes_eq, length};
 ghost use Rattle.std.specs.List.{list_any};
 ghost use Rattle.ec_text.specs.Words.{words_of};
-ghost use Rattle.ec_explain.specs.Places.{word_at, behind_first, bytes_before, start_of, is_listed, names_before, listed_before, full_before};
+ghost use Rattle.ec_explain.specs.Places.{word_at, behind_first, bytes_before, start_of, is_listed};
+ghost use Rattle.ec_explain.specs.Places.{names_before, listed_before, full_before};
 
 use ec_count::is_name;
 use ec_heading::Heading;

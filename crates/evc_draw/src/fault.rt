@@ -3,7 +3,9 @@ ghost use Rattle.std.specs.Prelude.{◌≡◌, ◌≤◌, ◌<◌, ◌==◌, ◌
 ghost use Rattle.std.specs.List.{position_from};
 ghost use Rattle.ec_heading.specs.Spelling.{reply_word};
 ghost use Rattle.evc_engine.specs.Checks.{ReadsAs};
-ghost use Rattle.evc_draw.specs.Faults.{before_line, behind, behind_line, fault_line, first_line, history, line_at, mended, place_of, position_in, right_of, with_reply, with_right};
+ghost use Rattle.evc_draw.specs.Faults.{before_line, behind, behind_line, fault_line, first_line};
+ghost use Rattle.evc_draw.specs.Faults.{history, line_at, mended, place_of, position_in, right_of};
+ghost use Rattle.evc_draw.specs.Faults.{with_reply, with_right};
 ghost use Rattle.evc_draw.specs.Draws.{RefusedOr};
 
 use ec_core::Reply;
@@ -136,7 +138,8 @@ pub(crate) fn read_text(alloc: Global, text: &[u8]) -> Result<Traced, TraceFault
     read_trace(alloc, &mut rest)
 }
 
-/// The trace of the lines before a faulty one, and of that with its right reply, if it has one; none where no run had begun.
+/// The trace of the lines before a faulty one, and of that with its right reply, if it has one;
+/// none where no run had begun.
 pub(crate) fn history(
     alloc: Global,
     number: u64,
@@ -154,13 +157,7 @@ pub(crate) fn history(
     match read_text(alloc, mended.as_slice()) {
         Ok(traced) => Ok(Some(traced)),
         Err(TraceFault::Memory | TraceFault::Read) => Err(AllocError),
-        Err(
-            TraceFault::BadLine(_)
-            | TraceFault::Refused(_, _)
-            | TraceFault::WrongReply(_, _)
-            | TraceFault::Unfinished
-            | TraceFault::TooLarge,
-        ) => Ok(None),
+        Err(_) => Ok(None),
     }
 }
 
@@ -172,9 +169,7 @@ pub(crate) fn fault_line(fault: &TraceFault) -> Option<u64>
         TraceFault::BadLine(number)
         | TraceFault::Refused(number, _)
         | TraceFault::WrongReply(number, _) => Some(number),
-        TraceFault::Unfinished | TraceFault::TooLarge | TraceFault::Read | TraceFault::Memory => {
-            None
-        }
+        _ => None,
     }
 }
 
@@ -184,12 +179,7 @@ pub(crate) fn right_of(fault: &TraceFault) -> Option<Reply>
 {
     match *fault {
         TraceFault::WrongReply(_, right) => Some(right),
-        TraceFault::BadLine(_)
-        | TraceFault::Refused(_, _)
-        | TraceFault::Unfinished
-        | TraceFault::TooLarge
-        | TraceFault::Read
-        | TraceFault::Memory => None,
+        _ => None,
     }
 }
 

@@ -60,7 +60,8 @@ pub enum Bound {
 /// Reads a number that was given for an option.
 fn number_for<'a>(option: Bound, given: &'a str) -> Result<u64, NoNumber<'a>>
     ensures ok { IfOk result (λ n. (number_of given.now ≡ Some n) × (n < 1000000000000000000)) }
-    ensures err { IfErr result (λ e. (e.option ≡ option) × (e.given.now ≡ given.now) × (number_of given.now ≡ None)) }
+    ensures err { IfErr result (λ e. (e.option ≡ option) × (e.given.now ≡ given.now)
+        × (number_of given.now ≡ None)) }
 {
     match number(given.as_bytes()) {
         Some(number) => Ok(number),
@@ -96,7 +97,8 @@ impl<'a> Task<'a> {
         ensures from { IfOk result (λ r. first_given (word_of self.now.from) ≡ Some r.from) }
         ensures to { IfOk result (λ r. end_given (word_of self.now.to) ≡ Some r.to) }
         ensures wrong { IfErr result (IsNoNumber self.now) }
-        ensures first { IfErr result (λ e. e.option ≡ bounds.To → IsSome (first_given (word_of self.now.from))) }
+        ensures first { IfErr result (λ e. e.option ≡ bounds.To
+            → IsSome (first_given (word_of self.now.from))) }
     {
         let from = self.from()?;
         let to = self.to()?;

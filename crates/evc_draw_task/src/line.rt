@@ -151,12 +151,17 @@ fn words_found<'a>(
 /// or the version that they ask for. `Error::print` writes it where it belongs. That the words for
 /// `--from` and `--to` are numbers is asked by `Task::range`.
 pub fn task<'a>(alloc: Global, words: &'a [String]) -> Result<Task<'a>, Error>
-    ensures file { IfOk result (λ t. option_map (λ w. w.now) t.file ≡ given_in (texts_of words.now) (codes "file")) }
+    ensures file { IfOk result
+        (λ t. option_map (λ w. w.now) t.file ≡ given_in (texts_of words.now) (codes "file")) }
     ensures form { IfOk result (λ t. t.form ≡ form_in (texts_of words.now)) }
-    ensures from { IfOk result (λ t. option_map (λ w. w.now) t.from ≡ given_in (texts_of words.now) (codes "from")) }
-    ensures to { IfOk result (λ t. option_map (λ w. w.now) t.to ≡ given_in (texts_of words.now) (codes "to")) }
-    ensures workers { IfOk result (λ t. map (λ w. w.now) t.workers.items ≡ names_in (texts_of words.now) (codes "worker")) }
-    ensures objects { IfOk result (λ t. map (λ w. w.now) t.objects.items ≡ names_in (texts_of words.now) (codes "object")) }
+    ensures from { IfOk result
+        (λ t. option_map (λ w. w.now) t.from ≡ given_in (texts_of words.now) (codes "from")) }
+    ensures to { IfOk result
+        (λ t. option_map (λ w. w.now) t.to ≡ given_in (texts_of words.now) (codes "to")) }
+    ensures workers { IfOk result
+        (λ t. map (λ w. w.now) t.workers.items ≡ names_in (texts_of words.now) (codes "worker")) }
+    ensures objects { IfOk result
+        (λ t. map (λ w. w.now) t.objects.items ≡ names_in (texts_of words.now) (codes "object")) }
     ensures faults { FailsBy (faults_in (texts_of words.now)) result }
 {
     let found = matches_in(alloc, words)?;

@@ -1,3 +1,3 @@
 mod Places
-mod Turns
+mod Histories
 mod Whole

@@ -9,24 +9,34 @@ use Rattle.ec_explain.specs.TextLines.{line_at}
 use Rattle.evc_explain.specs.Seeking.{Opens, up_to}
 
 -- the least fault of a line after the heading that was opened
-pub workers_fail : (text line : List ℕ) (h : Headed) (fault : HeadFault) (o : Option HeadFault) → h ≡ opened One 1 [] → line ≡ line_at 3 text → o ≡ Some fault
-    → IfSome o (λ f. head_step h line ≡ Err f) → head_step (opened One 1 []) (line_at 3 text) ≡ Err fault
+pub workers_fail : (text line : List ℕ) (h : Headed) (fault : HeadFault) (o : Option HeadFault) → h
+    ≡ opened One 1 [] → line ≡ line_at 3 text → o ≡ Some fault
+    → IfSome o (λ f. head_step h line ≡ Err f) → head_step (opened One 1 []) (line_at 3 text)
+    ≡ Err fault
 workers_fail text line h fault o is at some fails =
-    let failed : head_step h line ≡ Err fault = subst (λ (p : Option HeadFault). IfSome p (λ f. head_step h line ≡ Err f)) some fails in
-    ap (λ (k : Headed). head_step k (line_at 3 text)) (sym is) ∙ ap (λ (l : List ℕ). head_step h l) (sym at) ∙ failed
+    let failed : head_step h line ≡ Err fault =
+    subst (λ (p : Option HeadFault). IfSome p (λ f. head_step h line ≡ Err f)) some fails in
+    ap (λ (k : Headed). head_step k (line_at 3 text)) (sym is)
+    ∙ ap (λ (l : List ℕ). head_step h l) (sym at) ∙ failed
 
 -- the heading that the lines before a line declare, which stayed as it was
-pub heading_opens : (text before : List ℕ) (n : ℕ) (h now : Headed) (fault : HeadFault) (o : Option HeadFault) (found : Option Headed) → before ≡ up_to n text → found ≡ Some h
-    → IfSome found (Opens before) → o ≡ Some fault → IfSome o (λ f. now ≡ h) → Opens (up_to n text) now
+pub heading_opens : (text before : List ℕ) (n : ℕ) (h now : Headed) (fault : HeadFault)
+    (o : Option HeadFault) (found : Option Headed) → before ≡ up_to n text → found ≡ Some h
+    → IfSome found (Opens before) → o ≡ Some fault → IfSome o (λ f. now ≡ h)
+    → Opens (up_to n text) now
 heading_opens text before n h now fault o found is there opens some same =
     let stayed : now ≡ h = subst (λ (p : Option HeadFault). IfSome p (λ f. now ≡ h)) some same in
-    let opened_h : Opens before h = subst (λ (p : Option Headed). IfSome p (Opens before)) there opens in
+    let opened_h : Opens before h =
+    subst (λ (p : Option Headed). IfSome p (Opens before)) there opens in
     subst (λ (b : List ℕ). Opens b now) is (subst (Opens before) (sym stayed) opened_h)
 
 -- and the least fault of the line after it
-pub line_fails : (text line : List ℕ) (n : ℕ) (h now : Headed) (fault : HeadFault) (o : Option HeadFault) → line ≡ line_at n text → o ≡ Some fault → IfSome o (λ f. now ≡ h)
+pub line_fails : (text line : List ℕ) (n : ℕ) (h now : Headed) (fault : HeadFault)
+    (o : Option HeadFault) → line ≡ line_at n text → o ≡ Some fault → IfSome o (λ f. now ≡ h)
     → IfSome o (λ f. head_step h line ≡ Err f) → head_step now (line_at n text) ≡ Err fault
 line_fails text line n h now fault o at some same fails =
     let stayed : now ≡ h = subst (λ (p : Option HeadFault). IfSome p (λ f. now ≡ h)) some same in
-    let failed : head_step h line ≡ Err fault = subst (λ (p : Option HeadFault). IfSome p (λ f. head_step h line ≡ Err f)) some fails in
-    ap (λ (k : Headed). head_step k (line_at n text)) stayed ∙ ap (λ (l : List ℕ). head_step h l) (sym at) ∙ failed
+    let failed : head_step h line ≡ Err fault =
+    subst (λ (p : Option HeadFault). IfSome p (λ f. head_step h line ≡ Err f)) some fails in
+    ap (λ (k : Headed). head_step k (line_at n text)) stayed
+    ∙ ap (λ (l : List ℕ). head_step h l) (sym at) ∙ failed

@@ -6,6 +6,11 @@ use Rattle.ec_trace.specs.declared.read.TheConstants.{TRACE_MAX}
 use Rattle.ec_text.specs.Inputs.{looked_at, IsReadUp}
 use Rattle.evc_explain.specs.Explains.{Explains, ExplainsText}
 
-pub whole_explained : (old left : Option (List ℕ)) (text : List ℕ) (status : Status) (before after : Outlets) → IfSome old (λ bytes. (text ≡ looked_at TRACE_MAX bytes) × IsReadUp TRACE_MAX bytes left) → ExplainsText text status before after → IfSome old (λ bytes. Explains bytes left status before after)
+pub whole_explained : (old left : Option (List ℕ)) (text : List ℕ) (status : Status)
+    (before after : Outlets)
+    → IfSome old (λ bytes. (text ≡ looked_at TRACE_MAX bytes) × IsReadUp TRACE_MAX bytes left)
+    → ExplainsText text status before after
+    → IfSome old (λ bytes. Explains bytes left status before after)
 whole_explained None left text status before after is told = tt
-whole_explained (Some bytes) left text status before after is told = inr (inl (subst (λ t. ExplainsText t status before after) is.0 told))
+whole_explained (Some bytes) left text status before after is told =
+    inr (inl (subst (λ t. ExplainsText t status before after) is.0 told))

@@ -5,6 +5,10 @@ use Rattle.ec_core.specs.declared.act.Act.TheVariants.{Go}
 use Rattle.ec_core.specs.declared.act.Entry.{Entry}
 use Rattle.ec_script.specs.Scripted.{Planned}
 use Rattle.ec_trace.specs.Recounted.{Recounted}
+use Rattle.calls_core.specs.declared.history.Action.{Action}
+use Rattle.calls_core.specs.declared.history.Action.TheVariants.{Invoke, Respond}
+use Rattle.calls_core.specs.declared.history.Event.{Event}
+use Rattle.calls_text.specs.Recordings.{Recorded}
 
 -- each act but a go begins a call
 abbrev pub is_begun_by : Act → Bool
@@ -32,7 +36,8 @@ unfoldable pub good_text : Recounted → List ℕ
 good_text t = entries_words t ++ calls_words t ++ workers_words t
 
 unfoldable pub script_workers : Planned → List ℕ
-script_workers p = codes "The script is good: " ++ decimal p.heading.setup.workers ++ codes " workers, "
+script_workers p = codes "The script is good: " ++ decimal p.heading.setup.workers
+    ++ codes " workers, "
 
 unfoldable pub script_turns : Planned → List ℕ
 script_turns p = decimal (length p.schedule) ++ codes " turns in its schedule.\n"
@@ -41,5 +46,20 @@ script_turns p = decimal (length p.schedule) ++ codes " turns in its schedule.\n
 unfoldable pub good_script : Planned → List ℕ
 good_script p = script_workers p ++ script_turns p
 
-abbrev pub good_calls : List ℕ
-good_calls = codes "The text is well formed. Whether the calls are linearizable says evc-calls check.\n"
+-- HISTORIES OF CALLS
+
+abbrev pub is_invocation : Action → Bool
+is_invocation (Invoke object op) = true
+is_invocation (Respond reply) = false
+
+-- how many calls events have, pending ones among them
+abbrev pub calls_in : List Event → ℕ
+calls_in events = count_by (λ (e : Event). is_invocation e.action) events
+
+unfoldable pub ordered_calls : Recorded → List ℕ
+ordered_calls r = codes "The calls are linearizable: " ++ decimal (calls_in r.events)
+    ++ codes " calls, "
+
+-- how many calls and workers a linearizable history has
+unfoldable pub ordered_text : Recorded → List ℕ
+ordered_text r = ordered_calls r ++ decimal r.heading.setup.workers ++ codes " workers.\n"

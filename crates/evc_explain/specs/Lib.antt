@@ -1,5 +1,10 @@
 pub mod Forms
 pub mod Seeking
-pub mod Histories
 pub mod Good
+pub mod Reasons
+pub mod Played
+pub mod GoingOn
+pub mod Said
+pub mod Judged
+pub mod Tells
 pub mod Explains

@@ -1,5 +1,6 @@
 -- Where the faulty line of a trace stands, and what is wrong with it there.
-use Rattle.std.specs.Prelude.{◌≡◌, ℕ, ◌-◌, Bool, true, false, bytes_eq, List, [], ◌++◌, Option, Err, codes}
+use Rattle.std.specs.Prelude.{◌≡◌, ℕ, ◌-◌, Bool, true, false, bytes_eq, List, [], ◌++◌, Option, Err}
+use Rattle.std.specs.Prelude.{codes}
 use Rattle.ec_heading.specs.Headed.{Headed}
 use Rattle.ec_heading.specs.Heading.{head_step}
 use Rattle.ec_heading.specs.Outline.{opened}
@@ -26,13 +27,16 @@ up_to n text = before_line n text ++ codes "run\n"
 abbrev pub follows_end : ℕ → List ℕ → Bool
 follows_end n text = bytes_eq (line_at (n - 1) text) (codes "end")
 
--- where line n of a text stands: the first and the second by their numbers; the third as a line of workers, with its least fault; one
--- after the declarations of those before it, with its least fault there; one behind `run`, and not behind `end`; and one behind `end`
+-- where line n of a text stands: the first and the second by their numbers; the third as a line of
+-- workers, with its least fault; one after the declarations of those before it, with its least
+-- fault there; one behind `run`, and not behind `end`; and one behind `end`
 abbrev pub Stands : List ℕ → ℕ → Site → Type 0
 Stands text n sites.First = n ≡ 1
 Stands text n sites.Limit = n ≡ 2
-Stands text n (sites.Workers fault) = (n ≡ 3) × (head_step (opened One 1 []) (line_at n text) ≡ Err fault)
-Stands text n (sites.Declaration h fault) = Opens (up_to n text) h.now × (head_step h.now (line_at n text) ≡ Err fault)
+Stands text n (sites.Workers fault) = (n ≡ 3)
+    × (head_step (opened One 1 []) (line_at n text) ≡ Err fault)
+Stands text n (sites.Declaration h fault) = Opens (up_to n text) h.now
+    × (head_step h.now (line_at n text) ≡ Err fault)
 Stands text n (sites.Entry h) = Opens text h.now × (follows_end n text ≡ false)
 Stands text n sites.Behind = follows_end n text ≡ true
 Stands text n (sites.Heading fault) = ⊥

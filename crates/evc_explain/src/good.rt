@@ -1,13 +1,20 @@
 //! What is said of a good text.
-ghost use Rattle.std.specs.Prelude.{◌≡◌, ◌++◌, decimal, length};
+ghost use Rattle.std.specs.Prelude.{◌≡◌, ◌++◌, IfOk, decimal, length};
 ghost use Rattle.ec_text.specs.Puts.{Puts};
-ghost use Rattle.evc_explain.specs.Good.{begins_call, calls_of, calls_words, entries_words, good_calls, good_script, good_text, script_turns, script_workers, workers_words};
+ghost use Rattle.evc_explain.specs.Good.{begins_call, calls_in, calls_of, calls_words};
+ghost use Rattle.evc_explain.specs.Good.{entries_words, good_script, good_text, is_invocation};
+ghost use Rattle.evc_explain.specs.Good.{ordered_calls, ordered_text, script_turns, script_workers};
+ghost use Rattle.evc_explain.specs.Good.{workers_words};
 ghost use Rattle.ec_script.specs.Outcome.{shown_plan};
 
+use crate::told::whole;
+use calls_core::{Action, Event};
+use calls_text::Recording;
 use ec_core::{Act, Entry, Run};
 use ec_script::Plan;
 use ec_text::Out;
 use ec_trace::Traced;
+use std::alloc::{AllocError, Global};
 use std::io::Write;
 
 /// Returns whether an entry begins a call.
@@ -63,7 +70,7 @@ fn put_calls<W: Write>(out: &mut Out<'_, W>, traced: &Traced)
 
 /// Puts that a trace is good, and how many entries, calls and workers it has.
 #[tactic(auto, unfolding(crate::specs::Good::good_text))]
-pub(crate) fn put_good<W: Write>(out: &mut Out<'_, W>, traced: &Traced)
+fn put_good<W: Write>(out: &mut Out<'_, W>, traced: &Traced)
     ensures { Puts out.old out.new (good_text traced.now) }
 {
     put_entries(out, traced);
@@ -100,16 +107,80 @@ fn put_script_turns<W: Write>(out: &mut Out<'_, W>, plan: &Plan)
 
 /// Puts that a script is good, and how many workers and turns it has.
 #[tactic(auto, unfolding(crate::specs::Good::good_script))]
-pub(crate) fn put_good_script<W: Write>(out: &mut Out<'_, W>, plan: &Plan)
+fn put_good_script<W: Write>(out: &mut Out<'_, W>, plan: &Plan)
     ensures { Puts out.old out.new (good_script (shown_plan plan.now)) }
 {
     put_script_workers(out, plan);
     put_script_turns(out, plan);
 }
 
-/// Puts that histories of calls are well formed.
-pub(crate) fn put_good_calls<W: Write>(out: &mut Out<'_, W>)
-    ensures { Puts out.old out.new good_calls }
+/// Returns whether an event is an invocation.
+fn is_invocation(event: &Event) -> bool
+    ensures { result ≡ is_invocation event.now.action }
 {
-    out.put(b"The text is well formed. Whether the calls are linearizable says evc-calls check.\n");
+    matches!(event.action, Action::Invoke(_, _))
+}
+
+/// Returns how many calls events have, pending ones among them.
+fn calls_in(events: &[Event]) -> usize
+    ensures { result ≡ calls_in events.now }
+{
+    events.iter().filter(|event| is_invocation(event)).count()
+}
+
+/// Puts that calls are linearizable, and how many they are.
+#[tactic(auto, unfolding(crate::specs::Good::ordered_calls))]
+fn put_ordered_calls<W: Write>(out: &mut Out<'_, W>, recording: &Recording)
+    ensures { Puts out.old out.new (ordered_calls recording.now) }
+{
+    out.put(b"The calls are linearizable: ");
+    out.put_number(calls_in(recording.events()) as u64);
+    out.put(b" calls, ");
+}
+
+/// Puts how many calls and workers a linearizable history has.
+#[tactic(auto, unfolding(crate::specs::Good::ordered_text))]
+fn put_ordered<W: Write>(out: &mut Out<'_, W>, recording: &Recording)
+    ensures { Puts out.old out.new (ordered_text recording.now) }
+{
+    put_ordered_calls(out, recording);
+    out.put_number(recording.heading().setup().workers() as u64);
+    out.put(b" workers.\n");
+}
+
+/// Returns that a trace is good, as bytes.
+pub(crate) fn good_bytes(alloc: Global, traced: &Traced) -> Result<Vec<u8>, AllocError>
+    ensures { IfOk result (λ bytes. bytes.items ≡ good_text traced.now) }
+{
+    let mut bytes = Vec::new(alloc);
+    let mut out = Out::new(&mut bytes);
+    put_good(&mut out, traced);
+    let done = out.finish();
+    out.into_writer();
+    whole(bytes, done)
+}
+
+/// Returns that a script is good, and what more is known of it, as bytes.
+pub(crate) fn script_bytes(alloc: Global, plan: &Plan, more: &[u8]) -> Result<Vec<u8>, AllocError>
+    ensures { IfOk result (λ bytes. bytes.items ≡ good_script (shown_plan plan.now) ++ more.now) }
+{
+    let mut bytes = Vec::new(alloc);
+    let mut out = Out::new(&mut bytes);
+    put_good_script(&mut out, plan);
+    out.put(more);
+    let done = out.finish();
+    out.into_writer();
+    whole(bytes, done)
+}
+
+/// Returns that calls are linearizable, as bytes.
+pub(crate) fn ordered_bytes(alloc: Global, recording: &Recording) -> Result<Vec<u8>, AllocError>
+    ensures { IfOk result (λ bytes. bytes.items ≡ ordered_text recording.now) }
+{
+    let mut bytes = Vec::new(alloc);
+    let mut out = Out::new(&mut bytes);
+    put_ordered(&mut out, recording);
+    let done = out.finish();
+    out.into_writer();
+    whole(bytes, done)
 }

@@ -3,9 +3,15 @@
 
 mod explaining;
 mod form;
+mod going_on;
 mod good;
-mod histories;
+mod judging;
+mod playing;
+mod reasons;
+mod round;
 mod seeking;
+mod telling;
+mod told;
 
 use crate::explaining::explain;
 use ec_text::Out;

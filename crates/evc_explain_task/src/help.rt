@@ -21,7 +21,7 @@ line as it stands, a mark under the place, what is wrong there, and how to mend 
     The acts are advance, read, await, go, ticket, put, get and hand.
 
 It shows another line that says why, if there is one, and for a wrong reply the right one. For a
-good text it says so. Whether a well-formed history of calls is linearizable says evc-calls check.";
+good text it says so: of calls that they are linearizable, of a script who has not ended.";
 
 pub(crate) const AFTER_HELP: &str = "Example:
   evc-explain my.trace

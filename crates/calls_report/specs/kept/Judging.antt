@@ -1,5 +1,5 @@
 -- How the parts of `check` end.
-use Rattle.std.specs.Prelude.{◌≡◌, ◌⊎◌, ℕ, ◌≤◌, List, length, codes}
+use Rattle.std.specs.Prelude.{◌≡◌, ℕ, List, codes}
 use Rattle.ec_text.specs.Puts.{Outgoing, Puts}
 use Rattle.calls_core.specs.declared.history.Placed.{Placed}
 use Rattle.calls_verdict.specs.declared.verdict.Refusal.{Refusal}
@@ -10,13 +10,11 @@ use Rattle.calls_text.specs.Recordings.{Recorded}
 use Rattle.calls_text.specs.Outcomes.{parts_of}
 use Rattle.calls_report.specs.declared.checking.Stop.{Stop}
 use Rattle.calls_report.specs.declared.checking.Stop.TheVariants as stops
-use Rattle.calls_report.specs.declared.checking.TheConstants.{TEXT_MAX}
 use Rattle.calls_report.specs.declared.status.Status.{Status}
 use Rattle.calls_report.specs.declared.status.Status.TheVariants as statuses
 use Rattle.calls_report.specs.Notes.{scene_of, SaysRefusal, undecided_note}
-use Rattle.calls_report.specs.Checks.{Outlets, Judged, HasOrder, IsRefused, IsOpen, history_text}
-use Rattle.calls_report.specs.Checks.{texts_of, remarks_on, AreJudged, IsJudged, ChecksText}
-use Rattle.calls_report.specs.Checks.{IsTooLarge}
+use Rattle.calls_report.specs.Checks.{Judged, HasOrder, IsRefused, IsOpen, history_text, texts_of}
+use Rattle.calls_report.specs.Checks.{remarks_on, AreJudged, IsJudged}
 
 -- the text of the history and of an order of its calls was put
 abbrev pub PutsOrder : Recorded → Outgoing → Outgoing → Type 0
@@ -47,11 +45,6 @@ abbrev pub Judges : Status → List ℕ → Outgoing → Outgoing → Outgoing �
 Judges status text old new old_notes new_notes =
     (judged : List Judged) × IsJudged status text judged old_notes new_notes
     × Puts old new (texts_of judged)
-
--- the same of a text that may be too large
-abbrev pub ChecksWhole : Status → List ℕ → Outlets → Outlets → Type 0
-ChecksWhole status text old new =
-    ((length text ≤ TEXT_MAX) × ChecksText status text old new) ⊎ IsTooLarge status text old new
 
 -- the histories of a text up to line n were judged, and their texts and the remarks on them were
 -- put; this is the rest

@@ -2,7 +2,7 @@ use Rattle.std.proofs.Common.{List, ℕ, subst, IfSome}
 use Rattle.ec_text.specs.Inputs.{IsInput}
 use Rattle.ec_text.specs.declared.input.Input.{Input}
 use Rattle.calls_report.specs.declared.checking.TheConstants.{TEXT_MAX}
-use Rattle.calls_report.specs.kept.Judging.{ChecksWhole}
+use Rattle.calls_report.specs.Checks.{ChecksWhole}
 use Rattle.calls_report.proofs.JudgingChecks.{text_checks}
 use Rattle.calls_report.proofs.checking.check.Goals as goal
 

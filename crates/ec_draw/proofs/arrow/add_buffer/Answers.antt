@@ -18,8 +18,10 @@ returns-in-Ok c =
     let b = c.args.shape.now in
     let h = c.args.run.now.entries in
     let inside = c.moves.inside in
-    let stands = subst (λ (m : Moving). IsMoving m (reverse h)) (sym c.moves.view_is) c.requires.stands in
-    let shape : inside.shape.now ≡ b = ap (λ (m : Moving). m.shape) c.moves.view_is ∙ c.requires.shape in
+    let stands = subst (λ (m : Moving). IsMoving m (reverse h)) (sym c.moves.view_is)
+    c.requires.stands in
+    let shape : inside.shape.now ≡ b = ap (λ (m : Moving). m.shape) c.moves.view_is
+    ∙ c.requires.shape in
     let of : inside.audit.shape ≡ b = stands.shape ∙ shape in
     let followed : IsFollowed t b h = record {
       declared = c.known.ensures.declared;
@@ -28,19 +30,31 @@ returns-in-Ok c =
       followed = subst (λ (z : Buffer). FollowsBuffer t z (reverse h)) of c.in-Ok.ensures.followed;
     } in
     let found : AreDeliveries t b h c.as_slice-in-Ok-2.result.now =
-    subst (AreDeliveries t b h) (sym c.as_slice-in-Ok-2.ensures.value) (subst (λ (z : Buffer). AreDeliveries t z h c.in-Ok.list.items) of c.in-Ok.ensures.list) in
-    let puts = c.as_slice.ensures.value ∙ stands.puts c.if-lacks.false ∙ ap (λ z. places moves.Put z (reverse h)) shape in
-    let gets = c.as_slice-in-Ok.ensures.value ∙ stands.gets c.if-lacks.false ∙ ap (λ z. places moves.Get z (reverse h)) shape in
-    let is = arrows_are t b c.args.window h c.as_slice.result.now c.as_slice-in-Ok.result.now c.as_slice-in-Ok-2.result.now followed found puts gets in
-    subst (λ (list : List Arrow). OnOk c.add_deliveries.result (c.add_deliveries.new.arrows.items ≡ c.args.arrows.now.items ++ list)) is c.add_deliveries.ensures
+    subst (AreDeliveries t b h) (sym c.as_slice-in-Ok-2.ensures.value)
+    (subst (λ (z : Buffer). AreDeliveries t z h c.in-Ok.list.items) of c.in-Ok.ensures.list) in
+    let puts = c.as_slice.ensures.value ∙ stands.puts c.if-lacks.false
+    ∙ ap (λ z. places moves.Put z (reverse h)) shape in
+    let gets = c.as_slice-in-Ok.ensures.value ∙ stands.gets c.if-lacks.false
+    ∙ ap (λ z. places moves.Get z (reverse h)) shape in
+    let is = arrows_are t b c.args.window h c.as_slice.result.now c.as_slice-in-Ok.result.now
+    c.as_slice-in-Ok-2.result.now followed found puts gets in
+    subst (λ (list : List Arrow). OnOk c.add_deliveries.result
+    (c.add_deliveries.new.arrows.items ≡ c.args.arrows.now.items ++ list)) is
+    c.add_deliveries.ensures
 
 pub returns-in-Err-NotFollowed : goal.returns-in-Err-NotFollowed
 returns-in-Err-NotFollowed c =
     let t = c.args.run.now.setup in
     let b = c.args.shape.now in
     let h = c.args.run.now.entries in
-    let stands = subst (λ (m : Moving). IsMoving m (reverse h)) (sym c.moves.view_is) c.requires.stands in
-    let of : c.moves.inside.audit.shape ≡ b = stands.shape ∙ ap (λ (m : Moving). m.shape) c.moves.view_is ∙ c.requires.shape in
-    let told = subst (λ (z : Buffer). IsAuditFault (buffer_rules t z) h c.in-Err-NotFollowed.field-0) of c.in-Err-NotFollowed.ensures.err in
+    let stands = subst (λ (m : Moving). IsMoving m (reverse h)) (sym c.moves.view_is)
+    c.requires.stands in
+    let of : c.moves.inside.audit.shape ≡ b = stands.shape
+    ∙ ap (λ (m : Moving). m.shape) c.moves.view_is ∙ c.requires.shape in
+    let told = subst
+    (λ (z : Buffer). IsAuditFault (buffer_rules t z) h c.in-Err-NotFollowed.field-0) of
+    c.in-Err-NotFollowed.ensures.err in
     sym (append-nil c.args.arrows.now.items)
-    ∙ ap (λ list. c.args.arrows.now.items ++ list) (arrows_none t b c.args.window h (broken_no (buffer_rules t b) h _ _ _ c.in-Err-NotFollowed.field-0-is told))
+    ∙ ap (λ list. c.args.arrows.now.items ++ list)
+    (arrows_none t b c.args.window h
+    (broken_no (buffer_rules t b) h _ _ _ c.in-Err-NotFollowed.field-0-is told))

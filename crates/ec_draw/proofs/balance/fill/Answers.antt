@@ -9,5 +9,6 @@ loop-place-preserved c =
     record {
       few = omega arith;
       within = omega arith;
-      are = fill_more c.args.heights.now.items c.loop-place.heights.items c.push.new.self.items c.loop-place._place c.args.number here was.are c.in_ok-push.ensures.items;
+      are = fill_more c.args.heights.now.items c.loop-place.heights.items c.push.new.self.items
+          c.loop-place._place c.args.number here was.are c.in_ok-push.ensures.items;
     }

@@ -8,4 +8,6 @@ invariant-loop-number l = map shown l.curves.items ≡ event_lines l.window l.ru
 
 -- those of all eventcounts, and of the sequencers so far
 abbrev pub invariant-loop-number-2 : goal.invariant-loop-number-2
-invariant-loop-number-2 l = map shown l.curves.items ≡ event_lines l.window l.run.entries (length l.run.setup.events) ++ sequencer_lines l.window l.run.entries l.number
+invariant-loop-number-2 l =
+    map shown l.curves.items ≡ event_lines l.window l.run.entries (length l.run.setup.events)
+    ++ sequencer_lines l.window l.run.entries l.number

@@ -11,7 +11,8 @@ loop-column-init c =
     record {
       is = count_here object h k n c.requires.first;
       small = (let few = c.requires.small in omega arith);
-      heights = c.in_ok-push.ensures.items ∙ ap (λ z. z ++ n ∷ []) c.new-heights.ensures.items ∙ counts_one object h k n c.requires.first;
+      heights = c.in_ok-push.ensures.items ∙ ap (λ z. z ++ n ∷ []) c.new-heights.ensures.items
+          ∙ counts_one object h k n c.requires.first;
     }
 
 pub loop-column-preserved : goal.loop-column-preserved
@@ -20,9 +21,12 @@ loop-column-preserved c =
     let h = c.args.run.now.entries in
     let k = c.args.window.from in
     let j = c.loop-column.column in
-    let step = count_step object h k j c.loop-column.count c.raised-count.result c.loop-column.invariant.is c.raised-count.ensures.value in
+    let step = count_step object h k j c.loop-column.count c.raised-count.result
+    c.loop-column.invariant.is c.raised-count.ensures.value in
     record {
       is = step;
       small = omega arith;
-      heights = c.in_ok-push-2.ensures.items ∙ counts_more object h k j _ c.loop-column.heights.items c.loop-column.invariant.heights step;
+      heights = c.in_ok-push-2.ensures.items
+          ∙ counts_more object h k j _ c.loop-column.heights.items c.loop-column.invariant.heights
+          step;
     }

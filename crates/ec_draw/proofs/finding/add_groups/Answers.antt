@@ -1,4 +1,5 @@
-use Rattle.std.proofs.Common.{rules as the_rules, List, length, map, refl, ap, sym, ◌∙◌, arith, subst, reverse}
+use Rattle.std.proofs.Common.{rules as the_rules, List, length, map, refl, ap, sym, ◌∙◌, arith}
+use Rattle.std.proofs.Common.{subst, reverse}
 use Rattle.std.proofs.lemmas.Option.{slice_get_read}
 use Rattle.std.specs.Vec.Iter.{into_iter_items}
 use Rattle.ec_heading.specs.declared.group.Group.{Group}
@@ -18,12 +19,14 @@ loop-number-init c =
     let asked = c.args.asked.now in
     let past = reverse c.args.run.now.entries in
     let gs = c.args.groups.now in
-    let R : Group → Finding → Type 0 = λ g f. FindsFor t asked.semaphores.now asked.window g f past in
+    let R : Group → Finding
+    → Type 0 = λ g f. FindsFor t asked.semaphores.now asked.window g f past in
     record {
       curves = search the_rules;
       shades = search the_rules;
       arrows = search the_rules;
-      rest = subst (λ (l : List Finding). EachFindsFrom t asked.semaphores.now asked.window gs 0 l past) (sym c.into_iter-rest.ensures.rest) (from_first R gs c.args.list.items c.requires);
+      rest = subst (λ (l : List Finding). EachFindsFrom t asked.semaphores.now asked.window gs 0 l
+          past) (sym c.into_iter-rest.ensures.rest) (from_first R gs c.args.list.items c.requires);
       long = search the_rules;
     }
 
@@ -44,11 +47,19 @@ loop-number-preserved c =
     let at = slice_get_read gs _ n g refl c.loop-number-test.true c.index-groups-number.is in
     let R : Group → Finding → Type 0 = λ k f. FindsFor t all w k f past in
     record {
-      curves = found_more (group_line all w h) gs n g (map shown c.args.found.now.curves.items) (map shown c.loop-number.found.curves.items) (map shown c.add_group.new.found.curves.items) at was.curves added.curves;
-      shades = found_more (group_shades t w h) gs n g (map seen c.args.found.now.shades.items) (map seen c.loop-number.found.shades.items) (map seen c.add_group.new.found.shades.items) at was.shades added.shades;
-      arrows = found_more (group_arrows t w h) gs n g c.args.found.now.arrows.items c.loop-number.found.arrows.items c.add_group.new.found.arrows.items at was.arrows added.arrows;
-      rest = from_next R gs n c.in-Some.finding (into_iter_items c.next.new.self) (subst (λ (l : List Finding). EachFindsFrom t all w gs n l past) taken.0 was.rest);
-      long = (let shorter = taken.1 in let longer = ap length taken.0 in let long = was.long in omega arith);
+      curves = found_more (group_line all w h) gs n g (map shown c.args.found.now.curves.items)
+          (map shown c.loop-number.found.curves.items)
+          (map shown c.add_group.new.found.curves.items) at was.curves added.curves;
+      shades = found_more (group_shades t w h) gs n g (map seen c.args.found.now.shades.items)
+          (map seen c.loop-number.found.shades.items) (map seen c.add_group.new.found.shades.items)
+          at was.shades added.shades;
+      arrows = found_more (group_arrows t w h) gs n g c.args.found.now.arrows.items
+          c.loop-number.found.arrows.items c.add_group.new.found.arrows.items at was.arrows
+          added.arrows;
+      rest = from_next R gs n c.in-Some.finding (into_iter_items c.next.new.self)
+          (subst (λ (l : List Finding). EachFindsFrom t all w gs n l past) taken.0 was.rest);
+      long = (let shorter = taken.1 in let longer = ap length taken.0 in let long = was.long in
+          omega arith);
     }
 
 pub unreachable-requires : goal.unreachable-requires
@@ -59,10 +70,15 @@ unreachable-requires c =
     let gs = c.args.groups.now in
     let n = c.loop-number.number in
     let was = c.loop-number.invariant in
-    let R : Group → Finding → Type 0 = λ k f. FindsFor t asked.semaphores.now asked.window k f past in
-    let none = nil_of (into_iter_items c.loop-number.rest) (sym was.long ∙ c.in_default.ensures.cases.0) in
-    from_some R gs n c.index-groups-number.result (subst (λ (l : List Finding). EachFindsFrom t asked.semaphores.now asked.window gs n l past) none was.rest)
-    (slice_get_read gs _ n c.index-groups-number.result refl c.loop-number-test.true c.index-groups-number.is)
+    let R : Group → Finding
+    → Type 0 = λ k f. FindsFor t asked.semaphores.now asked.window k f past in
+    let none = nil_of (into_iter_items c.loop-number.rest)
+    (sym was.long ∙ c.in_default.ensures.cases.0) in
+    from_some R gs n c.index-groups-number.result
+    (subst (λ (l : List Finding). EachFindsFrom t asked.semaphores.now asked.window gs n l past)
+    none was.rest)
+    (slice_get_read gs _ n c.index-groups-number.result refl c.loop-number-test.true
+    c.index-groups-number.is)
 
 pub add_group-requires : goal.add_group-requires
 add_group-requires c =
@@ -72,25 +88,30 @@ add_group-requires c =
     let gs = c.args.groups.now in
     let n = c.loop-number.number in
     let g = c.index-groups-number.result in
-    let R : Group → Finding → Type 0 = λ k f. FindsFor t asked.semaphores.now asked.window k f past in
+    let R : Group → Finding
+    → Type 0 = λ k f. FindsFor t asked.semaphores.now asked.window k f past in
     from_here R gs n c.in-Some.finding (into_iter_items c.next.new.self) g
-    (subst (λ (l : List Finding). EachFindsFrom t asked.semaphores.now asked.window gs n l past) c.in-Some.ensures.cases.0 c.loop-number.invariant.rest)
+    (subst (λ (l : List Finding). EachFindsFrom t asked.semaphores.now asked.window gs n l past)
+    c.in-Some.ensures.cases.0 c.loop-number.invariant.rest)
     (slice_get_read gs _ n g refl c.loop-number-test.true c.index-groups-number.is)
 
 pub returns-clause-curves : goal.returns-clause-curves
 returns-clause-curves c =
     let asked = c.args.asked.now in
-    found_all (group_line asked.semaphores.now asked.window c.args.run.now.entries) c.args.groups.now c.loop-number.number (map shown c.args.found.now.curves.items)
+    found_all (group_line asked.semaphores.now asked.window c.args.run.now.entries)
+    c.args.groups.now c.loop-number.number (map shown c.args.found.now.curves.items)
     (map shown c.loop-number.found.curves.items) (omega arith) c.loop-number.invariant.curves
 
 pub returns-clause-shades : goal.returns-clause-shades
 returns-clause-shades c =
     let asked = c.args.asked.now in
-    found_all (group_shades c.args.run.now.setup asked.window c.args.run.now.entries) c.args.groups.now c.loop-number.number (map seen c.args.found.now.shades.items)
+    found_all (group_shades c.args.run.now.setup asked.window c.args.run.now.entries)
+    c.args.groups.now c.loop-number.number (map seen c.args.found.now.shades.items)
     (map seen c.loop-number.found.shades.items) (omega arith) c.loop-number.invariant.shades
 
 pub returns-clause-arrows : goal.returns-clause-arrows
 returns-clause-arrows c =
     let asked = c.args.asked.now in
-    found_all (group_arrows c.args.run.now.setup asked.window c.args.run.now.entries) c.args.groups.now c.loop-number.number c.args.found.now.arrows.items
+    found_all (group_arrows c.args.run.now.setup asked.window c.args.run.now.entries)
+    c.args.groups.now c.loop-number.number c.args.found.now.arrows.items
     c.loop-number.found.arrows.items (omega arith) c.loop-number.invariant.arrows

@@ -11,9 +11,14 @@ use Rattle.ec_draw.proofs.finding.add_groups.Given as goal
 -- what was found of the groups so far, and what is kept of the others
 abbrev pub invariant-loop-number : goal.invariant-loop-number
 invariant-loop-number l = record {
-  curves : map shown l.found.curves.items ≡ map shown l.initial.found.curves.items ++ flat_map (group_line l.asked.semaphores.now l.asked.window l.run.entries) (take l.number l.groups);
-  shades : map seen l.found.shades.items ≡ map seen l.initial.found.shades.items ++ flat_map (group_shades l.run.setup l.asked.window l.run.entries) (take l.number l.groups);
-  arrows : l.found.arrows.items ≡ l.initial.found.arrows.items ++ flat_map (group_arrows l.run.setup l.asked.window l.run.entries) (take l.number l.groups);
-  rest : EachFindsFrom l.run.setup l.asked.semaphores.now l.asked.window l.groups l.number (into_iter_items l.rest) (reverse l.run.entries);
+  curves : map shown l.found.curves.items ≡ map shown l.initial.found.curves.items
+      ++ flat_map (group_line l.asked.semaphores.now l.asked.window l.run.entries)
+      (take l.number l.groups);
+  shades : map seen l.found.shades.items ≡ map seen l.initial.found.shades.items
+      ++ flat_map (group_shades l.run.setup l.asked.window l.run.entries) (take l.number l.groups);
+  arrows : l.found.arrows.items ≡ l.initial.found.arrows.items
+      ++ flat_map (group_arrows l.run.setup l.asked.window l.run.entries) (take l.number l.groups);
+  rest : EachFindsFrom l.run.setup l.asked.semaphores.now l.asked.window l.groups l.number
+      (into_iter_items l.rest) (reverse l.run.entries);
   long : into_iter_len l.rest ≡ length (into_iter_items l.rest);
 }

@@ -7,5 +7,6 @@ use Rattle.ec_draw.proofs.finding.opened.Given as goal
 abbrev pub invariant-loop-number : goal.invariant-loop-number
 invariant-loop-number l = record {
   long : length l.list.items ≡ l.number;
-  each : EachFirst (λ g f. FindsFor l.asked.setup.now l.asked.semaphores.now l.asked.window g f []) l.groups l.list.items l.number;
+  each : EachFirst (λ g f. FindsFor l.asked.setup.now l.asked.semaphores.now l.asked.window g f [])
+      l.groups l.list.items l.number;
 }

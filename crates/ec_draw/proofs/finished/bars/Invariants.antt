@@ -5,4 +5,5 @@ use Rattle.ec_draw.proofs.finished.bars.Given as goal
 
 -- those so far that are shown, and then those of the rest, are all
 abbrev pub invariant-loop-placed : goal.invariant-loop-placed
-invariant-loop-placed l = l.bars.items ++ filter (is_shown l.window) l.placed-iterator ≡ filter (is_shown l.window) l.initial.placed-iterator
+invariant-loop-placed l = l.bars.items ++ filter (is_shown l.window) l.placed-iterator
+    ≡ filter (is_shown l.window) l.initial.placed-iterator

@@ -1,4 +1,4 @@
-use Rattle.std.proofs.Common.{◌≡◌, ◌+◌, ◌-◌, Some, ap, sym, ◌∙◌, arith, slice_get}
+use Rattle.std.proofs.Common.{◌≡◌, ◌+◌, ◌-◌, ap, sym, ◌∙◌, arith}
 use Rattle.ec_core.specs.Counts.{past_at}
 use Rattle.ec_draw.specs.Open.{begun_at}
 use Rattle.ec_draw.proofs.Stepping.{begun_before, begun_here, begun_none, none_here}
@@ -10,7 +10,8 @@ returns-then-begins c =
     let h = c.args.run.now.entries in
     let k = c.loop-end.end - 1 in
     let next : k + 1 ≡ c.loop-end.end = omega arith in
-    sym (begun_here w h k c.in-Some.entry (sym c.in-Some.ensures) (sym c.begins.ensures ∙ c.if-begins.true)) ∙ ap (λ m. begun_at w (past_at m h)) next ∙ c.loop-end.invariant.is
+    sym (begun_here w h k c.in-Some.entry (sym c.in-Some.ensures) (sym c.begins.ensures
+    ∙ c.if-begins.true)) ∙ ap (λ m. begun_at w (past_at m h)) next ∙ c.loop-end.invariant.is
 
 pub loop-end-preserved-else-begins : goal.loop-end-preserved-else-begins
 loop-end-preserved-else-begins c =
@@ -21,13 +22,15 @@ loop-end-preserved-else-begins c =
     let low = c.loop-end.invariant.low in
     record {
       low = omega arith;
-      is = sym (begun_before w h k c.in-Some.entry (sym c.in-Some.ensures) (sym c.begins.ensures ∙ c.if-begins.false)) ∙ ap (λ m. begun_at w (past_at m h)) next ∙ c.loop-end.invariant.is;
+      is = sym (begun_before w h k c.in-Some.entry (sym c.in-Some.ensures) (sym c.begins.ensures
+          ∙ c.if-begins.false)) ∙ ap (λ m. begun_at w (past_at m h)) next ∙ c.loop-end.invariant.is;
     }
 
 pub loop-end-preserved : goal.loop-end-preserved
 loop-end-preserved c =
     let low = c.loop-end.invariant.low in
-    absurd (none_here c.args.run.now.entries (c.loop-end.end - 1) (sym c.entry.ensures ∙ c.in_default.is) (omega arith))
+    absurd (none_here c.args.run.now.entries (c.loop-end.end - 1) (sym c.entry.ensures
+    ∙ c.in_default.is) (omega arith))
 
 pub returns : goal.returns
 returns c =

@@ -1,4 +1,5 @@
-use Rattle.std.proofs.Common.{◌≡◌, ◌<◌, List, [], ◌∷◌, ◌++◌, reverse, length, length-append, append_assoc, arith, ap, sym, subst, ◌∙◌, take}
+use Rattle.std.proofs.Common.{◌≡◌, ◌<◌, List, [], ◌∷◌, ◌++◌, reverse, length, length-append}
+use Rattle.std.proofs.Common.{append_assoc, arith, ap, sym, subst, ◌∙◌}
 use Rattle.std.proofs.lemmas.Int.{clamps}
 use Rattle.std.proofs.lemmas.List.{take_all}
 use Rattle.ec_core.specs.declared.act.Entry.{Entry}
@@ -19,15 +20,22 @@ loop-entry-preserved-then-place-moment c =
     let place = was.place in
     let few : length done < c.args.moment = omega (arith, clamps) in
     let long = length-append done (x ∷ []) in
-    let order : done ++ x ∷ [] ++ rest ≡ c.args.run.now.entries = append_assoc done (x ∷ []) rest ∙ ap (λ (l : List Entry). done ++ l) (sym c.in-Some.ensures.steps) ∙ was.order in
+    let order : done ++ x ∷ [] ++ rest ≡ c.args.run.now.entries = append_assoc done (x ∷ []) rest
+    ∙ ap (λ (l : List Entry). done ++ l) (sym c.in-Some.ensures.steps) ∙ was.order in
     let all = take_all c.args.moment done (omega arith) in
     let more = take_all c.args.moment (done ++ x ∷ []) (omega arith) in
-    let stood : StandsFor c.loop-entry.world done = subst (λ (l : List Entry). StandsFor c.loop-entry.world l) all was.stands in
-    let accepted : IsAccepted t (x ∷ reverse done) = subst (IsAccepted t) (past_after done x) (accepted_until t c.args.run.now.entries (done ++ x ∷ []) rest c.known.ensures.accepted order) in
+    let stood : StandsFor c.loop-entry.world done =
+    subst (λ (l : List Entry). StandsFor c.loop-entry.world l) all was.stands in
+    let accepted : IsAccepted t (x ∷ reverse done) =
+    subst (IsAccepted t) (past_after done x)
+    (accepted_until t c.args.run.now.entries (done ++ x ∷ []) rest c.known.ensures.accepted
+    order) in
     record {
       place = omega (arith, clamps);
       order = order;
       setup = c.step-reply.ensures.setup ∙ was.setup;
       stands = subst (λ (l : List Entry). StandsFor c.step-reply.new.self l) (sym more)
-          (stands_step t c.loop-entry.world c.step-reply.new.self done x c.step-reply.result accepted was.setup (c.step-reply.ensures.answer done stood) (c.step-reply.ensures.after done stood));
+          (stands_step t c.loop-entry.world c.step-reply.new.self done x c.step-reply.result
+          accepted was.setup (c.step-reply.ensures.answer done stood)
+          (c.step-reply.ensures.after done stood));
     }

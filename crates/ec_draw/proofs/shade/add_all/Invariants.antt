@@ -5,4 +5,5 @@ use Rattle.ec_draw.proofs.shade.add_all.Given as goal
 
 -- those so far, and then the rest, are all
 abbrev pub invariant-loop-shade : goal.invariant-loop-shade
-invariant-loop-shade l = map seen l.shades.items ++ map seen (into_iter_items l.shade-iterator) ≡ map seen l.initial.shades.items ++ map seen (into_iter_items l.initial.shade-iterator)
+invariant-loop-shade l = map seen l.shades.items ++ map seen (into_iter_items l.shade-iterator)
+    ≡ map seen l.initial.shades.items ++ map seen (into_iter_items l.initial.shade-iterator)

@@ -18,14 +18,19 @@ returns-in-Ok c =
     let w = c.args.tries.window in
     let inside = c.tries.inside in
     let stands = subst (λ (z : Trying). IsTrying z past) (sym c.tries.view_is) c.requires.stands in
-    let shape : inside.shape.now ≡ d = ap (λ (z : Trying). z.shape) c.tries.view_is ∙ c.requires.shape in
+    let shape : inside.shape.now ≡ d = ap (λ (z : Trying). z.shape) c.tries.view_is
+    ∙ c.requires.shape in
     let of : inside.audit.shape ≡ d = stands.shape ∙ shape in
-    let on : inside.audit.setup ≡ t = ap (λ (z : Trying). z.audit.setup) c.tries.view_is ∙ c.requires.setup in
+    let on : inside.audit.setup ≡ t = ap (λ (z : Trying). z.audit.setup) c.tries.view_is
+    ∙ c.requires.setup in
     let list : map seen inside.shades.items ≡ shades_shown t d w past =
-    stands.shades c.if-lacks.false ∙ ap (λ (u : Tables). shades_shown u inside.shape.now inside.window past) on
-    ∙ ap (λ (z : Database). shades_shown t z inside.window past) shape ∙ ap (λ (z : Trying). shades_shown t d z.window past) c.tries.view_is in
+    stands.shades c.if-lacks.false
+    ∙ ap (λ (u : Tables). shades_shown u inside.shape.now inside.window past) on
+    ∙ ap (λ (z : Database). shades_shown t z inside.window past) shape
+    ∙ ap (λ (z : Trying). shades_shown t d z.window past) c.tries.view_is in
     let followed = subst (λ (z : Database). FollowsDatabase t z past) of c.in-Ok.ensures.followed in
-    subst (λ (l : List Shaded). OnOk c.add_all.result (map seen c.add_all.new.shades.items ≡ map seen c.args.shades.now.items ++ l))
+    subst (λ (l : List Shaded). OnOk c.add_all.result
+    (map seen c.add_all.new.shades.items ≡ map seen c.args.shades.now.items ++ l))
     (group_yes t d w h (map seen inside.shades.items) followed list) c.add_all.ensures
 
 pub returns-in-Err-NotFollowed : goal.returns-in-Err-NotFollowed
@@ -33,8 +38,14 @@ returns-in-Err-NotFollowed c =
     let t = c.args.run.now.setup in
     let d = c.args.shape.now in
     let h = c.args.run.now.entries in
-    let stands = subst (λ (z : Trying). IsTrying z (reverse h)) (sym c.tries.view_is) c.requires.stands in
-    let of : c.tries.inside.audit.shape ≡ d = stands.shape ∙ ap (λ (z : Trying). z.shape) c.tries.view_is ∙ c.requires.shape in
-    let told = subst (λ (z : Database). IsAuditFault (database_rules t z) h c.in-Err-NotFollowed.field-0) of c.in-Err-NotFollowed.ensures.err in
+    let stands = subst (λ (z : Trying). IsTrying z (reverse h)) (sym c.tries.view_is)
+    c.requires.stands in
+    let of : c.tries.inside.audit.shape ≡ d = stands.shape
+    ∙ ap (λ (z : Trying). z.shape) c.tries.view_is ∙ c.requires.shape in
+    let told = subst
+    (λ (z : Database). IsAuditFault (database_rules t z) h c.in-Err-NotFollowed.field-0) of
+    c.in-Err-NotFollowed.ensures.err in
     sym (append-nil (map seen c.args.shades.now.items))
-    ∙ ap (λ l. map seen c.args.shades.now.items ++ l) (group_no t d c.args.tries.window h (broken_no (database_rules t d) h _ _ _ c.in-Err-NotFollowed.field-0-is told))
+    ∙ ap (λ l. map seen c.args.shades.now.items ++ l)
+    (group_no t d c.args.tries.window h
+    (broken_no (database_rules t d) h _ _ _ c.in-Err-NotFollowed.field-0-is told))

@@ -6,7 +6,8 @@ use Rattle.ec_explain.proofs.looking.last_in.Given as goal
 abbrev pub invariant-loop-line : goal.invariant-loop-line
 invariant-loop-line l = record {
   few : l.number + length l.rest ≤ length l.text;
-  lasts : last_in (fits l.sought) l.number l.found (lines_of l.rest) ≡ last_in (fits l.sought) 0 None (lines_of l.text);
+  lasts : last_in (fits l.sought) l.number l.found (lines_of l.rest)
+      ≡ last_in (fits l.sought) 0 None (lines_of l.text);
 }
 
 abbrev pub decreases-loop-line : goal.decreases-loop-line

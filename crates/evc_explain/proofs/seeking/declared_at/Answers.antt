@@ -7,5 +7,7 @@ pub returns : goal.returns
 returns c = record {
   site = Declaration c.args.heading c.args.fault;
   stands = (c.requires.opens, c.requires.fails);
-  found = c.found_at.ensures ∙ ap (λ (l : List ℕ). found_at (Declaration c.args.heading c.args.fault) c.args.number l) c.line_at.ensures;
+  found = c.found_at.ensures
+      ∙ ap (λ (l : List ℕ). found_at (Declaration c.args.heading c.args.fault) c.args.number l)
+      c.line_at.ensures;
 }

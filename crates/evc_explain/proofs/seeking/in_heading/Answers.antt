@@ -7,12 +7,14 @@ pub returns-then-number-eq1 : goal.returns-then-number-eq1
 returns-then-number-eq1 c = record {
   site = First;
   stands = c.if-number-eq1.true;
-  found = c.found_at.ensures ∙ ap (λ (l : List ℕ). found_at First c.args.number l) c.line_at.ensures;
+  found = c.found_at.ensures
+      ∙ ap (λ (l : List ℕ). found_at First c.args.number l) c.line_at.ensures;
 }
 
 pub returns-then-number-eq2 : goal.returns-then-number-eq2
 returns-then-number-eq2 c = record {
   site = Limit;
   stands = c.if-number-eq2.true;
-  found = c.found_at-then-number-eq2.ensures ∙ ap (λ (l : List ℕ). found_at Limit c.args.number l) c.line_at-then-number-eq2.ensures;
+  found = c.found_at-then-number-eq2.ensures
+      ∙ ap (λ (l : List ℕ). found_at Limit c.args.number l) c.line_at-then-number-eq2.ensures;
 }

@@ -7,5 +7,6 @@ pub returns : goal.returns
 returns c = record {
   site = Entry c.args.heading;
   stands = (c.requires, sym c.follows_end.ensures ∙ c.if-follows_end.false);
-  found = c.found_at-2.ensures ∙ ap (λ (l : List ℕ). found_at (Entry c.args.heading) c.args.number l) c.line_at-line.ensures;
+  found = c.found_at-2.ensures
+      ∙ ap (λ (l : List ℕ). found_at (Entry c.args.heading) c.args.number l) c.line_at-line.ensures;
 }

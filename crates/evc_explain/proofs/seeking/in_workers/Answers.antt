@@ -11,6 +11,12 @@ returns-in-Some-2 c =
     let one : c.in-Some.limit ≡ 1 = cc in
     record {
       site = Workers c.in-Some-2.fault;
-      stands = (refl, workers_fail c.args.text.now c.line_at-line.result.now _ c.in-Some-2.fault _ (c.in_ok-heading.ensures ∙ ap (λ (n : ℕ). opened One n []) one) c.line_at-line.ensures c.in-Some-2.is c.in_ok-fault.ensures.fault);
-      found = c.found_at-in-Some-2.ensures ∙ ap (λ (l : List ℕ). found_at (Workers c.in-Some-2.fault) 3 l) c.line_at-line.ensures;
+      stands = (
+        refl,
+        workers_fail c.args.text.now c.line_at-line.result.now _ c.in-Some-2.fault _
+            (c.in_ok-heading.ensures ∙ ap (λ (n : ℕ). opened One n []) one) c.line_at-line.ensures
+            c.in-Some-2.is c.in_ok-fault.ensures.fault,
+      );
+      found = c.found_at-in-Some-2.ensures
+          ∙ ap (λ (l : List ℕ). found_at (Workers c.in-Some-2.fault) 3 l) c.line_at-line.ensures;
     }

@@ -19,7 +19,9 @@ returns c = λ start past at op was.
       record {
         shape = audited.0 ∙ inside.shape;
         audit = audited.2;
-        puts = λ ok. places_next moves.Put b x past c.args.place c.self.inside.puts.items _ at (inside.puts (put.before (got.before ok))) (put.noted (got.before ok));
-        gets = λ ok. places_next moves.Get b x past c.args.place c.self.inside.gets.items _ at (inside.gets (put.before (got.before ok))) (got.noted ok);
+        puts = λ ok. places_next moves.Put b x past c.args.place c.self.inside.puts.items _ at
+            (inside.puts (put.before (got.before ok))) (put.noted (got.before ok));
+        gets = λ ok. places_next moves.Get b x past c.args.place c.self.inside.gets.items _ at
+            (inside.gets (put.before (got.before ok))) (got.noted ok);
       },
     ))

@@ -8,5 +8,7 @@ use Rattle.ec_draw.proofs.balance.Course.follows.Goals as goal
 pub returns : goal.returns
 returns c =
     let past = reverse c.args.run.now.entries in
-    let inside = follow_by (use_rules c.self.inside.audit.shape) past (is_ok c.balance.result) c.balance.ensures.ok in
-    c.is_ok.ensures.value ∙ inside ∙ ap (λ (z : Course). follows (use_rules z.audit.shape) past) c.self.view_is
+    let inside = follow_by (use_rules c.self.inside.audit.shape) past (is_ok c.balance.result)
+    c.balance.ensures.ok in
+    c.is_ok.ensures.value ∙ inside
+    ∙ ap (λ (z : Course). follows (use_rules z.audit.shape) past) c.self.view_is

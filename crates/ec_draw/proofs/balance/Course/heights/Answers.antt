@@ -13,8 +13,11 @@ returns c =
     let inside = c.self.inside in
     let stands = subst (λ (z : Course). IsCourse z past) (sym c.self.view_is) c.requires.stands in
     let shape = subst (λ (z : Course). z.audit.shape ≡ s) (sym c.self.view_is) c.requires.shape in
-    let few = subst (λ (n : ℕ). n ≤ INITIAL_MAX) c.initial-initial.ensures.value c.initial-initial.ensures.small in
-    let small = small_run c.args.run.now.setup s past few c.known.ensures.declared c.known.ensures.accepted in
-    course_last inside.audit inside.window s past c.len.result c.left.result inside.heights.items _ shape stands.counted (c.len.ensures ∙ sym (length-reverse h))
+    let few = subst (λ (n : ℕ). n ≤ INITIAL_MAX) c.initial-initial.ensures.value
+    c.initial-initial.ensures.small in
+    let small = small_run c.args.run.now.setup s past few c.known.ensures.declared
+    c.known.ensures.accepted in
+    course_last inside.audit inside.window s past c.len.result c.left.result inside.heights.items _
+    shape stands.counted (c.len.ensures ∙ sym (length-reverse h))
     (stands.heights c.if-lacks.false) small c.left.ensures c.in_ok-pad.ensures
     ∙ ap (λ (z : Course). lefts s z.window past) c.self.view_is

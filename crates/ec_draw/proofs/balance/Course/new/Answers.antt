@@ -5,5 +5,11 @@ use Rattle.ec_draw.proofs.balance.Course.new.Goals as goal
 pub returns-clause-first : goal.returns-clause-first
 returns-clause-first c = record {
   counted = c.new.ensures.first;
-  heights = λ ok small. course_first (record { audit = c.new.result; window = c.args.window; heights = c.new-2.result.items; lacks = false }) c.new.ensures.first c.new-2.ensures.items;
+  heights = λ ok small. course_first
+      (record {
+        audit = c.new.result;
+        window = c.args.window;
+        heights = c.new-2.result.items;
+        lacks = false;
+      }) c.new.ensures.first c.new-2.ensures.items;
 }

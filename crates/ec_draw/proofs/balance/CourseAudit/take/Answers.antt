@@ -13,7 +13,9 @@ returns c = λ start past at op was.
       counted.0 ∙ ap (λ (z : Course). z.audit.shape) c.self.view_is ∙ was.1,
       record {
         counted = counted.1;
-        heights = λ ok small. course_next c.self.inside.audit c.take.new.self c.self.inside.window c.args.entry.now past c.args.place c.left.result c.self.inside.heights.items _ counted.0
-            inside.counted counted.1 at (inside.heights (added.before ok)) small c.left.ensures (added.added ok);
+        heights = λ ok small. course_next c.self.inside.audit c.take.new.self c.self.inside.window
+            c.args.entry.now past c.args.place c.left.result c.self.inside.heights.items _ counted.0
+            inside.counted counted.1 at (inside.heights (added.before ok)) small c.left.ensures
+            (added.added ok);
       },
     ))

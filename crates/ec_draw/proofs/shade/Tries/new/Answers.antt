@@ -8,5 +8,6 @@ returns-clause-first c = record {
   shape = c.new.ensures.shape;
   audit = c.new.ensures.first;
   starts = starts_first c.new.result.setup c.args.shape.now c.no_starts.result c.no_starts.ensures;
-  shades = λ ok. ap (map seen) c.new-2.ensures.items ∙ shades_first c.new.result.setup c.args.shape.now c.args.window;
+  shades = λ ok. ap (map seen) c.new-2.ensures.items
+      ∙ shades_first c.new.result.setup c.args.shape.now c.args.window;
 }

@@ -15,9 +15,11 @@ returns c = λ start past at op was.
     let d = c.self.inside.shape.now in
     let x = c.args.entry.now in
     let audited = c.take.ensures old past at op (refl, refl, inside.audit) in
-    let finished = c.finished-finished.ensures past inside.audit ∙ ap (λ z. length (block (database_rules old.setup z x.worker) x.worker past)) inside.shape in
+    let finished = c.finished-finished.ensures past inside.audit
+    ∙ ap (λ z. length (block (database_rules old.setup z x.worker) x.worker past)) inside.shape in
     let small = subst (λ (n : ℕ). n < 16) c.get.ensures.value c.get.ensures.small in
-    let starts = starts_next old.setup d x past c.finished-finished.result c.args.place c.self.inside.starts small at finished inside.starts in
+    let starts = starts_next old.setup d x past c.finished-finished.result c.args.place
+    c.self.inside.starts small at finished inside.starts in
     let added = c.lacks_after.ensures in (
       ap (λ (z : Trying). z.shape) c.self.view_is ∙ was.0,
       audited.1 ∙ ap (λ (z : Trying). z.audit.setup) c.self.view_is ∙ was.1,
@@ -25,7 +27,13 @@ returns c = λ start past at op was.
       record {
         shape = audited.0 ∙ inside.shape;
         audit = audited.2;
-        starts = subst (λ (u : Tables). AreStarts u d c.note_start.new.starts (x ∷ past)) (sym audited.1) (subst (λ (ks : List ℕ). AreStarts old.setup d ks (x ∷ past)) (sym c.note_start.ensures) starts);
-        shades = λ ok. tries_next old new d c.self.inside.window x past c.found-before.result _ _ _ _ _ _ small c.get.ensures.value at inside.shape audited.0 audited.1 inside.audit audited.2 c.found-before.ensures inside.starts (inside.shades (added.before ok)) c.start.ensures (added.added ok);
+        starts = subst (λ (u : Tables). AreStarts u d c.note_start.new.starts (x ∷ past))
+            (sym audited.1)
+            (subst (λ (ks : List ℕ). AreStarts old.setup d ks (x ∷ past)) (sym c.note_start.ensures)
+            starts);
+        shades = λ ok. tries_next old new d c.self.inside.window x past c.found-before.result _ _ _
+            _ _ _ small c.get.ensures.value at inside.shape audited.0 audited.1 inside.audit
+            audited.2 c.found-before.ensures inside.starts (inside.shades (added.before ok))
+            c.start.ensures (added.added ok);
       },
     ))

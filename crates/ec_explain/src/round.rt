@@ -1,0 +1,211 @@
+//! What a read or an await has read in its round.
+ghost use Rattle.std.specs.Prelude.{◌≡◌, ◌==◌, ◌++◌, ◌∷◌, [], List, IfOk, OnOk, Ok, length};
+ghost use Rattle.std.specs.Prelude.{option_to_list, reverse};
+ghost use Rattle.ec_core.specs.declared.act.Entry.{Entry};
+ghost use Rattle.ec_core.specs.Acceptance.{answer_of};
+ghost use Rattle.ec_core.specs.Calls.{is_go};
+ghost use Rattle.ec_core.specs.Rounds.{event_or};
+ghost use Rattle.ec_core.specs.Standing.{StandsFor};
+ghost use Rattle.ec_explain.specs.Rounds.{is_in_round, kept, kept_by, look_at, looks_so_far};
+ghost use Rattle.ec_explain.specs.Rounds.{looks_with, next_look};
+
+use ec_core::{Act, Entry, Run, World};
+use ec_count::{EventId, WorkerId};
+use std::alloc::{AllocError, Global};
+
+/// What an entry found that read a component.
+#[derive(Clone, Copy, Debug, PartialEq, Eq)]
+pub struct Look {
+    /// The number of the component, from 0.
+    pub component: usize,
+    /// What it had counted.
+    pub number: u64,
+    /// Who signalled it.
+    pub signaller: Option<WorkerId>,
+    /// The position of the entry in the history.
+    pub position: usize,
+    /// The total of the eventcount.
+    pub total: u64,
+}
+
+/// Returns the eventcount that an act names, and the first one for an act that names none.
+pub fn event_or(op: Act) -> EventId
+    ensures { result ≡ event_or op }
+{
+    match op {
+        Act::Advance(event) | Act::Read(event) | Act::Await(event, _) => event,
+        Act::Go | Act::Ticket(_) | Act::Put(_, _) | Act::Get(_) | Act::Hand(_, _) => {
+            EventId::new(0).unwrap()
+        }
+    }
+}
+
+/// Returns what an entry finds in a world that reads a component.
+fn look_at(world: &World, event: EventId, component: usize, position: usize) -> Look
+    ensures { (h : List Entry) → StandsFor world.now h → position ≡ length (reverse h)
+        → result ≡ look_at world.now.setup event component (reverse h) }
+{
+    Look {
+        component,
+        number: world.component(event, component).unwrap_or(0),
+        signaller: world.signaller(event, component),
+        position,
+        total: world.total(event).unwrap_or(0),
+    }
+}
+
+/// Returns what an act of a worker finds in a world.
+fn next_look(world: &World, worker: WorkerId, act: &Act, position: usize) -> Option<Look>
+    ensures { (h : List Entry) → StandsFor world.now h → position ≡ length (reverse h)
+        → result ≡ next_look world.now.setup worker (reverse h) act.now }
+{
+    match *act {
+        Act::Go => match world.under_way(worker) {
+            Some(call) => {
+                let event = event_or(call.op());
+                Some(look_at(world, event, call.index(), position))
+            }
+            None => None,
+        },
+        Act::Advance(_)
+        | Act::Read(_)
+        | Act::Await(_, _)
+        | Act::Ticket(_)
+        | Act::Put(_, _)
+        | Act::Get(_)
+        | Act::Hand(_, _) => Some(look_at(world, event_or(*act), 0, position)),
+    }
+}
+
+/// Returns whether a worker is within a round.
+fn is_in_round(world: &World, worker: WorkerId) -> bool
+    ensures { (h : List Entry) → StandsFor world.now h
+        → result ≡ is_in_round world.now.setup worker (reverse h) }
+{
+    match world.under_way(worker) {
+        Some(call) => call.index() > 0,
+        None => false,
+    }
+}
+
+/// Returns whether an act goes on with a call.
+fn is_go(act: &Act) -> bool
+    ensures { result ≡ is_go act.now }
+{
+    matches!(*act, Act::Go)
+}
+
+/// Drops what was found before an act that begins a call.
+fn begin_by(looks: &mut Vec<Look>, act: &Act)
+    ensures { looks.new.items ≡ kept_by act.now looks.old.items }
+{
+    if !is_go(act) {
+        looks.clear();
+    }
+}
+
+/// Adds what an act found, if it found something.
+fn add_look(looks: &mut Vec<Look>, look: Option<Look>) -> Result<(), AllocError>
+    ensures { OnOk result (looks.new.items ≡ looks.old.items ++ option_to_list look) }
+{
+    match look {
+        Some(look) => looks.extend_from_slice(&[look]),
+        None => Ok(()),
+    }
+}
+
+/// Keeps what an act found, if its round goes on.
+fn keep(
+    looks: &mut Vec<Look>,
+    goes_on: bool,
+    act: &Act,
+    look: Option<Look>,
+) -> Result<(), AllocError>
+    ensures { OnOk result (looks.new.items ≡ kept goes_on act.now look looks.old.items) }
+{
+    if !goes_on {
+        looks.clear();
+        return Ok(());
+    }
+    begin_by(looks, act);
+    add_look(looks, look)
+}
+
+/// Returns whether an entry is one of a worker.
+fn is_of(entry: &Entry, worker: WorkerId) -> bool
+    ensures { result ≡ (entry.now.worker == worker) }
+{
+    entry.worker.get() == worker.get()
+}
+
+/// Makes the step of an entry.
+fn enter(world: &mut World, entry: &Entry)
+    ensures stands { (h : List Entry) → StandsFor world.old h
+        → answer_of world.old.setup (reverse h) entry.now.worker entry.now.act ≡ Ok entry.now.reply
+        → StandsFor world.new (h ++ entry.now ∷ []) }
+    ensures setup { world.new.setup ≡ world.old.setup }
+{
+    let _reply = world.step(entry.worker, entry.act);
+}
+
+/// Makes the step of an entry, and keeps what it finds, if it is one of this worker.
+fn take(
+    looks: &mut Vec<Look>,
+    world: &mut World,
+    worker: WorkerId,
+    entry: &Entry,
+    position: usize,
+) -> Result<(), AllocError>
+    ensures stands { (h : List Entry) → StandsFor world.old h
+        → answer_of world.old.setup (reverse h) entry.now.worker entry.now.act ≡ Ok entry.now.reply
+        → StandsFor world.new (h ++ entry.now ∷ []) }
+    ensures setup { world.new.setup ≡ world.old.setup }
+    ensures looks { (h : List Entry) → StandsFor world.old h
+        → answer_of world.old.setup (reverse h) entry.now.worker entry.now.act ≡ Ok entry.now.reply
+        → position ≡ length (reverse h)
+        → looks.old.items ≡ looks_so_far world.old.setup worker (reverse h)
+        → OnOk result (looks.new.items
+        ≡ looks_so_far world.old.setup worker (entry.now ∷ reverse h)) }
+{
+    if !is_of(entry, worker) {
+        enter(world, entry);
+        return Ok(());
+    }
+    let look = next_look(world, worker, &entry.act, position);
+    enter(world, entry);
+    let goes_on = is_in_round(world, worker);
+    keep(looks, goes_on, &entry.act, look)
+}
+
+/// Returns what the round of a worker has found at the end of a run.
+fn looks_so_far(alloc: Global, run: &Run, worker: WorkerId) -> Result<Vec<Look>, AllocError>
+    ensures { IfOk result (λ looks. looks.items ≡ looks_so_far run.now.setup worker
+        (reverse run.now.entries)) }
+{
+    run.known();
+    let mut world = World::open(run.setup().copy());
+    let mut looks = Vec::new(alloc);
+    for position in 0..run.len() {
+        if let Some(entry) = run.entry(position) {
+            take(&mut looks, &mut world, worker, &entry, position)?;
+        }
+    }
+    Ok(looks)
+}
+
+/// Returns what the round of a worker has found with its act at the end of a run: a read or an
+/// await, or a go of one.
+pub fn looks_with(
+    alloc: Global,
+    run: &Run,
+    worker: WorkerId,
+    act: &Act,
+) -> Result<Vec<Look>, AllocError>
+    ensures { IfOk result (λ looks. looks.items ≡ looks_with run.now.setup worker
+        (reverse run.now.entries) act.now) }
+{
+    let mut looks = looks_so_far(alloc, run, worker)?;
+    let look = next_look(run.world(), worker, act, run.len());
+    keep(&mut looks, true, act, look)?;
+    Ok(looks)
+}
