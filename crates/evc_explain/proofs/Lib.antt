@@ -1,3 +1,4 @@
 mod Places
 mod Histories
+mod Continuing
 mod Whole

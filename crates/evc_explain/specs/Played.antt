@@ -3,7 +3,7 @@ use Rattle.std.specs.Prelude.{◌≡◌, ℕ, ◌+◌, ◌==◌, ◌&&◌, nat_l
 use Rattle.std.specs.Prelude.{◌∷◌, ◌++◌}
 use Rattle.std.specs.Prelude.{reverse, codes, decimal, Option, Some, None, if◌then◌else◌}
 use Rattle.std.specs.Option.{option_and_then}
-use Rattle.std.specs.List.{list_any, list_all}
+use Rattle.std.specs.List.{list_any}
 use Rattle.ec_count.specs.Tables.{Tables}
 use Rattle.ec_count.specs.declared.target.Target.TheVariants.{Worker, Event}
 use Rattle.ec_core.specs.declared.act.Act.{Act}
@@ -109,7 +109,7 @@ goes_on _ = false
 
 -- whether some wait, and no other can go on
 abbrev pub is_deadlock : List End → Bool
-is_deadlock es = list_any is_waiting es && list_all (λ e. not (goes_on e)) es
+is_deadlock es = list_any is_waiting es && not (list_any goes_on es)
 
 abbrev pub deadlock_text : List End → List ℕ
 deadlock_text es =

@@ -1,12 +1,11 @@
 //! What a script comes to if its workers go on in turn after its schedule.
-ghost use Rattle.std.specs.Prelude.{◌≡◌, ℕ, ◌≤◌, ◌+◌, ◌<◌, List, IfOk, IfSome, OnOk, length, not};
-ghost use Rattle.std.specs.List.{All, list_all, list_any};
+ghost use Rattle.std.specs.Prelude.{◌≡◌, ℕ, ◌≤◌, ◌+◌, ◌<◌, List, IfOk, IfSome, OnOk, length};
+ghost use Rattle.std.specs.List.{All, list_all};
 ghost use Rattle.ec_runner.specs.Reported.{IsReport};
 ghost use Rattle.ec_text.specs.Puts.{Puts};
-ghost use Rattle.evc_explain.specs.Played.{goes_on};
 ghost use Rattle.evc_explain.specs.GoingOn.{AreLeft, Continues, SaysBeyond, come_text, is_over};
 
-use crate::playing::{End, ends_of, goes_on, put_ends};
+use crate::playing::{End, any_goes_on, ends_of, put_ends};
 use crate::told::whole;
 use ec_count::WorkerId;
 use ec_heading::Heading;
@@ -85,13 +84,6 @@ fn play_or_cut(alloc: Global, plan: &mut Plan, first: usize) -> Result<Option<Re
     }
 }
 
-/// Returns whether no worker can go on.
-fn is_still(ends: &[End]) -> bool
-    ensures { result ≡ not (list_any goes_on ends.now) }
-{
-    !ends.iter().any(|end| goes_on(end))
-}
-
 /// Returns how the workers are left in the end if they go on in turn after the schedule of a script,
 /// if that is found.
 ///
@@ -109,7 +101,7 @@ fn come_to(alloc: Global, plan: &mut Plan) -> Result<Option<Vec<End>>, AllocErro
         if let Some(report) = play_or_cut(alloc, plan, first)? {
             let outcomes = report.outcomes.as_slice();
             let ends = ends_of(alloc, &report.run, plan.schedule.as_slice(), outcomes)?;
-            if is_still(ends.as_slice()) {
+            if !any_goes_on(ends.as_slice()) {
                 return Ok(Some(ends));
             }
             if plan.schedule.len() > TURNS_MAX {

@@ -1,5 +1,6 @@
 //! What is said of a script whose schedule was played.
 ghost use Rattle.std.specs.Prelude.{◌≡◌, ◌++◌, ◌≤◌, ◌+◌, IfOk, OnOk, length, reverse};
+ghost use Rattle.std.specs.List.{list_any};
 ghost use Rattle.ec_count.specs.declared.target.Target.TheVariants.{Worker};
 ghost use Rattle.ec_heading.specs.Spelling.{word_of};
 ghost use Rattle.ec_text.specs.Puts.{Puts};
@@ -297,7 +298,7 @@ fn is_waiting(end: &End) -> bool
 }
 
 /// Returns whether a worker can go on.
-pub(crate) fn goes_on(end: &End) -> bool
+fn goes_on(end: &End) -> bool
     ensures { result ≡ goes_on end.now }
 {
     match end {
@@ -306,11 +307,25 @@ pub(crate) fn goes_on(end: &End) -> bool
     }
 }
 
+/// Returns whether some worker waits.
+fn any_waits(ends: &[End]) -> bool
+    ensures { result ≡ list_any is_waiting ends.now }
+{
+    ends.iter().any(|end| is_waiting(end))
+}
+
+/// Returns whether some worker can go on.
+pub(crate) fn any_goes_on(ends: &[End]) -> bool
+    ensures { result ≡ list_any goes_on ends.now }
+{
+    ends.iter().any(|end| goes_on(end))
+}
+
 /// Returns whether some workers wait, and no other can go on.
 fn is_deadlock(ends: &[End]) -> bool
     ensures { result ≡ is_deadlock ends.now }
 {
-    ends.iter().any(|end| is_waiting(end)) && ends.iter().all(|end| !goes_on(end))
+    any_waits(ends) && !any_goes_on(ends)
 }
 
 /// Puts that no worker can go on, if it is so.
