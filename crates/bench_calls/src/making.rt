@@ -33,7 +33,7 @@ impl Sort {
         }
     }
 
-    /// The one object.
+    /// Returns the one object.
     pub fn kinds(self, alloc: Global) -> Result<Vec<Kind>, AllocError> {
         let kind = match self {
             Sort::Counts => Kind::Eventcount(0),
@@ -48,7 +48,7 @@ impl Sort {
     }
 }
 
-/// The next of some numbers that look like chance.
+/// Returns the next of some numbers that look like chance.
 fn next(seed: u64) -> u64 {
     seed.wrapping_mul(6364136223846793005)
         .wrapping_add(1442695040888963407)

@@ -20,7 +20,7 @@ pub(crate) trait Steps {
     fn make(&mut self, worker: WorkerId, act: Act) -> Option<u64>;
 }
 
-/// The number of a reply, 0 where it has none.
+/// Returns the number of a reply, 0 if it has none.
 fn number_of(reply: Reply) -> u64 {
     match reply {
         Reply::Number(n) => n,
@@ -40,7 +40,7 @@ impl Steps for Run {
     }
 }
 
-/// One round: an advance, a read of four components, and a ticket.
+/// Returns one round: an advance, a read of four components, and a ticket.
 fn round<S: Steps>(steps: &mut S, objects: &Objects, worker: WorkerId) -> Option<u64> {
     steps.make(worker, Act::Advance(objects.event))?;
     steps.make(worker, Act::Read(objects.event))?;

@@ -12,7 +12,7 @@ use std::alloc::{AllocError, Global};
 use std::process::ExitCode;
 use std::{env, io};
 
-/// The steps of a world.
+/// Returns the steps of a world.
 fn on_world(objects: Objects, steps: u64) -> Option<Sums> {
     let mut world = World::open(objects.setup.copy());
     let told = many(&mut world, &objects, steps)?;
@@ -23,7 +23,7 @@ fn on_world(objects: Objects, steps: u64) -> Option<Sums> {
     })
 }
 
-/// The steps of a recorded run.
+/// Returns the steps of a recorded run.
 fn on_run(alloc: Global, objects: Objects, steps: u64) -> Option<Sums> {
     let mut run = Run::open(alloc, objects.setup.copy()).ok()?;
     let told = many(&mut run, &objects, steps)?;

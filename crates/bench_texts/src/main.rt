@@ -13,7 +13,7 @@ use std::{env, io};
 /// How often a script is parsed.
 const TIMES: u64 = 64;
 
-/// Whether a text is a script, as often as that.
+/// Returns whether a text is a script, as often as that.
 fn parses(alloc: Global, text: &[u8]) -> bool {
     for _ in 0..TIMES {
         if parse(alloc, text).is_err() {

@@ -2,17 +2,18 @@
 ghost use Rattle.calls_counts.specs.Laws.{AFaultLeavesNoOrder, EveryHistoryIsDecided};
 ghost use Rattle.calls_counts.specs.Laws.{AMonitorAgrees};
 
-/// A history that shows a fault has no linearization.
+/// States that a history that shows a fault has no linearization.
 pub fn a_fault_leaves_no_order()
     ensures { AFaultLeavesNoOrder }
 {}
 
-/// Every history has a linearization, or shows a fault.
+/// States that every history has a linearization, or shows a fault.
 pub fn every_history_is_decided()
     ensures { EveryHistoryIsDecided }
 {}
 
-/// A monitor refuses the event that `decide` names as the first faulty one, and none before it.
+/// States that a monitor refuses the event that `decide` names as the first faulty one, and none
+/// before it.
 pub fn a_monitor_agrees()
     ensures { AMonitorAgrees }
 {}

@@ -30,7 +30,7 @@ pub enum Refusal {
     Units(calls_semaphores::Fault),
 }
 
-/// Whether a monitor with so many pending calls has room for one that an event begins.
+/// Returns whether a monitor with so many pending calls has room for one that an event begins.
 fn has_room(action: Action, pending: usize) -> bool
     ensures { IsTrue result ↔ HasRoom action pending }
 {
@@ -40,7 +40,7 @@ fn has_room(action: Action, pending: usize) -> bool
     }
 }
 
-/// Whether an eventcount's monitor can take in an event.
+/// Returns whether an eventcount's monitor can take in an event.
 fn has_room_to_count(monitor: &calls_counts::Monitor, action: Action) -> bool
     ensures { IsTrue result ↔ RoomFor (Count monitor.now) action }
 {
@@ -64,7 +64,7 @@ impl Watch {
         }
     }
 
-    /// Whether there is room for what an event adds.
+    /// Returns whether there is room for what an event adds.
     pub(crate) fn has_room(&self, action: Action) -> bool
         ensures { IsTrue result ↔ RoomFor self.now action }
     {

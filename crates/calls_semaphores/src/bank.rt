@@ -53,7 +53,7 @@ impl Bank {
         }
     }
 
-    /// Whether semaphore `i` has a unit.
+    /// Returns whether semaphore `i` has a unit.
     fn has_unit(&self, i: usize) -> bool
         ensures { IsTrue result ↔ 0 < units_left self.now i }
     {

@@ -1,12 +1,12 @@
 //! Theorems about every history of a bank, each the contract of a function that does nothing.
 ghost use Rattle.calls_semaphores.specs.Laws.{AFaultLeavesNoOrder, EveryHistoryIsDecided};
 
-/// A history that shows a fault has no linearization.
+/// States that a history that shows a fault has no linearization.
 pub fn a_fault_leaves_no_order()
     ensures { AFaultLeavesNoOrder }
 {}
 
-/// Every history has a linearization or shows a fault.
+/// States that every history has a linearization or shows a fault.
 pub fn every_history_is_decided()
     ensures { EveryHistoryIsDecided }
 {}

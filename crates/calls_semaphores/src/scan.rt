@@ -35,14 +35,14 @@ pub(crate) struct Scan {
     pub(crate) end: usize,
 }
 
-/// Whether this is a v.
+/// Returns whether this is a v.
 fn is_v(op: Op) -> bool
     ensures { result ≡ is_v op }
 {
     matches!(op, Op::V(_))
 }
 
-/// The call that an invocation begins.
+/// Returns the call that an invocation begins.
 pub(crate) fn invoked_by(event: Event, object: usize, op: Op) -> PendingCall
     ensures { result ≡ invoked_by event object op }
 {
@@ -54,7 +54,7 @@ pub(crate) fn invoked_by(event: Event, object: usize, op: Op) -> PendingCall
     }
 }
 
-/// The call that a response ends.
+/// Returns the call that a response ends.
 pub(crate) fn completion(last: usize, reply: Reply, pending: PendingCall) -> Call
     ensures { result ≡ completion last reply pending }
 {

@@ -1,12 +1,12 @@
 //! Theorems of every history of tickets, each the contract of a function that does nothing.
 ghost use Rattle.calls_tickets.specs.Laws.{AFaultLeavesNoOrder, EveryHistoryIsDecided};
 
-/// A history that shows a fault has no linearization.
+/// States that a history that shows a fault has no linearization.
 pub fn a_fault_leaves_no_order()
     ensures { AFaultLeavesNoOrder }
 {}
 
-/// Each history has a linearization or shows a fault.
+/// States that each history has a linearization or shows a fault.
 pub fn every_history_is_decided()
     ensures { EveryHistoryIsDecided }
 {}

@@ -91,7 +91,7 @@ impl Monitor {
         }
     }
 
-    /// Whether a ticket whose `noted` is this may return `n`. Then that number is no longer
+    /// Returns whether a ticket whose `noted` is this may return `n`. Then that number is no longer
     /// missing.
     fn take(&mut self, n: usize, noted: usize) -> bool
         requires few { array_vec_len self.old.pending ≤ WORKERS }

@@ -66,7 +66,7 @@ pub fn hole_index(holes: &[usize], n: usize) -> Option<usize>
     None
 }
 
-/// Whether there is a pending ticket for each missing number, in turn, that may return it.
+/// Returns whether there is a pending ticket for each missing number, in turn, that may return it.
 pub fn are_paired(holes: &[usize], pending: &[PendingTicket]) -> bool
     ensures { IsPaired holes.now pending.now result }
 {

@@ -92,9 +92,8 @@ impl Recorded {
         tickets.decide(alloc)
     }
 
-    /// Whether a ticket with the greatest number `noted` at its invocation may return `n`. Then
-    /// that
-    /// number is no longer missing.
+    /// Returns whether a ticket with the greatest number `noted` at its invocation may return `n`.
+    /// Then that number is no longer missing.
     fn take(&mut self, n: usize, noted: usize) -> Result<bool, AllocError>
         ensures pending { self.new.pending.items ≡ self.old.pending.items }
         ensures done { self.new.done.items ≡ self.old.done.items }

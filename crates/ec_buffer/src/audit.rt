@@ -16,7 +16,7 @@ use ec_count::{CellId, Setup, WorkerId};
 use std::alloc::{AllocError, Global};
 use std::marker::Model;
 
-/// The place of a cell in the buffer, counted from 0.
+/// Returns the place of a cell in the buffer, counted from 0.
 fn place_of(shape: &BufferShape, cell: CellId) -> Option<usize>
     ensures value { result ≡ place_of shape.now cell }
     ensures few { IfSome result (λ place. place < 256) }
@@ -143,7 +143,7 @@ impl<'a> Audit for DeliveryAudit<'a> {
 }
 
 impl<'a> DeliveryAudit<'a> {
-    /// Before the first entry of a run on this setup. It takes no memory.
+    /// Makes the audit before the first entry of a run on this setup. It takes no memory.
     pub fn new(alloc: Global, shape: &'a BufferShape, setup: &'a Setup) -> Self
         ensures shape { result.shape ≡ shape.now }
         ensures setup { result.setup ≡ setup.now }
@@ -160,7 +160,7 @@ impl<'a> DeliveryAudit<'a> {
         }
     }
 
-    /// The deliveries after the entries so far, as `deliveries` lists them.
+    /// Returns the deliveries after the entries so far, as `deliveries` lists them.
     pub fn finish(self) -> Result<Vec<Delivery>, AuditFault>
         ensures followed { (h : List Entry) → EndsAt self.entry.setup (IsDelivering self.entry) h → OnOk result (FollowsBuffer self.entry.setup self.entry.shape (reverse h)) }
         ensures list { (h : List Entry) → EndsAt self.entry.setup (IsDelivering self.entry) h → IfOk result (λ list. AreDeliveries self.entry.setup self.entry.shape h list.items) }
@@ -183,7 +183,7 @@ impl<'a> DeliveryAudit<'a> {
         Ok(list)
     }
 
-    /// The deliveries after all entries of a run, as `deliveries` lists them.
+    /// Returns the deliveries after all entries of a run, as `deliveries` lists them.
     pub fn deliveries(self, run: &Run) -> Result<Vec<Delivery>, AuditFault>
         requires setup { self.setup ≡ run.now.setup }
         requires stands { IsDelivering self (reverse run.now.entries) }
@@ -196,8 +196,8 @@ impl<'a> DeliveryAudit<'a> {
     }
 }
 
-/// The deliveries of a buffer in a run, by number: one for each get that was made. Where the
-/// workers don't follow the buffer's call lists, the first entry that breaks them is told. The
+/// Returns the deliveries of a buffer in a run, by number: one for each get that was made. Where
+/// the workers don't follow the buffer's call lists, the first entry that breaks them is told. The
 /// run is as before, whatever is answered.
 pub fn deliveries(
     alloc: Global,

@@ -18,7 +18,7 @@ pub struct Consume {
 }
 
 impl Consume {
-    /// The whole list.
+    /// Returns the whole list.
     pub fn new(shape: BufferShape) -> Self
         ensures whole { (calls : List Told) → ⟦<Consume as Procedure>⟧.rest result calls ≡ consume_call shape calls }
         ensures fresh { ⟦<Consume as Procedure>⟧.is_going result ≡ false }
@@ -30,7 +30,7 @@ impl Consume {
     }
 }
 
-/// The call at a place of the list, where the ticket is `turn`.
+/// Returns the call at a place of the list, where the ticket is `turn`.
 pub(crate) fn consume_at(shape: &BufferShape, at: usize, turn: u64) -> Option<Act>
     requires { at ≡ 2 → turn ≤ VALUE_MAX }
     ensures { result ≡ slice_get (consume_list shape.now turn) at }

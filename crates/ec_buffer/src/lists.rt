@@ -36,7 +36,7 @@ fn is_sequencer(shape: &BufferShape, sequencer: SeqId) -> bool
     sequencer == shape.put_seq() || sequencer == shape.take_seq()
 }
 
-/// Whether an act names an object of the buffer.
+/// Returns whether an act names an object of the buffer.
 pub fn is_on(shape: &BufferShape, act: &Act) -> bool
     ensures { result ≡ is_on shape.now act.now }
 {
@@ -52,8 +52,8 @@ pub fn is_on(shape: &BufferShape, act: &Act) -> bool
     }
 }
 
-/// Whether an act awaits the put of the item with this number. The number and one may be too large
-/// for their type.
+/// Returns whether an act awaits the put of the item with this number. The number and one may be
+/// too large for their type.
 fn is_wait(shape: &BufferShape, number: u64, act: &Act) -> bool
     ensures { result ≡ is_due (Some (Act.Await shape.now.in_count (number + 1))) (unvalued act.now) }
 {
@@ -65,7 +65,7 @@ fn is_wait(shape: &BufferShape, number: u64, act: &Act) -> bool
     }
 }
 
-/// Whether the worker of a number is a producer; false where there is no such worker.
+/// Returns whether the worker of a number is a producer; false where there is no such worker.
 fn is_producer(shape: &BufferShape, setup: &Setup, number: usize) -> bool
     requires { number < 16 }
     ensures { result ≡ may_take setup.now shape.now.put_seq number }
@@ -92,7 +92,7 @@ impl<'a> Lists<'a> {
         }
     }
 
-    /// Whether the worker is a producer.
+    /// Returns whether the worker is a producer.
     #[inline(always)]
     fn produces(&self, worker: WorkerId) -> bool
         ensures { result ≡ may_take self.now.setup.now self.now.shape.now.put_seq worker }
@@ -100,7 +100,7 @@ impl<'a> Lists<'a> {
         self.producers[worker.get()]
     }
 
-    /// Whether an act begins the call that the worker's list has next.
+    /// Returns whether an act begins the call that the worker's list has next.
     #[inline(always)]
     fn is_next(&self, worker: WorkerId, kept: &Kept, act: &Act) -> bool
         ensures { (calls : List Told) → kept.now ≡ kept_of calls → result ≡ (buffer_rules self.now.setup.now self.now.shape.now worker).fits calls act.now }

@@ -19,7 +19,7 @@ pub struct Produce {
 }
 
 impl Produce {
-    /// The whole list, for this item.
+    /// Returns the whole list, for this item.
     pub fn new(shape: BufferShape, item: u64) -> Self
         requires { item ≤ VALUE_MAX }
         ensures whole { (calls : List Told) → ⟦<Produce as Procedure>⟧.rest result calls ≡ produce_call shape item calls }
@@ -33,7 +33,7 @@ impl Produce {
     }
 }
 
-/// The call at a place of the list, where the ticket is `turn`.
+/// Returns the call at a place of the list, where the ticket is `turn`.
 pub(crate) fn produce_at(shape: &BufferShape, item: u64, at: usize, turn: u64) -> Option<Act>
     ensures { result ≡ slice_get (produce_list shape.now item turn) at }
 {

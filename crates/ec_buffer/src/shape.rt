@@ -32,50 +32,50 @@ impl Model for BufferShape {
 }
 
 impl BufferShape {
-    /// What is true of a shape: the eventcounts differ, and so do the sequencers; and there are
-    /// cells.
+    /// States what is true of a shape: the eventcounts differ, and so do the sequencers; and there
+    /// are cells.
     pub fn known(&self)
         ensures { IsShape self.now }
     {
         let _ = &self.in_count;
     }
 
-    /// The eventcount that the producers advance, once for each put.
+    /// Returns the eventcount that the producers advance, once for each put.
     pub fn in_count(&self) -> EventId
         ensures { result ≡ self.now.in_count }
     {
         self.in_count
     }
 
-    /// The eventcount that the consumers advance, once for each get.
+    /// Returns the eventcount that the consumers advance, once for each get.
     pub fn out_count(&self) -> EventId
         ensures { result ≡ self.now.out_count }
     {
         self.out_count
     }
 
-    /// The sequencer of the producers.
+    /// Returns the sequencer of the producers.
     pub fn put_seq(&self) -> SeqId
         ensures { result ≡ self.now.put_seq }
     {
         self.put_seq
     }
 
-    /// The sequencer of the consumers.
+    /// Returns the sequencer of the consumers.
     pub fn take_seq(&self) -> SeqId
         ensures { result ≡ self.now.take_seq }
     {
         self.take_seq
     }
 
-    /// The first cell; the others follow it.
+    /// Returns the first cell; the others follow it.
     pub fn first_cell(&self) -> CellId
         ensures { result ≡ self.now.first_cell }
     {
         self.first_cell
     }
 
-    /// The number of cells, from 1 to 256.
+    /// Returns the number of cells, from 1 to 256.
     pub fn cells(&self) -> usize
         ensures value { result ≡ self.now.cells }
         ensures some { 0 < result }
@@ -84,7 +84,7 @@ impl BufferShape {
         self.cells as usize
     }
 
-    /// Whether this is one of the cells.
+    /// Returns whether this is one of the cells.
     pub(crate) fn is_cell(&self, cell: CellId) -> bool
         ensures { result ≡ is_cell self.now cell }
     {
@@ -92,7 +92,7 @@ impl BufferShape {
         first <= cell.get() && cell.get() < first + self.cells()
     }
 
-    /// The cell of an item, by its number.
+    /// Returns the cell of an item, by its number.
     pub(crate) fn cell_of(&self, number: u64) -> CellId
         ensures { result ≡ self.now.first_cell + number % self.now.cells }
     {
@@ -115,8 +115,8 @@ impl BufferShape {
             && !shares_worker(produce, consume)
     }
 
-    /// Whether the objects are declared there, with the rights of a buffer and fixed eventcounts,
-    /// for producers and consumers that share no worker.
+    /// Returns whether the objects are declared there, with the rights of a buffer and fixed
+    /// eventcounts, for producers and consumers that share no worker.
     pub fn fits(&self, setup: &Setup) -> bool
         ensures { IsTrue result ↔ Fits self.now setup.now }
     {
@@ -150,7 +150,7 @@ pub fn declare_buffer(
     Ok(add_buffer(setup, n, produce, consume))
 }
 
-/// Whether some table has no room for a buffer of n cells.
+/// Returns whether some table has no room for a buffer of n cells.
 fn lacks_room(setup: &Setup, n: usize) -> bool
     ensures { result ≡ lacks_room setup.now n }
 {

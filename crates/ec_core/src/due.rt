@@ -4,7 +4,7 @@ ghost use Rattle.ec_core.specs.CallLists.{is_act, is_due, unvalued};
 
 use crate::Act;
 
-/// Whether two acts are the same.
+/// Returns whether two acts are the same.
 fn is_act(a: &Act, b: &Act) -> bool
     ensures { result ≡ is_act a.now b.now }
 {
@@ -21,7 +21,7 @@ fn is_act(a: &Act, b: &Act) -> bool
     }
 }
 
-/// Whether the act is the one that is due. The value of a put is free.
+/// Returns whether the act is the one that is due. The value of a put is free.
 pub fn is_due(due: &Option<Act>, act: &Act) -> bool
     ensures { result ≡ is_due due.now (unvalued act.now) }
 {

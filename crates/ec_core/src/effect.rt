@@ -28,7 +28,7 @@ pub(crate) enum Effect {
 }
 
 impl Effect {
-    /// What the worker is told.
+    /// Returns what the worker is told.
     #[inline(always)]
     pub(crate) fn reply(self) -> Reply
         ensures { result ≡ told self }
@@ -42,7 +42,8 @@ impl Effect {
         }
     }
 
-    /// What a read comes to as the first of this call, given what it would come to in a call under way.
+    /// Returns what a read comes to as the first of this call, given what it would come to in a
+    /// call under way.
     #[inline(always)]
     pub(crate) fn as_first(self, call: &UnderWay) -> Effect
         ensures { result ≡ as_first call.now self }

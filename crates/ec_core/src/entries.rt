@@ -29,7 +29,7 @@ impl<'a> Model for Entries<'a> {
 }
 
 impl<'a> Entries<'a> {
-    /// All entries of some segments.
+    /// Returns all entries of some segments.
     pub(crate) fn of(full: &'a [Segment], last: &'a Segment) -> Self
         ensures { result ≡ joined full.now last.now }
     {
@@ -41,7 +41,7 @@ impl<'a> Entries<'a> {
         }
     }
 
-    /// The next of them, which is still the next one then.
+    /// Returns the next of them, which is still the next one then.
     #[inline(always)]
     pub fn peek(&self) -> Option<Entry>
         ensures { result ≡ slice_get self.now 0 }
@@ -50,7 +50,8 @@ impl<'a> Entries<'a> {
     }
 }
 
-/// The first of the entries that are left. (It is handed their parts, so that these may stand in registers where they are gone on with.)
+/// Returns the first of the entries that are left. (It is handed their parts, so that these may
+/// stand in registers where they are gone on with.)
 #[cold]
 #[inline(never)]
 fn first_entry(full: &[Segment], last: &Segment, begun: usize, left: Kept<'_>) -> Option<Entry>
@@ -89,7 +90,7 @@ impl<'a> Iterator for Entries<'a> {
     }
 }
 
-/// The segment at a place, counted from 0, of which the last stands behind the full ones.
+/// Returns the segment at a place, counted from 0, of which the last stands behind the full ones.
 fn segment_at<'a>(full: &'a [Segment], last: &'a Segment, place: usize) -> Option<&'a Segment>
     ensures some { IfSome result (λ segment. slice_get (full.now ++ last.now ∷ []) place ≡ Some segment.now) }
     ensures within { IfSome result (λ _. place + 1 < 2 ^ 64) }

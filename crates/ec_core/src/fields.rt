@@ -12,7 +12,7 @@ use crate::signallers::Signallers;
 use crate::{Act, VALUE_MAX};
 use ec_count::{Count, EventId, Setup};
 
-/// The declared signallers of an eventcount.
+/// Returns the declared signallers of an eventcount.
 fn declared_for(setup: &Setup, event: EventId) -> Signallers
     ensures { result ≡ signallers setup.now event }
 {
@@ -20,7 +20,7 @@ fn declared_for(setup: &Setup, event: EventId) -> Signallers
     Signallers::new(setup.signallers(event))
 }
 
-/// The declared signallers of each eventcount.
+/// Returns the declared signallers of each eventcount.
 pub(crate) fn declared(setup: &Setup) -> [Signallers; 32]
     ensures { (e : ℕ) → e < 32 → slice_get result e ≡ Some (signallers setup.now e) }
 {
@@ -33,7 +33,7 @@ pub(crate) fn declared(setup: &Setup) -> [Signallers; 32]
     signal
 }
 
-/// Whether a put or a threshold is above the greatest value.
+/// Returns whether a put or a threshold is above the greatest value.
 pub(crate) fn is_too_large(act: &Act) -> bool
     ensures { result ≡ is_too_large act.now }
 {
@@ -44,7 +44,7 @@ pub(crate) fn is_too_large(act: &Act) -> bool
     }
 }
 
-/// The eventcount that an act names, and the first one for an act that names none.
+/// Returns the eventcount that an act names, and the first one for an act that names none.
 pub(crate) fn event_or(op: Act) -> EventId
     ensures { result ≡ event_or op }
 {
@@ -56,7 +56,7 @@ pub(crate) fn event_or(op: Act) -> EventId
     }
 }
 
-/// How many components the eventcount has; 0 where it is not declared.
+/// Returns how many components the eventcount has; 0 if it is not declared.
 pub(crate) fn width(setup: &Setup, event: EventId) -> usize
     ensures value { result ≡ width setup.now event }
     ensures few { result ≤ 16 }
@@ -64,7 +64,7 @@ pub(crate) fn width(setup: &Setup, event: EventId) -> usize
     setup.components(event).unwrap_or(0)
 }
 
-/// Component c of eventcount e.
+/// Returns component c of eventcount e.
 pub(crate) fn count_in(counts: &[[Count; 16]; 32], event: usize, component: usize) -> Count
     requires event { event < 32 }
     requires component { component < 16 }
@@ -74,7 +74,7 @@ pub(crate) fn count_in(counts: &[[Count; 16]; 32], event: usize, component: usiz
     row[component]
 }
 
-/// One more at a place, if it is one.
+/// Adds one at a place, if there is such a place.
 pub(crate) fn raise_at(counts: &mut [Count], place: usize)
     ensures { counts.new ≡ changed_at raised counts.old place }
 {
@@ -84,7 +84,7 @@ pub(crate) fn raise_at(counts: &mut [Count], place: usize)
     }
 }
 
-/// One more on component c of eventcount e.
+/// Adds one to component c of eventcount e.
 pub(crate) fn raise_in(counts: &mut [[Count; 16]; 32], event: usize, component: usize)
     requires { event < 32 }
     ensures { counts.new ≡ changed_at (λ row. changed_at raised row component) counts.old event }
@@ -93,7 +93,7 @@ pub(crate) fn raise_in(counts: &mut [[Count; 16]; 32], event: usize, component: 
     raise_at(row, component);
 }
 
-/// The count of a sequencer.
+/// Returns the count of a sequencer.
 pub(crate) fn count_of(counts: &[Count; 32], sequencer: usize) -> Count
     requires { sequencer < 32 }
     ensures { slice_get counts.now sequencer ≡ Some result }
@@ -101,7 +101,7 @@ pub(crate) fn count_of(counts: &[Count; 32], sequencer: usize) -> Count
     counts[sequencer]
 }
 
-/// The sum of the first counts of an eventcount.
+/// Returns the sum of the first counts of an eventcount.
 pub(crate) fn sum_of(counts: &[[Count; 16]; 32], event: usize, width: usize) -> u64
     requires event { event < 32 }
     requires width { width ≤ 16 }
@@ -115,14 +115,14 @@ pub(crate) fn sum_of(counts: &[[Count; 16]; 32], event: usize, width: usize) -> 
     sum
 }
 
-/// An array with the same element everywhere.
+/// Returns an array with the same element everywhere.
 pub(crate) fn all_alike<T: Copy, const N: usize>(x: T) -> [T; N]
     ensures { (i : ℕ) → i < N → slice_get result i ≡ Some x }
 {
     [x; N]
 }
 
-/// The same array again.
+/// Returns the same array again.
 pub(crate) fn same_again<T: Copy, const N: usize>(xs: &[T; N]) -> [T; N]
     ensures { result ≡ xs.now }
 {

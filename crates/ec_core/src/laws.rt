@@ -4,132 +4,135 @@ ghost use Rattle.ec_core.specs.declared.act.TheConstants.{VALUE_MAX};
 ghost use Rattle.ec_core.specs.FallenShort.{IndexZeroIsAnAwait, IndexZeroMeansFallenShort};
 ghost use Rattle.ec_core.specs.Laws.{TotalsCountAdvances, ComponentsCountAdvances, IssuedCountsTickets, CellsHoldTheLastPut, CallsUnderWayAreCutInOrder, CallsUnderWayRead, RoundsAddTheirComponents, ComponentsAddUp, TotalsRiseByOne, CountsKeepTheLimit, RoundsLieBetween, RoundsOfCallsLieBetween, BeginningsAreAccepted, AcceptedMeansAnswered, NumbersAreSmall, RepliesFitTheirActs, SignallersAreDifferent, FixedEventsKeepTheirSignallers, SignallersAreTheLastReceivers, HandsChangeNoNumber, OthersStand};
 
-/// The total of an eventcount at a moment is the number of its advances before it (Reed and
-/// Kanodia's value).
+/// States that the total of an eventcount at a moment is the number of its advances before it (Reed
+/// and Kanodia's value).
 pub fn totals_count_advances()
     ensures { TotalsCountAdvances }
 {}
 
-/// A component is the number of advances before the moment that were made by its signaller at their
-/// own moments.
+/// States that a component is the number of advances before the moment that were made by its
+/// signaller at their own moments.
 pub fn components_count_advances()
     ensures { ComponentsCountAdvances }
 {}
 
-/// The number of tickets drawn is the number of ticket entries.
+/// States that the number of tickets drawn is the number of ticket entries.
 pub fn issued_counts_tickets()
     ensures { IssuedCountsTickets }
 {}
 
-/// A cell holds the value last put into it, and 0 where none was.
+/// States that a cell holds the value last put into it, and 0 where none was.
 pub fn cells_hold_the_last_put()
     ensures { CellsHoldTheLastPut }
 {}
 
-/// A call is under way exactly where the worker's entries, from one that is no go on, are goes behind
-/// it, each told Pending.
+/// States that a call is under way exactly where the worker's entries, from one that is no go on,
+/// are goes behind it, each told Pending.
 pub fn calls_under_way_are_cut_in_order()
     ensures { CallsUnderWayAreCutInOrder }
 {}
 
-/// In an accepted history a call under way is a read or an await of a declared eventcount.
+/// States that in an accepted history a call under way is a read or an await of a declared
+/// eventcount.
 pub fn calls_under_way_read()
     ensures { CallsUnderWayRead }
 {}
 
-/// An await under way has 0 as the component that comes next exactly where it has just ended a round
-/// that fell short.
+/// States that an await under way has 0 as the component that comes next exactly where it has just
+/// ended a round that fell short.
 pub fn index_zero_means_fallen_short()
     ensures { IndexZeroMeansFallenShort }
 {}
 
-/// A read under way never has 0 as the component that comes next: a call that does is an await.
+/// States that a read under way never has 0 as the component that comes next: a call that does is
+/// an await.
 pub fn index_zero_is_an_await()
     ensures { IndexZeroIsAnAwait }
 {}
 
-/// The sum of a round adds each component as it was at its own moment.
+/// States that the sum of a round adds each component as it was at its own moment.
 pub fn rounds_add_their_components()
     ensures { RoundsAddTheirComponents }
 {}
 
-/// The components of an eventcount add up to its total.
+/// States that the components of an eventcount add up to its total.
 pub fn components_add_up()
     ensures { ComponentsAddUp }
 {}
 
-/// From one moment to the next a total never falls and rises by at most one.
+/// States that from one moment to the next a total never falls and rises by at most one.
 pub fn totals_rise_by_one()
     ensures { TotalsRiseByOne }
 {}
 
-/// No component, and no number of tickets drawn, passes the limit.
+/// States that no component, and no number of tickets drawn, passes the limit.
 pub fn counts_keep_the_limit()
     ensures { CountsKeepTheLimit }
 {}
 
-/// The sum of components read one after another is at least the total before the first of the
-/// readings and at most the total after the last.
+/// States that the sum of components read one after another is at least the total before the first
+/// of the readings and at most the total after the last.
 pub fn rounds_lie_between()
     ensures { RoundsLieBetween }
 {}
 
-/// The same of a round of a read or await: its sum is at least the total at the round's start and
-/// at most the total at its last entry.
+/// States the same of a round of a read or await: its sum is at least the total at the round's
+/// start and at most the total at its last entry.
 pub fn rounds_of_calls_lie_between()
     ensures { RoundsOfCallsLieBetween }
 {}
 
-/// Every beginning of an accepted history is accepted.
+/// States that every beginning of an accepted history is accepted.
 pub fn beginnings_are_accepted()
     ensures { BeginningsAreAccepted }
 {}
 
-/// A history is accepted exactly where each entry is the answer to its act at its own moment.
+/// States that a history is accepted exactly where each entry is the answer to its act at its own
+/// moment.
 pub fn accepted_means_answered()
     ensures { AcceptedMeansAnswered }
 {}
 
-/// No number in an accepted history is above the greatest value.
+/// States that no number in an accepted history is above the greatest value.
 pub fn numbers_are_small()
     ensures { NumbersAreSmall }
 {}
 
-/// Each reply in an accepted history is of a kind that its act can get, with a number of at most the
-/// greatest value.
+/// States that each reply in an accepted history is of a kind that its act can get, with a number
+/// of at most the greatest value.
 pub fn replies_fit_their_acts()
     ensures { RepliesFitTheirActs }
 {}
 
-/// In an accepted history each component of an eventcount has one signaller at each moment, another
-/// worker for each.
+/// States that in an accepted history each component of an eventcount has one signaller at each
+/// moment, another worker for each.
 pub fn signallers_are_different()
     ensures { SignallersAreDifferent }
 {}
 
-/// In an accepted history a fixed eventcount keeps its signallers.
+/// States that in an accepted history a fixed eventcount keeps its signallers.
 pub fn fixed_events_keep_their_signallers()
     ensures { FixedEventsKeepTheirSignallers }
 {}
 
-/// The signaller of a component is the worker that it was last handed to, and the declared one where
-/// it was not handed over.
+/// States that the signaller of a component is the worker that it was last handed to, and the
+/// declared one where it was not handed over.
 pub fn signallers_are_the_last_receivers()
     ensures { SignallersAreTheLastReceivers }
 {}
 
-/// A hand changes no total, no component, no number of tickets and no cell.
+/// States that a hand changes no total, no component, no number of tickets and no cell.
 pub fn hands_change_no_number()
     ensures { HandsChangeNoNumber }
 {}
 
-/// An accepted history without some silent workers is accepted, and what the others were told
-/// stands as it was.
+/// States that an accepted history without some silent workers is accepted, and what the others
+/// were told stands as it was.
 pub fn others_stand()
     ensures { OthersStand }
 {}
 
-/// The greatest value of a put, of an await's threshold, and of what is told, as a number.
+/// States the greatest value of a put, of an await's threshold, and of what is told, as a number.
 pub fn greatest_value_is_eighteen_nines()
     ensures { VALUE_MAX ≡ 999999999999999999 }
 {}

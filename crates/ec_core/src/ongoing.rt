@@ -88,7 +88,7 @@ impl Model for Calls {
 }
 
 impl Calls {
-    /// Before the first entry.
+    /// Returns the calls before the first entry.
     pub fn new() -> Self
         ensures { (t : Tables) → AreCalls t result [] }
     {

@@ -18,8 +18,8 @@ pub trait Procedure {
     // The last reply was Pending.
     ghost is_going: { Self → Bool };
 
-    /// The act that is due: Go where the last reply was Pending, else the act that begins the
-    /// list's next call; None where the list is done.
+    /// Returns the act that is due: Go where the last reply was Pending, else the act that begins
+    /// the list's next call; `None` if the list is done.
     fn next(&self) -> Option<Act>
         ensures { result ≡ next_of (is_going self.now) (rest self.now []) };
 

@@ -22,15 +22,15 @@ pub trait Protocol {
 
     ghost keeps: { Self → List Told → Kept };
 
-    /// What is kept where no call of a list is finished.
+    /// Returns what is kept where no call of a list is finished.
     fn start(&self) -> Kept
         ensures { result ≡ keeps self.now [] };
 
-    /// Whether an act of the worker is right there.
+    /// Returns whether an act of the worker is right there.
     fn is_right(&self, worker: WorkerId, kept: &Kept, act: &Act) -> bool
         ensures { (calls : List Told) → kept.now ≡ keeps self.now calls → result ≡ is_right (rules self.now worker) calls act.now };
 
-    /// What is kept after one more step of a call, given the act that began the call.
+    /// Returns what is kept after one more step of a call, given the act that began the call.
     fn after(&self, worker: WorkerId, kept: &Kept, op: &Act, reply: Reply) -> Kept
         ensures { (calls : List Told) → kept.now ≡ keeps self.now calls → result ≡ keeps self.now (block_after (rules self.now worker) calls op.now reply) };
 }

@@ -14,7 +14,7 @@ use std::alloc::{AllocError, Global};
 use std::marker::Model;
 use thiserror::Error;
 
-/// Whether the act hands a component to the worker.
+/// Returns whether the act hands a component to the worker.
 fn hands_to(act: &Act, worker: WorkerId) -> bool
     ensures { result ≡ hands_to worker act.now }
 {
@@ -59,7 +59,8 @@ impl Model for Run {
 impl Run {
     ghost use Rattle.ec_core.specs.Faults.{IsFaultOf};
 
-    /// A run without entries on these declarations, which are dropped where there is no memory.
+    /// Makes a run without entries on these declarations, which are dropped where there is no
+    /// memory.
     pub fn open(alloc: Global, setup: Setup) -> Result<Self, AllocError>
         ensures { IfOk result (λ run. run ≡ record { setup = setup; entries = [] }) }
     {
@@ -70,7 +71,7 @@ impl Run {
         })
     }
 
-    /// What is true of a run: it is on sound declarations, and its history is accepted.
+    /// States what is true of a run: it is on sound declarations, and its history is accepted.
     pub fn known(&self)
         ensures declared { IsDeclared self.now.setup }
         ensures accepted { IsAccepted self.now.setup (reverse self.now.entries) }
@@ -78,14 +79,14 @@ impl Run {
         let _ = &self.world;
     }
 
-    /// The declarations that the run is on.
+    /// Returns the declarations that the run is on.
     pub fn setup(&self) -> &Setup
         ensures { result.now ≡ self.now.setup }
     {
         self.world.setup()
     }
 
-    /// The state after its entries.
+    /// Returns the state after its entries.
     pub fn world(&self) -> &World
         ensures stands { StandsFor result.now self.now.entries }
         ensures setup { result.now.setup ≡ self.now.setup }
@@ -93,14 +94,14 @@ impl Run {
         &self.world
     }
 
-    /// How many entries it has.
+    /// Returns how many entries it has.
     pub fn len(&self) -> usize
         ensures { result ≡ length self.now.entries }
     {
         self.entries.len()
     }
 
-    /// The entry at a place, counted from 0.
+    /// Returns the entry at a place, counted from 0.
     #[inline(always)]
     pub fn entry(&self, i: usize) -> Option<Entry>
         ensures { result ≡ slice_get self.now.entries i }
@@ -108,7 +109,7 @@ impl Run {
         self.entries.get(i)
     }
 
-    /// Its entries in order.
+    /// Returns its entries in order.
     pub fn entries(&self) -> Entries<'_>
         ensures items { result ≡ self.now.entries }
         ensures small { length self.now.entries < 2 ^ 64 }
@@ -117,8 +118,8 @@ impl Run {
         self.entries.entries()
     }
 
-    /// Whether the worker is declared, signals no eventcount at any moment of the run, takes from no
-    /// sequencer and writes no cell.
+    /// Returns whether the worker is declared, signals no eventcount at any moment of the run,
+    /// takes from no sequencer and writes no cell.
     pub fn is_silent(&self, worker: WorkerId) -> bool
         ensures { IsTrue result ↔ IsSilent self.now.setup self.now.entries worker }
     {
@@ -134,7 +135,7 @@ impl Run {
         true
     }
 
-    /// The same run again: the same entries on the same declarations.
+    /// Returns the same run again: the same entries on the same declarations.
     pub fn copy(&self) -> Result<Self, AllocError>
         ensures { IfOk result (λ run. run ≡ self.now) }
     {
@@ -145,13 +146,13 @@ impl Run {
         })
     }
 
-    /// The allocator that the run was opened with.
+    /// Returns the allocator that the run was opened with.
     pub(crate) fn allocator(&self) -> Global {
         self.entries.allocator()
     }
 
-    /// One step, which adds its entry. It is refused as a step of its world is. Memory is wanted
-    /// only where the step is right, and taken before anything is changed.
+    /// Makes one step, which adds its entry. It is refused as a step of its world is. Memory is
+    /// wanted only where the step is right, and taken before anything is changed.
     #[inline(always)]
     pub fn step(&mut self, worker: WorkerId, act: Act) -> Result<Reply, StepFault>
         ensures answer { MatchResult result

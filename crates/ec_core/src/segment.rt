@@ -39,7 +39,7 @@ impl Model for Segment {
 }
 
 impl Segment {
-    /// A segment without entries.
+    /// Makes a segment without entries.
     pub(crate) fn open(alloc: Global) -> Result<Self, AllocError>
         ensures { IfOk result (λ segment. segment ≡ []) }
     {
@@ -53,12 +53,12 @@ impl Segment {
         })
     }
 
-    /// The allocator that the segment was opened with.
+    /// Returns the allocator that the segment was opened with.
     pub(crate) fn allocator(&self) -> Global {
         *self.stored.allocator()
     }
 
-    /// How many entries it has.
+    /// Returns how many entries it has.
     #[inline(always)]
     pub(crate) fn len(&self) -> usize
         ensures { result ≡ length self.now }
@@ -66,7 +66,7 @@ impl Segment {
         self.stored.len()
     }
 
-    /// The entry at a place, counted from 0.
+    /// Returns the entry at a place, counted from 0.
     #[inline(always)]
     pub(crate) fn get(&self, i: usize) -> Option<Entry>
         ensures value { result ≡ slice_get self.now i }
@@ -80,7 +80,7 @@ impl Segment {
         Some(self.stored[i].entry(&mut words))
     }
 
-    /// Its entries in order.
+    /// Returns its entries in order.
     #[inline(always)]
     pub(crate) fn entries(&self) -> Kept<'_>
         ensures { result ≡ self.now }
@@ -146,7 +146,7 @@ fn begin(words: &mut Vec<u32>, starts: &mut Vec<u16>) -> Result<(), AllocError>
     Ok(())
 }
 
-/// Where the words of the entry at a place begin.
+/// Returns where the words of the entry at a place begin.
 fn start_of(stored: &[Stored], starts: &[u16], i: usize) -> usize
     requires starts { AreStarts stored.now starts.now }
     requires within { i < length stored.now }
@@ -174,7 +174,7 @@ impl<'a> Model for Kept<'a> {
 }
 
 impl<'a> Kept<'a> {
-    /// None.
+    /// Returns no entries.
     pub(crate) fn none() -> Self
         ensures { result ≡ [] }
     {
@@ -184,7 +184,7 @@ impl<'a> Kept<'a> {
         }
     }
 
-    /// The same entries again.
+    /// Returns the same entries again.
     #[inline(always)]
     pub(crate) fn copy(&self) -> Self
         ensures { result ≡ self.now }

@@ -34,7 +34,7 @@ impl Model for Segments {
 }
 
 impl Segments {
-    /// An empty list, with room for the first segment: 4096 entries.
+    /// Makes an empty list, with room for the first segment: 4096 entries.
     pub fn open(alloc: Global) -> Result<Self, AllocError>
         ensures { IfOk result (λ list. list ≡ []) }
     {
@@ -45,19 +45,19 @@ impl Segments {
         })
     }
 
-    /// The allocator that the list was opened with.
+    /// Returns the allocator that the list was opened with.
     pub(crate) fn allocator(&self) -> Global {
         self.last.allocator()
     }
 
-    /// How many entries it has.
+    /// Returns how many entries it has.
     pub fn len(&self) -> usize
         ensures { result ≡ length self.now }
     {
         self.full.len() * SEGMENT + self.last.len()
     }
 
-    /// The entry at a place, counted from 0.
+    /// Returns the entry at a place, counted from 0.
     #[inline(always)]
     pub fn get(&self, i: usize) -> Option<Entry>
         ensures value { result ≡ slice_get self.now i }
@@ -66,14 +66,14 @@ impl Segments {
         entry_at(&self.full, &self.last, i)
     }
 
-    /// Its entries in order.
+    /// Returns its entries in order.
     pub fn entries(&self) -> Entries<'_>
         ensures { result ≡ self.now }
     {
         Entries::of(&self.full, &self.last)
     }
 
-    /// The same list again, by the same allocator.
+    /// Returns the same list again, by the same allocator.
     pub(crate) fn copy(&self) -> Result<Self, AllocError>
         ensures { IfOk result (λ list. list ≡ self.now) }
     {
@@ -116,7 +116,7 @@ fn begin_segment(full: &mut Vec<Segment>, last: &mut Segment) -> Result<(), Allo
     Ok(())
 }
 
-/// The entry of the segments at a place, counted from 0.
+/// Returns the entry of the segments at a place, counted from 0.
 #[inline(always)]
 fn entry_at(full: &Vec<Segment>, last: &Segment, i: usize) -> Option<Entry>
     requires { IsSegmented full.now.items last.now }

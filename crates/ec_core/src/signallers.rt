@@ -26,7 +26,7 @@ impl Model for Signallers {
     ghost invariant = { λ s. AreSignallers s.members s.components };
 }
 
-/// The place of a worker among others, in one byte.
+/// Returns the place of a worker among others, in one byte.
 fn place_in(members: &Members, worker: WorkerId) -> Option<u8>
     ensures { result ≡ place_of worker members.now }
 {
@@ -36,7 +36,7 @@ fn place_in(members: &Members, worker: WorkerId) -> Option<u8>
     }
 }
 
-/// The place of each worker among these.
+/// Returns the place of each worker among these.
 fn places_in(members: &Members) -> [Option<u8>; 16]
     ensures { (w : ℕ) → w < 16 → slice_get result w ≡ Some (place_of w members.now) }
 {
@@ -50,7 +50,7 @@ fn places_in(members: &Members) -> [Option<u8>; 16]
 }
 
 impl Signallers {
-    /// These workers, of which none stands twice.
+    /// Returns these workers, of which none stands twice.
     pub(crate) fn new(list: &[WorkerId]) -> Self
         requires few { length list.now ≤ 16 }
         requires different { has_repeat list.now ≡ false }
@@ -64,14 +64,14 @@ impl Signallers {
         }
     }
 
-    /// The worker that signals a component.
+    /// Returns the worker that signals a component.
     pub(crate) fn signaller(&self, component: usize) -> Option<WorkerId>
         ensures { result ≡ slice_get self.now component }
     {
         self.members.get(component)
     }
 
-    /// The component that the worker signals.
+    /// Returns the component that the worker signals.
     #[inline(always)]
     pub(crate) fn component(&self, worker: WorkerId) -> Option<usize>
         ensures value { result ≡ place_of worker self.now }

@@ -19,9 +19,9 @@ fn repeat(run: &mut Run, entry: Entry) -> Result<(), AllocError>
     }
 }
 
-/// The run with the entries of some silent workers struck out, on the same declarations. Being a
-/// run, it is accepted: what the others were told stands as it was. `Run::is_silent` tests who is
-/// silent.
+/// Returns the run with the entries of some silent workers struck out, on the same declarations.
+/// Being a run, it is accepted: what the others were told stands as it was. `Run::is_silent` tests
+/// who is silent.
 pub fn without(run: &Run, silent: &[WorkerId]) -> Result<Run, AllocError>
     requires { All (λ w. IsSilent run.now.setup run.now.entries w) silent.now }
     ensures { IfOk result (λ rest. rest ≡ record run.now { entries = without (λ w. is_member w silent.now) run.now.entries }) }

@@ -49,7 +49,7 @@ impl<'a> Model for Words<'a> {
 }
 
 impl<'a> Words<'a> {
-    /// These, from a place on.
+    /// Returns these, from a place on.
     #[inline(always)]
     pub(crate) fn of(words: &'a [u32], start: usize) -> Self
         requires { start ≤ length words.now }
@@ -60,7 +60,7 @@ impl<'a> Words<'a> {
         }
     }
 
-    /// The same words again.
+    /// Returns the same words again.
     #[inline(always)]
     pub(crate) fn copy(&self) -> Self
         ensures { result ≡ self.now }
@@ -103,7 +103,7 @@ pub(crate) struct Stored {
 }
 
 impl Stored {
-    /// The entry without its numbers.
+    /// Returns the entry without its numbers.
     #[inline(always)]
     pub(crate) fn of(entry: &Entry) -> Self
         ensures { result ≡ kept_of entry.now }
@@ -115,7 +115,7 @@ impl Stored {
         }
     }
 
-    /// How many words its numbers take.
+    /// Returns how many words its numbers take.
     #[inline(always)]
     pub(crate) fn width(&self) -> usize
         ensures value { result ≡ width self.now }
@@ -124,7 +124,8 @@ impl Stored {
         value_width(self.verb) + number_width(self.answer)
     }
 
-    /// The entry that is kept. Its numbers are the first of these words, and are taken off them.
+    /// Returns the entry that is kept. Its numbers are the first of these words, and are taken off
+    /// them.
     #[inline(always)]
     pub(crate) fn entry(&self, words: &mut Words<'_>) -> Entry
         ensures value { result ≡ stored_entry words.old self.now }
@@ -140,7 +141,7 @@ impl Stored {
     }
 }
 
-/// How many words some entries take.
+/// Returns how many words some entries take.
 pub(crate) fn widths(stored: &[Stored]) -> usize
     requires { length stored.now < 2 ^ 32 }
     ensures { result ≡ widths stored.now }
@@ -152,7 +153,7 @@ pub(crate) fn widths(stored: &[Stored]) -> usize
     sum
 }
 
-/// How many words the value of an act of this kind takes.
+/// Returns how many words the value of an act of this kind takes.
 #[inline(always)]
 fn value_width(verb: Verb) -> usize
     ensures value { result ≡ value_width verb }
@@ -165,7 +166,7 @@ fn value_width(verb: Verb) -> usize
     }
 }
 
-/// How many words the number of a reply of this kind takes.
+/// Returns how many words the number of a reply of this kind takes.
 #[inline(always)]
 fn number_width(answer: Answer) -> usize
     ensures value { result ≡ number_width answer }
@@ -178,7 +179,7 @@ fn number_width(answer: Answer) -> usize
     }
 }
 
-/// The act of a kind. Its value is taken off the words.
+/// Returns the act of a kind. Its value is taken off the words.
 #[inline(always)]
 fn act_of(verb: Verb, words: &mut Words<'_>) -> Act
     ensures value { result ≡ act_of verb words.old }
@@ -198,7 +199,7 @@ fn act_of(verb: Verb, words: &mut Words<'_>) -> Act
     }
 }
 
-/// The worker of a number.
+/// Returns the worker of a number.
 #[inline(always)]
 fn receiver_of(number: u64) -> WorkerId
     ensures { result ≡ receiver_of number }
@@ -206,7 +207,7 @@ fn receiver_of(number: u64) -> WorkerId
     WorkerId::new(number as usize).unwrap_or_default()
 }
 
-/// The reply of a kind. Its number is taken off the words.
+/// Returns the reply of a kind. Its number is taken off the words.
 #[inline(always)]
 fn reply_of(answer: Answer, words: &mut Words<'_>) -> Reply
     ensures value { result ≡ reply_of answer words.old }
@@ -252,7 +253,7 @@ fn verb_in(act: &Act) -> Verb
     }
 }
 
-/// The value of an act, where it has one.
+/// Returns the value of an act, where it has one.
 pub(crate) fn value_in(act: &Act) -> Option<u64>
     ensures value { result ≡ value_in act.now }
     ensures receiver { receiver_in act.now < 16 }
@@ -275,7 +276,7 @@ fn answer_in(reply: &Reply) -> Answer
     }
 }
 
-/// The number of a reply, where it has one.
+/// Returns the number of a reply, where it has one.
 pub(crate) fn number_in(reply: &Reply) -> Option<u64>
     ensures { result ≡ number_in reply.now }
 {

@@ -28,7 +28,7 @@ impl Model for Tracker {
 }
 
 impl Tracker {
-    /// Before the first entry.
+    /// Returns what is kept before the first entry.
     pub fn new<P: Protocol>(protocol: &P) -> Self
         ensures { IsTracked (P.rules protocol.now) (P.keeps protocol.now) result [] }
     {
@@ -38,7 +38,7 @@ impl Tracker {
         }
     }
 
-    /// What is kept of the list that the worker is in.
+    /// Returns what is kept of the list that the worker is in.
     #[inline(always)]
     pub fn kept(&self, worker: WorkerId) -> Kept
         ensures { (rules : ℕ → Rule) (keeps : List Told → Kept) (past : List Entry) → IsTracked rules keeps self.now past
@@ -47,8 +47,8 @@ impl Tracker {
         self.kept[worker.get()]
     }
 
-    /// Whether the workers follow these lists, after the entries so far. Err is NotFollowed with the
-    /// first entry that breaks them.
+    /// Returns whether the workers follow these lists, after the entries so far. `Err` is
+    /// `NotFollowed` with the first entry that breaks them.
     pub fn followed(&self) -> Result<(), AuditFault>
         ensures { (rules : ℕ → Rule) (keeps : List Told → Kept) (entries : List Entry) → IsTracked rules keeps self.now (reverse entries)
             → Finds rules entries result }
@@ -75,7 +75,7 @@ impl Tracker {
     }
 }
 
-/// Whether a call goes on.
+/// Returns whether a call goes on.
 #[inline(always)]
 fn is_pending(reply: Reply) -> bool
     ensures { result ≡ is_pending reply }

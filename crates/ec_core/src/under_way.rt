@@ -53,7 +53,7 @@ impl Model for UnderWay {
 }
 
 impl UnderWay {
-    /// A call whose first component is yet to be read.
+    /// Makes a call whose first component is yet to be read.
     pub(crate) fn begun(op: Act) -> Self
         requires { IsSome (read_of op) }
         ensures { result ≡ begun op }
@@ -65,7 +65,7 @@ impl UnderWay {
         }
     }
 
-    /// The same call, whose round has come so far.
+    /// Returns the same call, whose round has come so far.
     #[inline(always)]
     pub(crate) fn at(&self, round: Round) -> Self
         ensures { result ≡ gone_to round self.now }
@@ -85,7 +85,7 @@ impl UnderWay {
         (self.index, self.sum) = (round.index, round.sum);
     }
 
-    /// The act that began it: a Read or an Await.
+    /// Returns the act that began it: a Read or an Await.
     #[inline(always)]
     pub fn op(&self) -> Act
         ensures { result ≡ self.now.op }
@@ -93,7 +93,7 @@ impl UnderWay {
         self.op
     }
 
-    /// The eventcount that it reads.
+    /// Returns the eventcount that it reads.
     #[inline(always)]
     pub(crate) fn event(&self) -> EventId
         ensures { result ≡ event_or self.now.op }
@@ -104,7 +104,7 @@ impl UnderWay {
         }
     }
 
-    /// The component that the next Go reads. An Await with index 0 has just fallen short.
+    /// Returns the component that the next Go reads. An Await with index 0 has just fallen short.
     pub fn index(&self) -> usize
         ensures value { result ≡ self.now.index }
         ensures small { result < 16 }
@@ -112,7 +112,7 @@ impl UnderWay {
         self.index
     }
 
-    /// The sum of the components that its round has read so far.
+    /// Returns the sum of the components that its round has read so far.
     pub fn sum(&self) -> u64
         ensures value { result ≡ self.now.sum }
         ensures small { result ≤ self.now.index * 2 ^ 48 }
@@ -122,8 +122,9 @@ impl UnderWay {
         self.sum
     }
 
-    /// What a Go comes to that reads its component of so many, whose counts are these: the call goes on until the component is
-    /// the last, and then the sum is told, unless it falls short of a threshold.
+    /// Returns what a Go comes to that reads its component of so many, whose counts are these: the
+    /// call goes on until the component is the last, and then the sum is told, unless it falls
+    /// short of a threshold.
     #[inline(always)]
     pub(crate) fn read(&self, width: usize, counts: &[Count; 16]) -> Effect
         requires { width ≤ 16 }

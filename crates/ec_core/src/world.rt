@@ -68,8 +68,8 @@ impl Model for World {
 }
 
 impl World {
-    /// The state before any step, on these declarations. It takes no memory, nor does any other
-    /// call of a world.
+    /// Returns the state before any step, on these declarations. It takes no memory, nor does any
+    /// other call of a world.
     pub fn open(setup: Setup) -> Self
         ensures history { StandsFor result [] }
         ensures setup { result.setup ≡ setup }
@@ -87,14 +87,14 @@ impl World {
         }
     }
 
-    /// The declarations that the world is on.
+    /// Returns the declarations that the world is on.
     pub fn setup(&self) -> &Setup
         ensures { result.now ≡ self.now.setup }
     {
         &self.setup
     }
 
-    /// The same state again.
+    /// Returns the same state again.
     pub(crate) fn copy(&self) -> Self
         ensures { result ≡ self.now }
     {
@@ -108,8 +108,8 @@ impl World {
         }
     }
 
-    /// The one worker that signals a component now; None where there is no such component, and so
-    /// where the eventcount is not declared.
+    /// Returns the one worker that signals a component now; `None` if there is no such component,
+    /// and so where the eventcount is not declared.
     pub fn signaller(&self, event: EventId, component: usize) -> Option<WorkerId>
         ensures { (h : List Entry) → StandsFor self.now h → result ≡ signaller_at self.now.setup event (reverse h) component }
     {
@@ -117,8 +117,8 @@ impl World {
         signallers.signaller(component)
     }
 
-    /// The component of an eventcount that the worker signals now. None where it signals none of it,
-    /// as where either is not declared.
+    /// Returns the component of an eventcount that the worker signals now. `None` if it signals
+    /// none of it, as where either is not declared.
     pub fn component_of(&self, event: EventId, worker: WorkerId) -> Option<usize>
         ensures { (h : List Entry) → StandsFor self.now h → result ≡ component_at self.now.setup event (reverse h) worker }
     {
@@ -134,7 +134,7 @@ impl World {
         signallers.component(worker)
     }
 
-    /// The total of an eventcount: how many advances of it there were. None where it is not
+    /// Returns the total of an eventcount: how many advances of it there were. `None` if it is not
     /// declared.
     pub fn total(&self, event: EventId) -> Option<u64>
         ensures { (h : List Entry) → StandsFor self.now h
@@ -147,8 +147,9 @@ impl World {
         Some(sum_of(&self.counts, event.get(), width))
     }
 
-    /// A component of an eventcount: how many advances were made by who signalled it at their moment.
-    /// None where there is no such component, and so where the eventcount is not declared.
+    /// Returns a component of an eventcount: how many advances were made by who signalled it at
+    /// their moment. `None` if there is no such component, and so where the eventcount is not
+    /// declared.
     pub fn component(&self, event: EventId, component: usize) -> Option<u64>
         ensures { (h : List Entry) → StandsFor self.now h
             → result ≡ (if nat_lt component (width self.now.setup event) then Some (component_total self.now.setup event component (reverse h)) else None) }
@@ -159,8 +160,8 @@ impl World {
         Some(count_in(&self.counts, event.get(), component).value())
     }
 
-    /// How many tickets of a sequencer were drawn, which is the next ticket's number. None where it
-    /// is not declared.
+    /// Returns how many tickets of a sequencer were drawn, which is the next ticket's number.
+    /// `None` if it is not declared.
     pub fn issued(&self, sequencer: SeqId) -> Option<u64>
         ensures { (h : List Entry) → StandsFor self.now h
             → result ≡ (if nat_lt sequencer (length self.now.setup.takers) then Some (issued sequencer (reverse h)) else None) }
@@ -172,7 +173,7 @@ impl World {
         Some(count.value())
     }
 
-    /// The value last put into a cell, 0 before any put. None where it is not declared.
+    /// Returns the value last put into a cell, 0 before any put. `None` if it is not declared.
     pub fn cell(&self, cell: CellId) -> Option<u64>
         ensures { (h : List Entry) → StandsFor self.now h
             → result ≡ (if nat_lt cell (length self.now.setup.cells) then Some (cell_value cell (reverse h)) else None) }
@@ -183,7 +184,7 @@ impl World {
         Some(self.cells[cell.get()])
     }
 
-    /// The worker's read or await that has not ended, if there is one.
+    /// Returns the worker's read or await that has not ended, if there is one.
     pub fn under_way(&self, worker: WorkerId) -> Option<UnderWay>
         ensures { (h : List Entry) → StandsFor self.now h → result ≡ progress_of self.now.setup worker (reverse h) }
     {
@@ -191,7 +192,7 @@ impl World {
         self.calls[place]
     }
 
-    /// What a call comes to that reads its next component.
+    /// Returns what a call comes to that reads its next component.
     #[inline(always)]
     fn read(&self, call: &UnderWay) -> Effect
         ensures { result ≡ next_read self.now call.now }
@@ -218,7 +219,8 @@ impl World {
         refuse_if(cell.get() >= self.setup.cells(), Refusal::UnknownObject)
     }
 
-    /// What an act comes to that begins a call, or the first refusal after those that ask for the worker and its call.
+    /// Returns what an act comes to that begins a call, or the first refusal after those that ask
+    /// for the worker and its call.
     #[inline(always)]
     fn begin(&self, worker: WorkerId, act: &Act) -> Result<Effect, Refusal>
         requires declared { worker < self.now.setup.workers }
@@ -277,7 +279,7 @@ impl World {
         }
     }
 
-    /// The first refusal that holds, else what the step comes to.
+    /// Returns the first refusal that holds, else what the step comes to.
     #[inline(always)]
     fn effect(&self, worker: WorkerId, act: Act) -> Result<Effect, Refusal>
         ensures named { IsNamed act }
@@ -292,7 +294,8 @@ impl World {
         }
     }
 
-    /// What a step of the worker comes to after the history: the first refusal that holds, or the reply and the change.
+    /// Returns what a step of the worker comes to after the history: the first refusal that holds,
+    /// or the reply and the change.
     #[inline(always)]
     pub(crate) fn plan(&self, worker: WorkerId, act: &Act) -> Result<Effect, Refusal>
         ensures { (h : List Entry) → StandsFor self.now h
@@ -326,7 +329,8 @@ impl World {
         }
     }
 
-    /// The act that began the call that an act of the worker is part of, where this call is under way.
+    /// Returns the act that began the call that an act of the worker is part of, where this call is
+    /// under way.
     #[inline(always)]
     fn begun_by(&self, worker: WorkerId, act: &Act) -> Act
         ensures { result ≡ op_in self.now worker act.now }
@@ -357,7 +361,7 @@ impl World {
         }
     }
 
-    /// What `step` would answer, and no change.
+    /// Returns what `step` would answer, and no change.
     #[inline(always)]
     pub fn answer(&self, worker: WorkerId, act: &Act) -> Result<Reply, Refusal>
         ensures answer { (h : List Entry) → StandsFor self.now h → result ≡ answer_of self.now.setup (reverse h) worker act.now }
@@ -370,7 +374,8 @@ impl World {
         }
     }
 
-    /// One step: the first refusal that holds, and no change, or the right reply.
+    /// Makes one step and returns the right reply, or returns the first refusal that holds and
+    /// changes nothing.
     #[inline(always)]
     pub fn step(&mut self, worker: WorkerId, act: Act) -> Result<Reply, Refusal>
         ensures answer { (h : List Entry) → StandsFor self.old h → result ≡ answer_of self.old.setup (reverse h) worker act }
@@ -387,7 +392,7 @@ impl World {
         }
     }
 
-    /// One step, as `step` makes it, told with the act that began its call.
+    /// Makes one step, as `step` does, and returns with it the act that began its call.
     #[inline(always)]
     pub fn step_of_call(&mut self, worker: WorkerId, act: Act) -> Result<Step, Refusal>
         ensures answer { (h : List Entry) → StandsFor self.old h

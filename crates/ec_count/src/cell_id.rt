@@ -20,7 +20,7 @@ impl Model for CellId {
 }
 
 impl CellId {
-    /// The id of cell n; None where n is above 255.
+    /// Returns the id of cell n; `None` if n is above 255.
     #[inline(always)]
     pub fn new(n: usize) -> Option<Self>
         ensures variant { IsSome result ↔ (n < 256) }
@@ -33,7 +33,7 @@ impl CellId {
         }
     }
 
-    /// Its number, from 0 to 255.
+    /// Returns its number, from 0 to 255.
     #[inline(always)]
     pub fn get(self) -> usize
         ensures value { result ≡ self }

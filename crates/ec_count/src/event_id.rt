@@ -20,7 +20,7 @@ impl Model for EventId {
 }
 
 impl EventId {
-    /// The id of eventcount n; None where n is above 31.
+    /// Returns the id of eventcount n; `None` if n is above 31.
     #[inline(always)]
     pub fn new(n: usize) -> Option<Self>
         ensures variant { IsSome result ↔ (n < 32) }
@@ -33,7 +33,7 @@ impl EventId {
         }
     }
 
-    /// Its number, from 0 to 31.
+    /// Returns its number, from 0 to 31.
     #[inline(always)]
     pub fn get(self) -> usize
         ensures value { result ≡ self }

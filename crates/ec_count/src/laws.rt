@@ -1,31 +1,31 @@
 //! What the definitions mean: each function says a law and does nothing.
 ghost use Rattle.ec_count.specs.Laws.{FirstTestAnswers, OneSignaller, RightsAreDeclared, SilenceIsNoRight, NamesAreFound};
 
-/// Where a list of tests with their faults answers a fault, its test is the first that holds;
-/// where it answers none, no test holds.
+/// States that if a list of tests with their faults answers a fault, its test is the first that
+/// holds; where it answers none, no test holds.
 pub fn the_first_test_answers<F>()
     ensures { FirstTestAnswers F }
 {}
 
-/// In declarations a worker is the signaller of a component exactly where that component is its
-/// own.
+/// States that in declarations a worker is the signaller of a component exactly where that
+/// component is its own.
 pub fn each_component_has_one_signaller()
     ensures { OneSignaller }
 {}
 
-/// Who has a right is declared, and so is what the right is on.
+/// States that who has a right is declared, and so is what the right is on.
 pub fn rights_are_declared()
     ensures { RightsAreDeclared }
 {}
 
-/// A silent worker is a declared one that has no component, no ticket to take and no cell to
-/// write.
+/// States that a silent worker is a declared one that has no component, no ticket to take and no
+/// cell to write.
 pub fn silent_workers_change_nothing()
     ensures { SilenceIsNoRight }
 {}
 
-/// Each name of a table is found with its own target, and so is the name that is given for a
-/// target, which is the first that was added for it.
+/// States that each name of a table is found with its own target, and so is the name that is given
+/// for a target, which is the first that was added for it.
 pub fn names_are_found()
     ensures { NamesAreFound }
 {}

@@ -20,7 +20,7 @@ impl Model for Limit {
 }
 
 impl Limit {
-    /// The limit n; None where n is 0 or above 281474976710655.
+    /// Returns the limit n; `None` if n is 0 or above 281474976710655.
     pub fn new(n: u64) -> Option<Self>
         ensures variant { IsSome result ↔ ((1 ≤ n) × (n < 2 ^ 48)) }
         ensures value { IfSome result (λ l. l ≡ n) }
@@ -32,7 +32,7 @@ impl Limit {
         }
     }
 
-    /// Its number, from 1 to 281474976710655.
+    /// Returns its number, from 1 to 281474976710655.
     #[inline(always)]
     pub fn get(self) -> u64
         ensures value { result ≡ self }

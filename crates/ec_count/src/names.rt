@@ -51,7 +51,7 @@ impl Model for Names {
 }
 
 impl Names {
-    /// No names, with room for a few.
+    /// Makes a table of no names, with room for a few.
     pub fn new(alloc: Global) -> Result<Self, AllocError>
         ensures { IfOk result (λ names. names ≡ []) }
     {
@@ -60,28 +60,28 @@ impl Names {
         Ok(Names { table, firsts })
     }
 
-    /// What is true of the names.
+    /// States what is true of the names.
     pub fn known(&self)
         ensures { AreNames self.now }
     {
         let _table = &self.table;
     }
 
-    /// How many names were added.
+    /// Returns how many names were added.
     pub fn len(&self) -> usize
         ensures { result ≡ length self.now }
     {
         self.table.len()
     }
 
-    /// What the name stands for.
+    /// Returns what the name stands for.
     pub fn find(&self, name: &str) -> Option<Target>
         ensures { result ≡ find_name name.now self.now }
     {
         self.find_bytes(name.as_bytes())
     }
 
-    /// What the name of these bytes stands for.
+    /// Returns what the name of these bytes stands for.
     pub fn find_bytes(&self, name: &[u8]) -> Option<Target>
         ensures { result ≡ find_name name.now self.now }
     {
@@ -142,7 +142,7 @@ impl Names {
         }
     }
 
-    /// The name at a place, and what it stands for.
+    /// Returns the name at a place, and what it stands for.
     pub fn at(&self, place: usize) -> Option<(&str, Target)>
         ensures { option_map (λ e. (e.0.now, e.1)) result ≡ slice_get self.now place }
     {
@@ -152,14 +152,14 @@ impl Names {
         }
     }
 
-    /// The place of the first name that was added for the target.
+    /// Returns the place of the first name that was added for the target.
     fn place_of(&self, target: &Target) -> Option<usize>
         ensures { result ≡ place_of target.now self.now }
     {
         self.firsts.get(target).copied()
     }
 
-    /// The first name that was added for the target.
+    /// Returns the first name that was added for the target.
     pub fn name_of(&self, target: Target) -> Option<&str>
         ensures { option_map (λ name. name.now) result ≡ name_of target self.now }
     {
@@ -184,7 +184,7 @@ fn note_first(firsts: &mut IndexMap<Target, usize>, target: &Target, place: usiz
     };
 }
 
-/// The text of a name.
+/// Returns the text of a name.
 fn text_of(name: &[u8]) -> &str
     requires { is_name name.now ≡ true }
     ensures { result.now ≡ name.now }

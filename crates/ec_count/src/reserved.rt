@@ -43,14 +43,14 @@ static RESERVED: [&str; 36] = [
     "write",
 ];
 
-/// Whether a word is one of these.
+/// Returns whether a word is one of these.
 fn is_among(word: &[u8], words: &[&str]) -> bool
     ensures { result ≡ list_any (λ w. bytes_eq w.now word.now) words.now }
 {
     words.iter().any(|w| w.as_bytes() == word)
 }
 
-/// Whether each byte may stand in a name after the first.
+/// Returns whether each byte may stand in a name after the first.
 fn has_name_bytes(rest: &[u8]) -> bool
     ensures { result ≡ list_all is_name_byte rest.now }
 {
@@ -58,7 +58,7 @@ fn has_name_bytes(rest: &[u8]) -> bool
         .all(|byte| byte.is_ascii_alphanumeric() || *byte == b'_')
 }
 
-/// Whether a word is a name: an ASCII letter and then at most 15 ASCII letters, digits or
+/// Returns whether a word is a name: an ASCII letter and then at most 15 ASCII letters, digits or
 /// underscores, and no reserved word.
 #[tactic(auto, unfolding(crate::specs::Reserved::is_name))]
 pub fn is_name(word: &[u8]) -> bool

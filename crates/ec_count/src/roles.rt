@@ -7,14 +7,14 @@ use crate::setup::names_unknown;
 use crate::{Setup, SetupFault, WorkerId};
 use arrayvec::ArrayVec;
 
-/// Whether a worker stands in both lists.
+/// Returns whether a worker stands in both lists.
 pub fn shares_worker(first: &[WorkerId], second: &[WorkerId]) -> bool
     ensures { result ≡ shares_worker first.now second.now }
 {
     first.iter().any(|w| second.contains(w))
 }
 
-/// The workers of the first list, then those of the second.
+/// Returns the workers of the first list, then those of the second.
 pub fn joined(first: &[WorkerId], second: &[WorkerId]) -> ArrayVec<WorkerId, 32>
     requires few_first { length first.now ≤ 16 }
     requires few_second { length second.now ≤ 16 }
@@ -27,8 +27,8 @@ pub fn joined(first: &[WorkerId], second: &[WorkerId]) -> ArrayVec<WorkerId, 32>
 }
 
 impl Setup {
-    /// Why an object with these two roles can't be declared: the first fault that holds, or None.
-    /// `full` says that its table has no room for one more, and `none` that it would hold
+    /// Returns why an object with these two roles can't be declared: the first fault that holds, or
+    /// None. `full` says that its table has no room for one more, and `none` that it would hold
     /// nothing.
     pub fn roles_fault(
         &self,

@@ -49,7 +49,7 @@ impl Hash for Word {
 }
 
 impl Word {
-    /// The word of these bytes, if they are not too many.
+    /// Makes a table of no words, with room for a few.
     fn new(bytes: &[u8]) -> Option<Self>
         ensures { MatchOption result (24 < length bytes.now) (λ word. word.bytes.items ≡ bytes.now) }
     {
@@ -83,7 +83,7 @@ impl Model for Vocabulary {
 }
 
 impl Vocabulary {
-    /// No words, with room for a few.
+    /// Makes a table of no words, with room for a few.
     pub fn new(alloc: Global) -> Result<Self, AllocError>
         ensures { IfOk result (λ words. words ≡ []) }
     {
@@ -94,14 +94,14 @@ impl Vocabulary {
         })
     }
 
-    /// How many words were added.
+    /// Returns how many words were added.
     pub fn len(&self) -> usize
         ensures { result ≡ length self.now }
     {
         self.table.len()
     }
 
-    /// What the word stands for.
+    /// Returns what the word stands for.
     pub fn find(&self, word: &[u8]) -> Option<Target>
         ensures { result ≡ find_name word.now self.now }
     {
@@ -111,7 +111,7 @@ impl Vocabulary {
         }
     }
 
-    /// What the word stands for, where it is the word at the place that is looked at first.
+    /// Returns what the word stands for, where it is the word at the place that is looked at first.
     #[inline(always)]
     fn find_at_hint(&self, word: &[u8]) -> Option<Target>
         ensures { IfSome result (λ target. find_name word.now self.now ≡ Some target) }
@@ -129,7 +129,7 @@ impl Vocabulary {
         }
     }
 
-    /// What the word stands for, by the table alone.
+    /// Returns what the word stands for, by the table alone.
     #[cold]
     #[inline(never)]
     fn find_in_table(&self, word: &[u8]) -> Option<Target>
@@ -140,7 +140,7 @@ impl Vocabulary {
         table.get(&key).copied()
     }
 
-    /// The word at a place, and what it stands for.
+    /// Returns the word at a place, and what it stands for.
     pub fn at(&self, place: usize) -> Option<(&[u8], Target)>
         ensures { option_map (λ e. (e.0.now, e.1)) result ≡ slice_get self.now place }
     {
@@ -176,8 +176,8 @@ impl Vocabulary {
     }
 }
 
-/// A mark of a word, made of four of its bytes. Two words mostly have different marks; a search compares marks first, for
-/// speed.
+/// Returns a mark of a word, made of four of its bytes. Two words mostly have different marks; a
+/// search compares marks first, for speed.
 fn mark(word: &[u8]) -> u8 {
     let n = word.len();
     if n < 2 {

@@ -20,7 +20,7 @@ impl Model for WorkerId {
 }
 
 impl WorkerId {
-    /// The id of worker n; None where n is above 15.
+    /// Returns the id of worker n; `None` if n is above 15.
     #[inline(always)]
     pub fn new(n: usize) -> Option<Self>
         ensures variant { IsSome result ↔ (n < 16) }
@@ -33,7 +33,7 @@ impl WorkerId {
         }
     }
 
-    /// Its number, from 0 to 15.
+    /// Returns its number, from 0 to 15.
     #[inline(always)]
     pub fn get(self) -> usize
         ensures value { result ≡ self }

@@ -27,7 +27,7 @@ struct ReaderCall {
     number: u64,
 }
 
-/// The call of a reader on the database that an entry finishes, if it finishes one.
+/// Returns the call of a reader on the database that an entry finishes, if it finishes one.
 fn finished_call(lists: &Lists, kept: &Kept, op: &Act, entry: &Entry) -> Option<ReaderCall>
     ensures { result ≡ finished_call lists.now.shape.now (writes lists.now.setup.now lists.now.shape.now entry.now.worker) kept.now op.now entry.now }
 {
@@ -50,7 +50,7 @@ fn finished_call(lists: &Lists, kept: &Kept, op: &Act, entry: &Entry) -> Option<
     })
 }
 
-/// An array with the same element everywhere.
+/// Returns an array with the same element everywhere.
 fn all_alike<T: Copy, const N: usize>(x: T) -> [T; N]
     ensures each { (i : ℕ) → i < N → slice_get result i ≡ Some x }
     ensures long { length result ≡ N }
@@ -200,7 +200,7 @@ impl<'a> Audit for VersionAudit<'a> {
 }
 
 impl<'a> VersionAudit<'a> {
-    /// Before the first entry of a run on this setup. It takes no memory.
+    /// Makes the audit before the first entry of a run on this setup. It takes no memory.
     pub fn new(alloc: Global, shape: &'a DatabaseShape, setup: &'a Setup) -> Self
         ensures shape { result.shape ≡ shape.now }
         ensures setup { result.setup ≡ setup.now }
@@ -217,7 +217,8 @@ impl<'a> VersionAudit<'a> {
         }
     }
 
-    /// How many calls of the list that it is in a worker has finished, after the entries so far.
+    /// Returns how many calls of the list that it is in a worker has finished, after the entries so
+    /// far.
     pub fn finished(&self, worker: WorkerId) -> usize
         ensures { (past : List Entry) → IsVersioning self.now past → result ≡ length (block (database_rules self.now.setup self.now.shape worker) worker past) }
     {
@@ -225,7 +226,7 @@ impl<'a> VersionAudit<'a> {
         kept.at
     }
 
-    /// How many accepting tries there are so far; None where memory was refused for one.
+    /// Returns how many accepting tries there are so far; `None` if memory was refused for one.
     pub fn found(&self) -> Option<usize>
         ensures { result ≡ found_in self.now }
     {
@@ -236,14 +237,14 @@ impl<'a> VersionAudit<'a> {
         }
     }
 
-    /// The accepting try with this place among those so far, if there are so many.
+    /// Returns the accepting try with this place among those so far, if there are so many.
     pub fn accepted(&self, place: usize) -> Option<TryView<'_>>
         ensures { result ≡ slice_get self.now.list place }
     {
         self.tries.get(place)
     }
 
-    /// The accepting tries after the entries so far, as `versions` lists them.
+    /// Returns the accepting tries after the entries so far, as `versions` lists them.
     pub fn finish(self) -> Result<AcceptedTries, AuditFault>
         ensures followed { (h : List Entry) → EndsAt self.entry.setup (IsVersioning self.entry) h → OnOk result (FollowsDatabase self.entry.setup self.entry.shape (reverse h)) }
         ensures tries { (h : List Entry) → EndsAt self.entry.setup (IsVersioning self.entry) h → IfOk result (λ tries. ListsTries self.entry.setup self.entry.shape h tries.list) }
@@ -267,7 +268,7 @@ impl<'a> VersionAudit<'a> {
         Ok(tries)
     }
 
-    /// The accepting tries after all entries of a run, as `versions` lists them.
+    /// Returns the accepting tries after all entries of a run, as `versions` lists them.
     pub fn versions(self, run: &Run) -> Result<AcceptedTries, AuditFault>
         requires setup { self.setup ≡ run.now.setup }
         requires stands { IsVersioning self (reverse run.now.entries) }
@@ -281,9 +282,9 @@ impl<'a> VersionAudit<'a> {
     }
 }
 
-/// The accepting tries of a database in a run, by their last steps. Where the workers don't follow
-/// the database's call lists, the first entry that breaks them is told. The run is as before,
-/// whatever is answered.
+/// Returns the accepting tries of a database in a run, by their last steps. Where the workers don't
+/// follow the database's call lists, the first entry that breaks them is told. The run is as
+/// before, whatever is answered.
 pub fn versions(
     alloc: Global,
     run: &Run,

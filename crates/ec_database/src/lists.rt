@@ -42,7 +42,7 @@ fn is_cell(shape: &DatabaseShape, x: CellId) -> bool
     first <= x.get() && x.get() < first + shape.cells()
 }
 
-/// Whether an act names an object of the database.
+/// Returns whether an act names an object of the database.
 pub fn is_on(shape: &DatabaseShape, act: &Act) -> bool
     ensures { result ≡ is_on shape.now act.now }
 {
@@ -58,7 +58,7 @@ pub fn is_on(shape: &DatabaseShape, act: &Act) -> bool
     }
 }
 
-/// Whether the worker of a number is a writer; false where there is no such worker.
+/// Returns whether the worker of a number is a writer; false where there is no such worker.
 fn is_writer(shape: &DatabaseShape, setup: &Setup, number: usize) -> bool
     requires { number < 16 }
     ensures { result ≡ writes setup.now shape.now number }
@@ -85,14 +85,14 @@ impl<'a> Lists<'a> {
         }
     }
 
-    /// Whether the worker is a writer.
+    /// Returns whether the worker is a writer.
     pub(crate) fn writes(&self, worker: WorkerId) -> bool
         ensures { result ≡ writes self.now.setup.now self.now.shape.now worker }
     {
         self.writers[worker.get()]
     }
 
-    /// Whether an act begins the call that the worker's list has next.
+    /// Returns whether an act begins the call that the worker's list has next.
     #[inline(always)]
     fn is_next(&self, worker: WorkerId, kept: &Kept, act: &Act) -> bool
         ensures { (calls : List Told) → kept.now ≡ kept_of calls → result ≡ (rules self.now.shape.now (writes self.now.setup.now self.now.shape.now) worker).fits calls act.now }
@@ -104,7 +104,7 @@ impl<'a> Lists<'a> {
         }
     }
 
-    /// The place of the last call of the worker's list.
+    /// Returns the place of the last call of the worker's list.
     fn last(&self, worker: WorkerId) -> usize
         ensures { result ≡ (if writes self.now.setup.now self.now.shape.now worker then self.now.shape.now.cells + 3 else self.now.shape.now.cells + 2) }
     {
@@ -150,7 +150,7 @@ impl Protocol for Lists<'_> {
     }
 }
 
-/// What is kept once one more call has answered.
+/// Returns what is kept once one more call has answered.
 fn with_number(kept: &Kept, number: u64) -> Kept
     requires { kept.now.at < usize.MAX }
     ensures { (calls : List Told) (c : Told) → kept.now ≡ kept_of calls → number ≡ number_of c.reply → result ≡ kept_of (calls ++ c ∷ []) }

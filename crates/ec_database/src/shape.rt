@@ -30,35 +30,37 @@ impl Model for DatabaseShape {
 }
 
 impl DatabaseShape {
-    /// The eventcount of the writings that were started: a writer advances it before it writes.
+    /// Returns the eventcount of the writings that were started: a writer advances it before it
+    /// writes.
     pub fn start(&self) -> EventId
         ensures { result ≡ self.now.start }
     {
         self.start
     }
 
-    /// The eventcount of the writings that are done: a writer advances it when it has written.
+    /// Returns the eventcount of the writings that are done: a writer advances it when it has
+    /// written.
     pub fn done(&self) -> EventId
         ensures { result ≡ self.now.done }
     {
         self.done
     }
 
-    /// The sequencer that gives the writers their turns.
+    /// Returns the sequencer that gives the writers their turns.
     pub fn turn(&self) -> SeqId
         ensures { result ≡ self.now.turn }
     {
         self.turn
     }
 
-    /// The first cell; the others follow it.
+    /// Returns the first cell; the others follow it.
     pub fn first_cell(&self) -> CellId
         ensures { result ≡ self.now.first_cell }
     {
         self.first_cell
     }
 
-    /// The number of cells, from 1 to 256.
+    /// Returns the number of cells, from 1 to 256.
     pub fn cells(&self) -> usize
         ensures value { result ≡ self.now.cells }
         ensures some { 0 < result }
@@ -67,14 +69,14 @@ impl DatabaseShape {
         self.cells as usize
     }
 
-    /// What is true of a shape.
+    /// States what is true of a shape.
     pub fn known(&self)
         ensures { IsShape self.now }
     {
         let _cells = self.cells;
     }
 
-    /// A cell by its place, counted from 0.
+    /// Returns a cell by its place, counted from 0.
     pub(crate) fn cell_at(&self, place: usize) -> CellId
         requires { place < self.now.cells }
         ensures { result ≡ self.now.first_cell + place }
@@ -96,8 +98,8 @@ impl DatabaseShape {
             && !shares_worker(write, read)
     }
 
-    /// Whether the objects are declared there, with the rights of a database and fixed eventcounts,
-    /// for writers and readers that share no worker, one of each at least.
+    /// Returns whether the objects are declared there, with the rights of a database and fixed
+    /// eventcounts, for writers and readers that share no worker, one of each at least.
     pub fn fits(&self, setup: &Setup) -> bool
         ensures { IsTrue result ↔ Fits self.now setup.now }
     {
@@ -132,7 +134,7 @@ pub fn declare_database(
     Ok(add_database(setup, n, write, read))
 }
 
-/// Whether some table has no room for a database of n cells.
+/// Returns whether some table has no room for a database of n cells.
 fn lacks_room(setup: &Setup, n: usize) -> bool
     ensures { result ≡ lacks_room setup.now n }
 {

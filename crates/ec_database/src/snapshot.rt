@@ -34,7 +34,7 @@ impl Snapshot {
     ghost use Rattle.ec_database.specs.Standing.{place_of, ending};
     ghost use Rattle.ec_database.specs.Places.{next_place};
 
-    /// A snapshot of at most so many tries, from 1 to 1000.
+    /// Makes a snapshot of at most so many tries, from 1 to 1000.
     pub fn new(shape: DatabaseShape, tries: usize) -> Self
         requires some { 1 ≤ tries }
         requires few { tries ≤ 1000 }
@@ -79,7 +79,7 @@ impl Snapshot {
         }
     }
 
-    /// How it has ended: None while `next` is Some.
+    /// Returns how it has ended: None while `next` is Some.
     pub fn ended(&self) -> Option<SnapshotEnd>
         ensures value { result ≡ ending self.now [] }
         ensures next { IsSome result ↔ (next_of (⟦<Snapshot as Procedure>⟧.is_going self.now) (⟦<Snapshot as Procedure>⟧.rest self.now []) ≡ None) }

@@ -42,28 +42,28 @@ impl<'a> Model for TryView<'a> {
 }
 
 impl<'a> TryView<'a> {
-    /// The reader.
+    /// Returns the reader.
     pub fn worker(&self) -> WorkerId
         ensures { result ≡ self.now.worker }
     {
         self.worker
     }
 
-    /// The version that both reads answered.
+    /// Returns the version that both reads answered.
     pub fn version(&self) -> u64
         ensures { result ≡ self.now.version }
     {
         self.version
     }
 
-    /// How many cells were read.
+    /// Returns how many cells were read.
     pub fn cells(&self) -> usize
         ensures { result ≡ length self.now.values }
     {
         self.cells
     }
 
-    /// The value of a cell, by its place.
+    /// Returns the value of a cell, by its place.
     pub fn value(&self, place: usize) -> Option<u64>
         ensures { result ≡ slice_get self.now.values place }
     {
@@ -74,7 +74,7 @@ impl<'a> TryView<'a> {
         }
     }
 
-    /// The values of all cells.
+    /// Returns the values of all cells.
     fn values(&self, alloc: Global) -> Result<Vec<u64>, AllocError>
         ensures { IfOk result (λ values. values.items ≡ self.now.values) }
     {
@@ -88,7 +88,7 @@ impl<'a> TryView<'a> {
         Ok(values)
     }
 
-    /// The try by itself.
+    /// Returns the try by itself.
     pub fn to_accepted(&self, alloc: Global) -> Result<Accepted, AllocError>
         ensures { IfOk result (λ accepted. shown accepted ≡ self.now) }
     {
@@ -157,7 +157,7 @@ fn add_row(
 }
 
 impl AcceptedTries {
-    /// No tries, of a database with so many cells. It takes no memory.
+    /// Makes a list of no tries, of a database with so many cells. It takes no memory.
     pub(crate) fn new(alloc: Global, cells: usize) -> Self
         requires { cells ≤ 256 }
         ensures { result ≡ record { cells = cells; list = [] } }
@@ -169,14 +169,14 @@ impl AcceptedTries {
         }
     }
 
-    /// How many there are.
+    /// Returns how many there are.
     pub fn len(&self) -> usize
         ensures { result ≡ length self.now.list }
     {
         self.count
     }
 
-    /// The try at a place, counted from 0.
+    /// Returns the try at a place, counted from 0.
     pub fn get(&self, place: usize) -> Option<TryView<'_>>
         ensures { result ≡ slice_get self.now.list place }
     {
@@ -213,7 +213,7 @@ impl AcceptedTries {
         Ok(())
     }
 
-    /// Each of them by itself.
+    /// Returns each of them by itself.
     pub fn to_list(&self, alloc: Global) -> Result<Vec<Accepted>, AllocError>
         ensures { IfOk result (λ list. map shown list.items ≡ self.now.list) }
     {

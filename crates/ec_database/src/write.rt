@@ -26,7 +26,7 @@ pub struct WriteAll {
 }
 
 impl WriteAll {
-    /// As many values as the database has cells, each of at most VALUE_MAX.
+    /// Makes a writing of as many values as the database has cells, each of at most VALUE_MAX.
     pub fn new(shape: DatabaseShape, values: ArrayVec<u64, 256>) -> Self
         requires many { array_vec_len values ≡ shape.cells }
         requires small { All (λ v. v ≤ VALUE_MAX) values.items }
@@ -42,7 +42,7 @@ impl WriteAll {
         }
     }
 
-    /// The value that it puts at its place; 0 where that is no put.
+    /// Returns the value that it puts at its place; 0 if that is no put.
     fn value(&self) -> u64
         ensures { result ≡ get_or self.now.values.items (self.now.at - 3) 0 }
     {

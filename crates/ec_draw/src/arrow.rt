@@ -30,7 +30,7 @@ pub struct Arrow {
     pub got: usize,
 }
 
-/// Whether an act puts into a buffer, or gets from it.
+/// Returns whether an act puts into a buffer, or gets from it.
 fn is_move(what: Move, shape: &BufferShape, act: &Act) -> bool
     ensures { result ≡ is_move what shape.now act.now }
 {
@@ -59,7 +59,8 @@ fn note_move(
     Ok(())
 }
 
-/// The same, unless there was no memory for an earlier one. The answer is whether one is lacking.
+/// Returns the same, unless there was no memory for an earlier one. The answer is whether one is
+/// lacking.
 fn lacks_after(
     lacks: bool,
     list: &mut Vec<usize>,
@@ -120,7 +121,7 @@ impl<'a> Audit for Moves<'a> {
 }
 
 impl<'a> Moves<'a> {
-    /// Before the first entry of a run on this setup. It takes no memory.
+    /// Makes what is kept before the first entry of a run on this setup. It takes no memory.
     pub(crate) fn new(alloc: Global, shape: &'a BufferShape, setup: &'a Setup) -> Self
         ensures shape { result.shape ≡ shape.now }
         ensures setup { result.audit.setup ≡ setup.now }
@@ -136,14 +137,14 @@ impl<'a> Moves<'a> {
     }
 }
 
-/// The position of a move by its number.
+/// Returns the position of a move by its number.
 fn place_of(list: &[usize], number: u64) -> usize
     ensures { result ≡ place_of list.now number }
 {
     list.get(number as usize).copied().unwrap_or(0)
 }
 
-/// The arrow of a delivery.
+/// Returns the arrow of a delivery.
 fn arrow_of(shape: &BufferShape, puts: &[usize], gets: &[usize], delivery: &Delivery) -> Arrow
     ensures { result ≡ arrow_of shape.now puts.now gets.now delivery.now }
 {

@@ -14,7 +14,7 @@ use ec_semaphore::{BalanceAudit, PairAudit, SemaphoreShape};
 use std::alloc::{AllocError, Global};
 use std::marker::Model;
 
-/// How many a semaphore has left, by its audit so far.
+/// Returns how many a semaphore has left, by its audit so far.
 fn left(audit: &BalanceAudit) -> u64
     ensures { audit.now.shape.initial + audit.now.ups < 2 ^ 64 → result ≡ left_by audit.now }
 {
@@ -56,7 +56,8 @@ fn pad(heights: &mut Vec<u64>, window: Window, moment: usize, number: u64) -> Re
     Ok(())
 }
 
-/// The same, unless there was no memory for an earlier one. The answer is whether one is lacking.
+/// Returns the same, unless there was no memory for an earlier one. The answer is whether one is
+/// lacking.
 fn lacks_after(
     lacks: bool,
     heights: &mut Vec<u64>,
@@ -112,7 +113,7 @@ impl Audit for Course {
 }
 
 impl Course {
-    /// Before the first entry. It takes no memory.
+    /// Makes what is kept before the first entry. It takes no memory.
     pub(crate) fn new(alloc: Global, shape: SemaphoreShape, window: Window) -> Self
         ensures shape { result.audit.shape ≡ shape }
         ensures window { result.window ≡ window }
@@ -126,7 +127,7 @@ impl Course {
         }
     }
 
-    /// Whether the workers follow the semaphore, after all entries of a run.
+    /// Returns whether the workers follow the semaphore, after all entries of a run.
     pub(crate) fn follows(&self, run: &Run) -> bool
         requires { IsCounted self.now.audit (reverse run.now.entries) }
         ensures { result ≡ follows (use_rules self.now.audit.shape) (reverse run.now.entries) }
@@ -134,7 +135,7 @@ impl Course {
         self.audit.balance(run).is_ok()
     }
 
-    /// What was left at the moments that are shown, after all entries of a run.
+    /// Returns what was left at the moments that are shown, after all entries of a run.
     pub(crate) fn heights(self, run: &Run, shape: &SemaphoreShape) -> Result<Vec<u64>, AllocError>
         requires shape { self.audit.shape ≡ shape.now }
         requires stands { IsCourse self (reverse run.now.entries) }

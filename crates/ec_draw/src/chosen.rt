@@ -35,8 +35,8 @@ impl Model for Chosen {
     ghost view = { λ c. c.targets.items };
 }
 
-/// Whether a name stands for a word: it is the word, or that of the group whose object the word
-/// spells.
+/// Returns whether a name stands for a word: it is the word, or that of the group whose object the
+/// word spells.
 fn stands_for(word: &[u8], name: &[u8]) -> bool
     ensures { result ≡ stands_for word.now name.now }
 {
@@ -49,28 +49,28 @@ fn stands_for(word: &[u8], name: &[u8]) -> bool
     }
 }
 
-/// Whether a name stands for a word.
+/// Returns whether a name stands for a word.
 fn is_named(word: &[u8], name: &str) -> bool
     ensures { result ≡ stands_for word.now name.now }
 {
     stands_for(word, name.as_bytes())
 }
 
-/// Whether some name stands for a word.
+/// Returns whether some name stands for a word.
 fn any_named(names: &[&str], word: &[u8]) -> bool
     ensures { result ≡ list_any (λ name. stands_for word.now name.now) names.now }
 {
     names.iter().any(|name| is_named(word, name))
 }
 
-/// Whether a word is chosen by names; where there are none all are.
+/// Returns whether a word is chosen by names; where there are none all are.
 fn is_chosen(names: &[&str], word: &[u8]) -> bool
     ensures { result ≡ is_chosen names.now word.now }
 {
     names.is_empty() || any_named(names, word)
 }
 
-/// Whether what a word stands for is drawn.
+/// Returns whether what a word stands for is drawn.
 fn is_drawn(choice: &Choice<'_>, word: &[u8], target: &Target) -> bool
     ensures { result ≡ is_drawn choice.now (word.now, target.now) }
 {
@@ -97,7 +97,7 @@ fn add_drawn(
     Ok(())
 }
 
-/// Whether a cell is one of a target's.
+/// Returns whether a cell is one of a target's.
 fn cell_in(cell: usize, target: &Target) -> bool
     ensures { result ≡ cell_in cell target.now }
 {
@@ -121,14 +121,14 @@ impl Chosen {
         Ok(Chosen { targets })
     }
 
-    /// Whether a worker is drawn.
+    /// Returns whether a worker is drawn.
     pub fn draws_worker(&self, worker: WorkerId) -> bool
         ensures { result ≡ draws_worker self.now worker }
     {
         self.targets.as_slice().contains(&Target::Worker(worker))
     }
 
-    /// How many of the first workers are drawn.
+    /// Returns how many of the first workers are drawn.
     pub fn workers_before(&self, number: usize) -> usize
         ensures { result ≤ 16 }
     {
@@ -139,14 +139,14 @@ impl Chosen {
         drawn.count().min(16)
     }
 
-    /// Whether an eventcount is drawn.
+    /// Returns whether an eventcount is drawn.
     fn draws_event(&self, event: EventId) -> bool
         ensures { result ≡ draws_event self.now event }
     {
         self.targets.as_slice().contains(&Target::Event(event))
     }
 
-    /// Whether a sequencer is drawn.
+    /// Returns whether a sequencer is drawn.
     fn draws_sequencer(&self, sequencer: SeqId) -> bool
         ensures { result ≡ draws_sequencer self.now sequencer }
     {
@@ -154,7 +154,7 @@ impl Chosen {
         targets.contains(&Target::Sequencer(sequencer))
     }
 
-    /// Whether a cell is drawn.
+    /// Returns whether a cell is drawn.
     fn draws_cell(&self, cell: CellId) -> bool
         ensures { result ≡ draws_cell self.now cell }
     {
@@ -163,7 +163,7 @@ impl Chosen {
         targets.iter().any(|target| cell_in(number, target))
     }
 
-    /// Whether the object of an act is drawn.
+    /// Returns whether the object of an act is drawn.
     pub fn draws_object(&self, act: &Act) -> bool
         ensures { result ≡ draws_object self.now act.now }
     {
@@ -177,14 +177,14 @@ impl Chosen {
         }
     }
 
-    /// Whether a call of a worker is drawn: the worker and the object are.
+    /// Returns whether a call of a worker is drawn: the worker and the object are.
     pub fn draws(&self, worker: WorkerId, act: &Act) -> bool
         ensures { result ≡ draws self.now worker act.now }
     {
         self.draws_worker(worker) && self.draws_object(act)
     }
 
-    /// Whether a curve is drawn; that of a balance is where its semaphore's eventcount is.
+    /// Returns whether a curve is drawn; that of a balance is where its semaphore's eventcount is.
     pub fn draws_curve(&self, object: &Plotted) -> bool
         ensures { result ≡ draws_curve self.now object.now }
     {
@@ -195,15 +195,15 @@ impl Chosen {
         }
     }
 
-    /// Whether a shade is drawn: its reader is, and its database's eventcount of starts.
+    /// Returns whether a shade is drawn: its reader is, and its database's eventcount of starts.
     pub fn draws_shade(&self, shade: &Shade) -> bool
         ensures { result ≡ draws_shade self.now (seen shade.now) }
     {
         self.draws_worker(shade.accepted.worker) && self.draws_event(shade.count)
     }
 
-    /// Whether an arrow is drawn: its producer and its consumer are, and its buffer's eventcount of
-    /// puts.
+    /// Returns whether an arrow is drawn: its producer and its consumer are, and its buffer's
+    /// eventcount of puts.
     pub fn draws_arrow(&self, arrow: &Arrow) -> bool
         ensures { result ≡ draws_arrow self.now arrow.now }
     {

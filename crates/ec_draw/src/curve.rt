@@ -37,7 +37,7 @@ pub struct Curve {
     pub heights: Vec<u64>,
 }
 
-/// Whether an act raises a count.
+/// Returns whether an act raises a count.
 fn raises(object: &Counted, act: &Act) -> bool
     ensures { result ≡ raises object.now act.now }
 {
@@ -76,7 +76,7 @@ fn count_in(world: &World, object: &Counted) -> u64
     }
 }
 
-/// The counts at the moments that are shown, given the first of them.
+/// Returns the counts at the moments that are shown, given the first of them.
 fn heights(
     alloc: Global,
     run: &Run,

@@ -23,7 +23,7 @@ pub struct Dot {
     pub number: Option<u64>,
 }
 
-/// The act that began the call whose entry an act makes in a world.
+/// Returns the act that began the call whose entry an act makes in a world.
 fn op_in(world: &World, worker: WorkerId, act: Act) -> Act
     ensures { (h : List Entry) → StandsFor world.now h
         → result ≡ op_in worker (reverse h) act }
@@ -37,7 +37,7 @@ fn op_in(world: &World, worker: WorkerId, act: Act) -> Act
     }
 }
 
-/// The component that an act reads or raises in a world.
+/// Returns the component that an act reads or raises in a world.
 fn component_in(world: &World, worker: WorkerId, act: Act) -> Option<usize>
     ensures { (h : List Entry) → StandsFor world.now h
         → result ≡ component_in world.now.setup worker (reverse h) act }
@@ -53,7 +53,7 @@ fn component_in(world: &World, worker: WorkerId, act: Act) -> Option<usize>
     }
 }
 
-/// What a go of a call reads in a world.
+/// Returns what a go of a call reads in a world.
 fn gone_read(world: &World, call: &UnderWay) -> Option<u64>
     ensures { (h : List Entry) → StandsFor world.now h
         → result ≡ option_and_then (λ e. held_in world.now.setup e call.now.index (reverse h))
@@ -65,7 +65,7 @@ fn gone_read(world: &World, call: &UnderWay) -> Option<u64>
     }
 }
 
-/// What an act reads of its component in a world.
+/// Returns what an act reads of its component in a world.
 fn number_in(world: &World, worker: WorkerId, act: Act) -> Option<u64>
     ensures { (h : List Entry) → StandsFor world.now h
         → result ≡ number_in world.now.setup worker (reverse h) act }
@@ -80,7 +80,7 @@ fn number_in(world: &World, worker: WorkerId, act: Act) -> Option<u64>
     }
 }
 
-/// The dot of an entry that comes next in a world.
+/// Returns the dot of an entry that comes next in a world.
 fn dot_of(world: &World, position: usize, entry: &Entry) -> Dot
     ensures { (h : List Entry) → StandsFor world.now h → position ≡ length (reverse h)
         → result ≡ dot_of world.now.setup (reverse h) entry.now }

@@ -95,7 +95,7 @@ impl<'a> GroupAudit for Finding<'a> {
     ghost stays = { finds_stay };
 }
 
-/// What is kept of groups before the first entry.
+/// Returns what is kept of groups before the first entry.
 fn opened<'a>(
     alloc: Global,
     groups: &'a [Group],
@@ -112,7 +112,7 @@ fn opened<'a>(
     Ok(list)
 }
 
-/// What is kept of groups after all entries of a run, in one walk over them.
+/// Returns what is kept of groups after all entries of a run, in one walk over them.
 fn walked<'a>(
     alloc: Global,
     run: &'a Run,
@@ -163,7 +163,7 @@ fn add_semaphore(
     }
 }
 
-/// Whether the workers follow the guarded parts of `both`, after all entries of a run.
+/// Returns whether the workers follow the guarded parts of `both`, after all entries of a run.
 fn follows_both(run: &Run, pairs: PairAudit<'_>) -> Result<bool, AllocError>
     requires { IsPairing pairs (reverse run.now.entries) }
     ensures { IfOk result
@@ -304,7 +304,8 @@ fn add_groups(
     Ok(())
 }
 
-/// What the audits find of those groups whose workers follow them, in one walk over the run.
+/// Returns what the audits find of those groups whose workers follow them, in one walk over the
+/// run.
 pub(crate) fn findings_of(
     alloc: Global,
     run: &Run,

@@ -15,7 +15,8 @@ fn keep(bars: &mut Vec<Placed>, placed: &Placed) -> Result<(), AllocError>
     Ok(())
 }
 
-/// The finished calls of a run that are shown, each with its point, in order of their points.
+/// Returns the finished calls of a run that are shown, each with its point, in order of their
+/// points.
 pub(crate) fn bars(alloc: Global, run: &Run, window: Window) -> Result<Vec<Placed>, AllocError>
     ensures { IfOk result (λ ps. ps.items ≡ bars run.now.setup window run.now.entries) }
 {

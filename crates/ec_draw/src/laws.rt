@@ -9,60 +9,62 @@ ghost use Rattle.ec_draw.specs.Laws.{TriesHaveShades};
 use ec_core::calls_under_way_are_cut_in_order;
 use ec_order::order_by_points_ascends;
 
-/// The bars of an accepted history are exactly its finished calls that the window shows, each with
-/// its point.
+/// States that the bars of an accepted history are exactly its finished calls that the window
+/// shows, each with its point.
 pub fn bars_are_calls()
     ensures { BarsAreCalls }
 {
     order_by_points_ascends();
 }
 
-/// The bar of a pending call begins with the entry that opened the call, after which its worker has
-/// only goes that were answered `pending`: the first of the call's entries as the world keeps them.
+/// States that the bar of a pending call begins with the entry that opened the call, after which
+/// its worker has only goes that were answered `pending`: the first of the call's entries as the
+/// world keeps them.
 pub fn pending_bars_begin()
     ensures { PendingBarsBegin }
 {
     calls_under_way_are_cut_in_order();
 }
 
-/// The curve of an eventcount or a sequencer at column j is its total, or its tickets, at moment
-/// from + j.
+/// States that the curve of an eventcount or a sequencer at column j is its total, or its tickets,
+/// at moment from + j.
 pub fn curves_are_counts()
     ensures { CurvesAreCounts }
 {}
 
-/// Whether a past follows lists of calls is answered as `Follow` of `ec_core` says.
+/// States that whether a past follows lists of calls is answered as `Follow` of `ec_core` says.
 pub fn following_is_answered()
     ensures { FollowingIsAnswered }
 {}
 
-/// The curve of a balance at column j is what is left at moment from + j, and where the semaphore
-/// is followed that is its balance.
+/// States that the curve of a balance at column j is what is left at moment from + j, and where the
+/// semaphore is followed that is its balance.
 pub fn balance_curves_are_balances()
     ensures curve { BalanceCurvesAreLefts }
     ensures balance { LeftsAreBalances }
 {}
 
-/// Each shade is that of an accepting try, which its last entry ends; and each accepting try has
-/// its shade, in the order of their last entries.
+/// States that each shade is that of an accepting try, which its last entry ends; and each
+/// accepting try has its shade, in the order of their last entries.
 pub fn shades_end_tries()
     ensures each { ShadesEndTries }
     ensures every { TriesHaveShades }
 {}
 
-/// Each shade begins with the entry that began the list of calls that its reader was in: it began a
-/// call on the database while no call of a list was finished, and no later entry of the reader did
-/// so.
+/// States that each shade begins with the entry that began the list of calls that its reader was
+/// in: it began a call on the database while no call of a list was finished, and no later entry of
+/// the reader did so.
 pub fn shades_begin_lists()
     ensures { ShadesBeginLists }
 {}
 
-/// Where a buffer is followed there is one arrow for each get, from the put of the same number.
+/// States that if a buffer is followed there is one arrow for each get, from the put of the same
+/// number.
 pub fn arrows_are_deliveries()
     ensures { ArrowsAreDeliveries }
 {}
 
-/// The most columns of a picture, as a number.
+/// States the most columns of a picture, as a number.
 pub fn pictures_have_400_columns_at_most()
     ensures { COLUMNS_MAX ≡ 400 }
 {}

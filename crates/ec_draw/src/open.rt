@@ -18,7 +18,7 @@ pub struct Open {
     pub first: usize,
 }
 
-/// Whether an entry is one of a worker, and begins a call.
+/// Returns whether an entry is one of a worker, and begins a call.
 fn begins(worker: WorkerId, entry: &Entry) -> bool
     ensures { result ≡ begins worker entry.now }
 {

@@ -45,8 +45,8 @@ fn add_curves(curves: &mut Vec<Curve>, list: Vec<Curve>) -> Result<(), AllocErro
     Ok(())
 }
 
-/// The picture of a run through a window: its shapes are those of the run's history, with these
-/// groups. The run is as before, with want of memory too.
+/// Returns the picture of a run through a window: its shapes are those of the run's history, with
+/// these groups. The run is as before, with want of memory too.
 pub fn picture_of(
     alloc: Global,
     run: &Run,

@@ -32,7 +32,7 @@ pub struct Shade {
     pub accepted: Accepted,
 }
 
-/// Whether an act goes on with a call.
+/// Returns whether an act goes on with a call.
 fn is_go(act: &Act) -> bool
     ensures { result ≡ is_go act.now }
 {
@@ -108,7 +108,8 @@ fn add_newest(
     Ok(())
 }
 
-/// The same, unless there was no memory for an earlier one. The answer is whether one is lacking.
+/// Returns the same, unless there was no memory for an earlier one. The answer is whether one is
+/// lacking.
 fn lacks_after(
     lacks: bool,
     shades: &mut Vec<Shade>,
@@ -179,7 +180,7 @@ impl<'a> Audit for Tries<'a> {
 }
 
 impl<'a> Tries<'a> {
-    /// Before the first entry of a run on this setup.
+    /// Makes what is kept before the first entry of a run on this setup.
     pub(crate) fn new(
         alloc: Global,
         shape: &'a DatabaseShape,

@@ -13,21 +13,21 @@ pub struct Window {
 }
 
 impl Window {
-    /// Whether the entry at a position is shown.
+    /// Returns whether the entry at a position is shown.
     pub fn shows(self, position: usize) -> bool
         ensures { result ≡ shows self position }
     {
         self.from <= position && position < self.to
     }
 
-    /// Whether a call with these first and last entries is shown.
+    /// Returns whether a call with these first and last entries is shown.
     pub fn meets(self, first: usize, last: usize) -> bool
         ensures { result ≡ meets self first last }
     {
         first < self.to && self.from <= last
     }
 
-    /// How many columns are shown.
+    /// Returns how many columns are shown.
     pub fn columns(self) -> usize
         ensures value { result ≡ columns self }
         ensures few { result ≤ 400 }
@@ -35,7 +35,7 @@ impl Window {
         self.to.saturating_sub(self.from).min(COLUMNS_MAX)
     }
 
-    /// The column of a moment. Moments before and behind the window stand at its edges.
+    /// Returns the column of a moment. Moments before and behind the window stand at its edges.
     pub fn column(self, moment: usize) -> usize
         ensures value { result ≡ column self moment }
         ensures few { result ≤ 400 }

@@ -26,7 +26,7 @@ pub(crate) struct Lists<'a> {
     pub(crate) second: Option<&'a [u8]>,
 }
 
-/// How many bytes stand before the first such word.
+/// Returns how many bytes stand before the first such word.
 fn stop_at(list: &[u8], stop: &[u8]) -> Option<usize>
     ensures none { IfNone result (split_words stop.now (words_of list.now) ≡ (words_of list.now, None)) }
     ensures some { IfSome result (λ at. StopsAt stop.now list.now at) }
@@ -52,7 +52,7 @@ fn stop_at(list: &[u8], stop: &[u8]) -> Option<usize>
     }
 }
 
-/// The lists before and behind the first `stop` of a list, where both are well formed.
+/// Returns the lists before and behind the first `stop` of a list, where both are well formed.
 fn split_lists<'a>(list: &'a [u8], stop: &[u8], needs: bool) -> Option<Lists<'a>>
     ensures { option_map shown_lists result ≡ well_or needs (split_words stop.now (words_of list.now)) }
 {
@@ -82,7 +82,7 @@ fn split_lists<'a>(list: &'a [u8], stop: &[u8], needs: bool) -> Option<Lists<'a>
     }
 }
 
-/// The two lists of names of a declaration of this sort, where both are well formed.
+/// Returns the two lists of names of a declaration of this sort, where both are well formed.
 fn lists_of<'a>(sort: Sort, list: &'a [u8]) -> Option<Lists<'a>>
     ensures { option_map shown_lists result ≡ well_or (needs_second sort) (both_lists (second_opener sort) (words_of list.now)) }
 {
@@ -100,7 +100,7 @@ fn lists_of<'a>(sort: Sort, list: &'a [u8]) -> Option<Lists<'a>>
     }
 }
 
-/// The parts of a declaration from the word before its first list on.
+/// Returns the parts of a declaration from the word before its first list on.
 #[tactic(auto, using(crate::proofs::Stops::opened_one))]
 fn opened<'a>(sort: Sort, name: &'a [u8], number: &'a [u8], rest: &'a [u8]) -> Option<Parts<'a>>
     ensures { option_map shown result ≡ opened_in sort name.now number.now (words_of rest.now) }
@@ -121,7 +121,7 @@ fn opened<'a>(sort: Sort, name: &'a [u8], number: &'a [u8], rest: &'a [u8]) -> O
     })
 }
 
-/// The parts of a declaration from what stands behind its name on.
+/// Returns the parts of a declaration from what stands behind its name on.
 fn numbered<'a>(sort: Sort, name: &'a [u8], rest: &'a [u8]) -> Option<Parts<'a>>
     ensures { option_map shown result ≡ numbered_in sort name.now (words_of rest.now) }
 {
@@ -137,7 +137,7 @@ fn numbered<'a>(sort: Sort, name: &'a [u8], rest: &'a [u8]) -> Option<Parts<'a>>
     opened(sort, name, word, rest)
 }
 
-/// The parts of a line of one of the forms.
+/// Returns the parts of a line of one of the forms.
 #[tactic(auto, using(crate::proofs::Stops::sorted_none, crate::proofs::Stops::word_of_sort), unfolding(crate::specs::Form::parts_in))]
 pub(crate) fn parts_of(line: &[u8]) -> Option<Parts<'_>>
     ensures { option_map shown result ≡ parts_in (words_of line.now) }

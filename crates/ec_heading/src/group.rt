@@ -36,7 +36,7 @@ fn push_semaphores(list: &mut Vec<SemaphoreShape>, groups: &[Group]) -> Result<(
     }
 }
 
-/// The semaphores among groups, the one named `both` not among them.
+/// Returns the semaphores among groups, the one named `both` not among them.
 pub fn semaphores_of(alloc: Global, groups: &[Group]) -> Result<Vec<SemaphoreShape>, AllocError>
     ensures { IfOk result (λ list. list.items ≡ semaphores_of groups.now) }
 {

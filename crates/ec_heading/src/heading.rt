@@ -68,8 +68,8 @@ pub enum HeadFault {
 impl HeadFault {
     ghost use Rattle.ec_heading.specs.Kinds.{fault_number};
 
-    /// Its number among the kinds of faults of scripts, from 2 to 9; none of want of memory, for which
-    /// no line is to blame.
+    /// Returns its number among the kinds of faults of scripts, from 2 to 9; none of want of
+    /// memory, for which no line is to blame.
     pub fn number(self) -> Option<u64>
         ensures { result ≡ fault_number self }
     {
@@ -110,7 +110,7 @@ impl Model for Heading {
     ghost invariant = { λ h. IsHeading (record { version = h.version; setup = h.setup; names = h.names; words = h.words; groups = h.groups.items; declarations = h.declarations.items }) };
 }
 
-/// The names that a line of workers lists, where it has that form.
+/// Returns the names that a line of workers lists, where it has that form.
 #[tactic(auto, using(crate::proofs::WorkersLine::some_workers))]
 fn worker_list(line: &[u8]) -> Option<&[u8]>
     ensures { option_map (λ list. words_of list.now) result ≡ workers_in (words_of line.now) }
@@ -152,7 +152,7 @@ fn add_workers(
     }
 }
 
-/// A heading with these workers and no declarations.
+/// Returns a heading with these workers and no declarations.
 fn opened(alloc: Global, version: Version, limit: Limit, list: &[u8]) -> Result<Heading, NameFault>
     requires within { limit ≤ greatest_limit version }
     requires none { workers_fault (words_of list.now) ≡ None }
@@ -178,8 +178,8 @@ fn opened(alloc: Global, version: Version, limit: Limit, list: &[u8]) -> Result<
 }
 
 impl Heading {
-    /// A heading with this limit and nothing declared. The version is that of the text, and a text of
-    /// it may have the limit, as `Version::limit` tells.
+    /// Makes a heading with this limit and nothing declared. The version is that of the text, and a
+    /// text of it may have the limit, as `Version::limit` tells.
     pub fn new(alloc: Global, version: Version, limit: Limit) -> Result<Self, AllocError>
         requires { limit ≤ greatest_limit version }
         ensures { IfOk result (λ heading. heading ≡ opened version limit []) }
@@ -294,14 +294,14 @@ impl Heading {
         Ok(())
     }
 
-    /// The version of its text.
+    /// Returns the version of its text.
     pub fn version(&self) -> Version
         ensures { result ≡ self.now.version }
     {
         self.version
     }
 
-    /// The same declarations under version 2.
+    /// Returns the same declarations under version 2.
     pub fn upgrade(self) -> Self
         ensures { result ≡ upgraded self }
     {
@@ -310,42 +310,44 @@ impl Heading {
         heading
     }
 
-    /// What is declared.
+    /// Returns what is declared.
     pub fn setup(&self) -> &Setup
         ensures { result.now ≡ self.now.setup }
     {
         &self.setup
     }
 
-    /// The names of the workers and of what is declared.
+    /// Returns the names of the workers and of what is declared.
     pub fn names(&self) -> &Names
         ensures { result.now ≡ self.now.names }
     {
         &self.names
     }
 
-    /// The words by which lines spell the workers and the objects, in the order in which they are declared.
+    /// Returns the words by which lines spell the workers and the objects, in the order in which
+    /// they are declared.
     pub fn words(&self) -> &Vocabulary
         ensures { result.now ≡ self.now.words }
     {
         &self.words
     }
 
-    /// The groups, in order of declaration.
+    /// Returns the groups, in order of declaration.
     pub fn groups(&self) -> &[Group]
         ensures { result.now ≡ self.now.groups }
     {
         self.groups.as_slice()
     }
 
-    /// What was declared after the workers, in order; a group by its place among the groups.
+    /// Returns what was declared after the workers, in order; a group by its place among the
+    /// groups.
     pub fn declarations(&self) -> &[Target]
         ensures { result.now ≡ self.now.declarations }
     {
         self.declarations.as_slice()
     }
 
-    /// What is true of a heading.
+    /// States what is true of a heading.
     #[tactic(auto, using(crate::proofs::shared::Standing::has_outline_from))]
     pub fn known(&self)
         ensures heading { IsHeading self.now }
@@ -357,21 +359,21 @@ impl Heading {
         let _setup = &self.setup;
     }
 
-    /// The eventcount that a word spells.
+    /// Returns the eventcount that a word spells.
     pub fn event(&self, word: &[u8]) -> Option<EventId>
         ensures { result ≡ event_in self.now.words word.now }
     {
         event_of(self.words.find(word)?)
     }
 
-    /// The sequencer that a word spells.
+    /// Returns the sequencer that a word spells.
     pub fn sequencer(&self, word: &[u8]) -> Option<SeqId>
         ensures { result ≡ sequencer_in self.now.words word.now }
     {
         sequencer_of(self.words.find(word)?)
     }
 
-    /// The cell that a word spells: the name of its block, `[`, its number there, and `]`.
+    /// Returns the cell that a word spells: the name of its block, `[`, its number there, and `]`.
     #[tactic(auto, unfolding(crate::specs::Spelled::cell_in_word))]
     pub fn cell(&self, word: &[u8]) -> Option<CellId>
         ensures { result ≡ cell_in_word self.now.words word.now }
@@ -380,7 +382,7 @@ impl Heading {
         self.cell_of(name, closed_number(rest)?)
     }
 
-    /// The cell with this number in the block of this name.
+    /// Returns the cell with this number in the block of this name.
     fn cell_of(&self, name: &[u8], i: u64) -> Option<CellId>
         ensures { result ≡ cell_of self.now.words name.now i }
     {
@@ -391,7 +393,7 @@ impl Heading {
         CellId::new(first + i as usize)
     }
 
-    /// The worker of a name.
+    /// Returns the worker of a name.
     pub fn worker(&self, word: &[u8]) -> Option<WorkerId>
         ensures { result ≡ worker_in self.now.words word.now }
     {
@@ -478,7 +480,7 @@ fn push_group(groups: &mut Vec<Group>, group: Option<Group>)
     }
 }
 
-/// The workers that a list names.
+/// Returns the workers that a list names.
 fn workers_of(words: &Vocabulary, list: &[u8]) -> ArrayVec<WorkerId, 16>
     requires { length (ids_in words.now (words_of list.now)) ≤ 16 }
     ensures { result.items ≡ ids_in words.now (words_of list.now) }
@@ -488,7 +490,7 @@ fn workers_of(words: &Vocabulary, list: &[u8]) -> ArrayVec<WorkerId, 16>
     ids
 }
 
-/// The workers that the second list names.
+/// Returns the workers that the second list names.
 fn second_workers(words: &Vocabulary, parts: &Parts<'_>) -> ArrayVec<WorkerId, 16>
     requires { length (ids_in words.now (second_list (shown parts.now))) ≤ 16 }
     ensures { result.items ≡ ids_in words.now (second_list (shown parts.now)) }

@@ -13,7 +13,7 @@ use crate::sort::Sort;
 use ec_count::{Setup, Vocabulary, is_name};
 use ec_text::{cut_word, number};
 
-/// Whether a word is no name.
+/// Returns whether a word is no name.
 fn has_bad_name(list: &[u8]) -> bool
     ensures { result ≡ list_any (λ w. not (is_name w)) (words_of list.now) }
 {
@@ -27,7 +27,7 @@ fn has_bad_name(list: &[u8]) -> bool
     }
 }
 
-/// The least fault of the names of workers.
+/// Returns the least fault of the names of workers.
 pub(crate) fn workers_fault(list: &[u8]) -> Option<HeadFault>
     ensures { result ≡ workers_fault (words_of list.now) }
 {
@@ -43,7 +43,7 @@ pub(crate) fn workers_fault(list: &[u8]) -> Option<HeadFault>
     None
 }
 
-/// The number, or 0 where there is none of at most 18 digits.
+/// Returns the number, or 0 where there is none of at most 18 digits.
 pub(crate) fn size_of(parts: &Parts<'_>) -> u64
     ensures { result ≡ size_in (shown parts.now) }
 {
@@ -53,7 +53,7 @@ pub(crate) fn size_of(parts: &Parts<'_>) -> u64
     }
 }
 
-/// Whether something is called so already, or a list names a worker twice.
+/// Returns whether something is called so already, or a list names a worker twice.
 fn is_taken(words: &Vocabulary, parts: &Parts<'_>) -> bool
     ensures { result ≡ is_taken words.now (declaration_of words.now (shown parts.now)) }
 {
@@ -66,7 +66,7 @@ fn is_taken(words: &Vocabulary, parts: &Parts<'_>) -> bool
     }
 }
 
-/// Whether a word of a list is no worker's name.
+/// Returns whether a word of a list is no worker's name.
 fn has_unknown_word(words: &Vocabulary, parts: &Parts<'_>) -> bool
     ensures { result ≡ has_unknown_word words.now (shown parts.now) }
 {
@@ -79,7 +79,7 @@ fn has_unknown_word(words: &Vocabulary, parts: &Parts<'_>) -> bool
     }
 }
 
-/// Whether the number is out of its range; one of more than 18 digits is.
+/// Returns whether the number is out of its range; one of more than 18 digits is.
 fn is_bad_number(sort: Sort, number: Option<u64>) -> bool
     ensures { result ≡ is_bad_number sort number }
 {
@@ -89,7 +89,7 @@ fn is_bad_number(sort: Sort, number: Option<u64>) -> bool
     }
 }
 
-/// How many workers the second list names.
+/// Returns how many workers the second list names.
 fn count_second(words: &Vocabulary, parts: &Parts<'_>) -> usize
     ensures { result ≡ length (declaration_of words.now (shown parts.now)).second }
 {
@@ -99,7 +99,7 @@ fn count_second(words: &Vocabulary, parts: &Parts<'_>) -> usize
     }
 }
 
-/// Whether so many cells and n more pass the bound.
+/// Returns whether so many cells and n more pass the bound.
 fn is_over(cells: usize, n: u64) -> bool
     ensures { result ≡ nat_lt 256 (cells + n) }
 {
@@ -109,7 +109,7 @@ fn is_over(cells: usize, n: u64) -> bool
     cells as u64 + n > 256
 }
 
-/// Whether a list or a table would pass its bound.
+/// Returns whether a list or a table would pass its bound.
 fn is_too_many(setup: &Setup, words: &Vocabulary, parts: &Parts<'_>) -> bool
     ensures { result ≡ is_too_many setup.now (declaration_of words.now (shown parts.now)) }
 {
@@ -131,7 +131,7 @@ fn is_too_many(setup: &Setup, words: &Vocabulary, parts: &Parts<'_>) -> bool
     }
 }
 
-/// Whether a worker stands in both lists of a sort that keeps them apart.
+/// Returns whether a worker stands in both lists of a sort that keeps them apart.
 fn has_two_roles(words: &Vocabulary, parts: &Parts<'_>) -> bool
     ensures { result ≡ has_two_roles (declaration_of words.now (shown parts.now)) }
 {
@@ -144,7 +144,7 @@ fn has_two_roles(words: &Vocabulary, parts: &Parts<'_>) -> bool
     }
 }
 
-/// The least fault of a line of one of the forms.
+/// Returns the least fault of a line of one of the forms.
 pub(crate) fn declaration_fault(
     setup: &Setup,
     words: &Vocabulary,

@@ -1,37 +1,39 @@
 //! Laws of headings. Each is the contract of a function that does nothing.
 ghost use Rattle.ec_heading.specs.HeadingLaws.{SpelledWorkersAreRead, SpelledDeclarationIsRead, ReadWorkersAreSpelled, ReadDeclarationIsSpelled, OutlineLinesLead, LinesHaveAnOutline};
 
-/// The line that spells workers is read as those workers.
+/// States that the line that spells workers is read as those workers.
 #[tactic(auto, using(crate::proofs::ReadLines::workers_read))]
 pub fn spelled_workers_are_read()
     ensures { SpelledWorkersAreRead }
 {}
 
-/// The line that spells a declaration that may stand is read as that declaration.
+/// States that the line that spells a declaration that may stand is read as that declaration.
 #[tactic(auto, using(crate::proofs::ReadLines::declaration_read))]
 pub fn spelled_declaration_is_read()
     ensures { SpelledDeclarationIsRead }
 {}
 
-/// A line that is read as workers is the one that spells them.
+/// States that a line that is read as workers is the one that spells them.
 #[tactic(auto, using(crate::proofs::SpelledLines::workers_spelled))]
 pub fn read_workers_are_spelled()
     ensures { ReadWorkersAreSpelled }
 {}
 
-/// A line that is read as a declaration is the one that spells it, and that declaration may stand.
+/// States that a line that is read as a declaration is the one that spells it, and that declaration
+/// may stand.
 #[tactic(auto, using(crate::proofs::SpelledLines::declaration_spelled))]
 pub fn read_declaration_is_spelled()
     ensures { ReadDeclarationIsSpelled }
 {}
 
-/// The lines of an outline lead to what it declares.
+/// States that the lines of an outline lead to what it declares.
 #[tactic(auto, using(crate::proofs::shared::LeadLines::outline_leads))]
 pub fn outline_lines_lead()
     ensures { OutlineLinesLead }
 {}
 
-/// Lines that lead to a heading are those of an outline, and the heading is what that outline declares.
+/// States that lines that lead to a heading are those of an outline, and the heading is what that
+/// outline declares.
 #[tactic(auto, using(crate::proofs::shared::LeadLines::leads_outline))]
 pub fn lines_have_an_outline()
     ensures { LinesHaveAnOutline }

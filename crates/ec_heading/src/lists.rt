@@ -9,14 +9,14 @@ use arrayvec::ArrayVec;
 use ec_count::{Target, Vocabulary, WorkerId};
 use ec_text::cut_word;
 
-/// Whether two words are the same.
+/// Returns whether two words are the same.
 pub(crate) fn is_same(word: &[u8], other: &[u8]) -> bool
     ensures { result ≡ bytes_eq word.now other.now }
 {
     word == other
 }
 
-/// How many words a list has: one more than spaces.
+/// Returns how many words a list has: one more than spaces.
 pub fn count_words(list: &[u8]) -> usize
     ensures count { result ≡ length (words_of list.now) }
     ensures few { result ≤ length list.now + 1 }
@@ -28,7 +28,7 @@ pub fn count_words(list: &[u8]) -> usize
     }
 }
 
-/// Whether a word stands in the list.
+/// Returns whether a word stands in the list.
 pub(crate) fn has_word(word: &[u8], list: &[u8]) -> bool
     ensures { result ≡ has_word word.now (words_of list.now) }
 {
@@ -42,7 +42,7 @@ pub(crate) fn has_word(word: &[u8], list: &[u8]) -> bool
     }
 }
 
-/// Whether a word stands twice in the list.
+/// Returns whether a word stands twice in the list.
 pub(crate) fn has_word_twice(list: &[u8]) -> bool
     ensures { result ≡ has_word_twice (words_of list.now) }
 {
@@ -52,7 +52,7 @@ pub(crate) fn has_word_twice(list: &[u8]) -> bool
     has_word(word, rest) || has_word_twice(rest)
 }
 
-/// The worker that a name stands for, if it stands for one.
+/// Returns the worker that a name stands for, if it stands for one.
 fn worker_of(target: Target) -> Option<WorkerId>
     ensures { result ≡ worker_of target }
 {
@@ -62,14 +62,14 @@ fn worker_of(target: Target) -> Option<WorkerId>
     }
 }
 
-/// The worker of a name.
+/// Returns the worker of a name.
 pub(crate) fn worker_in(words: &Vocabulary, word: &[u8]) -> Option<WorkerId>
     ensures { result ≡ worker_in words.now word.now }
 {
     worker_of(words.find(word)?)
 }
 
-/// Whether a word of the list names no worker.
+/// Returns whether a word of the list names no worker.
 pub fn has_unknown(words: &Vocabulary, list: &[u8]) -> bool
     ensures { result ≡ has_unknown words.now (words_of list.now) }
 {
@@ -83,7 +83,7 @@ pub fn has_unknown(words: &Vocabulary, list: &[u8]) -> bool
     }
 }
 
-/// Whether a worker is named in a list.
+/// Returns whether a worker is named in a list.
 fn is_named(words: &Vocabulary, list: &[u8], id: WorkerId) -> bool
     ensures { result ≡ is_member id (ids_in words.now (words_of list.now)) }
 {
@@ -99,7 +99,7 @@ fn is_named(words: &Vocabulary, list: &[u8], id: WorkerId) -> bool
     }
 }
 
-/// Whether a worker is named twice.
+/// Returns whether a worker is named twice.
 pub(crate) fn has_repeat(words: &Vocabulary, list: &[u8]) -> bool
     ensures { result ≡ has_repeat (ids_in words.now (words_of list.now)) }
 {
@@ -114,7 +114,7 @@ pub(crate) fn has_repeat(words: &Vocabulary, list: &[u8]) -> bool
     has_repeat(words, rest)
 }
 
-/// Whether a worker is named in both lists.
+/// Returns whether a worker is named in both lists.
 pub(crate) fn has_shared(words: &Vocabulary, first: &[u8], second: &[u8]) -> bool
     ensures { result ≡ list_any (λ w. is_member w (ids_in words.now (words_of second.now))) (ids_in words.now (words_of first.now)) }
 {
@@ -130,7 +130,7 @@ pub(crate) fn has_shared(words: &Vocabulary, first: &[u8], second: &[u8]) -> boo
     }
 }
 
-/// How many words name a worker.
+/// Returns how many words name a worker.
 pub(crate) fn count_ids(words: &Vocabulary, list: &[u8]) -> usize
     ensures count { result ≡ length (ids_in words.now (words_of list.now)) }
     ensures few { result ≤ length list.now + 1 }

@@ -32,7 +32,7 @@ impl Object {
     }
 }
 
-/// The eventcount with this number.
+/// Returns the eventcount with this number.
 fn event(number: usize) -> EventId
     requires { number < 32 }
     ensures { result ≡ number }
@@ -43,7 +43,7 @@ fn event(number: usize) -> EventId
     id
 }
 
-/// The sequencer with this number.
+/// Returns the sequencer with this number.
 fn sequencer(number: usize) -> SeqId
     requires { number < 32 }
     ensures { result ≡ number }
@@ -54,7 +54,7 @@ fn sequencer(number: usize) -> SeqId
     id
 }
 
-/// The cell with this number.
+/// Returns the cell with this number.
 fn cell(number: usize) -> CellId
     requires { number < 256 }
     ensures { result ≡ number }
@@ -65,7 +65,8 @@ fn cell(number: usize) -> CellId
     id
 }
 
-/// What the name of the next declaration will stand for, after this setup and n groups of its sort.
+/// Returns what the name of the next declaration will stand for, after this setup and n groups of
+/// its sort.
 pub(crate) fn target_of(setup: &Setup, groups: usize, sort: Sort, n: usize) -> Target
     requires room { is_full_for sort setup.now n ≡ false }
     requires some { is_in_range sort n ≡ true }
@@ -79,7 +80,8 @@ pub(crate) fn target_of(setup: &Setup, groups: usize, sort: Sort, n: usize) -> T
     }
 }
 
-/// The word for an object: the name, or the name, a dot, and what the object is called behind it.
+/// Returns the word for an object: the name, or the name, a dot, and what the object is called
+/// behind it.
 fn spelling(name: &[u8], word: &[u8]) -> ArrayVec<u8, 24>
     requires { length (spelling name.now word.now) ≤ 24 }
     ensures { result.items ≡ spelling name.now word.now }

@@ -18,7 +18,7 @@ pub enum Sort {
     Both,
 }
 
-/// The sort that an opening word stands for.
+/// Returns the sort that an opening word stands for.
 pub fn sort_of(word: &[u8]) -> Option<Sort>
     ensures { result ≡ sort_of word.now }
 {
@@ -47,7 +47,7 @@ pub fn sort_of(word: &[u8]) -> Option<Sort>
 }
 
 impl Sort {
-    /// The word that opens such a declaration.
+    /// Returns the word that opens such a declaration.
     pub fn word(self) -> &'static [u8]
         ensures { result.now ≡ sort_word self }
     {
@@ -62,7 +62,7 @@ impl Sort {
         }
     }
 
-    /// Whether a name stands behind that word.
+    /// Returns whether a name stands behind that word.
     pub fn has_name(self) -> bool
         ensures { result ≡ has_name self }
     {
@@ -73,8 +73,8 @@ impl Sort {
         }
     }
 
-    /// Whether a declaration of this sort may be called so: by a name, or by the sort's own word
-    /// where its form has no name.
+    /// Returns whether a declaration of this sort may be called so: by a name, or by the sort's own
+    /// word where its form has no name.
     pub fn is_called(self, name: &[u8]) -> bool
         ensures { result ≡ is_called self name.now }
     {
@@ -85,7 +85,7 @@ impl Sort {
         }
     }
 
-    /// Whether a number stands behind the name.
+    /// Returns whether a number stands behind the name.
     pub fn has_number(self) -> bool
         ensures { result ≡ has_number self }
     {
@@ -95,7 +95,7 @@ impl Sort {
         }
     }
 
-    /// The least number of such a declaration, 0 where its form has none.
+    /// Returns the least number of such a declaration, 0 if its form has none.
     fn least(self) -> u64
         ensures { result ≡ least self }
     {
@@ -105,7 +105,7 @@ impl Sort {
         }
     }
 
-    /// The greatest number of such a declaration, 0 where its form has none.
+    /// Returns the greatest number of such a declaration, 0 if its form has none.
     fn greatest(self) -> u64
         ensures { result ≡ greatest self }
     {
@@ -116,14 +116,14 @@ impl Sort {
         }
     }
 
-    /// Whether a declaration of this sort may have this number.
+    /// Returns whether a declaration of this sort may have this number.
     pub fn is_in_range(self, number: u64) -> bool
         ensures { result ≡ is_in_range self number }
     {
         self.least() <= number && number <= self.greatest()
     }
 
-    /// The word before the first list.
+    /// Returns the word before the first list.
     pub fn opener(self) -> &'static [u8]
         ensures { result.now ≡ opener self }
     {
@@ -138,7 +138,7 @@ impl Sort {
         }
     }
 
-    /// The word before the second list.
+    /// Returns the word before the second list.
     pub fn second_opener(self) -> Option<&'static [u8]>
         ensures { option_map (λ w. w.now) result ≡ second_opener self }
     {
@@ -150,7 +150,7 @@ impl Sort {
         }
     }
 
-    /// Whether the second list must be there.
+    /// Returns whether the second list must be there.
     pub fn needs_second(self) -> bool
         ensures { result ≡ needs_second self }
     {
@@ -161,7 +161,7 @@ impl Sort {
         }
     }
 
-    /// Whether no worker may stand in both lists.
+    /// Returns whether no worker may stand in both lists.
     pub fn needs_disjoint_lists(self) -> bool
         ensures { result ≡ needs_disjoint_lists self }
     {

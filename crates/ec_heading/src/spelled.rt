@@ -5,7 +5,7 @@ ghost use Rattle.ec_heading.specs.Spelled.{block_of, event_of, sequencer_of, cut
 use ec_count::{EventId, SeqId, Target};
 use ec_text::number;
 
-/// The eventcount that a name stands for, if it stands for one.
+/// Returns the eventcount that a name stands for, if it stands for one.
 pub(crate) fn event_of(target: Target) -> Option<EventId>
     ensures { result ≡ event_of target }
 {
@@ -15,7 +15,7 @@ pub(crate) fn event_of(target: Target) -> Option<EventId>
     }
 }
 
-/// The sequencer that a name stands for, if it stands for one.
+/// Returns the sequencer that a name stands for, if it stands for one.
 pub(crate) fn sequencer_of(target: Target) -> Option<SeqId>
     ensures { result ≡ sequencer_of target }
 {
@@ -25,7 +25,8 @@ pub(crate) fn sequencer_of(target: Target) -> Option<SeqId>
     }
 }
 
-/// The first cell of the block that a name stands for, if it stands for one, and how many it has.
+/// Returns the first cell of the block that a name stands for, if it stands for one, and how many
+/// it has.
 pub(crate) fn block_of(target: Target) -> Option<(usize, usize)>
     ensures { result ≡ block_of target }
 {
@@ -35,7 +36,7 @@ pub(crate) fn block_of(target: Target) -> Option<(usize, usize)>
     }
 }
 
-/// What stands before the first such byte, and what stands behind it.
+/// Returns what stands before the first such byte, and what stands behind it.
 #[tactic(auto, using(crate::proofs::Bytes::cuts))]
 pub(crate) fn cut_at(word: &[u8], byte: u8) -> Option<(&[u8], &[u8])>
     ensures { option_map (λ p. (p.0.now, p.1.now)) result ≡ cut_at byte word.now }
@@ -48,7 +49,7 @@ pub(crate) fn cut_at(word: &[u8], byte: u8) -> Option<(&[u8], &[u8])>
     None
 }
 
-/// The number before a bracket that ends the word.
+/// Returns the number before a bracket that ends the word.
 pub(crate) fn closed_number(rest: &[u8]) -> Option<u64>
     ensures { result ≡ closed_number (cut_at 93 rest.now) }
 {

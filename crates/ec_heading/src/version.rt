@@ -14,7 +14,7 @@ pub enum Version {
 }
 
 impl Version {
-    /// The greatest limit that a text of this version may have.
+    /// Returns the greatest limit that a text of this version may have.
     pub fn greatest_limit(self) -> u64
         ensures { result ≡ greatest_limit self }
     {
@@ -24,7 +24,7 @@ impl Version {
         }
     }
 
-    /// Whether components are handed over in texts of this version.
+    /// Returns whether components are handed over in texts of this version.
     #[inline(always)]
     pub fn has_hand(self) -> bool
         ensures { result ≡ has_hand self }
@@ -35,7 +35,7 @@ impl Version {
         }
     }
 
-    /// The limit n; None where a text of this version can't have it.
+    /// Returns the limit n; `None` if a text of this version can't have it.
     #[tactic(auto, using(crate::proofs::shared::VersionFacts::limit_low))]
     pub fn limit(self, n: u64) -> Option<Limit>
         ensures value { result ≡ as_limit self n }

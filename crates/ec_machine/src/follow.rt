@@ -43,7 +43,7 @@ fn goes_with(machine: &mut Machine<'_>, entry: &Entry) -> bool
     true
 }
 
-/// A machine at the start of a worker's program: a missing one is empty.
+/// Returns a machine at the start of a worker's program: a missing one is empty.
 fn machine_for(programs: &[Program], place: usize) -> Machine<'_>
     ensures stands { StandsFor (program_at programs.now place) result [] }
     ensures unset { is_refused result ≡ false }
@@ -54,7 +54,7 @@ fn machine_for(programs: &[Program], place: usize) -> Machine<'_>
     }
 }
 
-/// Whether the worker's entries are a run of its program, perhaps unfinished.
+/// Returns whether the worker's entries are a run of its program, perhaps unfinished.
 fn follows_one(run: &Run, programs: &[Program], worker: WorkerId) -> bool
     ensures { IsTrue result ↔ Follows programs.now run.now.entries worker }
 {
@@ -72,9 +72,9 @@ fn follows_one(run: &Run, programs: &[Program], worker: WorkerId) -> bool
     true
 }
 
-/// The first worker whose entries are no run of its program, perhaps unfinished; None where each
-/// worker's are one. The programs are those of the workers in order of declaration; a missing one
-/// is empty. It takes no memory.
+/// Returns the first worker whose entries are no run of its program, perhaps unfinished; `None` if
+/// each worker's are one. The programs are those of the workers in order of declaration; a missing
+/// one is empty. It takes no memory.
 pub fn follows(run: &Run, programs: &[Program]) -> Option<WorkerId>
     ensures { MatchOption result
         ((w : ℕ) → w < run.now.setup.workers → Follows programs.now run.now.entries w)

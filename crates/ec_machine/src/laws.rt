@@ -2,9 +2,9 @@
 ghost use Rattle.ec_machine.specs.Joined.{RunsMeanWholeLists, FollowingMeansWholeLists};
 ghost use Rattle.ec_machine.specs.Laws.{RunsAreOfWholeLists, OwnStepsAreCut, BeginningsAreRuns};
 
-/// In a run of a program the finished calls are whole lists of calls joined end to end, one for
-/// each command from the first on, the repeats written out, and then the beginning of the list of
-/// the command that follows; the call under way is the one that comes next.
+/// States that in a run of a program the finished calls are whole lists of calls joined end to end,
+/// one for each command from the first on, the repeats written out, and then the beginning of the
+/// list of the command that follows; the call under way is the one that comes next.
 pub fn runs_are_of_whole_lists()
     ensures { RunsAreOfWholeLists }
 {}
@@ -15,18 +15,18 @@ pub fn runs_mean_whole_lists()
     ensures { RunsMeanWholeLists }
 {}
 
-/// In an accepted history the entries of a worker follow its program exactly where its finished calls
-/// are such lists, and its call under way is the one that comes next.
+/// States that in an accepted history the entries of a worker follow its program exactly where its
+/// finished calls are such lists, and its call under way is the one that comes next.
 pub fn following_means_whole_lists()
     ensures { FollowingMeansWholeLists }
 {}
 
-/// In an accepted history the calls of a worker's own steps are its calls.
+/// States that in an accepted history the calls of a worker's own steps are its calls.
 pub fn own_steps_are_cut()
     ensures { OwnStepsAreCut }
 {}
 
-/// Each beginning of a run of a program is a run of it.
+/// States that each beginning of a run of a program is a run of it.
 pub fn beginnings_are_runs()
     ensures { BeginningsAreRuns }
 {}

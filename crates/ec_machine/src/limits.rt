@@ -20,7 +20,7 @@ pub const COMMANDS_MAX: usize = 4096;
 /// The greatest number of tries of a snapshot.
 pub const TRIES_MAX: usize = 1000;
 
-/// Whether a program can be made of the commands.
+/// Returns whether a program can be made of the commands.
 pub(crate) fn keeps_limits(commands: &[Command]) -> bool
     ensures { IsTrue result ↔ IsProgram commands.now }
 {
@@ -29,7 +29,7 @@ pub(crate) fn keeps_limits(commands: &[Command]) -> bool
         && is_sound(commands)
 }
 
-/// Whether repeats stand no deeper in one another than this.
+/// Returns whether repeats stand no deeper in one another than this.
 #[cycle(nesting)]
 fn is_within(bound: usize, commands: &[Command]) -> bool
     ensures { IsTrue result ↔ (nesting commands.now ≤ bound) }
@@ -44,8 +44,8 @@ fn is_within(bound: usize, commands: &[Command]) -> bool
     true
 }
 
-/// How many commands there may be beside these within a bound; None where these are more than the
-/// bound.
+/// Returns how many commands there may be beside these within a bound; `None` if these are more
+/// than the bound.
 #[cycle(count)]
 fn left_of(bound: usize, commands: &[Command]) -> Option<usize>
     ensures variant { IsSome result ↔ (count commands.now ≤ bound) }
@@ -70,8 +70,8 @@ fn left_of_one(bound: usize, command: &Command) -> Option<usize>
     }
 }
 
-/// Whether each command has values in their ranges and as many as it needs, and each block has a
-/// command.
+/// Returns whether each command has values in their ranges and as many as it needs, and each block
+/// has a command.
 #[cycle(sound)]
 fn is_sound(commands: &[Command]) -> bool
     ensures { result ≡ is_sound commands.now }
@@ -104,14 +104,14 @@ fn is_sound_one(command: &Command) -> bool
     }
 }
 
-/// Whether a snapshot may have so many tries.
+/// Returns whether a snapshot may have so many tries.
 fn is_tries(tries: usize) -> bool
     ensures { result ≡ (nat_le 1 tries && nat_le tries 1000) }
 {
     1 <= tries && tries <= TRIES_MAX
 }
 
-/// Whether a block may be done so many times.
+/// Returns whether a block may be done so many times.
 fn is_times(times: u64) -> bool
     ensures { result ≡ (nat_le 1 times && nat_le times 1000000) }
 {
@@ -124,7 +124,7 @@ fn are_values(values: &[Value]) -> bool
     values.iter().all(is_value)
 }
 
-/// Whether a written number is in its range.
+/// Returns whether a written number is in its range.
 fn is_value(value: &Value) -> bool
     ensures { result ≡ is_value value.now }
 {
@@ -141,7 +141,8 @@ fn is_same(one: &SemaphoreShape, other: &SemaphoreShape) -> bool
     one.count() == other.count() && one.line() == other.line() && one.initial() == other.initial()
 }
 
-/// Whether a P on both of two semaphores may be made under a common one: that has initial value 1, and the three are different.
+/// Returns whether a P on both of two semaphores may be made under a common one: that has initial
+/// value 1, and the three are different.
 pub fn are_apart(common: &SemaphoreShape, one: &SemaphoreShape, other: &SemaphoreShape) -> bool
     ensures { result ≡ are_apart common.now one.now other.now }
 {

@@ -31,7 +31,7 @@ pub struct Machine<'a> {
     ghost running: { is_running outcome ≡ is_some (next_of (task_going task) (task_rest task [])) },
 }
 
-/// The last number told, after one more reply.
+/// Returns the last number told, after one more reply.
 fn number_after(last: u64, reply: Reply) -> u64
     requires last { last ≤ VALUE_MAX }
     requires small { TellsAtMost VALUE_MAX reply }
@@ -47,7 +47,7 @@ fn number_after(last: u64, reply: Reply) -> u64
 impl<'a> Machine<'a> {
     ghost use Rattle.ec_machine.specs.Standing.{StandsFor, kept_outcome, is_refused, act_of};
 
-    /// At the start of a program.
+    /// Makes a machine at the start of a program.
     pub fn new(program: &'a Program) -> Self
         ensures stands { StandsFor program.now result [] }
         ensures unset { is_refused result ≡ false }
@@ -55,7 +55,7 @@ impl<'a> Machine<'a> {
         Machine::at_start(program.remaining())
     }
 
-    /// At the start of these commands.
+    /// Makes a machine at the start of these commands.
     pub(crate) fn at_start(mut rest: Remaining<'a>) -> Self
         ensures stands { (cs : List Command) → rest.entry ≡ written cs → StandsFor cs result [] }
         ensures unset { is_refused result ≡ false }
@@ -70,7 +70,8 @@ impl<'a> Machine<'a> {
         }
     }
 
-    /// The act that is due: Go where the last reply was Pending. None once the program has ended.
+    /// Returns the act that is due: Go where the last reply was Pending. None once the program has
+    /// ended.
     pub fn next(&self) -> Option<Act>
         ensures value { result ≡ act_of self.now }
         ensures some { is_some result ≡ is_running (kept_outcome self.now) }
@@ -80,7 +81,7 @@ impl<'a> Machine<'a> {
         self.task.next()
     }
 
-    /// How the program has ended, or Running.
+    /// Returns how the program has ended, or Running.
     pub fn outcome(&self) -> Outcome
         ensures value { result ≡ kept_outcome self.now }
         ensures after { (cs : List Command) (past : List Entry) → StandsFor cs self.now past → is_refused self.now ≡ false

@@ -31,12 +31,12 @@ impl Model for Program {
 }
 
 impl Program {
-    /// A program of these commands, where they keep the limits: at most 4096 commands, repeats
-    /// among them, and at most four repeats in one another; each count of a repeat from 1 to
-    /// 1000000, and a command in each block; as many values of a WriteAll as cells; from 1 to 1000
-    /// tries of a Snapshot; three different semaphores of a DownBoth, the common one with initial
-    /// value 1; each written number at most VALUE_MAX, and that of LastPlus at least 1. Else None,
-    /// and the commands are dropped.
+    /// Returns a program of these commands, where they keep the limits: at most 4096 commands,
+    /// repeats among them, and at most four repeats in one another; each count of a repeat from 1
+    /// to 1000000, and a command in each block; as many values of a WriteAll as cells; from 1 to
+    /// 1000 tries of a Snapshot; three different semaphores of a DownBoth, the common one with
+    /// initial value 1; each written number at most VALUE_MAX, and that of LastPlus at least 1.
+    /// Else None, and the commands are dropped.
     pub fn new(commands: Vec<Command>) -> Option<Program>
         ensures variant { IsSome result ↔ IsProgram commands.items }
         ensures value { IfSome result (λ p. p ≡ commands.items) }
@@ -47,14 +47,14 @@ impl Program {
         None
     }
 
-    /// Its commands, with their repeats written out, at their start.
+    /// Returns its commands, with their repeats written out, at their start.
     pub(crate) fn remaining(&self) -> Remaining<'_>
         ensures { result ≡ written self.now }
     {
         Remaining::new(self.commands.as_slice())
     }
 
-    /// What is true of a program: its commands keep the limits.
+    /// States what is true of a program: its commands keep the limits.
     pub fn known(&self)
         ensures { IsProgram self.now }
     {

@@ -53,8 +53,8 @@ fn push_rest<'a>(
     }
 }
 
-/// The first plain command of those that a command stands for. Where the command is a repeat, frames for what remains of it
-/// are added.
+/// Returns the first plain command of those that a command stands for. Where the command is a
+/// repeat, frames for what remains of it are added.
 fn enter<'a>(frames: &mut ArrayVec<Frame<'a>, 5>, command: &'a Command) -> &'a Command
     requires fit { FramesFit 0 frames.old.items }
     requires sound { is_sound_one command.now ≡ true }
@@ -130,7 +130,7 @@ impl<'a> Model for Remaining<'a> {
 }
 
 impl<'a> Remaining<'a> {
-    /// All commands of a block.
+    /// Returns all commands of a block.
     pub(crate) fn new(block: &'a [Command]) -> Self
         requires sound { is_sound block.now ≡ true }
         requires nesting { nesting block.now ≤ 4 }

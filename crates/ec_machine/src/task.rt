@@ -19,7 +19,7 @@ pub(crate) struct Task {
 }
 
 impl Task {
-    /// No command is due.
+    /// Returns the task in which no command is due.
     pub(crate) fn nothing() -> Self
         ensures rest { (calls : List Told) → task_rest result calls ≡ None }
         ensures going { task_going result ≡ false }
@@ -31,7 +31,7 @@ impl Task {
         }
     }
 
-    /// From now on this one is due.
+    /// Makes this one the one that is due from now on.
     pub(crate) fn put_small(&mut self, small: SmallTask)
         ensures rest { (calls : List Told) → task_rest self.new calls ≡ small_rest small calls }
         ensures going { task_going self.new ≡ small_going small }
@@ -40,7 +40,7 @@ impl Task {
         self.small = small;
     }
 
-    /// From now on this one is due.
+    /// Makes this one the one that is due from now on.
     pub(crate) fn put_large(&mut self, large: LargeTask)
         ensures rest { (calls : List Told) → task_rest self.new calls ≡ large_rest large calls }
         ensures going { task_going self.new ≡ large_going large }

@@ -10,7 +10,7 @@ use crate::{Command, Value};
 use arrayvec::ArrayVec;
 use ec_core::VALUE_MAX;
 
-/// The number that a value means, where the last number told is `last`.
+/// Returns the number that a value means, where the last number told is `last`.
 pub(crate) fn value_of(last: u64, value: &Value) -> u64
     requires last { last ≤ VALUE_MAX }
     requires sound { is_value value.now ≡ true }
@@ -42,7 +42,7 @@ fn has_large_of(last: u64, values: &[Value]) -> bool
     }
 }
 
-/// Whether a value of the command is above the greatest.
+/// Returns whether a value of the command is above the greatest.
 pub(crate) fn has_large(last: u64, command: &Command) -> bool
     requires last { last ≤ VALUE_MAX }
     requires sound { is_sound_one command.now ≡ true }
@@ -57,7 +57,7 @@ pub(crate) fn has_large(last: u64, command: &Command) -> bool
     }
 }
 
-/// The numbers that values mean.
+/// Returns the numbers that values mean.
 pub(crate) fn values_of(last: u64, values: &[Value]) -> ArrayVec<u64, 256>
     requires last { last ≤ VALUE_MAX }
     requires sound { list_all is_value values.now ≡ true }

@@ -32,7 +32,7 @@ impl Model for NumberList {
     ghost view = { λ s. numbers_in s.list };
 }
 
-/// Whether a number needs 64 bits.
+/// Returns whether a number needs 64 bits.
 #[inline(always)]
 fn is_wide(number: u64) -> bool
     ensures { result ≡ nat_le (2 ^ 32) number }
@@ -40,7 +40,7 @@ fn is_wide(number: u64) -> bool
     number >= WIDE
 }
 
-/// The numbers of a list in 64 bits each, with room for one more.
+/// Returns the numbers of a list in 64 bits each, with room for one more.
 fn widened(list: &Vec<u32>) -> Result<Vec<u64>, AllocError>
     ensures items { IfOk result (λ wide. wide.items ≡ list.now.items) }
     ensures room { IfOk result (λ wide. vec_len wide < vec_capacity wide) }

@@ -28,7 +28,7 @@ impl Model for Advances {
 }
 
 impl Advances {
-    /// Before the first entry.
+    /// Makes what is kept before the first entry.
     pub(crate) fn none(alloc: Global) -> Result<Self, AllocError>
         ensures { IfOk result (λ advances. AreRaised advances []) }
     {
@@ -71,7 +71,8 @@ impl Advances {
         }
     }
 
-    /// The point of the read or await that the entry at hand ends: to be asked before that entry is taken in.
+    /// Returns the point of the read or await that the entry at hand ends: to be asked before that
+    /// entry is taken in.
     #[tactic(auto, using(crate::proofs::KeptPoints::point_none, crate::proofs::KeptPoints::point_one))]
     pub(crate) fn point(&self, call: &Call) -> usize
         ensures { IsPointBy self.now call.now result }
@@ -83,7 +84,7 @@ impl Advances {
     }
 }
 
-/// The eventcount that an act reads or awaits.
+/// Returns the eventcount that an act reads or awaits.
 fn read_by(act: Act) -> Option<usize>
     ensures value { result ≡ read_of act }
     ensures small { IfSome result (λ e. e < 32) }
@@ -94,7 +95,8 @@ fn read_by(act: Act) -> Option<usize>
     }
 }
 
-/// The eventcount that a call was under way on, by the act that ends it and the one that began it: a call that is told at once never was.
+/// Returns the eventcount that a call was under way on, by the act that ends it and the one that
+/// began it: a call that is told at once never was.
 fn left_by(act: Act, op: Act) -> Option<usize>
     ensures value { result ≡ left_of act op }
     ensures small { IfSome result (λ e. e < 32) }
@@ -105,7 +107,7 @@ fn left_by(act: Act, op: Act) -> Option<usize>
     }
 }
 
-/// Each of the 32 eventcounts with no advance.
+/// Returns each of the 32 eventcounts with no advance.
 #[tactic(auto, using(crate::proofs::Raising::none_raised))]
 fn unraised(alloc: Global) -> Result<Vec<Raised>, AllocError>
     ensures long { IfOk result (λ events. length events.items ≡ 32) }

@@ -16,7 +16,7 @@ fn same_call(a: &Call, b: &Call) -> bool
     *a == *b
 }
 
-/// The place of a call among calls that go by their last entries.
+/// Returns the place of a call among calls that go by their last entries.
 fn find(calls: &[Call], call: &Call) -> Option<usize>
     requires { AllPairs (λ (a b : Call). a.last < b.last) calls.now }
     ensures { MatchOption result (Contains calls.now call.now → ⊥)
@@ -41,7 +41,7 @@ fn unset(alloc: Global, n: usize) -> Result<Vec<bool>, AllocError>
     vec![in alloc; false; n]
 }
 
-/// The first place of a mark that is not set.
+/// Returns the first place of a mark that is not set.
 fn first_unset(marks: &[bool]) -> Option<usize>
     ensures { MatchOption result (All (λ m. m ≡ true) marks.now)
         (λ j. slice_get marks.now j ≡ Some false) }
@@ -54,8 +54,9 @@ fn first_unset(marks: &[bool]) -> Option<usize>
     None
 }
 
-/// The first fault, by one walk over the places: the calls at them are looked up among the finished calls by their
-/// last entries, marked when they are met, and run on the sequential object.
+/// Returns the first fault, by one walk over the places: the calls at them are looked up among the
+/// finished calls by their last entries, marked when they are met, and run on the sequential
+/// object.
 fn judge(alloc: Global, run: &Run, placed: &[Placed]) -> Result<Verdict, AllocError>
     ensures { IfOk result (λ v.
         IsVerdict run.now.setup (reverse run.now.entries) placed.now v) }
@@ -94,8 +95,8 @@ fn judge(alloc: Global, run: &Run, placed: &[Placed]) -> Result<Verdict, AllocEr
     }
 }
 
-/// Whether a list is a legal order of the finished calls of a run, each with its point, and else what is first wrong.
-/// The run is as before, with want of memory too.
+/// Returns whether a list is a legal order of the finished calls of a run, each with its point, and
+/// else what is first wrong. The run is as before, with want of memory too.
 pub fn verify(alloc: Global, run: &Run, placed: &[Placed]) -> Result<Verdict, AllocError>
     ensures verdict { IfOk result (λ v.
         IsVerdict run.now.setup (reverse run.now.entries) placed.now v) }

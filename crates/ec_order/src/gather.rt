@@ -9,7 +9,8 @@ use crate::scan::take_in;
 use ec_core::{Act, Calls, Run};
 use std::alloc::{AllocError, Global};
 
-/// Whether each entry with this act is a whole call. One of a read or an await may not be: it may go on by `go` entries.
+/// Returns whether each entry with this act is a whole call. One of a read or an await may not be:
+/// it may go on by `go` entries.
 #[inline(always)]
 pub(crate) fn is_alone(act: Act) -> bool
     ensures { result ≡ is_alone act }
@@ -20,8 +21,8 @@ pub(crate) fn is_alone(act: Act) -> bool
     }
 }
 
-/// The finished reads and awaits of a run by their points, and at one point by their last entries, in one scan: by the
-/// end of a call all advances that its answer counts have been noted.
+/// Returns the finished reads and awaits of a run by their points, and at one point by their last
+/// entries, in one scan: by the end of a call all advances that its answer counts have been noted.
 pub(crate) fn readings_by_points<'a>(
     alloc: Global,
     run: &'a Run,

@@ -8,7 +8,7 @@ use ec_core::{Act, Reply, Run};
 use ec_numbers::NumberList;
 use std::alloc::{AllocError, Global};
 
-/// The number that a reply tells; 0 where it tells none.
+/// Returns the number that a reply tells; 0 if it tells none.
 #[inline(always)]
 pub(crate) fn number_of(reply: Reply) -> u64
     ensures { result ≡ number_of reply }
@@ -19,7 +19,7 @@ pub(crate) fn number_of(reply: Reply) -> u64
     }
 }
 
-/// The eventcount that an act advances.
+/// Returns the eventcount that an act advances.
 #[inline(always)]
 pub(crate) fn advanced(act: Act) -> Option<usize>
     ensures value { result ≡ raised_by act }
@@ -56,7 +56,7 @@ fn note(lists: &mut Vec<NumberList>, act: Act, moment: usize) -> Result<(), Allo
     Ok(())
 }
 
-/// An index with no moment.
+/// Returns an index with no moment.
 fn no_moments(alloc: Global) -> Result<Vec<NumberList>, AllocError>
     ensures long { IfOk result (λ ls. length ls.items ≡ 32) }
     ensures value { IfOk result (λ ls. (e : ℕ) → moments_in ls.items e ≡ []) }
@@ -68,7 +68,7 @@ fn no_moments(alloc: Global) -> Result<Vec<NumberList>, AllocError>
     Ok(lists)
 }
 
-/// For each eventcount the moments after its advances, in order.
+/// Returns for each eventcount the moments after its advances, in order.
 pub(crate) fn index(alloc: Global, run: &Run) -> Result<Vec<NumberList>, AllocError>
     ensures long { IfOk result (λ ls. length ls.items ≡ 32) }
     ensures value { IfOk result (λ ls. IsIndex (reverse run.now.entries) ls.items) }
@@ -82,7 +82,8 @@ pub(crate) fn index(alloc: Global, run: &Run) -> Result<Vec<NumberList>, AllocEr
     Ok(lists)
 }
 
-/// The moment after the r-th advance, by the list of the moments after each advance; moment 0 for r = 0.
+/// Returns the moment after the r-th advance, by the list of the moments after each advance; moment
+/// 0 for r = 0.
 #[inline(always)]
 fn moment_of(moments: &NumberList, r: u64) -> usize
     ensures { result ≡ moment_of moments.now.list r }
@@ -94,8 +95,8 @@ fn moment_of(moments: &NumberList, r: u64) -> usize
     }
 }
 
-/// The point of a call: of a read or an await the greater of its round's start and the moment after the advance that
-/// made the total its answer, of any other call its position.
+/// Returns the point of a call: of a read or an await the greater of its round's start and the
+/// moment after the advance that made the total its answer, of any other call its position.
 #[inline(always)]
 pub(crate) fn point(lists: &[NumberList], call: &Call) -> usize
     requires { length lists.now ≡ 32 }

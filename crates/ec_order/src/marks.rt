@@ -31,7 +31,7 @@ impl Model for Marks {
 }
 
 impl Marks {
-    /// None yet.
+    /// Makes a list of no marks.
     pub(crate) fn new(alloc: Global) -> Self
         ensures { result ≡ [] }
     {
@@ -51,7 +51,7 @@ impl Marks {
         Ok(())
     }
 
-    /// All of them.
+    /// Returns all of them.
     pub(crate) fn iter(&self) -> MarksLeft<'_>
         ensures value { result ≡ self.now }
         ensures few { length self.now < 2 ^ 64 }
@@ -96,7 +96,7 @@ fn begin_word(words: &mut Vec<u64>, last: &mut u64) -> Result<(), AllocError>
     Ok(())
 }
 
-/// A word with one more mark.
+/// Returns a word with one more mark.
 #[inline(always)]
 fn with_mark(word: u64, mark: bool) -> u64
     requires some { 0 < word }
@@ -130,7 +130,7 @@ impl<'a> Model for MarksLeft<'a> {
 }
 
 impl<'a> MarksLeft<'a> {
-    /// The next of them.
+    /// Returns the next of them.
     #[inline(always)]
     pub(crate) fn peek(&self) -> Option<bool>
         ensures { result ≡ slice_get self.now 0 }
@@ -139,7 +139,8 @@ impl<'a> MarksLeft<'a> {
     }
 }
 
-/// The first of the marks that are left. (It is handed their parts, so that these may stand in registers where they are gone on with.)
+/// Returns the first of the marks that are left. (It is handed their parts, so that these may stand
+/// in registers where they are gone on with.)
 #[cold]
 #[inline(never)]
 fn first_mark(words: &[u64], last: u64, place: usize, word: u64, left: u32) -> Option<bool>
@@ -180,7 +181,7 @@ impl<'a> Iterator for MarksLeft<'a> {
     }
 }
 
-/// The word at a place, and behind the others the last, which is taken away.
+/// Returns the word at a place, and behind the others the last, which is taken away.
 fn next_word(words: &[u64], place: &mut usize, last: &mut u64) -> u64
     requires { AreMarks words.now last.old }
     ensures some { 0 < result }

@@ -7,7 +7,7 @@ ghost use Rattle.ec_order.specs.Numbered.{AreFew, reply_in, after_in};
 use crate::Call;
 use ec_core::{Act, Reply};
 
-/// An array with the same element everywhere.
+/// Returns an array with the same element everywhere.
 pub(crate) fn all_alike<T: Copy, const N: usize>(x: T) -> [T; N]
     ensures at { (i : ℕ) → i < N → slice_get result i ≡ Some x }
     ensures long { length result ≡ N }
@@ -24,7 +24,7 @@ pub(crate) struct Numbers {
 }
 
 impl Numbers {
-    /// All numbers 0.
+    /// Makes numbers that are all 0.
     pub(crate) fn zeros() -> Self
         ensures events { (k : ℕ) → slice_index result.events k ≡ 0 }
         ensures sequencers { (k : ℕ) → slice_index result.sequencers k ≡ 0 }
@@ -39,7 +39,7 @@ impl Numbers {
         }
     }
 
-    /// Whether the call is answered as it was.
+    /// Returns whether the call is answered as it was.
     pub(crate) fn is_answer(&self, call: &Call) -> bool
         ensures named { IsNamed call.now.op }
         ensures value { Decides result (reply_in self.now call.now.op ≡ Some call.now.reply) }
@@ -47,7 +47,7 @@ impl Numbers {
         self.reply(call.op) == Some(call.reply)
     }
 
-    /// What a call is answered now; none where it is not possible.
+    /// Returns what a call is answered now; none where it is not possible.
     fn reply(&self, op: Act) -> Option<Reply>
         ensures named { IsNamed op }
         ensures value { result ≡ reply_in self.now op }

@@ -25,7 +25,7 @@ impl Model for Raised {
 }
 
 impl Raised {
-    /// No advance, and no call under way.
+    /// Makes a log with no advance, and no call under way.
     pub(crate) fn new(alloc: Global) -> Self
         ensures { result ≡ record { before = 0; moments = []; readers = 0 } }
     {
@@ -36,7 +36,7 @@ impl Raised {
         }
     }
 
-    /// One more advance, and the moment after it. It wants memory only for a moment that is kept.
+    /// Adds an advance, by the moment after it. It wants memory only for a moment that is kept.
     #[inline(always)]
     pub(crate) fn raise(&mut self, moment: usize) -> Result<(), AllocError>
         ensures ok { OnOk result (IsRaisedOnce self.old moment self.new) }
@@ -49,14 +49,15 @@ impl Raised {
         keep(&mut self.moments, moment)
     }
 
-    /// One more read or await is under way.
+    /// Counts one more read or await that is under way.
     pub(crate) fn begin(&mut self)
         ensures { IsBegun self.old self.new }
     {
         self.readers = self.readers.saturating_add(1);
     }
 
-    /// A read or an await that was under way has ended. With the last one the moments go, and the room for them is used again.
+    /// Ends a read or an await that was under way. With the last one the moments go, and the room
+    /// for them is used again.
     pub(crate) fn end(&mut self)
         ensures { IsLeft self.old self.new }
     {
@@ -68,7 +69,8 @@ impl Raised {
         self.moments.truncate(0);
     }
 
-    /// The point of a read or an await whose last round began there, and which was answered this number.
+    /// Returns the point of a read or an await whose last round began there, and which was answered
+    /// this number.
     pub(crate) fn point(&self, round: usize, number: u64) -> usize
         ensures { result ≡ max round (moment_since self.now number) }
     {

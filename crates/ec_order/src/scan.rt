@@ -9,7 +9,7 @@ use ec_core::{Calls, Entry, Ongoing, Reply, Run};
 use ec_count::Setup;
 use std::alloc::{AllocError, Global};
 
-/// Whether a reply ends a call.
+/// Returns whether a reply ends a call.
 #[inline(always)]
 pub(crate) fn is_last(reply: Reply) -> bool
     ensures { result ≡ not (is_pending reply) }
@@ -20,7 +20,7 @@ pub(crate) fn is_last(reply: Reply) -> bool
     }
 }
 
-/// The call that the entry at position i ends, if it ends one, given its call up to it.
+/// Returns the call that the entry at position i ends, if it ends one, given its call up to it.
 #[inline(always)]
 fn ended(entry: &Entry, call: &Option<Ongoing>, i: usize) -> Option<Call>
     ensures { result ≡ call_told entry.now i call.now }
@@ -57,7 +57,7 @@ pub(crate) fn go_on(under_way: &mut Calls, setup: &Setup, entry: &Entry, i: usiz
     let _ = under_way.take(setup, i, entry);
 }
 
-/// How many entries of a run end a call, as those do that are told more than Pending.
+/// Returns how many entries of a run end a call, as those do that are told more than Pending.
 pub(crate) fn finished_count(run: &Run) -> usize
     ensures { result ≡ count_by (λ (x : Entry). not (is_pending x.reply)) run.now.entries }
 {
@@ -72,7 +72,8 @@ pub(crate) fn finished_count(run: &Run) -> usize
     count
 }
 
-/// The finished calls of a run, by their last entries. The run is as before, with want of memory too.
+/// Returns the finished calls of a run, by their last entries. The run is as before, with want of
+/// memory too.
 pub fn calls(alloc: Global, run: &Run) -> Result<Vec<Call>, AllocError>
     ensures { IfOk result (λ cs.
         cs.items ≡ finished_calls run.now.setup (reverse run.now.entries)) }

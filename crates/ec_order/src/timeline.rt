@@ -41,7 +41,7 @@ impl<'a> Model for Timeline<'a> {
     ghost view = { λ s. record { setup = s.setup.now; under_way = s.under_way; advances = s.advances; marks = s.marks; alone = s.alone; readings = s.readings; lacks = s.lacks } };
 }
 
-/// The call, told as one entry.
+/// Returns the call, told as one entry.
 fn told(call: &Call) -> Entry
     ensures { result ≡ call_entry call.now }
 {
@@ -68,7 +68,7 @@ fn keep(
 }
 
 impl<'a> Timeline<'a> {
-    /// Before the first entry of a history on this setup.
+    /// Makes what is kept before the first entry of a history on this setup.
     pub fn open(alloc: Global, setup: &'a Setup) -> Result<Self, OrderFault>
         ensures setup { IfOk result (λ timeline. timeline.setup ≡ setup.now) }
         ensures first { IfOk result (λ timeline. IsTimeline timeline []) }
@@ -128,8 +128,8 @@ impl<'a> Timeline<'a> {
         }
     }
 
-    /// The finished calls after the entries so far, by their points, one after another: a legal order of them. Err where memory
-    /// was refused for one of the entries.
+    /// Returns the finished calls after the entries so far, by their points, one after another: a
+    /// legal order of them. `Err` if memory was refused for one of the entries.
     pub fn calls(&self) -> Result<InTime<'_>, OrderFault>
         ensures value { (past : List Entry) → IsTimeline self.now past → IsAccepted self.now.setup past → IfOk result (λ calls. calls ≡ dated_by_points self.now.setup past) }
         ensures good { (past : List Entry) → IsTimeline self.now past → IsAccepted self.now.setup past → IfOk result (λ calls. TellsGood self.now.setup past calls) }
@@ -155,7 +155,7 @@ impl<'a> Audit for Timeline<'a> {
     }
 }
 
-/// Whether the next entry is a read or an await that is told at once.
+/// Returns whether the next entry is a read or an await that is told at once.
 #[inline(always)]
 fn read_comes(marks: &MarksLeft<'_>, alone: &Entries<'_>) -> bool
     ensures { result ≡ read_comes marks.now alone.now }
@@ -169,8 +169,9 @@ fn read_comes(marks: &MarksLeft<'_>, alone: &Entries<'_>) -> bool
     }
 }
 
-/// The read or await at a place among those of more than one entry, if it is due at a moment. Of those whose point is one moment the
-/// first is the one that is told at once, since it ends there.
+/// Returns the read or await at a place among those of more than one entry, if it is due at a
+/// moment. Of those whose point is one moment the first is the one that is told at once, since it
+/// ends there.
 #[inline(always)]
 fn due(
     readings: &ByPoints,
@@ -212,7 +213,7 @@ impl<'a> Model for InTime<'a> {
 }
 
 impl<'a> InTime<'a> {
-    /// All of them.
+    /// Returns all of them.
     fn all(marks: &'a Marks, alone: &'a Segments, readings: &'a ByPoints) -> Self
         ensures { result ≡ dates 0 marks.now alone.now readings.now }
     {

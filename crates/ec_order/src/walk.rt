@@ -34,7 +34,7 @@ impl<'a> Model for InOrder<'a> {
     ghost invariant = { λ s. s.position + length s.entries < 2 ^ 64 };
 }
 
-/// The call that an entry is by itself, if it is one.
+/// Returns the call that an entry is by itself, if it is one.
 fn own_call(entry: &Entry, position: usize) -> Option<Placed>
     ensures { option_to_list result ≡ own_calls position entry.now }
 {
@@ -82,9 +82,10 @@ impl<'a> Iterator for InOrder<'a> {
     }
 }
 
-/// The finished calls of a run by their points, as `order` lists them, one after another: a legal order of them, whatever
-/// the run. It keeps memory for the reads and awaits alone; while it looks through the run it also wants a number for each
-/// advance that is made while a read or an await of its eventcount is under way. The run is as before, with want of memory too.
+/// Returns the finished calls of a run by their points, as `order` lists them, one after another: a
+/// legal order of them, whatever the run. It keeps memory for the reads and awaits alone; while it
+/// looks through the run it also wants a number for each advance that is made while a read or an
+/// await of its eventcount is under way. The run is as before, with want of memory too.
 pub fn in_order(alloc: Global, run: &Run) -> Result<InOrder<'_>, OrderFault>
     ensures value { IfOk result (λ calls.
         calls ≡ ordered_by_points run.now.setup (reverse run.now.entries)) }

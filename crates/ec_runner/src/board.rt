@@ -69,8 +69,8 @@ impl Board {
     ghost use Rattle.ec_runner.specs.BoardFaults.{IsBoardFault};
     ghost use Rattle.ec_runner.specs.Holds.{is_asleep, is_awaited};
 
-    /// An empty run on these declarations, which are dropped where there is no memory. Every
-    /// declared worker is live, and nobody waits.
+    /// Makes a board with an empty run on these declarations, which are dropped where there is no
+    /// memory. Every declared worker is live, and nobody waits.
     pub fn open(alloc: Global, setup: Setup) -> Result<Self, AllocError>
         ensures run { IfOk result (λ b. b.run ≡ record { setup = setup; entries = [] }) }
         ensures seats { IfOk result (λ b. (w : ℕ) → w < 16 → slice_get b.seats w ≡ Some (if nat_lt w setup.workers then Running else Gone)) }
@@ -85,15 +85,16 @@ impl Board {
         })
     }
 
-    /// What is true of the live workers and of the waiters of a board: nobody is live who is not declared.
+    /// States what is true of the live workers and of the waiters of a board: nobody is live who is
+    /// not declared.
     pub fn known(&self)
         ensures { AreWaiters self.now }
     {
         let _ = &self.run;
     }
 
-    /// One step, which adds its entry: the worker waits no more, and after an advance those don't
-    /// whose threshold the total has come to.
+    /// Makes one step, which adds its entry: the worker waits no more, and after an advance those
+    /// don't whose threshold the total has come to.
     pub fn step(&mut self, worker: WorkerId, act: Act) -> Result<Reply, BoardFault>
         ensures answer { MatchResult result
             (λ reply. (is_stopped self.old worker ≡ false) × (answer_on self.old worker act ≡ Ok reply))
@@ -138,7 +139,7 @@ impl Board {
         }
     }
 
-    /// A live worker leaves for good, and waits no more. It takes no memory.
+    /// Has a live worker leave for good, and wait no more. It takes no memory.
     pub fn leave(&mut self, worker: WorkerId)
         ensures gone { is_live (seat_of self.old.seats worker) ≡ true → self.new ≡ with_seat self.old worker Gone }
         ensures same { is_live (seat_of self.old.seats worker) ≡ false → self.new ≡ self.old }
@@ -150,21 +151,21 @@ impl Board {
         self.stuck = self.stuck || self.seats.are_stuck();
     }
 
-    /// The run so far.
+    /// Returns the run so far.
     pub fn run(&self) -> &Run
         ensures { result.now ≡ self.now.run }
     {
         &self.run
     }
 
-    /// The run, once nobody makes a step any more.
+    /// Returns the run, once nobody makes a step any more.
     pub fn into_run(self) -> Run
         ensures { result ≡ self.run }
     {
         self.run
     }
 
-    /// Whether the worker is a declared one that has not left.
+    /// Returns whether the worker is a declared one that has not left.
     pub fn is_live(&self, worker: WorkerId) -> bool
         ensures { result ≡ is_live (seat_of self.now.seats worker) }
     {
@@ -172,7 +173,7 @@ impl Board {
         seat.is_live()
     }
 
-    /// Whether the worker waits.
+    /// Returns whether the worker waits.
     pub fn is_waiting(&self, worker: WorkerId) -> bool
         ensures { result ≡ is_waiting (seat_of self.now.seats worker) }
     {
@@ -180,22 +181,22 @@ impl Board {
         seat.is_waiting()
     }
 
-    /// Whether at some moment some worker was live and every live worker waited. Nobody makes a step
-    /// from then on.
+    /// Returns whether at some moment some worker was live and every live worker waited. Nobody
+    /// makes a step from then on.
     pub fn is_stuck(&self) -> bool
         ensures { result ≡ self.now.stuck }
     {
         self.stuck
     }
 
-    /// Whether the worker waits, and somebody may still let it go.
+    /// Returns whether the worker waits, and somebody may still let it go.
     pub(crate) fn is_asleep(&self, worker: WorkerId) -> bool
         ensures { result ≡ is_asleep self.now worker }
     {
         self.is_waiting(worker) && !self.stuck
     }
 
-    /// Whether somebody waits for what an act advances.
+    /// Returns whether somebody waits for what an act advances.
     pub(crate) fn is_awaited(&self, act: &Act) -> bool
         ensures { result ≡ is_awaited act.now self.now.seats }
     {

@@ -10,7 +10,7 @@ use ec_core::Run;
 use ec_count::WorkerId;
 use ec_machine::Outcome;
 
-/// Whether a worker tells of a moment of the run.
+/// Returns whether a worker tells of a moment of the run.
 fn is_within(run: &Run, asked: Option<Asked>) -> bool
     ensures { IsTrue result ↔ IsWithin asked run.now }
 {
@@ -20,7 +20,7 @@ fn is_within(run: &Run, asked: Option<Asked>) -> bool
     }
 }
 
-/// Whether a worker tells of the end of the run.
+/// Returns whether a worker tells of the end of the run.
 fn is_at_end(run: &Run, asked: Option<Asked>) -> bool
     ensures { IsTrue result ↔ IsAtEnd asked run.now }
 {
@@ -30,7 +30,7 @@ fn is_at_end(run: &Run, asked: Option<Asked>) -> bool
     }
 }
 
-/// Whether the run bears out how a worker ended, but for what it was refused at its moment.
+/// Returns whether the run bears out how a worker ended, but for what it was refused at its moment.
 fn may_be_borne_out(run: &Run, worker: WorkerId, told: &Told) -> bool
     ensures { IsTrue result ↔ MayBeBorneOut told.now.outcome run.now worker told.now.asked }
 {
@@ -50,7 +50,7 @@ fn asked_at(asked: Option<Asked>) -> usize
     }
 }
 
-/// The moment that a worker tells of, 0 where it was not refused.
+/// Returns the moment that a worker tells of, 0 if it was not refused.
 fn moment_of(told: &Told) -> usize
     ensures { result ≡ moment_of told.now.outcome told.now.asked }
 {
@@ -60,7 +60,7 @@ fn moment_of(told: &Told) -> usize
     }
 }
 
-/// A moment after which no worker was refused.
+/// Returns a moment after which no worker was refused.
 fn last_moment(tolds: &[Told]) -> usize
     ensures { (w : ℕ) (told : Told) → slice_get tolds.now w ≡ Some told → moment_of told.outcome told.asked ≤ result }
 {
@@ -71,7 +71,7 @@ fn last_moment(tolds: &[Told]) -> usize
     last
 }
 
-/// The worker of a number.
+/// Returns the worker of a number.
 pub(crate) fn worker_of(number: usize) -> WorkerId
     requires { number < 16 }
     ensures { result ≡ number }
@@ -79,7 +79,7 @@ pub(crate) fn worker_of(number: usize) -> WorkerId
     WorkerId::new(number).unwrap()
 }
 
-/// The first worker that ended otherwise than the run bears out, but for what was refused.
+/// Returns the first worker that ended otherwise than the run bears out, but for what was refused.
 fn first_unlikely(run: &Run, tolds: &[Told]) -> Option<WorkerId>
     requires { length tolds.now ≤ 16 }
     ensures { MatchOption result
@@ -95,7 +95,7 @@ fn first_unlikely(run: &Run, tolds: &[Told]) -> Option<WorkerId>
     None
 }
 
-/// A worker that ended otherwise than the run bears out.
+/// Returns a worker that ended otherwise than the run bears out.
 pub(crate) fn first_not_borne_out(run: &Run, tolds: &[Told]) -> Option<WorkerId>
     requires { length tolds.now ≤ 16 }
     ensures { MatchOption result

@@ -29,7 +29,7 @@ pub(crate) struct Held {
     pub woken: Option<[bool; 16]>,
 }
 
-/// Whether each worker is to sleep.
+/// Returns whether each worker is to sleep.
 fn asleep(board: &Board) -> [bool; 16]
     ensures long { length result ≡ 16 }
     ensures each { (v : ℕ) → v < 16 → slice_get result v ≡ Some (is_asleep board.now v) }
@@ -41,7 +41,8 @@ fn asleep(board: &Board) -> [bool; 16]
     table
 }
 
-/// Whether the worker of a place is another one, and slept before and is not to sleep any more.
+/// Returns whether the worker of a place is another one, and slept before and is not to sleep any
+/// more.
 fn is_woken(before: &[bool], board: &Board, worker: WorkerId, place: usize) -> bool
     requires { place < 16 }
     ensures { (b : Boarded) → ((v : ℕ) → v < 16 → slice_get before.now v ≡ Some (is_asleep b v)) → result ≡ is_woken b worker board.now place }
@@ -52,7 +53,7 @@ fn is_woken(before: &[bool], board: &Board, worker: WorkerId, place: usize) -> b
     place != worker.get() && *slept && !board.is_asleep(worker_of(place))
 }
 
-/// Which others slept before and are not to sleep any more.
+/// Returns which others slept before and are not to sleep any more.
 fn woken(before: &[bool], board: &Board, worker: WorkerId) -> [bool; 16]
     ensures { (b : Boarded) → ((v : ℕ) → v < 16 → slice_get before.now v ≡ Some (is_asleep b v))
         → (v : ℕ) → v < 16 → slice_get result v ≡ Some (is_woken b worker board.now v) }
@@ -64,7 +65,7 @@ fn woken(before: &[bool], board: &Board, worker: WorkerId) -> [bool; 16]
     table
 }
 
-/// Which others wait.
+/// Returns which others wait.
 fn waiting(board: &Board, worker: WorkerId) -> [bool; 16]
     ensures { (v : ℕ) → v < 16 → slice_get result v ≡ Some (not (v == worker) && is_waiting (seat_of board.now.seats v)) }
 {
@@ -92,7 +93,7 @@ fn park(board: &mut Board, worker: WorkerId)
     board.park(worker);
 }
 
-/// The step, and the wait where it fell short.
+/// Returns the step, and the wait where it fell short.
 fn step(board: &mut Board, worker: WorkerId, act: Act, may_park: bool) -> Next
     ensures next { IsNext result board.old worker act may_park board.new }
     ensures kind { FitsAct result act }
@@ -116,8 +117,8 @@ fn step(board: &mut Board, worker: WorkerId, act: Act, may_park: bool) -> Next
     }
 }
 
-/// Who is woken where the seats of the others are as before: nobody, or, where the board has come to
-/// be stuck, all others that wait.
+/// Returns who is woken where the seats of the others are as before: nobody, or, where the board
+/// has come to be stuck, all others that wait.
 fn woken_if_stuck(was_stuck: bool, board: &Board, worker: WorkerId) -> Option<[bool; 16]>
     ensures none { board.now.stuck ≡ false → result ≡ None }
     ensures woken { (b : Boarded) → b.stuck ≡ was_stuck → ((v : ℕ) → worker ≢ v → slice_get board.now.seats v ≡ slice_get b.seats v)
@@ -132,7 +133,8 @@ fn woken_if_stuck(was_stuck: bool, board: &Board, worker: WorkerId) -> Option<[b
     Some(waiting(board, worker))
 }
 
-/// An advance of what somebody waits for, and whom it wakes. Its worker doesn't go to sleep.
+/// Returns an advance of what somebody waits for, and whom it wakes. Its worker doesn't go to
+/// sleep.
 fn advance(board: &mut Board, worker: WorkerId, act: Act, may_park: bool) -> Held
     requires { is_awaited act board.old.seats ≡ true }
     ensures awake { is_sleep result.next ≡ false }
@@ -146,10 +148,10 @@ fn advance(board: &mut Board, worker: WorkerId, act: Act, may_park: bool) -> Hel
     Held { next, woken }
 }
 
-/// One hold of the board: a step and, after an await that fell short, where the worker may wait, the
-/// wait. Only an advance of what somebody waits for, and a wait by which the board comes to be stuck,
-/// can wake others, and only then is it looked who sleeps. Where the worker goes to sleep nobody is
-/// woken; and it does so only where it may.
+/// Makes one hold of the board: a step and, after an await that fell short, where the worker may
+/// wait, the wait. Only an advance of what somebody waits for, and a wait by which the board comes
+/// to be stuck, can wake others, and only then is it looked who sleeps. Where the worker goes to
+/// sleep nobody is woken; and it does so only where it may.
 pub(crate) fn hold(board: &mut Board, worker: WorkerId, act: Act, may_park: bool) -> Held
     ensures last { is_sleep result.next ≡ true → may_park ≡ true }
     ensures none { is_sleep result.next ≡ true → result.woken ≡ None }
@@ -166,7 +168,7 @@ pub(crate) fn hold(board: &mut Board, worker: WorkerId, act: Act, may_park: bool
     Held { next, woken }
 }
 
-/// The worker leaves the board. It answers which others are to be woken.
+/// Has the worker leave the board, and returns which others are to be woken.
 pub(crate) fn leave(board: &mut Board, worker: WorkerId) -> [bool; 16]
     ensures gone { is_live (seat_of board.old.seats worker) ≡ true → board.new ≡ with_seat board.old worker Gone }
     ensures same { is_live (seat_of board.old.seats worker) ≡ false → board.new ≡ board.old }

@@ -2,54 +2,55 @@
 ghost use Rattle.ec_runner.specs.RunLaws.{OutcomesAreTheirs, ReportsInterleave};
 ghost use Rattle.ec_runner.specs.ScheduleLaws.{EndedHasNoHistory, EndedIsAfterAHistory, EndedIsNotPlayed, HistoriesAreOfTurns, SchedulesArePlayedInOrder, SchedulesHaveOneHistory, SchedulesHaveOneRun};
 
-/// In the order of time: the workers of a history of a schedule are those of the schedule without
-/// the places that were refused; the entries of each are a run of its program; at each place its
-/// worker's program was running, and the act that came next in it is the entry made there, or was
-/// refused as told; and a worker that was refused has no place after it.
+/// States, in the order of time, that the workers of a history of a schedule are those of the
+/// schedule without the places that were refused; the entries of each are a run of its program; at
+/// each place its worker's program was running, and the act that came next in it is the entry made
+/// there, or was refused as told; and a worker that was refused has no place after it.
 pub fn schedules_are_played_in_order()
     ensures { SchedulesArePlayedInOrder }
 {}
 
-/// A schedule has one run at most.
+/// States that a schedule has one run at most.
 pub fn schedules_have_one_run()
     ensures { SchedulesHaveOneRun }
 {}
 
-/// A schedule that names a worker that has ended has none.
+/// States that a schedule that names a worker that has ended has no run.
 pub fn ended_is_not_played()
     ensures { EndedIsNotPlayed }
 {}
 
-/// Each history of a schedule, as `schedules_are_played_in_order` says what one is, is made by turns
-/// of it, and its programs end as after those.
+/// States that each history of a schedule, as `schedules_are_played_in_order` says what one is, is
+/// made by turns of it, and its programs end as after those.
 pub fn histories_are_of_turns()
     ensures { HistoriesAreOfTurns }
 {}
 
-/// So a schedule has one history at most, and its programs end in one way.
+/// States that a schedule has one history at most, and its programs end in one way.
 pub fn schedules_have_one_history()
     ensures { SchedulesHaveOneHistory }
 {}
 
-/// That a place of a schedule names a worker that has ended is this: the places before it have a
-/// history, after which that worker's program is not running.
+/// States what it is that a place of a schedule names a worker that has ended: the places before it
+/// have a history, after which that worker's program is not running.
 pub fn ended_is_after_a_history()
     ensures { EndedIsAfterAHistory }
 {}
 
-/// A schedule that names a worker that has ended has no history at all.
+/// States that a schedule that names a worker that has ended has no history at all.
 pub fn ended_has_no_history()
     ensures { EndedHasNoHistory }
 {}
 
-/// In a report of workers on threads each entry of the run stands in the log of its worker, behind
-/// as many as the worker had made before. So the run is the logs, interleaved, and nothing else.
+/// States that in a report of workers on threads each entry of the run stands in the log of its
+/// worker, behind as many as the worker had made before. So the run is the logs, interleaved, and
+/// nothing else.
 pub fn reports_interleave()
     ensures { ReportsInterleave }
 {}
 
-/// In a report of workers on threads no outcome is Running, and where a program has ended after its
-/// worker's log the outcome says how.
+/// States that in a report of workers on threads no outcome is Running, and where a program has
+/// ended after its worker's log the outcome says how.
 pub fn outcomes_are_theirs()
     ensures { OutcomesAreTheirs }
 {}

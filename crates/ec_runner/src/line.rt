@@ -14,7 +14,8 @@ pub(crate) struct Waiter {
 }
 
 impl Waiter {
-    /// Whether it stands in line before another: by threshold, and at one threshold by worker.
+    /// Returns whether it stands in line before another: by threshold, and at one threshold by
+    /// worker.
     fn comes_before(&self, other: &Waiter) -> bool
         ensures { result ≡ comes_before self.now other.now }
     {
@@ -48,7 +49,7 @@ impl Model for Line {
 }
 
 impl Line {
-    /// Nobody waits.
+    /// Makes a line in which nobody waits.
     pub fn empty() -> Self
         ensures { result ≡ [] }
     {
@@ -57,7 +58,7 @@ impl Line {
         }
     }
 
-    /// Whether nobody waits.
+    /// Returns whether nobody waits.
     pub fn is_empty(&self) -> bool
         ensures { result ≡ (length self.now == 0) }
     {
@@ -94,7 +95,7 @@ impl Line {
     }
 }
 
-/// The place of one more waiter: behind those that come before it.
+/// Returns the place of one more waiter: behind those that come before it.
 fn place_in(line: &[Waiter], waiter: &Waiter) -> usize
     requires { length line.now ≤ 16 }
     ensures place { result ≡ place_in waiter.now line.now }

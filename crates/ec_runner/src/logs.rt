@@ -28,7 +28,7 @@ fn add_step(
     Ok(())
 }
 
-/// The entries of a worker in order.
+/// Returns the entries of a worker in order.
 fn log_of(alloc: Global, run: &Run, worker: WorkerId) -> Result<Vec<Entry>, AllocError>
     ensures { IfOk result (λ log. log.items ≡ own worker run.now.entries) }
 {
@@ -42,7 +42,7 @@ fn log_of(alloc: Global, run: &Run, worker: WorkerId) -> Result<Vec<Entry>, Allo
     Ok(log)
 }
 
-/// The entries of each declared worker in order.
+/// Returns the entries of each declared worker in order.
 pub(crate) fn logs_of(alloc: Global, run: &Run) -> Result<Vec<Vec<Entry>>, AllocError>
     ensures { IfOk result (λ logs. AreLogs run.now.setup.workers run.now.entries (map (λ (log : Vec Entry Global). log.items) logs.items)) }
 {

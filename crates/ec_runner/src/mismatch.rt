@@ -14,8 +14,8 @@ fn are_same(setup: &Setup, other: &Setup) -> bool
     setup == other
 }
 
-/// A worker of whom what is told doesn't fit the run; the first worker where the run is on other
-/// declarations. It takes no memory.
+/// Returns a worker of whom what is told doesn't fit the run; the first worker where the run is on
+/// other declarations. It takes no memory.
 pub(crate) fn mismatched(setup: &Setup, run: &Run, tolds: &[Told]) -> Option<WorkerId>
     requires few { length tolds.now ≤ 16 }
     requires each { length tolds.now ≡ setup.now.workers }

@@ -22,7 +22,8 @@ pub(crate) enum Played {
     Memory,
 }
 
-/// The turn of a worker: the step that its program asks for next. A refusal ends the program.
+/// Returns the turn of a worker: the step that its program asks for next. A refusal ends the
+/// program.
 fn take_turn(run: &mut Run, machine: &mut Machine<'_>, worker: WorkerId) -> Played
     ensures { (t : Tables) (programs : List (List Command)) (turns : List Turn)
         → IsRunOf t turns run.old → IsMachineOf programs turns worker machine.old → Takes result t programs turns worker run.new machine.new }
@@ -43,7 +44,7 @@ fn take_turn(run: &mut Run, machine: &mut Machine<'_>, worker: WorkerId) -> Play
     }
 }
 
-/// The turn of the worker that stands at a place.
+/// Returns the turn of the worker that stands at a place.
 fn play_place(run: &mut Run, machines: &mut [Machine<'_>], worker: WorkerId) -> Played
     requires { worker < length machines.old }
     ensures { (t : Tables) (programs : List (List Command)) (turns : List Turn)
@@ -53,7 +54,7 @@ fn play_place(run: &mut Run, machines: &mut [Machine<'_>], worker: WorkerId) -> 
     take_turn(run, machine, worker)
 }
 
-/// The places of a schedule, up to the first whose worker has ended.
+/// Plays the places of a schedule, up to the first whose worker has ended.
 pub(crate) fn play_places(
     run: &mut Run,
     machines: &mut [Machine<'_>],

@@ -43,7 +43,7 @@ fn go_on(world: &mut World, run: &Run, place: usize)
     make(world, &entry);
 }
 
-/// Whether an act is refused so by a world that has come to a moment of a run.
+/// Returns whether an act is refused so by a world that has come to a moment of a run.
 fn is_refused_by(
     run: &Run,
     world: &World,
@@ -68,7 +68,7 @@ fn is_own(entry: &Entry, worker: WorkerId) -> bool
     entry.worker.get() == worker.get()
 }
 
-/// Whether the entry at a place is another worker's.
+/// Returns whether the entry at a place is another worker's.
 fn is_of_another(run: &Run, place: usize, worker: WorkerId) -> bool
     requires { place < length run.now.entries }
     ensures same { IsTrue result → own worker (take (place + 1) run.now.entries) ≡ own worker (take place run.now.entries) }
@@ -80,7 +80,7 @@ fn is_of_another(run: &Run, place: usize, worker: WorkerId) -> bool
     !is_own(&entry, worker)
 }
 
-/// Whether a worker had made all its steps by a moment.
+/// Returns whether a worker had made all its steps by a moment.
 fn is_done_by(run: &Run, moment: usize, worker: WorkerId) -> bool
     ensures { IsTrue result ↔ IsDoneBy run.now moment worker }
 {
@@ -95,8 +95,8 @@ fn is_done_by(run: &Run, moment: usize, worker: WorkerId) -> bool
     true
 }
 
-/// Whether what a worker asked for was refused so at its moment, to which the world has come, and by
-/// which all its steps were made.
+/// Returns whether what a worker asked for was refused so at its moment, to which the world has
+/// come, and by which all its steps were made.
 fn is_refused_so(
     run: &Run,
     world: &World,
@@ -114,7 +114,8 @@ fn is_refused_so(
     is_refused_by(run, world, asked.moment, worker, &asked.act, refusal)
 }
 
-/// Whether what a worker was refused is right, if it tells of the moment to which the world has come.
+/// Returns whether what a worker was refused is right, if it tells of the moment to which the world
+/// has come.
 fn is_right_then(
     run: &Run,
     world: &World,
@@ -138,7 +139,7 @@ fn is_right_then(
     }
 }
 
-/// The same of a worker that may have ended otherwise.
+/// Returns the same of a worker that may have ended otherwise.
 fn is_right_at(run: &Run, world: &World, moment: usize, worker: WorkerId, told: &Told) -> bool
     requires stands { StandsFor world.now (take moment run.now.entries) }
     requires setup { world.now.setup ≡ run.now.setup }
@@ -152,7 +153,8 @@ fn is_right_at(run: &Run, world: &World, moment: usize, worker: WorkerId, told: 
     }
 }
 
-/// The first worker whose refusal at this moment, to which the world has come, is not right.
+/// Returns the first worker whose refusal at this moment, to which the world has come, is not
+/// right.
 fn first_wrong_at(run: &Run, world: &World, moment: usize, tolds: &[Told]) -> Option<WorkerId>
     requires few { length tolds.now ≤ 16 }
     requires stands { StandsFor world.now (take moment run.now.entries) }
@@ -170,8 +172,8 @@ fn first_wrong_at(run: &Run, world: &World, moment: usize, tolds: &[Told]) -> Op
     None
 }
 
-/// A worker whose refusal at a moment up to this one is not right, found in one walk over the entries
-/// with a world that makes their steps.
+/// Returns a worker whose refusal at a moment up to this one is not right, found in one walk over
+/// the entries with a world that makes their steps.
 pub(crate) fn first_wrong(run: &Run, tolds: &[Told], last: usize) -> Option<WorkerId>
     requires few { length tolds.now ≤ 16 }
     requires within { last ≤ length run.now.entries }

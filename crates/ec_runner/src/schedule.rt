@@ -18,7 +18,7 @@ use ec_machine::{Machine, Outcome, Program};
 use ec_script::Plan;
 use std::alloc::{AllocError, Global};
 
-/// A machine at the start of each program.
+/// Returns a machine at the start of each program.
 fn started(alloc: Global, programs: &[Program]) -> Result<Vec<Machine<'_>>, AllocError>
     ensures each { IfOk result (λ machines. length machines.items ≡ length programs.now) }
     ensures start { IfOk result (λ machines. AreMachines programs.now [] machines.items) }
@@ -30,7 +30,7 @@ fn started(alloc: Global, programs: &[Program]) -> Result<Vec<Machine<'_>>, Allo
     Ok(machines)
 }
 
-/// How the program of each machine has ended, if it has.
+/// Returns how the program of each machine has ended, if it has.
 fn outcomes_of(alloc: Global, machines: &[Machine<'_>]) -> Result<Vec<Outcome>, AllocError>
     ensures { IfOk result (λ outcomes. outcomes.items ≡ map kept_outcome machines.now) }
 {
@@ -41,7 +41,7 @@ fn outcomes_of(alloc: Global, machines: &[Machine<'_>]) -> Result<Vec<Outcome>, 
     Ok(outcomes)
 }
 
-/// What is told of a run that was played by these machines.
+/// Returns what is told of a run that was played by these machines.
 fn report_of(alloc: Global, run: Run, machines: &[Machine<'_>]) -> Result<Report, AllocError>
     ensures run { IfOk result (λ report. report.run ≡ run) }
     ensures logs { IfOk result (λ report. AreLogs run.setup.workers run.entries (map (λ (log : Vec Entry Global). log.items) report.logs.items)) }

@@ -16,7 +16,7 @@ pub(crate) enum Seat {
 }
 
 impl Seat {
-    /// Whether the worker has not left.
+    /// Returns whether the worker has not left.
     pub fn is_live(&self) -> bool
         ensures { result ≡ is_live self.now }
     {
@@ -26,7 +26,7 @@ impl Seat {
         }
     }
 
-    /// Whether it waits.
+    /// Returns whether it waits.
     pub fn is_waiting(&self) -> bool
         ensures { result ≡ is_waiting self.now }
     {
@@ -36,7 +36,7 @@ impl Seat {
         }
     }
 
-    /// Whether it is live and doesn't wait.
+    /// Returns whether it is live and doesn't wait.
     pub(crate) fn is_running(&self) -> bool
         ensures { result ≡ is_running self.now }
     {

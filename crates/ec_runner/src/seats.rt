@@ -38,7 +38,7 @@ impl Model for Seats {
 }
 
 impl Seats {
-    /// The first so many workers are live, and nobody waits.
+    /// Makes seats in which the first so many workers are live, and nobody waits.
     pub fn open(workers: usize) -> Self
         requires { workers ≤ 16 }
         ensures seats { (w : ℕ) → w < 16 → slice_get result w ≡ Some (if nat_lt w workers then Running else Gone) }
@@ -50,14 +50,14 @@ impl Seats {
         }
     }
 
-    /// The seat of a worker.
+    /// Returns the seat of a worker.
     pub fn get(&self, worker: WorkerId) -> Seat
         ensures { slice_get self.now worker ≡ Some result }
     {
         self.table[worker.get()]
     }
 
-    /// Whether anybody waits for an eventcount.
+    /// Returns whether anybody waits for an eventcount.
     pub fn has_waiters(&self, event: EventId) -> bool
         ensures { result ≡ list_any (waits_on event) self.now }
     {
@@ -121,7 +121,7 @@ impl Seats {
         }
     }
 
-    /// Whether some worker is live and every live worker waits.
+    /// Returns whether some worker is live and every live worker waits.
     pub fn are_stuck(&self) -> bool
         ensures { result ≡ is_stuck_in self.now }
     {
@@ -159,7 +159,7 @@ fn take_reached(lines: &mut [Line; 32], event: EventId, total: u64) -> Option<Wa
     line.take_reached(total)
 }
 
-/// The first so many seats are those of workers that run.
+/// Returns the first so many seats are those of workers that run.
 fn running(workers: usize) -> [Seat; 16]
     requires { workers ≤ 16 }
     ensures long { length result ≡ 16 }

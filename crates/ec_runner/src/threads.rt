@@ -75,15 +75,16 @@ fn wake_some(sleeps: &[Condvar], woken: &Option<[bool; 16]>) {
     }
 }
 
-/// Whether a worker whose steps are in its log has a turn left after the next one.
+/// Returns whether a worker whose steps are in its log has a turn left after the next one.
 fn has_turn_after_next(log: &[Entry], turns: u64) -> bool
     ensures { result ≡ nat_lt (length log.now + 1) turns }
 {
     (log.len() as u64) < turns.saturating_sub(1)
 }
 
-/// One hold of the lock and, where the worker is to wait, the sleep: in its last turn a worker doesn't
-/// wait. The others are woken once the lock is free; a worker that goes to sleep wakes nobody.
+/// Makes one hold of the lock and, where the worker is to wait, the sleep: in its last turn a
+/// worker doesn't wait. The others are woken once the lock is free; a worker that goes to sleep
+/// wakes nobody.
 fn hold_locked<R: Wait, G>(
     rt: &R,
     shared: Shared<'_, G>,
@@ -120,7 +121,7 @@ fn leave_locked<R: Wait, G>(rt: &R, shared: Shared<'_, G>, worker: WorkerId) {
     wake(sleeps, &woken);
 }
 
-/// Whether a step is due.
+/// Returns whether a step is due.
 fn is_running(machine: &Machine<'_>) -> bool
     ensures { result ≡ is_running (kept_outcome machine.now) }
 {
@@ -186,8 +187,8 @@ fn take_next(
     }
 }
 
-/// The step that the program asks for, for whose entry the log has room. Returns what was asked for,
-/// where there was no reply.
+/// Returns the step that the program asks for, for whose entry the log has room. Returns what was
+/// asked for, where there was no reply.
 fn make_step<R: Wait, G>(
     rt: &R,
     shared: Shared<'_, G>,
@@ -206,8 +207,8 @@ fn make_step<R: Wait, G>(
     take_next(machine, log, worker, &act, &next)
 }
 
-/// One turn of a worker: the log grows, then comes the step that the program asks for. `steps` counts
-/// the steps that it has asked for.
+/// Returns one turn of a worker: the log grows, then comes the step that the program asks for.
+/// `steps` counts the steps that it has asked for.
 fn take_turn<R: Wait, G: Gate>(
     rt: &R,
     shared: Shared<'_, G>,
@@ -234,7 +235,7 @@ fn take_turn<R: Wait, G: Gate>(
     make_step(rt, shared, worker, machine, log)
 }
 
-/// What a worker tells at its end: a program that is still running is out of turns.
+/// Returns what a worker tells at its end: a program that is still running is out of turns.
 fn told(log: Vec<Entry>, mut machine: Machine<'_>, asked: Option<Asked>) -> Told
     ensures outcome { result.outcome ≡ refused (kept_outcome machine.entry) OutOfTurns }
     ensures tells { (cs : List Command) (turns : ℕ) → Works cs machine.entry log.items → HasHad turns machine.entry log.items
@@ -248,7 +249,7 @@ fn told(log: Vec<Entry>, mut machine: Machine<'_>, asked: Option<Asked>) -> Told
     }
 }
 
-/// A worker at its program, up to the program's end.
+/// Returns a worker at its program, up to the program's end.
 fn work_through<R: Wait, G: Gate>(
     rt: &R,
     shared: Shared<'_, G>,
@@ -271,7 +272,7 @@ fn work_through<R: Wait, G: Gate>(
     told(log, machine, asked)
 }
 
-/// A worker, in a thread of its own, up to its end.
+/// Returns a worker, in a thread of its own, up to its end.
 fn work<R: Wait, G: Gate>(rt: &R, shared: Shared<'_, G>, place: usize, program: &Program) -> Told
     requires { place < 16 }
     ensures { IsToldOf program.now shared.entry.turns result }

@@ -15,7 +15,7 @@ fn is_same(entry: &Entry, other: &Entry) -> bool
     entry == other
 }
 
-/// Whether the entry stands in the log at this place.
+/// Returns whether the entry stands in the log at this place.
 fn stands_at(log: &[Entry], at: usize, entry: &Entry) -> bool
     ensures value { IsTrue result ↔ (slice_get log.now at ≡ Some entry.now) }
     ensures within { IsTrue result → at < length log.now }
@@ -43,7 +43,7 @@ fn goes_on(cursors: &mut [usize; 16], tolds: &[Told], entry: &Entry) -> bool
     true
 }
 
-/// The first worker whose log goes on beyond its cursor.
+/// Returns the first worker whose log goes on beyond its cursor.
 fn first_unfinished(cursors: &[usize; 16], tolds: &[Told]) -> Option<WorkerId>
     requires { length tolds.now ≤ 16 }
     ensures { MatchOption result
@@ -58,8 +58,8 @@ fn first_unfinished(cursors: &[usize; 16], tolds: &[Told]) -> Option<WorkerId>
     None
 }
 
-/// A worker whose entries in the run are not its log, found in one walk over the entries with a
-/// cursor for each worker.
+/// Returns a worker whose entries in the run are not its log, found in one walk over the entries
+/// with a cursor for each worker.
 pub(crate) fn first_unlike(run: &Run, tolds: &[Told]) -> Option<WorkerId>
     requires few { length tolds.now ≤ 16 }
     requires each { length tolds.now ≡ run.now.setup.workers }

@@ -22,7 +22,7 @@ use std::sync::{Condvar, Mutex, Wait};
 use std::thread;
 use std::thread::{PromisedHandle, Scope, Threads};
 
-/// The report of a run and what its workers tell.
+/// Returns the report of a run and what its workers tell.
 fn made_report(alloc: Global, run: Run, tolds: Vec<Told>) -> Result<Report, AllocError>
     ensures run { IfOk result (λ r. r.run ≡ run) }
     ensures logs { IfOk result (λ r. r.logs.items ≡ map (λ t. t.log) tolds.items) }
@@ -41,8 +41,8 @@ fn made_report(alloc: Global, run: Run, tolds: Vec<Told>) -> Result<Report, Allo
     })
 }
 
-/// What one more worker tells, behind the others. A thread that was not started comes before want of
-/// memory.
+/// Returns what one more worker tells, behind the others. A thread that was not started comes
+/// before want of memory.
 fn with_told(tolds: Result<Vec<Told>, RunFault>, told: Option<Told>) -> Result<Vec<Told>, RunFault>
     ensures { IsOneMore tolds told result }
 {
@@ -56,7 +56,7 @@ fn with_told(tolds: Result<Vec<Told>, RunFault>, told: Option<Told>) -> Result<V
     }
 }
 
-/// What a thread tells, if it was started.
+/// Returns what a thread tells, if it was started.
 fn joined<R: Threads>(rt: &R, handle: Option<PromisedHandle<Told, Duty<'_>>>) -> Option<Told>
     ensures { IsJoined handle.entry result }
 {
@@ -110,7 +110,7 @@ fn start_and_join<'s, E: 's, R: Threads + Wait + Sync, G: Gate + Sync>(
     join_each(rt, alloc, handles)
 }
 
-/// What each worker sleeps on.
+/// Returns what each worker sleeps on.
 fn sleeps() -> [Condvar; 16] {
     std::array::from_fn(|_| Condvar::new())
 }
@@ -146,7 +146,8 @@ fn ran<R: Threads + Wait + Sync, G: Gate + Sync>(
     Ok((board.into_inner().into_run(), tolds))
 }
 
-/// What is told of a run: its report, where what the workers tell fits it, and else the mismatch.
+/// Returns what is told of a run: its report, where what the workers tell fits it, and else the
+/// mismatch.
 fn reported(alloc: Global, setup: &Setup, run: Run, tolds: Vec<Told>) -> Result<Report, RunFault>
     requires few { length tolds.items ≤ 16 }
     requires each { length tolds.items ≡ setup.now.workers }
@@ -162,8 +163,8 @@ fn reported(alloc: Global, setup: &Setup, run: Run, tolds: Vec<Told>) -> Result<
     }
 }
 
-/// What is told of workers that have ended: why nothing is known of them, if so, and else what their
-/// run and what they tell come to.
+/// Returns what is told of workers that have ended: why nothing is known of them, if so, and else
+/// what their run and what they tell come to.
 fn answered(
     alloc: Global,
     setup: &Setup,

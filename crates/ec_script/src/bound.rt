@@ -28,7 +28,7 @@ impl Model for Bound {
 }
 
 impl Bound {
-    /// A limit that a text of the version may have.
+    /// Makes a limit that a text of the version may have.
     pub(crate) fn new(alloc: Global, version: Version, limit: Limit) -> Result<Self, AllocError>
         requires { limit ≤ greatest_limit version }
         ensures { IfOk result (λ bound. bound ≡ bounded version limit) }
@@ -37,7 +37,7 @@ impl Bound {
         Ok(Bound { heading })
     }
 
-    /// The heading of this version with this limit, and nothing declared.
+    /// Returns the heading of this version with this limit, and nothing declared.
     pub(crate) fn into_heading(self) -> Heading
         ensures { result ≡ opened self.version self.limit [] }
     {

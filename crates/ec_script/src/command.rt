@@ -22,7 +22,7 @@ use ec_semaphore::SemaphoreShape;
 use ec_text::number;
 use std::alloc::{AllocError, Global};
 
-/// The value that the only word spells.
+/// Returns the value that the only word spells.
 fn amount_in(rest: Option<&[u8]>) -> Value
     ensures value { result ≡ amount_in (rest_words rest.entry) }
     ensures sound { is_value result ≡ true }
@@ -33,7 +33,7 @@ fn amount_in(rest: Option<&[u8]>) -> Value
     }
 }
 
-/// The number that the only word spells, 0 where it spells none.
+/// Returns the number that the only word spells, 0 if it spells none.
 pub(crate) fn size_in(rest: Option<&[u8]>) -> u64
     ensures { result ≡ size_in (rest_words rest.entry) }
 {
@@ -46,7 +46,7 @@ pub(crate) fn size_in(rest: Option<&[u8]>) -> u64
     }
 }
 
-/// The values that words spell.
+/// Returns the values that words spell.
 fn amounts_in(alloc: Global, rest: Option<&[u8]>) -> Result<Values, AllocError>
     ensures value { IfOk result (λ values. values ≡ map amount_of (rest_words rest.entry)) }
     ensures sound { IfOk result (λ values. list_all is_value values ≡ true) }
@@ -104,7 +104,7 @@ fn semaphore_order(verb: Verb, shape: SemaphoreShape) -> Order
     }
 }
 
-/// The order to write these values into a database.
+/// Returns the order to write these values into a database.
 #[tactic(auto, using(crate::proofs::Sizes::as_many))]
 fn write_order(
     alloc: Global,
@@ -118,7 +118,7 @@ fn write_order(
     Ok(Order::Write(shape, amounts_in(alloc, rest)?))
 }
 
-/// The order to read a database in at most so many tries.
+/// Returns the order to read a database in at most so many tries.
 #[tactic(auto, using(crate::proofs::Sizes::size_sound))]
 fn snapshot_order(shape: DatabaseShape, rest: Option<&[u8]>) -> Order
     requires { is_count 1000 (option_and_then number_of (only_in (rest_words rest))) ≡ true }
@@ -128,7 +128,7 @@ fn snapshot_order(shape: DatabaseShape, rest: Option<&[u8]>) -> Order
     Order::Do(Command::Snapshot(shape, size_in(rest) as usize))
 }
 
-/// What a line says that does this with a database.
+/// Returns what a line says that does this with a database.
 fn database_order(
     alloc: Global,
     verb: Verb,
@@ -146,7 +146,7 @@ fn database_order(
     }
 }
 
-/// What a line says of the worker's commands; none where it is about nothing.
+/// Returns what a line says of the worker's commands; none where it is about nothing.
 pub(crate) fn command_in(
     alloc: Global,
     parts: &Parts<'_>,

@@ -48,7 +48,7 @@ impl Model for Draft {
 }
 
 impl Draft {
-    /// A block without a line.
+    /// Makes a block without a line.
     pub(crate) fn new(alloc: Global) -> Self
         ensures { result ≡ nothing_drafted }
     {
@@ -126,21 +126,21 @@ impl Draft {
         }
     }
 
-    /// Whether the innermost block has no command yet.
+    /// Returns whether the innermost block has no command yet.
     pub(crate) fn is_empty(&self) -> bool
         ensures { result ≡ self.now.is_empty }
     {
         self.current.is_empty()
     }
 
-    /// How many repeats are open.
+    /// Returns how many repeats are open.
     pub(crate) fn depth(&self) -> usize
         ensures { result ≡ self.now.depth }
     {
         self.outer.len()
     }
 
-    /// How many commands there are.
+    /// Returns how many commands there are.
     pub(crate) fn commands(&self) -> usize
         ensures { result ≡ self.now.commands }
     {
@@ -149,7 +149,7 @@ impl Draft {
 }
 
 impl Draft {
-    /// The program that was read.
+    /// Returns the program that was read.
     pub(crate) fn finish(self) -> Program
         requires { self.depth ≡ 0 }
         ensures { flat result ≡ self.orders }

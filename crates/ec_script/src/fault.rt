@@ -50,7 +50,7 @@ pub enum Kind {
 }
 
 impl Kind {
-    /// Its place in the order, from 1 to 12.
+    /// Returns its place in the order, from 1 to 12.
     pub fn number(self) -> u64
         ensures { result ≡ kind_number self }
     {
@@ -70,7 +70,7 @@ impl Kind {
         }
     }
 
-    /// Its name, as notes print it.
+    /// Returns its name, as notes print it.
     pub fn name(self) -> &'static str
         ensures { result.now ≡ kind_name self }
     {
@@ -109,7 +109,7 @@ pub(crate) enum StageFault {
     Memory,
 }
 
-/// The kind of a fault of a heading's line.
+/// Returns the kind of a fault of a heading's line.
 fn kind_of_head(fault: HeadFault) -> Kind
     ensures { result ≡ kind_of_head fault }
 {
@@ -124,7 +124,7 @@ fn kind_of_head(fault: HeadFault) -> Kind
     }
 }
 
-/// Why a line was not taken that a heading refused.
+/// Returns why a line was not taken that a heading refused.
 pub(crate) fn stage_fault(fault: HeadFault) -> StageFault
     ensures { result ≡ stage_fault fault }
 {

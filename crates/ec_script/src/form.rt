@@ -17,14 +17,14 @@ pub(crate) struct Parts<'a> {
     pub(crate) rest: Option<&'a [u8]>,
 }
 
-/// The digits behind `last+`.
+/// Returns the digits behind `last+`.
 fn more_of(word: &[u8]) -> Option<&[u8]>
     ensures { option_map (λ m. m.now) result ≡ more_in word.now }
 {
     word.strip_prefix(b"last+".as_slice())
 }
 
-/// Whether a word has the form of a value.
+/// Returns whether a word has the form of a value.
 fn is_value_form(word: &[u8]) -> bool
     ensures { result ≡ is_value_form word.now }
 {
@@ -37,7 +37,7 @@ fn is_value_form(word: &[u8]) -> bool
     }
 }
 
-/// The value that a word spells, where its number is in range.
+/// Returns the value that a word spells, where its number is in range.
 #[tactic(auto, unfolding(crate::specs::Forms::value_of))]
 pub(crate) fn value_of(word: &[u8]) -> Option<Value>
     ensures value { result ≡ value_of word.now }
@@ -58,7 +58,7 @@ pub(crate) fn value_of(word: &[u8]) -> Option<Value>
     }
 }
 
-/// Whether each word has the form of a value.
+/// Returns whether each word has the form of a value.
 fn are_value_forms(list: &[u8]) -> bool
     ensures { result ≡ list_all is_value_form (words_of list.now) }
 {
@@ -72,7 +72,7 @@ fn are_value_forms(list: &[u8]) -> bool
     }
 }
 
-/// The only word that is left, where it is the only one.
+/// Returns the only word that is left, where it is the only one.
 #[tactic(auto, using(crate::proofs::Words::only_word))]
 pub(crate) fn only_word(rest: Option<&[u8]>) -> Option<&[u8]>
     ensures { option_map (λ w. w.now) result ≡ only_in (rest_words rest.entry) }
@@ -83,7 +83,7 @@ pub(crate) fn only_word(rest: Option<&[u8]>) -> Option<&[u8]>
     Some(word)
 }
 
-/// Whether this is such a tail.
+/// Returns whether this is such a tail.
 #[tactic(auto, using(crate::proofs::Words::some_words))]
 fn is_tail(tail: Tail, rest: Option<&[u8]>) -> bool
     ensures { result ≡ is_tail tail (rest_words rest.entry) }
@@ -107,7 +107,7 @@ fn is_tail(tail: Tail, rest: Option<&[u8]>) -> bool
     }
 }
 
-/// The parts of a line from what stands behind its object on.
+/// Returns the parts of a line from what stands behind its object on.
 fn tailed<'a>(verb: Verb, object: &'a [u8], rest: Option<&'a [u8]>) -> Option<Parts<'a>>
     ensures { option_map shown result ≡ tailed_in verb object.now (rest_words rest.entry) }
 {
@@ -117,7 +117,7 @@ fn tailed<'a>(verb: Verb, object: &'a [u8], rest: Option<&'a [u8]>) -> Option<Pa
     Some(Parts { verb, object, rest })
 }
 
-/// The parts of a line of one of the forms.
+/// Returns the parts of a line of one of the forms.
 #[tactic(auto, unfolding(crate::specs::Forms::phrase_in))]
 pub(crate) fn parts_of(line: &[u8]) -> Option<Parts<'_>>
     ensures { option_map shown result ≡ phrase_in (words_of line.now) }

@@ -40,7 +40,7 @@ pub(crate) struct View<'a> {
 /// The greatest number of names in a schedule.
 const SCHEDULE_MAX: usize = 65536;
 
-/// Whether such a line may stand there.
+/// Returns whether such a line may stand there.
 fn is_allowed(verb: Verb, in_block: bool, scheduled: usize) -> bool
     ensures { result ≡ is_allowed verb in_block scheduled }
 {
@@ -51,14 +51,14 @@ fn is_allowed(verb: Verb, in_block: bool, scheduled: usize) -> bool
     }
 }
 
-/// Whether a worker stands in the list.
+/// Returns whether a worker stands in the list.
 fn is_member(worker: WorkerId, named: &[WorkerId]) -> bool
     ensures { result ≡ is_member worker named.now }
 {
     named.iter().any(|id| id.get() == worker.get())
 }
 
-/// Whether the block of this worker began before.
+/// Returns whether the block of this worker began before.
 fn is_named_again(named: &[WorkerId], object: &Object) -> bool
     ensures { result ≡ is_named_again named.now object.now }
 {
@@ -68,7 +68,7 @@ fn is_named_again(named: &[WorkerId], object: &Object) -> bool
     }
 }
 
-/// Whether a name of the schedule is no worker's.
+/// Returns whether a name of the schedule is no worker's.
 fn has_unknown_name(heading: &Heading, parts: &Parts<'_>) -> bool
     ensures { result ≡ has_unknown_name heading.now parts.now.verb (rest_words parts.now.rest) }
 {
@@ -78,7 +78,7 @@ fn has_unknown_name(heading: &Heading, parts: &Parts<'_>) -> bool
     }
 }
 
-/// How many cells a database has.
+/// Returns how many cells a database has.
 fn cells_of(object: &Object) -> usize
     ensures { result ≡ cells_of object.now }
 {
@@ -88,7 +88,7 @@ fn cells_of(object: &Object) -> usize
     }
 }
 
-/// The greatest count of a repeat, and of tries.
+/// Returns the greatest count of a repeat, and of tries.
 fn greatest(verb: Verb) -> u64
     ensures { result ≡ greatest verb }
 {
@@ -98,14 +98,14 @@ fn greatest(verb: Verb) -> u64
     }
 }
 
-/// Whether this is no value in its range.
+/// Returns whether this is no value in its range.
 fn is_no_value(word: &[u8]) -> bool
     ensures { result ≡ is_no_value word.now }
 {
     value_of(word).is_none()
 }
 
-/// Whether the values are out of range, or not so many.
+/// Returns whether the values are out of range, or not so many.
 fn are_bad_values(rest: Option<&[u8]>, cells: usize) -> bool
     ensures { result ≡ list_any is_no_value (rest_words rest.entry) || not (length (rest_words rest.entry) == cells) }
 {
@@ -115,7 +115,7 @@ fn are_bad_values(rest: Option<&[u8]>, cells: usize) -> bool
     }
 }
 
-/// Whether digits spell a number from 1 to the greatest.
+/// Returns whether digits spell a number from 1 to the greatest.
 fn is_count(most: u64, digits: Option<&[u8]>) -> bool
     ensures { result ≡ is_count most (option_and_then number_of (option_map (λ w. w.now) digits.entry)) }
 {
@@ -128,7 +128,7 @@ fn is_count(most: u64, digits: Option<&[u8]>) -> bool
     }
 }
 
-/// Whether a number is out of range, or the values are not as many as the cells.
+/// Returns whether a number is out of range, or the values are not as many as the cells.
 fn is_bad_tail(parts: &Parts<'_>, object: &Object) -> bool
     ensures { result ≡ is_bad_tail (tail_of parts.now.verb) parts.now.verb (rest_words parts.now.rest) object.now }
 {
@@ -143,7 +143,7 @@ fn is_bad_tail(parts: &Parts<'_>, object: &Object) -> bool
     }
 }
 
-/// How many words are left.
+/// Returns how many words are left.
 fn count_rest(rest: Option<&[u8]>) -> usize
     ensures { result ≡ length (rest_words rest.entry) }
 {
@@ -153,14 +153,14 @@ fn count_rest(rest: Option<&[u8]>) -> usize
     }
 }
 
-/// Whether so many names and so many more are too many for a schedule.
+/// Returns whether so many names and so many more are too many for a schedule.
 fn is_over(scheduled: usize, more: usize) -> bool
     ensures { result ≡ nat_lt 65536 (scheduled + more) }
 {
     scheduled > SCHEDULE_MAX || more > SCHEDULE_MAX - scheduled
 }
 
-/// Whether the commands of the block, or the names of the schedule, become too many.
+/// Returns whether the commands of the block, or the names of the schedule, become too many.
 fn is_too_many(parts: &Parts<'_>, block: Option<BlockView>, scheduled: usize) -> bool
     ensures { result ≡ is_too_many parts.now.verb (rest_words parts.now.rest) block scheduled }
 {
@@ -171,7 +171,7 @@ fn is_too_many(parts: &Parts<'_>, block: Option<BlockView>, scheduled: usize) ->
     }
 }
 
-/// Whether two of the three semaphores are one.
+/// Returns whether two of the three semaphores are one.
 fn has_two_roles(object: &Object) -> bool
     ensures { result ≡ has_two_roles object.now }
 {
@@ -181,8 +181,9 @@ fn has_two_roles(object: &Object) -> bool
     }
 }
 
-/// Whether a script of this version may have the worker signal the eventcount: under version 1 its
-/// declared signallers alone; under version 2 who signals it shows when the program runs.
+/// Returns whether a script of this version may have the worker signal the eventcount: under
+/// version 1 its declared signallers alone; under version 2 who signals it shows when the program
+/// runs.
 fn may_signal(version: Version, setup: &Setup, event: EventId, worker: WorkerId) -> bool
     ensures { result ≡ may_signal version setup.now event worker }
 {
@@ -192,14 +193,14 @@ fn may_signal(version: Version, setup: &Setup, event: EventId, worker: WorkerId)
     }
 }
 
-/// Whether there are such an eventcount and such a worker.
+/// Returns whether there are such an eventcount and such a worker.
 fn are_declared(setup: &Setup, event: EventId, worker: WorkerId) -> bool
     ensures { result ≡ are_declared setup.now event worker }
 {
     event.get() < setup.events() && worker.get() < setup.workers()
 }
 
-/// Whether a script of this version may have the worker do such a thing with the object.
+/// Returns whether a script of this version may have the worker do such a thing with the object.
 fn has_right(
     version: Version,
     setup: &Setup,
@@ -251,7 +252,7 @@ fn has_right(
     }
 }
 
-/// Whether the worker of the block lacks the right to do such a thing with the object.
+/// Returns whether the worker of the block lacks the right to do such a thing with the object.
 fn lacks_right(heading: &Heading, block: Option<BlockView>, verb: Verb, object: &Object) -> bool
     ensures { result ≡ lacks_right heading.now block verb object.now }
 {
@@ -267,8 +268,8 @@ fn lacks_right(heading: &Heading, block: Option<BlockView>, verb: Verb, object: 
     }
 }
 
-/// Whether a line stands inside a block that must not, a fifth repeat in the others, or an `end` of
-/// a repeat without a command.
+/// Returns whether a line stands inside a block that must not, a fifth repeat in the others, or an
+/// `end` of a repeat without a command.
 fn is_badly_nested(verb: Verb, block: Option<BlockView>) -> bool
     ensures { result ≡ is_badly_nested verb block }
 {
@@ -283,7 +284,7 @@ fn is_badly_nested(verb: Verb, block: Option<BlockView>) -> bool
     }
 }
 
-/// The object, or nothing.
+/// Returns the object, or nothing.
 pub(crate) fn or_nothing(object: Option<Object>) -> Object
     ensures { result ≡ or_nothing object }
 {
@@ -293,7 +294,8 @@ pub(crate) fn or_nothing(object: Option<Object>) -> Object
     }
 }
 
-/// The least fault of a line that has one of the forms; `meant` is what its word for an object means.
+/// Returns the least fault of a line that has one of the forms; `meant` is what its word for an
+/// object means.
 pub(crate) fn phrase_fault(
     view: &View<'_>,
     parts: &Parts<'_>,

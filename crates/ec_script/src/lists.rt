@@ -14,7 +14,7 @@ use ec_machine::Value;
 use ec_text::cut_word;
 use std::alloc::AllocError;
 
-/// Whether a word spells no value in its range.
+/// Returns whether a word spells no value in its range.
 pub(crate) fn has_no_value(list: &[u8]) -> bool
     ensures { result ≡ list_any is_no_value (words_of list.now) }
 {
@@ -46,7 +46,7 @@ pub(crate) fn push_ids(
     }
 }
 
-/// The value that a word spells, `last` where it spells none.
+/// Returns the value that a word spells, `last` where it spells none.
 pub(crate) fn amount_of(word: &[u8]) -> Value
     ensures value { result ≡ amount_of word.now }
     ensures sound { is_value result ≡ true }

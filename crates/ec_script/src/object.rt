@@ -31,7 +31,7 @@ pub(crate) enum Object {
     SemaphorePair(SemaphoreShape, SemaphoreShape, SemaphoreShape),
 }
 
-/// The group of a name.
+/// Returns the group of a name.
 fn group_in(heading: &Heading, word: &[u8]) -> Option<Group>
     ensures { result ≡ group_in heading.now word.now }
 {
@@ -68,28 +68,28 @@ fn semaphore_of(group: Group) -> Option<SemaphoreShape>
     }
 }
 
-/// The buffer of a name.
+/// Returns the buffer of a name.
 fn buffer_in(heading: &Heading, word: &[u8]) -> Option<BufferShape>
     ensures { result ≡ buffer_in heading.now word.now }
 {
     buffer_of(group_in(heading, word)?)
 }
 
-/// The database of a name.
+/// Returns the database of a name.
 fn database_in(heading: &Heading, word: &[u8]) -> Option<DatabaseShape>
     ensures { result ≡ database_in heading.now word.now }
 {
     database_of(group_in(heading, word)?)
 }
 
-/// The semaphore of a name.
+/// Returns the semaphore of a name.
 fn semaphore_in(heading: &Heading, word: &[u8]) -> Option<SemaphoreShape>
     ensures { result ≡ semaphore_in heading.now word.now }
 {
     semaphore_of(group_in(heading, word)?)
 }
 
-/// The common semaphore, if one is declared.
+/// Returns the common semaphore, if one is declared.
 fn both_of(groups: &[Group]) -> Option<SemaphoreShape>
     ensures { result ≡ both_of groups.now }
 {
@@ -100,7 +100,7 @@ fn both_of(groups: &[Group]) -> Option<SemaphoreShape>
     }
 }
 
-/// The common semaphore and the two that a line names.
+/// Returns the common semaphore and the two that a line names.
 fn pair_in(heading: &Heading, parts: &Parts<'_>) -> Option<Object>
     ensures { result ≡ pair_of (both_of heading.now.groups) (semaphore_in heading.now parts.now.object.now) (option_and_then (semaphore_in heading.now) (only_in (rest_words parts.now.rest))) }
 {
@@ -110,7 +110,7 @@ fn pair_in(heading: &Heading, parts: &Parts<'_>) -> Option<Object>
     Some(Object::SemaphorePair(common, one, other))
 }
 
-/// The eventcount and the worker that a line names.
+/// Returns the eventcount and the worker that a line names.
 fn handed_in(heading: &Heading, parts: &Parts<'_>) -> Option<Object>
     ensures { result ≡ handed_of (event_in heading.now.words parts.now.object.now) (option_and_then (worker_in heading.now.words) (only_in (rest_words parts.now.rest))) }
 {
@@ -119,8 +119,8 @@ fn handed_in(heading: &Heading, parts: &Parts<'_>) -> Option<Object>
     Some(Object::Handed(event, to))
 }
 
-/// What a line is about: the declared object, of the sort that its verb asks for, that its word
-/// spells.
+/// Returns what a line is about: the declared object, of the sort that its verb asks for, that its
+/// word spells.
 pub(crate) fn object_in(heading: &Heading, parts: &Parts<'_>) -> Option<Object>
     ensures { result ≡ object_in heading.now (shown parts.now) }
 {
@@ -139,7 +139,7 @@ pub(crate) fn object_in(heading: &Heading, parts: &Parts<'_>) -> Option<Object>
     }
 }
 
-/// Whether an eventcount belongs to the group.
+/// Returns whether an eventcount belongs to the group.
 fn has_count(group: &Group, event: EventId) -> bool
     ensures { result ≡ has_count group.now event }
 {
@@ -151,7 +151,7 @@ fn has_count(group: &Group, event: EventId) -> bool
     }
 }
 
-/// Whether a sequencer belongs to the group.
+/// Returns whether a sequencer belongs to the group.
 fn has_line(group: &Group, sequencer: SeqId) -> bool
     ensures { result ≡ has_line group.now sequencer }
 {
@@ -163,7 +163,7 @@ fn has_line(group: &Group, sequencer: SeqId) -> bool
     }
 }
 
-/// Whether a cell belongs to the group.
+/// Returns whether a cell belongs to the group.
 fn has_cell(group: &Group, cell: CellId) -> bool
     ensures { result ≡ has_cell group.now cell }
 {
@@ -175,7 +175,8 @@ fn has_cell(group: &Group, cell: CellId) -> bool
     first.get() <= cell.get() && cell.get() < first.get() + cells
 }
 
-/// Whether an eventcount, a sequencer or a cell belongs to the group; of a hand, its eventcount.
+/// Returns whether an eventcount, a sequencer or a cell belongs to the group; of a hand, its
+/// eventcount.
 fn owns(object: &Object, group: &Group) -> bool
     ensures { result ≡ owns object.now group.now }
 {
@@ -188,7 +189,7 @@ fn owns(object: &Object, group: &Group) -> bool
     }
 }
 
-/// Whether an eventcount, a sequencer or a cell belongs to one of the groups.
+/// Returns whether an eventcount, a sequencer or a cell belongs to one of the groups.
 pub(crate) fn is_owned(groups: &[Group], object: &Object) -> bool
     ensures { result ≡ is_owned groups.now object.now }
 {

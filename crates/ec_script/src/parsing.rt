@@ -14,7 +14,7 @@ use std::alloc::Global;
 /// The most bytes that a script may have.
 pub const SCRIPT_MAX: usize = 1_048_576;
 
-/// Why a line was not taken, with its number.
+/// Returns why a line was not taken, with its number.
 fn fault_at(line: u64, fault: StageFault) -> ScriptFault
     ensures { result ≡ fault_at line fault }
 {
@@ -24,7 +24,7 @@ fn fault_at(line: u64, fault: StageFault) -> ScriptFault
     }
 }
 
-/// The first line.
+/// Returns the first line.
 #[tactic(auto, using(crate::proofs::Lines::first_lines))]
 fn first_line(text: &[u8]) -> &[u8]
     ensures { result.now ≡ first_of (parts_of text.now) }
@@ -35,7 +35,7 @@ fn first_line(text: &[u8]) -> &[u8]
     }
 }
 
-/// The kind of a text that is too long, by its line 1.
+/// Returns the kind of a text that is too long, by its line 1.
 fn long_kind(text: &[u8]) -> Kind
     ensures { result ≡ long_kind (first_of (parts_of text.now)) }
 {
@@ -45,7 +45,7 @@ fn long_kind(text: &[u8]) -> Kind
     }
 }
 
-/// The result of a text that ends with the LF before line n.
+/// Returns the result of a text that ends with the LF before line n.
 fn end_here(stage: Stage, line: u64) -> Result<Plan, ScriptFault>
     ensures { Tells (finished line (plan_in stage)) result }
 {
@@ -58,7 +58,7 @@ fn end_here(stage: Stage, line: u64) -> Result<Plan, ScriptFault>
     }
 }
 
-/// The result of a text whose last line, of number n, lacks its LF.
+/// Returns the result of a text whose last line, of number n, lacks its LF.
 fn cut_off(alloc: Global, stage: Stage, line: u64, rest: &[u8]) -> Result<Plan, ScriptFault>
     ensures { Tells (taken line (step stage rest.now) (λ t. Err (line, Kind.Unfinished))) result }
 {
@@ -72,7 +72,7 @@ fn cut_off(alloc: Global, stage: Stage, line: u64, rest: &[u8]) -> Result<Plan, 
     }
 }
 
-/// The result of a text that ends with these bytes, of line n.
+/// Returns the result of a text that ends with these bytes, of line n.
 fn finish(alloc: Global, stage: Stage, line: u64, rest: &[u8]) -> Result<Plan, ScriptFault>
     ensures { Tells (ended line stage rest.now) result }
 {
@@ -82,7 +82,7 @@ fn finish(alloc: Global, stage: Stage, line: u64, rest: &[u8]) -> Result<Plan, S
     }
 }
 
-/// What a text within the bound comes to.
+/// Returns what a text within the bound comes to.
 fn parse_lines(alloc: Global, text: &[u8]) -> Result<Plan, ScriptFault>
     requires { length text.now < 2 ^ 32 }
     ensures { Tells (goes 1 Stage.Opening (parts_of text.now)) result }
@@ -100,7 +100,7 @@ fn parse_lines(alloc: Global, text: &[u8]) -> Result<Plan, ScriptFault>
     finish(alloc, stage, number, rest)
 }
 
-/// The plan that a script says, or its first faulty line with the least kind of its faults.
+/// Returns the plan that a script says, or its first faulty line with the least kind of its faults.
 ///
 /// Lines are counted from 1. A line is judged by those before it. A last line without its LF is
 /// judged like every line, and then the text is unfinished; so is one that ends before its line of

@@ -37,7 +37,7 @@ pub(crate) struct Block {
 }
 
 impl Block {
-    /// What a line sees of it.
+    /// Returns what a line sees of it.
     fn view(&self) -> BlockView
         ensures { result ≡ view_of_block self.now }
     {
@@ -76,7 +76,7 @@ impl Model for Script {
     ghost view = { λ s. record { heading = s.heading; named = s.named.items; programs = map flat s.programs.items; block = s.block; schedule = s.schedule.items } };
 }
 
-/// The empty program.
+/// Returns the empty program.
 fn empty_program(alloc: Global) -> Program
     ensures { result ≡ [] }
 {
@@ -109,7 +109,7 @@ fn set_program(programs: &mut Vec<Program>, place: usize, program: Program)
 }
 
 impl Script {
-    /// A script of this heading, before its blocks.
+    /// Makes a script of this heading, before its blocks.
     pub(crate) fn new(alloc: Global, heading: Heading) -> Result<Self, AllocError>
         ensures { IfOk result (λ script. script ≡ script_of heading) }
     {
@@ -124,7 +124,7 @@ impl Script {
         })
     }
 
-    /// The block that a line stands in.
+    /// Returns the block that a line stands in.
     fn block_view(&self) -> Option<BlockView>
         ensures { result ≡ option_map view_of_block self.now.block }
     {
@@ -134,14 +134,14 @@ impl Script {
         }
     }
 
-    /// How many names the schedule has.
+    /// Returns how many names the schedule has.
     fn scheduled(&self) -> usize
         ensures { result ≡ length self.now.schedule }
     {
         self.schedule.len()
     }
 
-    /// The least fault of a line of one of the forms, whose word for an object means this.
+    /// Returns the least fault of a line of one of the forms, whose word for an object means this.
     fn fault(&self, parts: &Parts<'_>, found: &Option<Object>) -> Option<Kind>
         ensures { result ≡ phrase_fault (seen self.now) (shown parts.now) found.now }
     {
@@ -267,7 +267,7 @@ impl Script {
         }
     }
 
-    /// Whether no `worker` and no `schedule` line came yet.
+    /// Returns whether no `worker` and no `schedule` line came yet.
     fn is_declaring(&self) -> bool
         ensures { result ≡ is_declaring self.now }
     {
@@ -292,7 +292,7 @@ impl Script {
     }
 }
 
-/// Whether a line opens with `worker` or `schedule`.
+/// Returns whether a line opens with `worker` or `schedule`.
 fn opens_outer(line: &[u8]) -> bool
     ensures { result ≡ opens_outer (words_of line.now) }
 {
@@ -304,7 +304,7 @@ fn opens_outer(line: &[u8]) -> bool
 }
 
 impl Script {
-    /// The plan, where no block is open.
+    /// Returns the plan, where no block is open.
     pub(crate) fn plan(self) -> Option<Plan>
         ensures { option_map shown_plan result ≡ plan_or self self.block }
     {

@@ -29,7 +29,7 @@ pub(crate) enum Stage {
     Reading(Script),
 }
 
-/// The version whose first line this is.
+/// Returns the version whose first line this is.
 pub(crate) fn version_of(line: &[u8]) -> Option<Version>
     ensures { result ≡ version_of script_header line.now }
 {
@@ -42,7 +42,7 @@ pub(crate) fn version_of(line: &[u8]) -> Option<Version>
     None
 }
 
-/// The digits behind the word `limit`, which are all that stands there.
+/// Returns the digits behind the word `limit`, which are all that stands there.
 #[tactic(auto, using(crate::proofs::Words::third_word))]
 fn limit_digits(line: &[u8]) -> Option<&[u8]>
     ensures { option_map (λ w. w.now) result ≡ limit_digits (words_of line.now) }
@@ -60,7 +60,7 @@ fn limit_digits(line: &[u8]) -> Option<&[u8]>
     }
 }
 
-/// The limit that a line gives, one that the version may have.
+/// Returns the limit that a line gives, one that the version may have.
 fn limit_of(version: Version, line: &[u8]) -> Result<Limit, Kind>
     ensures value { LimitIs version result (limit_or version (limit_digits (words_of line.now))) }
     ensures within { IfOk result (λ limit. limit ≤ greatest_limit version) }
@@ -148,7 +148,7 @@ impl Stage {
 }
 
 impl Stage {
-    /// The plan, where the text may end here.
+    /// Returns the plan, where the text may end here.
     pub(crate) fn plan(self) -> Option<Plan>
         ensures { option_map shown_plan result ≡ plan_in self }
     {

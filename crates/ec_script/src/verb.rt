@@ -43,7 +43,7 @@ pub(crate) enum Tail {
     Words,
 }
 
-/// The raw call that a word stands for.
+/// Returns the raw call that a word stands for.
 fn raw_verb_of(word: &[u8]) -> Option<Verb>
     ensures { result ≡ raw_verb_of word.now }
 {
@@ -71,7 +71,7 @@ fn raw_verb_of(word: &[u8]) -> Option<Verb>
     None
 }
 
-/// The procedure that a word stands for.
+/// Returns the procedure that a word stands for.
 fn procedure_verb_of(word: &[u8]) -> Option<Verb>
     ensures { result ≡ procedure_verb_of word.now }
 {
@@ -99,7 +99,7 @@ fn procedure_verb_of(word: &[u8]) -> Option<Verb>
     None
 }
 
-/// What a word stands for that orders the lines.
+/// Returns what a word stands for that orders the lines.
 fn order_verb_of(word: &[u8]) -> Option<Verb>
     ensures { result ≡ order_verb_of word.now }
 {
@@ -118,7 +118,7 @@ fn order_verb_of(word: &[u8]) -> Option<Verb>
     None
 }
 
-/// What a line does that opens with this word.
+/// Returns what a line does that opens with this word.
 pub(crate) fn verb_of(word: &[u8]) -> Option<Verb>
     ensures { result ≡ verb_of word.now }
 {
@@ -132,7 +132,7 @@ pub(crate) fn verb_of(word: &[u8]) -> Option<Verb>
 }
 
 impl Verb {
-    /// Whether scripts of the version have such lines.
+    /// Returns whether scripts of the version have such lines.
     pub(crate) fn is_of(self, version: Version) -> bool
         ensures { result ≡ has_verb version self }
     {
@@ -142,7 +142,7 @@ impl Verb {
         }
     }
 
-    /// Whether the word of an object or of a worker stands behind it.
+    /// Returns whether the word of an object or of a worker stands behind it.
     pub(crate) fn has_object(self) -> bool
         ensures { result ≡ has_object self }
     {
@@ -152,7 +152,7 @@ impl Verb {
         }
     }
 
-    /// What stands behind that.
+    /// Returns what stands behind that.
     pub(crate) fn tail(self) -> Tail
         ensures { result ≡ tail_of self }
     {
@@ -166,7 +166,8 @@ impl Verb {
         }
     }
 
-    /// Whether it signals, writes or produces; else it observes, reads, consumes or hands over.
+    /// Returns whether it signals, writes or produces; else it observes, reads, consumes or hands
+    /// over.
     pub(crate) fn is_giving(self) -> bool
         ensures { result ≡ is_giving self }
     {
@@ -176,7 +177,7 @@ impl Verb {
         }
     }
 
-    /// Whether it opens a block or goes on with the schedule; else it stands in a block.
+    /// Returns whether it opens a block or goes on with the schedule; else it stands in a block.
     pub(crate) fn is_outer(self) -> bool
         ensures { result ≡ is_outer self }
     {
@@ -186,7 +187,7 @@ impl Verb {
         }
     }
 
-    /// Whether it counts as a command of the block.
+    /// Returns whether it counts as a command of the block.
     pub(crate) fn is_counted(self) -> bool
         ensures { result ≡ is_counted self }
     {

@@ -16,7 +16,8 @@ use crate::{Balance, SemaphoreShape};
 use ec_core::{Act, Audit, AuditFault, Entry, Reply, Run, Tracker, walk};
 use std::marker::Model;
 
-/// Whether an entry ends an await of the semaphore's eventcount, given the act that began its call.
+/// Returns whether an entry ends an await of the semaphore's eventcount, given the act that began
+/// its call.
 fn is_down(shape: &SemaphoreShape, op: &Act, reply: Reply) -> bool
     ensures { result ≡ (is_await shape.now.count op.now && not (is_pending reply)) }
 {
@@ -26,7 +27,7 @@ fn is_down(shape: &SemaphoreShape, op: &Act, reply: Reply) -> bool
     }
 }
 
-/// Whether an act advances the semaphore's eventcount.
+/// Returns whether an act advances the semaphore's eventcount.
 fn is_up(shape: &SemaphoreShape, act: &Act) -> bool
     ensures { result ≡ is_advance shape.now.count act.now }
 {
@@ -79,7 +80,7 @@ impl Audit for BalanceAudit {
 }
 
 impl BalanceAudit {
-    /// Before the first entry.
+    /// Makes the audit before the first entry.
     pub fn new(shape: SemaphoreShape) -> Self
         ensures shape { result.shape ≡ shape }
         ensures first { IsCounted result [] }
@@ -93,7 +94,8 @@ impl BalanceAudit {
         }
     }
 
-    /// The parts of the balance after the entries so far, whether these follow the semaphore or not.
+    /// Returns the parts of the balance after the entries so far, whether these follow the
+    /// semaphore or not.
     pub fn so_far(&self) -> Balance
         ensures { result ≡ record { initial = self.now.shape.initial; downs = self.now.downs; ups = self.now.ups } }
     {
@@ -111,8 +113,8 @@ impl BalanceAudit {
         }
     }
 
-    /// The parts of the balance after the entries so far, where the workers follow the semaphore. Err is
-    /// NotFollowed, with the first entry that breaks the lists of calls.
+    /// Returns the parts of the balance after the entries so far, where the workers follow the
+    /// semaphore. Err is NotFollowed, with the first entry that breaks the lists of calls.
     pub fn finish(&self) -> Result<Balance, AuditFault>
         ensures ok { (t : Tables) (h : List Entry) → EndsAt t (IsCounted self.now) h → IsOk result ↔ Follow (use_rules self.now.shape) (reverse h) }
         ensures parts { (t : Tables) (h : List Entry) → EndsAt t (IsCounted self.now) h → IfOk result (λ b. b ≡ parts_of self.now.shape (reverse h)) }
@@ -132,8 +134,8 @@ impl BalanceAudit {
         })
     }
 
-    /// The parts of the balance after all entries of a run whose workers follow the semaphore. Err is
-    /// NotFollowed, with the first entry that breaks the lists of calls.
+    /// Returns the parts of the balance after all entries of a run whose workers follow the
+    /// semaphore. Err is NotFollowed, with the first entry that breaks the lists of calls.
     pub fn balance(&self, run: &Run) -> Result<Balance, AuditFault>
         requires { IsCounted self.now (reverse run.now.entries) }
         ensures ok { IsOk result ↔ Follow (use_rules self.now.shape) (reverse run.now.entries) }
@@ -148,8 +150,8 @@ impl BalanceAudit {
     }
 }
 
-/// The parts of a semaphore's balance after all entries of a run whose workers follow it. Err is
-/// NotFollowed, with the first entry that breaks the lists of calls; no memory is wanted.
+/// Returns the parts of a semaphore's balance after all entries of a run whose workers follow it.
+/// Err is NotFollowed, with the first entry that breaks the lists of calls; no memory is wanted.
 ///
 /// It is meant for a shape that fits the run's declarations; what it answers holds of any.
 pub fn balance(run: &Run, shape: &SemaphoreShape) -> Result<Balance, AuditFault>

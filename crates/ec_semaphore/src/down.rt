@@ -26,7 +26,7 @@ pub struct Down {
 }
 
 impl Down {
-    /// The whole list.
+    /// Returns the whole list.
     pub fn new(shape: SemaphoreShape) -> Self
         ensures whole { (calls : List Told) → ⟦<Down as Procedure>⟧.rest result calls ≡ down_call shape calls }
         ensures fresh { ⟦<Down as Procedure>⟧.is_going result ≡ false }
@@ -39,7 +39,7 @@ impl Down {
     }
 }
 
-/// The total that a P with this ticket waits for.
+/// Returns the total that a P with this ticket waits for.
 pub(crate) fn threshold(shape: &SemaphoreShape, ticket: u64) -> u64
     requires { ticket ≤ VALUE_MAX }
     ensures { result ≡ threshold shape.now ticket }

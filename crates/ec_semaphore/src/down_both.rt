@@ -36,8 +36,8 @@ pub struct DownBoth {
 }
 
 impl DownBoth {
-    /// The three semaphores are different, and the common one has initial value 1, as
-    /// `declare_both` gives it.
+    /// Makes P on two semaphores. The three semaphores are different, and the common one has
+    /// initial value 1, as `declare_both` gives it.
     pub fn new(common: SemaphoreShape, one: SemaphoreShape, other: SemaphoreShape) -> Self
         requires single { common.initial ≡ 1 }
         requires apart { (common ≢ one) × (common ≢ other) × (one ≢ other) }
@@ -53,7 +53,7 @@ impl DownBoth {
         }
     }
 
-    /// The act that is due where no call is under way.
+    /// Returns the act that is due where no call is under way.
     fn due(&self) -> Option<Act>
         ensures { result ≡ ⟦<DownBoth as Procedure>⟧.rest self.now [] }
     {
@@ -75,7 +75,7 @@ impl DownBoth {
     }
 }
 
-/// The place after one where a call told this number; 0 where it told none.
+/// Returns the place after one where a call told this number; 0 if it told none.
 fn next_place(place: Place, number: u64) -> Place
     ensures { result ≡ next_place place number }
 {

@@ -20,7 +20,7 @@ pub(crate) struct Guarded<'a> {
     ghost tabled: { (q : ℕ) → q < 32 → slice_get lines q ≡ Some (is_line common shapes.now q) },
 }
 
-/// Whether each sequencer is that of one of the semaphores, and not that of the common one.
+/// Returns whether each sequencer is that of one of the semaphores, and not that of the common one.
 fn lines_of(common: &SemaphoreShape, shapes: &[SemaphoreShape]) -> [bool; 32]
     ensures { (q : ℕ) → q < 32 → slice_get result q ≡ Some (is_line common.now shapes.now q) }
 {
@@ -44,7 +44,7 @@ impl<'a> Guarded<'a> {
         }
     }
 
-    /// Whether a ticket of the sequencer may be one of the two.
+    /// Returns whether a ticket of the sequencer may be one of the two.
     fn is_line(&self, sequencer: SeqId) -> bool
         ensures { result ≡ is_line self.now.common self.now.shapes.now sequencer }
     {
@@ -53,7 +53,7 @@ impl<'a> Guarded<'a> {
     }
 }
 
-/// The sequencer that an act draws from, by number; 0 where it draws no ticket.
+/// Returns the sequencer that an act draws from, by number; 0 if it draws no ticket.
 fn line_of(act: &Act) -> u64
     ensures { result ≡ line_of act.now }
 {

@@ -5,68 +5,70 @@ ghost use Rattle.ec_semaphore.specs.Auditing.{OthersMayBeLeftOut, GoesMayBeLeftO
 ghost use Rattle.ec_semaphore.specs.Joined.{FollowingMeansUses, UsesAreDownsAndUps, FollowingBothMeansGuardedParts, WholePartsAreGuarded, DownIsWritten, UpIsWritten, DownBothIsWritten};
 ghost use Rattle.ec_semaphore.specs.Laws.{SemaphoresStay, DownsCountFinishedWaits, BalancesAreNeverNegative, BothIsFollowedAsASemaphore, PairsAreDrawn, TicketsAgree};
 
-/// A semaphore that fits declarations fits them still where more is declared.
+/// States that a semaphore that fits declarations fits them still where more is declared.
 pub fn declared_semaphores_stay()
     ensures { SemaphoresStay }
 {}
 
-/// An accepted history follows a semaphore exactly where each worker's calls on it are whole lists
-/// joined end to end, and the beginning of one more. The whole lists are the P and the V.
+/// States that an accepted history follows a semaphore exactly where each worker's calls on it are
+/// whole lists joined end to end, and the beginning of one more. The whole lists are the P and the
+/// V.
 pub fn following_means_uses()
     ensures joined { FollowingMeansUses }
     ensures whole { UsesAreDownsAndUps }
 {}
 
-/// An accepted history follows `both` exactly where each worker's calls are guarded parts, with
-/// calls on other objects between them, and the beginning of one more.
+/// States that an accepted history follows `both` exactly where each worker's calls are guarded
+/// parts, with calls on other objects between them, and the beginning of one more.
 pub fn following_both_means_guarded_parts()
     ensures joined { FollowingBothMeansGuardedParts }
     ensures whole { WholePartsAreGuarded }
 {}
 
-/// What Down, Up and DownBoth have asked for once they are over: a P, a V, and a guarded part with
-/// a P on each of the two semaphores.
+/// States what Down, Up and DownBoth have asked for once they are over: a P, a V, and a guarded
+/// part with a P on each of the two semaphores.
 pub fn procedures_ask_for_whole_lists()
     ensures down { DownIsWritten }
     ensures up { UpIsWritten }
     ensures both { DownBothIsWritten }
 {}
 
-/// The finished P are the entries that end an await of the semaphore's eventcount.
+/// States that the finished P are the entries that end an await of the semaphore's eventcount.
 pub fn downs_count_finished_waits()
     ensures { DownsCountFinishedWaits }
 {}
 
-/// Where the workers follow a semaphore, its balance is at least 0 at every moment.
+/// States that if the workers follow a semaphore, its balance is at least 0 at every moment.
 pub fn balances_are_never_negative()
     ensures { BalancesAreNeverNegative }
 {}
 
-/// Who follows `both` follows its common semaphore, which has initial value 1, as a semaphore.
+/// States that who follows `both` follows its common semaphore, which has initial value 1, as a
+/// semaphore.
 pub fn both_is_followed_as_a_semaphore()
     ensures { BothIsFollowedAsASemaphore }
 {}
 
-/// Where the workers follow `both`, its pairs are those whose two tickets the history draws, in the
-/// order of the entries that draw the first ones.
+/// States that if the workers follow `both`, its pairs are those whose two tickets the history
+/// draws, in the order of the entries that draw the first ones.
 pub fn pairs_are_drawn()
     ensures { PairsAreDrawn }
 {}
 
-/// Where the workers follow `both`, of two pairs that share a sequencer the earlier has the smaller
-/// ticket on it.
+/// States that if the workers follow `both`, of two pairs that share a sequencer the earlier has
+/// the smaller ticket on it.
 pub fn tickets_agree()
     ensures { TicketsAgree }
 {}
 
-/// The greatest number that a semaphore begins with, as a number.
+/// States the greatest number that a semaphore begins with, as a number.
 pub fn greatest_initial_value_is_a_million()
     ensures { INITIAL_MAX ≡ 1000000 }
 {}
 
-/// The audit of a semaphore need not take in an entry whose call is not on the semaphore, nor a go
-/// that ends no call: without them it is the same. The audit of guarded parts need not take in such
-/// a go.
+/// States that the audit of a semaphore need not take in an entry whose call is not on the
+/// semaphore, nor a go that ends no call: without them it is the same. The audit of guarded parts
+/// need not take in such a go.
 pub fn audits_may_leave_out_entries()
     ensures off { OthersMayBeLeftOut }
     ensures goes { GoesMayBeLeftOut }

@@ -30,7 +30,7 @@ struct Drawn {
     number: u64,
 }
 
-/// The number that is told; 0 where none is.
+/// Returns the number that is told; 0 if none is.
 fn number_of(reply: Reply) -> u64
     ensures { result ≡ number_of reply }
 {
@@ -41,7 +41,7 @@ fn number_of(reply: Reply) -> u64
     }
 }
 
-/// The latest ticket of an entry's worker after the entry.
+/// Returns the latest ticket of an entry's worker after the entry.
 fn drawn_after(before: Drawn, entry: &Entry) -> Drawn
     ensures { result ≡ drawn_after before entry.now entry.now.act }
 {
@@ -54,7 +54,7 @@ fn drawn_after(before: Drawn, entry: &Entry) -> Drawn
     }
 }
 
-/// The pair that an entry completes, given the latest ticket of its worker.
+/// Returns the pair that an entry completes, given the latest ticket of its worker.
 fn completed(kept: &Kept, latest: Drawn, entry: &Entry) -> Option<Pair>
     ensures { (calls : List Told) → kept.now ≡ kept_of_both calls → IsDrawn latest calls → result ≡ pair_with calls entry.now }
 {
@@ -70,7 +70,7 @@ fn completed(kept: &Kept, latest: Drawn, entry: &Entry) -> Option<Pair>
     }
 }
 
-/// The pair that an entry completes, whose worker's latest ticket is then noted.
+/// Returns the pair that an entry completes, whose worker's latest ticket is then noted.
 fn note_drawn(kept: &Kept, entry: &Entry, latest: &mut [Drawn; 16]) -> Option<Pair>
     ensures { (c : Semaphore) (lines : ℕ → Bool) (t : Tables) (past : List Entry)
         → kept.now ≡ kept_of_both (block (both_rule c lines) entry.now.worker past) → IsDeclared t
@@ -136,7 +136,7 @@ impl<'a> Audit for PairAudit<'a> {
 }
 
 impl<'a> PairAudit<'a> {
-    /// Before the first entry.
+    /// Makes the audit before the first entry.
     pub fn new(alloc: Global, common: SemaphoreShape, shapes: &'a [SemaphoreShape]) -> Self
         ensures common { result.common ≡ common }
         ensures shapes { result.shapes ≡ shapes.now }
@@ -158,8 +158,8 @@ impl<'a> PairAudit<'a> {
         }
     }
 
-    /// The pairs after the entries so far, where the workers follow the guarded parts. Where they
-    /// don't, the first entry that breaks the lists of calls is told.
+    /// Returns the pairs after the entries so far, where the workers follow the guarded parts.
+    /// Where they don't, the first entry that breaks the lists of calls is told.
     pub fn finish(self) -> Result<Vec<Pair>, AuditFault>
         ensures followed { (t : Tables) (h : List Entry) → EndsAt t (IsPairing self.entry) h → IsOk result → Follow (both_rules self.entry.common (is_line self.entry.common self.entry.shapes)) (reverse h) }
         ensures pairs { (t : Tables) (h : List Entry) → EndsAt t (IsPairing self.entry) h → IfOk result (λ ps. ps.items ≡ pairs_of self.entry.common self.entry.shapes h) }
@@ -176,8 +176,8 @@ impl<'a> PairAudit<'a> {
         Ok(self.pairs)
     }
 
-    /// The pairs after all entries of a run whose workers follow the guarded parts. Where they
-    /// don't, the first entry that breaks the lists of calls is told.
+    /// Returns the pairs after all entries of a run whose workers follow the guarded parts. Where
+    /// they don't, the first entry that breaks the lists of calls is told.
     pub fn pairs(self, run: &Run) -> Result<Vec<Pair>, AuditFault>
         requires { IsPairing self (reverse run.now.entries) }
         ensures followed { IsOk result → Follow (both_rules self.entry.common (is_line self.entry.common self.entry.shapes)) (reverse run.now.entries) }
@@ -191,10 +191,10 @@ impl<'a> PairAudit<'a> {
     }
 }
 
-/// The pairs of tickets that the P on two of these semaphores draw in a run whose workers follow
-/// the guarded parts of a common one, in the order in which their first tickets were drawn: one for
-/// each P that has drawn both. Err is NotFollowed, with the first entry that breaks the lists of
-/// calls, or want of memory where there is none.
+/// Returns the pairs of tickets that the P on two of these semaphores draw in a run whose workers
+/// follow the guarded parts of a common one, in the order in which their first tickets were drawn:
+/// one for each P that has drawn both. Err is NotFollowed, with the first entry that breaks the
+/// lists of calls, or want of memory where there is none.
 ///
 /// A semaphore is told by its sequencer here: two shapes with one sequencer are one semaphore, and
 /// a shape with the sequencer of the common one is none of the two. It is meant for shapes that fit

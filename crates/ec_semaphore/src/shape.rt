@@ -32,21 +32,21 @@ impl Model for SemaphoreShape {
 }
 
 impl SemaphoreShape {
-    /// The eventcount that each V advances and each P awaits.
+    /// Returns the eventcount that each V advances and each P awaits.
     pub fn count(&self) -> EventId
         ensures { result ≡ self.now.count }
     {
         self.count
     }
 
-    /// The sequencer on which each P draws its ticket.
+    /// Returns the sequencer on which each P draws its ticket.
     pub fn line(&self) -> SeqId
         ensures { result ≡ self.now.line }
     {
         self.line
     }
 
-    /// How many P may end before the first V, from 0 to 1000000.
+    /// Returns how many P may end before the first V, from 0 to 1000000.
     pub fn initial(&self) -> u64
         ensures value { result ≡ self.now.initial }
         ensures small { result ≤ INITIAL_MAX }
@@ -54,8 +54,9 @@ impl SemaphoreShape {
         self.initial
     }
 
-    /// Whether the eventcount and the sequencer are declared there, with the rights of a semaphore:
-    /// the same users signal and observe the one, which is fixed, and draw from the other.
+    /// Returns whether the eventcount and the sequencer are declared there, with the rights of a
+    /// semaphore: the same users signal and observe the one, which is fixed, and draw from the
+    /// other.
     pub fn fits(&self, setup: &Setup) -> bool
         ensures { IsTrue result ↔ Fits self.now setup.now }
     {

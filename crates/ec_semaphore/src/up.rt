@@ -14,7 +14,7 @@ pub struct Up {
 }
 
 impl Up {
-    /// The whole list.
+    /// Returns the whole list.
     pub fn new(shape: SemaphoreShape) -> Self
         ensures whole { (calls : List Told) → ⟦<Up as Procedure>⟧.rest result calls ≡ up_call shape calls }
         ensures fresh { ⟦<Up as Procedure>⟧.is_going result ≡ false }

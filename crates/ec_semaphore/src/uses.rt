@@ -29,7 +29,7 @@ impl Uses {
         Uses { shape }
     }
 
-    /// The semaphore.
+    /// Returns the semaphore.
     #[inline(always)]
     pub(crate) fn shape(&self) -> &SemaphoreShape
         ensures { result.now ≡ self.now.shape }
@@ -38,7 +38,7 @@ impl Uses {
     }
 }
 
-/// Whether an act names the eventcount or the sequencer of a semaphore.
+/// Returns whether an act names the eventcount or the sequencer of a semaphore.
 pub fn is_on(shape: &SemaphoreShape, act: &Act) -> bool
     ensures { result ≡ is_on shape.now act.now }
 {
@@ -54,8 +54,8 @@ pub fn is_on(shape: &SemaphoreShape, act: &Act) -> bool
     }
 }
 
-/// Whether a P with this ticket waits for this total. No sum is made, since a ticket may be any
-/// number here.
+/// Returns whether a P with this ticket waits for this total. No sum is made, since a ticket may be
+/// any number here.
 fn is_threshold(shape: &SemaphoreShape, ticket: u64, total: u64) -> bool
     ensures { result ≡ (total == threshold shape.now ticket) }
 {

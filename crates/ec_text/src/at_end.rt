@@ -7,8 +7,8 @@ ghost use Rattle.ec_text.specs.Eight.{word_of, worth_from, HoldsBytes, HoldsDigi
 
 use crate::numbers::has_form;
 
-/// The number that the last word of a text spells, behind a space, and the place of that space. Of the text `w = 17` these are
-/// 17 and 3.
+/// Returns the number that the last word of a text spells, behind a space, and the place of that
+/// space. Of the text `w = 17` these are 17 and 3.
 ///
 /// It is found and read from the end of the text, in one pass: up to seven digits at once, and more digit by digit.
 #[inline(always)]
@@ -49,7 +49,8 @@ fn by_digit(text: &[u8]) -> Option<(usize, u64)>
     None
 }
 
-/// The number and the place before its digits, if a space is there and the digits have the form of a number.
+/// Returns the number and the place before its digits, if a space is there and the digits have the
+/// form of a number.
 #[inline(always)]
 fn behind_space(text: &[u8], place: usize, number: u64) -> Option<(usize, u64)>
     requires within { place < length text.now }
@@ -67,7 +68,7 @@ fn behind_space(text: &[u8], place: usize, number: u64) -> Option<(usize, u64)>
     }
 }
 
-/// The last eight bytes of a text as one number, the first of them the lowest.
+/// Returns the last eight bytes of a text as one number, the first of them the lowest.
 #[inline(always)]
 fn last_eight(text: &[u8]) -> u64
     requires { 8 ≤ length text.now }
@@ -103,7 +104,7 @@ fn last_digits(bytes: u64) -> Option<(usize, u64)>
     Some((at as usize, eight_digits(behind(lanes, at))))
 }
 
-/// The high bit of each byte that is 10 or more. No sum carries into the next byte.
+/// Returns the high bit of each byte that is 10 or more. No sum carries into the next byte.
 #[inline(always)]
 fn from_ten(lanes: u64) -> u64
     ensures { (xs : List ℕ) → HoldsBytes lanes xs → 0 < result → IsLast xs ((63 - leading_zeros w64 result) / 8) }
@@ -111,7 +112,7 @@ fn from_ten(lanes: u64) -> u64
     ((lanes & 0x7f7f_7f7f_7f7f_7f7f) + 0x7676_7676_7676_7676 | lanes) & 0x8080_8080_8080_8080
 }
 
-/// The same bytes behind this one, and zeros up to it.
+/// Returns the same bytes behind this one, and zeros up to it.
 #[inline(always)]
 fn behind(lanes: u64, at: u32) -> u64
     requires { at < 8 }
@@ -120,8 +121,9 @@ fn behind(lanes: u64, at: u32) -> u64
     lanes >> (8 * at) >> 8 << 8 << (8 * at)
 }
 
-/// The number that eight digits spell, of which each is a byte, and the first the lowest: of each two of them the number below 100,
-/// then by two multiplications the sum of these, each as often as its place wants.
+/// Returns the number that eight digits spell, of which each is a byte, and the first the lowest:
+/// of each two of them the number below 100, then by two multiplications the sum of these, each as
+/// often as its place wants.
 #[inline(always)]
 fn eight_digits(lanes: u64) -> u64
     ensures { (ds : List ℕ) → HoldsDigits lanes ds → result ≡ worth_from 0 ds }

@@ -29,7 +29,7 @@ impl Model for Decimal {
 }
 
 impl Decimal {
-    /// A number, which is spelled here.
+    /// Makes a number, whose digits are written here.
     #[inline(always)]
     pub fn new(n: u64) -> Self
         ensures { result ≡ n }
@@ -62,7 +62,8 @@ impl Decimal {
         *self = Decimal::new(n);
     }
 
-    /// The decimal digits of the number but for the last one, in whose place any other stands, and the last one, ready to be put.
+    /// Returns the decimal digits of the number but for the last one, in whose place any other
+    /// stands, and the last one, ready to be put.
     #[inline(always)]
     pub(crate) fn ending(&self) -> (&ShortText, u8)
         ensures some { 0 < length result.0.now }
@@ -71,7 +72,7 @@ impl Decimal {
         (&self.digits, b'0' + self.last)
     }
 
-    /// The decimal digits of the number.
+    /// Returns the decimal digits of the number.
     pub fn digits(&self) -> ShortText
         ensures { result ≡ decimal self.now }
     {

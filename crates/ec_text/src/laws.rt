@@ -1,36 +1,38 @@
 //! Laws of words and numbers. Each is the contract of a function that does nothing.
 ghost use Rattle.ec_text.specs.Spelling.{JoinIsUndone, SplitIsUndone, WordsHaveNoSpace, NumberHasOneSpelling, NumberIsReadBack, NumbersAreShortForms};
 
-/// Words without spaces, joined by single spaces, are found again by the split at spaces.
+/// States that words without spaces, joined by single spaces, are found again by the split at
+/// spaces.
 #[tactic(auto, using(crate::proofs::shared::WordLemmas::words_join))]
 pub fn join_is_undone()
     ensures { JoinIsUndone }
 {}
 
-/// The words of a line, joined by single spaces, are the line.
+/// States that the words of a line, joined by single spaces, are the line.
 #[tactic(auto, using(crate::proofs::shared::WordLemmas::split_join))]
 pub fn split_is_undone()
     ensures { SplitIsUndone }
 {}
 
-/// No word of a line has a space in it.
+/// States that no word of a line has a space in it.
 #[tactic(auto, using(crate::proofs::shared::WordLemmas::are_words))]
 pub fn words_have_no_space()
     ensures { WordsHaveNoSpace }
 {}
 
-/// What is read as a number is its decimal digits and nothing else, and is below 10^18.
+/// States that what is read as a number is its decimal digits and nothing else, and is below 10^18.
 pub fn number_has_one_spelling()
     ensures { NumberHasOneSpelling }
 {}
 
-/// The decimal digits of a number below 10^18 are read as that number.
+/// States that the decimal digits of a number below 10^18 are read as that number.
 #[tactic(auto, using(crate::proofs::shared::NumberLemmas::number_again))]
 pub fn number_is_read_back()
     ensures { NumberIsReadBack }
 {}
 
-/// A word is read as a number exactly where it is digits without a leading zero, at most 18.
+/// States that a word is read as a number exactly where it is digits without a leading zero, at
+/// most 18.
 pub fn numbers_are_short_forms()
     ensures { NumbersAreShortForms }
 {}

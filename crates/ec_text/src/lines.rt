@@ -5,7 +5,8 @@ ghost use Rattle.memchr.specs.Find.{IsFirstByte, is_byte};
 use memchr::memchr;
 use std::simd::prelude::*;
 
-/// Where the first LF stands, where that is among the first 32 bytes. These are looked at all at once.
+/// Returns where the first LF stands, where that is among the first 32 bytes. These are looked at
+/// all at once.
 #[inline(always)]
 fn near_line_end(bytes: &[u8]) -> Option<usize>
     ensures { IfSome result (λ end. IsFirstByte (is_byte 10) bytes.now (Some end)) }
@@ -22,7 +23,7 @@ fn near_line_end(bytes: &[u8]) -> Option<usize>
     Some(ends.trailing_zeros() as usize)
 }
 
-/// Where the first LF stands. Most lines are short.
+/// Returns where the first LF stands. Most lines are short.
 #[inline(always)]
 fn line_end(bytes: &[u8]) -> Option<usize>
     ensures { IsFirstByte (is_byte 10) bytes.now result }
@@ -33,7 +34,7 @@ fn line_end(bytes: &[u8]) -> Option<usize>
     }
 }
 
-/// The bytes before the first LF, and those behind it: `None` where there is no LF.
+/// Returns the bytes before the first LF, and those behind it: `None` where there is no LF.
 #[inline(always)]
 #[tactic(auto, using(crate::proofs::LineCuts::line_cuts))]
 pub fn cut_line(bytes: &[u8]) -> Option<(&[u8], &[u8])>

@@ -4,7 +4,7 @@ ghost use Rattle.std.specs.List.{list_all};
 ghost use Rattle.std.specs.Char.{is_ascii_digit};
 ghost use Rattle.ec_text.specs.Words.{number_of, digits_from, has_form, is_number_form};
 
-/// The number that a word spells: `0`, or at most 18 digits of which the first is none.
+/// Returns the number that a word spells: `0`, or at most 18 digits of which the first is none.
 pub fn number(word: &[u8]) -> Option<u64>
     ensures value { result ≡ number_of word.now }
     ensures small { IfSome result (λ n. n < 1000000000000000000) }
@@ -12,14 +12,14 @@ pub fn number(word: &[u8]) -> Option<u64>
     if has_form(word) { digits(word) } else { None }
 }
 
-/// Whether a word is `0`, or digits of any count of which the first is not 0.
+/// Returns whether a word is `0`, or digits of any count of which the first is not 0.
 pub fn is_number_form(word: &[u8]) -> bool
     ensures { result ≡ is_number_form word.now }
 {
     has_form(word) && is_digits(word)
 }
 
-/// Whether a word has one byte, or several of which the first is not the digit 0.
+/// Returns whether a word has one byte, or several of which the first is not the digit 0.
 #[inline(always)]
 pub(crate) fn has_form(word: &[u8]) -> bool
     ensures { result ≡ has_form word.now }
@@ -27,14 +27,14 @@ pub(crate) fn has_form(word: &[u8]) -> bool
     word.len() == 1 || (!word.is_empty() && word[0] != b'0')
 }
 
-/// Whether each byte is a digit.
+/// Returns whether each byte is a digit.
 fn is_digits(word: &[u8]) -> bool
     ensures { result ≡ list_all is_ascii_digit word.now }
 {
     word.iter().all(|b| b.is_ascii_digit())
 }
 
-/// The number that digits spell, where there are at most 18 after the zeros.
+/// Returns the number that digits spell, where there are at most 18 after the zeros.
 #[tactic(auto, using(crate::proofs::shared::NumberLemmas::digits_steps))]
 fn digits(word: &[u8]) -> Option<u64>
     ensures value { result ≡ digits_from 0 word.now }

@@ -32,7 +32,7 @@ impl<'a, W: Write> Model for Out<'a, W> {
 }
 
 impl<'a, W: Write> Out<'a, W> {
-    /// A writer before which nothing waits.
+    /// Makes a writer before which nothing waits.
     #[tactic(auto, using(crate::proofs::shared::PutLemmas::begins))]
     pub fn new(writer: &'a mut W) -> Self
         ensures value { result ≡ at_first writer.entry.ghost_name (W.contents writer.old) }
@@ -45,7 +45,7 @@ impl<'a, W: Write> Out<'a, W> {
         }
     }
 
-    /// Whether a write has failed.
+    /// Returns whether a write has failed.
     pub fn has_failed(&self) -> bool
         ensures { result ≡ self.now.failed }
     {

@@ -68,7 +68,7 @@ impl Model for ShortText {
 }
 
 impl ShortText {
-    /// A text of no bytes.
+    /// Makes a text of no bytes.
     #[inline(always)]
     pub fn new() -> Self
         ensures { result ≡ [] }
@@ -79,7 +79,8 @@ impl ShortText {
         }
     }
 
-    /// The decimal digits of a number. They are written into a longer table, and the 32 bytes from the first digit on are copied at once.
+    /// Returns the decimal digits of a number. They are written into a longer table, and the 32
+    /// bytes from the first digit on are copied at once.
     #[inline(always)]
     pub(crate) fn spelled(n: u64) -> Self
         ensures { result ≡ decimal n }
@@ -107,7 +108,7 @@ impl ShortText {
         true
     }
 
-    /// The bytes of the text.
+    /// Returns the bytes of the text.
     #[inline(always)]
     pub fn bytes(&self) -> &[u8]
         ensures value { result.now ≡ self.now }
@@ -135,7 +136,7 @@ impl Model for Table {
 }
 
 impl Table {
-    /// A table of no bytes.
+    /// Makes a table of no bytes.
     pub(crate) fn new() -> Self
         ensures { result ≡ [] }
     {
@@ -145,7 +146,7 @@ impl Table {
         }
     }
 
-    /// The bytes of the table.
+    /// Returns the bytes of the table.
     pub(crate) fn as_slice(&self) -> &[u8]
         ensures { result.now ≡ self.now }
     {

@@ -5,7 +5,7 @@ ghost use Rattle.ec_text.specs.Words.{words_of, IsWord};
 
 use std::simd::prelude::*;
 
-/// How many of the first 16 bytes come before their first space.
+/// Returns how many of the first 16 bytes come before their first space.
 #[inline(always)]
 fn front_of_16(line: &[u8]) -> usize
     requires { 16 ≤ length line.now }
@@ -21,7 +21,7 @@ fn front_of_16(line: &[u8]) -> usize
     }
 }
 
-/// How many of the first 8 bytes come before their first space.
+/// Returns how many of the first 8 bytes come before their first space.
 #[inline(always)]
 fn front_of_8(line: &[u8]) -> usize
     requires { 8 ≤ length line.now }
@@ -37,7 +37,8 @@ fn front_of_8(line: &[u8]) -> usize
     }
 }
 
-/// Some bytes at the front among which there is no space, found at once where the line is long enough.
+/// Returns some bytes at the front among which there is no space, found at once where the line is
+/// long enough.
 #[inline(always)]
 #[tactic(auto, using(crate::proofs::shared::WordLemmas::fronts))]
 fn front(line: &[u8]) -> usize
@@ -53,7 +54,8 @@ fn front(line: &[u8]) -> usize
     }
 }
 
-/// The first word of a line, and what stands behind the space after it: `None` where no space follows.
+/// Returns the first word of a line, and what stands behind the space after it: `None` where no
+/// space follows.
 ///
 /// Words are what lies between single spaces, so that two spaces in a row have an empty word between them.
 #[tactic(auto, using(crate::proofs::shared::WordLemmas::cuts))]
@@ -73,7 +75,7 @@ pub fn cut_word(line: &[u8]) -> (&[u8], Option<&[u8]>)
     (line, None)
 }
 
-/// Whether a word of a line is empty, as where two spaces stand in a row.
+/// Returns whether a word of a line is empty, as where two spaces stand in a row.
 pub fn has_blank(line: &[u8]) -> bool
     ensures { result ≡ list_any (λ w. length w == 0) (words_of line.now) }
 {

@@ -7,7 +7,7 @@ use ec_core::{Act, Entry, Reply};
 use ec_heading::Heading;
 use ec_text::{cut_word, number};
 
-/// The act of one word.
+/// Returns the act of one word.
 #[tactic(auto, unfolding(crate::specs::Entries::act_alone))]
 fn act_alone(verb: &[u8]) -> Option<Act>
     ensures { result ≡ act_alone verb.now }
@@ -19,7 +19,7 @@ fn act_alone(verb: &[u8]) -> Option<Act>
     }
 }
 
-/// The act of a word and an object.
+/// Returns the act of a word and an object.
 #[tactic(auto, unfolding(crate::specs::Entries::act_on))]
 fn act_on(heading: &Heading, verb: &[u8], object: &[u8]) -> Option<Act>
     ensures { result ≡ act_on heading.now.words verb.now object.now }
@@ -39,7 +39,7 @@ fn act_on(heading: &Heading, verb: &[u8], object: &[u8]) -> Option<Act>
     None
 }
 
-/// The act of a word, an object and a value or a worker.
+/// Returns the act of a word, an object and a value or a worker.
 #[tactic(auto, unfolding(crate::specs::Entries::act_with))]
 fn act_with(heading: &Heading, verb: &[u8], object: &[u8], value: &[u8]) -> Option<Act>
     ensures { result ≡ act_with heading.now.words verb.now object.now value.now }
@@ -56,7 +56,7 @@ fn act_with(heading: &Heading, verb: &[u8], object: &[u8], value: &[u8]) -> Opti
     None
 }
 
-/// What the word of a reply says.
+/// Returns what the word of a reply says.
 #[tactic(auto, unfolding(crate::specs::Entries::reply_of))]
 fn reply_of(word: &[u8]) -> Option<Reply>
     ensures { result ≡ reply_of word.now }
@@ -70,7 +70,7 @@ fn reply_of(word: &[u8]) -> Option<Reply>
     Some(Reply::Number(number(word)?))
 }
 
-/// The entry of a worker, an act, `=` and a reply.
+/// Returns the entry of a worker, an act, `=` and a reply.
 #[inline(always)]
 #[tactic(auto, unfolding(crate::specs::Entries::entry_by))]
 fn entry_by(
@@ -91,7 +91,7 @@ fn entry_by(
     Some(Entry { worker, act, reply })
 }
 
-/// The entry of four words and those of the rest.
+/// Returns the entry of four words and those of the rest.
 #[tactic(auto, using(crate::proofs::ReadEntries::too_many), unfolding(crate::specs::Entries::entry_in))]
 fn read_objects(
     heading: &Heading,
@@ -115,7 +115,7 @@ fn read_objects(
     }
 }
 
-/// The entry that a line without its LF spells, if it spells one.
+/// Returns the entry that a line without its LF spells, if it spells one.
 #[tactic(auto, unfolding(crate::specs::Entries::entry_in, crate::specs::Entries::entry_of))]
 pub(crate) fn read_entry(heading: &Heading, line: &[u8]) -> Option<Entry>
     ensures { result ≡ entry_of heading.now.words line.now }

@@ -36,7 +36,7 @@ pub(crate) struct Front {
     act: Act,
 }
 
-/// The first of a key's two places where that is free, else the second.
+/// Returns the first of a key's two places where that is free, else the second.
 fn place_for(numbers: &[u16], key: &Key) -> usize {
     let first = key.place(numbers.len());
     match numbers.get(first) {
@@ -52,7 +52,7 @@ fn put_at(numbers: &mut [u16], place: usize, number: usize) {
     }
 }
 
-/// The numbers of these fronts at so many places.
+/// Returns the numbers of these fronts at so many places.
 fn spread(alloc: Global, fronts: &[Front], places: usize) -> Result<Vec<u16>, AllocError> {
     let mut numbers = Vec::with_capacity(alloc, places)?;
     numbers.resize(places, FREE)?;
@@ -94,7 +94,7 @@ impl Model for Fronts {
 }
 
 impl Fronts {
-    /// No fronts, and no places yet.
+    /// Makes a list of no fronts, with no places yet.
     pub(crate) fn none(alloc: Global) -> Self
         ensures { (names : Named) → AreKept names result }
     {
@@ -105,7 +105,7 @@ impl Fronts {
         }
     }
 
-    /// The front at a place, where it has this key.
+    /// Returns the front at a place, where it has this key.
     #[inline(always)]
     fn at(&self, place: usize, key: &Key) -> Option<&Front>
         ensures { (names : Named) → AreKept names self.now → IfSome result (λ f. Tells names (text_of key.now) f.now.worker f.now.act) }
@@ -117,7 +117,7 @@ impl Fronts {
         }
     }
 
-    /// What is kept of a front, where it was read lately.
+    /// Returns what is kept of a front, where it was read lately.
     #[inline(always)]
     #[tactic(auto, using(crate::proofs::FrontLemmas::found))]
     fn find(&self, front: &[u8]) -> Option<&Front>
@@ -213,7 +213,7 @@ impl Fronts {
         self.keep(opening, entry);
     }
 
-    /// The entry that a line spells, whose front is kept then.
+    /// Returns the entry that a line spells, and keeps its front then.
     pub(crate) fn read_anew(&mut self, heading: &Heading, line: &[u8]) -> Option<Entry>
         ensures value { result ≡ entry_of heading.now.words line.now }
         ensures kept { AreKept heading.now.words self.old → AreKept heading.now.words self.new }
@@ -225,7 +225,8 @@ impl Fronts {
         Some(entry)
     }
 
-    /// The entry that a front without a value spells with a reply, where it was read lately.
+    /// Returns the entry that a front without a value spells with a reply, where it was read
+    /// lately.
     #[inline(always)]
     pub(crate) fn whole(&self, front: &[u8], reply: Reply) -> Option<Entry>
         ensures { (names : Named) (line : List ℕ) → AreKept names self.now → EndsIn line front.now reply → IfSome result (λ e. entry_of names line ≡ Some e) }
@@ -241,7 +242,8 @@ impl Fronts {
         })
     }
 
-    /// The entry that a front spells with a reply, by its value and what stands before that, where the latter was read lately.
+    /// Returns the entry that a front spells with a reply, by its value and what stands before
+    /// that, where the latter was read lately.
     #[inline(always)]
     pub(crate) fn valued(&self, opening: &[u8], value: u64, reply: Reply) -> Option<Entry>
         ensures { (names : Named) (line front : List ℕ) → AreKept names self.now → EndsIn line front reply → HasNumber front opening.now value → IfSome result (λ e. entry_of names line ≡ Some e) }
@@ -258,7 +260,7 @@ impl Fronts {
     }
 }
 
-/// Whether an act has a value.
+/// Returns whether an act has a value.
 #[inline(always)]
 fn is_valued(act: &Act) -> bool
     ensures { result ≡ is_valued act.now }
@@ -270,7 +272,7 @@ fn is_valued(act: &Act) -> bool
     }
 }
 
-/// The act with another value, where it has one.
+/// Returns the act with another value, where it has one.
 #[inline(always)]
 fn with_value(act: Act, value: u64) -> Act
     ensures { result ≡ with_value act value }
@@ -282,7 +284,7 @@ fn with_value(act: Act, value: u64) -> Act
     }
 }
 
-/// The value before the `=` that ends a front, and what stands before the space before it.
+/// Returns the value before the `=` that ends a front, and what stands before the space before it.
 #[inline(always)]
 pub(crate) fn cut_value(front: &[u8]) -> Option<(&[u8], u64)>
     ensures { IfSome result (λ p. HasNumber front.now p.0.now p.1) }
@@ -296,7 +298,8 @@ pub(crate) fn cut_value(front: &[u8]) -> Option<(&[u8], u64)>
     Some((&head[..space], value))
 }
 
-/// The reply that the last word of a line spells, and what stands before the space before it.
+/// Returns the reply that the last word of a line spells, and what stands before the space before
+/// it.
 #[inline(always)]
 #[tactic(auto, using(crate::proofs::FrontLemmas::ends))]
 pub(crate) fn cut_reply(line: &[u8]) -> Option<(&[u8], Reply)>

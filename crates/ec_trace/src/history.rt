@@ -39,7 +39,7 @@ pub struct Watched<A> {
 }
 
 impl<A: Audit> Watched<A> {
-    /// Before the first step on these declarations.
+    /// Makes what is kept before the first step on these declarations.
     pub fn new(setup: Setup, audit: A) -> Self
         requires { A.stands audit audit [] }
         ensures audit { result.audit ≡ audit }
@@ -52,7 +52,7 @@ impl<A: Audit> Watched<A> {
         }
     }
 
-    /// The world after the last step, and the audit, with what it gathered.
+    /// Returns the world after the last step, and the audit, with what it gathered.
     pub fn into_parts(self) -> (World, A)
         ensures world { result.0 ≡ self.world }
         ensures audit { result.1 ≡ self.audit }

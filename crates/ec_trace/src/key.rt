@@ -20,7 +20,7 @@ pub(crate) struct Key {
 impl Key {
     ghost use Rattle.ec_trace.specs.Keys.{text_of};
 
-    /// The key of a text, where it has one.
+    /// Returns the key of a text, where it has one.
     #[inline(always)]
     pub(crate) fn of(text: &[u8]) -> Option<Self>
         ensures { IfSome result (λ k. text_of k ≡ text.now) }
@@ -38,7 +38,7 @@ impl Key {
         Some(Key::by_four(text))
     }
 
-    /// The key of a text of eight to 32 bytes.
+    /// Returns the key of a text of eight to 32 bytes.
     #[inline(always)]
     #[tactic(auto, using(crate::proofs::KeyLemmas::eights_hold))]
     fn by_eight(text: &[u8]) -> Self
@@ -57,7 +57,7 @@ impl Key {
         }
     }
 
-    /// The key of a text of four to seven bytes.
+    /// Returns the key of a text of four to seven bytes.
     #[inline(always)]
     #[tactic(auto, using(crate::proofs::KeyLemmas::fours_hold))]
     fn by_four(text: &[u8]) -> Self
@@ -75,7 +75,7 @@ impl Key {
         }
     }
 
-    /// Whether it is this key.
+    /// Returns whether it is this key.
     #[inline(always)]
     pub(crate) fn is(&self, other: &Key) -> bool
         ensures { IsTrue result → self.now ≡ other.now }
@@ -87,8 +87,8 @@ impl Key {
             && self.len == other.len
     }
 
-    /// The key's place among so many, of which there are 2, 4, 8 and so on up to 65536. It depends on all words of the key: two keys
-    /// mostly have different places.
+    /// Returns the key's place among so many, of which there are 2, 4, 8 and so on up to 65536. It
+    /// depends on all words of the key: two keys mostly have different places.
     #[inline(always)]
     pub(crate) fn place(&self, places: usize) -> usize {
         let head = self.first.wrapping_add(self.second.wrapping_mul(9));
@@ -100,7 +100,7 @@ impl Key {
     }
 }
 
-/// Eight bytes of a text as one number.
+/// Returns eight bytes of a text as one number.
 #[inline(always)]
 fn eight_from(text: &[u8], from: usize) -> u64
     requires { from + 8 ≤ length text.now }
@@ -118,7 +118,7 @@ fn eight_from(text: &[u8], from: usize) -> u64
     ])
 }
 
-/// Four bytes of a text as one number.
+/// Returns four bytes of a text as one number.
 #[inline(always)]
 fn four_from(text: &[u8], from: usize) -> u32
     requires { from + 4 ≤ length text.now }

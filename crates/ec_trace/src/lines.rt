@@ -47,7 +47,7 @@ impl Model for Lines {
 }
 
 impl Lines {
-    /// Before the first line.
+    /// Makes the lines of a text, before the first one.
     pub(crate) fn new() -> Lines
         ensures { result ≡ record { number = 0; taken = 0; line = []; part = []; behind = []; over = [] } }
     {
@@ -65,7 +65,7 @@ impl Lines {
         }
     }
 
-    /// The line that came last, without its LF.
+    /// Returns the line that came last, without its LF.
     #[inline(always)]
     pub(crate) fn line(&self) -> &[u8]
         ensures { result.now ≡ self.now.line }
@@ -78,7 +78,7 @@ impl Lines {
         }
     }
 
-    /// Its number, counted from 1.
+    /// Returns its number, counted from 1.
     #[inline(always)]
     pub(crate) fn number(&self) -> u64
         ensures { result ≡ self.now.number }
@@ -86,7 +86,7 @@ impl Lines {
         self.number
     }
 
-    /// Whether the next line lies whole in the piece. It is then the line that came last.
+    /// Returns whether the next line lies whole in the piece. It is then the line that came last.
     #[inline(always)]
     fn find(&mut self) -> bool
         ensures none { result ≡ false → self.new ≡ self.old }
@@ -219,7 +219,7 @@ impl Lines {
         self.next_over_pieces(reader)
     }
 
-    /// Whether all that was read is taken.
+    /// Returns whether all that was read is taken.
     fn is_taken(&self) -> bool
         ensures all { IsTrue result → (self.now.behind ≡ []) × (self.now.over ≡ []) × IsWithin self.now }
         ensures more { result ≡ false → 0 < length self.now.behind + length self.now.over }
@@ -244,7 +244,7 @@ impl Lines {
         }
     }
 
-    /// Why there may not be more behind the last line.
+    /// Returns why there may not be more behind the last line.
     fn behind_the_end(&self) -> TraceFault
         requires { 0 < length self.now.behind + length self.now.over }
         ensures { (xs : List ℕ) (left : Option (List ℕ)) (t : Recounted) → Reaches xs left self.now (Ended t) → Tells TRACE_MAX xs left (Err result) }

@@ -24,7 +24,7 @@ pub struct Opened {
     pub lines: Lines,
 }
 
-/// The version whose first line this is.
+/// Returns the version whose first line this is.
 fn version_of(line: &[u8]) -> Option<Version>
     ensures { result ≡ version_of trace_header line.now }
 {
@@ -37,7 +37,7 @@ fn version_of(line: &[u8]) -> Option<Version>
     None
 }
 
-/// The limit that a line gives, if it gives one that the version may have.
+/// Returns the limit that a line gives, if it gives one that the version may have.
 #[tactic(auto, using(crate::proofs::ReadEntries::third_word), unfolding(crate::specs::Step::limit_of))]
 fn limit_of(version: Version, line: &[u8]) -> Option<Limit>
     ensures value { result ≡ limit_of version line.now }
@@ -106,7 +106,7 @@ fn declare(heading: &mut Heading, lines: &Lines) -> Result<(), TraceFault>
     }
 }
 
-/// Whether the line is the last before the entries: there are workers, who may make some.
+/// Returns whether the line is the last before the entries: there are workers, who may make some.
 fn is_run(heading: &Heading, line: &[u8]) -> bool
     ensures { result ≡ is_run heading.now line.now }
 {

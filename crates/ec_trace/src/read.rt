@@ -23,7 +23,7 @@ use std::io::Read;
 /// The most bytes that a trace may have.
 pub const TRACE_MAX: usize = 67_108_864;
 
-/// Whether a text of the heading's version may have the act.
+/// Returns whether a text of the heading's version may have the act.
 #[inline(always)]
 fn can_spell(heading: &Heading, act: &Act) -> bool
     ensures { result ≡ can_spell heading.now.version act.now }
@@ -34,7 +34,7 @@ fn can_spell(heading: &Heading, act: &Act) -> bool
     }
 }
 
-/// The fault of a line, with its number.
+/// Returns the fault of a line, with its number.
 fn fault_at(number: u64, fault: StageFault) -> TraceFault
     ensures { result ≡ fault_at number fault }
 {

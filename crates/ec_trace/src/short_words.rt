@@ -17,7 +17,7 @@ pub(crate) struct ShortWords {
 }
 
 impl ShortWords {
-    /// The short ones of these words.
+    /// Returns the short ones of these words.
     pub(crate) fn of(words: &Words<'_>) -> Self
         ensures { (names : Named) → Spells names words.now → SpellsShort names result }
     {

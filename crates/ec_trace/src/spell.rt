@@ -78,7 +78,7 @@ impl<'a> Model for Spellings<'a> {
 }
 
 impl<'a> Spellings<'a> {
-    /// The words of a heading, as `Heading::words` gives them. It takes no memory.
+    /// Returns the words of a heading, as `Heading::words` gives them. It takes no memory.
     pub fn new(vocabulary: &'a Vocabulary) -> Self
         ensures { result ≡ vocabulary.now }
     {
@@ -96,28 +96,28 @@ impl<'a> Spellings<'a> {
         }
     }
 
-    /// The name of a worker, of no bytes where it has none.
+    /// Returns the name of a worker, of no bytes where it has none.
     pub fn worker(&self, worker: WorkerId) -> &'a [u8]
         ensures { result.now ≡ word_of self.now (Worker worker) }
     {
         word_in(&self.words.workers, worker.get())
     }
 
-    /// The name of an eventcount, of no bytes where it has none.
+    /// Returns the name of an eventcount, of no bytes where it has none.
     pub fn event(&self, event: EventId) -> &'a [u8]
         ensures { result.now ≡ word_of self.now (Event event) }
     {
         word_in(&self.words.events, event.get())
     }
 
-    /// The name of a sequencer, of no bytes where it has none.
+    /// Returns the name of a sequencer, of no bytes where it has none.
     pub fn sequencer(&self, sequencer: SeqId) -> &'a [u8]
         ensures { result.now ≡ word_of self.now (Sequencer sequencer) }
     {
         word_in(&self.words.sequencers, sequencer.get())
     }
 
-    /// The block that a cell stands in and its number there, where it has a name.
+    /// Returns the block that a cell stands in and its number there, where it has a name.
     fn cell(&self, cell: CellId) -> Option<CellName<'a>>
         ensures { option_map_or cell_name_bytes result [] ≡ cell_word self.now cell }
     {
@@ -199,14 +199,14 @@ fn put_long<W: Write>(out: &mut Out<'_, W>, before: &[u8], word: &[u8])
     out.put(word);
 }
 
-/// An array with the same element everywhere.
+/// Returns an array with the same element everywhere.
 fn all_alike<T: Copy, const N: usize>(x: T) -> [T; N]
     ensures { (i : ℕ) → i < N → slice_get result i ≡ Some x }
 {
     [x; N]
 }
 
-/// The word at a place.
+/// Returns the word at a place.
 fn word_in<'a>(words: &[&'a [u8]], place: usize) -> &'a [u8]
     requires { place < length words.now }
     ensures { result.now ≡ word_at words.now place }
@@ -214,7 +214,7 @@ fn word_in<'a>(words: &[&'a [u8]], place: usize) -> &'a [u8]
     words[place]
 }
 
-/// The name of a cell.
+/// Returns the name of a cell.
 fn cell_in<'a>(cells: &[Option<CellName<'a>>], place: usize) -> Option<CellName<'a>>
     requires { place < length cells.now }
     ensures { option_map_or cell_name_bytes result [] ≡ cell_at cells.now place }
@@ -222,7 +222,7 @@ fn cell_in<'a>(cells: &[Option<CellName<'a>>], place: usize) -> Option<CellName<
     cells[place]
 }
 
-/// The short text of the word at a place, where it is short.
+/// Returns the short text of the word at a place, where it is short.
 fn short_in(short: &[Option<ShortText>], place: usize) -> &Option<ShortText>
     requires { place < length short.now }
     ensures { result.now ≡ short_at short.now place }

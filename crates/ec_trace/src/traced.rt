@@ -26,21 +26,21 @@ impl Model for Traced {
 impl Traced {
     ghost use Rattle.ec_trace.specs.Recounted.{trace_upgraded};
 
-    /// What the trace declares.
+    /// Returns what the trace declares.
     pub fn heading(&self) -> &Heading
         ensures { result.now ≡ self.now.heading }
     {
         &self.heading
     }
 
-    /// The run that the entries recount, on the heading's declarations.
+    /// Returns the run that the entries recount, on the heading's declarations.
     pub fn run(&self) -> &Run
         ensures { result.now ≡ record { setup = self.now.heading.setup; entries = self.now.entries } }
     {
         &self.run
     }
 
-    /// The same trace under version 2.
+    /// Returns the same trace under version 2.
     pub fn upgrade(self) -> Traced
         ensures { result ≡ trace_upgraded self }
     {

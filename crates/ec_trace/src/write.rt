@@ -35,7 +35,7 @@ pub struct LastNumbers {
 }
 
 impl LastNumbers {
-    /// Noughts, before any number was put.
+    /// Makes a table of noughts, as before any number was put.
     #[inline(never)]
     pub fn new() -> Self {
         LastNumbers {

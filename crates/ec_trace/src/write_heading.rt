@@ -33,7 +33,7 @@ impl<'a> Model for Line<'a> {
     ghost view = { λ d. record { sort = d.sort; name = d.name.now; number = d.number; first = d.first.now; second = d.second.now } };
 }
 
-/// The name of what was declared, of no bytes where it has none.
+/// Returns the name of what was declared, of no bytes where it has none.
 fn name_of(heading: &Heading, target: Target) -> &[u8]
     ensures { result.now ≡ word_of heading.now.names target }
 {
@@ -43,7 +43,7 @@ fn name_of(heading: &Heading, target: Target) -> &[u8]
     }
 }
 
-/// What was declared for a group of this name.
+/// Returns what was declared for a group of this name.
 fn group_line<'a>(setup: &'a Setup, name: &'a [u8], group: &Group) -> Line<'a>
     ensures { result ≡ declared_group setup.now name.now group.now }
 {
@@ -79,7 +79,7 @@ fn group_line<'a>(setup: &'a Setup, name: &'a [u8], group: &Group) -> Line<'a>
     }
 }
 
-/// What was declared for a target.
+/// Returns what was declared for a target.
 fn line_of(heading: &Heading, target: Target) -> Option<Line<'_>>
     ensures { result ≡ declaration_of heading.now target }
 {
@@ -219,7 +219,7 @@ fn put_targets<W: Write>(out: &mut Out<'_, W>, spellings: &Spellings<'_>, headin
     }
 }
 
-/// The first line of a trace.
+/// Returns the first line of a trace.
 pub(crate) fn first_line(version: Version) -> &'static [u8]
     ensures { result.now ≡ trace_header version }
 {

@@ -16,7 +16,7 @@ pub(crate) struct Span {
 }
 
 impl Span {
-    /// Whether there is no group among these.
+    /// Returns whether there is no group among these.
     #[inline(always)]
     pub(crate) fn is_empty(&self) -> bool
         ensures yes { IsTrue result → self.now.end ≤ self.now.first }
@@ -25,7 +25,7 @@ impl Span {
         self.end <= self.first
     }
 
-    /// Whether there is just one.
+    /// Returns whether there is just one.
     #[inline(always)]
     pub(crate) fn is_one(&self) -> bool
         ensures yes { IsTrue result → self.now.end ≡ self.now.first + 1 }
@@ -52,7 +52,8 @@ pub(crate) struct Table {
     wide: Span,
 }
 
-/// Whether an act names an object of a group. `both` is asked as the common semaphore that it has.
+/// Returns whether an act names an object of a group. `both` is asked as the common semaphore that
+/// it has.
 pub(crate) fn names(group: &Group, act: &Act) -> bool
     ensures { result ≡ names group.now act.now }
 {
@@ -78,8 +79,8 @@ fn reaching(span: Span, number: usize) -> Span
     }
 }
 
-/// Whether a group is about each call of its users: within a guarded part of `both` a worker makes
-/// no other.
+/// Returns whether a group is about each call of its users: within a guarded part of `both` a
+/// worker makes no other.
 pub(crate) fn is_wide(group: &Group) -> bool
     ensures { result ≡ is_wide group.now }
 {
@@ -95,7 +96,7 @@ fn with_group(span: Span, number: usize, passes: bool) -> Span
     if passes { reaching(span, number) } else { span }
 }
 
-/// The groups of which an act names an object, and those between them.
+/// Returns the groups of which an act names an object, and those between them.
 fn span_of(groups: &[Group], act: &Act) -> Span
     ensures { CoversAct groups.now act.now result }
 {
@@ -106,7 +107,7 @@ fn span_of(groups: &[Group], act: &Act) -> Span
     span
 }
 
-/// The groups that are about each call, and those between them.
+/// Returns the groups that are about each call, and those between them.
 fn wide_span(groups: &[Group]) -> Span
     ensures { Covers groups.now is_wide result }
 {
@@ -117,7 +118,7 @@ fn wide_span(groups: &[Group]) -> Span
     span
 }
 
-/// The groups that an eventcount may be of.
+/// Returns the groups that an eventcount may be of.
 fn event_span(groups: &[Group], number: usize) -> Span
     requires { number < 32 }
     ensures { CoversAct groups.now (Read number) result }
@@ -128,7 +129,7 @@ fn event_span(groups: &[Group], number: usize) -> Span
     }
 }
 
-/// The groups that each eventcount may be of.
+/// Returns the groups that each eventcount may be of.
 fn events_of(groups: &[Group]) -> [Span; 32]
     ensures { (e : ℕ) → e < 32 → CoversAt groups.now (Read e) result e }
 {
@@ -139,7 +140,7 @@ fn events_of(groups: &[Group]) -> [Span; 32]
     spans
 }
 
-/// The groups that a sequencer may be of.
+/// Returns the groups that a sequencer may be of.
 fn sequencer_span(groups: &[Group], number: usize) -> Span
     requires { number < 32 }
     ensures { CoversAct groups.now (Ticket number) result }
@@ -150,7 +151,7 @@ fn sequencer_span(groups: &[Group], number: usize) -> Span
     }
 }
 
-/// The groups that each sequencer may be of.
+/// Returns the groups that each sequencer may be of.
 fn sequencers_of(groups: &[Group]) -> [Span; 32]
     ensures { (q : ℕ) → q < 32 → CoversAt groups.now (Ticket q) result q }
 {
@@ -161,7 +162,7 @@ fn sequencers_of(groups: &[Group]) -> [Span; 32]
     spans
 }
 
-/// The groups that a cell may be of.
+/// Returns the groups that a cell may be of.
 fn cell_span(groups: &[Group], number: usize) -> Span
     requires { number < 256 }
     ensures { CoversAct groups.now (Get number) result }
@@ -179,7 +180,7 @@ fn nowhere() -> [Span; 256]
     [NOWHERE; 256]
 }
 
-/// The groups that each cell may be of.
+/// Returns the groups that each cell may be of.
 fn cells_of(groups: &[Group]) -> [Span; 256]
     ensures { (x : ℕ) → x < 256 → CoversAt groups.now (Get x) result x }
 {
@@ -190,7 +191,7 @@ fn cells_of(groups: &[Group]) -> [Span; 256]
     spans
 }
 
-/// What a table has at a place.
+/// Returns what a table has at a place.
 fn at(spans: &[Span], number: usize) -> Span
     requires { number < length spans.now }
     ensures { slice_get spans.now number ≡ Some result }
@@ -210,7 +211,7 @@ impl Table {
         }
     }
 
-    /// The groups of which an act names an object are among these.
+    /// Returns groups, among which are those of which an act names an object.
     #[inline(always)]
     pub(crate) fn of(&self, act: &Act) -> Span
         ensures { (groups : List Group) → IsTable groups self.now → CoversAct groups act.now result }
@@ -227,7 +228,7 @@ impl Table {
         }
     }
 
-    /// The groups that are about each call are among these.
+    /// Returns groups, among which are those that are about each call.
     #[inline(always)]
     pub(crate) fn wide(&self) -> Span
         ensures { (groups : List Group) → IsTable groups self.now → Covers groups is_wide result }

@@ -44,7 +44,7 @@ impl<'a, A> Model for Walked<'a, A> {
     ghost view = { λ s. record { groups = s.groups.now; audits = s.audits.items } };
 }
 
-/// Whether an entry goes on with a call, and does not end it.
+/// Returns whether an entry goes on with a call, and does not end it.
 #[inline(always)]
 fn goes_on(entry: &Entry) -> bool
     ensures { result ≡ goes_on entry.now }
@@ -52,8 +52,8 @@ fn goes_on(entry: &Entry) -> bool
     matches!(entry.act, Act::Go) && matches!(entry.reply, Reply::Pending)
 }
 
-/// Whether the group with a number, if there is one, is wide, where those that are wide are among
-/// these.
+/// Returns whether the group with a number, if there is one, is wide, where those that are wide are
+/// among these.
 #[inline(always)]
 fn is_wide_at(groups: &[Group], among: Span, number: usize) -> bool
     requires { Covers groups.now is_wide among }
@@ -68,8 +68,8 @@ fn is_wide_at(groups: &[Group], among: Span, number: usize) -> bool
     }
 }
 
-/// Whether the group with a number, if there is one, is wide; or, as it is asked, another of which
-/// an act names an object. Those that are wide are among these.
+/// Returns whether the group with a number, if there is one, is wide; or, as it is asked, another
+/// of which an act names an object. Those that are wide are among these.
 fn is_asked_at(groups: &[Group], among: Span, wide: bool, op: &Act, number: usize) -> bool
     requires { Covers groups.now is_wide among }
     ensures { result ≡ is_asked_at groups.now wide op.now number }
@@ -231,7 +231,7 @@ fn hand_out<A: Audit>(
 }
 
 impl<'a, A: GroupAudit> Walked<'a, A> {
-    /// Before the first entry, with the audits of the groups, in order.
+    /// Makes what is kept before the first entry, with the audits of the groups, in order.
     pub fn new(groups: &'a [Group], audits: Vec<A>) -> Self
         ensures groups { result.groups ≡ groups.now }
         ensures audits { result.audits ≡ audits.items }
@@ -244,7 +244,7 @@ impl<'a, A: GroupAudit> Walked<'a, A> {
         }
     }
 
-    /// The audits after the entries so far, in the order of the groups.
+    /// Returns the audits after the entries so far, in the order of the groups.
     pub fn into_audits(self) -> Vec<A>
         ensures { result.items ≡ self.entry.audits }
     {
@@ -277,9 +277,9 @@ impl<'a, A: GroupAudit> Audit for Walked<'a, A> {
     }
 }
 
-/// The audits of groups after all entries of a run, in one walk over them, where there are groups.
-/// Each was handed the entries whose calls are on its group, and no others; they stand in the order
-/// in which they were given, and none is added or taken away.
+/// Returns the audits of groups after all entries of a run, in one walk over them, where there are
+/// groups. Each was handed the entries whose calls are on its group, and no others; they stand in
+/// the order in which they were given, and none is added or taken away.
 pub fn walk_groups<A: GroupAudit>(run: &Run, groups: &[Group], audits: Vec<A>) -> Vec<A>
     requires { AreWalked A.group A.stands groups.now audits.items audits.items [] }
     ensures walked { AreWalked A.group A.stands groups.now audits.items result.items

@@ -16,7 +16,7 @@ pub(crate) struct Room<'a> {
 }
 
 impl<'a> Room<'a> {
-    /// A room in which nothing was written yet.
+    /// Returns a room in which nothing was written yet.
     pub(crate) fn new(bytes: &'a mut [u8]) -> Room<'a>
         ensures same { result.bytes.ghost_name ≡ bytes.entry.ghost_name }
         ensures bytes { result.bytes.now ≡ bytes.old }
@@ -84,7 +84,7 @@ impl NotesRoom {
         Ok(NotesRoom { bytes, room })
     }
 
-    /// The bytes that were taken.
+    /// Returns the bytes that were taken.
     pub(crate) fn as_slice(&self) -> &[u8]
         ensures { result.now ≡ self.now.bytes.items }
     {

@@ -291,7 +291,7 @@ fn draw_text<W: Write, N: Write>(
     draw_trace(alloc, view, text, out, notes)
 }
 
-/// The first fault of a text behind which a read failed, if it has one.
+/// Returns the first fault of a text behind which a read failed, if it has one.
 #[tactic(auto, using(crate::proofs::Whole::no_fault_read, crate::proofs::Whole::no_fault_yet))]
 fn cut_off_fault(alloc: Global, text: &[u8]) -> Option<TraceFault>
     ensures { CutOffFault text.now result }

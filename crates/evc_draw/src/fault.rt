@@ -13,7 +13,7 @@ use ec_trace::{TraceFault, Traced, read_trace};
 use itoa::Buffer;
 use std::alloc::{AllocError, Global};
 
-/// Where a sign stands first.
+/// Returns where a sign stands first.
 fn position_of(sign: u8, bytes: &[u8]) -> Option<usize>
     ensures value { result ≡ position_from (λ b. b == sign) 0 bytes.now }
     ensures within { IfSome result (λ place. place < length bytes.now) }
@@ -21,7 +21,7 @@ fn position_of(sign: u8, bytes: &[u8]) -> Option<usize>
     bytes.iter().position(|b| *b == sign)
 }
 
-/// Where a sign stands first; behind the last byte where it doesn't.
+/// Returns where a sign stands first; behind the last byte where it doesn't.
 fn place_of(sign: u8, bytes: &[u8]) -> usize
     ensures value { result ≡ place_of sign bytes.now }
     ensures within { result ≤ length bytes.now }
@@ -32,7 +32,7 @@ fn place_of(sign: u8, bytes: &[u8]) -> usize
     }
 }
 
-/// What stands behind the first line.
+/// Returns what stands behind the first line.
 fn behind_line(text: &[u8]) -> &[u8]
     ensures { result.now ≡ behind_line text.now }
 {
@@ -44,7 +44,7 @@ fn behind_line(text: &[u8]) -> &[u8]
     }
 }
 
-/// What stands behind so many lines.
+/// Returns what stands behind so many lines.
 fn behind(lines: u64, text: &[u8]) -> &[u8]
     ensures { result.now ≡ behind lines text.now }
 {
@@ -55,21 +55,21 @@ fn behind(lines: u64, text: &[u8]) -> &[u8]
     rest
 }
 
-/// The first line, without its LF.
+/// Returns the first line, without its LF.
 fn first_line(text: &[u8]) -> &[u8]
     ensures { result.now ≡ first_line text.now }
 {
     &text[..place_of(b'\n', text)]
 }
 
-/// A line of a text, counted from 1.
+/// Returns a line of a text, counted from 1.
 pub(crate) fn line_at(number: u64, text: &[u8]) -> &[u8]
     ensures { result.now ≡ line_at number text.now }
 {
     first_line(behind(number.saturating_sub(1), text))
 }
 
-/// All that stands before a line.
+/// Returns all that stands before a line.
 fn before_line(number: u64, text: &[u8]) -> &[u8]
     ensures { result.now ≡ before_line number text.now }
 {
@@ -112,7 +112,8 @@ fn add_with_right(text: &mut Vec<u8>, line: &[u8], right: &Option<Reply>) -> Res
     Ok(())
 }
 
-/// The text of the lines before a faulty one, and of that with its right reply, if it has one.
+/// Returns the text of the lines before a faulty one, and of that with its right reply, if it has
+/// one.
 #[tactic(auto, unfolding(crate::specs::Faults::mended))]
 fn mended(
     alloc: Global,
@@ -138,8 +139,8 @@ pub(crate) fn read_text(alloc: Global, text: &[u8]) -> Result<Traced, TraceFault
     read_trace(alloc, &mut rest)
 }
 
-/// The trace of the lines before a faulty one, and of that with its right reply, if it has one;
-/// none where no run had begun.
+/// Returns the trace of the lines before a faulty one, and of that with its right reply, if it has
+/// one; none where no run had begun.
 pub(crate) fn history(
     alloc: Global,
     number: u64,
@@ -161,7 +162,7 @@ pub(crate) fn history(
     }
 }
 
-/// The number of the line of a fault.
+/// Returns the number of the line of a fault.
 pub(crate) fn fault_line(fault: &TraceFault) -> Option<u64>
     ensures { result ≡ fault_line fault.now }
 {
@@ -173,7 +174,7 @@ pub(crate) fn fault_line(fault: &TraceFault) -> Option<u64>
     }
 }
 
-/// The right reply, where the reply alone is wrong.
+/// Returns the right reply, where the reply alone is wrong.
 pub(crate) fn right_of(fault: &TraceFault) -> Option<Reply>
     ensures { result ≡ right_of fault.now }
 {
@@ -183,7 +184,7 @@ pub(crate) fn right_of(fault: &TraceFault) -> Option<Reply>
     }
 }
 
-/// The position of the entry of a faulty line, where so many entries were read.
+/// Returns the position of the entry of a faulty line, where so many entries were read.
 pub(crate) fn position_in(right: &Option<Reply>, entries: usize) -> usize
     ensures { result ≡ position_in right.now entries }
 {

@@ -11,49 +11,49 @@ use ec_draw::Choice;
 use ec_text::Out;
 use std::io::Write;
 
-/// Whether a name stands for a worker.
+/// Returns whether a name stands for a worker.
 fn is_worker(target: Option<Target>) -> bool
     ensures { result ≡ is_worker target }
 {
     matches!(target, Some(Target::Worker(_)))
 }
 
-/// Whether a name stands for an object.
+/// Returns whether a name stands for an object.
 fn is_object(target: Option<Target>) -> bool
     ensures { result ≡ is_object target }
 {
     !matches!(target, None | Some(Target::Worker(_)))
 }
 
-/// Whether a name that was chosen among the workers stands for none.
+/// Returns whether a name that was chosen among the workers stands for none.
 fn lacks_worker(words: &Vocabulary, name: &str) -> bool
     ensures { result ≡ lacks_worker words.now name.now }
 {
     !is_worker(words.find(name.as_bytes()))
 }
 
-/// Whether a name that was chosen among the objects stands for none.
+/// Returns whether a name that was chosen among the objects stands for none.
 fn lacks_object(words: &Vocabulary, name: &str) -> bool
     ensures { result ≡ lacks_object words.now name.now }
 {
     !is_object(words.find(name.as_bytes()))
 }
 
-/// Whether some name among the workers stands for none.
+/// Returns whether some name among the workers stands for none.
 fn any_lacks_worker(words: &Vocabulary, names: &[&str]) -> bool
     ensures { result ≡ list_any (λ s. lacks_worker words.now s.now) names.now }
 {
     names.iter().any(|name| lacks_worker(words, name))
 }
 
-/// Whether some name among the objects stands for none.
+/// Returns whether some name among the objects stands for none.
 fn any_lacks_object(words: &Vocabulary, names: &[&str]) -> bool
     ensures { result ≡ list_any (λ s. lacks_object words.now s.now) names.now }
 {
     names.iter().any(|name| lacks_object(words, name))
 }
 
-/// Whether the trace doesn't have some name that was chosen.
+/// Returns whether the trace doesn't have some name that was chosen.
 pub(crate) fn has_unknown(words: &Vocabulary, choice: &Choice<'_>) -> bool
     ensures { result ≡ has_unknown choice.now words.now }
 {

@@ -118,7 +118,7 @@ fn put_ticket<W: Write>(out: &mut Out<'_, W>, semaphore: &[u8], ticket: u64)
     put_spaced_number(out, ticket);
 }
 
-/// The name of a group; the one without a name is `both`.
+/// Returns the name of a group; the one without a name is `both`.
 pub(crate) fn group_word(names: &Names, group: usize) -> &[u8]
     ensures { result.now ≡ group_word names.now group }
 {
@@ -128,7 +128,7 @@ pub(crate) fn group_word(names: &Names, group: usize) -> &[u8]
     }
 }
 
-/// Whether a group is the semaphore of this sequencer.
+/// Returns whether a group is the semaphore of this sequencer.
 fn is_line_of(sequencer: SeqId, group: &Group) -> bool
     ensures { result ≡ is_line_of sequencer group.now }
 {
@@ -138,8 +138,8 @@ fn is_line_of(sequencer: SeqId, group: &Group) -> bool
     }
 }
 
-/// The name of the semaphore of a sequencer, of no bytes where none of the groups, which are
-/// numbered from `from` on, is one.
+/// Returns the name of the semaphore of a sequencer, of no bytes where none of the groups, which
+/// are numbered from `from` on, is one.
 #[tactic(auto, unfolding(crate::specs::AuditTexts::semaphore_word))]
 fn semaphore_word<'a>(names: &'a Names, from: usize, groups: &[Group], sequencer: SeqId) -> &'a [u8]
     requires { from + length groups.now < 2 ^ 64 }

@@ -47,7 +47,8 @@ fn keep(found: &mut Vec<Audited>, audited: Audited) -> Result<(), AllocError>
     Ok(())
 }
 
-/// What the audits of groups found, in the order of the groups, or the first group that is not followed.
+/// Returns what the audits of groups found, in the order of the groups, or the first group that is
+/// not followed.
 fn found_by(
     alloc: Global,
     groups: &[Group],

@@ -17,7 +17,7 @@ use ec_trace::{Heading, Lines, Opened, TraceFault, Watched, open_trace, read_ent
 use std::alloc::Global;
 use std::io::{Read, Write};
 
-/// How a command ends that could not read its trace.
+/// Returns how a command ends that could not read its trace.
 pub(crate) fn status_of(fault: &TraceFault) -> Status
     ensures { result ≡ fault_status fault.now }
 {

@@ -3,39 +3,41 @@ ghost use Rattle.evc_engine.specs.AuditLaws.{AuditsHaveOneText, TextOrBreak};
 ghost use Rattle.evc_engine.specs.NoteLaws.{NotesLeaveTheTable, RefusalsAreAlike, RefusedAuditsHaveOneNote, RefusedChecksHaveOneNote};
 ghost use Rattle.evc_engine.specs.Upgrades.{TextsHaveNoVersion};
 
-/// What `audit` writes where it is done is determined by the bytes that it read: there is one text.
+/// States that what `audit` writes where it is done is determined by the bytes that it read: there
+/// is one text.
 pub fn audits_have_one_text()
     ensures { AuditsHaveOneText }
 {}
 
-/// No trace has both the text of an audit and a first group that is not followed.
+/// States that no trace has both the text of an audit and a first group that is not followed.
 pub fn audits_end_one_way()
     ensures { TextOrBreak }
 {}
 
-/// A note that was put where none waited has left the table: its writer has it, or a front of it
-/// where a write has failed.
+/// States that a note that was put where none waited has left the table: its writer has it, or a
+/// front of it where a write has failed.
 pub fn notes_leave_the_table()
     ensures { NotesLeaveTheTable }
 {}
 
-/// Wherever `check` ends with status 1 on the same bytes, it writes nothing but the same note.
+/// States that wherever `check` ends with status 1 on the same bytes, it writes nothing but the
+/// same note.
 pub fn refused_checks_have_one_note()
     ensures { RefusedChecksHaveOneNote }
 {}
 
-/// The same of `audit`: where the bytes are no trace, and where they are one with a group that is
-/// not followed. So one group, one worker and one entry are named.
+/// States the same of `audit`: where the bytes are no trace, and where they are one with a group
+/// that is not followed. So one group, one worker and one entry are named.
 pub fn refused_audits_have_one_note()
     ensures { RefusedAuditsHaveOneNote }
 {}
 
-/// Where `check` ends with status 1 on bytes, and `audit` too, they write the same note.
+/// States that if `check` ends with status 1 on bytes, and `audit` too, they write the same note.
 pub fn checks_and_audits_refuse_alike()
     ensures { RefusalsAreAlike }
 {}
 
-/// What `check` and `audit` write does not depend on the version of the trace.
+/// States that what `check` and `audit` write does not depend on the version of the trace.
 pub fn texts_have_no_version()
     ensures { TextsHaveNoVersion }
 {}

@@ -21,7 +21,7 @@ pub enum Status {
 }
 
 impl Status {
-    /// The exit status of the process, from 0 to 5.
+    /// Returns the exit status of the process, from 0 to 5.
     pub fn code(self) -> u8
         ensures { result ≡ status_code self }
     {

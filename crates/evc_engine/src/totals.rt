@@ -13,7 +13,7 @@ use ec_text::Out;
 use ec_trace::Heading;
 use std::io::Write;
 
-/// The total of an eventcount, 0 where it is not declared.
+/// Returns the total of an eventcount, 0 if it is not declared.
 #[tactic(auto, using(crate::proofs::Undeclared::total_shown))]
 fn total_or_zero(world: &World, event: EventId) -> u64
     ensures { (h : List Entry) → StandsFor world.now h → result ≡ total event (reverse h) }
@@ -21,7 +21,7 @@ fn total_or_zero(world: &World, event: EventId) -> u64
     world.total(event).unwrap_or(0)
 }
 
-/// The tickets that were drawn, 0 where the sequencer is not declared.
+/// Returns the tickets that were drawn, 0 if the sequencer is not declared.
 #[tactic(auto, using(crate::proofs::Undeclared::issued_shown))]
 fn issued_or_zero(world: &World, sequencer: SeqId) -> u64
     ensures { (h : List Entry) → StandsFor world.now h → result ≡ issued sequencer (reverse h) }
@@ -29,7 +29,7 @@ fn issued_or_zero(world: &World, sequencer: SeqId) -> u64
     world.issued(sequencer).unwrap_or(0)
 }
 
-/// The value of a cell, 0 where it is not declared.
+/// Returns the value of a cell, 0 if it is not declared.
 #[tactic(auto, using(crate::proofs::Undeclared::cell_shown))]
 fn cell_or_zero(world: &World, cell: CellId) -> u64
     ensures { (h : List Entry) → StandsFor world.now h → result ≡ cell_value cell (reverse h) }
@@ -69,7 +69,7 @@ fn put_cell<W: Write>(out: &mut Out<'_, W>, name: &[u8], place: u64, value: u64)
     out.put(b"\n");
 }
 
-/// The value of the cell at a place of a block, 0 where it is not declared.
+/// Returns the value of the cell at a place of a block, 0 if it is not declared.
 #[tactic(auto, using(crate::proofs::Undeclared::far_cell))]
 fn value_at(world: &World, first: CellId, place: usize) -> u64
     ensures { (h : List Entry) → StandsFor world.now h → result ≡ cell_value (first + place) (reverse h) }

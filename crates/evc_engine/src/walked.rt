@@ -22,7 +22,7 @@ use ec_trace::Group;
 use ec_walk::GroupAudit;
 use std::alloc::{AllocError, Global};
 
-/// What a balance is, by its parts.
+/// Returns what a balance is, by its parts.
 fn now_of(parts: &Balance) -> u64
     ensures { parts.now.initial + parts.now.ups < 2 ^ 64 → result ≡ now_of parts.now }
 {
@@ -41,7 +41,8 @@ pub(crate) struct BothAudit<'a> {
 }
 
 impl<'a> BothAudit<'a> {
-    /// What they found of the entries so far: the pairs, by the rule of `both`, and the balance.
+    /// Returns what they found of the entries so far: the pairs, by the rule of `both`, and the
+    /// balance.
     fn finish(self) -> Result<Audited, AuditFault>
         ensures { (h : Headed) (entries : List Entry) (g : Group) → EndsFor h entries g (Auditing.Both self.entry)
             → MatchResult result (λ a. IsAudited h entries g a) (λ fault. IsAuditFault (group_rules h.setup h.groups g) entries fault) }
@@ -127,7 +128,8 @@ impl<'a> Auditing<'a> {
 }
 
 impl<'a> Auditing<'a> {
-    /// What it found of the entries so far, or the first of them that breaks the group's lists of calls.
+    /// Returns what it found of the entries so far, or the first of them that breaks the group's
+    /// lists of calls.
     pub(crate) fn finish(self) -> Result<Audited, AuditFault>
         ensures { (h : Headed) (entries : List Entry) (g : Group) → EndsFor h entries g self.entry
             → MatchResult result (λ a. IsAudited h entries g a) (λ fault. IsAuditFault (group_rules h.setup h.groups g) entries fault) }
@@ -177,7 +179,7 @@ impl<'a> GroupAudit for Auditing<'a> {
     ghost stays = { audits_stay };
 }
 
-/// The audits of groups before the first entry, where these are all semaphores.
+/// Returns the audits of groups before the first entry, where these are all semaphores.
 pub(crate) fn opened<'a>(
     alloc: Global,
     groups: &'a [Group],

@@ -2,90 +2,91 @@
 ghost use Rattle.evc_scripts.specs.RunLaws.{LinesReportAlike, PlansReportAlike, ReportsHaveOneText};
 ghost use Rattle.evc_scripts.specs.SimLaws.{EndedPlansAreNotPlayed, EndedPlansHaveNoHistory, LinesPlayAlike, PlansEndAtOnePlace, PlansHaveOneRun, RanIsReadAgain, RefusalsAreAlike, RefusedRunsHaveOneNote, RefusedScriptsHaveOneFault, RefusedSimsHaveOneNote, SimsEndOneWay, SimsHaveOneText, SimulatedIsReadAgain};
 
-/// Commands of the same lines do the same, whatever holds their lists in memory: where a schedule is
-/// played for programs, the same turns play it for others of the same lines, and end them alike.
+/// States that commands of the same lines do the same, whatever holds their lists in memory: where
+/// a schedule is played for programs, the same turns play it for others of the same lines, and end
+/// them alike.
 pub fn lines_play_alike()
     ensures { LinesPlayAlike }
 {}
 
-/// A plan has one run at most, and its programs end in one way.
+/// States that a plan has one run at most, and its programs end in one way.
 pub fn plans_have_one_run()
     ensures { PlansHaveOneRun }
 {}
 
-/// So `sim` has one trace and one note at most for a plan whose schedule is played.
+/// States that `sim` has one trace and one note at most for a plan whose schedule is played.
 pub fn sims_have_one_text()
     ensures { SimsHaveOneText }
 {}
 
-/// A plan whose schedule names a worker that has ended has no run.
+/// States that a plan whose schedule names a worker that has ended has no run.
 pub fn ended_plans_are_not_played()
     ensures { EndedPlansAreNotPlayed }
 {}
 
-/// Nor has it a history: entries that are a run of each program, in the order
-/// of the schedule, with each place as its refusal or its entry says.
+/// States that such a plan has no history either: entries that are a run of each program, in the
+/// order of the schedule, with each place as its refusal or its entry says.
 pub fn ended_plans_have_no_history()
     ensures { EndedPlansHaveNoHistory }
 {}
 
-/// The place and the worker that are told of such a plan are the only ones that may be.
+/// States that the place and the worker that are told of such a plan are the only ones that may be.
 pub fn plans_end_at_one_place()
     ensures { PlansEndAtOnePlace }
 {}
 
-/// So no input may end with a trace, of status 0, and with a note of status 1.
+/// States that no input may end with a trace, of status 0, and with a note of status 1.
 pub fn sims_end_one_way()
     ensures { SimsEndOneWay }
 {}
 
-/// Of bytes that are no script one line is told, and one kind.
+/// States that of bytes that are no script one line is told, and one kind.
 pub fn refused_scripts_have_one_fault()
     ensures { RefusedScriptsHaveOneFault }
 {}
 
-/// So wherever `sim` ends with status 1 on the same bytes, it writes nothing but the same note:
-/// where they are no script, and where its schedule names a worker that has ended.
+/// States that wherever `sim` ends with status 1 on the same bytes, it writes nothing but the same
+/// note: where they are no script, and where its schedule names a worker that has ended.
 pub fn refused_sims_have_one_note()
     ensures { RefusedSimsHaveOneNote }
 {}
 
-/// The same of `run`, whatever the bounds of turns.
+/// States the same of `run`, whatever the bounds of turns.
 pub fn refused_runs_have_one_note()
     ensures { RefusedRunsHaveOneNote }
 {}
 
-/// Where `run` ends with status 1 on bytes, and `sim` too, they write the same note.
+/// States that if `run` ends with status 1 on bytes, and `sim` too, they write the same note.
 pub fn refusals_are_alike()
     ensures { RefusalsAreAlike }
 {}
 
-/// The trace that `sim` writes is read again as the run of the schedule, where it is within the
-/// bound of traces.
+/// States that the trace that `sim` writes is read again as the run of the schedule, where it is
+/// within the bound of traces.
 pub fn simulated_is_read_again()
     ensures { SimulatedIsReadAgain }
 {}
 
-/// The trace that `run` writes is read again as the run of its workers, where it is within the bound
-/// of traces.
+/// States that the trace that `run` writes is read again as the run of its workers, where it is
+/// within the bound of traces.
 pub fn ran_is_read_again()
     ensures { RanIsReadAgain }
 {}
 
-/// Commands of the same lines report the same, whatever holds their lists in memory: a report of
-/// workers that ran some is a report of workers that ran others of the same lines.
+/// States that commands of the same lines report the same, whatever holds their lists in memory: a
+/// report of workers that ran some is a report of workers that ran others of the same lines.
 pub fn lines_report_alike()
     ensures { LinesReportAlike }
 {}
 
-/// So what may be told of a run of a script depends on the script's lines alone: what was told of
-/// one is a report of all programs of these lines.
+/// States that what may be told of a run of a script depends on the script's lines alone: what was
+/// told of one is a report of all programs of these lines.
 pub fn plans_report_alike()
     ensures { PlansReportAlike }
 {}
 
-/// Of one script, a run of the same entries has one trace, and workers that ended alike one note and
-/// one status.
+/// States that of one script, a run of the same entries has one trace, and workers that ended alike
+/// one note and one status.
 pub fn reports_have_one_text()
     ensures { ReportsHaveOneText }
 {}

@@ -33,7 +33,7 @@ fn has_cut_short(outcomes: &[Outcome]) -> bool
     outcomes.iter().any(|outcome| matches!(outcome, Outcome::Stopped | Outcome::OutOfTurns))
 }
 
-/// How the command ends where the trace and the outcomes were written.
+/// Returns how the command ends where the trace and the outcomes were written.
 fn status_for(outcomes: &[Outcome]) -> Status
     ensures { result ≡ status_for outcomes.now }
 {

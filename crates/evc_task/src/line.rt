@@ -164,7 +164,7 @@ pub fn task(alloc: Global, words: &[String]) -> Result<Task, Error>
     Ok(task)
 }
 
-/// The exit status of a program whose command line gave no task.
+/// Returns the exit status of a program whose command line gave no task.
 pub fn status_of(error: &Error) -> u8
     ensures { result ≡ status_by (kind_of error.now) }
 {
@@ -175,13 +175,13 @@ pub fn status_of(error: &Error) -> u8
     }
 }
 
-/// The law that the plainest command lines mean what a user expects.
+/// States that the plainest command lines mean what a user expects.
 #[tactic(auto, using(crate::proofs::PlainLines::plain_lines_are_read))]
 pub fn plain_lines()
     ensures { ReadsPlainLines }
 {}
 
-/// The law that `run --turns N` is right for exactly the numbers from 1 to 1000000, and asks for
+/// States that `run --turns N` is right for exactly the numbers from 1 to 1000000, and asks for
 /// that many turns.
 #[tactic(auto, using(crate::proofs::AnyTurns::turns_are_read))]
 pub fn turns_lines()

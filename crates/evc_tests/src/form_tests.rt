@@ -14,7 +14,7 @@ static FORMS: [Form; 7] = [
     ("both", Sort::Both, false, true),
 ];
 
-/// Whether a sort has its form. It is called by names, or by its own word.
+/// Returns whether a sort has its form. It is called by names, or by its own word.
 fn has_form(form: &Form) -> bool {
     let (word, sort, named, from_zero) = *form;
     sort.word() == word.as_bytes()
@@ -36,7 +36,7 @@ fn forms_of_the_sorts(rt: HostRuntime) {
     assert!(rt; Sort::Database.needs_disjoint_lists() && !Sort::Cells.needs_disjoint_lists());
 }
 
-/// Whether a version has this greatest limit.
+/// Returns whether a version has this greatest limit.
 fn has_limits(version: Version, greatest: u64) -> bool {
     let has_limit = |n: u64| version.limit(n).map(|limit| limit.get()) == Some(n);
     version.greatest_limit() == greatest

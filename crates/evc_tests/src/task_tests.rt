@@ -11,7 +11,7 @@ fn add_words(alloc: Global, words: &mut Vec<String>, texts: &[&str]) -> Result<(
     Ok(())
 }
 
-/// The task that the words ask for, with the exit status of a line that gives none.
+/// Returns the task that the words ask for, with the exit status of a line that gives none.
 fn answer(alloc: Global, texts: &[&str]) -> Result<(Option<Task>, u8), AllocError> {
     let mut words = Vec::new(alloc);
     add_words(alloc, &mut words, texts)?;
@@ -21,7 +21,7 @@ fn answer(alloc: Global, texts: &[&str]) -> Result<(Option<Task>, u8), AllocErro
     })
 }
 
-/// A number behind so many zeros.
+/// Returns a number behind so many zeros.
 fn seven_behind(alloc: Global, zeros: usize) -> Result<String, AllocError> {
     let mut text = String::new(alloc);
     for _ in 0..zeros {
@@ -39,7 +39,7 @@ fn a_word_of_more_than_two_million_bytes(rt: HostRuntime) -> Result<(), Fail> {
     Ok(())
 }
 
-/// More words than two million, behind the one that names a command.
+/// Returns more words than two million, behind the one that names a command.
 fn many_words(alloc: Global) -> Result<Vec<&'static str>, AllocError> {
     let mut texts = vec![in alloc; "evc", "check"]?;
     for _ in 0..2_100_000 {

@@ -27,7 +27,7 @@ fn entry_at(place: usize) -> Entry {
     }
 }
 
-/// Whether a list has so many entries, each in its place, and one after another.
+/// Returns whether a list has so many entries, each in its place, and one after another.
 fn has_entries(list: &Segments, many: usize) -> bool {
     let mut entries = list.entries();
     for place in 0..many {

@@ -7,7 +7,7 @@ use super::Setup;
 use crate::{CellId, EventId, Limit, SeqId, WorkerId};
 
 impl Setup {
-    /// The limit of each component and each sequencer.
+    /// Returns the limit of each component and each sequencer.
     #[inline(always)]
     pub fn limit(&self) -> Limit
         ensures { result ≡ self.now.limit }
@@ -15,7 +15,7 @@ impl Setup {
         self.limit
     }
 
-    /// How many workers are declared.
+    /// Returns how many workers are declared.
     #[inline(always)]
     pub fn workers(&self) -> usize
         ensures value { result ≡ self.now.workers }
@@ -24,7 +24,7 @@ impl Setup {
         self.workers
     }
 
-    /// How many eventcounts are declared.
+    /// Returns how many eventcounts are declared.
     #[inline(always)]
     pub fn events(&self) -> usize
         ensures { result ≡ length self.now.events }
@@ -32,7 +32,7 @@ impl Setup {
         self.events.len()
     }
 
-    /// How many sequencers are declared.
+    /// Returns how many sequencers are declared.
     #[inline(always)]
     pub fn sequencers(&self) -> usize
         ensures { result ≡ length self.now.takers }
@@ -40,7 +40,7 @@ impl Setup {
         self.takers.len()
     }
 
-    /// How many cells are declared.
+    /// Returns how many cells are declared.
     #[inline(always)]
     pub fn cells(&self) -> usize
         ensures { result ≡ length self.now.cells }
@@ -48,7 +48,7 @@ impl Setup {
         self.cells.len()
     }
 
-    /// How many components an eventcount has; None where it is not declared.
+    /// Returns how many components an eventcount has; `None` if it is not declared.
     #[inline(always)]
     pub fn components(&self, event: EventId) -> Option<usize>
         ensures value { result ≡ components self.now event }
@@ -58,8 +58,9 @@ impl Setup {
         Some(row.signal.len())
     }
 
-    /// The component of an eventcount that is declared as the worker's own: its place, from 0, among
-    /// the signallers. None where the worker is declared for none, as where it is not declared itself.
+    /// Returns the component of an eventcount that is declared as the worker's own: its place, from
+    /// 0, among the signallers. `None` if the worker is declared for none, as where it is not
+    /// declared itself.
     pub fn component_of(&self, event: EventId, worker: WorkerId) -> Option<usize>
         ensures value { result ≡ component_of self.now event worker }
         ensures few { IfSome result (λ c. c < 16) }
@@ -68,7 +69,8 @@ impl Setup {
         row.signal.place(worker)
     }
 
-    /// The one worker that is declared to signal a component; None where there is no such component.
+    /// Returns the one worker that is declared to signal a component; `None` if there is no such
+    /// component.
     pub fn signaller(&self, event: EventId, component: usize) -> Option<WorkerId>
         ensures { result ≡ signaller self.now event component }
     {
@@ -76,7 +78,7 @@ impl Setup {
         row.signal.get(component)
     }
 
-    /// Whether the worker may read and await the eventcount.
+    /// Returns whether the worker may read and await the eventcount.
     #[inline(always)]
     pub fn may_observe(&self, event: EventId, worker: WorkerId) -> bool
         ensures { result ≡ may_observe self.now event worker }
@@ -87,7 +89,7 @@ impl Setup {
         }
     }
 
-    /// Whether the eventcount is declared and not fixed, as `add_event` adds it.
+    /// Returns whether the eventcount is declared and not fixed, as `add_event` adds it.
     #[inline(always)]
     pub fn may_hand(&self, event: EventId) -> bool
         ensures { result ≡ may_hand self.now event }
@@ -98,7 +100,7 @@ impl Setup {
         }
     }
 
-    /// Whether the worker may draw tickets of the sequencer.
+    /// Returns whether the worker may draw tickets of the sequencer.
     #[inline(always)]
     pub fn may_take(&self, sequencer: SeqId, worker: WorkerId) -> bool
         ensures { result ≡ may_take self.now sequencer worker }
@@ -109,7 +111,7 @@ impl Setup {
         }
     }
 
-    /// Whether the worker may put into the cell.
+    /// Returns whether the worker may put into the cell.
     #[inline(always)]
     pub fn may_write(&self, cell: CellId, worker: WorkerId) -> bool
         ensures { result ≡ may_write self.now cell worker }
@@ -120,7 +122,7 @@ impl Setup {
         }
     }
 
-    /// Whether the worker may get the cell's value.
+    /// Returns whether the worker may get the cell's value.
     #[inline(always)]
     pub fn may_read(&self, cell: CellId, worker: WorkerId) -> bool
         ensures { result ≡ may_read self.now cell worker }
@@ -131,8 +133,8 @@ impl Setup {
         }
     }
 
-    /// Whether the worker is declared, signals no eventcount, takes from no sequencer and writes no
-    /// cell.
+    /// Returns whether the worker is declared, signals no eventcount, takes from no sequencer and
+    /// writes no cell.
     pub fn is_silent(&self, worker: WorkerId) -> bool
         ensures { result ≡ is_silent self.now worker }
     {
@@ -165,7 +167,8 @@ impl Setup {
 }
 
 impl Setup {
-    /// The signallers of an eventcount, in order of component; none where it is not declared.
+    /// Returns the signallers of an eventcount, in order of component; none where it is not
+    /// declared.
     pub fn signallers(&self, event: EventId) -> &[WorkerId]
         ensures { result.now ≡ signallers self.now event }
     {
@@ -175,7 +178,8 @@ impl Setup {
         }
     }
 
-    /// The observers of an eventcount, as they were declared; none where it is not declared.
+    /// Returns the observers of an eventcount, as they were declared; none where it is not
+    /// declared.
     pub fn observers(&self, event: EventId) -> &[WorkerId]
         ensures { result.now ≡ observers self.now event }
     {
@@ -185,7 +189,7 @@ impl Setup {
         }
     }
 
-    /// The takers of a sequencer, as they were declared; none where it is not declared.
+    /// Returns the takers of a sequencer, as they were declared; none where it is not declared.
     pub fn takers(&self, sequencer: SeqId) -> &[WorkerId]
         ensures { result.now ≡ takers self.now sequencer }
     {
@@ -195,7 +199,7 @@ impl Setup {
         }
     }
 
-    /// The writers of a cell, as they were declared; none where it is not declared.
+    /// Returns the writers of a cell, as they were declared; none where it is not declared.
     pub fn writers(&self, cell: CellId) -> &[WorkerId]
         ensures { result.now ≡ writers self.now cell }
     {
@@ -205,7 +209,7 @@ impl Setup {
         }
     }
 
-    /// The readers of a cell, as they were declared; none where it is not declared.
+    /// Returns the readers of a cell, as they were declared; none where it is not declared.
     pub fn readers(&self, cell: CellId) -> &[WorkerId]
         ensures { result.now ≡ readers self.now cell }
     {

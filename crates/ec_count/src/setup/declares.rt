@@ -7,8 +7,8 @@ use super::Setup;
 use crate::{CellId, EventId, SeqId, WorkerId};
 
 impl Setup {
-    /// Whether this is a fixed eventcount with just these signallers, in order of component, and
-    /// these observers, in the order in which they were declared.
+    /// Returns whether this is a fixed eventcount with just these signallers, in order of
+    /// component, and these observers, in the order in which they were declared.
     pub fn declares_fixed_event(
         &self,
         event: EventId,
@@ -20,7 +20,7 @@ impl Setup {
         self.has_fixed_event_row(event.get(), signal, observe)
     }
 
-    /// Whether this is a sequencer with just these takers, in the order in which they were
+    /// Returns whether this is a sequencer with just these takers, in the order in which they were
     /// declared.
     pub fn declares_sequencer(&self, sequencer: SeqId, take: &[WorkerId]) -> bool
         ensures { IsTrue result ↔ DeclaresSequencer self.now sequencer take.now }
@@ -28,8 +28,8 @@ impl Setup {
         self.has_sequencer_row(sequencer.get(), take)
     }
 
-    /// Whether the n cells from this one on have just these writers and readers, in the order in
-    /// which they were declared.
+    /// Returns whether the n cells from this one on have just these writers and readers, in the
+    /// order in which they were declared.
     pub fn declares_cells(
         &self,
         first: CellId,

@@ -16,7 +16,7 @@ fn entry_of(call: &Call) -> Entry {
     }
 }
 
-/// Whether a timeline of the entries of a run gives these calls.
+/// Returns whether a timeline of the entries of a run gives these calls.
 fn is_timed(alloc: Global, run: &Run, placed: &[Placed]) -> Result<bool, Fault> {
     let mut timeline = Timeline::open(alloc, run.setup())?;
     walk(run, &mut timeline);
@@ -30,7 +30,7 @@ fn is_timed(alloc: Global, run: &Run, placed: &[Placed]) -> Result<bool, Fault> 
     Ok(dated.next().is_none())
 }
 
-/// Whether these calls come in order, one after another.
+/// Returns whether these calls come in order, one after another.
 fn comes_in_order(alloc: Global, run: &Run, placed: &[Placed]) -> Result<bool, Fault> {
     let mut calls = in_order(alloc, run)?;
     for right in placed {

@@ -92,7 +92,7 @@ impl Programs {
         }
     }
 
-    /// Whether a program is being read.
+    /// Returns whether a program is being read.
     pub fn is_open(&self) -> bool {
         !self.open.is_empty()
     }

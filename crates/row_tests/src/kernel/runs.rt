@@ -10,7 +10,7 @@ use crate::line::tell;
 use ec_core::Run;
 use ec_count::WorkerId;
 
-/// Whether two runs have the same entries, also by their places.
+/// Returns whether two runs have the same entries, also by their places.
 pub fn is_same(run: &Run, other: &Run) -> bool {
     for (place, entry) in run.entries().enumerate() {
         if other.entry(place) != Some(entry) {
@@ -20,7 +20,7 @@ pub fn is_same(run: &Run, other: &Run) -> bool {
     run.len() == other.len()
 }
 
-/// Whether each of these workers is silent.
+/// Returns whether each of these workers is silent.
 pub fn are_silent(run: &Run, workers: &[WorkerId]) -> bool
     ensures { IsTrue result → All (λ w. IsSilent run.now.setup run.now.entries w) workers.now }
 {

@@ -31,7 +31,7 @@ pub fn declare(setup: &mut Setup, line: &mut Line<'_>) -> Result<bool, Fault> {
     Ok(true)
 }
 
-/// Whether objects are declared for just these workers.
+/// Returns whether objects are declared for just these workers.
 pub fn declares(setup: &Setup, line: &mut Line<'_>) -> Result<bool, Fault> {
     match line.word() {
         "fixed" => {

@@ -54,7 +54,7 @@ impl Shapes {
         Ok(true)
     }
 
-    /// Whether the last group of a sort fits declarations.
+    /// Returns whether the last group of a sort fits declarations.
     pub fn fits(&self, setup: &Setup, sort: &str) -> Result<bool, Fault> {
         Ok(match sort {
             "buffer" => self.buffer.ok_or(Fault::Line)?.fits(setup),

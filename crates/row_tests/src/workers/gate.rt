@@ -32,7 +32,7 @@ struct Step {
 }
 
 impl Step {
-    /// Whether it may be a step of this worker.
+    /// Returns whether it may be a step of this worker.
     fn is_of(&self, place: usize) -> bool {
         match self.worker {
             Some(worker) => worker.get() == place,
@@ -103,7 +103,7 @@ impl<'a> Rules<'a> {
         }
     }
 
-    /// Whether a rule was broken, or a worker called with another number than the next.
+    /// Returns whether a rule was broken, or a worker called with another number than the next.
     pub fn has_failed(&self) -> bool {
         self.has_failed.load(Ordering::SeqCst)
     }
@@ -115,7 +115,7 @@ impl<'a> Rules<'a> {
         }
     }
 
-    /// Whether a worker comes to a step, in so many looks.
+    /// Returns whether a worker comes to a step, in so many looks.
     fn comes(&self, place: usize, step: u64, looks: u64) -> bool {
         for _ in 0..looks {
             if self.calls(place) > step {
