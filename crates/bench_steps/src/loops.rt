@@ -51,7 +51,8 @@ fn round<S: Steps>(steps: &mut S, objects: &Objects, worker: WorkerId) -> Option
     Some(total.wrapping_add(ticket))
 }
 
-/// At least so many steps, in whole rounds by each worker in turn, and the sum of the numbers told.
+/// Makes at least so many steps, in whole rounds by each worker in turn, and returns the sum of the
+/// numbers that they return.
 pub(crate) fn many<S: Steps>(steps: &mut S, objects: &Objects, count: u64) -> Option<u64> {
     let mut told = 0u64;
     for i in 0..count.div_ceil(ROUND) {

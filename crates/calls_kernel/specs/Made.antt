@@ -64,7 +64,7 @@ pub record IsMadeAs (t : Tables) (d : FinishedCall) (c : Call) : Type 0 where
   pub act : d.op ≡ act_of t c
   pub reply : IsReplyOf c.op c.reply d.reply
 
--- the finished calls are these calls in this order
+-- the completed calls are these calls in this order
 abbrev pub AreMadeAs : Tables → List FinishedCall → List Call → Type 0
 AreMadeAs t [] [] = Unit {0}
 AreMadeAs t (d ∷ ds) (c ∷ cs) = IsMadeAs t d c × AreMadeAs t ds cs
@@ -75,8 +75,8 @@ abbrev pub AreInARow : ℕ → List FinishedCall → ℕ → Type 0
 AreInARow i [] n = i ≡ n
 AreInARow i (d ∷ ds) n = (d.first ≡ i) × (d.first ≤ d.last) × AreInARow (d.last + 1) ds n
 
--- an accepted history of steps in which the finished calls are these calls, in this order, each
--- with its entries next to each other. There is no other entry: no call is under way at its end
+-- an accepted history of steps in which the completed calls are these calls, in this order, each
+-- with its entries next to each other. There is no other entry: no call is pending at its end
 pub record AreMade (t : Tables) (cs : List Call) : Type 0 where
   pub steps : List Entry
   pub accepted : IsAccepted t (reverse steps)

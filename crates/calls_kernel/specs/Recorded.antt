@@ -31,7 +31,7 @@ AreRecordedAs t moment (d ∷ ds) (c ∷ cs) = IsRecordedAs t moment d c × AreR
 AreRecordedAs t moment _ _ = ⊥
 
 -- a history of calls that can have been recorded of a kernel: there is an accepted history of
--- steps, and its entries happened at positions of the record that never fall. Its finished calls
+-- steps, and its entries happened at positions of the record that never fall. Its completed calls
 -- but for the hands are the completed calls of the record and some of the pending ones, of which
 -- the response had not been recorded
 pub record IsRecord (t : Tables) (past : List Event) : Type 0 where

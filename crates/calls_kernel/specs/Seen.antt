@@ -111,7 +111,7 @@ events_of t h = events_from t 0 h
 
 -- CALLS
 
--- a finished call, seen from outside
+-- a completed call, seen from outside
 abbrev pub call_seen : Tables → FinishedCall → Call
 call_seen t c = record {
   worker = c.worker;
@@ -122,11 +122,11 @@ call_seen t c = record {
   last = 2 * c.last + 1;
 }
 
--- finished calls, seen from outside, in the order in which they stand. The hands are left out
+-- completed calls, seen from outside, in the order in which they stand. The hands are left out
 abbrev pub calls_seen : Tables → List FinishedCall → List Call
 calls_seen t cs = map (call_seen t) (filter (λ (c : FinishedCall). is_call c.op) cs)
 
--- a call of w that is under way, seen from outside
+-- a call of w that is pending, seen from outside
 abbrev pub pending_seen : Tables → ℕ → CallSoFar → PendingCall
 pending_seen t w call = record {
   worker = w;
@@ -136,7 +136,7 @@ pending_seen t w call = record {
 }
 
 -- seen from outside, a history of steps is a history of calls. Its completed calls are the finished
--- ones, and its pending calls are those under way. The order by points is a linearization of it, in
+-- ones, and its pending calls are those pending. The order by points is a linearization of it, in
 -- which no pending call takes effect; so it is linearizable, as Herlihy and Wing define it
 pub record IsSeen (t : Tables) (h : List Entry) : Type 0 where
   pub history : IsHistory (kinds_of t) (reverse (events_of t h))

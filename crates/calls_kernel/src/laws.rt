@@ -8,7 +8,7 @@ use calls_local::{answers_become_responses, responses_become_answers};
 use ec_order::order_by_points_is_good;
 
 /// States that an accepted history of steps, seen from outside, is a history of calls, and the
-/// order by points of its finished calls is a linearization of it. So it is linearizable.
+/// order by points of its completed calls is a linearization of it. So it is linearizable.
 pub fn calls_of_accepted_histories_are_linearizable()
     ensures { CallsOfAcceptedHistoriesAreLinearizable }
 {

@@ -51,9 +51,9 @@ differs_note n =
 
 -- THE TRACE OF AN ORDER
 
--- the trace of an accepted history of steps under the heading of r: its finished calls are the calls
--- of the order that are made, in this order, each with its steps next to each other, and there is
--- no other step
+-- the trace of an accepted history of steps under the heading of r: its completed calls are the
+-- calls of the order that are made, in this order, each with its steps next to each other, and there
+-- is no other step
 pub record IsTraceOfOrder (r : Recorded) (order : List Placed) (text : List ℕ) : Type 0 where
   pub outline : Outline
   pub is : IsOutline outline

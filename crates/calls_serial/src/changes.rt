@@ -59,7 +59,7 @@ fn add_to_pending(stage: &mut Stage, get: Call, n: usize) -> Result<bool, AllocE
     Ok(true)
 }
 
-/// The same for the last stage, and with the link that is needed.
+/// Adds to the last stage in the same way, with the link that is needed.
 pub fn add_late(
     stages: &mut Vec<Stage>,
     links: &mut Vec<Link>,
@@ -87,7 +87,7 @@ fn complete(stage: &mut Stage, put: Call)
     }
 }
 
-/// The same for the last stage.
+/// Does the same for the last stage.
 pub fn end_put(stages: &mut Vec<Stage>, put: Call)
     ensures { Responds stages.old.items stages.new.items put }
 {

@@ -26,12 +26,12 @@ consume_list b t =
     ∷ Advance b.out_count
     ∷ []
 
--- the ticket that the first of these finished calls drew; 0 before any is finished
+-- the ticket that the first of these completed calls drew; 0 before any is finished
 abbrev pub turn_of : List Told → ℕ
 turn_of [] = 0
 turn_of (first ∷ others) = number_of first.reply
 
--- the call that comes after these finished calls of the list, or none
+-- the call that comes after these completed calls of the list, or none
 abbrev pub produce_call : Buffer → ℕ → List Told → Option Act
 produce_call b item calls = slice_get (produce_list b item (turn_of calls)) (length calls)
 

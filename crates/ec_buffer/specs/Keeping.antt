@@ -18,7 +18,7 @@ kept_of calls = record { at = length calls; first = turn_of calls; second = 0 }
 abbrev pub place_after : ℕ → Reply → ℕ
 place_after at reply = if is_pending reply then at else at + 1
 
--- the ticket after a reply: the first finished call draws it
+-- the ticket after a reply: the first completed call draws it
 abbrev pub turn_after : ℕ → ℕ → Reply → ℕ
 turn_after at turn reply = if is_pending reply then turn else (if at == 0 then number_of reply else turn)
 

@@ -66,7 +66,7 @@ fn note_put(shape: &BufferShape, entry: &Entry, writers: &mut [WorkerId; 256])
     }
 }
 
-/// Before any put: each cell has the same writer, of whom nothing is said.
+/// Returns the same writer for each cell, of whom nothing is said before a put.
 fn no_writers() -> [WorkerId; 256]
     ensures { result ≡ replicate 256 0 }
 {

@@ -8,7 +8,7 @@ ghost use Rattle.ec_buffer.specs.Keeping.{place_after, turn_after};
 use ec_core::{Reply, VALUE_MAX};
 
 /// How many calls of a list of five are finished, the ticket that the first one drew (0 before),
-/// and whether a call is under way.
+/// and whether a call is pending.
 #[derive(Clone, Copy, Debug, PartialEq, Eq)]
 pub(crate) struct Place {
     pub(crate) at: usize,

@@ -58,7 +58,7 @@ abbrev pub signals_already : Tables → List Entry → Act → Bool
 signals_already t past (Hand e b) = is_some (component_at t e past b)
 signals_already t past _ = false
 
--- the first refusal whose test holds, given whether a call of w is under way, whether w has the right, whether the
+-- the first refusal whose test holds, given whether a call of w is pending, whether w has the right, whether the
 -- count is at its limit, and whether the worker that the act hands to signals already
 abbrev pub refusal_in : Tables → ℕ → Act → Bool → Bool → Bool → Bool → Option Refusal
 refusal_in t w act busy right at_limit already = first_that (

@@ -1,5 +1,5 @@
--- Calls under way. A worker's entries are cut, in order, into calls: a read or an await goes on with that
--- worker's following goes, up to its first entry whose reply is not Pending; every other act is a call of one entry.
+-- Pending calls. A worker's entries are cut, in order, into calls: a read or an await goes on with that worker's
+-- following goes, up to its first entry whose reply is not Pending; every other act is a call of one entry.
 use Rattle.std.specs.Prelude.{ℕ, Bool, true, false, ◌==◌, ◌&&◌, List, [], ◌∷◌, Option, Some, None, if◌then◌else◌}
 use Rattle.ec_core.specs.declared.act.Act.{Act}
 use Rattle.ec_core.specs.declared.act.Act.TheVariants.{Go}
@@ -30,7 +30,7 @@ gone_on Go past None = None
 gone_on Go past (Some call) = Some (record { op = call.op; moments = past ∷ call.moments })
 gone_on act past call = Some (record { op = act; moments = past ∷ [] })
 
--- the call of w that is under way after a past: none where its latest entry was told more than Pending
+-- the call of w that is pending after a past: none where its latest entry was told more than Pending
 unfoldable pub under_way : ℕ → List Entry → Option CallSoFar
 under_way w [] = None
 under_way w (x ∷ past) =

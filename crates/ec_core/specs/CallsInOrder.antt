@@ -1,4 +1,4 @@
--- Calls under way, in order of time: entry i, counted from 0, happens at moment i, after the first i entries.
+-- Pending calls, in order of time: entry i, counted from 0, happens at moment i, after the first i entries.
 use Rattle.std.specs.Prelude.{◌≡◌, ℕ, ◌<◌, ◌≤◌, Bool, false, ◌==◌, ◌&&◌, nat_le, List, [], ◌∷◌, zero, suc, Some, if◌then◌else◌, slice_get}
 use Rattle.std.specs.Option.{option_map_or}
 use Rattle.ec_core.specs.declared.act.Act.TheVariants.{Go}
@@ -16,7 +16,7 @@ unfoldable pub own_moments : ℕ → List Entry → ℕ → ℕ → List (List E
 own_moments w h first zero = []
 own_moments w h first (suc k) = if nat_le first k && is_own_at w h k then past_at k h ∷ own_moments w h first k else own_moments w h first k
 
--- the call of w that is under way at moment k: the entry at first began it, and is no go; w's entries after it went on
+-- the call of w that is pending at moment k: the entry at first began it, and is no go; w's entries after it went on
 -- with it; each was told Pending; and these are their pasts
 pub record IsUnderWay (w : ℕ) (h : List Entry) (k : ℕ) (call : CallSoFar) : Type 0 where
   pub first : ℕ

@@ -27,13 +27,13 @@ pub record HasJustFallenShort (t : Tables) (w : ℕ) (h : List Entry) (k e v : �
   pub one : length (own_moments w h round k) ≡ width t e
   pub short : round_sum t e (own_moments w h round k) < v
 
--- an await is under way whose next component is the first again exactly where it has just ended a round that fell short;
+-- an await is pending whose next component is the first again exactly where it has just ended a round that fell short;
 -- and then the sum that is kept with it is 0
 abbrev pub IndexZeroMeansFallenShort : Type 0
 IndexZeroMeansFallenShort = (t : Tables) (h : List Entry) (w k e v sum : ℕ) → IsDeclared t → IsAccepted t (reverse h)
     → (progress_of t w (past_at k h) ≡ Some (record { op = Await e v; index = 0; sum = sum })) ↔ (HasJustFallenShort t w h k e v × (sum ≡ 0))
 
--- of a read that is under way the next component is never the first again: so such a call is an await
+-- of a read that is pending the next component is never the first again: so such a call is an await
 abbrev pub IndexZeroIsAnAwait : Type 0
 IndexZeroIsAnAwait = (t : Tables) (h : List Entry) (w k : ℕ) (progress : Progress) → IsDeclared t → IsAccepted t (reverse h)
     → progress_of t w (past_at k h) ≡ Some progress → progress.index ≡ 0 → (e : ℕ) × (v : ℕ) × (progress.op ≡ Await e v)

@@ -66,7 +66,7 @@ abbrev pub read_with : Reply → RoundSoFar → Effect
 read_with (Number n) r = effects.End n
 read_with _ r = effects.GoOn r
 
--- what one more read of a call comes to that is under way
+-- what one more read of a call comes to that is pending
 abbrev pub one_read : Act → ℕ → ℕ → ℕ → Effect
 one_read op width index sum =
     if nat_le width (index + 1)
@@ -80,7 +80,7 @@ begun op = record { op = op; index = 0; sum = 0 }
 abbrev pub gone_to : RoundSoFar → Progress → Progress
 gone_to r u = record { op = u.op; index = r.index; sum = r.sum }
 
--- what a read comes to as the first of a call, given what it would come to in a call under way
+-- what a read comes to as the first of a call, given what it would come to in a pending call
 abbrev pub as_first : Progress → Effect → Effect
 as_first u (effects.GoOn r) = effects.Begin (gone_to r u)
 as_first u e = e
@@ -125,7 +125,7 @@ changed s w (effects.Put x v) = record s { cells = slice_set s.cells x v }
 changed s w (effects.Get n) = s
 changed s w (effects.Hand e b) = record s { signal = changed_at (λ ws. replaced_new (place_of w ws) b ws) s.signal e }
 
--- the act that began the call that an act of w is part of, where this call is under way
+-- the act that began the call that an act of w is part of, where this call is pending
 abbrev pub op_in : State → ℕ → Act → Act
 op_in s w Go = option_map_or (λ u. u.op) (kept_call s w) Go
 op_in s w act = act

@@ -9,19 +9,19 @@ use Rattle.ec_core.specs.declared.act.Entry.{Entry}
 use Rattle.ec_core.specs.Counts.{past_at}
 use Rattle.ec_core.specs.Calls.{CallSoFar, under_way}
 
--- a finished call: the act that began it and its last reply
+-- a completed call: the act that began it and its last reply
 pub record Told : Type 0 where
   pub op : Act
   pub reply : Reply
 
--- a list of calls that a worker goes through again and again. Each test is given the finished calls of the
--- list that the worker is in
+-- a list of calls that a worker goes through again and again. Each test is given the completed calls of
+-- the list that the worker is in
 pub record Rule : Type 0 where
   pub concerns : List Told → Act → Bool  -- whether a call that the act begins is one of the list's at all
   pub fits : List Told → Act → Bool  -- whether it is the call that the list has next
   pub ends : List Told → Bool  -- whether the calls are the whole list
 
--- the act that began the call that an act is part of, where this call of its worker is under way
+-- the act that began the call that an act is part of, where this call of its worker is pending
 abbrev pub opened : Act → Option CallSoFar → Act
 opened Go None = Go
 opened Go (Some call) = call.op
@@ -34,7 +34,7 @@ abbrev pub block_after : Rule → List Told → Act → Reply → List Told
 block_after r b op Pending = b
 block_after r b op reply = extended r b (record { op = op; reply = reply })
 
--- the finished calls of the list that w is in after a past, the first of them first
+-- the completed calls of the list that w is in after a past, the first of them first
 unfoldable pub block : Rule → ℕ → List Entry → List Told
 block r w [] = []
 block r w (x ∷ past) =

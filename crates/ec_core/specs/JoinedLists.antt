@@ -7,7 +7,7 @@ use Rattle.ec_core.specs.declared.act.Entry.{Entry}
 use Rattle.ec_core.specs.Calls.{CallSoFar, under_way, is_pending}
 use Rattle.ec_core.specs.Following.{Told, Rule, opened}
 
--- the finished calls of w after a past, in order: an entry that is told more than Pending ends one
+-- the completed calls of w after a past, in order: an entry that is told more than Pending ends one
 unfoldable pub finished_by : ℕ → List Entry → List Told
 finished_by w [] = []
 finished_by w (x ∷ past) =
@@ -33,7 +33,7 @@ pub record IsWholeList (r : Rule) (calls : List Told) : Type 0 where
   pub each : IsBeginning r calls
   pub whole : is_whole r calls ≡ true
 
--- the calls are whole lists joined end to end, and the beginning of one more, in which a call that is under way comes next
+-- the calls are whole lists joined end to end, and the beginning of one more, in which a call that is pending comes next
 pub record IsJoined (r : Rule) (calls : List Told) (going : Option Act) : Type 0 where
   pub lists : List (List Told)
   pub last : List Told
@@ -50,14 +50,14 @@ SpeaksOf r is_on = (calls : List Told) (op : Act) → r.concerns calls op ≡ is
 abbrev pub calls_on : (Act → Bool) → List Told → List Told
 calls_on is_on calls = filter (λ c. is_on c.op) calls
 
--- the act that began the call under way, where it is on the group
+-- the act that began the pending call, where it is on the group
 abbrev pub going_on : (Act → Bool) → Option CallSoFar → Option Act
 going_on is_on None = None
 going_on is_on (Some call) = if is_on call.op then Some call.op else None
 
 -- LISTS WHOSE CALLS STAND NEXT TO EACH OTHER AMONG ALL CALLS
 
--- the act that began the call under way
+-- the act that began the pending call
 abbrev pub op_of : Option CallSoFar → Option Act
 op_of o = option_map (λ (call : CallSoFar). call.op) o
 

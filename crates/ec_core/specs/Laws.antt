@@ -30,7 +30,7 @@ IssuedCountsTickets = (q k : ℕ) (h : List Entry) → issued q (past_at k h) �
 abbrev pub CellsHoldTheLastPut : Type 0
 CellsHoldTheLastPut = (x k : ℕ) (h : List Entry) → IsLastPut x h k (cell_value x (past_at k h)) ⊎ IsUntouched x h k (cell_value x (past_at k h))
 
--- a call of w is under way at moment k exactly where one is that began, went on and has not ended
+-- a call of w is pending at moment k exactly where one is that began, went on and has not ended
 abbrev pub CallsUnderWayAreCutInOrder : Type 0
 CallsUnderWayAreCutInOrder = (w k : ℕ) (h : List Entry) (call : CallSoFar) → (under_way w (past_at k h) ≡ Some call) ↔ IsUnderWay w h k call
 
@@ -115,8 +115,8 @@ HandsChangeNoNumber = (t : Tables) (h : List Entry) (k e b : ℕ) (x : Entry) �
     × ((q : ℕ) → issued q (past_at (k + 1) h) ≡ issued q (past_at k h))
     × ((y : ℕ) → cell_value y (past_at (k + 1) h) ≡ cell_value y (past_at k h))
 
--- an accepted history without some silent workers is accepted, and each entry that is kept is, at the moment that it
--- then has, the answer to its act
+-- an accepted history without some read-only workers is accepted, and each entry that is kept is, at the moment that
+-- it then has, the answer to its act
 abbrev pub OthersStand : Type 0
 OthersStand = (t : Tables) (s : ℕ → Bool) (h : List Entry) → IsAccepted t (reverse h) → ((w : ℕ) → s w ≡ true → IsSilent t h w)
     → IsAccepted t (reverse (without s h))

@@ -33,7 +33,7 @@ ongoing t call = record {
   index = (length call.moments - 1) % width t (event_or call.op);
 }
 
--- these are the calls under way after a past, by worker
+-- these are the pending calls after a past, by worker
 abbrev pub AreCalls : Tables → List (Option Ongoing) → List Entry → Type 0
 AreCalls t calls past = (w : ℕ) → w < 16 → slice_get calls w ≡ Some (option_map (ongoing t) (under_way w past))
 

@@ -1,8 +1,8 @@
--- Calls under way, as a world keeps them.
+-- Pending calls, as a world keeps them.
 use Rattle.std.specs.Prelude.{ℕ}
 use Rattle.ec_core.specs.declared.act.Act.{Act}
 
--- what is kept of a call under way: the act that began it, the component that comes next, and the sum of the
+-- what is kept of a pending call: the act that began it, the component that comes next, and the sum of the
 -- round so far
 pub record Progress : Type 0 where
   pub op : Act

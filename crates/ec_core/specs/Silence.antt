@@ -1,4 +1,4 @@
--- Silent workers, and a history without some workers.
+-- Read-only workers, and a history without some workers.
 use Rattle.std.specs.Prelude.{◌≡◌, ℕ, ◌<◌, Bool, false, ◌==◌, not, List, None, filter}
 use Rattle.ec_count.specs.Tables.{Tables, may_take, may_write}
 use Rattle.ec_core.specs.declared.act.Entry.{Entry}

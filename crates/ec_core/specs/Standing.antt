@@ -21,7 +21,7 @@ pub record State : Type 0 where
 abbrev pub count_at : List (List Counted) → ℕ → ℕ → Option Counted
 count_at counts e c = option_and_then (λ (row : List Counted). slice_get row c) (slice_get counts e)
 
--- what is kept of a call under way
+-- what is kept of a pending call
 abbrev pub shown : Tables → CallSoFar → Progress
 shown t call =
     let e = event_or call.op in

@@ -11,11 +11,11 @@ use ec_count::{CellId, EventId, SeqId, WorkerId};
 pub(crate) enum Effect {
     /// The component of the eventcount rises by one.
     Raise(EventId, usize),
-    /// The first component of a call is read, which is left under way so.
+    /// The first component of a call is read, which is left pending so.
     Begin(UnderWay),
-    /// A component is read of the call under way, whose round has come so far then.
+    /// A component is read of the pending call, whose round has come so far then.
     GoOn(Round),
-    /// The last component of a call is read: the sum, and no call is left under way.
+    /// The last component of a call is read: the sum, and no call is left pending.
     End(u64),
     /// The sequencer's ticket of this number is drawn.
     Draw(SeqId, u64),
@@ -43,7 +43,7 @@ impl Effect {
     }
 
     /// Returns what a read comes to as the first of this call, given what it would come to in a
-    /// call under way.
+    /// pending call.
     #[inline(always)]
     pub(crate) fn as_first(self, call: &UnderWay) -> Effect
         ensures { result ≡ as_first call.now self }

@@ -26,26 +26,26 @@ pub fn cells_hold_the_last_put()
     ensures { CellsHoldTheLastPut }
 {}
 
-/// States that a call is under way exactly where the worker's entries, from one that is no go on,
-/// are goes behind it, each told Pending.
+/// States that a call is pending exactly where the worker's entries, from one that is no go on, are
+/// goes behind it, each told Pending.
 pub fn calls_under_way_are_cut_in_order()
     ensures { CallsUnderWayAreCutInOrder }
 {}
 
-/// States that in an accepted history a call under way is a read or an await of a declared
+/// States that in an accepted history a pending call is a read or an await of a declared
 /// eventcount.
 pub fn calls_under_way_read()
     ensures { CallsUnderWayRead }
 {}
 
-/// States that an await under way has 0 as the component that comes next exactly where it has just
+/// States that a pending await has 0 as the component that comes next exactly where it has just
 /// ended a round that fell short.
 pub fn index_zero_means_fallen_short()
     ensures { IndexZeroMeansFallenShort }
 {}
 
-/// States that a read under way never has 0 as the component that comes next: a call that does is
-/// an await.
+/// States that a pending read never has 0 as the component that comes next: a call that does is an
+/// await.
 pub fn index_zero_is_an_await()
     ensures { IndexZeroIsAnAwait }
 {}
@@ -126,7 +126,7 @@ pub fn hands_change_no_number()
     ensures { HandsChangeNoNumber }
 {}
 
-/// States that an accepted history without some silent workers is accepted, and what the others
+/// States that an accepted history without some read-only workers is accepted, and what the others
 /// were told stands as it was.
 pub fn others_stand()
     ensures { OthersStand }

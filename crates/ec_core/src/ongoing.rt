@@ -38,8 +38,8 @@ fn read_on(setup: &Setup, call: &mut Ongoing, at: usize)
     }
 }
 
-/// Makes of a worker's call under way the call that its next act is part of, with it. Of one that goes on it changes no more than its
-/// numbers.
+/// Makes of a worker's pending call the call that its next act is part of, with it. Of one that
+/// goes on it changes no more than its numbers.
 #[inline(always)]
 fn go_on(setup: &Setup, act: Act, call: &mut Option<Ongoing>, place: usize)
     ensures { call.new ≡ went_on setup.now act call.old place }
@@ -72,7 +72,7 @@ fn end_by(reply: Reply, call: &mut Option<Ongoing>)
     }
 }
 
-/// The calls under way after some entries of a run, by worker.
+/// The pending calls after some entries of a run, by worker.
 #[derive(Drop)]
 pub struct Calls {
     calls: [Option<Ongoing>; 16],

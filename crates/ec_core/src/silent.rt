@@ -1,4 +1,4 @@
-//! Runs without their silent workers.
+//! Runs without their read-only workers.
 ghost use Rattle.std.specs.Prelude.{◌≡◌, [], ◌∷◌, ◌++◌, reverse, All, Ok, IfOk, OnOk};
 ghost use Rattle.ec_count.specs.Members.{is_member};
 ghost use Rattle.ec_core.specs.Acceptance.{answer_of};
@@ -19,7 +19,7 @@ fn repeat(run: &mut Run, entry: Entry) -> Result<(), AllocError>
     }
 }
 
-/// Returns the run with the entries of some silent workers struck out, on the same declarations.
+/// Returns the run with the entries of some read-only workers struck out, on the same declarations.
 /// Being a run, it is accepted: what the others were told stands as it was. `Run::is_silent` tests
 /// who is silent.
 pub fn without(run: &Run, silent: &[WorkerId]) -> Result<Run, AllocError>

@@ -1,4 +1,4 @@
-//! Calls under way, as a world keeps them.
+//! Pending calls, as a world keeps them.
 ghost use Rattle.std.specs.Prelude.{◌≡◌, ◌+◌, ◌*◌, ◌^◌, ◌<◌, ◌≤◌, IsSome, slice_get};
 ghost use Rattle.ec_core.specs.Rounds.{event_or, read_of};
 ghost use Rattle.ec_core.specs.Fields.{begun, gone_to, one_read, value_of};
@@ -29,8 +29,8 @@ impl Model for Round {
     ghost inverse = { λ r. record { index = r.index; sum = r.sum } };
 }
 
-/// A call under way: the act that began it, the component that the next Go reads, and the sum of
-/// its round so far.
+/// A pending call: the act that began it, the component that the next Go reads, and the sum of its
+/// round so far.
 #[derive(Clone, Copy, Debug, PartialEq, Eq)]
 pub struct UnderWay {
     op: Act,

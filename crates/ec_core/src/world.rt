@@ -23,7 +23,7 @@ use crate::{Act, Entry, Refusal, Reply, UnderWay, VALUE_MAX};
 use ec_count::{CellId, Count, EventId, SeqId, Setup, WorkerId};
 use std::marker::Model;
 
-/// The refusal, where the test holds.
+/// Returns the refusal, if the test holds.
 #[inline(always)]
 fn refuse_if(test: bool, refusal: Refusal) -> Result<(), Refusal>
     ensures { MatchResult result (λ x. test ≡ false) (λ r. (test ≡ true) × (r ≡ refusal)) }
@@ -31,7 +31,7 @@ fn refuse_if(test: bool, refusal: Refusal) -> Result<(), Refusal>
     if test { Err(refusal) } else { Ok(()) }
 }
 
-/// The call goes on, if there is one: its round has come so far.
+/// Goes on with the call, if there is one, whose round has come so far.
 #[inline(always)]
 fn go_on(call: &mut Option<UnderWay>, round: Round)
     ensures { call.new ≡ option_map (gone_to round) call.old }
@@ -48,7 +48,7 @@ pub struct Step {
     pub reply: Reply,
 }
 
-/// The state of a kernel: who signals now, its counts, cells and calls under way.
+/// The state of a kernel: who signals now, its counts, cells and pending calls.
 #[derive(Drop)]
 pub struct World {
     setup: Setup,
@@ -203,7 +203,7 @@ impl World {
         call.read(width, counts)
     }
 
-    /// The refusal, where the eventcount is not declared.
+    /// Returns the refusal, if the eventcount is not declared.
     #[inline(always)]
     fn known_event(&self, event: EventId) -> Result<(), Refusal>
         ensures { MatchResult result (λ x. nat_le (length self.now.setup.events) event ≡ false) (λ r. (nat_le (length self.now.setup.events) event ≡ true) × (r ≡ Refusal.UnknownObject)) }
@@ -211,7 +211,7 @@ impl World {
         refuse_if(event.get() >= self.setup.events(), Refusal::UnknownObject)
     }
 
-    /// The refusal, where the cell is not declared.
+    /// Returns the refusal, if the cell is not declared.
     #[inline(always)]
     fn known_cell(&self, cell: CellId) -> Result<(), Refusal>
         ensures { MatchResult result (λ x. nat_le (length self.now.setup.cells) cell ≡ false) (λ r. (nat_le (length self.now.setup.cells) cell ≡ true) × (r ≡ Refusal.UnknownObject)) }
@@ -330,7 +330,7 @@ impl World {
     }
 
     /// Returns the act that began the call that an act of the worker is part of, where this call is
-    /// under way.
+    /// pending.
     #[inline(always)]
     fn begun_by(&self, worker: WorkerId, act: &Act) -> Act
         ensures { result ≡ op_in self.now worker act.now }

@@ -22,7 +22,7 @@ pub record HasNoRight (t : Tables) (w : ℕ) : Type 0 where
   pub takes : (q : ℕ) → may_take t q w ≡ false
   pub writes : (x : ℕ) → may_write t x w ≡ false
 
--- a silent worker is a declared one that has none of these rights
+-- a read-only worker is a declared one that has none of these rights
 abbrev pub SilenceIsNoRight : Type 0
 SilenceIsNoRight = (t : Tables) (w : ℕ) → (is_silent t w ≡ true) ↔ ((w < t.workers) × HasNoRight t w)
 

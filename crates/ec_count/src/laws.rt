@@ -18,7 +18,7 @@ pub fn rights_are_declared()
     ensures { RightsAreDeclared }
 {}
 
-/// States that a silent worker is a declared one that has no component, no ticket to take and no
+/// States that a read-only worker is a declared one that has no component, no ticket to take and no
 /// cell to write.
 pub fn silent_workers_change_nothing()
     ensures { SilenceIsNoRight }

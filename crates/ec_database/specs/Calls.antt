@@ -1,4 +1,5 @@
--- The calls of a writer and of a reader, each list as the call that comes after these finished calls of it, or none.
+-- The calls of a writer and of a reader, each list as the call that comes after these completed calls of it, or
+-- none.
 use Rattle.std.specs.Prelude.{ℕ, zero, suc, ◌+◌, ◌==◌, nat_lt, List, [], ◌∷◌, ◌++◌, length, Option, Some, None, if◌then◌else◌, get_or}
 use Rattle.ec_core.specs.declared.act.Act.{Act}
 use Rattle.ec_core.specs.declared.act.Act.TheVariants.{Advance, Read, Await, Ticket, Put, Get}

@@ -31,7 +31,7 @@ pub record IsWhole (list : List Told → List Act) (calls : List Told) : Type 0 
 abbrev pub IsNext : (List Told → List Act) → List Told → Act → Type 0
 IsNext list calls op = slice_get (list calls) (length calls) ≡ Some (unvalued op)
 
--- the calls are whole lists joined end to end, and the beginning of one more, in which a call that is under way is next
+-- the calls are whole lists joined end to end, and the beginning of one more, in which a call that is pending is next
 pub record AreLists (list : List Told → List Act) (calls : List Told) (going : Option Act) : Type 0 where
   pub lists : List (List Told)
   pub last : List Told

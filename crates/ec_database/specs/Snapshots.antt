@@ -30,7 +30,7 @@ values_got d _ = []
 abbrev pub agrees : Database → List Told → Bool
 agrees d calls = version_again d calls == version_read calls
 
--- how far a snapshot is: the tries left, this one among them, and the finished calls of this try
+-- how far a snapshot is: the tries left, this one among them, and the completed calls of this try
 pub record Trying : Type 0 where
   pub left : ℕ
   pub calls : List Told

@@ -1,4 +1,4 @@
--- The bars of finished calls, with the marks at their points.
+-- The bars of completed calls, with the marks at their points.
 use Rattle.std.specs.Prelude.{Bool, List, reverse}
 use Rattle.std.specs.List.{filter}
 use Rattle.ec_count.specs.Tables.{Tables}
@@ -12,6 +12,6 @@ use Rattle.ec_draw.specs.Windows.{meets}
 abbrev pub is_shown : Window → Placed → Bool
 is_shown w p = meets w p.call.first p.call.last
 
--- the finished calls that are shown, each with its point, in order of their points
+-- the completed calls that are shown, each with its point, in order of their points
 abbrev pub bars : Tables → Window → List Entry → List Placed
 bars t w h = filter (is_shown w) (ordered_by_points t (reverse h))

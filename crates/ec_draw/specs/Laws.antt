@@ -33,7 +33,7 @@ use Rattle.ec_draw.specs.Shades.{Shaded, begins_list, shades_in}
 use Rattle.ec_draw.specs.declared.arrow.Arrow.{Arrow}
 use Rattle.ec_draw.specs.Arrows.{arrows_in}
 
--- the bars are exactly the finished calls that are shown, each with its point
+-- the bars are exactly the completed calls that are shown, each with its point
 pub record AreBars (t : Tables) (w : Window) (h : List Entry) (ps : List Placed) : Type 0 where
   pub each : (p : Placed) → Contains ps p → IsFinishedCall t h p.call × IsPoint h p.call p.point
       × (is_shown w p ≡ true)

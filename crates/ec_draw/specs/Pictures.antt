@@ -17,7 +17,7 @@ use Rattle.ec_draw.specs.Balances.{balance_lines}
 use Rattle.ec_draw.specs.Shades.{Shaded, seen, shades}
 use Rattle.ec_draw.specs.Arrows.{arrows}
 
--- a picture, as a contract sees it: the finished calls with their points, the calls under way, the
+-- a picture, as a contract sees it: the completed calls with their points, the pending calls, the
 -- entries with the components that they read or raised, the curves of counts and of balances, the
 -- accepting tries, and the deliveries
 pub record Shapes : Type 0 where

@@ -159,7 +159,7 @@ impl Course {
 }
 
 /// The audits of `both` in a walk over a run: of its common semaphore, with what was left, and of
-/// its guarded parts.
+/// its critical sections.
 #[derive(Drop)]
 pub(crate) struct BothCourse<'a> {
     pub(crate) course: Course,

@@ -53,7 +53,7 @@ fn raises(object: &Counted, act: &Act) -> bool
     }
 }
 
-/// By how much the entry at a position raises a count; past the last entry by nothing.
+/// Returns by how much the entry at a position raises a count; 0 past the last entry.
 fn raised(run: &Run, object: &Counted, position: usize) -> u64
     ensures value { count_at object.now run.now.entries (position + 1)
         ≡ count_at object.now run.now.entries position + result }

@@ -48,7 +48,7 @@ struct Asked<'a> {
 }
 
 impl<'a> Finding<'a> {
-    /// Before the first entry.
+    /// Makes what is kept before the first entry.
     fn new(alloc: Global, group: &'a Group, asked: &Asked<'a>) -> Self
         ensures { FindsFor asked.now.setup.now asked.now.semaphores.now asked.now.window group.now
             result [] }
@@ -163,7 +163,7 @@ fn add_semaphore(
     }
 }
 
-/// Returns whether the workers follow the guarded parts of `both`, after all entries of a run.
+/// Returns whether the workers follow the critical sections of `both`, after all entries of a run.
 fn follows_both(run: &Run, pairs: PairAudit<'_>) -> Result<bool, AllocError>
     requires { IsPairing pairs (reverse run.now.entries) }
     ensures { IfOk result

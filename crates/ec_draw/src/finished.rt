@@ -1,4 +1,4 @@
-//! The bars of finished calls.
+//! The bars of completed calls.
 ghost use Rattle.std.specs.Prelude.{◌≡◌, ◌++◌, ◌∷◌, [], IfOk, OnOk};
 ghost use Rattle.ec_draw.specs.Bars.{bars};
 
@@ -15,7 +15,7 @@ fn keep(bars: &mut Vec<Placed>, placed: &Placed) -> Result<(), AllocError>
     Ok(())
 }
 
-/// Returns the finished calls of a run that are shown, each with its point, in order of their
+/// Returns the completed calls of a run that are shown, each with its point, in order of their
 /// points.
 pub(crate) fn bars(alloc: Global, run: &Run, window: Window) -> Result<Vec<Placed>, AllocError>
     ensures { IfOk result (λ ps. ps.items ≡ bars run.now.setup window run.now.entries) }

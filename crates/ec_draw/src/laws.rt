@@ -9,7 +9,7 @@ ghost use Rattle.ec_draw.specs.Laws.{TriesHaveShades};
 use ec_core::calls_under_way_are_cut_in_order;
 use ec_order::order_by_points_ascends;
 
-/// States that the bars of an accepted history are exactly its finished calls that the window
+/// States that the bars of an accepted history are exactly its completed calls that the window
 /// shows, each with its point.
 pub fn bars_are_calls()
     ensures { BarsAreCalls }

@@ -19,9 +19,9 @@ use std::alloc::{AllocError, Global};
 #[derive(Drop)]
 pub struct Picture {
     pub window: Window,
-    /// The finished calls that are shown, each with its point.
+    /// The completed calls that are shown, each with its point.
     pub calls: Vec<Placed>,
-    /// The calls under way that are shown.
+    /// The pending calls that are shown.
     pub begun: Vec<Open>,
     /// The entries that are shown.
     pub dots: Vec<Dot>,

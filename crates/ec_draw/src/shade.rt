@@ -39,7 +39,7 @@ fn is_go(act: &Act) -> bool
     matches!(act, Act::Go)
 }
 
-/// Before the first entry no list has begun.
+/// Returns that no list has begun before the first entry.
 fn no_starts() -> [usize; 16]
     ensures { (w : ℕ) → w < 16 → slice_get result w ≡ Some 0 }
 {

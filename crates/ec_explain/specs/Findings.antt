@@ -59,7 +59,7 @@ refusal_cause refusals.UnknownWorker = causes.Other
 refusal_cause refusals.UnknownObject = causes.Other
 refusal_cause refusals.ValueTooLarge = causes.Other
 
--- the line that shows why the act of line n is refused: the one by which the call under way began;
+-- the line that shows why the act of line n is refused: the one by which the pending call began;
 -- the one by which the right was lost, or that declares the object, and who may use it; and the
 -- limit's
 abbrev pub reason_line : Refusal → ℕ → List ℕ → Option ℕ

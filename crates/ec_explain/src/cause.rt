@@ -81,9 +81,9 @@ pub enum Cause {
     EntryWords,
     /// It stands after the end.
     AfterEnd,
-    /// The worker has a call under way.
+    /// The worker has a pending call.
     Busy,
-    /// The worker has no call under way.
+    /// The worker has no pending call.
     Idle,
     /// The worker lacks the right.
     NoRight,

@@ -15,8 +15,8 @@ use Rattle.ec_machine.specs.Runs.{next_in, IsRunOf}
 use Rattle.ec_machine.specs.Follows.{program_at, Follows}
 use Rattle.ec_machine.specs.Laws.{AreWhole, IsBegun, number_told}
 
--- the finished calls are whole lists of calls joined end to end, one for each of the first commands of the written-out
--- program, and then the beginning of the list of the command that follows; and the call under way, if one is, is the one
+-- the completed calls are whole lists of calls joined end to end, one for each of the first commands of the written-out
+-- program, and then the beginning of the list of the command that follows; and the pending call, if one is, is the one
 -- that comes next in it
 pub record AreListsOf (cs : List Command) (calls : List Told) (going : Option Act) : Type 0 where
   pub done : List Command
@@ -29,7 +29,7 @@ pub record AreListsOf (cs : List Command) (calls : List Told) (going : Option Ac
   pub begun : IsBegun (number_told lists) left last
   pub next : IfSome going (λ op. next_in left (number_told lists) last ≡ Some op)
 
--- steps as they are cut into calls: each is a go exactly where a call is under way
+-- steps as they are cut into calls: each is a go exactly where a call is pending
 unfoldable pub AreSteps : List Entry → Type 0
 AreSteps [] = Unit {0}
 AreSteps (x ∷ past) = (is_go x.act ≡ is_some (opening past)) × AreSteps past

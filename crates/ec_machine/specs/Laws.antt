@@ -42,7 +42,7 @@ IsBegun last (c ∷ cs) calls = IsBegunOf last c calls
 abbrev pub number_told : List (List Told) → ℕ
 number_told lists = last_number 0 (flat_map (λ b. b) lists)
 
--- the finished calls of a run of the program
+-- the completed calls of a run of the program
 pub record AreCallsOf (cs : List Command) (calls : List Told) : Type 0 where
   pub done : List Command
   pub left : List Command
@@ -55,7 +55,7 @@ pub record AreCallsOf (cs : List Command) (calls : List Told) : Type 0 where
   pub next : program_call cs calls ≡ next_in left (number_told lists) last
   pub ends : outcome_at (place_after (start cs) calls) ≡ outcome_in left (number_told lists)
 
--- in a run of a program the finished calls are those lists, and the call under way is the one that comes next
+-- in a run of a program the completed calls are those lists, and the pending call is the one that comes next
 abbrev pub RunsAreOfWholeLists : Type 0
 RunsAreOfWholeLists = (cs : List Command) (past : List Entry) → IsRunOf cs past
     → AreCallsOf cs (finished past) × ((op : Act) → opening past ≡ Some op → program_call cs (finished past) ≡ Some op)

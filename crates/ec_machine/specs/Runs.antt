@@ -24,7 +24,7 @@ abbrev pub number_after : ℕ → Reply → ℕ
 number_after last (Number n) = n
 number_after last _ = last
 
--- the number that was told last, by these finished calls, or before them
+-- the number that was told last, by these completed calls, or before them
 abbrev pub last_number : ℕ → List Told → ℕ
 last_number last [] = last
 last_number last (c ∷ calls) = last_number (number_after last c.reply) calls
@@ -34,7 +34,7 @@ abbrev pub one_call : Act → List Told → Option Act
 one_call act [] = Some act
 one_call act (c ∷ calls) = None
 
--- the call that comes after these finished calls of a command, or none
+-- the call that comes after these completed calls of a command, or none
 abbrev pub command_call : ℕ → Command → List Told → Option Act
 command_call last (Advance e) = one_call (acts.Advance e)
 command_call last (Read e) = one_call (acts.Read e)
@@ -52,8 +52,8 @@ command_call last (Up s) = up_call s
 command_call last (DownBoth common one other) = down_both_call common one other
 command_call last (Repeat' n shape block) = λ calls. None
 
--- a place in a program: the commands that are not done, the last number told before the first of them, and the finished calls of
--- that one
+-- a place in a program: the commands that are not done, the last number told before the first of them, and the completed calls
+-- of that one
 pub record Place : Type 0 where
   pub left : List Command
   pub last : ℕ
@@ -78,7 +78,7 @@ moved (c ∷ cs) last told =
     then record { left = c ∷ cs; last = last; told = told }
     else record { left = cs; last = last_number last told; told = [] }
 
--- the place after one more finished call
+-- the place after one more completed call
 abbrev pub after_call : Place → Told → Place
 after_call p c = moved p.left p.last (p.told ++ c ∷ [])
 
@@ -86,7 +86,7 @@ unfoldable pub place_after : Place → List Told → Place
 place_after p [] = p
 place_after p (c ∷ calls) = place_after (after_call p c) calls
 
--- the written list of a program: the call that comes after these finished calls, or none
+-- the written list of a program: the call that comes after these completed calls, or none
 abbrev pub program_call : List Command → List Told → Option Act
 program_call cs calls = next_call (place_after (start cs) calls)
 

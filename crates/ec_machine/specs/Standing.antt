@@ -36,8 +36,8 @@ is_refused m = is_set m.outcome
 abbrev pub act_of : Machine → Option Act
 act_of m = next_of (task_going m.task) (task_rest m.task [])
 
--- the machine stands for a run of the program: the last number, and, where nothing ended it from outside, its outcome, the call
--- under way and the calls that are left, are those after these steps
+-- the machine stands for a run of the program: the last number, and, where nothing ended it from outside, its outcome, the
+-- pending call and the calls that are left, are those after these steps
 pub record StandsFor (cs : List Command) (m : Machine) (past : List Entry) : Type 0 where
   pub run : IsRunOf cs past
   pub last : m.last ≡ last_number 0 (finished past)

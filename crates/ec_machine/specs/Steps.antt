@@ -10,18 +10,18 @@ use Rattle.ec_core.specs.Calls.{is_pending}
 use Rattle.ec_core.specs.Following.{Told}
 use Rattle.ec_core.specs.Procedures.{next_of}
 
--- the act that began the call that an act is part of, where this one began the call under way
+-- the act that began the call that an act is part of, where this one began the pending call
 abbrev pub begun_by : Act → Option Act → Act
 begun_by Go None = Go
 begun_by Go (Some op) = op
 begun_by act o = act
 
--- the act that began the call under way, if one is
+-- the act that began the pending call, if one is
 unfoldable pub opening : List Entry → Option Act
 opening [] = None
 opening (x ∷ past) = if is_pending x.reply then Some (begun_by x.act (opening past)) else None
 
--- the finished calls, in order
+-- the completed calls, in order
 unfoldable pub finished : List Entry → List Told
 finished [] = []
 finished (x ∷ past) =
@@ -29,12 +29,12 @@ finished (x ∷ past) =
     then finished past
     else finished past ++ record { op = begun_by x.act (opening past); reply = x.reply } ∷ []
 
--- the act that a written list of calls has next: Go where a call is under way
+-- the act that a written list of calls has next: Go where a call is pending
 abbrev pub due_after : (List Told → Option Act) → List Entry → Option Act
 due_after list past = next_of (is_some (opening past)) (list (finished past))
 
--- each step is the one that the list has next after those before it: the calls are a beginning of the list, and a call under
--- way is the next one
+-- each step is the one that the list has next after those before it: the calls are a beginning of the list, and a pending
+-- call is the next one
 unfoldable pub IsRun : (List Told → Option Act) → List Entry → Type 0
 IsRun list [] = Unit {0}
 IsRun list (x ∷ past) = (due_after list past ≡ Some x.act) × IsRun list past

@@ -1,4 +1,5 @@
--- The numbers that a command's values mean, where `last` is the number of the last finished call that answered one.
+-- The numbers that a command's values mean, where `last` is the number of the last completed call that answered
+-- one.
 use Rattle.std.specs.Prelude.{ℕ, ◌+◌, Bool, false, nat_lt, List, map}
 use Rattle.std.specs.List.{list_any}
 use Rattle.ec_core.specs.declared.act.TheConstants.{VALUE_MAX}

@@ -9,7 +9,7 @@ use ec_semaphore::SemaphoreShape;
 pub enum Value {
     /// This number, of at most VALUE_MAX.
     Number(u64),
-    /// The number that the worker's last finished call answered, of those that answered one, calls
+    /// The number that the worker's last completed call answered, of those that answered one, calls
     /// of procedures among them; 0 before any.
     Last,
     /// That number and so many more, from 1 to VALUE_MAX.

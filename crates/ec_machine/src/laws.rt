@@ -2,21 +2,21 @@
 ghost use Rattle.ec_machine.specs.Joined.{RunsMeanWholeLists, FollowingMeansWholeLists};
 ghost use Rattle.ec_machine.specs.Laws.{RunsAreOfWholeLists, OwnStepsAreCut, BeginningsAreRuns};
 
-/// States that in a run of a program the finished calls are whole lists of calls joined end to end,
-/// one for each command from the first on, the repeats written out, and then the beginning of the
-/// list of the command that follows; the call under way is the one that comes next.
+/// States that in a run of a program the completed calls are whole lists of calls joined end to
+/// end, one for each command from the first on, the repeats written out, and then the beginning of
+/// the list of the command that follows; the pending call is the one that comes next.
 pub fn runs_are_of_whole_lists()
     ensures { RunsAreOfWholeLists }
 {}
 
-/// Steps are a run of a program exactly where their finished calls are such lists, and the call under
-/// way is the one that comes next.
+/// Steps are a run of a program exactly where their completed calls are such lists, and the pending
+/// call is the one that comes next.
 pub fn runs_mean_whole_lists()
     ensures { RunsMeanWholeLists }
 {}
 
 /// States that in an accepted history the entries of a worker follow its program exactly where its
-/// finished calls are such lists, and its call under way is the one that comes next.
+/// completed calls are such lists, and its pending call is the one that comes next.
 pub fn following_means_whole_lists()
     ensures { FollowingMeansWholeLists }
 {}

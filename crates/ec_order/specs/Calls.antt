@@ -1,4 +1,4 @@
--- Finished calls. A worker's entries are cut, in order, into calls: a read or an await goes on with that worker's
+-- Completed calls. A worker's entries are cut, in order, into calls: a read or an await goes on with that worker's
 -- following goes, up to its first entry whose reply is not Pending; every other act is a call of one entry. A call is
 -- finished where its last reply is not Pending. A past is the list of the entries before a moment, the newest first.
 use Rattle.std.specs.Prelude.{◌≡◌, ℕ, ◌-◌, Bool, true, false, not, ◌&&◌, List, [], ◌∷◌, ◌++◌, length, Option, Some, None, if◌then◌else◌}
@@ -48,7 +48,7 @@ abbrev pub ended_by : Tables → Entry → Option CallSoFar → List Call
 ended_by t x None = []
 ended_by t x (Some call) = if is_pending x.reply then [] else call_of_entries t x call.op call.moments ∷ []
 
--- the finished calls of a past, in order of their last entries
+-- the completed calls of a past, in order of their last entries
 unfoldable pub finished_calls : Tables → List Entry → List Call
 finished_calls t [] = []
 finished_calls t (x ∷ past) = finished_calls t past ++ ended_by t x (gone_on x.act past (under_way x.worker past))
@@ -65,6 +65,6 @@ pub record EndsCall (t : Tables) (past : List Entry) (x : Entry) (told : Option 
   pub call : ended_by t x (call_with x past) ≡ option_to_list told
   pub after : AreCalls t calls (x ∷ past)
 
--- the same after any past that has the calls under way before it, where the entry stands at position i
+-- the same after any past that has the pending calls before it, where the entry stands at position i
 pub record Ending (before : List (Option Ongoing)) (i : ℕ) (x : Entry) (told : Option Call) (calls : List (Option Ongoing)) (t : Tables) : Type 0 where
   pub ends : (past : List Entry) → IsAccepted t past → i ≡ length past → AreCalls t before past → EndsCall t past x told calls

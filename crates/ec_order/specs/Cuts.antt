@@ -1,4 +1,4 @@
--- What a finished call is, read off a history in its natural order: the oldest entry first.
+-- What a completed call is, read off a history in its natural order: the oldest entry first.
 use Rattle.std.specs.Prelude.{◌≡◌, ℕ, ◌+◌, ◌*◌, ◌<◌, ◌≤◌, false, ◌==◌, List, Some, slice_get, count_by, MatchBool}
 use Rattle.ec_count.specs.Tables.{Tables}
 use Rattle.ec_core.specs.declared.act.Act.TheVariants.{Go}

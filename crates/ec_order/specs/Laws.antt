@@ -17,7 +17,8 @@ use Rattle.ec_order.specs.Orders.{IsLegalOrder, calls_in}
 use Rattle.ec_order.specs.Points.{IsPoint, point_of, ordered_by_points}
 use Rattle.ec_order.specs.Verdicts.{IsGood}
 
--- the finished calls are exactly the calls that the worker's entries are cut into, in order of their last entries
+-- the completed calls are exactly the calls that the worker's entries are cut into, in order of their last
+-- entries
 pub record AreFinishedCalls (t : Tables) (h : List Entry) (cs : List Call) : Type 0 where
   pub each : (c : Call) → Contains cs c → IsFinishedCall t h c
   pub every : (c : Call) → IsFinishedCall t h c → Contains cs c
@@ -34,12 +35,13 @@ told_of c = record { op = c.op; reply = c.reply }
 abbrev pub told_by : ℕ → List Call → List Told
 told_by w calls = map told_of (filter (λ c. c.worker == w) calls)
 
--- the calls of a worker that protocols speak of, when they say that a history follows them, are its finished calls here
+-- the calls of a worker that protocols speak of, when they say that a history follows them, are its completed calls
+-- here
 abbrev pub ProtocolsSpeakOfTheseCalls : Type 0
 ProtocolsSpeakOfTheseCalls = (t : Tables) (h : List Entry) (w : ℕ) → IsAccepted t (reverse h)
     → told_by w (finished_calls t (reverse h)) ≡ finished_by w (reverse h)
 
--- each finished call has its point
+-- each completed call has its point
 abbrev pub PointsExist : Type 0
 PointsExist = (t : Tables) (h : List Entry) (c : Call) → IsDeclared t → IsAccepted t (reverse h)
     → Contains (finished_calls t (reverse h)) c → IsPoint h c (point_of (reverse h) c)
@@ -51,7 +53,8 @@ pub record StoodBetween (h : List Entry) (c : Call) : Type 0 where
   pub to_last : moment ≤ c.last
   pub total_is : total (event_or c.op) (past_at moment h) ≡ number_of c.reply
 
--- the order by points is a legal order of the finished calls, in which each stands with its point
+-- the order by points is a linearization of the completed calls, in which each stands with its
+-- point
 abbrev pub OrderByPointsIsGood : Type 0
 OrderByPointsIsGood = (t : Tables) (h : List Entry) → IsDeclared t → IsAccepted t (reverse h) → IsGood t (reverse h) (ordered_by_points t (reverse h))
 
@@ -59,8 +62,8 @@ OrderByPointsIsGood = (t : Tables) (h : List Entry) → IsDeclared t → IsAccep
 abbrev pub ComesFirst : Placed → Placed → Type 0
 ComesFirst p q = (p.point < q.point) ⊎ ((p.point ≡ q.point) × (is_reading p.call.op ≡ true) × ((is_reading q.call.op ≡ false) ⊎ (p.call.last < q.call.last)))
 
--- the places are exactly the finished calls with their points, and each comes before each later one; so no call stands
--- twice, since a call has one point, and no place comes before itself
+-- the places are exactly the completed calls with their points, and each comes before each later one; so no call
+-- stands twice, since a call has one point, and no place comes before itself
 pub record AreFinishedCallsByPoints (t : Tables) (h : List Entry) (ps : List Placed) : Type 0 where
   pub each : (p : Placed) → Contains ps p → IsFinishedCall t h p.call × IsPoint h p.call p.point
   pub every : (p : Placed) → IsFinishedCall t h p.call → IsPoint h p.call p.point → Contains ps p
@@ -74,8 +77,8 @@ OrderByPointsAscends = (t : Tables) (h : List Entry) → IsDeclared t → IsAcce
 abbrev pub OrderByPointsIsTheOnlyOne : Type 0
 OrderByPointsIsTheOnlyOne = (t : Tables) (h : List Entry) (ps : List Placed) → IsDeclared t → IsAccepted t (reverse h) → AreFinishedCallsByPoints t h ps → ps ≡ ordered_by_points t (reverse h)
 
--- a list of the finished calls, each once, that keeps every finished-before pair and is a run of the sequential
--- object: the one by points; and for every finished read or await a moment at which the total was its answer
+-- a list of the completed calls, each once, that keeps real-time order and is a run of the sequential object:
+-- the one by points; and for every completed read or await a moment at which the total was its answer
 pub record HasAnOrder (t : Tables) (h : List Entry) : Type 0 where
   pub order : List Call
   pub by_points : order ≡ calls_in (ordered_by_points t (reverse h))

@@ -1,4 +1,5 @@
--- Points: the moment at which a call counts as made, and the order of the finished calls by their points.
+-- Points: the moment at which a call counts as made, and the order of the completed calls by their
+-- points.
 use Rattle.std.specs.Prelude.{◌≡◌, ◌≢◌, ℕ, ◌+◌, ◌-◌, ◌<◌, ◌≤◌, Bool, ◌==◌, ◌&&◌, nat_le, not, List, zero, suc, [], ◌∷◌, ◌++◌, length, map, if◌then◌else◌, MatchBool}
 use Rattle.std.specs.List.{filter}
 use Rattle.ec_count.specs.Tables.{Tables}
@@ -62,7 +63,7 @@ unfoldable pub by_moments : List Placed → ℕ → List Placed
 by_moments ps zero = []
 by_moments ps (suc k) = by_moments ps k ++ at_moment ps k
 
--- the finished calls by point. At one point the reads and awaits come before the other call at that position, and
--- among themselves they go by their last entries, as the finished calls are listed
+-- the completed calls by point. At one point the reads and awaits come before the other call at that position,
+-- and among themselves they go by their last entries, as the completed calls are listed
 abbrev pub ordered_by_points : Tables → List Entry → List Placed
 ordered_by_points t past = by_moments (map (with_point past) (finished_calls t past)) (length past)

@@ -1,6 +1,6 @@
 -- The advances of each eventcount, as a walk over a history keeps them for the points of its calls. The point of a read or an await is no
 -- earlier than the start of its last round, and so of an advance that came before the call no more than the number matters to it. The
--- moment after an advance is kept only while a read or an await of the eventcount is under way.
+-- moment after an advance is kept only while a read or an await of the eventcount is pending.
 use Rattle.std.specs.Prelude.{◌≡◌, ℕ, ◌+◌, ◌-◌, ◌^◌, ◌<◌, ◌≤◌, ◌==◌, Bool, true, false, nat_le, List, [], ◌∷◌, ◌++◌, length, Option, Some, None, if◌then◌else◌, slice_get, slice_index, slice_index_or}
 use Rattle.std.specs.Option.{option_to_list}
 use Rattle.ec_count.specs.Tables.{Tables, IsDeclared}
@@ -18,7 +18,7 @@ use Rattle.ec_order.specs.Points.{point_of}
 use Rattle.ec_order.specs.Walk.{is_alone}
 
 -- of one eventcount: how many advances came before those whose moments are kept, the moments after these, and how many reads and
--- awaits of it are under way
+-- awaits of it are pending
 pub record Raised : Type 0 where
   pub before : ℕ
   pub moments : List ℕ
@@ -33,11 +33,11 @@ pub record IsRaisedOnce (old : Raised) (moment : ℕ) (new : Raised) : Type 0 wh
   pub unread : old.readers ≡ 0 → old.before + 1 < 2 ^ 64 → new ≡ record old { before = old.before + 1 }
   pub read : 0 < old.readers → new ≡ record old { moments = old.moments ++ moment ∷ [] }
 
--- one more read or await is under way
+-- one more read or await is pending
 pub record IsBegun (old new : Raised) : Type 0 where
   pub readers : old.readers < 255 → new ≡ record old { readers = old.readers + 1 }
 
--- one of those under way has ended: with the last one the moments go
+-- one of those pending has ended: with the last one the moments go
 pub record IsLeft (old new : Raised) : Type 0 where
   pub others : 1 < old.readers → new ≡ record old { readers = old.readers - 1 }
   pub last : old.readers ≡ 1 → old.before + length old.moments < 2 ^ 64 → new ≡ record { before = old.before + length old.moments; moments = []; readers = 0 }
@@ -55,7 +55,7 @@ abbrev pub reads_event : ℕ → Option CallSoFar → Bool
 reads_event e None = false
 reads_event e (Some call) = is_reading_of e call.op
 
--- how many of the workers have a read or an await of e under way after a past
+-- how many of the workers have a read or an await of e pending after a past
 abbrev pub readers : ℕ → List Entry → ℕ
 readers e past = sum_to (λ w. if reads_event e (under_way w past) then 1 else 0) 16
 
@@ -63,8 +63,8 @@ readers e past = sum_to (λ w. if reads_event e (under_way w past) then 1 else 0
 abbrev pub opening_past : CallSoFar → List Entry
 opening_past call = slice_index_or call.moments (length call.moments - 1) []
 
--- so are the advances of e kept after a past: those whose moments are gone were made before any read or await of e that is under
--- way began
+-- so are the advances of e kept after a past: those whose moments are gone were made before any read or await of e that is
+-- pending began
 pub record IsRaised (e : ℕ) (past : List Entry) (k : Raised) : Type 0 where
   pub gone : List ℕ
   pub all : advanced e past ≡ gone ++ k.moments
@@ -79,7 +79,7 @@ AreRaised kept past = (e : ℕ) → e < 32 → (k : Raised) × (slice_get kept e
 
 -- WITH ONE MORE ENTRY
 
--- the eventcount that a call with this opening was under way on, where an entry with this act ends it: one that is told at once never was
+-- the eventcount that a call with this opening was pending on, where an entry with this act ends it: one that is told at once never was
 abbrev pub left_of : Act → Act → Option ℕ
 left_of Go op = read_of op
 left_of _ op = None

@@ -1,4 +1,5 @@
--- The finished calls of a history by their points, as they are gathered while the history goes past.
+-- The completed calls of a history by their points, as they are gathered while the history goes
+-- past.
 use Rattle.std.specs.Prelude.{◌≡◌, ℕ, ◌+◌, ◌≤◌, Bool, true, false, not, nat_lt, List, [], ◌∷◌, length, map, reverse, Option, if◌then◌else◌}
 use Rattle.std.specs.List.{filter}
 use Rattle.ec_count.specs.Tables.{Tables}
@@ -26,20 +27,20 @@ dated p = record { point = p.point; entry = call_entry p.call }
 abbrev pub dated_point : Dated → ℕ
 dated_point d = d.point
 
--- these tell a good order of the finished calls of a past
+-- these tell a good order of the completed calls of a past
 pub record TellsGood (t : Tables) (past : List Entry) (calls : List Dated) : Type 0 where
   pub placed : List Placed
   pub told : calls ≡ map dated placed
   pub good : IsGood t past placed
 
--- the finished calls of a past by their points, told so
+-- the completed calls of a past by their points, told so
 abbrev pub dated_by_points : Tables → List Entry → List Dated
 dated_by_points t past = map dated (ordered_by_points t past)
 
 -- WHAT IS KEPT
 
--- of the declarations: the calls under way; the advances of each eventcount, of which the moments are kept of those alone that were
--- made while a read or an await of it is under way; of each entry whether it is a whole call, those that are, the finished reads and
+-- of the declarations: the pending calls; the advances of each eventcount, of which the moments are kept of those alone that were
+-- made while a read or an await of it is pending; of each entry whether it is a whole call, those that are, the completed reads and
 -- awaits of more entries by their points, and whether memory was refused for one
 pub record Timed : Type 0 where
   pub setup : Tables
@@ -54,7 +55,7 @@ pub record Timed : Type 0 where
 abbrev pub is_long : Placed → Bool
 is_long p = nat_lt p.call.first p.call.last
 
--- the finished reads and awaits of more than one entry, by their last entries
+-- the completed reads and awaits of more than one entry, by their last entries
 abbrev pub long_readings : Tables → List Entry → List Placed
 long_readings t past = filter is_long (readings t past)
 

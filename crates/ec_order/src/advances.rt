@@ -10,7 +10,8 @@ use ec_core::Act;
 use std::alloc::{AllocError, Global};
 use std::marker::Model;
 
-/// The advances of each eventcount so far: what the points of the calls want that are under way, or begin later.
+/// The advances of each eventcount so far: what the points of the calls want that are pending, or
+/// begin later.
 #[derive(Drop)]
 pub(crate) struct Advances {
     events: Vec<Raised>,
@@ -95,7 +96,7 @@ fn read_by(act: Act) -> Option<usize>
     }
 }
 
-/// Returns the eventcount that a call was under way on, by the act that ends it and the one that
+/// Returns the eventcount that a call was pending on, by the act that ends it and the one that
 /// began it: a call that is told at once never was.
 fn left_by(act: Act, op: Act) -> Option<usize>
     ensures value { result ≡ left_of act op }

@@ -55,7 +55,7 @@ fn first_unset(marks: &[bool]) -> Option<usize>
 }
 
 /// Returns the first fault, by one walk over the places: the calls at them are looked up among the
-/// finished calls by their last entries, marked when they are met, and run on the sequential
+/// completed calls by their last entries, marked when they are met, and run on the sequential
 /// object.
 fn judge(alloc: Global, run: &Run, placed: &[Placed]) -> Result<Verdict, AllocError>
     ensures { IfOk result (λ v.
@@ -95,8 +95,8 @@ fn judge(alloc: Global, run: &Run, placed: &[Placed]) -> Result<Verdict, AllocEr
     }
 }
 
-/// Returns whether a list is a legal order of the finished calls of a run, each with its point, and
-/// else what is first wrong. The run is as before, with want of memory too.
+/// Returns whether a list is a linearization of the completed calls of a run, each with its point,
+/// and else what is first wrong. The run is as before, with want of memory too.
 pub fn verify(alloc: Global, run: &Run, placed: &[Placed]) -> Result<Verdict, AllocError>
     ensures verdict { IfOk result (λ v.
         IsVerdict run.now.setup (reverse run.now.entries) placed.now v) }

@@ -1,7 +1,8 @@
-//! Finished calls as a text tells them.
+//! Completed calls as a text tells them.
 use ec_core::Entry;
 
-/// A finished call and its point, told as one entry: its worker, the act that began it, and the reply that ended it.
+/// A completed call and its point, told as one entry: its worker, the act that began it, and the
+/// reply that ended it.
 #[derive(Clone, Copy, Debug, PartialEq, Eq)]
 pub struct Dated {
     /// The point, as that of a `Placed`.

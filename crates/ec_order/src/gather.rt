@@ -1,4 +1,4 @@
-//! The finished reads and awaits of a run by their points.
+//! The completed reads and awaits of a run by their points.
 ghost use Rattle.std.specs.Prelude.{◌≡◌, reverse, IfOk};
 ghost use Rattle.ec_order.specs.Walk.{is_alone, readings_by_points};
 
@@ -21,7 +21,7 @@ pub(crate) fn is_alone(act: Act) -> bool
     }
 }
 
-/// Returns the finished reads and awaits of a run by their points, and at one point by their last
+/// Returns the completed reads and awaits of a run by their points, and at one point by their last
 /// entries, in one scan: by the end of a call all advances that its answer counts have been noted.
 pub(crate) fn readings_by_points<'a>(
     alloc: Global,

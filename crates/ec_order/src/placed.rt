@@ -1,8 +1,9 @@
 //! Calls in an order.
 use crate::Call;
 
-/// A finished call and its point: the moment at which it counts as made. Moment k is the one at which the first k
-/// entries of the run have happened, so that the entry at position k happens right after it.
+/// A completed call and its point: the moment at which it counts as made. Moment k is the one at
+/// which the first k entries of the run have happened, so that the entry at position k happens
+/// right after it.
 #[derive(Clone, Copy, Debug, PartialEq, Eq)]
 pub struct Placed {
     /// The call.

@@ -6,9 +6,9 @@ use ec_numbers::NumberList;
 use std::alloc::{AllocError, Global};
 use std::marker::Model;
 
-/// The advances of one eventcount: how many came before those whose moments are kept, the moments after these, and how many reads
-/// and awaits of it are under way. A moment is kept only while such a call is under way. (The numbers saturate: in an accepted history
-/// none comes to its greatest.)
+/// The advances of one eventcount: how many came before those whose moments are kept, the moments
+/// after these, and how many reads and awaits of it are pending. A moment is kept only while such a
+/// call is pending. (The numbers saturate: in an accepted history none comes to its greatest.)
 #[derive(Drop)]
 pub(crate) struct Raised {
     before: usize,
@@ -25,7 +25,7 @@ impl Model for Raised {
 }
 
 impl Raised {
-    /// Makes a log with no advance, and no call under way.
+    /// Makes a log with no advance, and no pending call.
     pub(crate) fn new(alloc: Global) -> Self
         ensures { result ≡ record { before = 0; moments = []; readers = 0 } }
     {
@@ -49,15 +49,15 @@ impl Raised {
         keep(&mut self.moments, moment)
     }
 
-    /// Counts one more read or await that is under way.
+    /// Counts one more read or await that is pending.
     pub(crate) fn begin(&mut self)
         ensures { IsBegun self.old self.new }
     {
         self.readers = self.readers.saturating_add(1);
     }
 
-    /// Ends a read or an await that was under way. With the last one the moments go, and the room
-    /// for them is used again.
+    /// Ends a read or an await that was pending. With the last one the moments go, and the room for
+    /// them is used again.
     pub(crate) fn end(&mut self)
         ensures { IsLeft self.old self.new }
     {

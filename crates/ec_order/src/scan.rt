@@ -1,4 +1,4 @@
-//! The finished calls of a run.
+//! The completed calls of a run.
 ghost use Rattle.std.specs.Prelude.{◌≡◌, true, None, not, count_by, reverse, IfOk};
 ghost use Rattle.ec_core.specs.Calls.{is_pending};
 ghost use Rattle.ec_core.specs.declared.act.Entry.{Entry};
@@ -72,7 +72,7 @@ pub(crate) fn finished_count(run: &Run) -> usize
     count
 }
 
-/// Returns the finished calls of a run, by their last entries. The run is as before, with want of
+/// Returns the completed calls of a run, by their last entries. The run is as before, with want of
 /// memory too.
 pub fn calls(alloc: Global, run: &Run) -> Result<Vec<Call>, AllocError>
     ensures { IfOk result (λ cs.

@@ -1,4 +1,4 @@
-//! The finished calls of a history by their points, gathered while the history goes past.
+//! The completed calls of a history by their points, gathered while the history goes past.
 ghost use Rattle.std.specs.Prelude.{◌≡◌, ◌+◌, ◌<◌, ◌^◌, true, false, List, [], Some, IfOk, IfSome, OnOk};
 ghost use Rattle.ec_core.specs.declared.act.Entry.{Entry};
 ghost use Rattle.ec_core.specs.Acceptance.{IsAccepted};
@@ -18,10 +18,11 @@ use ec_count::Setup;
 use std::alloc::{AllocError, Global};
 use std::marker::Model;
 
-/// The finished calls of a history by their points, gathered while the history goes past: each entry is handed to it once, by
-/// `take`. Of a call of one entry, as each advance is, and each read that is told at once, it keeps that entry; of a finished read or await
-/// of more entries one entry that tells it, and its point; and of every entry one bit. The moment of an advance is kept only while a read
-/// or an await of its eventcount is under way.
+/// The completed calls of a history by their points, gathered while the history goes past: each
+/// entry is handed to it once, by `take`. Of a call of one entry, as each advance is, and each read
+/// that is told at once, it keeps that entry; of a completed read or await of more entries one
+/// entry that tells it, and its point; and of every entry one bit. The moment of an advance is kept
+/// only while a read or an await of its eventcount is pending.
 #[derive(Drop)]
 pub struct Timeline<'a> {
     setup: &'a Setup,
@@ -128,8 +129,8 @@ impl<'a> Timeline<'a> {
         }
     }
 
-    /// Returns the finished calls after the entries so far, by their points, one after another: a
-    /// legal order of them. `Err` if memory was refused for one of the entries.
+    /// Returns the completed calls after the entries so far, by their points, one after another: a
+    /// linearization of them. `Err` if memory was refused for one of the entries.
     pub fn calls(&self) -> Result<InTime<'_>, OrderFault>
         ensures value { (past : List Entry) → IsTimeline self.now past → IsAccepted self.now.setup past → IfOk result (λ calls. calls ≡ dated_by_points self.now.setup past) }
         ensures good { (past : List Entry) → IsTimeline self.now past → IsAccepted self.now.setup past → IfOk result (λ calls. TellsGood self.now.setup past calls) }
@@ -190,7 +191,8 @@ fn due(
     Some(dated)
 }
 
-/// Finished calls by their points, one after another. A contract sees it as the list of those that are left.
+/// Completed calls by their points, one after another. A contract sees it as the list of those that
+/// are left.
 #[derive(Drop)]
 pub struct InTime<'a> {
     marks: MarksLeft<'a>,

@@ -4,10 +4,10 @@
 /// place, and the first that holds there in the order below.
 #[derive(Clone, Copy, Debug, PartialEq, Eq)]
 pub enum Verdict {
-    /// Each finished call is there once, in a legal order, with its point.
+    /// Each completed call is there once, in a linearization, with its point.
     Good,
-    /// The call at this place is no finished call of the run; or this is the length of the list, whose places are all
-    /// right, and a finished call is not in it.
+    /// The call at this place is no completed call of the run; or this is the length of the list,
+    /// whose places are all right, and a completed call is not in it.
     Missing(usize),
     /// The call at this place stands at an earlier place too.
     Repeated(usize),

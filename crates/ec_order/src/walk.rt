@@ -1,4 +1,4 @@
-//! The finished calls of a run by their points, one after another.
+//! The completed calls of a run by their points, one after another.
 ghost use Rattle.std.specs.Prelude.{◌≡◌, reverse, IfOk};
 ghost use Rattle.std.specs.Option.{option_to_list};
 ghost use Rattle.ec_order.specs.Points.{ordered_by_points};
@@ -12,8 +12,9 @@ use ec_core::{Entries, Entry, Run};
 use std::alloc::Global;
 use std::marker::Model;
 
-/// The finished calls of a run by their points, one after another. Of them it holds the reads and awaits alone: the
-/// others are read off the entries as it comes to them. A contract sees it as the list of those that are left.
+/// The completed calls of a run by their points, one after another. Of them it holds the reads and
+/// awaits alone: the others are read off the entries as it comes to them. A contract sees it as the
+/// list of those that are left.
 #[derive(Drop)]
 pub struct InOrder<'a> {
     entries: Entries<'a>,
@@ -82,10 +83,10 @@ impl<'a> Iterator for InOrder<'a> {
     }
 }
 
-/// Returns the finished calls of a run by their points, as `order` lists them, one after another: a
-/// legal order of them, whatever the run. It keeps memory for the reads and awaits alone; while it
-/// looks through the run it also wants a number for each advance that is made while a read or an
-/// await of its eventcount is under way. The run is as before, with want of memory too.
+/// Returns the completed calls of a run by their points, as `order` lists them, one after another:
+/// a linearization of them, whatever the run. It keeps memory for the reads and awaits alone; while
+/// it looks through the run it also wants a number for each advance that is made while a read or an
+/// await of its eventcount is pending. The run is as before, with want of memory too.
 pub fn in_order(alloc: Global, run: &Run) -> Result<InOrder<'_>, OrderFault>
     ensures value { IfOk result (λ calls.
         calls ≡ ordered_by_points run.now.setup (reverse run.now.entries)) }

@@ -1,4 +1,4 @@
--- A board: a run, a seat for each worker, and a flag that is set once all who are live wait.
+-- A board: a run, a seat for each worker, and a flag that is set once all who are active wait.
 use Rattle.std.specs.Prelude.{◌≡◌, ℕ, ◌<◌, Bool, true, ◌==◌, ◌&&◌, ◌||◌, not, nat_lt, List, [], ◌∷◌, ◌++◌, reverse, Option, Some, None, if◌then◌else◌, slice_get, slice_set, Result}
 use Rattle.std.specs.Option.{option_and_then}
 use Rattle.ec_count.specs.Tables.{Tables}
@@ -44,21 +44,21 @@ abbrev pub unmet : List Entry → Option Wait → Option Wait
 unmet past None = None
 unmet past (Some a) = if nat_lt (total a.event past) a.threshold then Some a else None
 
--- what a live worker has to wait for; nothing where it may go on
+-- what an active worker has to wait for; nothing where it may go on
 abbrev pub wait_of : Boarded → ℕ → Option Wait
 wait_of b w = if is_live (seat_of b.seats w) then unmet (past_of b.run) (awaited b.run.setup w (past_of b.run)) else None
 
--- THE WAITERS, among those who are live. Who is live is a declared worker. A waiter has a seat and so is live; its latest
--- entry ended a round of an await that fell short; and the total is still below its threshold. Where the flag is set
--- every live worker is a waiter.
+-- THE WAITERS, among those who are active. Who is active is a declared worker. A waiter has a seat and so is active; its
+-- latest entry ended a round of an await that fell short; and the total is still below its threshold. Where the flag is
+-- set every active worker is a waiter.
 pub record AreWaiters (b : Boarded) : Type 0 where
   pub declared : (w : ℕ) → is_live (seat_of b.seats w) ≡ true → w < b.run.setup.workers
   pub short : (w e v : ℕ) → slice_get b.seats w ≡ Some (Waiting e v) → awaited b.run.setup w (past_of b.run) ≡ Some (record { event = e; threshold = v })
   pub above : (w e v : ℕ) → slice_get b.seats w ≡ Some (Waiting e v) → total e (past_of b.run) < v
   pub all : b.stuck ≡ true → every_live_waits b.seats ≡ true
 
--- the board where w has another seat: the flag is set where now some worker is live and every live worker waits, and is
--- never cleared
+-- the board where w has another seat: the flag is set where now some worker is active and every active worker waits,
+-- and is never cleared
 abbrev pub with_seat : Boarded → ℕ → Seat → Boarded
 with_seat b w seat =
     let seats = slice_set b.seats w seat in
@@ -74,7 +74,7 @@ after_entry b x =
 abbrev pub has_left : Boarded → ℕ → Bool
 has_left b w = nat_lt w b.run.setup.workers && not (is_live (seat_of b.seats w))
 
--- whether w makes no more steps: all are stuck, or it has left
+-- whether w makes no more steps: all are deadlocked, or it has left
 abbrev pub is_stopped : Boarded → ℕ → Bool
 is_stopped b w = b.stuck || has_left b w
 

@@ -34,7 +34,8 @@ abbrev pub IsAtEnd : Option Asked → Recorded → Type 0
 IsAtEnd None run = ⊥
 IsAtEnd (Some a) run = a.moment ≡ length run.entries
 
--- the run bears out why the program of w was cut off. Who is stopped is so where the board is stuck, so at the end of the run
+-- the run bears out why the program of w was cut off. Who is stopped is so where the board is deadlocked, so at the end of
+-- the run
 abbrev pub IsBorneOut : Outcome → Recorded → ℕ → Option Asked → Type 0
 IsBorneOut (outcomes.Refused r) run w asked = WasRefusedSo run w r asked
 IsBorneOut outcomes.Stopped run w asked = IsAtEnd asked run × IsCaught run w

@@ -20,7 +20,7 @@ use Rattle.ec_runner.specs.declared.run_fault.RunFault.{RunFault}
 use Rattle.ec_runner.specs.declared.run_fault.RunFault.TheVariants as faults
 use Rattle.ec_runner.specs.Boarded.{past_of, awaited}
 
--- the call of w that is under way at the end is an await that has just fallen short, and its threshold is above the total
+-- the call of w that is pending at the end is an await that has just fallen short, and its threshold is above the total
 pub record IsCaught (run : Recorded) (w : ℕ) : Type 0 where
   pub wait : Wait
   pub short : awaited run.setup w (past_of run) ≡ Some wait

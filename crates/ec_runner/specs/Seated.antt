@@ -8,7 +8,7 @@ use Rattle.ec_core.specs.Counts.{total}
 use Rattle.ec_runner.specs.declared.seat.Seat.{Seat}
 use Rattle.ec_runner.specs.declared.seat.Seat.TheVariants.{Gone, Running, Waiting}
 
--- a worker is live until it leaves
+-- a worker is active until it leaves
 abbrev pub is_live : Seat → Bool
 is_live Gone = false
 is_live Running = true
@@ -28,11 +28,11 @@ is_running (Waiting e v) = false
 abbrev pub seat_of : List Seat → ℕ → Seat
 seat_of seats w = unwrap_or (slice_get seats w) Gone
 
--- every live worker is a waiter: none is live that doesn't wait
+-- every active worker is a waiter: none is active that doesn't wait
 abbrev pub every_live_waits : List Seat → Bool
 every_live_waits seats = not (list_any is_running seats)
 
--- some worker is live, and every live worker is a waiter
+-- some worker is active, and every active worker is a waiter
 abbrev pub is_stuck_in : List Seat → Bool
 is_stuck_in seats = list_any is_live seats && every_live_waits seats
 

@@ -21,7 +21,7 @@ use thiserror::Error;
 /// as before.
 #[derive(Clone, Copy, Debug, PartialEq, Eq, Error)]
 pub enum BoardFault {
-    /// The board is stuck, or the worker is a declared one that has left.
+    /// The board is deadlocked, or the worker is a declared one that has left.
     #[error("the worker is stopped")]
     Stopped,
     /// The step is refused.
@@ -35,7 +35,7 @@ pub enum BoardFault {
 /// What a worker that would wait is told.
 #[derive(Clone, Copy, Debug, PartialEq, Eq)]
 pub enum Parked {
-    /// Every live worker waits, for good.
+    /// Every active worker waits, for good.
     Stuck,
     /// There is nothing to wait for.
     Ready,
@@ -43,9 +43,9 @@ pub enum Parked {
     Asleep,
 }
 
-/// A run, who of its workers is live, who of them waits and for what, and whether all that are live
-/// wait. A waiter has begun an await whose last round fell short, and the total is still below its
-/// threshold.
+/// A run, who of its workers is active, who of them waits and for what, and whether all that are
+/// active wait. A waiter has begun an await whose last round fell short, and the total is still
+/// below its threshold.
 #[derive(Drop)]
 pub struct Board {
     run: Run,
@@ -70,7 +70,7 @@ impl Board {
     ghost use Rattle.ec_runner.specs.Holds.{is_asleep, is_awaited};
 
     /// Makes a board with an empty run on these declarations, which are dropped where there is no
-    /// memory. Every declared worker is live, and nobody waits.
+    /// memory. Every declared worker is active, and nobody waits.
     pub fn open(alloc: Global, setup: Setup) -> Result<Self, AllocError>
         ensures run { IfOk result (λ b. b.run ≡ record { setup = setup; entries = [] }) }
         ensures seats { IfOk result (λ b. (w : ℕ) → w < 16 → slice_get b.seats w ≡ Some (if nat_lt w setup.workers then Running else Gone)) }
@@ -85,8 +85,8 @@ impl Board {
         })
     }
 
-    /// States what is true of the live workers and of the waiters of a board: nobody is live who is
-    /// not declared.
+    /// States what is true of the active workers and of the waiters of a board: nobody is active
+    /// who is not declared.
     pub fn known(&self)
         ensures { AreWaiters self.now }
     {
@@ -116,7 +116,8 @@ impl Board {
         Ok(reply)
     }
 
-    /// Makes a worker a waiter, where it is live and has something to wait for. It takes no memory.
+    /// Makes a worker a waiter, where it is active and has something to wait for. It takes no
+    /// memory.
     pub fn park(&mut self, worker: WorkerId) -> Parked
         ensures stuck { self.old.stuck ≡ true → (result ≡ Parked.Stuck) × (self.new ≡ self.old) }
         ensures ready { self.old.stuck ≡ false → wait_of self.old worker ≡ None → (result ≡ Parked.Ready) × (self.new ≡ self.old) }
@@ -139,7 +140,7 @@ impl Board {
         }
     }
 
-    /// Has a live worker leave for good, and wait no more. It takes no memory.
+    /// Has an active worker leave for good, and wait no more. It takes no memory.
     pub fn leave(&mut self, worker: WorkerId)
         ensures gone { is_live (seat_of self.old.seats worker) ≡ true → self.new ≡ with_seat self.old worker Gone }
         ensures same { is_live (seat_of self.old.seats worker) ≡ false → self.new ≡ self.old }
@@ -181,7 +182,7 @@ impl Board {
         seat.is_waiting()
     }
 
-    /// Returns whether at some moment some worker was live and every live worker waited. Nobody
+    /// Returns whether at some moment some worker was active and every active worker waited. Nobody
     /// makes a step from then on.
     pub fn is_stuck(&self) -> bool
         ensures { result ≡ self.now.stuck }

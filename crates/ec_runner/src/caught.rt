@@ -6,8 +6,8 @@ use crate::wait::unmet_await;
 use ec_core::Run;
 use ec_count::WorkerId;
 
-/// Returns whether the worker's call under way is an await that fell short, whose threshold the
-/// total has not come to.
+/// Returns whether the worker's pending call is an await that fell short, whose threshold the total
+/// has not come to.
 pub(crate) fn is_caught(run: &Run, worker: WorkerId) -> bool
     ensures { IsTrue result ↔ IsCaught run.now worker }
 {

@@ -5,7 +5,8 @@ use ec_count::WorkerId;
 /// the hold in which it leaves. A worker whose thread could not be started leaves without a call. A
 /// gate that waits makes the threads take turns in a chosen order.
 pub trait Gate {
-    /// `step` is how many steps this worker has asked the board for before.
+    /// Is called before each step; `step` is how many steps this worker has asked the board for
+    /// before.
     fn before(&self, worker: WorkerId, step: u64);
 }
 

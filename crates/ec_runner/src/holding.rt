@@ -85,7 +85,7 @@ fn is_pending(reply: Reply) -> bool
     }
 }
 
-/// The worker waits for what it has to wait for.
+/// Has the worker wait for what it has to wait for.
 fn park(board: &mut Board, worker: WorkerId)
     requires { board.old.stuck ≡ false }
     ensures { board.new ≡ parked board.old worker }
@@ -118,7 +118,7 @@ fn step(board: &mut Board, worker: WorkerId, act: Act, may_park: bool) -> Next
 }
 
 /// Returns who is woken where the seats of the others are as before: nobody, or, where the board
-/// has come to be stuck, all others that wait.
+/// has come to be deadlocked, all others that wait.
 fn woken_if_stuck(was_stuck: bool, board: &Board, worker: WorkerId) -> Option<[bool; 16]>
     ensures none { board.now.stuck ≡ false → result ≡ None }
     ensures woken { (b : Boarded) → b.stuck ≡ was_stuck → ((v : ℕ) → worker ≢ v → slice_get board.now.seats v ≡ slice_get b.seats v)
@@ -150,8 +150,8 @@ fn advance(board: &mut Board, worker: WorkerId, act: Act, may_park: bool) -> Hel
 
 /// Makes one hold of the board: a step and, after an await that fell short, where the worker may
 /// wait, the wait. Only an advance of what somebody waits for, and a wait by which the board comes
-/// to be stuck, can wake others, and only then is it looked who sleeps. Where the worker goes to
-/// sleep nobody is woken; and it does so only where it may.
+/// to be deadlocked, can wake others, and only then is it looked who sleeps. Where the worker goes
+/// to sleep nobody is woken; and it does so only where it may.
 pub(crate) fn hold(board: &mut Board, worker: WorkerId, act: Act, may_park: bool) -> Held
     ensures last { is_sleep result.next ≡ true → may_park ≡ true }
     ensures none { is_sleep result.next ≡ true → result.woken ≡ None }

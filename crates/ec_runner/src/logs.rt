@@ -15,7 +15,7 @@ fn is_own(entry: &Entry, worker: WorkerId) -> bool
     entry.worker.get() == worker.get()
 }
 
-/// One entry more.
+/// Adds one entry.
 fn add_step(
     log: &mut Vec<Entry>,
     worker: WorkerId,

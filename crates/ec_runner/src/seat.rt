@@ -9,9 +9,9 @@ use ec_count::EventId;
 pub(crate) enum Seat {
     /// It has left, or was never declared.
     Gone,
-    /// It is live, and doesn't wait.
+    /// It is active, and doesn't wait.
     Running,
-    /// It is live, and waits until the total of the eventcount has come to the threshold.
+    /// It is active, and waits until the total of the eventcount has come to the threshold.
     Waiting(EventId, u64),
 }
 
@@ -36,7 +36,7 @@ impl Seat {
         }
     }
 
-    /// Returns whether it is live and doesn't wait.
+    /// Returns whether it is active and doesn't wait.
     pub(crate) fn is_running(&self) -> bool
         ensures { result ≡ is_running self.now }
     {

@@ -38,7 +38,7 @@ impl Model for Seats {
 }
 
 impl Seats {
-    /// Makes seats in which the first so many workers are live, and nobody waits.
+    /// Makes seats in which the first so many workers are active, and nobody waits.
     pub fn open(workers: usize) -> Self
         requires { workers ≤ 16 }
         ensures seats { (w : ℕ) → w < 16 → slice_get result w ≡ Some (if nat_lt w workers then Running else Gone) }
@@ -121,7 +121,7 @@ impl Seats {
         }
     }
 
-    /// Returns whether some worker is live and every live worker waits.
+    /// Returns whether some worker is active and every active worker waits.
     pub fn are_stuck(&self) -> bool
         ensures { result ≡ is_stuck_in self.now }
     {
@@ -159,7 +159,7 @@ fn take_reached(lines: &mut [Line; 32], event: EventId, total: u64) -> Option<Wa
     line.take_reached(total)
 }
 
-/// Returns the first so many seats are those of workers that run.
+/// Makes seats of which the first so many are those of workers that run.
 fn running(workers: usize) -> [Seat; 16]
     requires { workers ≤ 16 }
     ensures long { length result ≡ 16 }

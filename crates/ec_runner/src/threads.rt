@@ -112,7 +112,7 @@ fn hold_locked<R: Wait, G>(
     held.next
 }
 
-/// The worker leaves the board.
+/// Has the worker leave the board.
 fn leave_locked<R: Wait, G>(rt: &R, shared: Shared<'_, G>, worker: WorkerId) {
     let sleeps = shared.sleeps;
     let mut guard = locked(rt, shared.board);
@@ -128,7 +128,7 @@ fn is_running(machine: &Machine<'_>) -> bool
     machine.next().is_some()
 }
 
-/// A step ends the program.
+/// Ends the program by a step.
 fn stop(machine: &mut Machine<'_>, outcome: Outcome)
     requires stop { IsStop outcome }
     requires running { is_running (kept_outcome machine.old) ≡ true }

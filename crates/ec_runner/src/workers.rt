@@ -200,10 +200,10 @@ fn run_on<R: Threads + Wait + Sync, G: Gate + Sync>(
 /// Runs the programs of a plan, each worker's in a thread of its own, all at once, on one board
 /// under one lock; the plan's schedule is not used. A turn is one step that a worker asks the board
 /// for, in one hold of the lock, and no worker has more than `turns`. Where a worker's await has
-/// fallen short it sleeps until the total has come to its threshold, or until no live worker is left
-/// that doesn't wait. The gate is called before each hold. When all have ended, what they were told
-/// is held against the run: a mismatch names a declared worker. A thread that could not be started
-/// comes before want of memory for what workers tell.
+/// fallen short it sleeps until the total has come to its threshold, or until no active worker is
+/// left that doesn't wait. The gate is called before each hold. When all have ended, what they were
+/// told is held against the run: a mismatch names a declared worker. A thread that could not be
+/// started comes before want of memory for what workers tell.
 pub fn run_workers<R: Threads + Wait + Sync, G: Gate + Sync>(
     rt: &R,
     alloc: Global,

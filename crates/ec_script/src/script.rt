@@ -86,7 +86,7 @@ fn empty_program(alloc: Global) -> Program
     program
 }
 
-/// So many empty programs.
+/// Makes so many empty programs.
 #[tactic(auto, using(crate::proofs::Drafts::flats_none))]
 fn empty_programs(alloc: Global, n: usize) -> Result<Vec<Program>, AllocError>
     ensures items { IfOk result (λ programs. programs.items ≡ replicate n []) }

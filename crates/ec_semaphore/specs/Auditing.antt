@@ -1,4 +1,4 @@
--- What the audits of a semaphore and of its guarded parts keep in a walk over a run.
+-- What the audits of a semaphore and of its critical sections keep in a walk over a run.
 use Rattle.std.specs.Prelude.{◌≡◌, ℕ, Bool, true, false, List, ◌∷◌}
 use Rattle.ec_count.specs.Tables.{Tables, IsDeclared}
 use Rattle.ec_core.specs.declared.act.Entry.{Entry}
@@ -33,8 +33,8 @@ pub record IsCounted (a : Balancing) (past : List Entry) : Type 0 where
 abbrev pub BalancesOn : Balancing → Balancing → List Entry → Type 0
 BalancesOn start now past = (now.shape ≡ start.shape) × IsCounted now past
 
--- the common semaphore and those that a guarded part may draw from, what is kept of the workers, the latest ticket of
--- each, the pairs, and whether there was no memory for one
+-- the common semaphore and those that a critical section may draw from, what is kept of the workers, the latest
+-- ticket of each, the pairs, and whether there was no memory for one
 pub record Pairing : Type 0 where
   pub common : Semaphore
   pub shapes : List Semaphore
@@ -67,7 +67,7 @@ OthersMayBeLeftOut = (a : Balancing) (x : Entry) (past : List Entry) → is_on a
 abbrev pub GoesMayBeLeftOut : Type 0
 GoesMayBeLeftOut = (a : Balancing) (x : Entry) (past : List Entry) → goes_on x ≡ true → IsCounted a past → IsCounted a (x ∷ past)
 
--- so is the audit of guarded parts after a go that ends no call; it needs every other entry, since within a guarded part a worker
--- makes no other call
+-- so is the audit of critical sections after a go that ends no call; it needs every other entry, since within a critical section
+-- a worker makes no other call
 abbrev pub GoesMayBeLeftOutOfPairs : Type 0
 GoesMayBeLeftOutOfPairs = (a : Pairing) (x : Entry) (past : List Entry) → goes_on x ≡ true → IsPairing a past → IsPairing a (x ∷ past)

@@ -17,7 +17,7 @@ is_await e _ = false
 abbrev pub is_down : Semaphore → Entry → List Entry → Bool
 is_down s x past = is_await s.count (opened x.act (under_way x.worker past)) && not (is_pending x.reply)
 
--- the finished P
+-- the completed P
 unfoldable pub downs : Semaphore → List Entry → ℕ
 downs s [] = 0
 downs s (x ∷ past) = (if is_down s x past then 1 else 0) + downs s past

@@ -9,7 +9,8 @@ use Rattle.ec_core.specs.CallLists.{is_due, number_of}
 use Rattle.ec_semaphore.specs.Shapes.{Semaphore}
 use Rattle.ec_semaphore.specs.Uses.{threshold, is_on}
 
--- the guarded part, where the tickets are drawn from p and then q: the call that comes after these finished calls, or none
+-- the critical section, where the tickets are drawn from p and then q: the call that comes after these completed calls, or
+-- none
 abbrev pub guarded_call : Semaphore → ℕ → ℕ → List Told → Option Act
 guarded_call c p q [] = Some (Ticket c.line)
 guarded_call c p q (t ∷ []) = Some (Await c.count (number_of t.reply))
@@ -18,7 +19,7 @@ guarded_call c p q (t ∷ a ∷ r ∷ []) = Some (Ticket q)
 guarded_call c p q (t ∷ a ∷ r ∷ s ∷ []) = Some (Advance c.count)
 guarded_call c p q (t ∷ a ∷ r ∷ s ∷ v ∷ rest) = None
 
--- the whole of it: the guarded part, and then the waits for the one semaphore and for the other
+-- the whole of it: the critical section, and then the waits for the one semaphore and for the other
 abbrev pub down_both_call : Semaphore → Semaphore → Semaphore → List Told → Option Act
 down_both_call c one other (t ∷ a ∷ r ∷ s ∷ v ∷ []) = Some (Await one.count (threshold one (number_of r.reply)))
 down_both_call c one other (t ∷ a ∷ r ∷ s ∷ v ∷ b ∷ []) = Some (Await other.count (threshold other (number_of s.reply)))
@@ -44,7 +45,8 @@ abbrev pub is_begun : List Told → Bool
 is_begun [] = false
 is_begun (c ∷ calls) = true
 
--- a worker's calls on the common semaphore are guarded parts, and within one it makes no other call at all
+-- a worker's calls on the common semaphore are critical sections, and within one it makes no other call at
+-- all
 abbrev pub both_rule : Semaphore → (ℕ → Bool) → Rule
 both_rule c lines = record {
   concerns = λ b op. is_begun b || is_on c op;

@@ -1,4 +1,5 @@
--- The finished P and the pairs in order of time: entry i, counted from 0, happens at moment i, after the first i entries.
+-- The completed P and the pairs in order of time: entry i, counted from 0, happens at moment i, after the first i
+-- entries.
 use Rattle.std.specs.Prelude.{◌≡◌, ◌≢◌, ℕ, ◌<◌, Bool, List, length, Some, if◌then◌else◌, slice_get}
 use Rattle.std.specs.Option.{option_map_or}
 use Rattle.ec_core.specs.declared.act.Act.TheVariants.{Ticket}
@@ -15,7 +16,7 @@ use Rattle.ec_semaphore.specs.Both.{both_rule}
 abbrev pub down_at : Semaphore → List Entry → ℕ → ℕ
 down_at s h i = option_map_or (λ (x : Entry). if is_down s x (past_at i h) then 1 else 0) (slice_get h i) 0
 
--- the calls of its guarded part that a worker has finished at moment k
+-- the calls of its critical section that a worker has finished at moment k
 abbrev pub calls_at : Semaphore → (ℕ → Bool) → List Entry → ℕ → ℕ → List Told
 calls_at c lines h k w = block (both_rule c lines) w (past_at k h)
 

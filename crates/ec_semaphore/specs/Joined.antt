@@ -27,8 +27,8 @@ pub record IsUp (s : Semaphore) (calls : List Told) : Type 0 where
   pub are : calls ≡ advance ∷ []
   pub advances : advance.op ≡ Advance s.count
 
--- the calls are a guarded part: a ticket of the common semaphore, the wait for its turn, tickets of two different ones of
--- the lines, and the advance that lets the next one in
+-- the calls are a critical section: a ticket of the common semaphore, the wait for its turn, tickets of two different
+-- ones of the lines, and the advance that lets the next one in
 pub record IsGuarded (c : Semaphore) (lines : ℕ → Bool) (calls : List Told) : Type 0 where
   pub ticket : Told
   pub wait : Told
@@ -58,12 +58,12 @@ FollowingMeansUses = (s : Semaphore) (t : Tables) (h : List Entry) → IsDeclare
     → Follow (use_rules s) (reverse h)
     ↔ ((w : ℕ) → IsJoined (use_rule s) (calls_on (is_on s) (finished_by w (reverse h))) (going_on (is_on s) (under_way w (reverse h))))
 
--- the whole lists of `both` are guarded parts
+-- the whole lists of `both` are critical sections
 abbrev pub WholePartsAreGuarded : Type 0
 WholePartsAreGuarded = (c : Semaphore) (lines : ℕ → Bool) (calls : List Told) → IsWholeList (both_rule c lines) calls ↔ IsGuarded c lines calls
 
--- an accepted history follows `both` exactly where the calls of each worker are guarded parts, with calls on other objects
--- between them, and the beginning of one more
+-- an accepted history follows `both` exactly where the calls of each worker are critical sections, with calls on other
+-- objects between them, and the beginning of one more
 abbrev pub FollowingBothMeansGuardedParts : Type 0
 FollowingBothMeansGuardedParts = (c : Semaphore) (shapes : List Semaphore) (t : Tables) (h : List Entry) → IsDeclared t → IsAccepted t (reverse h)
     → Follow (both_rules c (is_line c shapes)) (reverse h)
@@ -76,7 +76,7 @@ DownIsWritten = (s : Semaphore) (calls : List Told) → IsWritten (down_call s) 
 abbrev pub UpIsWritten : Type 0
 UpIsWritten = (s : Semaphore) (calls : List Told) → IsWritten (up_call s) calls → length calls ≡ 1 → IsUp s calls
 
--- the calls of a P on two semaphores: a guarded part, and on each of the two the calls of a P
+-- the calls of a P on two semaphores: a critical section, and on each of the two the calls of a P
 pub record IsDownBoth (c one other : Semaphore) (lines : ℕ → Bool) (calls : List Told) : Type 0 where
   pub guarded : List Told
   pub wait_one : Told

@@ -10,8 +10,8 @@ abbrev pub kept_of_use : List Told → Kept
 kept_of_use [] = record { at = 0; first = 0; second = 0 }
 kept_of_use (t ∷ calls) = record { at = length (t ∷ calls); first = number_of t.reply; second = 0 }
 
--- of a guarded part: the ticket of the common semaphore until its turn has come, and the sequencer of the first of the two tickets
--- until the second is drawn
+-- of a critical section: the ticket of the common semaphore until its turn has come, and the sequencer of the first of the two
+-- tickets until the second is drawn
 abbrev pub kept_of_both : List Told → Kept
 kept_of_both [] = record { at = 0; first = 0; second = 0 }
 kept_of_both (t ∷ []) = record { at = 1; first = number_of t.reply; second = 0 }

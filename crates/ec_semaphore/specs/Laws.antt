@@ -18,7 +18,8 @@ use Rattle.ec_semaphore.specs.InOrder.{down_at, ArePairs}
 abbrev pub SemaphoresStay : Type 0
 SemaphoresStay = (s : Semaphore) (old new : Tables) → KeepsObjects old new → Fits s old → Fits s new
 
--- the finished P at moment k are the entries before it of which each, at its own moment, ends an await of the eventcount
+-- the completed P at moment k are the entries before it of which each, at its own moment, ends an await of the
+-- eventcount
 abbrev pub DownsCountFinishedWaits : Type 0
 DownsCountFinishedWaits = (s : Semaphore) (k : ℕ) (h : List Entry) → downs s (past_at k h) ≡ sum_to (down_at s h) k
 

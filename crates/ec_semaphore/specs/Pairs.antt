@@ -1,4 +1,4 @@
--- The pairs of tickets that are drawn in guarded parts.
+-- The pairs of tickets that are drawn in critical sections.
 use Rattle.std.specs.Prelude.{◌≡◌, ℕ, ◌<◌, Bool, List, [], ◌∷◌, ◌++◌, reverse, Option, Some, None, option_to_list}
 use Rattle.ec_core.specs.declared.act.Act.{Act}
 use Rattle.ec_core.specs.declared.act.Act.TheVariants.{Ticket}
@@ -14,7 +14,7 @@ abbrev pub pair_of : Told → Entry → Act → Option Pair
 pair_of r x (Ticket q) = Some (record { worker = x.worker; first = line_of r.op; first_ticket = number_of r.reply; second = q; second_ticket = number_of x.reply })
 pair_of r x _ = None
 
--- the pair that an entry completes, where its worker has made these calls of its guarded part
+-- the pair that an entry completes, where its worker has made these calls of its critical section
 abbrev pub pair_with : List Told → Entry → Option Pair
 pair_with (t ∷ a ∷ r ∷ []) x = pair_of r x x.act
 pair_with calls x = None

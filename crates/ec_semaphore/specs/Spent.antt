@@ -1,4 +1,4 @@
--- What a procedure keeps of its finished calls.
+-- What a procedure keeps of its completed calls.
 use Rattle.std.specs.Prelude.{ℕ}
 use Rattle.ec_core.specs.declared.act.Act.TheVariants.{Go}
 use Rattle.ec_core.specs.declared.act.Reply.TheVariants.{Done, Number}

@@ -11,7 +11,7 @@ use Rattle.ec_semaphore.specs.Shapes.{Semaphore}
 abbrev pub threshold : Semaphore → ℕ → ℕ
 threshold s ticket = ticket + 1 - s.initial
 
--- P: the call that comes after these finished calls, or none
+-- P: the call that comes after these completed calls, or none
 abbrev pub down_call : Semaphore → List Told → Option Act
 down_call s [] = Some (Ticket s.line)
 down_call s (t ∷ []) = Some (Await s.count (threshold s (number_of t.reply)))

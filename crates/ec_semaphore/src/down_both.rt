@@ -53,7 +53,7 @@ impl DownBoth {
         }
     }
 
-    /// Returns the act that is due where no call is under way.
+    /// Returns the act that is due where no call is pending.
     fn due(&self) -> Option<Act>
         ensures { result ≡ ⟦<DownBoth as Procedure>⟧.rest self.now [] }
     {

@@ -1,4 +1,4 @@
-//! The guarded part of P on two semaphores, as a list of calls.
+//! The critical section of P on two semaphores, as a list of calls.
 ghost use Rattle.std.specs.Prelude.{◌≡◌, ℕ, ◌<◌, ◌==◌, List, [], ◌∷◌, Some, slice_get};
 ghost use Rattle.ec_core.specs.declared.protocol.Kept.{Kept};
 ghost use Rattle.ec_core.specs.Following.{Told, block_after, is_right};
@@ -10,7 +10,7 @@ use crate::uses::{NOTHING, is_on};
 use ec_core::{Act, Kept, Protocol, Reply};
 use ec_count::{SeqId, WorkerId};
 
-/// The guarded part of P on two of these semaphores, for workers that use a common one, and a
+/// The critical section of P on two of these semaphores, for workers that use a common one, and a
 /// table of the sequencers that it may draw from.
 #[derive(Drop)]
 pub(crate) struct Guarded<'a> {

@@ -18,22 +18,22 @@ pub fn following_means_uses()
     ensures whole { UsesAreDownsAndUps }
 {}
 
-/// States that an accepted history follows `both` exactly where each worker's calls are guarded
-/// parts, with calls on other objects between them, and the beginning of one more.
+/// States that an accepted history follows `both` exactly where each worker's calls are critical
+/// sections, with calls on other objects between them, and the beginning of one more.
 pub fn following_both_means_guarded_parts()
     ensures joined { FollowingBothMeansGuardedParts }
     ensures whole { WholePartsAreGuarded }
 {}
 
-/// States what Down, Up and DownBoth have asked for once they are over: a P, a V, and a guarded
-/// part with a P on each of the two semaphores.
+/// States what Down, Up and DownBoth have asked for once they are over: a P, a V, and a critical
+/// section with a P on each of the two semaphores.
 pub fn procedures_ask_for_whole_lists()
     ensures down { DownIsWritten }
     ensures up { UpIsWritten }
     ensures both { DownBothIsWritten }
 {}
 
-/// States that the finished P are the entries that end an await of the semaphore's eventcount.
+/// States that the completed P are the entries that end an await of the semaphore's eventcount.
 pub fn downs_count_finished_waits()
     ensures { DownsCountFinishedWaits }
 {}
@@ -67,8 +67,8 @@ pub fn greatest_initial_value_is_a_million()
 {}
 
 /// States that the audit of a semaphore need not take in an entry whose call is not on the
-/// semaphore, nor a go that ends no call: without them it is the same. The audit of guarded parts
-/// need not take in such a go.
+/// semaphore, nor a go that ends no call: without them it is the same. The audit of critical
+/// sections need not take in such a go.
 pub fn audits_may_leave_out_entries()
     ensures off { OthersMayBeLeftOut }
     ensures goes { GoesMayBeLeftOut }

@@ -102,8 +102,8 @@ fn lacks_after(lacks: bool, pairs: &mut Vec<Pair>, pair: Option<Pair>) -> bool
     lacks || add(pairs, pair).is_err()
 }
 
-/// The audit of the guarded parts of P on two of these semaphores, in a walk over a run. It takes
-/// each entry, since within a guarded part a worker makes no other call.
+/// The audit of the critical sections of P on two of these semaphores, in a walk over a run. It
+/// takes each entry, since within a critical section a worker makes no other call.
 #[derive(Drop)]
 pub struct PairAudit<'a> {
     guarded: Guarded<'a>,
@@ -158,7 +158,7 @@ impl<'a> PairAudit<'a> {
         }
     }
 
-    /// Returns the pairs after the entries so far, where the workers follow the guarded parts.
+    /// Returns the pairs after the entries so far, where the workers follow the critical sections.
     /// Where they don't, the first entry that breaks the lists of calls is told.
     pub fn finish(self) -> Result<Vec<Pair>, AuditFault>
         ensures followed { (t : Tables) (h : List Entry) → EndsAt t (IsPairing self.entry) h → IsOk result → Follow (both_rules self.entry.common (is_line self.entry.common self.entry.shapes)) (reverse h) }
@@ -176,8 +176,8 @@ impl<'a> PairAudit<'a> {
         Ok(self.pairs)
     }
 
-    /// Returns the pairs after all entries of a run whose workers follow the guarded parts. Where
-    /// they don't, the first entry that breaks the lists of calls is told.
+    /// Returns the pairs after all entries of a run whose workers follow the critical sections.
+    /// Where they don't, the first entry that breaks the lists of calls is told.
     pub fn pairs(self, run: &Run) -> Result<Vec<Pair>, AuditFault>
         requires { IsPairing self (reverse run.now.entries) }
         ensures followed { IsOk result → Follow (both_rules self.entry.common (is_line self.entry.common self.entry.shapes)) (reverse run.now.entries) }
@@ -192,9 +192,9 @@ impl<'a> PairAudit<'a> {
 }
 
 /// Returns the pairs of tickets that the P on two of these semaphores draw in a run whose workers
-/// follow the guarded parts of a common one, in the order in which their first tickets were drawn:
-/// one for each P that has drawn both. Err is NotFollowed, with the first entry that breaks the
-/// lists of calls, or want of memory where there is none.
+/// follow the critical sections of a common one, in the order in which their first tickets were
+/// drawn: one for each P that has drawn both. Err is NotFollowed, with the first entry that breaks
+/// the lists of calls, or want of memory where there is none.
 ///
 /// A semaphore is told by its sequencer here: two shapes with one sequencer are one semaphore, and
 /// a shape with the sequencer of the common one is none of the two. It is meant for shapes that fit

@@ -27,8 +27,8 @@ pub fn number_at_end(text: &[u8]) -> Option<(usize, u64)>
     Some((place, number))
 }
 
-/// As `number_at_end`, digit by digit. More than 18 digits spell no number; so up to 19 bytes are looked at, of which a u64 holds
-/// the number.
+/// Finds the number as `number_at_end` does, digit by digit. More than 18 digits spell no number;
+/// so up to 19 bytes are looked at, of which a u64 holds the number.
 #[cold]
 #[inline(never)]
 #[tactic(auto, using(crate::proofs::EndLemmas::by_digit))]
@@ -87,8 +87,8 @@ fn last_eight(text: &[u8]) -> u64
     ])
 }
 
-/// Of eight bytes the place of the last that is no digit, and the number that the digits behind it spell. None where all are
-/// digits.
+/// Returns of eight bytes the place of the last that is no digit, and the number that the digits
+/// behind it spell; `None` if all are digits.
 #[inline(always)]
 fn last_digits(bytes: u64) -> Option<(usize, u64)>
     ensures within { IfSome result (λ p. p.0 < 8) }

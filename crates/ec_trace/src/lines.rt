@@ -173,7 +173,7 @@ impl Lines {
         }
     }
 
-    /// The next line, which does not lie whole in the piece.
+    /// Returns the next line, which does not lie whole in the piece.
     #[cold]
     #[inline(never)]
     fn next_over_pieces<R: Read>(&mut self, reader: &mut R) -> Result<(), TraceFault>

@@ -29,7 +29,7 @@ pub(crate) struct Words<'a> {
 }
 
 impl<'a> Words<'a> {
-    /// No words.
+    /// Makes a table of no words.
     fn none() -> Self
         ensures { Spells [] result }
     {

@@ -200,9 +200,10 @@ fn put_trace<W: Write>(
     out.put(b"end\n");
 }
 
-/// Writes the trace of a run under the heading whose declarations the run is on: all its entries, those of calls under way too.
-/// Version 1 has no trace of a run with a hand: what is written of one under it is no trace.
-/// A WriteFault comes only where a write failed or wrote none of its bytes. It takes no memory.
+/// Writes the trace of a run under the heading whose declarations the run is on: all its entries,
+/// those of pending calls too. Version 1 has no trace of a run with a hand: what is written of one
+/// under it is no trace. A WriteFault comes only where a write failed or wrote none of its bytes.
+/// It takes no memory.
 pub fn write_trace<W: Write>(run: &Run, heading: &Heading, writer: &mut W) -> Result<(), WriteFault>
     ensures ok { (o : Outline) → IsOutline o → headed o ≡ heading.now → OnOk result (Appends (W.contents writer.old) (W.contents writer.new) (trace_text o run.now.entries)) }
     ensures err { (o : Outline) → IsOutline o → headed o ≡ heading.now → OnErr result (AppendsPrefix (W.contents writer.old) (W.contents writer.new) (trace_text o run.now.entries)) }

@@ -23,7 +23,7 @@ names (groups.Database d) act = databases.is_on d act
 names (groups.Semaphore s) act = semaphores.is_on s act
 names (groups.Both s) act = semaphores.is_on s act
 
--- whether a group is about each call of its users, whatever it names: within a guarded part of
+-- whether a group is about each call of its users, whatever it names: within a critical section of
 -- `both` a worker makes no other
 abbrev pub is_wide : Group → Bool
 is_wide (groups.Buffer b) = false

@@ -65,7 +65,7 @@ pub(crate) fn names(group: &Group, act: &Act) -> bool
     }
 }
 
-/// With the group of a number, which is behind all of these.
+/// Adds the group of a number, which is behind all of these.
 fn reaching(span: Span, number: usize) -> Span
     requires { number + 1 < 2 ^ 64 }
     ensures alone { span.end ≤ span.first → result.first ≡ number }
@@ -79,7 +79,7 @@ fn reaching(span: Span, number: usize) -> Span
     }
 }
 
-/// Returns whether a group is about each call of its users: within a guarded part of `both` a
+/// Returns whether a group is about each call of its users: within a critical section of `both` a
 /// worker makes no other.
 pub(crate) fn is_wide(group: &Group) -> bool
     ensures { result ≡ is_wide group.now }
@@ -87,7 +87,7 @@ pub(crate) fn is_wide(group: &Group) -> bool
     matches!(group, Group::Both(_))
 }
 
-/// With the group of a number, if it passes a test.
+/// Adds the group of a number, if it passes a test.
 fn with_group(span: Span, number: usize, passes: bool) -> Span
     requires { number + 1 < 2 ^ 64 }
     ensures { (groups : List Group) (test : Group → Bool) (group : Group) → slice_get groups number ≡ Some group → passes ≡ test group
@@ -173,7 +173,7 @@ fn cell_span(groups: &[Group], number: usize) -> Span
     }
 }
 
-/// For each cell no group.
+/// Returns no group for each cell.
 fn nowhere() -> [Span; 256]
     ensures { length result ≡ 256 }
 {

@@ -50,7 +50,7 @@ fn code_for(code: u8, is_cut: bool, noted: usize, room: usize) -> u8
     if is_cut && noted < room { 4 } else { code }
 }
 
-/// `check`, of bytes and into a room.
+/// Does `check` of bytes, into a room.
 #[tactic(auto, using(crate::proofs::Grown::check_grows, crate::proofs::Grown::fills))]
 fn check_bytes(
     alloc: Global,
@@ -66,7 +66,7 @@ fn check_bytes(
     check(alloc, &mut reader, out, notes)
 }
 
-/// Checks a trace: the order of its finished calls and the totals are the text.
+/// Checks a trace: the order of its completed calls and the totals are the text.
 ///
 /// The status is that of `evc check`, and 3 where the text had no room: then a proper front of it was written.
 #[tactic(auto, using(crate::proofs::Grown::answers))]
@@ -94,7 +94,7 @@ pub extern "C" fn evc_check(
     code
 }
 
-/// `audit`, of bytes and into a room.
+/// Does `audit` of bytes, into a room.
 #[tactic(auto, using(crate::proofs::Grown::audit_grows, crate::proofs::Grown::fills))]
 fn audit_bytes(
     alloc: Global,
@@ -136,7 +136,7 @@ pub extern "C" fn evc_audit(
     code
 }
 
-/// `upgrade`, of bytes and into a room.
+/// Does `upgrade` of bytes, into a room.
 #[tactic(auto, using(crate::proofs::Grown::upgrade_grows, crate::proofs::Grown::fills))]
 fn upgrade_bytes(
     alloc: Global,
@@ -178,7 +178,7 @@ pub extern "C" fn evc_upgrade(
     code
 }
 
-/// `sim`, of bytes and into a room.
+/// Does `sim` of bytes, into a room.
 #[tactic(auto, using(crate::proofs::Grown::sim_grows, crate::proofs::Grown::fills))]
 fn sim_bytes(alloc: Global, script: &[u8], out: &mut Room<'_>, notes: &mut Out<'_, Noted>) -> Status
     requires { out.old.len ≡ 0 }
@@ -215,7 +215,7 @@ pub extern "C" fn evc_sim(
     code
 }
 
-/// `check` of histories of calls, of bytes and into a room.
+/// Does `check` of histories of calls in bytes, into a room.
 fn calls_check_bytes(
     alloc: Global,
     calls: &[u8],

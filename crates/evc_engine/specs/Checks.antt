@@ -32,7 +32,7 @@ KeepsNotes old new = new.notes ≡ old.notes
 abbrev pub text_for : Recounted → List ℕ
 text_for t = check_text t.heading t.entries
 
--- the text of a trace tells a legal order of its finished calls, each with its point
+-- the text of a trace tells a linearization of its completed calls, each with its point
 pub record TellsGoodOrder (t : Recounted) (text : List ℕ) : Type 0 where
   pub placed : List Placed
   pub good : IsGood t.heading.setup (reverse t.entries) placed
@@ -58,7 +58,7 @@ pub record RefusedFor (bytes : List ℕ) (fault : TraceFault) : Type 0 where
   pub told : outcome TRACE_MAX bytes ≡ Err fault
 
 -- how `check` ended, for an input that had these bytes and has those left: the bytes are a trace and its text was written,
--- which tells a legal order of its finished calls; or they are none, and nothing was written but the note of the first
+-- which tells a linearization of its completed calls; or they are none, and nothing was written but the note of the first
 -- fault; or a failed read is told, and what the reader had given until then has no fault; or a failed write or want of memory
 -- is told
 abbrev pub Checks : List ℕ → Option (List ℕ) → Status → Outlets → Outlets → Type 0

@@ -24,7 +24,8 @@ FindsIn bytes left h (Err (Stopped stop)) = (entries : List Entry) × IsOf bytes
 FindsIn bytes left h (Err (Unread fault)) = Tells TRACE_MAX bytes left (Err fault)
 FindsIn bytes left h (Err Memory) = ⊤
 
--- this is what was gathered of a history: the world after it, and its finished calls by their points
+-- this is what was gathered of a history: the world after it, and its completed calls by their
+-- points
 pub record IsReadInto (h : Headed) (entries : List Entry) (world : State) (timeline : Timed) : Type 0 where
   pub world_stands : StandsFor world entries
   pub world_setup : world.setup ≡ h.setup

@@ -112,7 +112,8 @@ fn check_entries<R: Read, W: Write, N: Write>(
     write_watched(heading, watched, out, notes)
 }
 
-/// Reads a trace, and writes the order of its finished calls and the totals; notes say what is wrong.
+/// Reads a trace, and writes the order of its completed calls and the totals; notes say what is
+/// wrong.
 ///
 /// The trace goes past once, and no run of it is kept. Nothing is written to `out` before the trace was read to its end.
 // (Put into its caller, it would share the registers with each other task.)

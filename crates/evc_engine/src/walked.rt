@@ -32,7 +32,7 @@ fn now_of(parts: &Balance) -> u64
         .saturating_sub(parts.downs)
 }
 
-/// The audits of `both`: of its common semaphore, and of its guarded parts.
+/// The audits of `both`: of its common semaphore, and of its critical sections.
 #[derive(Drop)]
 pub(crate) struct BothAudit<'a> {
     pub(crate) common: SemaphoreShape,
@@ -105,7 +105,8 @@ pub(crate) enum Auditing<'a> {
 }
 
 impl<'a> Auditing<'a> {
-    /// Before the first entry of a run on this setup, where these are all semaphores.
+    /// Makes what is kept before the first entry of a run on this setup, where these are all
+    /// semaphores.
     fn new(
         alloc: Global,
         group: &'a Group,

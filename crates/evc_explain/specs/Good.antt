@@ -18,7 +18,7 @@ is_begun_by act = true
 abbrev pub begins_call : Entry → Bool
 begins_call e = is_begun_by e.act
 
--- how many calls a history has, those under way at its end among them
+-- how many calls a history has, those pending at its end among them
 abbrev pub calls_of : List Entry → ℕ
 calls_of entries = count_by begins_call entries
 

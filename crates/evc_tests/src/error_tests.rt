@@ -9,7 +9,7 @@ use std::alloc::Global;
 use std::fmt::Display;
 use std::test::Fail;
 
-/// The text of an error is this one.
+/// Compares the text of an error.
 fn says(alloc: Global, error: &impl Display, wanted: &str) -> Result<(), Fail> {
     let text = format!(in alloc; "{error}")?;
     if text.as_str() == wanted {

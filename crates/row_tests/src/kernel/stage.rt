@@ -113,7 +113,7 @@ impl Parts {
         }
     }
 
-    /// Keeps the run without silent workers.
+    /// Keeps the run without read-only workers.
     fn strike_out(&mut self, alloc: Global, ask: &mut Ask<'_>) -> Result<(), Fault> {
         let (silent, run) = (workers(alloc, ask)?, self.stage.run()?);
         if !are_silent(run, silent.as_slice()) {
